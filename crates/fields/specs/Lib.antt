@@ -1,0 +1,12 @@
+pub mod Chains
+pub mod Cut
+pub mod Cutting
+pub mod Field
+pub mod Hook
+pub mod Key
+pub mod Line
+pub mod Number
+pub mod Packet
+pub mod Prefix
+pub mod Tap
+pub mod Words

@@ -1,0 +1,92 @@
+-- Packets, and the words of a packet line.
+use Rattle.std.specs.Prelude.{ℕ, ◌≡◌, ◌≤◌, Bool, ◌&&◌, ◌||◌, List, [], ◌∷◌, ◌++◌, length, map, find, Option, Some, None, is_some, is_none, unwrap_or, slice_index, Result, Ok, Err, if◌then◌else◌}
+use Rattle.std.specs.List.{list_any}
+use Rattle.std.specs.Option.{option_or}
+use Rattle.std.specs.Str.{bytes_eq}
+use Rattle.fields.specs.Chains.{◌>>=◌}
+use Rattle.fields.specs.Cut.{cut_at}
+use Rattle.fields.specs.Field.{index, top, name}
+use Rattle.fields.specs.Hook.{hook_of}
+use Rattle.fields.specs.Key.{key_of, is_read, value_of}
+use Rattle.fields.specs.declared.field.Field.{Field}
+use Rattle.fields.specs.declared.field.TheConstants.{FIELDS}
+use Rattle.fields.specs.declared.field.TheConstants.Field.{ALL}
+use Rattle.fields.specs.declared.hook.Hook.{Hook}
+use Rattle.fields.specs.declared.packet.PacketFault.{PacketFault}
+use Rattle.fields.specs.declared.packet.PacketFault.TheVariants.{UnknownKey, KeyMissing, BadValue}
+
+-- a packet: its hook, and its value on each field, in the fields' order
+pub record PacketView : Type 0 where
+  pub hook : Hook
+  pub values : List ℕ
+
+-- the packet's value on a field
+abbrev pub point : PacketView → Field → ℕ
+point p field = slice_index p.values (index field)
+
+-- what a packet can be: it has one value a field, each within the field's top
+pub record IsPacket (p : PacketView) : Type 0 where
+  pub whole : length p.values ≡ FIELDS
+  pub within : (field : Field) → point p field ≤ top field
+
+-- the field of a key: one that is read, and whose name is the key
+abbrev pub has_key : List ℕ → Field → Bool
+has_key key field = is_read (key_of field).value && bytes_eq (name field) key
+
+abbrev pub field_of : List ℕ → Option Field
+field_of key = find (has_key key) ALL
+
+-- what a word `key=value` gives: the field of the key, and the value's text
+abbrev pub part_of : List ℕ → Option (Field × List ℕ)
+part_of word = cut_at 61 word >>= λ p. field_of p.0 >>= λ field. Some (field, p.1)
+
+-- the text that a word gives a field
+abbrev pub text_in : Field → List ℕ → Option (List ℕ)
+text_in field word = cut_at 61 word >>= λ p. if bytes_eq (name field) p.0 then Some p.1 else None
+
+-- the text that some words give a field: that of the first one that gives it
+abbrev pub text_of : Field → List (List ℕ) → Option (List ℕ)
+text_of field [] = None
+text_of field (word ∷ words) = option_or (text_in field word) (text_of field words)
+
+-- the number of the text behind a field's key
+abbrev pub number_on : Field → List ℕ → Option ℕ
+number_on field text = value_of (key_of field).value text
+
+-- the fault of a word that gives this, behind other words
+abbrev pub fault_of_part : List (List ℕ) → Option (Field × List ℕ) → Option PacketFault
+fault_of_part before None = Some UnknownKey
+fault_of_part before (Some part) = if is_some (text_of part.0 before) || is_none (number_on part.0 part.1) then Some BadValue else None
+
+abbrev pub word_fault : List (List ℕ) → List ℕ → Option PacketFault
+word_fault before word = fault_of_part before (part_of word)
+
+-- the fault of the leftmost word at fault, of words behind others
+abbrev pub leftmost_fault : List (List ℕ) → List (List ℕ) → Option PacketFault
+leftmost_fault before [] = None
+leftmost_fault before (word ∷ words) = option_or (word_fault before word) (leftmost_fault (before ++ word ∷ []) words)
+
+-- whether the key of a field has to be given and isn't
+abbrev pub lacks : List (List ℕ) → Field → Bool
+lacks words field = (key_of field).is_required && is_none (text_of field words)
+
+abbrev pub lacks_key : List (List ℕ) → Bool
+lacks_key words = list_any (lacks words) ALL
+
+-- the value that the words give a field: 0 where none does
+abbrev pub value_on : List (List ℕ) → Field → ℕ
+value_on words field = unwrap_or (text_of field words >>= λ text. number_on field text) 0
+
+-- the packet of a hook and the words behind it, or the first fault
+abbrev pub checked : Hook → List (List ℕ) → Option PacketFault → Result PacketView PacketFault
+checked hook words (Some fault) = Err fault
+checked hook words None = if lacks_key words then Err KeyMissing else Ok (record { hook = hook; values = map (value_on words) ALL })
+
+abbrev pub packet_at : Option Hook → List (List ℕ) → Result PacketView PacketFault
+packet_at None words = Err UnknownKey
+packet_at (Some hook) words = checked hook words (leftmost_fault [] words)
+
+-- the packet that words write: the first is the hook
+abbrev pub packet_of : List (List ℕ) → Result PacketView PacketFault
+packet_of [] = Err UnknownKey
+packet_of (word ∷ words) = packet_at (hook_of word) words

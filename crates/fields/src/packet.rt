@@ -1,0 +1,230 @@
+// Packets.
+ghost use Rattle.std.specs.Prelude.{◌≡◌, ◌<◌, ◌≤◌, [], find, map, length, take, drop, slice_index_or, option_map, IfOk};
+ghost use Rattle.std.specs.List.{list_any};
+ghost use Rattle.fields.specs.Field.{top};
+ghost use Rattle.fields.specs.Packet.{has_key, field_of, text_in, text_of, word_fault, leftmost_fault, lacks, lacks_key, value_on};
+
+use crate::cut::cut_at;
+use crate::field::{FIELDS, Field};
+use crate::hook::Hook;
+use crate::key::Key;
+use crate::words::Words;
+use std::marker::Model;
+use thiserror::Error;
+
+/// Why the words of a packet line are no packet.
+#[derive(Clone, Copy, Debug, PartialEq, Eq, Error)]
+pub enum PacketFault {
+    /// F1: the hook is missing or unknown, a word has no `=`, or its key is unknown.
+    #[error("unknown key")]
+    UnknownKey,
+    /// F2: a required key isn't given.
+    #[error("key missing")]
+    KeyMissing,
+    /// F3: a value isn't one of its field, or a key is given twice.
+    #[error("bad packet value")]
+    BadValue,
+}
+
+/// A packet: its hook, and one whole number on each field, from 0 to the field's top. A part that the packet doesn't
+/// carry is 0.
+#[derive(Clone, Copy, Debug, PartialEq, Eq)]
+pub struct Packet {
+    hook: Hook,
+    values: [u128; FIELDS],
+}
+
+impl Model for Packet {
+    ghost use Rattle.fields.specs.Packet.{PacketView, IsPacket};
+
+    ghost Value = { PacketView };
+
+    ghost view = { λ p. record { hook = p.hook; values = p.values } };
+
+    ghost invariant = { λ p. IsPacket (record { hook = p.hook; values = p.values }) };
+
+    ghost inverse = { λ p. record { hook = p.hook; values = p.values } };
+}
+
+fn has_key(field: Field, key: &[u8]) -> bool
+    ensures { result ≡ has_key key.now field }
+{
+    Key::of(field).value.is_read() && field.name() == key
+}
+
+fn field_among(fields: &[Field], key: &[u8]) -> Option<Field>
+    ensures { result ≡ find (has_key key.now) fields.now }
+{
+    fields.iter().copied().find(|field| has_key(*field, key))
+}
+
+// The field of a key: one that is read, and whose name is the key.
+fn field_of(key: &[u8]) -> Option<Field>
+    ensures { result ≡ field_of key.now }
+{
+    field_among(&Field::ALL, key)
+}
+
+// The text that a word gives a field.
+fn text_in(word: &[u8], field: Field) -> Option<&[u8]>
+    ensures { option_map (λ t. t.now) result ≡ text_in field word.now }
+{
+    let (key, text) = cut_at(word, b'=')?;
+    if field.name() == key {
+        Some(text)
+    } else {
+        None
+    }
+}
+
+// The text that the words from `first` up to `end` give a field.
+fn text_of(words: &Words, first: usize, end: usize, field: Field) -> Option<&[u8]>
+    requires ordered { first ≤ end }
+    requires within { end ≤ length words.now }
+    ensures { option_map (λ t. t.now) result ≡ text_of field (drop first (take end words.now)) }
+{
+    for place in first..end {
+        if let Some(text) = text_in(words.get(place), field) {
+            return Some(text);
+        }
+    }
+    None
+}
+
+// The fault of the word at a place, behind those from `first` on.
+fn word_fault(words: &Words, first: usize, place: usize) -> Option<PacketFault>
+    requires ordered { first ≤ place }
+    requires within { place < length words.now }
+    ensures { result ≡ word_fault (drop first (take place words.now)) (slice_index_or words.now place []) }
+{
+    let Some((key, text)) = cut_at(words.get(place), b'=') else {
+        return Some(PacketFault::UnknownKey);
+    };
+    let Some(field) = field_of(key) else {
+        return Some(PacketFault::UnknownKey);
+    };
+    if text_of(words, first, place, field).is_some() || Key::of(field).value.read(text).is_none() {
+        Some(PacketFault::BadValue)
+    } else {
+        None
+    }
+}
+
+// The fault of the leftmost word at fault. Each word before it gave another field, so looking back from a word passes
+// at most `FIELDS` words.
+fn leftmost_fault(words: &Words, first: usize) -> Option<PacketFault>
+    requires { first ≤ length words.now }
+    ensures { result ≡ leftmost_fault [] (drop first words.now) }
+{
+    for place in first..words.len() {
+        if let Some(fault) = word_fault(words, first, place) {
+            return Some(fault);
+        }
+    }
+    None
+}
+
+// Tells whether the key of a field has to be given and isn't.
+fn lacks(words: &Words, first: usize, field: Field) -> bool
+    requires { first ≤ length words.now }
+    ensures { result ≡ lacks (drop first words.now) field }
+{
+    Key::of(field).is_required && text_of(words, first, words.len(), field).is_none()
+}
+
+fn lacks_any(words: &Words, first: usize, fields: &[Field]) -> bool
+    requires { first ≤ length words.now }
+    ensures { result ≡ list_any (lacks (drop first words.now)) fields.now }
+{
+    fields.iter().any(|field| lacks(words, first, *field))
+}
+
+fn lacks_key(words: &Words, first: usize) -> bool
+    requires { first ≤ length words.now }
+    ensures { result ≡ lacks_key (drop first words.now) }
+{
+    lacks_any(words, first, &Field::ALL)
+}
+
+fn value_on(words: &Words, first: usize, field: Field) -> u128
+    requires { first ≤ length words.now }
+    ensures { result ≡ value_on (drop first words.now) field }
+{
+    match text_of(words, first, words.len(), field) {
+        None => 0,
+        Some(text) => Key::of(field).value.read(text).unwrap_or(0),
+    }
+}
+
+fn put_values(words: &Words, first: usize, fields: &[Field], values: &mut [u128])
+    requires within { first ≤ length words.now }
+    requires paired { length values.old ≡ length fields.now }
+    ensures { values.new ≡ map (value_on (drop first words.now)) fields.now }
+{
+    for (i, field) in fields.iter().enumerate() {
+        values[i] = value_on(words, first, *field);
+    }
+}
+
+fn values_of(words: &Words, first: usize) -> [u128; FIELDS]
+    requires { first ≤ length words.now }
+    ensures { result ≡ map (value_on (drop first words.now)) Field.ALL }
+{
+    let mut values = [0; FIELDS];
+    put_values(words, first, &Field::ALL, &mut values);
+    values
+}
+
+impl Packet {
+    ghost use Rattle.fields.specs.Packet.{IsPacket, checked, packet_of, point};
+
+    fn behind_hook(hook: Hook, words: &Words, first: usize) -> Result<Packet, PacketFault>
+        requires { first ≤ length words.now }
+        ensures value { result ≡ checked hook (drop first words.now) (leftmost_fault [] (drop first words.now)) }
+        ensures valid { IfOk result (λ p. IsPacket p) }
+    {
+        match leftmost_fault(words, first) {
+            Some(fault) => Err(fault),
+            None => {
+                if lacks_key(words, first) {
+                    return Err(PacketFault::KeyMissing);
+                }
+                let values = values_of(words, first);
+                Ok(Packet { hook, values })
+            }
+        }
+    }
+
+    /// The packet that the words from a place on write: the hook, and then `key=value` in any order. The fault is that
+    /// of the leftmost word at fault, else F2. Takes no memory. A word is compared with those before it, which are at
+    /// most as many as the fields: the first word that repeats a key ends the reading.
+    pub fn read(words: &Words, from: usize) -> Result<Packet, PacketFault>
+        requires { from ≤ length words.now }
+        ensures value { result ≡ packet_of (drop from words.now) }
+        ensures valid { IfOk result (λ p. IsPacket p) }
+    {
+        if from == words.len() {
+            return Err(PacketFault::UnknownKey);
+        }
+        match Hook::read(words.get(from)) {
+            None => Err(PacketFault::UnknownKey),
+            Some(hook) => Packet::behind_hook(hook, words, from + 1),
+        }
+    }
+
+    /// Where the packet meets the table.
+    pub fn hook(&self) -> Hook
+        ensures value { result ≡ self.now.hook }
+        ensures valid { IsPacket self.now }
+    {
+        self.hook
+    }
+
+    /// The packet's value on a field: at most the field's top.
+    pub fn point(&self, field: Field) -> u128
+        ensures value { result ≡ point self.now field }
+        ensures within { result ≤ top field }
+    {
+        self.values[field.index()]
+    }
+}

@@ -1,0 +1,2 @@
+mod taps;
+mod values;
