@@ -10,3 +10,8 @@ pub mod PutLaws
 pub mod SplitLaws
 mod WordExamples
 pub mod WordLaws
+pub mod ExceptLaws
+pub mod MeetLaws
+pub mod SearchLaws
+pub mod SpanLaws
+pub mod UniqueLaws

@@ -1,5 +1,5 @@
 -- What the steps of a line take, one after another.
-use Rattle.std.proofs.Common.{◌≡◌, ◌≢◌, ℕ, ◌+◌, ◌<◌, Bool, List, [], ◌∷◌, ◌++◌, Option, None, Some, IfSome, length, take, get_or, sym, ap, subst, ◌∙◌, append_assoc, append-nil}
+use Rattle.std.proofs.Common.{◌≡◌, ◌≢◌, ℕ, ◌+◌, ◌<◌, ◌≤◌, Bool, List, [], ◌∷◌, ◌++◌, Option, None, Some, IfSome, length, take, get_or, sym, ap, subst, ◌∙◌, arith, append_assoc, append-nil, length-append}
 use Rattle.std.proofs.lemmas.List.{take_more}
 use Rattle.std.proofs.lemmas.List.Elements.{All-append}
 use Rattle.std.specs.Io.KnownBytes.{Consumes, Keeps}
@@ -7,20 +7,32 @@ use Rattle.std.proofs.KnownBytes.{Consumes-trans}
 use Rattle.fields.specs.Line.{IsOneLine, IsHeld, HoldsMore, EndsAt}
 
 -- a part more of the line
-pub goes_on : (a b c : Option (List ℕ)) (max : ℕ) (i j : List ℕ) (p q : Bool)
-    → ((text : List ℕ) × IsOneLine text × IsHeld max text i p × Consumes a b text)
-    → ((part : List ℕ) × IsOneLine part × HoldsMore max part i p j q × Consumes b c part)
-    → (text : List ℕ) × IsOneLine text × IsHeld max text j q × Consumes a c text
-goes_on a b c max i j p q (text, one, held, taken) (part, one', more, taken') =
-    (text ++ part, All-append (λ b. b ≢ 10) text part one one', more text held, Consumes-trans a b c text part taken taken')
+pub goes_on : (a b c : Option (List ℕ)) (max : ℕ) (i j : List ℕ) (p q : Bool) (turns left less : ℕ) → left ≡ less + 1
+    → ((text : List ℕ) × IsOneLine text × IsHeld max text i p × Consumes a b text × (turns ≤ left + length text))
+    → ((part : List ℕ) × IsOneLine part × HoldsMore max part i p j q × ((0 < length part) × Consumes b c part))
+    → (text : List ℕ) × IsOneLine text × IsHeld max text j q × Consumes a c text × (turns ≤ less + length text)
+goes_on a b c max i j p q turns left less e (text, one, held, taken, enough) (part, one', more, (some, taken')) = (
+  text ++ part,
+  All-append (λ b. b ≢ 10) text part one one',
+  more text held,
+  Consumes-trans a b c text part taken taken',
+  omega (arith, e, enough, some, length-append text part),
+)
 
 -- the last part, and the newline
-pub ends : (a b c : Option (List ℕ)) (max : ℕ) (i j : List ℕ) (p q : Bool)
-    → ((text : List ℕ) × IsOneLine text × IsHeld max text i p × Consumes a b text)
+pub ends : (a b c : Option (List ℕ)) (max : ℕ) (i j : List ℕ) (p q : Bool) (turns left less : ℕ) → left ≡ less + 1
+    → ((text : List ℕ) × IsOneLine text × IsHeld max text i p × Consumes a b text × (turns ≤ left + length text))
     → ((part : List ℕ) × IsOneLine part × HoldsMore max part i p j q × Consumes b c (part ++ 10 ∷ []))
-    → (text : List ℕ) × IsOneLine text × (IsHeld max text j q × Consumes a c (text ++ 10 ∷ []))
-ends a b c max i j p q (text, one, held, taken) (part, one', more, taken') =
-    (text ++ part, All-append (λ b. b ≢ 10) text part one one', (more text held, subst (Consumes a c) (sym (append_assoc text part (10 ∷ []))) (Consumes-trans a b c text (part ++ 10 ∷ []) taken taken')))
+    → (text : List ℕ) × IsOneLine text × (IsHeld max text j q × Consumes a c (text ++ 10 ∷ []) × (turns ≤ less + (length text + 1)))
+ends a b c max i j p q turns left less e (text, one, held, taken, enough) (part, one', more, taken') = (
+  text ++ part,
+  All-append (λ b. b ≢ 10) text part one one',
+  (
+    more text held,
+    subst (Consumes a c) (sym (append_assoc text part (10 ∷ []))) (Consumes-trans a b c text (part ++ 10 ∷ []) taken taken'),
+    omega (arith, e, enough, length-append text part),
+  ),
+)
 
 -- a step that shows nothing is at the end
 pub shows_nothing : (a b : Option (List ℕ)) (shown : List ℕ) → IfSome a (λ xs. length shown ≡ 0 → xs ≡ []) → Keeps a b → length shown ≡ 0 → Consumes a b [] × EndsAt a b

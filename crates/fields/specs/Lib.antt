@@ -8,5 +8,6 @@ pub mod Line
 pub mod Number
 pub mod Packet
 pub mod Prefix
+pub mod Spans
 pub mod Tap
 pub mod Words

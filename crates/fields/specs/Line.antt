@@ -1,5 +1,5 @@
 -- Lines of bytes, and what a call takes of them.
-use Rattle.std.specs.Prelude.{◌≡◌, ◌≢◌, ℕ, ◌<◌, ◌==◌, Bool, List, [], ◌∷◌, ◌++◌, length, All, Result, Ok, Err, Option, OnSome, if◌then◌else◌}
+use Rattle.std.specs.Prelude.{◌≡◌, ◌≢◌, ℕ, ◌+◌, ◌<◌, ◌≤◌, ◌==◌, Bool, List, [], ◌∷◌, ◌++◌, length, All, Result, Ok, Err, Option, OnSome, if◌then◌else◌}
 use Rattle.std.specs.Bool.{MatchBool}
 use Rattle.std.specs.Io.KnownBytes.{Consumes, IsAtEnd}
 use Rattle.fields.specs.declared.line.LineEnd.{LineEnd}
@@ -27,7 +27,7 @@ EndsAt old new = OnSome old (IsAtEnd new)
 
 -- how many known bytes a step took: a part of a line, and its newline
 abbrev pub TakenBy : {E : Type 0} → Option (List ℕ) → Option (List ℕ) → Result Part E → List ℕ → Type 0
-TakenBy old new (Ok parts.More) part = Consumes old new part
+TakenBy old new (Ok parts.More) part = (0 < length part) × Consumes old new part
 TakenBy old new (Ok parts.Newline) part = Consumes old new (part ++ 10 ∷ [])
 TakenBy old new (Ok parts.End) part = (part ≡ []) × Consumes old new [] × EndsAt old new
 TakenBy old new (Err e) part = (part ≡ []) × Consumes old new []
@@ -49,13 +49,14 @@ TakesLine old new ends.Newline text = Consumes old new (text ++ 10 ∷ [])
 TakesLine old new ends.Input text = (0 < length text) × Consumes old new text × EndsAt old new
 TakesLine old new ends.Nothing text = (text ≡ []) × Consumes old new [] × EndsAt old new
 
--- a line was read, or the reader failed after a part of it
-abbrev pub LineOf : {E : Type 0} → Option (List ℕ) → Option (List ℕ) → ℕ → List ℕ → Result LineRead E → List ℕ → Type 0
-LineOf old new max items (Ok read) text = IsHeld max text items read.too_long × TakesLine old new read.end text
-LineOf old new max items (Err e) text = Consumes old new text
+-- a line was read, in at most a step a byte and one more, or the reader failed after a part of it
+abbrev pub LineOf : {E : Type 0} → Option (List ℕ) → Option (List ℕ) → ℕ → ℕ → ℕ → List ℕ → Result LineRead E → List ℕ → Type 0
+LineOf old new turns left max items (Ok read) text = IsHeld max text items read.too_long × TakesLine old new read.end text × (turns ≤ left + (length text + 1))
+LineOf old new turns left max items (Err e) text = Consumes old new text
 
-abbrev pub ReadsLine : {E : Type 0} → Option (List ℕ) → Option (List ℕ) → ℕ → List ℕ → Result LineRead E → Type 0
-ReadsLine old new max items r = (text : List ℕ) × IsOneLine text × LineOf old new max items r text
+-- the same, of a reader with these steps left before and after
+abbrev pub ReadsLine : {E : Type 0} → Option (List ℕ) → Option (List ℕ) → ℕ → ℕ → ℕ → List ℕ → Result LineRead E → Type 0
+ReadsLine old new turns left max items r = (text : List ℕ) × IsOneLine text × LineOf old new turns left max items r text
 
 -- The lines of some bytes. A newline ends a line, and the last may lack it.
 abbrev pub onto_first : ℕ → List (List ℕ) → List (List ℕ)

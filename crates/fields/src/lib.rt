@@ -10,6 +10,7 @@ mod line;
 mod number;
 mod packet;
 mod prefix;
+mod spans;
 mod tap;
 mod words;
 
@@ -19,6 +20,7 @@ pub use line::{LineEnd, LineRead};
 pub use number::{read_number, read_number_to};
 pub use packet::{Packet, PacketFault};
 pub use prefix::{Prefix, read_address};
+pub use spans::{Interval, Spans, canonical_is_unique};
 pub use tap::{ReadFailed, Tap, WriteFailed};
 pub use words::{WordFault, Words};
 

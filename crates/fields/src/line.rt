@@ -116,7 +116,8 @@ impl<R: BufRead> Tap<R> {
     /// and what it left in `line` isn't the line.
     pub fn read_line(&mut self, max: usize, line: &mut Vec<u8>) -> Result<LineRead, ReadFailed>
         requires room { max ≤ vec_capacity line.old }
-        ensures reads { ReadsLine (known R.remaining self.old) (known R.remaining self.new) max line.new.items result }
+        ensures reads { ReadsLine (known R.remaining self.old) (known R.remaining self.new)
+            (turns_left self.old) (turns_left self.new) max line.new.items result }
         ensures failed { has_failed self.new ≡ is_err result }
         ensures unmoved { has_failed self.old ≡ true → device self.new ≡ device self.old }
         ensures turns { OnOk result (turns_left self.new < turns_left self.old) }

@@ -127,6 +127,7 @@ impl<W: Write> Tap<W> {
     /// Writes all of the bytes, or fails.
     pub fn put(&mut self, bytes: &[u8]) -> Result<(), WriteFailed>
         ensures puts { Puts W.contents self.old self.new result bytes.now }
+        ensures turns { turns_left self.new ≡ turns_left self.old }
         ensures spent { has_failed self.old ≡ true → IsErr result }
         ensures unmoved { has_failed self.old ≡ true → self.new ≡ self.old }
     {
@@ -149,7 +150,8 @@ impl<W: Write> Tap<W> {
     /// Writes the parts, one after another, or fails.
     pub fn put_all(&mut self, parts: &[&[u8]]) -> Result<(), WriteFailed>
         requires { has_failed self.old ≡ false }
-        ensures { Puts W.contents self.old self.new result (flat_map (λ part. part.now) parts.now) }
+        ensures puts { Puts W.contents self.old self.new result (flat_map (λ part. part.now) parts.now) }
+        ensures turns { turns_left self.new ≡ turns_left self.old }
     {
         for part in parts {
             self.put(part)?;

@@ -1,4 +1,5 @@
-use Rattle.std.proofs.Common.{◌≢◌, ◌+◌, [], take, rules, arith, subst}
+use Rattle.std.proofs.Common.{◌≢◌, ◌+◌, ◌<◌, [], length, take, rules, arith, subst}
+use Rattle.std.proofs.lemmas.Grind.{common_steps}
 use Rattle.std.proofs.lemmas.List.Elements.{All-nil}
 use Rattle.std.specs.Io.BufRead.{FillKeeps}
 use Rattle.std.specs.Io.KnownBytes.{Consumes}
@@ -29,4 +30,5 @@ returns-clause-takes g c =
     let rested = c.fill.follows.lender-at-none in
     let filled = subst (FillKeeps _ (g.R.Read.remaining rested.device) (g.R.BufRead.consumable_len rested.device)) c.in-Ok.is c.fill.follows.holds-at-none.0 in
     let moved = Consumes_shown _ _ _ _ shown n (omega arith) c.in-Ok.ensures.front c.in-Ok.ensures.end filled.0 filled.1 (c.eat-2.ensures.bytes (search rules)) in
-    (take n shown, c.newline_at-n.ensures.before, c.hold.ensures.holds, moved.0)
+    let some : 0 < length (take n shown) = grind (arith, common_steps) in
+    (take n shown, c.newline_at-n.ensures.before, c.hold.ensures.holds, (some, moved.0))

@@ -13,14 +13,14 @@ parted chain source target =
 
 pub returns-in_err-put_all : goal.returns-in_err-put_all
 returns-in_err-put_all g c =
-    stops-in _ _ _ _ _ _ _ (parted c.args.chain.now (source_text c.args.rule.source) (target_text c.args.rule.target)) c.from_residual.ensures.0 c.in_err-put_all.ensures
+    stops-in _ _ _ _ _ _ _ (parted c.args.chain.now (source_text c.args.rule.source) (target_text c.args.rule.target)) c.from_residual.ensures.0 c.in_err-put_all.ensures.puts
 
 pub returns-in_err-put_source : goal.returns-in_err-put_source
 returns-in_err-put_source g c =
-    puts-after _ _ _ _ _ _ _ _ (parted c.args.chain.now (source_text c.args.rule.source) (target_text c.args.rule.target)) c.in_ok-put_all.ensures
+    puts-after _ _ _ _ _ _ _ _ (parted c.args.chain.now (source_text c.args.rule.source) (target_text c.args.rule.target)) c.in_ok-put_all.ensures.puts
     (stops-in _ _ _ _ _ _ _ refl c.from_residual-in_err-put_source.ensures.0 c.in_err-put_source.ensures)
 
 pub returns : goal.returns
 returns g c =
-    puts-after _ _ _ _ _ _ _ _ (parted c.args.chain.now (source_text c.args.rule.source) (target_text c.args.rule.target)) c.in_ok-put_all.ensures
-    (puts-after _ _ _ _ _ _ _ _ (ap (λ t. source_text c.args.rule.source ++ (codes " -j " ++ (t ++ (10 ∷ [])))) (sym c.name.ensures)) c.in_ok-put_source.ensures c.put_all-2.ensures)
+    puts-after _ _ _ _ _ _ _ _ (parted c.args.chain.now (source_text c.args.rule.source) (target_text c.args.rule.target)) c.in_ok-put_all.ensures.puts
+    (puts-after _ _ _ _ _ _ _ _ (ap (λ t. source_text c.args.rule.source ++ (codes " -j " ++ (t ++ (10 ∷ [])))) (sym c.name.ensures)) c.in_ok-put_source.ensures c.put_all-2.ensures.puts)

@@ -6,7 +6,7 @@ pub loop-self-preserved : goal.loop-self-preserved
 loop-self-preserved g c =
     let known = rw c.in-Ok-More.field-0-is at c.in-Ok-More.ensures.takes in
     record {
-      taken = goes_on _ _ _ _ _ _ _ _ c.loop-self.invariant.taken known;
+      taken = goes_on _ _ _ _ _ _ _ _ _ _ _ (omega arith) c.loop-self.invariant.taken known;
       within = search rules;
       room = omega arith;
       capacity = omega arith;
@@ -17,4 +17,4 @@ loop-self-preserved g c =
 pub returns-in-Ok-Newline-clause-reads : goal.returns-in-Ok-Newline-clause-reads
 returns-in-Ok-Newline-clause-reads g c =
     let known = rw c.in-Ok-Newline.field-0-is at c.in-Ok-Newline.ensures.takes in
-    ends _ _ _ _ _ _ _ _ c.loop-self.invariant.taken known
+    ends _ _ _ _ _ _ _ _ _ _ _ (omega arith) c.loop-self.invariant.taken known

@@ -1,5 +1,5 @@
 use Rattle.fields.specs.Tap.{has_failed}
-use Rattle.std.proofs.Common.{false, ◌≡◌, ◌≤◌, ℕ, List, vec_len, vec_capacity}
+use Rattle.std.proofs.Common.{false, ◌≡◌, ◌≤◌, ℕ, List, ◌+◌, length, vec_len, vec_capacity}
 use Rattle.std.specs.Io.KnownBytes.{Consumes}
 use Rattle.fields.specs.Line.{IsHeld, IsOneLine}
 use Rattle.fields.proofs.tap.Tap.read_line.Given as goal
@@ -9,7 +9,7 @@ abbrev pub invariant-loop-self : goal.invariant-loop-self
 invariant-loop-self g l =
     let left = g.R.Read.remaining in
     record {
-      taken : (text : List ℕ) × IsOneLine text × IsHeld l.max text l.line.items l.too_long × Consumes (left l.initial.self.device) (left l.self.device) text;
+      taken : (text : List ℕ) × IsOneLine text × IsHeld l.max text l.line.items l.too_long × Consumes (left l.initial.self.device) (left l.self.device) text × (l.fn.self.turns ≤ l.self.turns + length text);
       within : vec_len l.line ≤ l.max;
       room : l.max ≤ vec_capacity l.line;
       capacity : vec_capacity l.fn.line ≤ vec_capacity l.line;
