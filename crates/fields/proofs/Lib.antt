@@ -1,17 +1,36 @@
+pub mod BareLaws
+pub mod BelowLaws
+pub mod ConnectionStateLaws
 pub mod CutLaws
 pub mod CuttingLaws
+pub mod DecimalLaws
+pub mod ExceptLaws
+pub mod IcmpLaws
+pub mod InterfaceLaws
+pub mod InterfaceNameLaws
+pub mod IpRangeLaws
+pub mod JoinLaws
 pub mod LineLaws
+pub mod ListLaws
+pub mod LogLevelLaws
+pub mod MeetLaws
+pub mod NameListLaws
 pub mod NumberLaws
 pub mod PacketLaws
 mod PacketRows
 pub mod PartLaws
+pub mod PortListLaws
+pub mod PortRangeLaws
 pub mod PrefixLaws
+pub mod PrintedLaws
+pub mod ProtocolLaws
 pub mod PutLaws
-pub mod SplitLaws
-mod WordExamples
-pub mod WordLaws
-pub mod ExceptLaws
-pub mod MeetLaws
+pub mod RejectLaws
 pub mod SearchLaws
 pub mod SpanLaws
+pub mod SplitLaws
+pub mod TcpFlagsLaws
+pub mod UnionLaws
 pub mod UniqueLaws
+mod WordExamples
+pub mod WordLaws

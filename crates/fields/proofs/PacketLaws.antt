@@ -1,14 +1,15 @@
 -- Laws of the words of a packet line.
-use Rattle.std.proofs.Common.{◌≡◌, ℕ, ◌+◌, ◌<◌, ◌≤◌, List, [], ◌∷◌, ◌++◌, length, map, get_or, take, drop, length-take, get_or-take, Option, None, Some, Err, Bool, true, false, cond, ◌==◌, lit≤, refl, sym, subst, ap, ◌∙◌, arith}
-use Rattle.std.specs.Prelude.{slice_get, slice_index, unwrap_or}
-use Rattle.std.specs.List.{list_any}
+use Rattle.std.proofs.Common.{◌≡◌, ℕ, ◌+◌, ◌*◌, ◌<◌, ◌≤◌, find, option_map, leb-true, List, [], ◌∷◌, ◌++◌, length, map, get_or, take, drop, length-take, get_or-take, Option, None, Some, Err, Bool, true, false, cond, lit≤, refl, sym, subst, ap, ◌∙◌, arith}
+use Rattle.std.specs.Prelude.{slice_get, slice_index, unwrap_or, nat_le}
+use Rattle.std.specs.Str.{bytes_eq}
+use Rattle.std.specs.List.{list_all}
 use Rattle.std.specs.Option.{option_or}
 use Rattle.std.proofs.lemmas.List.{drop_more, take_more, drop-append-le}
 use Rattle.std.proofs.lemmas.Option.{get_or_from_slice_get}
 use Rattle.fields.specs.Chains.{◌>>=◌}
 use Rattle.fields.specs.Field.{index, top}
 use Rattle.fields.specs.Hook.{hook_of}
-use Rattle.fields.specs.Key.{key_of, value_of, protocols_with_parts}
+use Rattle.fields.specs.Key.{key_of, value_of}
 use Rattle.fields.specs.Number.{number_to}
 use Rattle.fields.specs.Packet.{IsPacket, text_in, text_of, number_on, word_fault, leftmost_fault, value_on, checked, packet_at, packet_of}
 use Rattle.fields.specs.declared.field.Field.{Field}
@@ -16,8 +17,16 @@ use Rattle.fields.specs.declared.field.Field.TheVariants as fields
 use Rattle.fields.specs.declared.field.TheConstants.Field.{ALL}
 use Rattle.fields.specs.declared.hook.Hook.{Hook}
 use Rattle.fields.specs.declared.key.Value.{Value}
-use Rattle.fields.specs.declared.key.Value.TheVariants.{Unread, Address, PlainProtocol}
+use Rattle.fields.specs.declared.key.Value.TheVariants as value
 use Rattle.fields.specs.declared.packet.PacketFault.TheVariants.{UnknownKey}
+use Rattle.fields.specs.Cut.{cut_at}
+use Rattle.fields.specs.Interface.{is_interface, interface_of, interface_value}
+use Rattle.fields.specs.PacketIcmp.{packet_icmp_of}
+use Rattle.fields.specs.Protocol.{protocols, protocol_number, one_protocol_of}
+use Rattle.fields.proofs.ConnectionStateLaws.{packet_state_within}
+use Rattle.fields.proofs.InterfaceLaws.{bound-is, bound-fits, interface_of-form}
+use Rattle.fields.proofs.ListLaws.{find-passes}
+use Rattle.fields.proofs.TcpFlagsLaws.{known as flags_known}
 use Rattle.fields.proofs.CutLaws.{step_before, same_some}
 use Rattle.fields.proofs.NumberLaws.{number_to_sound}
 use Rattle.fields.proofs.PrefixLaws.{address_of_sound}
@@ -70,21 +79,75 @@ packet_of_hook words from word hook within is some = packet_of_first words from 
 
 -- the greatest number of each kind of value
 abbrev greatest : Value → ℕ
-greatest Unread = 0
-greatest Address = 4294967295
-greatest PlainProtocol = 255
+greatest value.Address = 4294967295
+greatest value.Interface = 340282366920938463463374607431768211455
+greatest value.Protocol = 255
+greatest value.Bit = 1
+greatest value.Port = 65535
+greatest value.Flags = 63
+greatest value.Icmp = 65535
+greatest value.State = 13
 
-value_of_fits : (value : Value) (text : List ℕ) (n : ℕ) → value_of value text ≡ Some n → n ≤ greatest value
-value_of_fits Unread text n e = absurd (cc)
-value_of_fits Address text n e = let (is, small) = address_of_sound text n e in omega arith
-value_of_fits PlainProtocol text n e =
-    let (m, read, is) = step_before (number_to 255 text) (λ k. cond (list_any (λ j. j == k) protocols_with_parts) None (Some k)) n e in
-    let (number, small) = number_to_sound 255 text m read in
-    omega (arith, kept m (list_any (λ j. j == m) protocols_with_parts) is)
+-- an accepted text of an interface is the interface itself
+interface_is_text : (text name : List ℕ) → interface_of text ≡ Some name → interface_of name ≡ Some name
+unfolding interface_of
+interface_is_text text name reads = go (is_interface text) refl reads
   where
-    kept : (m : ℕ) (t : Bool) → cond t None (Some m) ≡ Some n → m ≡ n
-    kept m true h = absurd (cc)
-    kept m false h = same_some m n h
+    go : (t : Bool) → is_interface text ≡ t → cond t (Some text) None ≡ Some name → cond (is_interface name) (Some name) None ≡ Some name
+    go false is e = absurd (cc)
+    go true is e = let same = same_some text name e in ap (λ b. cond b (Some name) None) (ap is_interface (sym same) ∙ is)
+
+interface_fits : (name : List ℕ) → interface_of name ≡ Some name → interface_value name ≤ 340282366920938463463374607431768211455
+unfolding interface_value
+interface_fits name reads =
+    let form = interface_of-form name reads in
+    let few = form.few in
+    let number = bound-is 0 16 name (omega arith) in
+    let fits = bound-fits 0 16 name (omega arith) form.bytes in
+    omega arith
+
+abbrev is_small : List ℕ × ℕ → Bool
+is_small entry = nat_le entry.1 255
+
+numbers_small : list_all is_small protocols ≡ true
+numbers_small = refl
+
+protocol_fits : (text : List ℕ) (n : ℕ) → one_protocol_of text ≡ Some n → n ≤ 255
+unfolding one_protocol_of protocol_number
+protocol_fits text n e = go (find (λ (entry : List ℕ × ℕ). bytes_eq entry.0 text) protocols) refl e
+  where
+    go : (o : Option (List ℕ × ℕ)) → find (λ (entry : List ℕ × ℕ). bytes_eq entry.0 text) protocols ≡ o
+        → option_or (option_map (λ entry. entry.1) o) (number_to 255 text) ≡ Some n → n ≤ 255
+    go None found is = let (number, small) = number_to_sound 255 text n is in small
+    go (Some entry) found is =
+        let small = leb-true entry.1 255 (find-passes (λ (e : List ℕ × ℕ). bytes_eq e.0 text) is_small protocols entry found numbers_small).1 in
+        let same = same_some entry.1 n is in
+        omega arith
+
+icmp_fits : (text : List ℕ) (n : ℕ) → packet_icmp_of text ≡ Some n → n ≤ 65535
+unfolding packet_icmp_of
+icmp_fits text n e =
+    let (p, cut, behind) = step_before (cut_at 47 text) (λ p. number_to 255 p.0 >>= λ t. number_to 255 p.1 >>= λ c. Some (t * 256 + c)) n e in
+    let (t, first, further) = step_before (number_to 255 p.0) (λ t. number_to 255 p.1 >>= λ c. Some (t * 256 + c)) n behind in
+    let (c, second, last) = step_before (number_to 255 p.1) (λ c. Some (t * 256 + c)) n further in
+    let high = (number_to_sound 255 p.0 t first).1 in
+    let low = (number_to_sound 255 p.1 c second).1 in
+    let same = same_some (t * 256 + c) n last in
+    omega arith
+
+value_of_fits : (kind : Value) (text : List ℕ) (n : ℕ) → value_of kind text ≡ Some n → n ≤ greatest kind
+value_of_fits value.Address text n e = let (is, small) = address_of_sound text n e in omega arith
+value_of_fits value.Interface text n e =
+    let (name, reads, is) = step_before (interface_of text) (λ name. Some (interface_value name)) n e in
+    let fits = interface_fits name (interface_is_text text name reads) in
+    let same = same_some (interface_value name) n is in
+    omega arith
+value_of_fits value.Protocol text n e = protocol_fits text n e
+value_of_fits value.Bit text n e = let (number, small) = number_to_sound 1 text n e in small
+value_of_fits value.Port text n e = let (number, small) = number_to_sound 65535 text n e in small
+value_of_fits value.Flags text n e = let small = flags_known text n e in omega arith
+value_of_fits value.Icmp text n e = icmp_fits text n e
+value_of_fits value.State text n e = packet_state_within text (Some n) (sym e)
 
 -- is within the top of each field whose key has the kind
 greatest_fits : (field : Field) → greatest (key_of field).value ≤ top field

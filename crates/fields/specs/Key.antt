@@ -1,52 +1,71 @@
--- The keys of a packet line.
-use Rattle.std.specs.Prelude.{ℕ, Bool, true, false, ◌==◌, List, [], ◌∷◌, Option, Some, None, if◌then◌else◌}
-use Rattle.std.specs.List.{list_any}
+-- The keys of a packet line: what each takes, which packets carry it, and which need it.
+use Rattle.std.specs.Prelude.{ℕ, Bool, true, false, ◌==◌, ◌&&◌, List, Option, Some, None}
 use Rattle.fields.specs.Chains.{◌>>=◌}
 use Rattle.fields.specs.Number.{number_to}
 use Rattle.fields.specs.Prefix.{address_of}
+use Rattle.fields.specs.Interface.{interface_of, interface_value}
+use Rattle.fields.specs.Protocol.{one_protocol_of, carries_ports}
+use Rattle.fields.specs.TcpFlags.{tcp_flags_of}
+use Rattle.fields.specs.PacketIcmp.{packet_icmp_of}
+use Rattle.fields.specs.ConnectionState.{packet_state_of}
+use Rattle.fields.specs.declared.hook.Hook.{Hook}
+use Rattle.fields.specs.declared.hook.Hook.TheVariants.{Input, Output}
 use Rattle.fields.specs.declared.field.Field.{Field}
-use Rattle.fields.specs.declared.field.Field.TheVariants.{Source, Destination, InIface, OutIface, Protocol, Fragment, SourcePort, DestinationPort, TcpFlags, IcmpType, ConnectionState}
+use Rattle.fields.specs.declared.field.Field.TheVariants as field
 use Rattle.fields.specs.declared.key.Key.{Key}
 use Rattle.fields.specs.declared.key.Value.{Value}
-use Rattle.fields.specs.declared.key.Value.TheVariants.{Unread, Address, PlainProtocol}
-
--- the protocols whose packets carry ports, flags or an ICMP type
-abbrev pub protocols_with_parts : List ℕ
-protocols_with_parts = 1 ∷ 6 ∷ 17 ∷ 33 ∷ 132 ∷ 136 ∷ []
-
--- a number up to 255 of another protocol
-abbrev pub plain_protocol : List ℕ → Option ℕ
-plain_protocol text = number_to 255 text >>= λ n. if list_any (λ m. m == n) protocols_with_parts then None else Some n
+use Rattle.fields.specs.declared.key.Value.TheVariants as value
+use Rattle.fields.specs.declared.key.Parts.{Parts}
+use Rattle.fields.specs.declared.key.Carrier.{Carrier}
+use Rattle.fields.specs.declared.key.Carrier.TheVariants as carrier
 
 -- the number that a text is as a value of this kind
 abbrev pub value_of : Value → List ℕ → Option ℕ
-value_of Unread text = None
-value_of Address text = address_of text
-value_of PlainProtocol text = plain_protocol text
+value_of value.Address text = address_of text
+value_of value.Interface text = interface_of text >>= λ name. Some (interface_value name)
+value_of value.Protocol text = one_protocol_of text
+value_of value.Bit text = number_to 1 text
+value_of value.Port text = number_to 65535 text
+value_of value.Flags text = tcp_flags_of text
+value_of value.Icmp text = packet_icmp_of text
+value_of value.State text = packet_state_of text
 
--- a key that isn't read
-abbrev pub unread : Key
-unread = record { value = Unread; is_required = false }
+-- a packet comes in unless it is sent from here, and goes out unless it is for here
+abbrev pub comes_in : Hook → Bool
+comes_in Output = false
+comes_in hook = true
 
-abbrev pub required : Value → Key
-required value = record { value = value; is_required = true }
+abbrev pub goes_out : Hook → Bool
+goes_out Input = false
+goes_out hook = true
 
--- the table of keys: one row a field, whose name is the key
+-- a first fragment of such a protocol; without a protocol there is none
+abbrev pub is_first_of : (ℕ → Bool) → ℕ → Option ℕ → Bool
+is_first_of has fragment None = false
+is_first_of has fragment (Some protocol) = has protocol && (fragment == 0)
+
+-- Whether a packet carries a part, by its hook, its protocol where one is given, and whether it is a further fragment.
+abbrev pub carries : Parts → Carrier → Bool
+carries parts carrier.Every = true
+carries parts carrier.Incoming = comes_in parts.hook
+carries parts carrier.Outgoing = goes_out parts.hook
+carries parts carrier.WithPorts = is_first_of carries_ports parts.fragment parts.protocol
+carries parts carrier.Tcp = is_first_of (λ n. n == 6) parts.fragment parts.protocol
+carries parts carrier.Icmp = is_first_of (λ n. n == 1) parts.fragment parts.protocol
+
+abbrev pub key : Value → Carrier → Bool → Key
+key value carrier required = record { value = value; carrier = carrier; is_required = required }
+
+-- the table of keys: one row a field, whose name is the key. What it takes, who carries it, and whether a packet that does needs it
 abbrev pub key_of : Field → Key
-key_of Source = required Address
-key_of Destination = required Address
-key_of InIface = unread
-key_of OutIface = unread
-key_of Protocol = required PlainProtocol
-key_of Fragment = unread
-key_of SourcePort = unread
-key_of DestinationPort = unread
-key_of TcpFlags = unread
-key_of IcmpType = unread
-key_of ConnectionState = unread
-
--- whether a key that takes such a value is read
-abbrev pub is_read : Value → Bool
-is_read Unread = false
-is_read Address = true
-is_read PlainProtocol = true
+key_of field.Source = key value.Address carrier.Every true
+key_of field.Destination = key value.Address carrier.Every true
+key_of field.InIface = key value.Interface carrier.Incoming false
+key_of field.OutIface = key value.Interface carrier.Outgoing false
+key_of field.Protocol = key value.Protocol carrier.Every true
+key_of field.Fragment = key value.Bit carrier.Every false
+key_of field.SourcePort = key value.Port carrier.WithPorts true
+key_of field.DestinationPort = key value.Port carrier.WithPorts true
+key_of field.TcpFlags = key value.Flags carrier.Tcp false
+key_of field.IcmpType = key value.Icmp carrier.Icmp true
+key_of field.ConnectionState = key value.State carrier.Every false

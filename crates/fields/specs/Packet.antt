@@ -1,5 +1,5 @@
 -- Packets, and the words of a packet line.
-use Rattle.std.specs.Prelude.{ℕ, ◌≡◌, ◌≤◌, Bool, ◌&&◌, ◌||◌, List, [], ◌∷◌, ◌++◌, length, map, find, Option, Some, None, is_some, is_none, unwrap_or, slice_index, Result, Ok, Err, if◌then◌else◌}
+use Rattle.std.specs.Prelude.{ℕ, ◌≡◌, ◌≤◌, Bool, not, ◌&&◌, ◌||◌, List, [], ◌∷◌, ◌++◌, length, map, find, Option, Some, None, is_some, is_none, unwrap_or, slice_index, Result, Ok, Err, if◌then◌else◌}
 use Rattle.std.specs.List.{list_any}
 use Rattle.std.specs.Option.{option_or}
 use Rattle.std.specs.Str.{bytes_eq}
@@ -7,13 +7,15 @@ use Rattle.fields.specs.Chains.{◌>>=◌}
 use Rattle.fields.specs.Cut.{cut_at}
 use Rattle.fields.specs.Field.{index, top, name}
 use Rattle.fields.specs.Hook.{hook_of}
-use Rattle.fields.specs.Key.{key_of, is_read, value_of}
+use Rattle.fields.specs.Key.{key_of, value_of, carries}
 use Rattle.fields.specs.declared.field.Field.{Field}
+use Rattle.fields.specs.declared.field.Field.TheVariants as fields
+use Rattle.fields.specs.declared.key.Parts.{Parts}
 use Rattle.fields.specs.declared.field.TheConstants.{FIELDS}
 use Rattle.fields.specs.declared.field.TheConstants.Field.{ALL}
 use Rattle.fields.specs.declared.hook.Hook.{Hook}
 use Rattle.fields.specs.declared.packet.PacketFault.{PacketFault}
-use Rattle.fields.specs.declared.packet.PacketFault.TheVariants.{UnknownKey, KeyMissing, BadValue}
+use Rattle.fields.specs.declared.packet.PacketFault.TheVariants.{UnknownKey, KeyMissing, BadValue, NotCarried}
 
 -- a packet: its hook, and its value on each field, in the fields' order
 pub record PacketView : Type 0 where
@@ -29,9 +31,9 @@ pub record IsPacket (p : PacketView) : Type 0 where
   pub whole : length p.values ≡ FIELDS
   pub within : (field : Field) → point p field ≤ top field
 
--- the field of a key: one that is read, and whose name is the key
+-- the field of a key: the one whose name is the key
 abbrev pub has_key : List ℕ → Field → Bool
-has_key key field = is_read (key_of field).value && bytes_eq (name field) key
+has_key key field = bytes_eq (name field) key
 
 abbrev pub field_of : List ℕ → Option Field
 field_of key = find (has_key key) ALL
@@ -66,21 +68,39 @@ abbrev pub leftmost_fault : List (List ℕ) → List (List ℕ) → Option Packe
 leftmost_fault before [] = None
 leftmost_fault before (word ∷ words) = option_or (word_fault before word) (leftmost_fault (before ++ word ∷ []) words)
 
--- whether the key of a field has to be given and isn't
-abbrev pub lacks : List (List ℕ) → Field → Bool
-lacks words field = (key_of field).is_required && is_none (text_of field words)
-
-abbrev pub lacks_key : List (List ℕ) → Bool
-lacks_key words = list_any (lacks words) ALL
-
 -- the value that the words give a field: 0 where none does
 abbrev pub value_on : List (List ℕ) → Field → ℕ
 value_on words field = unwrap_or (text_of field words >>= λ text. number_on field text) 0
 
--- the packet of a hook and the words behind it, or the first fault
+-- the parts of a packet that decide which others it carries
+abbrev pub parts_of : Hook → List (List ℕ) → Parts
+parts_of hook words = record {
+  hook = hook;
+  protocol = text_of fields.Protocol words >>= λ text. number_on fields.Protocol text;
+  fragment = value_on words fields.Fragment;
+}
+
+-- whether the key of a field is given, of a packet that doesn't carry it
+abbrev pub strays : Parts → List (List ℕ) → Field → Bool
+strays parts words field = is_some (text_of field words) && not (carries parts (key_of field).carrier)
+
+abbrev pub strays_key : Parts → List (List ℕ) → Bool
+strays_key parts words = list_any (strays parts words) ALL
+
+-- whether the key of a field has to be given and isn't
+abbrev pub lacks : Parts → List (List ℕ) → Field → Bool
+lacks parts words field = (key_of field).is_required && carries parts (key_of field).carrier && is_none (text_of field words)
+
+abbrev pub lacks_key : Parts → List (List ℕ) → Bool
+lacks_key parts words = list_any (lacks parts words) ALL
+
+-- the packet of a hook and the words behind it, or the first fault: of a word, then a key that it doesn't carry, then one that it lacks
 abbrev pub checked : Hook → List (List ℕ) → Option PacketFault → Result PacketView PacketFault
 checked hook words (Some fault) = Err fault
-checked hook words None = if lacks_key words then Err KeyMissing else Ok (record { hook = hook; values = map (value_on words) ALL })
+checked hook words None =
+    if strays_key (parts_of hook words) words then Err NotCarried
+    else if lacks_key (parts_of hook words) words then Err KeyMissing
+    else Ok (record { hook = hook; values = map (value_on words) ALL })
 
 abbrev pub packet_at : Option Hook → List (List ℕ) → Result PacketView PacketFault
 packet_at None words = Err UnknownKey

@@ -1,78 +1,147 @@
 // The keys of a packet line.
-ghost use Rattle.std.specs.Prelude.{◌≡◌};
-ghost use Rattle.fields.specs.Key.{plain_protocol};
+ghost use Rattle.std.specs.Prelude.{◌≡◌, ◌==◌};
+ghost use Rattle.fields.specs.Protocol.{carries_ports};
 
+use crate::connection_state::read_packet_state;
 use crate::field::Field;
+use crate::hook::Hook;
+use crate::icmp::read_packet_icmp;
+use crate::interface::IfPattern;
 use crate::number::read_number_to;
 use crate::prefix::read_address;
+use crate::protocol::Protocol;
+use crate::tcp_flags::TcpFlags;
 
 // What stands behind a key's `=`.
 #[derive(Clone, Copy)]
 pub(crate) enum Value {
-    // no such key is read
-    Unread,
     Address,
-    PlainProtocol,
+    Interface,
+    Protocol,
+    Bit,
+    Port,
+    Flags,
+    Icmp,
+    State,
 }
 
-// What the key of a field takes.
+// Which packets carry the part.
+#[derive(Clone, Copy)]
+pub(crate) enum Carrier {
+    Every,
+    Incoming,
+    Outgoing,
+    WithPorts,
+    Tcp,
+    Icmp,
+}
+
+// What the key of a field takes, who carries it, and whether a packet that does needs it.
 #[derive(Clone, Copy)]
 pub(crate) struct Key {
     pub value: Value,
+    pub carrier: Carrier,
     pub is_required: bool,
 }
 
-// A protocol up to 255 whose packets carry no ports, flags or ICMP type.
-fn read_plain_protocol(text: &[u8]) -> Option<u128>
-    ensures { result ≡ plain_protocol text.now }
-{
-    match read_number_to(text, 255)? {
-        1 | 6 | 17 | 33 | 132 | 136 => None,
-        number => Some(u128::from(number)),
-    }
+// What decides which parts a packet carries.
+#[derive(Clone, Copy)]
+pub(crate) struct Parts {
+    pub hook: Hook,
+    pub protocol: Option<u128>,
+    pub fragment: u128,
 }
 
 impl Value {
-    ghost use Rattle.fields.specs.Key.{is_read, value_of};
-
-    pub(crate) fn is_read(self) -> bool
-        ensures { result ≡ is_read self }
-    {
-        match self {
-            Value::Unread => false,
-            Value::Address | Value::PlainProtocol => true,
-        }
-    }
+    ghost use Rattle.fields.specs.Key.{value_of};
 
     pub(crate) fn read(self, text: &[u8]) -> Option<u128>
         ensures { result ≡ value_of self text.now }
     {
         match self {
-            Value::Unread => None,
             Value::Address => Some(u128::from(read_address(text)?)),
-            Value::PlainProtocol => read_plain_protocol(text),
+            Value::Interface => Some(IfPattern::read(text)?.value()),
+            Value::Protocol => Some(u128::from(Protocol::read_one(text)?.number())),
+            Value::Bit => Some(u128::from(read_number_to(text, 1)?)),
+            Value::Port => Some(u128::from(read_number_to(text, 65535)?)),
+            Value::Flags => Some(u128::from(TcpFlags::read(text)?.value())),
+            Value::Icmp => Some(u128::from(read_packet_icmp(text)?)),
+            Value::State => Some(u128::from(read_packet_state(text)?)),
+        }
+    }
+}
+
+// The protocols whose packets have ports.
+fn has_ports(protocol: u128) -> bool
+    ensures { result ≡ carries_ports protocol }
+{
+    protocol == 6 || protocol == 17 || protocol == 33 || protocol == 132 || protocol == 136
+}
+
+impl Parts {
+    ghost use Rattle.fields.specs.Key.{carries, comes_in, goes_out, is_first_of};
+
+    fn comes_in(self) -> bool
+        ensures { result ≡ comes_in self.hook }
+    {
+        match self.hook {
+            Hook::Input | Hook::Forward => true,
+            Hook::Output => false,
+        }
+    }
+
+    fn goes_out(self) -> bool
+        ensures { result ≡ goes_out self.hook }
+    {
+        match self.hook {
+            Hook::Forward | Hook::Output => true,
+            Hook::Input => false,
+        }
+    }
+
+    fn has_ports(self) -> bool
+        ensures { result ≡ is_first_of carries_ports self.fragment self.protocol }
+    {
+        match self.protocol {
+            None => false,
+            Some(protocol) => has_ports(protocol) && self.fragment == 0,
+        }
+    }
+
+    fn is_first_of(self, wanted: u128) -> bool
+        ensures { result ≡ is_first_of (λ n. n == wanted) self.fragment self.protocol }
+    {
+        match self.protocol {
+            None => false,
+            Some(protocol) => protocol == wanted && self.fragment == 0,
+        }
+    }
+
+    // Whether a packet with these parts carries one more.
+    pub(crate) fn carry(self, carrier: Carrier) -> bool
+        ensures { result ≡ carries self carrier }
+    {
+        match carrier {
+            Carrier::Every => true,
+            Carrier::Incoming => self.comes_in(),
+            Carrier::Outgoing => self.goes_out(),
+            Carrier::WithPorts => self.has_ports(),
+            Carrier::Tcp => self.is_first_of(6),
+            Carrier::Icmp => self.is_first_of(1),
         }
     }
 }
 
 impl Key {
-    ghost use Rattle.fields.specs.Key.{unread, required, key_of};
+    ghost use Rattle.fields.specs.Key.{key, key_of};
 
-    fn unread() -> Key
-        ensures { result ≡ unread }
-    {
-        Key {
-            value: Value::Unread,
-            is_required: false,
-        }
-    }
-
-    fn required(value: Value) -> Key
-        ensures { result ≡ required value }
+    fn new(value: Value, carrier: Carrier, is_required: bool) -> Key
+        ensures { result ≡ key value carrier is_required }
     {
         Key {
             value,
-            is_required: true,
+            carrier,
+            is_required,
         }
     }
 
@@ -81,17 +150,17 @@ impl Key {
         ensures { result ≡ key_of field }
     {
         match field {
-            Field::Source => Key::required(Value::Address),
-            Field::Destination => Key::required(Value::Address),
-            Field::InIface => Key::unread(),
-            Field::OutIface => Key::unread(),
-            Field::Protocol => Key::required(Value::PlainProtocol),
-            Field::Fragment => Key::unread(),
-            Field::SourcePort => Key::unread(),
-            Field::DestinationPort => Key::unread(),
-            Field::TcpFlags => Key::unread(),
-            Field::IcmpType => Key::unread(),
-            Field::ConnectionState => Key::unread(),
+            Field::Source => Key::new(Value::Address, Carrier::Every, true),
+            Field::Destination => Key::new(Value::Address, Carrier::Every, true),
+            Field::InIface => Key::new(Value::Interface, Carrier::Incoming, false),
+            Field::OutIface => Key::new(Value::Interface, Carrier::Outgoing, false),
+            Field::Protocol => Key::new(Value::Protocol, Carrier::Every, true),
+            Field::Fragment => Key::new(Value::Bit, Carrier::Every, false),
+            Field::SourcePort => Key::new(Value::Port, Carrier::WithPorts, true),
+            Field::DestinationPort => Key::new(Value::Port, Carrier::WithPorts, true),
+            Field::TcpFlags => Key::new(Value::Flags, Carrier::Tcp, false),
+            Field::IcmpType => Key::new(Value::Icmp, Carrier::Icmp, true),
+            Field::ConnectionState => Key::new(Value::State, Carrier::Every, false),
         }
     }
 }

@@ -2,12 +2,12 @@
 ghost use Rattle.std.specs.Prelude.{◌≡◌, ◌<◌, ◌≤◌, [], find, map, length, take, drop, slice_index_or, option_map, IfOk};
 ghost use Rattle.std.specs.List.{list_any};
 ghost use Rattle.fields.specs.Field.{top};
-ghost use Rattle.fields.specs.Packet.{has_key, field_of, text_in, text_of, word_fault, leftmost_fault, lacks, lacks_key, value_on};
+ghost use Rattle.fields.specs.Packet.{has_key, field_of, text_in, text_of, word_fault, leftmost_fault, parts_of, strays, lacks, value_on};
 
 use crate::cut::cut_at;
 use crate::field::{FIELDS, Field};
 use crate::hook::Hook;
-use crate::key::Key;
+use crate::key::{Key, Parts};
 use crate::words::Words;
 use std::marker::Model;
 use thiserror::Error;
@@ -24,6 +24,9 @@ pub enum PacketFault {
     /// F3: a value isn't one of its field, or a key is given twice.
     #[error("bad packet value")]
     BadValue,
+    /// F4: a key is given that such a packet doesn't carry.
+    #[error("field not carried")]
+    NotCarried,
 }
 
 /// A packet: its hook, and one whole number on each field, from 0 to the field's top. A part that the packet doesn't
@@ -49,7 +52,7 @@ impl Model for Packet {
 fn has_key(field: Field, key: &[u8]) -> bool
     ensures { result ≡ has_key key.now field }
 {
-    Key::of(field).value.is_read() && field.name() == key
+    field.name() == key
 }
 
 fn field_among(fields: &[Field], key: &[u8]) -> Option<Field>
@@ -58,7 +61,7 @@ fn field_among(fields: &[Field], key: &[u8]) -> Option<Field>
     fields.iter().copied().find(|field| has_key(*field, key))
 }
 
-// The field of a key: one that is read, and whose name is the key.
+// The field of a key: the one whose name is the key.
 fn field_of(key: &[u8]) -> Option<Field>
     ensures { result ≡ field_of key.now }
 {
@@ -124,28 +127,6 @@ fn leftmost_fault(words: &Words, first: usize) -> Option<PacketFault>
     None
 }
 
-// Tells whether the key of a field has to be given and isn't.
-fn lacks(words: &Words, first: usize, field: Field) -> bool
-    requires { first ≤ length words.now }
-    ensures { result ≡ lacks (drop first words.now) field }
-{
-    Key::of(field).is_required && text_of(words, first, words.len(), field).is_none()
-}
-
-fn lacks_any(words: &Words, first: usize, fields: &[Field]) -> bool
-    requires { first ≤ length words.now }
-    ensures { result ≡ list_any (lacks (drop first words.now)) fields.now }
-{
-    fields.iter().any(|field| lacks(words, first, *field))
-}
-
-fn lacks_key(words: &Words, first: usize) -> bool
-    requires { first ≤ length words.now }
-    ensures { result ≡ lacks_key (drop first words.now) }
-{
-    lacks_any(words, first, &Field::ALL)
-}
-
 fn value_on(words: &Words, first: usize, field: Field) -> u128
     requires { first ≤ length words.now }
     ensures { result ≡ value_on (drop first words.now) field }
@@ -154,6 +135,58 @@ fn value_on(words: &Words, first: usize, field: Field) -> u128
         None => 0,
         Some(text) => Key::of(field).value.read(text).unwrap_or(0),
     }
+}
+
+// The parts that decide which others the packet carries.
+fn parts_of(hook: Hook, words: &Words, first: usize) -> Parts
+    requires { first ≤ length words.now }
+    ensures { result ≡ parts_of hook (drop first words.now) }
+{
+    let protocol = match text_of(words, first, words.len(), Field::Protocol) {
+        None => None,
+        Some(text) => Key::of(Field::Protocol).value.read(text),
+    };
+    Parts {
+        hook,
+        protocol,
+        fragment: value_on(words, first, Field::Fragment),
+    }
+}
+
+// Tells whether the key of a field is given, of a packet that doesn't carry it.
+fn strays(parts: Parts, words: &Words, first: usize, field: Field) -> bool
+    requires { first ≤ length words.now }
+    ensures { result ≡ strays parts (drop first words.now) field }
+{
+    text_of(words, first, words.len(), field).is_some() && !parts.carry(Key::of(field).carrier)
+}
+
+fn strays_any(parts: Parts, words: &Words, first: usize, fields: &[Field]) -> bool
+    requires { first ≤ length words.now }
+    ensures { result ≡ list_any (strays parts (drop first words.now)) fields.now }
+{
+    fields
+        .iter()
+        .any(|field| strays(parts, words, first, *field))
+}
+
+// Tells whether the key of a field has to be given and isn't.
+fn lacks(parts: Parts, words: &Words, first: usize, field: Field) -> bool
+    requires { first ≤ length words.now }
+    ensures { result ≡ lacks parts (drop first words.now) field }
+{
+    Key::of(field).is_required
+        && parts.carry(Key::of(field).carrier)
+        && text_of(words, first, words.len(), field).is_none()
+}
+
+fn lacks_any(parts: Parts, words: &Words, first: usize, fields: &[Field]) -> bool
+    requires { first ≤ length words.now }
+    ensures { result ≡ list_any (lacks parts (drop first words.now)) fields.now }
+{
+    fields
+        .iter()
+        .any(|field| lacks(parts, words, first, *field))
 }
 
 fn put_values(words: &Words, first: usize, fields: &[Field], values: &mut [u128])
@@ -186,7 +219,11 @@ impl Packet {
         match leftmost_fault(words, first) {
             Some(fault) => Err(fault),
             None => {
-                if lacks_key(words, first) {
+                let parts = parts_of(hook, words, first);
+                if strays_any(parts, words, first, &Field::ALL) {
+                    return Err(PacketFault::NotCarried);
+                }
+                if lacks_any(parts, words, first, &Field::ALL) {
                     return Err(PacketFault::KeyMissing);
                 }
                 let values = values_of(words, first);
@@ -196,7 +233,7 @@ impl Packet {
     }
 
     /// The packet that the words from a place on write: the hook, and then `key=value` in any order. The fault is that
-    /// of the leftmost word at fault, else F2. Takes no memory. A word is compared with those before it, which are at
+    /// of the leftmost word at fault, else F4, else F2. Takes no memory. A word is compared with those before it, which are at
     /// most as many as the fields: the first word that repeats a key ends the reading.
     pub fn read(words: &Words, from: usize) -> Result<Packet, PacketFault>
         requires { from ≤ length words.now }

@@ -1,2 +1,3 @@
+mod packets;
 mod taps;
 mod values;

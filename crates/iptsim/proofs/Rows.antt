@@ -3,6 +3,7 @@ use Rattle.std.proofs.Common.{◌≡◌, [], ◌∷◌, true, false, refl, codes
 use Rattle.std.specs.Fmt.{digits}
 use Rattle.fields.specs.Number.{number_of, number_to}
 use Rattle.fields.specs.Prefix.{address_of, length_of, prefix_of}
+use Rattle.fields.specs.Protocol.{one_protocol_of, protocol_number}
 use Rattle.iptsim.specs.Rule.{rule_text}
 use Rattle.iptsim.specs.Table.{empty_table}
 use Rattle.iptsim.specs.Walk.{walk_within}
@@ -29,7 +30,7 @@ lists_one = refl
 -- packets, by the first rule that matches, and by the policy
 asks : (session empty_table (codes "iptables -A INPUT -s 10.1.2.3/8 -j ACCEPT\niptables -A INPUT -j DROP\npacket INPUT src=10.9.9.9 dst=2.2.2.2 proto=47\npacket INPUT src=11.0.0.1 dst=2.2.2.2 proto=47\npacket OUTPUT src=11.0.0.1 dst=2.2.2.2 proto=47") []).told
     ≡ codes "INPUT 1\nverdict ACCEPT by rule\nINPUT 2\nverdict DROP by rule\nverdict ACCEPT by policy\n"
-unfolding digits request_on request_of command_of prefix_of length_of address_of number_to number_of walk_within
+unfolding digits request_on request_of command_of prefix_of length_of address_of one_protocol_of protocol_number number_to number_of walk_within
 asks = refl
 
 -- the status is that of the first fault, and a marked line changes nothing

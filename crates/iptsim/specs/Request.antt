@@ -72,6 +72,7 @@ abbrev pub packet_fault : PacketFault → Fault
 packet_fault packet.UnknownKey = fault.UnknownKey
 packet_fault packet.KeyMissing = fault.KeyMissing
 packet_fault packet.BadValue = fault.BadPacketValue
+packet_fault packet.NotCarried = fault.FieldNotCarried
 
 abbrev pub asked : Result Packet PacketFault → Result Request Fault
 asked (Ok p) = Ok (Ask p)

@@ -19,6 +19,8 @@ pub enum Fault {
     KeyMissing,
     #[error("bad packet value")]
     BadPacketValue,
+    #[error("field not carried")]
+    FieldNotCarried,
     #[error("chain full")]
     ChainFull,
     #[error("bad quoting")]
@@ -41,6 +43,7 @@ impl Fault {
             Fault::UnknownKey => b"F1 unknown key",
             Fault::KeyMissing => b"F2 key missing",
             Fault::BadPacketValue => b"F3 bad packet value",
+            Fault::FieldNotCarried => b"F4 field not carried",
             Fault::ChainFull => b"T14 chain full",
             Fault::BadQuoting => b"R5 bad quoting",
             Fault::LineTooLong => b"R6 line too long",
@@ -60,7 +63,8 @@ impl Fault {
             | Fault::BadValue
             | Fault::UnknownKey
             | Fault::KeyMissing
-            | Fault::BadPacketValue => 2,
+            | Fault::BadPacketValue
+            | Fault::FieldNotCarried => 2,
         }
     }
 }

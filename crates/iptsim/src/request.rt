@@ -100,6 +100,7 @@ fn packet_fault(fault: PacketFault) -> Fault
         PacketFault::UnknownKey => Fault::UnknownKey,
         PacketFault::KeyMissing => Fault::KeyMissing,
         PacketFault::BadValue => Fault::BadPacketValue,
+        PacketFault::NotCarried => Fault::FieldNotCarried,
     }
 }
 

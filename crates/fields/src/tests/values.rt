@@ -1,244 +1,246 @@
-use crate::*;
+// Texts of values, and what is read and written of them.
+use crate::{IfPattern, Name, PortList, PortRange, Protocol, Tap, Text};
 use std::test::Fail;
 
 #[test]
-fn numbers(rt: HostRuntime) {
-    let rows: [(&[u8], Option<u32>); 10] = [
-        (b"0", Some(0)),
-        (b"47", Some(47)),
-        (b"999999999", Some(999999999)),
-        (b"1000000000", None),
-        (b"00", None),
-        (b"047", None),
-        (b"", None),
-        (b"-1", None),
-        (b"4x", None),
-        (b" 4", None),
+fn interfaces(rt: HostRuntime) -> Result<(), Fail> {
+    let texts = [
+        b"eth0".as_slice(),
+        b"eth+".as_slice(),
+        b"+".as_slice(),
+        b"!~-:".as_slice(),
+        b"a23456789012345".as_slice(),
     ];
-    for (text, number) in rows {
-        assert_eq!(rt; read_number(text), number);
-    }
-    assert_eq!(rt; read_number_to(b"255", 255), Some(255));
-    assert_eq!(rt; read_number_to(b"256", 255), None);
-}
-
-#[test]
-fn prefixes_are_read(rt: HostRuntime) -> Result<(), Fail> {
-    let rows: [(&[u8], [u8; 4], u8); 7] = [
-        (b"10.1.2.3/8", [10, 0, 0, 0], 8),
-        (b"1.2.3.4", [1, 2, 3, 4], 32),
-        (b"1.2.3.4/32", [1, 2, 3, 4], 32),
-        (b"1.2.3.4/255.128.0.0", [1, 0, 0, 0], 9),
-        (b"1.2.3.4/255.255.255.255", [1, 2, 3, 4], 32),
-        (b"1.2.3.4/0.0.0.0", [0, 0, 0, 0], 0),
-        (b"255.255.255.255/0", [0, 0, 0, 0], 0),
-    ];
-    for (text, octets, length) in rows {
-        let prefix = Prefix::read(text).ok_or("refused")?;
-        assert_eq!(rt; prefix.octets(), octets);
-        assert_eq!(rt; prefix.address(), u32::from_be_bytes(octets));
-        assert_eq!(rt; prefix.length(), length);
-    }
-    Ok(())
-}
-
-#[test]
-fn texts_that_are_no_prefix(rt: HostRuntime) {
-    let rows: [&[u8]; 21] = [
-        b"",
-        b"1.2.3",
-        b"1.2.3.4.5",
-        b"1.2.3.256",
-        b"01.2.3.4",
-        b"1.2.3.",
-        b".1.2.3",
-        b"1..2.3",
-        b"1.2.3.4/",
-        b"1.2.3.4/33",
-        b"1.2.3.4/08",
-        b"1.2.3.4/-1",
-        b"1.2.3.4/255.0.255.0",
-        b"1.2.3.4/0.255.255.255",
-        b"1.2.3.4/255.255.255.253",
-        b"1.2.3.4/255.255",
-        b"1.2.3.4/8/8",
-        b"1.2.3.4/256.0.0.0",
-        b"1.2.3.4 ",
-        b"1.2.3.1234567890",
-        b"/8",
-    ];
-    for text in rows {
-        assert_eq!(rt; Prefix::read(text), None);
-    }
-}
-
-#[test]
-fn prefixes_hold_addresses(rt: HostRuntime) -> Result<(), Fail> {
-    let rows: [(&[u8], &[u8], bool); 6] = [
-        (b"10.0.0.0/8", b"10.9.9.9", true),
-        (b"10.0.0.0/8", b"11.0.0.1", false),
-        (b"10.0.0.0/9", b"10.128.0.0", false),
-        (b"1.2.3.4", b"1.2.3.4", true),
-        (b"1.2.3.4", b"1.2.3.5", false),
-        (b"0.0.0.0/0", b"255.255.255.255", true),
-    ];
-    for (prefix, address, holds) in rows {
-        let prefix = Prefix::read(prefix).ok_or("refused")?;
-        let address = read_address(address).ok_or("refused")?;
-        assert_eq!(rt; prefix.holds(address), holds);
-    }
-    assert_eq!(rt; read_address(b"1.2.3.4/32"), None);
-    Ok(())
-}
-
-#[test]
-fn fields_have_their_tops(rt: HostRuntime) {
-    let rows: [(&[u8], u128); FIELDS] = [
-        (b"src", 4294967295),
-        (b"dst", 4294967295),
-        (b"in", u128::MAX),
-        (b"out", u128::MAX),
-        (b"proto", 255),
-        (b"frag", 1),
-        (b"sport", 65535),
-        (b"dport", 65535),
-        (b"flags", 63),
-        (b"icmp", 65535),
-        (b"ct", 13),
-    ];
-    for field in Field::ALL {
-        let (name, top) = rows[field.index()];
-        assert!(rt; field.name() == name);
-        assert_eq!(rt; field.top(), top);
-    }
-}
-
-#[test]
-fn hooks(rt: HostRuntime) {
-    assert_eq!(rt; Hook::read(b"INPUT"), Some(Hook::Input));
-    assert_eq!(rt; Hook::read(b"FORWARD"), Some(Hook::Forward));
-    assert_eq!(rt; Hook::read(b"OUTPUT"), Some(Hook::Output));
-    assert_eq!(rt; Hook::read(b"input"), None);
-    assert_eq!(rt; Hook::read(b""), None);
-    assert!(rt; Hook::Forward.name() == b"FORWARD".as_slice());
-}
-
-#[test]
-fn packets_are_read(rt: HostRuntime) -> Result<(), Fail> {
-    let line = b"packet INPUT src=10.9.9.9 dst=2.2.2.2 proto=47";
-    let words = Words::split(rt.alloc(), line)?;
-    assert!(rt; words.len() == 5);
-    let packet = Packet::read(&words, 1)?;
-    assert_eq!(rt; packet.hook(), Hook::Input);
-    for field in Field::ALL {
-        let value = match field {
-            Field::Source => 10 << 24 | 9 << 16 | 9 << 8 | 9,
-            Field::Destination => 0x02020202,
-            Field::Protocol => 47,
-            _ => 0,
-        };
-        assert_eq!(rt; packet.point(field), value);
-    }
-    let words = Words::split(
-        rt.alloc(),
-        b"OUTPUT proto=0 dst=0.0.0.0 src=255.255.255.255",
-    )?;
-    let packet = Packet::read(&words, 0)?;
-    assert_eq!(rt; packet.hook(), Hook::Output);
-    assert_eq!(rt; packet.point(Field::Source), 4294967295);
-    Ok(())
-}
-
-#[test]
-fn packets_at_fault(rt: HostRuntime) -> Result<(), Fail> {
-    let rows: [(&[u8], PacketFault); 19] = [
-        (b"", PacketFault::UnknownKey),
-        (
-            b"PREROUTING src=1.1.1.1 dst=2.2.2.2 proto=47",
-            PacketFault::UnknownKey,
-        ),
-        (
-            b"input src=1.1.1.1 dst=2.2.2.2 proto=47",
-            PacketFault::UnknownKey,
-        ),
-        (b"src=1.1.1.1 dst=2.2.2.2 proto=47", PacketFault::UnknownKey),
-        (b"INPUT src dst=2.2.2.2 proto=47", PacketFault::UnknownKey),
-        (
-            b"INPUT src=1.1.1.1 dst=2.2.2.2 proto=47 in=eth0",
-            PacketFault::UnknownKey,
-        ),
-        (
-            b"INPUT src=1.1.1.1 dst=2.2.2.2 proto=47 SRC=1.1.1.1",
-            PacketFault::UnknownKey,
-        ),
-        (b"INPUT lo src=1.1.1.1 src=1.1.1.1", PacketFault::UnknownKey),
-        (b"INPUT", PacketFault::KeyMissing),
-        (b"INPUT src=1.1.1.1 dst=2.2.2.2", PacketFault::KeyMissing),
-        (b"INPUT dst=2.2.2.2 proto=47", PacketFault::KeyMissing),
-        (
-            b"INPUT src=1.1.1.1 dst=2.2.2.2 proto=47 src=1.1.1.1",
-            PacketFault::BadValue,
-        ),
-        (b"INPUT src=1.1.1.1 src=1.1.1.1 lo", PacketFault::BadValue),
-        (
-            b"INPUT src=1.1.1.1/32 dst=2.2.2.2 proto=47",
-            PacketFault::BadValue,
-        ),
-        (
-            b"INPUT src=1.1.1.1 dst=2.2.2.2 proto=6",
-            PacketFault::BadValue,
-        ),
-        (
-            b"INPUT src=1.1.1.1 dst=2.2.2.2 proto=047",
-            PacketFault::BadValue,
-        ),
-        (
-            b"INPUT src=1.1.1.1 dst=2.2.2.2 proto=256",
-            PacketFault::BadValue,
-        ),
-        (
-            b"INPUT src=1.1.1.1 dst=2.2.2.2 proto=gre",
-            PacketFault::BadValue,
-        ),
-        (
-            b"INPUT src=1.1.1.1 dst=2.2.2.2 proto=",
-            PacketFault::BadValue,
-        ),
-    ];
-    for (line, fault) in rows {
-        let words = Words::split(rt.alloc(), line)?;
-        assert_eq!(rt; Packet::read(&words, 0), Err(fault));
-    }
-    Ok(())
-}
-
-#[test]
-fn fault_texts(rt: HostRuntime) -> Result<(), Fail> {
-    let rows = [
-        (PacketFault::UnknownKey, "unknown key"),
-        (PacketFault::KeyMissing, "key missing"),
-        (PacketFault::BadValue, "bad packet value"),
-    ];
-    for (fault, text) in rows {
-        let shown = format!(in rt.alloc(); "{fault}")?;
-        assert!(rt; shown.as_str() == text);
-    }
-    Ok(())
-}
-
-#[test]
-fn prefixes_are_written(rt: HostRuntime) -> Result<(), Fail> {
-    let rows: [(&[u8], &[u8]); 3] = [
-        (b"10.1.2.3/8", b"10.0.0.0/8"),
-        (b"255.255.255.255", b"255.255.255.255/32"),
-        (b"1.2.3.4/0", b"0.0.0.0/0"),
-    ];
-    for (text, written) in rows {
-        let prefix = Prefix::read(text).ok_or("refused")?;
+    for text in texts {
+        let pattern = IfPattern::read(text).ok_or("refused")?;
         let mut output = Tap::new(Vec::new(rt.alloc()));
-        assert!(rt; prefix.put(&mut output).is_ok());
-        assert_eq!(rt; output.into_device().as_slice(), written);
+        pattern.copy().put(&mut output)?;
+        assert_eq!(rt; output.into_device().as_slice(), text);
+        assert_eq!(rt; pattern.bytes(), text);
+        assert_eq!(rt; pattern.is_any(), text == b"+".as_slice());
     }
-    assert_eq!(rt; Prefix::read(b"1.2.3.4/0"), Some(Prefix::any()));
+    let refused = [
+        b"".as_slice(),
+        b"a234567890123456".as_slice(),
+        b"a/b".as_slice(),
+        b"a\"".as_slice(),
+        b"a b".as_slice(),
+        b"a\x7f".as_slice(),
+    ];
+    for text in refused {
+        assert!(rt; IfPattern::read(text).is_none());
+    }
+    Ok(())
+}
+
+#[test]
+fn interface_numbers(rt: HostRuntime) -> Result<(), Fail> {
+    let eth = 0x6574_6800_0000_0000_0000_0000_0000_0000u128;
+    let eti = 0x6574_6900_0000_0000_0000_0000_0000_0000u128;
+    let eth0 = 0x6574_6830_0000_0000_0000_0000_0000_0000u128;
+    let patterns = [
+        (b"eth+".as_slice(), (eth, eti - 1)),
+        (b"eth0".as_slice(), (eth0, eth0)),
+        (b"+".as_slice(), (0, u128::MAX)),
+    ];
+    for (text, interval) in patterns {
+        let pattern = IfPattern::read(text).ok_or("refused")?;
+        assert_eq!(rt; pattern.interval(), interval);
+        assert!(rt; pattern.holds(eth0));
+        assert_eq!(rt; pattern.holds(eti), text == b"+".as_slice());
+    }
+    let name = IfPattern::read(b"eth0").ok_or("refused")?;
+    assert_eq!(rt; name.value(), eth0);
+    Ok(())
+}
+
+#[test]
+fn names(rt: HostRuntime) -> Result<(), Fail> {
+    let texts = [
+        b"a".as_slice(),
+        b"INPUT".as_slice(),
+        b"accept".as_slice(),
+        b"LOG2".as_slice(),
+        b"a-!/'".as_slice(),
+        b"a234567890123456789012345678".as_slice(),
+    ];
+    for text in texts {
+        let name = Name::read(text).ok_or("refused")?;
+        let mut output = Tap::new(Vec::new(rt.alloc()));
+        name.put(&mut output)?;
+        assert_eq!(rt; output.into_device().as_slice(), text);
+        assert!(rt; name.copy() == name);
+        assert_eq!(rt; name.bytes(), text);
+    }
+    let refused = [
+        b"".as_slice(),
+        b"a2345678901234567890123456789".as_slice(),
+        b"-a".as_slice(),
+        b"!a".as_slice(),
+        b"a\"".as_slice(),
+        b"a b".as_slice(),
+        b"ACCEPT".as_slice(),
+        b"DROP".as_slice(),
+        b"RETURN".as_slice(),
+        b"QUEUE".as_slice(),
+        b"REJECT".as_slice(),
+        b"LOG".as_slice(),
+    ];
+    for text in refused {
+        assert!(rt; Name::read(text).is_none());
+    }
+    let (upper, lower) = (Name::read(b"Z"), Name::read(b"a"));
+    assert!(rt; upper.ok_or("refused")? < lower.ok_or("refused")?);
+    Ok(())
+}
+
+#[test]
+fn port_ranges(rt: HostRuntime) -> Result<(), Fail> {
+    let texts = [
+        (b"22".as_slice(), b"22".as_slice(), 22, 22),
+        (b"22:22".as_slice(), b"22".as_slice(), 22, 22),
+        (b"20:21".as_slice(), b"20:21".as_slice(), 20, 21),
+        (b":5".as_slice(), b"0:5".as_slice(), 0, 5),
+        (b"5:".as_slice(), b"5:65535".as_slice(), 5, 65535),
+        (b":".as_slice(), b"0:65535".as_slice(), 0, 65535),
+    ];
+    for (text, want, first, last) in texts {
+        let range = PortRange::read(text).ok_or("refused")?;
+        let mut output = Tap::new(Vec::new(rt.alloc()));
+        range.put(&mut output)?;
+        assert_eq!(rt; output.into_device().as_slice(), want);
+        assert_eq!(rt; (range.first(), range.last()), (first, last));
+        assert!(rt; range.holds(first) && range.holds(last));
+        assert_eq!(rt; range.holds(443), last > 443);
+        assert_eq!(rt; range.is_all(), text == b":".as_slice());
+    }
+    let refused = [
+        b"".as_slice(),
+        b"65536".as_slice(),
+        b":65536".as_slice(),
+        b"2:1".as_slice(),
+        b"1:2:3".as_slice(),
+        b"007".as_slice(),
+        b"1-2".as_slice(),
+    ];
+    for text in refused {
+        assert!(rt; PortRange::read(text).is_none());
+    }
+    assert!(rt; PortRange::default().is_all());
+    Ok(())
+}
+
+#[test]
+fn port_lists(rt: HostRuntime) -> Result<(), Fail> {
+    let texts = [
+        (b"80,443".as_slice(), b"80,443".as_slice(), 2),
+        (b"443,80,443".as_slice(), b"443,80,443".as_slice(), 3),
+        (b"1:1024,443:443".as_slice(), b"1:1024,443".as_slice(), 2),
+        (b"0:65535".as_slice(), b"0:65535".as_slice(), 1),
+        (
+            b"1,2,3,4,5,6,7,8,9,10,11,12,13,443:444".as_slice(),
+            b"1,2,3,4,5,6,7,8,9,10,11,12,13,443:444".as_slice(),
+            14,
+        ),
+    ];
+    for (text, want, count) in texts {
+        let list = PortList::read(text).ok_or("refused")?;
+        let mut output = Tap::new(Vec::new(rt.alloc()));
+        list.copy().put(&mut output)?;
+        assert_eq!(rt; output.into_device().as_slice(), want);
+        assert_eq!(rt; list.items().len(), count);
+        assert!(rt; list.holds(443));
+        assert_eq!(rt; list.holds(65535), text == b"0:65535".as_slice());
+    }
+    let refused = [
+        b"".as_slice(),
+        b"1,".as_slice(),
+        b",1".as_slice(),
+        b"1,,2".as_slice(),
+        b"1, 2".as_slice(),
+        b":5".as_slice(),
+        b"5:".as_slice(),
+        b"2:1".as_slice(),
+        b"65536".as_slice(),
+        b"1,2,3,4,5,6,7,8,9,10,11,12,13,14,15,16".as_slice(),
+        b"1,2,3,4,5,6,7,8,9,10,11,12,13,14,15:16".as_slice(),
+    ];
+    for text in refused {
+        assert!(rt; PortList::read(text).is_none());
+    }
+    Ok(())
+}
+
+#[test]
+fn protocols(rt: HostRuntime) -> Result<(), Fail> {
+    let texts = [
+        (b"tcp".as_slice(), b"tcp".as_slice(), 6),
+        (b"6".as_slice(), b"tcp".as_slice(), 6),
+        (b"17".as_slice(), b"udp".as_slice(), 17),
+        (b"1".as_slice(), b"icmp".as_slice(), 1),
+        (b"icmpv6".as_slice(), b"ipv6-icmp".as_slice(), 58),
+        (b"58".as_slice(), b"ipv6-icmp".as_slice(), 58),
+        (b"udplite".as_slice(), b"udplite".as_slice(), 136),
+        (b"sctp".as_slice(), b"sctp".as_slice(), 132),
+        (b"33".as_slice(), b"dccp".as_slice(), 33),
+        (b"255".as_slice(), b"255".as_slice(), 255),
+        (b"0".as_slice(), b"0".as_slice(), 0),
+    ];
+    for (text, want, number) in texts {
+        let protocol = Protocol::read(text).ok_or("refused")?;
+        let mut output = Tap::new(Vec::new(rt.alloc()));
+        protocol.put(&mut output)?;
+        assert_eq!(rt; output.into_device().as_slice(), want);
+        assert_eq!(rt; protocol.number(), number);
+        assert_eq!(rt; Protocol::read_one(text), Some(protocol));
+        assert_eq!(rt; protocol.is_tcp(), number == 6);
+        assert_eq!(rt; protocol.is_udp(), number == 17);
+        assert_eq!(rt; protocol.is_icmp(), number == 1);
+        assert_eq!(rt; protocol.is_all(), number == 0);
+        assert_eq!(rt;
+            protocol.has_ports(),
+            [6, 17, 33, 132, 136].contains(&number)
+        );
+    }
+    assert_eq!(rt; Protocol::read(b"all"), Protocol::read(b"0"));
+    assert!(rt; Protocol::read_one(b"all").is_none());
+    for text in [
+        b"".as_slice(),
+        b"256".as_slice(),
+        b"TCP".as_slice(),
+        b"06".as_slice(),
+    ] {
+        assert!(rt; Protocol::read(text).is_none());
+    }
+    Ok(())
+}
+
+#[test]
+fn texts(rt: HostRuntime) -> Result<(), Fail> {
+    let texts = [
+        (b"a-B_9".as_slice(), b"a-B_9".as_slice()),
+        (b"".as_slice(), b"\"\"".as_slice()),
+        (b"a.b".as_slice(), b"\"a.b\"".as_slice()),
+        (b"it's \"x\"".as_slice(), b"\"it\\'s \\\"x\\\"\"".as_slice()),
+        (b"\\".as_slice(), b"\"\\\\\"".as_slice()),
+        (b"\xe9\r\0".as_slice(), b"\"\xe9\r\0\"".as_slice()),
+        (
+            b"29 bytes are not too many, 30".as_slice(),
+            b"\"29 bytes are not too many, 30\"".as_slice(),
+        ),
+    ];
+    for (bytes, want) in texts {
+        let text: Text<29> = Text::read(bytes).ok_or("refused")?;
+        let mut output = Tap::new(Vec::new(rt.alloc()));
+        text.copy().put(&mut output)?;
+        assert_eq!(rt; output.into_device().as_slice(), want);
+        assert_eq!(rt; text.bytes(), bytes);
+    }
+    let prefix: Option<Text<29>> = Text::read(b"30 bytes are one more than 29.");
+    assert!(rt; prefix.is_none());
+    let comment: Option<Text<256>> = Text::read([b'x'; 256].as_slice());
+    assert!(rt; comment.is_some());
+    let long: Option<Text<256>> = Text::read([b'x'; 257].as_slice());
+    assert!(rt; long.is_none());
     Ok(())
 }

@@ -128,13 +128,13 @@ fn faults(rt: HostRuntime) -> Result<(), Fail> {
             2,
         ),
         (
-            b"packet INPUT src=1.1.1.1 dst=2.2.2.2 proto=6",
-            b"line 1: F3 bad packet value\n",
+            b"packet INPUT src=1.1.1.1 dst=2.2.2.2 proto=udp sport=1",
+            b"line 1: F2 key missing\n",
             2,
         ),
         (
-            b"packet INPUT src=1.1.1.1 dst=2.2.2.2 proto=47 in=eth0",
-            b"line 1: F1 unknown key\n",
+            b"packet INPUT src=1.1.1.1 dst=2.2.2.2 proto=udp sport=1 dport=2 out=eth0",
+            b"line 1: F4 field not carried\n",
             2,
         ),
         (

@@ -5,5 +5,5 @@ use Rattle.fields.proofs.packet.Packet.behind_hook.Goals as goal
 pub invariant_of-result : goal.invariant_of-result
 invariant_of-result c = values_fit c.args.hook (drop c.args.first c.args.words.now) c.values_of-values.result c.values_of-values.ensures
 
-pub returns-else-lacks_key-clause-valid : goal.returns-else-lacks_key-clause-valid
-returns-else-lacks_key-clause-valid c = values_fit c.args.hook (drop c.args.first c.args.words.now) c.values_of-values.result c.values_of-values.ensures
+pub returns-else-lacks_any-clause-valid : goal.returns-else-lacks_any-clause-valid
+returns-else-lacks_any-clause-valid c = values_fit c.args.hook (drop c.args.first c.args.words.now) c.values_of-values.result c.values_of-values.ensures

@@ -1,0 +1,30 @@
+-- Tests over lists.
+use Rattle.std.proofs.Common.{◌≡◌, Bool, true, false, cond, not, ◌&&◌, List, [], ◌∷◌, None, Some, refl, ap, subst, ◌∙◌}
+use Rattle.std.specs.Prelude.{find}
+use Rattle.std.specs.List.{list_all}
+use Rattle.std.proofs.lemmas.Bool.{and_parts, not-true}
+
+-- what is found passes the test, and what all pass
+pub find-passes : {X : Type 0} (test pass : X → Bool) (xs : List X) (x : X) → find test xs ≡ Some x → list_all pass xs ≡ true → (test x ≡ true) × (pass x ≡ true)
+find-passes test pass [] x e all = absurd (cc)
+find-passes {X = X} test pass (y ∷ ys) x e all =
+    let (first, others) = and_parts (pass y) (list_all pass ys) all in
+    go (test y) refl e first (λ found. find-passes test pass ys x found others)
+  where
+    go : (t : Bool) → test y ≡ t → cond t (Some y) (find test ys) ≡ Some x → pass y ≡ true → (find test ys ≡ Some x → (test x ≡ true) × (pass x ≡ true)) → (test x ≡ true) × (pass x ≡ true)
+    go true here found passes rest = let same : y ≡ x = cc in subst (λ (z : X). (test z ≡ true) × (pass z ≡ true)) same (here, passes)
+    go false here found passes rest = rest found
+
+-- nothing is found where nothing passes
+pub find-none : {X : Type 0} (test : X → Bool) (xs : List X) → list_all (λ x. not (test x)) xs ≡ true → find test xs ≡ None
+find-none test [] none = refl
+find-none test (x ∷ xs) none =
+    let (first, others) = and_parts (not (test x)) (list_all (λ y. not (test y)) xs) none in
+    ap (λ t. cond t (Some x) (find test xs)) (not-true (test x) first) ∙ find-none test xs others
+
+-- what all pass they pass where it follows
+pub all-weaker : {X : Type 0} (p q : X → Bool) (xs : List X) → ((x : X) → p x ≡ true → q x ≡ true) → list_all p xs ≡ true → list_all q xs ≡ true
+all-weaker p q [] weaker all = refl
+all-weaker p q (x ∷ xs) weaker all =
+    let (first, others) = and_parts (p x) (list_all p xs) all in
+    ap (λ t. t && list_all q xs) (weaker x first) ∙ all-weaker p q xs weaker others

@@ -1,0 +1,28 @@
+-- Free texts, as a comment and a log prefix have them (iptables-extensions(8)), and how they are printed.
+use Rattle.std.specs.Prelude.{ℕ, Bool, ◌&&◌, ◌||◌, ◌==◌, nat_lt, nat_le, List, [], ◌∷◌, ◌++◌, length, flat_map, Option, Some, None, if◌then◌else◌}
+use Rattle.std.specs.List.{list_all}
+use Rattle.std.specs.Char.{is_ascii_alphanumeric}
+
+-- any bytes, also none, up to a number of them
+unfoldable pub text_of : ℕ → List ℕ → Option (List ℕ)
+text_of most bytes = if nat_le (length bytes) most then Some bytes else None
+
+-- an ASCII letter or digit, `_` (95) or `-` (45)
+abbrev pub is_plain_byte : ℕ → Bool
+is_plain_byte byte = is_ascii_alphanumeric byte || byte == 95 || byte == 45
+
+-- a text that is printed without quotes: one or more such bytes
+abbrev pub is_plain : List ℕ → Bool
+is_plain text = nat_lt 0 (length text) && list_all is_plain_byte text
+
+-- between quotes a backslash (92) stands before each `"` (34), backslash and `'` (39)
+abbrev pub escaped : ℕ → List ℕ
+escaped byte = if byte == 34 || byte == 92 || byte == 39 then 92 ∷ byte ∷ [] else byte ∷ []
+
+-- the text in quotes
+abbrev pub in_quotes : List ℕ → List ℕ
+in_quotes text = 34 ∷ (flat_map escaped text ++ 34 ∷ [])
+
+-- the text as it is printed
+abbrev pub quoted : List ℕ → List ℕ
+quoted text = if is_plain text then text else in_quotes text

@@ -1,0 +1,111 @@
+// Ranges of IPv4 addresses.
+ghost use Rattle.std.specs.Prelude.{◌≡◌, Some, IfSome, false};
+ghost use Rattle.fields.specs.IpRange.{AreEnds, ip_range_of, ip_range_text, range_has};
+ghost use Rattle.fields.specs.Prefix.{address_text};
+ghost use Rattle.fields.specs.Tap.{has_failed, Puts};
+
+use crate::cut::cut_at;
+use crate::prefix::read_address;
+use crate::tap::{Tap, WriteFailed};
+use itoa::Buffer;
+use std::io::Write;
+use std::marker::Model;
+
+/// The addresses from one to another, both among them: the range of `--src-range` and `--dst-range` in
+/// iptables-extensions(8). Where the first is above the second it has no address.
+#[derive(Clone, Copy, Debug, PartialEq, Eq)]
+pub struct IpRange {
+    from: u32,
+    to: u32,
+}
+
+impl Model for IpRange {
+    ghost use Rattle.fields.specs.IpRange.{Ends, AreEnds};
+
+    ghost Value = { Ends };
+
+    ghost view = { λ range. record { from = range.from; to = range.to } };
+
+    ghost invariant = { λ range. AreEnds (record { from = range.from; to = range.to }) };
+
+    ghost inverse = { λ ends. record { from = ends.from; to = ends.to } };
+}
+
+// Writes the dotted text of an address.
+fn put_address<W: Write>(address: u32, output: &mut Tap<W>) -> Result<(), WriteFailed>
+    requires { has_failed output.old ≡ false }
+    ensures { Puts W.contents output.old output.new result (address_text address) }
+{
+    let mut first = Buffer::new();
+    let mut second = Buffer::new();
+    let mut third = Buffer::new();
+    let mut fourth = Buffer::new();
+    output.put_all(&[
+        first.format(address / 16_777_216).as_bytes(),
+        b".",
+        second.format(address / 65_536 % 256).as_bytes(),
+        b".",
+        third.format(address / 256 % 256).as_bytes(),
+        b".",
+        fourth.format(address % 256).as_bytes(),
+    ])
+}
+
+impl IpRange {
+    /// The range that a text writes: `from-to`, or `from`, which is `from-from`.
+    #[tactic(auto, unfolding(crate::specs::IpRange::ip_range_of))]
+    pub fn read(text: &[u8]) -> Option<IpRange>
+        ensures value { result ≡ ip_range_of text.now }
+        ensures valid { IfSome result AreEnds }
+    {
+        match cut_at(text, b'-') {
+            None => {
+                let from = read_address(text)?;
+                Some(IpRange { from, to: from })
+            }
+            Some((from, to)) => {
+                let from = read_address(from)?;
+                let to = read_address(to)?;
+                Some(IpRange { from, to })
+            }
+        }
+    }
+
+    /// The first address. It may be above the last.
+    pub fn first(self) -> u32
+        ensures value { result ≡ self.from }
+        ensures valid { AreEnds self }
+    {
+        self.from
+    }
+
+    /// The last address.
+    pub fn last(self) -> u32
+        ensures value { result ≡ self.to }
+        ensures valid { AreEnds self }
+    {
+        self.to
+    }
+
+    /// Whether an address lies in the range.
+    pub fn holds(self, address: u32) -> bool
+        ensures { result ≡ range_has self address }
+    {
+        self.first() <= address && address <= self.last()
+    }
+
+    /// Writes `from-to`, both ends always. That text reads back as this range. It takes no memory.
+    #[tactic(auto, using(crate::proofs::IpRangeLaws::reads_back))]
+    pub fn put<W: Write>(self, output: &mut Tap<W>) -> Result<(), WriteFailed>
+        requires { has_failed output.old ≡ false }
+        ensures text { Puts W.contents output.old output.new result (ip_range_text self) }
+        ensures reads_back { ip_range_of (ip_range_text self) ≡ Some self }
+    {
+        put_address(self.first(), output)?;
+        output.put(b"-")?;
+        put_address(self.last(), output)
+    }
+}
+
+#[cfg(test)]
+mod tests;
