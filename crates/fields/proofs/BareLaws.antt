@@ -18,7 +18,7 @@ use Rattle.fields.proofs.ListLaws.{find-passes, all-weaker}
 use Rattle.fields.proofs.NumberLaws.{numeral}
 use Rattle.fields.proofs.InterfaceLaws.{interface_of-form}
 
-some-bytes : (text : List ℕ) → 0 < length text → text ≢ []
+pub some-bytes : (text : List ℕ) → 0 < length text → text ≢ []
 some-bytes [] some e = absurd (omega arith)
 some-bytes (byte ∷ text) some e = cc
 
@@ -66,18 +66,18 @@ digits-bare : (text : List ℕ) → all_ascii_digits text ≡ true → list_all 
 digits-bare [] all = refl
 digits-bare (byte ∷ text) all = let (first, others) = and_parts (is_ascii_digit byte) (all_ascii_digits text) all in and_from _ _ (digit-byte byte first) (digits-bare text others)
 
-decimal-bare : (n : ℕ) → n < 2 ^ 64 → IsBareWord (decimal n)
+pub decimal-bare : (n : ℕ) → n < 2 ^ 64 → IsBareWord (decimal n)
 decimal-bare n small = record { some = some-bytes (decimal n) (decimal_nonempty n small); bytes = digits-bare (decimal n) (digits_decimal numeral n small) }
 
 -- two words with a byte between them
-joined : (byte : ℕ) (front back : List ℕ) → is_bare byte ≡ true → IsBareWord front → IsBareWord back → IsBareWord (front ++ byte ∷ back)
+pub joined : (byte : ℕ) (front back : List ℕ) → is_bare byte ≡ true → IsBareWord front → IsBareWord back → IsBareWord (front ++ byte ∷ back)
 joined byte front back on before behind = record { some = go front; bytes = list_all-append is_bare front (byte ∷ back) ∙ and_from _ _ before.bytes (and_from _ _ on behind.bytes) }
   where
     go : (front : List ℕ) → front ++ byte ∷ back ≢ []
     go [] e = cc
     go (b ∷ bs) e = cc
 
-ports-bare : (ports : Ports) → ArePorts ports → IsBareWord (ports_text ports)
+pub ports-bare : (ports : Ports) → ArePorts ports → IsBareWord (ports_text ports)
 ports-bare ports are = go (ports.from == ports.to)
   where
     ordered : ports.from ≤ ports.to
@@ -106,7 +106,7 @@ list_is_bare items is = go items is.some is.ports
     go [] some are = absurd (omega arith)
     go (item ∷ items) some are = items-bare item items are
 
-abbrev is_bare_word : List ℕ → Bool
+abbrev pub is_bare_word : List ℕ → Bool
 is_bare_word text = nat_lt 0 (length text) && list_all is_bare text
 
 names-bare : list_all (λ (entry : List ℕ × ℕ). is_bare_word entry.0) protocols ≡ true

@@ -27,9 +27,11 @@ pub mod ProtocolLaws
 pub mod PutLaws
 pub mod RejectLaws
 pub mod SearchLaws
+pub mod SetLaws
 pub mod SpanLaws
 pub mod SplitLaws
 pub mod TcpFlagsLaws
+pub mod TestLaws
 pub mod UnionLaws
 pub mod UniqueLaws
 mod WordExamples

@@ -135,6 +135,13 @@ impl IcmpType {
         Some(IcmpType { asked })
     }
 
+    /// Any type, as the match has it where its option isn't given.
+    pub fn any() -> IcmpType
+        ensures { result ≡ Asked.Any }
+    {
+        IcmpType { asked: Asked::Any }
+    }
+
     /// Whether it holds of a packet with this number on the field `icmp`, the type times 256, plus the code.
     pub fn holds(self, value: u16) -> bool
         ensures { result ≡ icmp_passes self value }

@@ -23,6 +23,7 @@ mod port_range;
 mod prefix;
 mod protocol;
 mod reject;
+mod sets;
 mod spans;
 mod tap;
 mod tcp_flags;

@@ -32,7 +32,7 @@ impl Model for Prefix {
 }
 
 // How many addresses have the same leading bits.
-fn block_size(length: u8) -> u64
+pub(crate) fn block_size(length: u8) -> u64
     requires { length ≤ 32 }
     ensures size { result ≡ block_size length }
     ensures some { 1 ≤ result }

@@ -1,6 +1,6 @@
 //! Sets of numbers up to a top value.
 
-ghost use Rattle.std.specs.Prelude.{◌≡◌, ◌≤◌, ◌&&◌, ℕ, nat_le, not, IfOk};
+ghost use Rattle.std.specs.Prelude.{◌≡◌, ◌≤◌, ◌<◌, ◌&&◌, ◌||◌, ℕ, nat_le, not, IfOk};
 ghost use Rattle.fields.specs.Spans.{has, AreSpansFrom, CanonicalIsUnique};
 
 use std::alloc::{AllocError, Global};
@@ -54,6 +54,37 @@ impl Spans {
             intervals.push(Interval { first, last })?;
         }
         Ok(Spans { top, intervals })
+    }
+
+    // The numbers from 0 to `top` of which a test holds, in one pass over them.
+    pub(crate) fn of_test<F: Fn(u8) -> bool>(
+        alloc: Global,
+        top: u8,
+        test: F,
+    ) -> Result<Spans, AllocError>
+        requires small { top < 128 }
+        requires callable { F.IsAlwaysCallable test }
+        ensures top { IfOk result (λ set. set.top ≡ top) }
+        ensures members { IfOk result (λ set. (x : ℕ) → x ≤ top → F.post test x (has set.intervals x)) }
+    {
+        let mut runs = Vec::new(alloc);
+        // The test holds of all numbers from `first` to before `x`; the number behind the top ends the last of these runs.
+        let mut first = 0;
+        for x in 0..top + 2 {
+            if x > top || !test(x) {
+                if first < x {
+                    runs.push(Interval {
+                        first: first.into(),
+                        last: (x - 1).into(),
+                    })?;
+                }
+                first = x + 1;
+            }
+        }
+        Ok(Spans {
+            top: top.into(),
+            intervals: runs,
+        })
     }
 
     /// The other numbers from 0 to the set's top: the gaps before, between and after its intervals.
@@ -124,6 +155,20 @@ impl Spans {
             top: self.top,
             intervals: shared,
         })
+    }
+
+    /// The numbers that are in either of two sets with one top.
+    ///
+    /// It takes time and memory linear in the number of their intervals.
+    pub fn join(&self, alloc: Global, other: &Spans) -> Result<Spans, AllocError>
+        requires { self.now.top ≡ other.now.top }
+        ensures top { IfOk result (λ set. set.top ≡ self.now.top) }
+        ensures members { IfOk result (λ set. (x : ℕ) → x ≤ self.now.top → has set.intervals x ≡ (has self.now.intervals x || has other.now.intervals x)) }
+    {
+        // All but what both leave out.
+        let others = other.except(alloc)?;
+        let neither = self.except(alloc)?.meet(alloc, &others)?;
+        neither.except(alloc)
     }
 
     /// Whether the set has a number: a binary search, in time logarithmic in the number of intervals.

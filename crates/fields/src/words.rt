@@ -1,5 +1,5 @@
 // The words of a line.
-ghost use Rattle.std.specs.Prelude.{◌≡◌, ◌<◌, ◌↔◌, ℕ, List, [], length, slice_get, IsTrue, Some, None, MatchResult, IfOk, IfErr};
+ghost use Rattle.std.specs.Prelude.{◌≡◌, ◌<◌, ◌≤◌, ◌↔◌, ℕ, List, [], length, drop, slice_get, IsTrue, Some, None, MatchResult, IfOk, IfErr};
 ghost use Rattle.fields.specs.Words.{act_of, words_of, AreWords, OnQuoting};
 ghost use Rattle.fields.specs.Cutting.{view_act, view_place, view_cutting, view_words, after, whole, start, Gives};
 
@@ -172,6 +172,14 @@ impl Words {
             → (words_of line.now ≡ Some words) ↔ AreWords words line.now }
     {
         cut(alloc, line).map(|items| Words { items })
+    }
+
+    /// The words from a place on.
+    pub fn after(&self, from: usize) -> &[Vec<u8>]
+        requires { from ≤ length self.now }
+        ensures { view_words result.now ≡ drop from self.now }
+    {
+        &self.items[from..]
     }
 
     /// How many words there are.

@@ -67,7 +67,7 @@ fn small_sets(rt: HostRuntime) -> Result<(), Fail> {
 }
 
 #[test]
-fn small_meets(rt: HostRuntime) -> Result<(), Fail> {
+fn small_meets_and_joins(rt: HostRuntime) -> Result<(), Fail> {
     let alloc = rt.alloc();
     for mask in 0..MASKS {
         let left = set_of(&rt, alloc, mask)?;
@@ -79,6 +79,12 @@ fn small_meets(rt: HostRuntime) -> Result<(), Fail> {
                 both.intervals(),
                 runs_of(alloc, mask & other)?.as_slice(),
                 "{mask} and {other}"
+            );
+            let either = left.join(alloc, &right)?;
+            assert_eq!(rt;
+                either.intervals(),
+                runs_of(alloc, mask | other)?.as_slice(),
+                "{mask} or {other}"
             );
         }
     }

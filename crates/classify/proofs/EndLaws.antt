@@ -1,0 +1,63 @@
+-- The ends of a set's intervals are where it begins and ends.
+use Rattle.fields.specs.declared.spans.Interval.{Interval}
+use Rattle.std.proofs.Common.{◌≡◌, ◌≢◌, inl, ℕ, zero, suc, ◌+◌, ◌<◌, ◌≤◌, ◌&&◌, ◌||◌, Bool, true, false, List, [], ◌∷◌, refl, sym, ◌∙◌, ap, arith, subst, All}
+use Rattle.std.proofs.Math.Dec.{leb}
+use Rattle.std.proofs.lemmas.Bool.{le-leb, lt-leb, true≢false, false≢true}
+use Rattle.std.proofs.lemmas.List.Elements.{All-nil, All-cons}
+use Rattle.classify.specs.Steps.{StartsAt, IsRising}
+use Rattle.fields.specs.Spans.{has, in_span, AreSpansFrom}
+use Rattle.classify.specs.Cuts.{EndsStart}
+
+abbrev Cut : Type 0
+Cut = ℕ × List Bool
+
+or-false : (b : Bool) → (b || false) ≡ b
+or-false true = refl
+or-false false = refl
+
+and-false : (b : Bool) → (b && false) ≡ false
+and-false true = refl
+and-false false = refl
+
+pub out_below : (s : Interval) (x : ℕ) → x < s.first → in_span x s ≡ false
+out_below s x lt = ap (λ b. b && leb x s.last) (lt-leb s.first x lt)
+
+pub out_above : (s : Interval) (x : ℕ) → s.last < x → in_span x s ≡ false
+out_above s x lt = ap (λ b. leb s.first x && b) (lt-leb x s.last lt) ∙ and-false (leb s.first x)
+
+pub in_it : (s : Interval) (x : ℕ) → s.first ≤ x → x ≤ s.last → in_span x s ≡ true
+in_it s x a b = ap (λ c. c && leb x s.last) (le-leb s.first x a) ∙ le-leb x s.last b
+
+pub none_below : (top low x : ℕ) (spans : List Interval) → AreSpansFrom top low spans → x < low → has spans x ≡ false
+none_below top low x [] h lt = refl
+none_below top low x (s ∷ ss) h lt = ap (λ b. b || has ss x) (out_below s x (omega (arith, h.0))) ∙ none_below top (s.last + 2) x ss h.3 (omega (arith, h.0, h.1))
+
+pub ends_from_cuts : (top low : ℕ) (line : List Cut) (spans : List Interval) → AreSpansFrom top low spans
+    → ((x : ℕ) → low ≤ suc x → suc x ≤ top → has spans x ≢ has spans (suc x) → StartsAt (suc x) line) → (low ≡ 0 → StartsAt 0 line) → All (EndsStart top line) spans
+ends_from_cuts top low line [] h cuts first = All-nil (EndsStart top line)
+ends_from_cuts top low line (s ∷ ss) h cuts first =
+    let begins : (y : ℕ) → s.first ≡ y → StartsAt y line = λ y. begin y in
+    let ends : s.last < top → StartsAt (s.last + 1) line =
+    λ lt. (
+    let e : suc s.last ≡ s.last + 1 = omega arith in
+    let P : ℕ → Type 0 = λ y. StartsAt y line in
+    let here : has (s ∷ ss) s.last ≡ true = ap (λ b. b || has ss s.last) (in_it s s.last h.1 (omega arith)) in
+    let next : has (s ∷ ss) (suc s.last) ≡ false = ap (λ b. b || has ss (suc s.last)) (out_above s (suc s.last) (omega arith)) ∙ none_below top (s.last + 2) (suc s.last) ss h.3 (omega arith) in
+    subst P e (cuts s.last (omega (arith, h.0, h.1)) lt (λ same. true≢false (sym here ∙ same ∙ next)))) in
+    let later : (x : ℕ) → s.last + 2 ≤ suc x → suc x ≤ top → has ss x ≢ has ss (suc x) → StartsAt (suc x) line =
+    λ x ge le ne. (
+    let a : has (s ∷ ss) x ≡ has ss x = ap (λ b. b || has ss x) (out_above s x (omega arith)) in
+    let b : has (s ∷ ss) (suc x) ≡ has ss (suc x) = ap (λ b. b || has ss (suc x)) (out_above s (suc x) (omega arith)) in
+    cuts x (omega (arith, h.0, h.1)) le (λ same. ne (sym a ∙ same ∙ b))) in
+    All-cons (EndsStart top line) s ss (begins s.first refl, ends) (ends_from_cuts top (s.last + 2) line ss h.3 later (λ z. absurd (omega arith)))
+  where
+    begin : (y : ℕ) → s.first ≡ y → StartsAt y line
+    begin zero e = first (omega (arith, h.0))
+    begin (suc y) e =
+        let before : has (s ∷ ss) y ≡ false = ap (λ b. b || has ss y) (out_below s y (omega arith)) ∙ none_below top (s.last + 2) y ss h.3 (omega (arith, h.1)) in
+        let here : has (s ∷ ss) (suc y) ≡ true = ap (λ b. b || has ss (suc y)) (in_it s (suc y) (omega arith) (omega (arith, h.1))) in
+        cuts y (omega (arith, h.0)) (omega (arith, h.1, h.2)) (λ same. false≢true (sym before ∙ same ∙ here))
+
+pub starts_zero : (top : ℕ) (line : List Cut) → IsRising top line → StartsAt 0 line
+starts_zero top [] r = r
+starts_zero top (d ∷ ps) r = inl (sym r.0)

@@ -1,0 +1,22 @@
+use Rattle.std.proofs.Common.{arith, length, ◌≡◌, ◌∙◌, rules}
+use Rattle.std.specs.Prelude.{slice_index}
+use Rattle.fields.specs.declared.field.TheConstants.{FIELDS}
+use Rattle.classify.specs.Fields.{tops}
+use Rattle.classify.proofs.LoopLaws.{zero_from_rising}
+use Rattle.classify.proofs.ClassifierLaws.{classifier_empty, kept_empty, line_sound}
+use Rattle.classify.proofs.classifier.Classifier.clear.Goals as goal
+
+pub clear_lines-requires : goal.clear_lines-requires
+clear_lines-requires c k l lt =
+    let n : length c.self.inside.lines ≡ FIELDS = search rules in
+    zero_from_rising (slice_index tops k) _ (line_sound c.self.inside.lines c.self.inside.len n c.self.invariant k l lt).rising
+
+pub invariant_of-self : goal.invariant_of-self
+invariant_of-self c =
+    let n : length c.clear_lines.new.lines ≡ FIELDS = c.clear_lines.auto.lines ∙ search rules in
+    kept_empty c.clear_lines.new.lines n (λ k l lt. c.clear_lines.ensures k l (omega (arith, c.clear_lines.auto.lines)))
+
+pub returns : goal.returns
+returns c =
+    let n : length c.clear_lines.new.lines ≡ FIELDS = c.clear_lines.auto.lines ∙ search rules in
+    classifier_empty c.clear_lines.new.lines n (λ k l lt. c.clear_lines.ensures k l (omega (arith, c.clear_lines.auto.lines)))

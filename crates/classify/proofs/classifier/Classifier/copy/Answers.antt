@@ -1,0 +1,18 @@
+use Rattle.std.proofs.Common.{ap, length, ◌≡◌, ◌∙◌, sym, subst, rules, List, ℕ, Bool}
+use Rattle.fields.specs.declared.field.TheConstants.{FIELDS}
+use Rattle.classify.specs.Fields.{IsKept}
+use Rattle.classify.proofs.ClassifierLaws.{same_shown}
+use Rattle.classify.proofs.classifier.Classifier.copy.Goals as goal
+
+pub invariant_of-result : goal.invariant_of-result
+invariant_of-result c =
+    let m : length c.copy_lines.new.lines ≡ FIELDS = c.copy_lines.auto.lines ∙ search rules in
+    let n : length c.self.inside.lines ≡ FIELDS = search rules in
+    let P : List (List (ℕ × List Bool)) → Type 0 = λ lines. IsKept (record { len = c.self.inside.len; lines = lines }) in
+    subst P (sym (same_shown c.self.inside.lines c.copy_lines.new.lines (m ∙ sym n) c.in_ok-copy_lines.ensures)) c.self.invariant
+
+pub returns : goal.returns
+returns c =
+    let m : length c.copy_lines.new.lines ≡ FIELDS = c.copy_lines.auto.lines ∙ search rules in
+    let n : length c.self.inside.lines ≡ FIELDS = search rules in
+    ap (λ (lines : List (List (ℕ × List Bool))). record { len = c.self.inside.len; lines = lines }) (same_shown c.self.inside.lines c.copy_lines.new.lines (m ∙ sym n) c.in_ok-copy_lines.ensures) ∙ c.self.view_is

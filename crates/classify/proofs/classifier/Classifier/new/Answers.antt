@@ -1,0 +1,14 @@
+use Rattle.std.proofs.Common.{arith, length, ◌≡◌, ◌∙◌, rules}
+use Rattle.fields.specs.declared.field.TheConstants.{FIELDS}
+use Rattle.classify.proofs.ClassifierLaws.{classifier_empty, kept_empty}
+use Rattle.classify.proofs.classifier.Classifier.new.Goals as goal
+
+pub invariant_of-result : goal.invariant_of-result
+invariant_of-result c =
+    let n : length c.open_lines.new.lines ≡ FIELDS = c.open_lines.auto.lines ∙ search rules in
+    kept_empty c.open_lines.new.lines n (λ k l lt. c.in_ok-open_lines.ensures k l (omega (arith, c.open_lines.auto.lines)))
+
+pub returns : goal.returns
+returns c =
+    let n : length c.open_lines.new.lines ≡ FIELDS = c.open_lines.auto.lines ∙ search rules in
+    classifier_empty c.open_lines.new.lines n (λ k l lt. c.in_ok-open_lines.ensures k l (omega (arith, c.open_lines.auto.lines)))

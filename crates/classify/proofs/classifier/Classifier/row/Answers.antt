@@ -1,0 +1,24 @@
+use Rattle.std.proofs.Common.{◌≡◌, ap, get_or, List, [], ℕ, subst, ◌∙◌, sym, rules, Bool, take}
+use Rattle.std.specs.Prelude.{slice_index}
+use Rattle.classify.specs.Bits.{IsPacked, all_bits}
+use Rattle.classify.specs.Fields.{tops}
+use Rattle.classify.specs.Steps.{row_in}
+use Rattle.classify.specs.Classifier.{Classified}
+use Rattle.classify.proofs.NextLaws.{field_row}
+use Rattle.classify.proofs.classifier.Classifier.row.Goals as goal
+
+pub row_at-requires : goal.row_at-requires
+row_at-requires c =
+    let f = field_row c.self.inside.lines c.self.inside.len c.args.place c.args.x c.deref.result.now c.index-self-place.result (search rules) c.self.invariant c.requires c.deref.ensures.value in
+    (slice_index tops c.args.place, f.rising)
+
+pub returns : goal.returns
+returns c =
+    let f = field_row c.self.inside.lines c.self.inside.len c.args.place c.args.x c.deref.result.now c.index-self-place.result (search rules) c.self.invariant c.requires c.deref.ensures.value in
+    let e : c.self.inside.len ≡ c.args.self.now.len = ap (λ (k : Classified). k.len) c.self.view_is in
+    let P : ℕ → Type 0 = λ n. IsPacked c.row_at.result.now n in
+    record {
+      packed = subst P (f.long ∙ e) c.row_at.ensures.packed;
+      bits = ap (λ n. take n (all_bits c.row_at.result.now)) (sym (f.long ∙ e)) ∙ c.row_at.ensures.bits
+          ∙ ap (λ (line : List (ℕ × List Bool)). row_in line c.args.x) (f.same ∙ ap (λ (k : Classified). get_or k.lines c.args.place []) c.self.view_is);
+    }

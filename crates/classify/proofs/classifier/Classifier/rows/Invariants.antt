@@ -1,0 +1,5 @@
+use Rattle.classify.specs.Search.{AreRows}
+use Rattle.classify.proofs.classifier.Classifier.rows.Given as goal
+
+abbrev pub invariant-loop-place : goal.invariant-loop-place
+invariant-loop-place l = AreRows l.self l.point l.rows l.place

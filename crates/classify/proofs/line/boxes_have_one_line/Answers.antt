@@ -1,0 +1,6 @@
+use Rattle.classify.specs.Classifier.{allows}
+use Rattle.classify.proofs.LineLaws.{one_line}
+use Rattle.classify.proofs.line.boxes_have_one_line.Goals as goal
+
+pub returns : goal.returns
+returns c field top boxes line other g h = one_line (λ box x. allows box field x) top boxes line other g h

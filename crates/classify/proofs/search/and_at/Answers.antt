@@ -1,0 +1,17 @@
+use Rattle.std.proofs.Common.{arith, subst, List, Bor, ℕ, ◌≤◌, length}
+use Rattle.std.proofs.lemmas.List.{take_all}
+use Rattle.classify.specs.Search.{IsAndAt}
+use Rattle.classify.proofs.SearchLaws.{and_first, and_more}
+use Rattle.classify.proofs.search.and_at.Goals as goal
+
+pub loop-row-init : goal.loop-row-init
+loop-row-init c = and_first c.args.place
+
+pub loop-row-preserved : goal.loop-row-preserved
+loop-row-preserved c = and_more c.args.rows.now c.loop-row.row-index c.loop-row.all c.args.place _ c.loop-row-test.true c.loop-row.invariant
+
+pub returns : goal.returns
+returns c =
+    let le : length c.args.rows.now ≤ c.loop-row.row-index = omega arith in
+    let P : List (Bor (List ℕ)) → Type 0 = λ rows. IsAndAt c.loop-row.all rows c.args.place in
+    subst P (take_all c.loop-row.row-index c.args.rows.now le) c.loop-row.invariant

@@ -1,0 +1,6 @@
+use Rattle.std.proofs.Common.{◌*◌}
+use Rattle.classify.specs.Search.{Nowhere, HaveAll}
+use Rattle.classify.proofs.search.scan.Given as goal
+
+abbrev pub invariant-loop-place : goal.invariant-loop-place
+invariant-loop-place l = Nowhere (HaveAll l.rows) (64 * l.start) (64 * l.place)

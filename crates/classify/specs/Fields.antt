@@ -1,0 +1,64 @@
+-- The lines of all fields at once, each at its field's place.
+use Rattle.std.specs.Prelude.{◌≢◌, ◌%◌, ℕ, ◌+◌, ◌*◌, ◌^◌, ◌-◌, ◌≤◌, ◌<◌, Bool, List, [], map, length, All, slice_index, slice_index_or, slice_set, insert, remove}
+use Rattle.fields.specs.declared.field.TheConstants.{FIELDS}
+use Rattle.fields.specs.declared.field.TheConstants.Field.{ALL}
+use Rattle.fields.specs.declared.spans.Interval.{Interval}
+use Rattle.fields.specs.Field.{top}
+use Rattle.fields.specs.Spans.{SpanSet, has}
+use Rattle.classify.specs.declared.line.Piece.{Piece}
+use Rattle.classify.specs.declared.line.Line.{Line}
+use Rattle.classify.specs.Line.{IsLineOf}
+use Rattle.classify.specs.Shown.{shown}
+use Rattle.classify.specs.Cuts.{CutsStart}
+use Rattle.classify.specs.Edits.{IsSound, EachRow, Says}
+use Rattle.classify.specs.Classifier.{Classified}
+
+-- the cuts and rows of a line
+abbrev pub shown_line : Line → List (ℕ × List Bool)
+shown_line l = shown l.pieces.items
+
+-- the tops of the fields, in their order
+unfoldable pub tops : List ℕ
+tops = map top ALL
+
+-- the most boxes of a classifier, so that a row's length is a `usize`
+abbrev pub most_boxes : ℕ
+most_boxes = 64 * (2 ^ 58 - 1)
+
+-- a classifier as it stands between edits
+pub record IsKept (c : Classified) : Type 0 where
+  pub few : c.len ≤ most_boxes
+  pub lines : (k : ℕ) → k < FIELDS → IsSound (slice_index tops k) c.len (slice_index_or c.lines k [])
+
+-- each line stands in R to its field's set and to the line of its field before
+abbrev pub EachField : (SpanSet → Line → Line → Type 0) → List SpanSet → List Line → List Line → Type 0
+EachField R sets old new = (k : ℕ) (s : SpanSet) (l : Line) → k < length old → R (slice_index_or sets k s) (slice_index_or old k l) (slice_index_or new k l)
+
+-- all memory for a set's answers is taken, and the line is cut where they change
+pub record IsReady (s : SpanSet) (l : Line) : Type 0 where
+  pub cuts : CutsStart s.top s.intervals (shown_line l)
+  pub room : All (λ (p : Piece). 0 < p.row.room) l.pieces.items
+
+-- a box's set put in at a place: the line of any sets becomes that of the sets with it, and the rows are longer by one bit
+pub record TakesIn (at : ℕ) (s : SpanSet) (old new : Line) : Type 0 where
+  pub line : (n : ℕ) (sets : List (List Interval)) → at ≤ n → EachRow n (shown_line old) → Says s.top sets (shown_line old) → IsLineOf has s.top (insert sets at s.intervals) (shown_line new)
+  pub sound : (n : ℕ) → at ≤ n → EachRow n (shown_line old) → IsSound s.top (n + 1) (shown_line new)
+
+-- nothing need grow for the set's answers: pieces start where they change, and no row's last word is full
+pub record HasRoom (s : SpanSet) (l : Line) : Type 0 where
+  pub cuts : CutsStart s.top s.intervals (shown_line l)
+  pub part : All (λ (p : Piece). length p.row.bits % 64 ≢ 0) l.pieces.items
+
+-- a box's set put in the place of another: the line of any sets becomes that of the sets with it, and the rows stay as long
+pub record TakesOver (at : ℕ) (s : SpanSet) (old new : Line) : Type 0 where
+  pub line : (sets : List (List Interval)) → Says s.top sets (shown_line old) → IsLineOf has s.top (slice_set sets at s.intervals) (shown_line new)
+  pub sound : (n : ℕ) → at < n → EachRow n (shown_line old) → IsSound s.top n (shown_line new)
+
+-- a line as it stands between edits, up to some top, that has a bit at a place in each row
+abbrev pub HasPlace : ℕ → Line → Type 0
+HasPlace at l = (top : ℕ) × (n : ℕ) × (at < n) × IsSound top n (shown_line l)
+
+-- a box taken out: the line of any sets becomes that of the others, and the rows are shorter by one bit
+pub record LosesBox (at : ℕ) (old new : Line) : Type 0 where
+  pub line : (top : ℕ) (sets : List (List Interval)) → IsLineOf has top sets (shown_line old) → IsLineOf has top (remove sets at) (shown_line new)
+  pub sound : (top n : ℕ) → at < n → IsSound top n (shown_line old) → IsSound top (n - 1) (shown_line new)

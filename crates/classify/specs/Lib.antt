@@ -1,0 +1,10 @@
+pub mod Bits
+pub mod Line
+pub mod Steps
+pub mod Shown
+pub mod Cuts
+pub mod Edits
+pub mod Fields
+pub mod Classifier
+pub mod Laws
+pub mod Search

@@ -1,0 +1,181 @@
+//! The classifier: the lines of all fields.
+
+ghost use Rattle.std.specs.Prelude.{◌≡◌, ◌≢◌, ◌≤◌, ◌%◌, OnOk, OnErr, IsOk, IfOk, List, [], ◌<◌, insert, remove, slice_set};
+ghost use Rattle.fields.specs.Spans.{SpanSet};
+ghost use Rattle.fields.specs.Field.{index};
+
+use crate::bit_row::MOST_BITS;
+use crate::line::{self, Line};
+use crate::{lines, search};
+use fields::{FIELDS, Field};
+use rules::Boxed;
+use std::alloc::{AllocError, Global};
+use std::array;
+use std::marker::Model;
+
+/// The classifier of a list of boxes: on each field the line of their answers, and no more.
+///
+/// Places count from 0. An edit touches each row once: put in at the end it costs a row one bit, elsewhere
+/// the words from its place on. A cut is made or goes only where the box's own answers change; the row of a
+/// piece that is cut is the only one that is copied.
+#[derive(Drop)]
+pub struct Classifier {
+    len: usize,
+    lines: [Line; FIELDS],
+}
+
+impl Model for Classifier {
+    ghost use Rattle.std.specs.Prelude.{map};
+    ghost use Rattle.classify.specs.Classifier.{Classified};
+
+    ghost Value = { Classified };
+
+    ghost use Rattle.classify.specs.Fields.{shown_line, IsKept};
+
+    ghost view = { λ c. record { len = c.len; lines = map shown_line c.lines } };
+
+    ghost invariant = { λ c. IsKept (record { len = c.len; lines = map shown_line c.lines }) };
+}
+
+impl Classifier {
+    ghost use Rattle.classify.specs.Classifier.{IsClassifierOf, HasNoNewCut, line_on, IsPoint, next_match, allows_point};
+    ghost use Rattle.classify.specs.Search.{IsRow, AreRows};
+    ghost use Rattle.classify.specs.Fields.{shown_line};
+
+    /// The classifier of no box.
+    ///
+    /// # Errors
+    ///
+    /// `AllocError` where memory was refused.
+    pub fn new(alloc: Global) -> Result<Classifier, AllocError>
+        ensures { IfOk result (λ classifier. IsClassifierOf [] classifier) }
+    {
+        let mut lines: [Line; FIELDS] = array::from_fn(|_| Line::bare(alloc));
+        lines::open_lines(&mut lines, alloc)?;
+        Ok(Classifier { len: 0, lines })
+    }
+
+    /// A classifier with the same lines. It costs the memory of the rows, and no more room than they need.
+    ///
+    /// # Errors
+    ///
+    /// `AllocError` where memory was refused.
+    pub fn copy(&self, alloc: Global) -> Result<Classifier, AllocError>
+        ensures { IfOk result (λ classifier. classifier ≡ self.now) }
+    {
+        let mut lines: [Line; FIELDS] = array::from_fn(|_| Line::bare(alloc));
+        lines::copy_lines(&mut lines, &self.lines, alloc)?;
+        Ok(Classifier {
+            len: self.len,
+            lines,
+        })
+    }
+
+    /// How many boxes there are.
+    pub fn len(&self) -> usize
+        ensures { result ≡ self.now.len }
+    {
+        self.len
+    }
+
+    /// The line of a field; it is lent.
+    pub fn line(&self, field: Field) -> &Line
+        ensures { shown_line result.now ≡ line_on field self.now }
+    {
+        &self.lines[field.index()]
+    }
+
+    /// Puts a box in at a place among the boxes, and spends it, also when it is refused.
+    ///
+    /// # Errors
+    ///
+    /// `AllocError` where memory was refused: the classifier is unchanged. It succeeds where the number of
+    /// boxes is no multiple of 64 and the box brings no new cut.
+    pub fn insert(&mut self, at: usize, boxed: Boxed) -> Result<(), AllocError>
+        requires { at ≤ self.old.len }
+        ensures ok { OnOk result ((boxes : List (List SpanSet)) → IsClassifierOf boxes self.old → IsClassifierOf (insert boxes at boxed) self.new) }
+        ensures err { OnErr result (self.new ≡ self.old) }
+        ensures there { self.old.len % 64 ≢ 0 → HasNoNewCut boxed self.old → IsOk result }
+    {
+        if self.len >= MOST_BITS {
+            return Err(AllocError);
+        }
+        match lines::insert_lines(&mut self.lines, self.len, at, boxed.lent()) {
+            Ok(()) => {
+                self.len += 1;
+                Ok(())
+            }
+            Err(refused) => Err(refused),
+        }
+    }
+
+    /// Puts a box in the place of another, and spends it, also when it is refused.
+    ///
+    /// # Errors
+    ///
+    /// `AllocError` where memory was refused: the classifier is unchanged. It succeeds where the cuts
+    /// afterwards are among those before.
+    pub fn replace(&mut self, at: usize, boxed: Boxed) -> Result<(), AllocError>
+        requires { at < self.old.len }
+        ensures ok { OnOk result ((boxes : List (List SpanSet)) → IsClassifierOf boxes self.old → IsClassifierOf (slice_set boxes at boxed) self.new) }
+        ensures err { OnErr result (self.new ≡ self.old) }
+        ensures there { HasNoNewCut boxed self.old → IsOk result }
+    {
+        match lines::replace_lines(&mut self.lines, self.len, at, boxed.lent()) {
+            Ok(()) => Ok(()),
+            Err(refused) => return Err(refused),
+        }
+    }
+
+    /// Takes a box out: the later ones move down by one. It takes no memory.
+    pub fn remove(&mut self, at: usize)
+        requires { at < self.old.len }
+        ensures { (boxes : List (List SpanSet)) → IsClassifierOf boxes self.old → IsClassifierOf (remove boxes at) self.new }
+    {
+        lines::remove_lines(&mut self.lines, at);
+        self.len -= 1;
+    }
+
+    /// Takes every box out. It takes no memory.
+    pub fn clear(&mut self)
+        ensures { IsClassifierOf [] self.new }
+    {
+        lines::clear_lines(&mut self.lines);
+        self.len = 0;
+    }
+
+    /// The words of the row of a field's line at a number; they are lent.
+    fn row(&self, place: usize, x: u128) -> &[u64]
+        requires { place < FIELDS }
+        ensures { IsRow self.now place x result.now }
+    {
+        let _len = self.len;
+        let line = &self.lines[place];
+        line::row_at(&line.pieces, x)
+    }
+
+    /// The words of each field's row at a point; they are lent.
+    pub(crate) fn rows(&self, point: &[u128; FIELDS]) -> [&[u64]; FIELDS]
+        ensures { AreRows self.now point.now result FIELDS }
+    {
+        let none: &[u64] = &[];
+        let mut rows = [none; FIELDS];
+        for place in 0..FIELDS {
+            rows[place] = self.row(place, point[place]);
+        }
+        rows
+    }
+
+    /// The least place, at or after `from`, of a box that allows the point; there may be none. The point has
+    /// a number for each field, in the order of `Field::ALL`.
+    ///
+    /// It takes no memory and copies no row. A search costs a binary search on each line, and then a word of
+    /// each row for 64 boxes that it passes over.
+    pub fn next(&self, point: &[u128; FIELDS], from: usize) -> Option<usize>
+        requires { IsPoint point.now }
+        ensures { (boxes : List (List SpanSet)) → IsClassifierOf boxes self.now → result ≡ next_match (allows_point point.now) boxes from }
+    {
+        let rows = self.rows(point);
+        search::first_common(&rows, self.len.div_ceil(64), from)
+    }
+}

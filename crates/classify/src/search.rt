@@ -1,0 +1,111 @@
+//! The search for the first place that every row has: rows and-ed word by word.
+
+ghost use Rattle.std.specs.Prelude.{◌≡◌, ◌<◌, ◌≤◌, ◌+◌, ◌*◌, ◌/◌, ◌^◌, ℕ};
+ghost use Rattle.classify.specs.Search.{IsAndAt, AreAndsAt, AreWide, HaveAll, Nowhere, IsFirst};
+
+use std::simd::prelude::*;
+
+/// The words at a place of every row, and-ed.
+fn and_at(rows: &[&[u64]], place: usize) -> u64
+    requires { (words : ℕ) × AreWide words rows.now × (place < words) }
+    ensures { IsAndAt result rows.now place }
+{
+    let mut all = u64::MAX;
+    for row in rows {
+        let words: &[u64] = row;
+        all &= words[place];
+    }
+    all
+}
+
+/// The words at four places of every row, and-ed in lanes.
+fn and_four(rows: &[&[u64]], place: usize) -> u64x4
+    requires { (words : ℕ) × AreWide words rows.now × (place + 4 ≤ words) }
+    ensures { AreAndsAt result rows.now place }
+{
+    let mut all = u64x4::splat(u64::MAX);
+    for row in rows {
+        let words: &[u64] = row;
+        all &= u64x4::from_slice(&words[place..]);
+    }
+    all
+}
+
+/// Passes over words that no such place is in, four at a time, and stops before four that one is in, or
+/// where fewer than four are left.
+fn skip(rows: &[&[u64]], start: usize, words: usize) -> usize
+    requires wide { AreWide words rows.now }
+    requires few { words < 2 ^ 58 }
+    requires within { start ≤ words }
+    ensures low { start ≤ result }
+    ensures high { result ≤ words }
+    ensures none { Nowhere (HaveAll rows.now) (64 * start) (64 * result) }
+{
+    let mut place = start;
+    while place + 4 <= words && and_four(rows, place).reduce_or() == 0 {
+        place += 4;
+    }
+    place
+}
+
+/// The first place that every row has, from a word on.
+fn scan(rows: &[&[u64]], start: usize, words: usize) -> Option<usize>
+    requires wide { AreWide words rows.now }
+    requires few { words < 2 ^ 58 }
+    ensures { IsFirst (HaveAll rows.now) (64 * start) (64 * words) result }
+{
+    for place in start..words {
+        let all = and_at(rows, place);
+        if all != 0 {
+            return Some(64 * place + all.trailing_zeros() as usize);
+        }
+    }
+    None
+}
+
+/// The first place at or after `from` that every row has and that is in the word of `from`.
+fn head(rows: &[&[u64]], from: usize) -> Option<usize>
+    requires { (words : ℕ) × AreWide words rows.now × (from / 64 < words) × (words < 2 ^ 58) }
+    ensures { IsFirst (HaveAll rows.now) from (64 * (from / 64 + 1)) result }
+{
+    let place = from / 64;
+    let all = and_at(rows, place) & (u64::MAX << (from % 64));
+    if all != 0 {
+        return Some(64 * place + all.trailing_zeros() as usize);
+    }
+    None
+}
+
+/// The first place at or after `from` that every row has.
+pub(crate) fn first_common(rows: &[&[u64]], words: usize, from: usize) -> Option<usize>
+    requires wide { AreWide words rows.now }
+    requires few { words < 2 ^ 58 }
+    ensures { IsFirst (HaveAll rows.now) from (64 * words) result }
+{
+    if from / 64 >= words {
+        return None;
+    }
+    match head(rows, from) {
+        Some(place) => Some(place),
+        None => {
+            let start = skip(rows, from / 64 + 1, words);
+            scan(rows, start, words)
+        }
+    }
+}
+
+/// The same, with no lanes.
+#[cfg(test)]
+pub(crate) fn first_common_plain(rows: &[&[u64]], words: usize, from: usize) -> Option<usize>
+    requires wide { AreWide words rows.now }
+    requires few { words < 2 ^ 58 }
+    ensures { IsFirst (HaveAll rows.now) from (64 * words) result }
+{
+    if from / 64 >= words {
+        return None;
+    }
+    match head(rows, from) {
+        Some(place) => Some(place),
+        None => scan(rows, from / 64 + 1, words),
+    }
+}

@@ -1,0 +1,130 @@
+-- What a rule asks of interfaces, it asks by options of its own; where it asks nothing, it allows all.
+use Rattle.std.proofs.Common.{◌≡◌, ℕ, Bool, true, false, cond, ◌==◌, ◌&&◌, ◌||◌, not, List, [], ◌∷◌, refl, sym, ap, ◌∙◌}
+use Rattle.std.specs.List.{list_all, list_any}
+use Rattle.std.proofs.lemmas.Bool.{or_parts, and_from}
+use Rattle.fields.specs.declared.field.Field.{Field}
+use Rattle.fields.specs.declared.field.Field.TheVariants as field
+use Rattle.rules.specs.Options.{owner, is_match_of}
+use Rattle.rules.specs.Settings.{option_of_value}
+use Rattle.rules.specs.Rules.{Match, Rule}
+use Rattle.rules.specs.Allows.{field_of, holds_of, same_field, is_on, asks, asks_on, setting_allows, asks_fragment, match_allows, allows}
+use Rattle.rules.specs.RoundTrip.{ReadsItself}
+use Rattle.rules.specs.declared.kind.Kind.{Kind}
+use Rattle.rules.specs.declared.setting.Setting.{Setting}
+use Rattle.rules.specs.declared.value.Value.{Value}
+use Rattle.rules.specs.declared.value.Value.TheVariants as value
+use Rattle.rules.proofs.Readable.{Each, OfMatch, IsMatch}
+use Rattle.rules.proofs.RoundTripLaws.{readable}
+
+false-true : {A : Type 0} → false ≡ true → A
+false-true h = absurd (cc)
+
+-- no option of a match asks on in
+none-in : (v : Value) (k : Kind) → is_match_of (owner (option_of_value v)) k ≡ true → is_on field.InIface (field_of v) ≡ false
+none-in (value.Source x) k h = false-true h
+none-in (value.Destination x) k h = false-true h
+none-in (value.InInterface x) k h = false-true h
+none-in (value.OutInterface x) k h = false-true h
+none-in (value.Protocol x) k h = false-true h
+none-in value.Fragment k h = false-true h
+none-in (value.SourcePort x) k h = refl
+none-in (value.DestinationPort x) k h = refl
+none-in (value.TcpFlags x) k h = refl
+none-in (value.IcmpType x) k h = refl
+none-in (value.SourcePorts x) k h = refl
+none-in (value.DestinationPorts x) k h = refl
+none-in (value.SourceRange x) k h = refl
+none-in (value.DestinationRange x) k h = refl
+none-in (value.Ctstate x) k h = refl
+none-in (value.State x) k h = refl
+none-in (value.Comment x) k h = refl
+none-in (value.RejectWith x) k h = false-true h
+none-in (value.LogPrefix x) k h = false-true h
+none-in (value.LogLevel x) k h = false-true h
+none-in value.LogTcpSequence k h = false-true h
+none-in value.LogTcpOptions k h = false-true h
+none-in value.LogIpOptions k h = false-true h
+none-in value.LogUid k h = false-true h
+
+-- no option of a match asks on out
+none-out : (v : Value) (k : Kind) → is_match_of (owner (option_of_value v)) k ≡ true → is_on field.OutIface (field_of v) ≡ false
+none-out (value.Source x) k h = false-true h
+none-out (value.Destination x) k h = false-true h
+none-out (value.InInterface x) k h = false-true h
+none-out (value.OutInterface x) k h = false-true h
+none-out (value.Protocol x) k h = false-true h
+none-out value.Fragment k h = false-true h
+none-out (value.SourcePort x) k h = refl
+none-out (value.DestinationPort x) k h = refl
+none-out (value.TcpFlags x) k h = refl
+none-out (value.IcmpType x) k h = refl
+none-out (value.SourcePorts x) k h = refl
+none-out (value.DestinationPorts x) k h = refl
+none-out (value.SourceRange x) k h = refl
+none-out (value.DestinationRange x) k h = refl
+none-out (value.Ctstate x) k h = refl
+none-out (value.State x) k h = refl
+none-out (value.Comment x) k h = refl
+none-out (value.RejectWith x) k h = false-true h
+none-out (value.LogPrefix x) k h = false-true h
+none-out (value.LogLevel x) k h = false-true h
+none-out value.LogTcpSequence k h = false-true h
+none-out value.LogTcpOptions k h = false-true h
+none-out value.LogIpOptions k h = false-true h
+none-out value.LogUid k h = false-true h
+
+-- nor does a match
+module _ (f : Field) (none : (v : Value) (k : Kind) → is_match_of (owner (option_of_value v)) k ≡ true → is_on f (field_of v) ≡ false) where
+  settings-ask : (m : Match) (ss : List Setting) → Each (λ s. OfMatch m (owner (option_of_value s.value))) ss → list_any (asks f) ss ≡ false
+  settings-ask m [] own = refl
+  settings-ask m (s ∷ ss) own = ap (λ b. b || list_any (asks f) ss) (none s.value m.kind own.0) ∙ settings-ask m ss own.1
+
+  matches-ask : (ms : List Match) → Each IsMatch ms → list_any (λ (m : Match). list_any (asks f) m.settings) ms ≡ false
+  matches-ask [] are = refl
+  matches-ask (m ∷ ms) are = ap (λ b. b || list_any (λ (m : Match). list_any (asks f) m.settings) ms) (settings-ask m m.settings are.0.own) ∙ matches-ask ms are.1
+
+  own-asks : (r : Rule) → ReadsItself r → list_any (asks f) r.settings ≡ asks_on f r
+  own-asks r is = sym (ap (λ b. list_any (asks f) r.settings || b) (matches-ask r.matches (readable r is).parts.matches) ∙ or-false (list_any (asks f) r.settings))
+    where
+      or-false : (b : Bool) → (b || false) ≡ b
+      or-false true = refl
+      or-false false = refl
+
+pub in_is_own : (r : Rule) → ReadsItself r → list_any (asks field.InIface) r.settings ≡ asks_on field.InIface r
+in_is_own r is = own-asks field.InIface none-in r is
+
+pub out_is_own : (r : Rule) → ReadsItself r → list_any (asks field.OutIface) r.settings ≡ asks_on field.OutIface r
+out_is_own r is = own-asks field.OutIface none-out r is
+
+-- where nothing is asked all is allowed
+module _ (f : Field) (n : ℕ) (other : same_field field.Fragment f ≡ false) where
+  settings-allow : (ss : List Setting) → list_any (asks f) ss ≡ false → list_all (setting_allows f n) ss ≡ true
+  settings-allow [] free = refl
+  settings-allow (s ∷ ss) free =
+      let (here, rest) = or_parts (asks f s) (list_any (asks f) ss) free in
+      and_from _ _ (ap (λ b. cond b (cond s.inverted (not (holds_of s.value n)) (holds_of s.value n)) true) here) (settings-allow ss rest)
+
+  first-part : (k : Kind) → (not (asks_fragment k && same_field field.Fragment f) || (n == 0)) ≡ true
+  first-part k = ap (λ b. not (asks_fragment k && b) || (n == 0)) other ∙ go (asks_fragment k)
+    where
+      go : (b : Bool) → (not (b && false) || (n == 0)) ≡ true
+      go true = refl
+      go false = refl
+
+  matches-allow : (ms : List Match) → list_any (λ (m : Match). list_any (asks f) m.settings) ms ≡ false → list_all (match_allows f n) ms ≡ true
+  matches-allow [] free = refl
+  matches-allow (m ∷ ms) free =
+      let (here, rest) = or_parts (list_any (asks f) m.settings) (list_any (λ (m : Match). list_any (asks f) m.settings) ms) free in
+      and_from _ _ (and_from _ _ (first-part m.kind) (settings-allow m.settings here)) (matches-allow ms rest)
+
+  all-allowed : (r : Rule) → asks_on f r ≡ false → allows r f n ≡ true
+  unfolding allows
+  all-allowed r free =
+      let (own, rest) = or_parts (list_any (asks f) r.settings) (list_any (λ (m : Match). list_any (asks f) m.settings) r.matches) free in
+      and_from _ _ (settings-allow r.settings own) (matches-allow r.matches rest)
+
+pub in_free : (r : Rule) (n : ℕ) → asks_on field.InIface r ≡ false → allows r field.InIface n ≡ true
+in_free r n free = all-allowed field.InIface n refl r free
+
+pub out_free : (r : Rule) (n : ℕ) → asks_on field.OutIface r ≡ false → allows r field.OutIface n ≡ true
+out_free r n free = all-allowed field.OutIface n refl r free

@@ -1,0 +1,6 @@
+use Rattle.std.proofs.Common.{◌≡◌, drop}
+use Rattle.rules.specs.Actions.{reject_in}
+use Rattle.rules.proofs.rule.reject_in.Given as goal
+
+abbrev pub invariant-loop-setting : goal.invariant-loop-setting
+invariant-loop-setting l = reject_in (drop l.setting-index l.extras) ≡ reject_in l.extras

@@ -1,0 +1,11 @@
+-- A match's row as the code has it.
+use Rattle.std.specs.Prelude.{◌≡◌}
+use Rattle.rules.specs.Kinds as table
+use Rattle.rules.specs.declared.kind.Kind.{Kind}
+use Rattle.rules.specs.declared.kind.KindRow.{KindRow}
+
+-- the row is that of the match
+pub record IsKindRow (row : KindRow) (kind : Kind) : Type 0 where
+  pub name : row.name.now ≡ (table.kind_row kind).name
+  pub protocols : row.protocols.now ≡ (table.kind_row kind).protocols
+  pub needs_option : row.needs_option ≡ (table.kind_row kind).needs_option

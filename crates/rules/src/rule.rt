@@ -1,0 +1,188 @@
+// Rules.
+ghost use Rattle.std.specs.Prelude.{◌≡◌, Option, Some, None};
+ghost use Rattle.std.specs.List.{list_any};
+ghost use Rattle.fields.specs.declared.field.Field.{Field};
+ghost use Rattle.rules.specs.Actions.{reject_in, target_with, renamed_action};
+ghost use Rattle.rules.specs.Allows.{asks};
+
+use crate::action::Action;
+use crate::copy::copy_draft;
+use crate::draft::{Draft, Match};
+use crate::same::same_draft;
+use crate::setting::Setting;
+use crate::target::Target;
+use crate::value::Value;
+use fields::{Field, Name, RejectType};
+use std::alloc::{AllocError, Global};
+use std::marker::Model;
+use std::mem::size_of;
+
+/// A rule: what it asks of a packet, and what becomes of the packets that it matches.
+///
+/// Every rule was read from words, or is a copy or a renamed one of such a rule, and its text reads back as it. A rule has
+/// 128 bytes and, in memory of their own, its options with 88 bytes each and its matches with 32 bytes each beside their
+/// options. Only a comment has further memory, of at most 272 bytes.
+#[derive(Drop)]
+pub struct Rule {
+    draft: Draft,
+}
+
+const _: () = prove!(size_of::<Rule>() == 128);
+
+const _: () = prove!(size_of::<Match>() == 32);
+
+const _: () = prove!(size_of::<Setting>() == 88);
+
+impl Model for Rule {
+    ghost use Rattle.rules.specs.Rules.{Rule as Shown};
+    ghost use Rattle.rules.specs.Views.{view_draft};
+    ghost use Rattle.rules.specs.RoundTrip.{ReadsItself};
+
+    ghost Value = { Shown };
+
+    ghost view = { λ r. view_draft r.draft };
+
+    ghost invariant = { λ r. ReadsItself (view_draft r.draft) };
+}
+
+// The type of REJECT among the options of the target.
+fn reject_in(extras: &[Setting]) -> RejectType
+    ensures { result ≡ reject_in extras.now }
+{
+    for setting in extras {
+        if let Value::RejectWith(answer) = &setting.value {
+            return *answer;
+        }
+    }
+    RejectType::default()
+}
+
+fn target_with(action: &Action, extras: &[Setting]) -> Target
+    ensures { result ≡ target_with action.now extras.now }
+{
+    match action {
+        Action::Accept => Target::Accept,
+        Action::Drop => Target::Drop,
+        Action::Return => Target::Return,
+        Action::Reject => Target::Reject(reject_in(extras)),
+        Action::Log => Target::Log,
+        Action::Jump(name) => Target::Jump(name.copy()),
+        Action::Goto(name) => Target::Goto(name.copy()),
+    }
+}
+
+// Changes the name of the action's chain.
+fn rename(action: &mut Option<Action>, name: &Name)
+    ensures { action.new ≡ renamed_action name.now action.old }
+{
+    match action {
+        Some(Action::Jump(_)) => *action = Some(Action::Jump(name.copy())),
+        Some(Action::Goto(_)) => *action = Some(Action::Goto(name.copy())),
+        _ => {}
+    }
+}
+
+fn is_in(setting: &Setting) -> bool
+    ensures { result ≡ asks Field.InIface setting.now }
+{
+    matches!(setting.value, Value::InInterface(_))
+}
+
+fn is_out(setting: &Setting) -> bool
+    ensures { result ≡ asks Field.OutIface setting.now }
+{
+    matches!(setting.value, Value::OutInterface(_))
+}
+
+fn asks_in(settings: &[Setting]) -> bool
+    ensures { result ≡ list_any (asks Field.InIface) settings.now }
+{
+    settings.iter().any(is_in)
+}
+
+fn asks_out(settings: &[Setting]) -> bool
+    ensures { result ≡ list_any (asks Field.OutIface) settings.now }
+{
+    settings.iter().any(is_out)
+}
+
+impl Rule {
+    ghost use Rattle.std.specs.Prelude.{◌≡◌, ◌↔◌, ℕ, true, false, IfOk, IsTrue};
+    ghost use Rattle.fields.specs.declared.field.Field.{Field};
+    ghost use Rattle.rules.specs.Actions.{target_of, renamed, names_chain};
+    ghost use Rattle.rules.specs.Allows.{asks_on, allows};
+    ghost use Rattle.rules.specs.Printing.{rule_text};
+    ghost use Rattle.rules.specs.RoundTrip.{ReadsItself};
+    ghost use Rattle.rules.specs.Views.{view_draft};
+
+    pub(crate) fn of(draft: Draft) -> Rule
+        requires { ReadsItself (view_draft draft) }
+        ensures { result ≡ view_draft draft }
+    {
+        Rule { draft }
+    }
+
+    pub(crate) fn draft(&self) -> &Draft
+        ensures value { view_draft result.now ≡ self.now }
+        ensures kept { ReadsItself self.now }
+    {
+        &self.draft
+    }
+
+    /// An equal rule, or none where memory was refused.
+    pub fn copy(&self, alloc: Global) -> Result<Rule, AllocError>
+        ensures { IfOk result (λ copy. copy ≡ self.now) }
+    {
+        let draft = copy_draft(alloc, &self.draft)?;
+        Ok(Rule { draft })
+    }
+
+    /// Whether the rules are equal: each asks and does the same, and they have one text.
+    #[tactic(auto, using(crate::proofs::RoundTripLaws::same_text))]
+    pub fn equals(&self, other: &Rule) -> bool
+        ensures value { IsTrue result ↔ (self.now ≡ other.now) }
+        ensures text { IsTrue result ↔ (rule_text self.now ≡ rule_text other.now) }
+    {
+        same_draft(self.draft(), other.draft())
+    }
+
+    /// What becomes of the packets that the rule matches: `None` where it says nothing, so that the walk goes on. It takes no
+    /// memory.
+    pub fn target(&self) -> Option<Target>
+        ensures { result ≡ target_of self.now }
+    {
+        match &self.draft.action {
+            None => None,
+            Some(action) => Some(target_with(action, self.draft.extras.as_slice())),
+        }
+    }
+
+    /// Changes the name of the chain that the rule jumps or goes to, and leaves all else. It takes no memory.
+    pub fn rename_target(&mut self, name: &Name)
+        requires { IsTrue (names_chain (target_of self.old)) }
+        ensures { self.new ≡ renamed name.now self.old }
+    {
+        let _name = name.bytes();
+        rename(&mut self.draft.action, name);
+    }
+
+    /// Whether the rule has a condition on the incoming interface (`-i`; no condition is `-i +`). Without one it allows every
+    /// interface.
+    #[tactic(auto, using(crate::proofs::AskLaws::in_is_own, crate::proofs::AskLaws::in_free))]
+    pub fn on_in(&self) -> bool
+        ensures value { result ≡ asks_on Field.InIface self.now }
+        ensures free { result ≡ false → (n : ℕ) → allows self.now Field.InIface n ≡ true }
+    {
+        asks_in(self.draft.settings.as_slice())
+    }
+
+    /// Whether the rule has a condition on the outgoing interface (`-o`; no condition is `-o +`). Without one it allows every
+    /// interface.
+    #[tactic(auto, using(crate::proofs::AskLaws::out_is_own, crate::proofs::AskLaws::out_free))]
+    pub fn on_out(&self) -> bool
+        ensures value { result ≡ asks_on Field.OutIface self.now }
+        ensures free { result ≡ false → (n : ℕ) → allows self.now Field.OutIface n ≡ true }
+    {
+        asks_out(self.draft.settings.as_slice())
+    }
+}
