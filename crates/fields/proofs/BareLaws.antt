@@ -16,7 +16,7 @@ use Rattle.fields.specs.PortList.{IsPortList, port_list_text}
 use Rattle.fields.specs.Protocol.{protocols, protocol_name, named_or_decimal, protocol_text}
 use Rattle.fields.proofs.ListLaws.{find-passes, all-weaker}
 use Rattle.fields.proofs.NumberLaws.{numeral}
-use Rattle.fields.proofs.InterfaceLaws.{interface_of-form}
+use Rattle.fields.proofs.InterfaceLaws.{interface-byte, interface_of-form}
 
 pub some-bytes : (text : List ℕ) → 0 < length text → text ≢ []
 some-bytes [] some e = absurd (omega arith)
@@ -28,11 +28,8 @@ bare-byte byte low quote =
     ap (λ t. not (t || (byte == 9)) && not (byte == 34)) (ne_eqb byte 32 (λ e. omega arith))
     ∙ ap (λ t. not t && not (byte == 34)) (ne_eqb byte 9 (λ e. omega arith)) ∙ quote
 
-interface-byte : (byte : ℕ) → is_interface_byte byte ≡ true → is_bare byte ≡ true
-interface-byte byte is =
-    let (unquoted, quote) = and_parts (nat_le 33 byte && nat_le byte 126 && not (byte == 47)) (not (byte == 34)) is in
-    let sized = (and_parts (nat_le 33 byte && nat_le byte 126) (not (byte == 47)) unquoted).0 in
-    bare-byte byte (leb-true 33 byte (and_parts (nat_le 33 byte) (nat_le byte 126) sized).0) quote
+bare-interface : (byte : ℕ) → is_interface_byte byte ≡ true → is_bare byte ≡ true
+bare-interface byte is = bare-byte byte (interface-byte byte is).0 (and_parts (nat_le 33 byte && nat_le byte 126 && not (byte == 47)) (not (byte == 34)) is).1
 
 name-byte : (byte : ℕ) → is_name_byte byte ≡ true → is_bare byte ≡ true
 name-byte byte is =
@@ -42,7 +39,7 @@ name-byte byte is =
 pub interface_is_bare : (text : List ℕ) → interface_of text ≡ Some text → IsBareWord text
 interface_is_bare text reads =
     let is = interface_of-form text reads in
-    record { some = some-bytes text is.some; bytes = all-weaker is_interface_byte is_bare text interface-byte is.named }
+    record { some = some-bytes text is.some; bytes = all-weaker is_interface_byte is_bare text bare-interface is.named }
 
 pub name_is_bare : (text : List ℕ) → name_of text ≡ Some text → IsBareWord text
 unfolding name_of
@@ -63,8 +60,7 @@ digit-byte : (byte : ℕ) → is_ascii_digit byte ≡ true → is_bare byte ≡ 
 digit-byte byte is = bare-byte byte (let low = leb-true 48 byte (and_parts (nat_le 48 byte) (nat_le byte 57) is).0 in omega arith) (ap not (ne_eqb byte 34 (λ e. let low = leb-true 48 byte (and_parts (nat_le 48 byte) (nat_le byte 57) is).0 in omega arith)))
 
 digits-bare : (text : List ℕ) → all_ascii_digits text ≡ true → list_all is_bare text ≡ true
-digits-bare [] all = refl
-digits-bare (byte ∷ text) all = let (first, others) = and_parts (is_ascii_digit byte) (all_ascii_digits text) all in and_from _ _ (digit-byte byte first) (digits-bare text others)
+digits-bare text all = all-weaker is_ascii_digit is_bare text digit-byte all
 
 pub decimal-bare : (n : ℕ) → n < 2 ^ 64 → IsBareWord (decimal n)
 decimal-bare n small = record { some = some-bytes (decimal n) (decimal_nonempty n small); bytes = digits-bare (decimal n) (digits_decimal numeral n small) }

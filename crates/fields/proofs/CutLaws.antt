@@ -1,6 +1,6 @@
 -- Laws of a text cut in two.
 use Rattle.std.proofs.Common.{◌≡◌, ◌==◌, ℕ, Bool, true, false, cond, not, List, [], ◌∷◌, ◌++◌, Option, None, Some, refl, ap, ◌∙◌, eq-eqb}
-use Rattle.std.specs.List.{list_all}
+use Rattle.std.specs.List.{list_all, onto_first, slice_split}
 use Rattle.std.proofs.lemmas.Bool.{and_parts, not-true, eqb-true}
 use Rattle.fields.specs.Chains.{◌>>=◌}
 use Rattle.fields.specs.Cut.{cut_at}
@@ -38,3 +38,23 @@ cut_at_only b (c ∷ cs) p e = go (c == b) refl e (cut_at_only b cs)
     go false differs h before =
         let (q, cut, is) = step_before (cut_at b cs) (λ q. Some (c ∷ q.0, q.1)) p h in
         ap (λ l. c ∷ l) (before q cut) ∙ ap (λ (r : List ℕ × List ℕ). r.0 ++ b ∷ r.1) (same_some (c ∷ q.0, q.1) p is)
+
+-- the parts of a text between its commas, by the first comma
+abbrev pub split : List ℕ → List (List ℕ)
+split text = slice_split (λ byte. byte == 44) text
+
+abbrev pub parted : List ℕ → Option (List ℕ × List ℕ) → List (List ℕ)
+parted text None = text ∷ []
+parted text (Some p) = p.0 ∷ split p.1
+
+pub split-cut : (text : List ℕ) → split text ≡ parted text (cut_at 44 text)
+split-cut [] = refl
+split-cut (c ∷ cs) = go (c == 44) (split-cut cs)
+  where
+    onto : (o : Option (List ℕ × List ℕ)) → onto_first c (parted cs o) ≡ parted (c ∷ cs) (o >>= λ p. Some (c ∷ p.0, p.1))
+    onto None = refl
+    onto (Some p) = refl
+
+    go : (t : Bool) → split cs ≡ parted cs (cut_at 44 cs) → cond t ([] ∷ split cs) (onto_first c (split cs)) ≡ parted (c ∷ cs) (cond t (Some ([], cs)) (cut_at 44 cs >>= λ p. Some (c ∷ p.0, p.1)))
+    go true same = refl
+    go false same = ap (onto_first c) same ∙ onto (cut_at 44 cs)

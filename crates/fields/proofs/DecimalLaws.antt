@@ -1,19 +1,16 @@
 -- The bytes of a number's text.
-use Rattle.std.proofs.Common.{◌≡◌, ◌==◌, ℕ, ◌<◌, ◌^◌, true, false, not, List, [], ◌∷◌, refl, ap, subst, ne_eqb}
+use Rattle.std.proofs.Common.{◌≡◌, ◌==◌, ℕ, ◌<◌, ◌^◌, true, false, not, List, ap, subst, ne_eqb}
 use Rattle.std.specs.Prelude.{decimal}
 use Rattle.std.specs.Char.{is_ascii_digit}
 use Rattle.std.specs.List.{list_all}
 use Rattle.std.specs.Str.{all_ascii_digits}
-use Rattle.std.proofs.lemmas.Bool.{and_parts, and_from}
 use Rattle.std.proofs.lemmas.Fmt.{digits_decimal}
+use Rattle.fields.proofs.ListLaws.{all-weaker}
 use Rattle.fields.proofs.NumberLaws.{numeral}
 
 -- what is no digit doesn't stand among digits
 digits-differ : (b : ℕ) → is_ascii_digit b ≡ false → (xs : List ℕ) → all_ascii_digits xs ≡ true → list_all (λ x. not (x == b)) xs ≡ true
-digits-differ b off [] all = refl
-digits-differ b off (x ∷ xs) all =
-    let (first, others) = and_parts (is_ascii_digit x) (all_ascii_digits xs) all in
-    and_from (not (x == b)) (list_all (λ y. not (y == b)) xs) (ap not (ne_eqb x b (λ e. let on = subst (λ n. is_ascii_digit n ≡ true) e first in cc))) (digits-differ b off xs others)
+digits-differ b off xs all = all-weaker is_ascii_digit (λ x. not (x == b)) xs (λ x is. ap not (ne_eqb x b (λ e. let on = subst (λ n. is_ascii_digit n ≡ true) e is in cc))) all
 
 -- a number's text has digits alone
 pub decimal-differs : (b n : ℕ) → is_ascii_digit b ≡ false → n < 2 ^ 64 → list_all (λ x. not (x == b)) (decimal n) ≡ true

@@ -12,9 +12,9 @@ use Rattle.fields.specs.Icmp.{icmp_names, asked_by_name, asked_type, numbers_par
 use Rattle.fields.specs.declared.icmp.Asked.{Asked}
 use Rattle.fields.specs.declared.icmp.Asked.TheVariants.{Any, OfType, OfCode}
 use Rattle.fields.proofs.CutLaws.{cut_at-at, cut_at-none, step_before, same_some}
-use Rattle.fields.proofs.NameListLaws.{find-among}
+use Rattle.fields.proofs.DecimalLaws.{decimal-differs}
+use Rattle.fields.proofs.ListLaws.{find-among}
 use Rattle.fields.proofs.NumberLaws.{number_to-decimal, number_to_sound}
-use Rattle.fields.proofs.PrefixLaws.{decimal-differs}
 
 -- what is read is a legal type
 type_is_asked : (n : ℕ) → n ≤ 255 → IsAsked (asked_type n)

@@ -10,6 +10,7 @@ use Rattle.std.specs.Prelude.{replicate, nat_le, nat_eq, codes}
 use Rattle.std.specs.List.{list_all, starts_with}
 use Rattle.std.specs.Int.{byte_at, bytes_high_first, w128, to_be_bytes}
 use Rattle.fields.specs.Interface.{is_interface_byte, is_interface, interface_of, filled, bytes_value, is_open, asked_bytes, interface_holds, interface_interval}
+use Rattle.fields.proofs.ListLaws.{all-weaker, all-take}
 
 -- a byte
 abbrev pub is_byte : ℕ → Bool
@@ -137,24 +138,20 @@ within (suc k) v (x ∷ xs) fits all =
     ∙ step x (byte_at k v) P (v % P) lo hi (mod_below v P (power-some k)) (bound-fits 255 k xs (omega arith) others)
     ∙ ap (λ n. leb (x * P + lo) n && leb n (x * P + hi)) (sym (next-byte k v))
 
--- an interface's bytes, and those that a pattern asks for
-interface-bytes : (xs : List ℕ) → list_all is_interface_byte xs ≡ true → list_all is_byte xs ≡ true
-interface-bytes [] all = refl
-interface-bytes (x ∷ xs) all =
-    let (first, others) = and_parts (is_interface_byte x) (list_all is_interface_byte xs) all in
-    let unquoted = (and_parts (nat_le 33 x && nat_le x 126 && not (x == 47)) (not (x == 34)) first).0 in
+-- a byte of an interface's name is neither 0 nor above 255
+pub interface-byte : (x : ℕ) → is_interface_byte x ≡ true → (33 ≤ x) × (x ≤ 126)
+interface-byte x is =
+    let unquoted = (and_parts (nat_le 33 x && nat_le x 126 && not (x == 47)) (not (x == 34)) is).0 in
     let sized = (and_parts (nat_le 33 x && nat_le x 126) (not (x == 47)) unquoted).0 in
-    let high = leb-true x 126 (and_parts (nat_le 33 x) (nat_le x 126) sized).1 in
-    and_from _ _ (le-leb x 255 (omega arith)) (interface-bytes xs others)
+    let (low, high) = and_parts (nat_le 33 x) (nat_le x 126) sized in
+    (leb-true 33 x low, leb-true x 126 high)
+
+interface-bytes : (xs : List ℕ) → list_all is_interface_byte xs ≡ true → list_all is_byte xs ≡ true
+interface-bytes xs all = all-weaker is_interface_byte is_byte xs (λ x is. let (low, high) = interface-byte x is in le-leb x 255 (omega arith)) all
 
 fill-bytes : (fill n : ℕ) → fill ≤ 255 → list_all is_byte (replicate n fill) ≡ true
 fill-bytes fill zero small = refl
 fill-bytes fill (suc n) small = and_from _ _ (le-leb fill 255 small) (fill-bytes fill n small)
-
-take-bytes : (n : ℕ) (xs : List ℕ) → list_all is_byte xs ≡ true → list_all is_byte (take n xs) ≡ true
-take-bytes zero xs all = refl
-take-bytes (suc n) [] all = refl
-take-bytes (suc n) (x ∷ xs) all = let (first, others) = and_parts (is_byte x) (list_all is_byte xs) all in and_from _ _ first (take-bytes n xs others)
 
 -- what a text of an interface is
 pub record IsInterface (pattern : List ℕ) : Type 0 where
@@ -192,7 +189,7 @@ asked pattern is = go (is_open pattern)
     few = is.few
 
     go : (t : Bool) → IsAsked (cond t (take (length pattern - 1) pattern) (filled 0 pattern))
-    go true = record { fits = omega (arith, few, length-take (length pattern - 1) pattern); bytes = take-bytes (length pattern - 1) pattern is.bytes }
+    go true = record { fits = omega (arith, few, length-take (length pattern - 1) pattern); bytes = all-take is_byte (length pattern - 1) pattern is.bytes }
     go false = record {
       fits = omega (arith, length-filled 0 pattern (omega (arith, few)));
       bytes = filled-bytes pattern is.bytes;

@@ -1,13 +1,14 @@
 -- A pattern holds of the numbers of exactly the names that it stands for.
 use Rattle.std.proofs.Common.{◌≡◌, ◌==◌, inl, inr, ℕ, zero, suc, ◌+◌, ◌-◌, ◌%◌, ◌^◌, ◌≤◌, Bool, true, false, cond, not, ◌&&◌, List, [], ◌∷◌, ◌++◌, length, take, Some, refl, sym, ap, subst, ◌∙◌, arith, eqb, leb, ne_eqb}
-use Rattle.std.specs.Prelude.{replicate, nat_eq, nat_le}
+use Rattle.std.specs.Prelude.{replicate, nat_eq}
 use Rattle.std.specs.List.{list_all, starts_with}
 use Rattle.std.specs.Str.{bytes_eq}
 use Rattle.std.specs.Cmp.Lexicographic.{pointwise}
-use Rattle.std.proofs.lemmas.Bool.{and_parts, and_from, le-leb, leb-true}
+use Rattle.std.proofs.lemmas.Bool.{and_parts, and_from, le-leb}
 use Rattle.std.proofs.lemmas.List.{take_all}
 use Rattle.fields.specs.Interface.{is_interface_byte, interface_of, filled, bytes_value, interface_value, is_open, interface_matches, IsInterfaceName, asked_bytes, interface_holds}
-use Rattle.fields.proofs.InterfaceLaws.{is_byte, bound, bound-is, bound-low, bound-high, filled-filled, bound-fits, step, within, interface_of-form, IsAsked, asked, filled-bytes, length-filled}
+use Rattle.fields.proofs.InterfaceLaws.{is_byte, bound, bound-is, bound-low, bound-high, filled-filled, bound-fits, step, within, interface-byte, interface_of-form, IsAsked, asked, filled-bytes, length-filled}
+use Rattle.fields.proofs.ListLaws.{all-weaker, all-take}
 
 -- the bytes of a number against others, by the two bounds of those
 compare-bytes : (k : ℕ) (xs ys : List ℕ) → length xs ≤ k → length ys ≡ k → list_all is_byte xs ≡ true → list_all is_byte ys ≡ true
@@ -47,18 +48,7 @@ abbrev is_some_byte : ℕ → Bool
 is_some_byte byte = not (byte == 0)
 
 some-bytes : (xs : List ℕ) → list_all is_interface_byte xs ≡ true → list_all is_some_byte xs ≡ true
-some-bytes [] all = refl
-some-bytes (x ∷ xs) all =
-    let (first, others) = and_parts (is_interface_byte x) (list_all is_interface_byte xs) all in
-    let unquoted = (and_parts (nat_le 33 x && nat_le x 126 && not (x == 47)) (not (x == 34)) first).0 in
-    let sized = (and_parts (nat_le 33 x && nat_le x 126) (not (x == 47)) unquoted).0 in
-    let low = leb-true 33 x (and_parts (nat_le 33 x) (nat_le x 126) sized).0 in
-    and_from _ _ (ap not (ne_eqb x 0 (λ e. omega arith))) (some-bytes xs others)
-
-take-some : (n : ℕ) (xs : List ℕ) → list_all is_some_byte xs ≡ true → list_all is_some_byte (take n xs) ≡ true
-take-some zero xs all = refl
-take-some (suc n) [] all = refl
-take-some (suc n) (x ∷ xs) all = let (first, others) = and_parts (is_some_byte x) (list_all is_some_byte xs) all in and_from _ _ first (take-some n xs others)
+some-bytes xs all = all-weaker is_interface_byte is_some_byte xs (λ x is. let (low, high) = interface-byte x is in ap not (ne_eqb x 0 (λ e. omega arith))) all
 
 differ : (x y : ℕ) (rest : Bool) → (x ≡ y → ⊥) → (eqb x y && rest) ≡ false
 differ x y rest apart = ap (λ t. t && rest) (ne_eqb x y apart)
@@ -110,7 +100,7 @@ interface_holds-name pattern reads name is =
   where
     go : (t : Bool) → length pattern ≤ 15 → length name ≤ 15 → length name ≤ 16 → list_all is_some_byte pattern ≡ true → list_all is_some_byte name ≡ true
         → starts_with nat_eq (filled 0 name) (cond t (take (length pattern - 1) pattern) (filled 0 pattern)) ≡ cond t (starts_with nat_eq name (take (length pattern - 1) pattern)) (bytes_eq pattern name)
-    go true few short fits whole some = begins (take (length pattern - 1) pattern) name (16 - length name) (take-some (length pattern - 1) pattern whole)
+    go true few short fits whole some = begins (take (length pattern - 1) pattern) name (16 - length name) (all-take is_some_byte (length pattern - 1) pattern whole)
     go false few short fits whole some =
         let room : length pattern ≤ 16 = omega arith in
         let all : length (filled 0 name) ≤ length (filled 0 pattern) = omega (arith, length-filled 0 name fits, length-filled 0 pattern room) in

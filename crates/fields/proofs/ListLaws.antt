@@ -1,8 +1,8 @@
 -- Tests over lists.
-use Rattle.std.proofs.Common.{◌≡◌, Bool, true, false, cond, not, ◌&&◌, List, [], ◌∷◌, None, Some, refl, ap, subst, ◌∙◌}
+use Rattle.std.proofs.Common.{◌≡◌, ℕ, zero, suc, Bool, true, false, cond, not, ◌&&◌, List, [], ◌∷◌, take, None, Some, refl, ap, subst, ◌∙◌}
 use Rattle.std.specs.Prelude.{find}
 use Rattle.std.specs.List.{list_all}
-use Rattle.std.proofs.lemmas.Bool.{and_parts, not-true}
+use Rattle.std.proofs.lemmas.Bool.{and_parts, and_from, not-true}
 
 -- what is found passes the test, and what all pass
 pub find-passes : {X : Type 0} (test pass : X → Bool) (xs : List X) (x : X) → find test xs ≡ Some x → list_all pass xs ≡ true → (test x ≡ true) × (pass x ≡ true)
@@ -14,6 +14,17 @@ find-passes {X = X} test pass (y ∷ ys) x e all =
     go : (t : Bool) → test y ≡ t → cond t (Some y) (find test ys) ≡ Some x → pass y ≡ true → (find test ys ≡ Some x → (test x ≡ true) × (pass x ≡ true)) → (test x ≡ true) × (pass x ≡ true)
     go true here found passes rest = let same : y ≡ x = cc in subst (λ (z : X). (test z ≡ true) × (pass z ≡ true)) same (here, passes)
     go false here found passes rest = rest found
+
+all-true : {X : Type 0} (xs : List X) → list_all (λ x. true) xs ≡ true
+all-true [] = refl
+all-true (x ∷ xs) = all-true xs
+
+-- each of the two alone
+pub find-is : {X : Type 0} (test : X → Bool) (xs : List X) (x : X) → find test xs ≡ Some x → test x ≡ true
+find-is test xs x e = (find-passes test (λ y. true) xs x e (all-true xs)).0
+
+pub find-among : {X : Type 0} (test pass : X → Bool) (xs : List X) (x : X) → list_all pass xs ≡ true → find test xs ≡ Some x → pass x ≡ true
+find-among test pass xs x all e = (find-passes test pass xs x e all).1
 
 -- nothing is found where nothing passes
 pub find-none : {X : Type 0} (test : X → Bool) (xs : List X) → list_all (λ x. not (test x)) xs ≡ true → find test xs ≡ None
@@ -28,3 +39,9 @@ all-weaker p q [] weaker all = refl
 all-weaker p q (x ∷ xs) weaker all =
     let (first, others) = and_parts (p x) (list_all p xs) all in
     ap (λ t. t && list_all q xs) (weaker x first) ∙ all-weaker p q xs weaker others
+
+-- what all pass all of the first pass
+pub all-take : {X : Type 0} (p : X → Bool) (n : ℕ) (xs : List X) → list_all p xs ≡ true → list_all p (take n xs) ≡ true
+all-take p zero xs all = refl
+all-take p (suc n) [] all = refl
+all-take p (suc n) (x ∷ xs) all = let (first, others) = and_parts (p x) (list_all p xs) all in and_from _ _ first (all-take p n xs others)

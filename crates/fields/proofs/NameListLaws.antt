@@ -1,9 +1,9 @@
 -- Lists of names are read name by name, and their text is made of the names.
 use Rattle.std.proofs.Common.{◌≡◌, ◌==◌, ℕ, Bool, true, false, cond, List, [], ◌∷◌, Option, None, Some, refl, ap, sym, subst, ◌∙◌, map, length, not, ◌^◌, ◌<◌, arith}
-use Rattle.std.specs.Prelude.{option_map, find, nat_lt}
+use Rattle.std.specs.Prelude.{option_map, nat_lt}
 use Rattle.std.specs.Int.RustNames.{bit_or}
 use Rattle.std.specs.Int.Bits.{or_zero_r}
-use Rattle.std.specs.List.{onto_first, slice_split, list_all}
+use Rattle.std.specs.List.{list_all}
 use Rattle.std.specs.Str.{bytes_eq, str_eq_ignore_ascii_case}
 use Rattle.std.proofs.lemmas.Bool.{and_parts, not-true, ltb-true}
 use Rattle.std.proofs.lemmas.Nat.{or_lt, le_or_l}
@@ -14,17 +14,9 @@ use Rattle.fields.specs.Chains.{◌>>=◌}
 use Rattle.fields.specs.Cut.{cut_at}
 use Rattle.fields.specs.NameList.{row_named, number_named, union, set_listed}
 use Rattle.fields.specs.NamedFlags.{all_have_names}
-use Rattle.fields.proofs.CutLaws.{step_before, same_some}
+use Rattle.fields.proofs.CutLaws.{step_before, same_some, parted, split, split-cut}
+use Rattle.fields.proofs.ListLaws.{find-is, find-among}
 use Rattle.fields.proofs.UnionLaws.{or_assoc}
-
--- what is found passes the test
-pub find-passes : {X : Type 0} (test : X → Bool) (xs : List X) (x : X) → find test xs ≡ Some x → test x ≡ true
-find-passes test [] x e = absurd (cc)
-find-passes {X = X} test (y ∷ ys) x e = go (test y) refl e (λ found. find-passes test ys x found)
-  where
-    go : (t : Bool) → test y ≡ t → cond t (Some y) (find test ys) ≡ Some x → (find test ys ≡ Some x → test x ≡ true) → test x ≡ true
-    go true here found rest = ap test (sym (same_some y x found)) ∙ here
-    go false here found rest = rest found
 
 abbrev is_named : List ℕ → List ℕ × ℕ → Bool
 is_named text row = str_eq_ignore_ascii_case row.0 text
@@ -50,7 +42,7 @@ find_row-row_named (r ∷ rest) text row e =
     go : (t : Bool) → is_named text r ≡ t → cond t (Some r) (row_named rest text) ≡ Some row → (row_named rest text ≡ Some row → find_row rest row.0 ≡ Some row.1)
         → cond (bytes_eq r.0 row.0) (Some r.1) (find_row rest row.0) ≡ Some row.1
     go true on found rest' = here (same_some r row found)
-    go false off found rest' = further (bytes_eq r.0 row.0) refl off (find-passes (is_named text) rest row found) (rest' found)
+    go false off found rest' = further (bytes_eq r.0 row.0) refl off (find-is (is_named text) rest row found) (rest' found)
 
 -- what is found has a name
 length-row_named : (rows : List (List ℕ × ℕ)) (text : List ℕ) (row : List ℕ × ℕ) → all_have_names rows ≡ true → row_named rows text ≡ Some row → (length row.0 == 0) ≡ false
@@ -74,26 +66,6 @@ number_named-table rows text name all e = go (row_named rows text) refl e
         ap (find_name rows) (sym (same_some row.0 name h))
         ∙ ap (λ t. cond t None (find_row rows row.0)) (length-row_named rows text row all found)
         ∙ find_row-row_named rows text row found
-
--- the parts of a text, by its first comma
-abbrev split : List ℕ → List (List ℕ)
-split text = slice_split (λ byte. byte == 44) text
-
-abbrev parted : List ℕ → Option (List ℕ × List ℕ) → List (List ℕ)
-parted text None = text ∷ []
-parted text (Some p) = p.0 ∷ split p.1
-
-split-cut : (text : List ℕ) → split text ≡ parted text (cut_at 44 text)
-split-cut [] = refl
-split-cut (c ∷ cs) = go (c == 44) (split-cut cs)
-  where
-    onto : (o : Option (List ℕ × List ℕ)) → onto_first c (parted cs o) ≡ parted (c ∷ cs) (o >>= λ p. Some (c ∷ p.0, p.1))
-    onto None = refl
-    onto (Some p) = refl
-
-    go : (t : Bool) → split cs ≡ parted cs (cut_at 44 cs) → cond t ([] ∷ split cs) (onto_first c (split cs)) ≡ parted (c ∷ cs) (cond t (Some ([], cs)) (cut_at 44 cs >>= λ p. Some (c ∷ p.0, p.1)))
-    go true same = refl
-    go false same = ap (onto_first c) same ∙ onto (cut_at 44 cs)
 
 -- what a set and a list of names come to together
 abbrev pub joined : List (List ℕ × ℕ) → ℕ → List ℕ → Option ℕ
@@ -137,17 +109,6 @@ joined-start rows text = go (set_listed rows text)
     go : (o : Option ℕ) → option_map (bit_or 0) o ≡ o
     go None = refl
     go (Some n) = refl
-
--- what all rows pass, the one that is found passes
-pub find-among : {X : Type 0} (test pass : X → Bool) (xs : List X) (x : X) → list_all pass xs ≡ true → find test xs ≡ Some x → pass x ≡ true
-find-among test pass [] x all e = absurd (cc)
-find-among {X = X} test pass (y ∷ ys) x all e =
-    let (first, others) = and_parts (pass y) (list_all pass ys) all in
-    go (test y) e first (λ found. find-among test pass ys x others found)
-  where
-    go : (t : Bool) → cond t (Some y) (find test ys) ≡ Some x → pass y ≡ true → (find test ys ≡ Some x → pass x ≡ true) → pass x ≡ true
-    go true found passes rest = ap pass (sym (same_some y x found)) ∙ passes
-    go false found passes rest = rest found
 
 -- every row's set has bits below k alone
 abbrev pub rows_below : ℕ → List (List ℕ × ℕ) → Bool

@@ -1,7 +1,7 @@
 -- A list of ports is read item by item, and its text is read as the list.
 use Rattle.std.proofs.Common.{◌≡◌, ◌==◌, inl, inr, ℕ, ◌+◌, ◌-◌, ◌<◌, ◌≤◌, Bool, true, false, cond, not, List, [], ◌∷◌, ◌++◌, length, map, Option, None, Some, refl, ap, sym, subst, ◌∙◌, suc, arith, leb, get_or, drop, flat_map, append-nil, append_assoc}
 use Rattle.std.specs.Prelude.{decimal, sum_by, All, option_map}
-use Rattle.std.specs.List.{list_all, onto_first, slice_split}
+use Rattle.std.specs.List.{list_all}
 use Rattle.std.proofs.lemmas.Bool.{and_from, cases_lt, le-leb, lt-leb, leb-true}
 use Rattle.std.proofs.lemmas.List.Folds.{list_all-append}
 use Rattle.std.proofs.lemmas.List.Elements.{All-nil, All-cons}
@@ -11,30 +11,10 @@ use Rattle.fields.specs.Cut.{cut_at}
 use Rattle.fields.specs.PortRange.{Ports, ArePorts, ports_between, port_of, ports_text}
 use Rattle.fields.specs.PortList.{item_parted, port_item_of, port_count, all_read, counted, port_items_of, port_list_of, IsPortList, port_list_text}
 use Rattle.fields.specs.PortItems.{item_within}
-use Rattle.fields.proofs.CutLaws.{cut_at-at, cut_at-none, step_before, same_some}
+use Rattle.fields.proofs.CutLaws.{cut_at-at, cut_at-none, step_before, same_some, parted, split, split-cut}
 use Rattle.fields.proofs.NumberLaws.{number_to_sound}
 use Rattle.fields.proofs.DecimalLaws.{decimal-differs}
-use Rattle.fields.proofs.PortRangeLaws.{ports_between-some, port_of-decimal, cut-ports_text}
-
-abbrev split : List ℕ → List (List ℕ)
-split text = slice_split (λ byte. byte == 44) text
-
--- the parts of a text, by its first comma
-abbrev parted : List ℕ → Option (List ℕ × List ℕ) → List (List ℕ)
-parted text None = text ∷ []
-parted text (Some p) = p.0 ∷ split p.1
-
-split-cut : (text : List ℕ) → split text ≡ parted text (cut_at 44 text)
-split-cut [] = refl
-split-cut (c ∷ cs) = go (c == 44) (split-cut cs)
-  where
-    onto : (o : Option (List ℕ × List ℕ)) → onto_first c (parted cs o) ≡ parted (c ∷ cs) (o >>= λ p. Some (c ∷ p.0, p.1))
-    onto None = refl
-    onto (Some p) = refl
-
-    go : (t : Bool) → split cs ≡ parted cs (cut_at 44 cs) → cond t ([] ∷ split cs) (onto_first c (split cs)) ≡ parted (c ∷ cs) (cond t (Some ([], cs)) (cut_at 44 cs >>= λ p. Some (c ∷ p.0, p.1)))
-    go true same = refl
-    go false same = ap (onto_first c) same ∙ onto (cut_at 44 cs)
+use Rattle.fields.proofs.PortRangeLaws.{port_of-decimal, cut-ports_text, one-read, both-read}
 
 -- one item, where there is room for it
 abbrev fitted : ℕ → Ports → Option Ports
@@ -148,21 +128,12 @@ port_list_of-is text items e =
 item-text : (item : Ports) → ArePorts item → port_item_of (ports_text item) ≡ Some item
 unfolding port_item_of
 item-text item are = elim (cut-ports_text item are) [
-  | inl (same, text, none) ↦
-      ap (item_parted (ports_text item)) none ∙ ap (λ bytes. port_of bytes >>= λ port. ports_between port port) text
-      ∙ ap (λ o. o >>= λ port. ports_between port port) (port_of-decimal item.from (omega (arith, ordered, within)))
-      ∙ ports_between-some item.from item.from (omega arith) ∙ ap (λ n. Some (record { from = item.from; to = n })) same
+  | inl (same, text, none) ↦ ap (item_parted (ports_text item)) none ∙ ap (λ bytes. port_of bytes >>= λ port. ports_between port port) text ∙ one-read item are same
   | inr (text, two) ↦
-      ap (item_parted (ports_text item)) two
-      ∙ ap (λ o. o >>= λ from. port_of (decimal item.to) >>= λ to. ports_between from to) (port_of-decimal item.from (omega (arith, ordered, within)))
-      ∙ ap (λ o. o >>= λ to. ports_between item.from to) (port_of-decimal item.to within) ∙ ports_between-some item.from item.to ordered
+      let ordered = are.ordered in
+      let within = are.within in
+      ap (item_parted (ports_text item)) two ∙ both-read port_of port_of item are (port_of-decimal item.from (omega arith)) (port_of-decimal item.to within)
 ]
-  where
-    ordered : item.from ≤ item.to
-    ordered = are.ordered
-
-    within : item.to ≤ 65535
-    within = are.within
 
 -- and has no comma
 item-comma : (item : Ports) → ArePorts item → list_all (λ c. not (c == 44)) (ports_text item) ≡ true

@@ -1,5 +1,5 @@
 -- The text of a range of ports is read as the range.
-use Rattle.std.proofs.Common.{◌≡◌, ◌==◌, ◌⊎◌, inl, inr, ℕ, ◌<◌, ◌≤◌, Bool, true, false, cond, List, [], ◌∷◌, ◌++◌, length, None, Some, refl, ap, ◌∙◌, arith}
+use Rattle.std.proofs.Common.{◌≡◌, ◌==◌, ◌⊎◌, inl, inr, ℕ, ◌<◌, ◌≤◌, Bool, true, false, cond, List, [], ◌∷◌, ◌++◌, length, Option, None, Some, refl, ap, ◌∙◌, arith}
 use Rattle.std.specs.Prelude.{decimal}
 use Rattle.std.proofs.lemmas.Bool.{le-leb, eqb-true}
 use Rattle.std.proofs.lemmas.Fmt.{decimal_nonempty}
@@ -44,17 +44,27 @@ cut-ports_text ports are = go (ports.from == ports.to) refl
     go true e = inl (eqb-true ports.from ports.to e, refl, cut_at-none 58 (decimal ports.from) (decimal-differs 58 ports.from refl (omega (arith, ordered, within))))
     go false e = inr (refl, cut_at-at 58 (decimal ports.from) (decimal ports.to) (decimal-differs 58 ports.from refl (omega (arith, ordered, within))))
 
+-- the ports of one number, and those of two, each read in its own way
+pub one-read : (ports : Ports) → ArePorts ports → ports.from ≡ ports.to → (port_of (decimal ports.from) >>= λ port. ports_between port port) ≡ Some ports
+one-read ports are same =
+    let ordered = are.ordered in
+    let within = are.within in
+    ap (λ o. o >>= λ port. ports_between port port) (port_of-decimal ports.from (omega arith)) ∙ ports_between-some ports.from ports.from (omega arith)
+    ∙ ap (λ n. Some (record { from = ports.from; to = n })) same
+
+pub both-read : (first last : List ℕ → Option ℕ) (ports : Ports) → ArePorts ports → first (decimal ports.from) ≡ Some ports.from → last (decimal ports.to) ≡ Some ports.to
+    → (first (decimal ports.from) >>= λ from. last (decimal ports.to) >>= λ to. ports_between from to) ≡ Some ports
+both-read first last ports are from-is to-is =
+    ap (λ o. o >>= λ from. last (decimal ports.to) >>= λ to. ports_between from to) from-is ∙ ap (λ o. o >>= λ to. ports_between ports.from to) to-is
+    ∙ ports_between-some ports.from ports.to are.ordered
+
 pub port_range_of-ports_text : (ports : Ports) → ArePorts ports → port_range_of (ports_text ports) ≡ Some ports
 unfolding port_range_of
 port_range_of-ports_text ports are = elim (cut-ports_text ports are) [
-  | inl (same, text, none) ↦
-      ap (range_parted (ports_text ports)) none ∙ ap (λ bytes. port_of bytes >>= λ port. ports_between port port) text
-      ∙ ap (λ o. o >>= λ port. ports_between port port) (port_of-decimal ports.from (omega (arith, ordered, within)))
-      ∙ ports_between-some ports.from ports.from (omega arith) ∙ ap (λ n. Some (record { from = ports.from; to = n })) same
+  | inl (same, text, none) ↦ ap (range_parted (ports_text ports)) none ∙ ap (λ bytes. port_of bytes >>= λ port. ports_between port port) text ∙ one-read ports are same
   | inr (text, two) ↦
       ap (range_parted (ports_text ports)) two
-      ∙ ap (λ o. o >>= λ from. port_or 65535 (decimal ports.to) >>= λ to. ports_between from to) (port_or-decimal 0 ports.from (omega (arith, ordered, within)))
-      ∙ ap (λ o. o >>= λ to. ports_between ports.from to) (port_or-decimal 65535 ports.to within) ∙ ports_between-some ports.from ports.to ordered
+      ∙ both-read (port_or 0) (port_or 65535) ports are (port_or-decimal 0 ports.from (omega (arith, ordered, within))) (port_or-decimal 65535 ports.to within)
 ]
   where
     ordered : ports.from ≤ ports.to

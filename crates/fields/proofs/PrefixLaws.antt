@@ -1,12 +1,10 @@
 -- The text of an address and of a prefix gives it back.
-use Rattle.std.proofs.Common.{◌≡◌, ◌==◌, ℕ, ◌+◌, ◌-◌, ◌*◌, ◌/◌, ◌%◌, ◌^◌, ◌<◌, ◌≤◌, Bool, true, false, cond, not, List, [], ◌∷◌, ◌++◌, Option, None, Some, refl, ap, sym, subst, ◌∙◌, arith, ◌⊎◌, inl, inr, eq-eqb, ne_eqb}
+use Rattle.std.proofs.Common.{◌≡◌, ◌==◌, ℕ, ◌+◌, ◌-◌, ◌*◌, ◌/◌, ◌%◌, ◌^◌, ◌<◌, ◌≤◌, Bool, true, false, cond, not, List, ◌∷◌, ◌++◌, Option, None, Some, refl, ap, sym, subst, ◌∙◌, arith, ◌⊎◌, inl, inr, eq-eqb}
 use Rattle.std.specs.Prelude.{decimal, count_ones, IfSome}
 use Rattle.std.specs.Char.{is_ascii_digit}
 use Rattle.std.specs.Int.Count.{ones-ones, ones-le}
 use Rattle.std.specs.List.{list_all}
-use Rattle.std.specs.Str.{all_ascii_digits}
-use Rattle.std.proofs.lemmas.Bool.{and_parts, and_from, eqb-true}
-use Rattle.std.proofs.lemmas.Fmt.{digits_decimal}
+use Rattle.std.proofs.lemmas.Bool.{and_from, eqb-true}
 use Rattle.std.proofs.lemmas.List.Folds.{list_all-append}
 use Rattle.std.proofs.lemmas.Nat.{ones_cat, ones_le_self}
 use Rattle.std.proofs.Math.Pow.{high_ones, pow_pos}
@@ -15,17 +13,8 @@ use Rattle.fields.specs.Cut.{cut_at}
 use Rattle.fields.specs.Number.{number_to}
 use Rattle.fields.specs.Prefix.{Network, IsNetwork, IsAddressText, IsPrefixText, alone, with_length, with_mask, netmask, mask_length, network, address_of, length_from, length_of, prefix_parted, prefix_of, address_text, prefix_text}
 use Rattle.fields.proofs.CutLaws.{cut_at-at, cut_at-none, cut_at_only, step_before, same_some}
-use Rattle.fields.proofs.NumberLaws.{numeral, number_to-decimal, number_to_sound}
-
--- a number's text has digits alone
-digits-differ : (b : ℕ) → is_ascii_digit b ≡ false → (xs : List ℕ) → all_ascii_digits xs ≡ true → list_all (λ x. not (x == b)) xs ≡ true
-digits-differ b off [] all = refl
-digits-differ b off (x ∷ xs) all =
-    let (first, others) = and_parts (is_ascii_digit x) (all_ascii_digits xs) all in
-    and_from (not (x == b)) (list_all (λ y. not (y == b)) xs) (ap not (ne_eqb x b (λ e. let on = subst (λ n. is_ascii_digit n ≡ true) e first in cc))) (digits-differ b off xs others)
-
-pub decimal-differs : (b n : ℕ) → is_ascii_digit b ≡ false → n < 2 ^ 64 → list_all (λ x. not (x == b)) (decimal n) ≡ true
-decimal-differs b n off small = digits-differ b off (decimal n) (digits_decimal numeral n small)
+use Rattle.fields.proofs.DecimalLaws.{decimal-differs}
+use Rattle.fields.proofs.NumberLaws.{number_to-decimal, number_to_sound}
 
 -- four numbers, or none
 abbrev sum_of : Option ℕ → Option ℕ → Option ℕ → Option ℕ → Option ℕ
@@ -54,14 +43,17 @@ address_of-address_text a small =
     ∙ ap (λ o. sum_of (Some w) (Some x) o (number_to 255 (decimal z))) (number_to-decimal 255 y (omega arith) (omega arith))
     ∙ ap (λ o. sum_of (Some w) (Some x) (Some y) o) (number_to-decimal 255 z (omega arith) (omega arith)) ∙ ap (λ n. Some n) whole
 
--- an address with its length
-no_slash : (a : ℕ) → a < 2 ^ 32 → list_all (λ c. not (c == 47)) (address_text a) ≡ true
-no_slash a small =
-    joined (a / 16777216) _ (omega arith) (joined (a / 65536 % 256) _ (omega arith) (joined (a / 256 % 256) _ (omega arith) (decimal-differs 47 (a % 256) refl (omega arith))))
+-- an address has digits and dots alone
+pub address_text-differs : (b a : ℕ) → is_ascii_digit b ≡ false → (46 == b) ≡ false → a < 2 ^ 32 → list_all (λ c. not (c == b)) (address_text a) ≡ true
+address_text-differs b a off no_dot small =
+    joined (a / 16777216) _ (omega arith) (joined (a / 65536 % 256) _ (omega arith) (joined (a / 256 % 256) _ (omega arith) (decimal-differs b (a % 256) off (omega arith))))
   where
-    joined : (n : ℕ) (ys : List ℕ) → n < 2 ^ 64 → list_all (λ c. not (c == 47)) ys ≡ true → list_all (λ c. not (c == 47)) (decimal n ++ (46 ∷ ys)) ≡ true
+    joined : (n : ℕ) (ys : List ℕ) → n < 2 ^ 64 → list_all (λ c. not (c == b)) ys ≡ true → list_all (λ c. not (c == b)) (decimal n ++ (46 ∷ ys)) ≡ true
     joined n ys h rest =
-        list_all-append (λ c. not (c == 47)) (decimal n) (46 ∷ ys) ∙ and_from (list_all (λ c. not (c == 47)) (decimal n)) (list_all (λ c. not (c == 47)) (46 ∷ ys)) (decimal-differs 47 n refl h) rest
+        list_all-append (λ c. not (c == b)) (decimal n) (46 ∷ ys) ∙ and_from _ _ (decimal-differs b n off h) (and_from (not (46 == b)) (list_all (λ c. not (c == b)) ys) (ap not no_dot) rest)
+
+no_slash : (a : ℕ) → a < 2 ^ 32 → list_all (λ c. not (c == 47)) (address_text a) ≡ true
+no_slash a small = address_text-differs 47 a refl refl small
 
 -- what is read as an address is an address's text
 pub address_of_sound : (text : List ℕ) (a : ℕ) → address_of text ≡ Some a → IsAddressText text a

@@ -1,10 +1,12 @@
 -- What is printed is read back word by word.
-use Rattle.std.proofs.Common.{◌≡◌, ◌≢◌, ◌==◌, inl, inr, ℕ, suc, ◌<◌, Bool, true, false, cond, not, ◌&&◌, ◌||◌, List, [], ◌∷◌, length, map, flat_map, Some, refl, sym, ap, subst, ◌∙◌, arith, append-nil, ne_eqb, eq-eqb, ltb}
+use Rattle.std.proofs.Common.{◌≡◌, ◌≢◌, ◌==◌, inl, inr, ℕ, suc, Bool, true, false, cond, not, ◌&&◌, ◌||◌, List, [], ◌∷◌, length, map, flat_map, Some, refl, sym, ap, subst, ◌∙◌, arith, append-nil, ne_eqb, eq-eqb, ltb}
 use Rattle.std.specs.List.{list_all}
-use Rattle.std.proofs.lemmas.Bool.{and_parts, and_from, or_parts, ltb-true}
+use Rattle.std.proofs.lemmas.Bool.{and_parts, or_parts, ltb-true}
 use Rattle.fields.specs.Words.{is_bare, IsQuotedByte, IsQuotedText, IsSpelling, EndsWord, AreWords, words_of}
 use Rattle.fields.specs.Text.{is_plain_byte, is_plain, escaped, in_quotes, quoted}
 use Rattle.fields.specs.Printed.{Shown, spelling, spaced_all, IsBareWord, AreSpelled, LinesReadBack}
+use Rattle.fields.proofs.BareLaws.{some-bytes}
+use Rattle.fields.proofs.ListLaws.{all-weaker}
 use Rattle.fields.proofs.WordLaws.{words_of-AreWords}
 
 differs : (byte code : ℕ) → (byte == code) ≡ false → byte ≢ code
@@ -34,12 +36,7 @@ plain-byte byte plain =
     other code off = ne_eqb byte code (λ e. let on = subst (λ n. is_plain_byte n ≡ true) e plain in cc)
 
 plain-bytes : (text : List ℕ) → list_all is_plain_byte text ≡ true → list_all is_bare text ≡ true
-plain-bytes [] plain = refl
-plain-bytes (byte ∷ text) plain = let (first, others) = and_parts (is_plain_byte byte) (list_all is_plain_byte text) plain in and_from _ _ (plain-byte byte first) (plain-bytes text others)
-
-some-bytes : (text : List ℕ) → 0 < length text → text ≢ []
-some-bytes [] some e = absurd (omega arith)
-some-bytes (byte ∷ text) some e = cc
+plain-bytes text plain = all-weaker is_plain_byte is_bare text plain-byte plain
 
 -- what is printed of a text spells it
 pub quoted-spells : (text : List ℕ) → IsSpelling (quoted text) text

@@ -7,11 +7,11 @@ use Rattle.fields.specs.RejectType.{reject_text, reject_of}
 use Rattle.fields.specs.declared.reject.RejectType.{RejectType}
 use Rattle.fields.specs.declared.reject.RejectType.TheVariants.{NetUnreachable, HostUnreachable, PortUnreachable, ProtoUnreachable, NetProhibited, HostProhibited, AdminProhibited, TcpReset}
 use Rattle.fields.specs.declared.reject.TheConstants.RejectType.{ALL}
-use Rattle.fields.proofs.NameListLaws.{find-passes}
+use Rattle.fields.proofs.ListLaws.{find-is}
 
 pub named : (text : List ℕ) (r : Option RejectType) → r ≡ reject_of text → IfSome r (λ answer. text ≡ reject_text answer)
 named text None e = tt
-named text (Some answer) e = sym ((bytes_eq-Decides (reject_text answer) text).0 (find-passes (λ a. bytes_eq (reject_text a) text) ALL answer (sym e)))
+named text (Some answer) e = sym ((bytes_eq-Decides (reject_text answer) text).0 (find-is (λ a. bytes_eq (reject_text a) text) ALL answer (sym e)))
 
 reads_back : (answer : RejectType) → reject_of (reject_text answer) ≡ Some answer
 reads_back NetUnreachable = refl

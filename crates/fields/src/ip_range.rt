@@ -1,13 +1,11 @@
 // Ranges of IPv4 addresses.
 ghost use Rattle.std.specs.Prelude.{◌≡◌, Some, IfSome, false};
 ghost use Rattle.fields.specs.IpRange.{AreEnds, ip_range_of, ip_range_text, range_has};
-ghost use Rattle.fields.specs.Prefix.{address_text};
 ghost use Rattle.fields.specs.Tap.{has_failed, Puts};
 
 use crate::cut::cut_at;
-use crate::prefix::read_address;
+use crate::prefix::{put_address, read_address};
 use crate::tap::{Tap, WriteFailed};
-use itoa::Buffer;
 use std::io::Write;
 use std::marker::Model;
 
@@ -29,26 +27,6 @@ impl Model for IpRange {
     ghost invariant = { λ range. AreEnds (record { from = range.from; to = range.to }) };
 
     ghost inverse = { λ ends. record { from = ends.from; to = ends.to } };
-}
-
-// Writes the dotted text of an address.
-fn put_address<W: Write>(address: u32, output: &mut Tap<W>) -> Result<(), WriteFailed>
-    requires { has_failed output.old ≡ false }
-    ensures { Puts W.contents output.old output.new result (address_text address) }
-{
-    let mut first = Buffer::new();
-    let mut second = Buffer::new();
-    let mut third = Buffer::new();
-    let mut fourth = Buffer::new();
-    output.put_all(&[
-        first.format(address / 16_777_216).as_bytes(),
-        b".",
-        second.format(address / 65_536 % 256).as_bytes(),
-        b".",
-        third.format(address / 256 % 256).as_bytes(),
-        b".",
-        fourth.format(address % 256).as_bytes(),
-    ])
 }
 
 impl IpRange {

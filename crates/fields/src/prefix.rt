@@ -185,28 +185,35 @@ impl Prefix {
     }
 }
 
+// Writes the dotted text of an address.
+pub(crate) fn put_address<W: Write>(address: u32, output: &mut Tap<W>) -> Result<(), WriteFailed>
+    requires { has_failed output.old ≡ false }
+    ensures { Puts W.contents output.old output.new result (address_text address) }
+{
+    let mut first = Buffer::new();
+    let mut second = Buffer::new();
+    let mut third = Buffer::new();
+    let mut fourth = Buffer::new();
+    output.put_all(&[
+        first.format(address / 16_777_216).as_bytes(),
+        b".",
+        second.format(address / 65_536 % 256).as_bytes(),
+        b".",
+        third.format(address / 256 % 256).as_bytes(),
+        b".",
+        fourth.format(address % 256).as_bytes(),
+    ])
+}
+
 impl Prefix {
     /// Writes `a.b.c.d/n`, or fails. It takes no memory.
     pub fn put<W: Write>(&self, output: &mut Tap<W>) -> Result<(), WriteFailed>
         requires { has_failed output.old ≡ false }
         ensures { Puts W.contents output.old output.new result (prefix_text self.now) }
     {
-        let mut first = Buffer::new();
-        let mut second = Buffer::new();
-        let mut third = Buffer::new();
-        let mut fourth = Buffer::new();
         let mut length = Buffer::new();
-        let a = self.address();
-        output.put_all(&[
-            first.format(a / 16_777_216).as_bytes(),
-            b".",
-            second.format(a / 65_536 % 256).as_bytes(),
-            b".",
-            third.format(a / 256 % 256).as_bytes(),
-            b".",
-            fourth.format(a % 256).as_bytes(),
-            b"/",
-            length.format(self.length()).as_bytes(),
-        ])
+        put_address(self.address(), output)?;
+        output.put(b"/")?;
+        output.put(length.format(self.length()).as_bytes())
     }
 }

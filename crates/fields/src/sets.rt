@@ -74,8 +74,7 @@ impl PortList {
         ensures top { IfOk result (λ set. set.top ≡ 65535) }
         ensures members { IfOk result (λ set. (x : ℕ) → x ≤ 65535 → has set.intervals x ≡ list_has_port self.now x) }
     {
-        // None at first.
-        let mut set = Spans::one(alloc, u16::MAX.into(), 1, 0)?;
+        let mut set = Spans::none(alloc, u16::MAX.into());
         for item in self.items() {
             let ports = item.allowed(alloc)?;
             set = set.join(alloc, &ports)?;

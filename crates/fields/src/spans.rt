@@ -1,6 +1,6 @@
 //! Sets of numbers up to a top value.
 
-ghost use Rattle.std.specs.Prelude.{◌≡◌, ◌≤◌, ◌<◌, ◌&&◌, ◌||◌, ℕ, nat_le, not, IfOk};
+ghost use Rattle.std.specs.Prelude.{◌≡◌, ◌≤◌, ◌<◌, ◌&&◌, ◌||◌, ℕ, nat_le, not, [], IfOk};
 ghost use Rattle.fields.specs.Spans.{has, AreSpansFrom, CanonicalIsUnique};
 
 use std::alloc::{AllocError, Global};
@@ -34,6 +34,16 @@ impl Model for Spans {
 }
 
 impl Spans {
+    /// No number, as a set up to `top`. It takes no memory.
+    pub fn none(alloc: Global, top: u128) -> Spans
+        ensures { result ≡ record { top = top; intervals = [] } }
+    {
+        Spans {
+            top,
+            intervals: Vec::new(alloc),
+        }
+    }
+
     /// All numbers from 0 to `top`.
     pub fn whole(alloc: Global, top: u128) -> Result<Spans, AllocError>
         ensures top { IfOk result (λ set. set.top ≡ top) }
