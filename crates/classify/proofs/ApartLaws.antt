@@ -10,7 +10,7 @@ use Rattle.classify.specs.Edits.{with_answer, EachRow}
 use Rattle.classify.proofs.StepLaws.{EachPiece, before_all, starts_above, starts_within, row_changes, piece_at_each}
 use Rattle.classify.proofs.EditLaws.{rows_say, rows_rising, same_over_piece}
 use Rattle.classify.proofs.ShownLaws.{row_in_first}
-use Rattle.classify.proofs.EndLaws.{out_below, out_above, in_it, none_below}
+use Rattle.fields.proofs.SpanLaws.{out_below, out_above, in_it, none_below}
 
 abbrev Cut : Type 0
 Cut = ℕ × List Bool
@@ -77,7 +77,7 @@ apart_after top spans (d ∷ ps) now r n s y st =
 
 -- ---- a line whose row changes wherever a piece starts has no equal neighbours
 
-differ_from : (top : ℕ) (d : Cut) (ps : List Cut) → IsRisingFrom top d.0 ps → ((y : ℕ) → StartsAt (suc y) ps → (piece_at d ps y).1 ≢ (piece_at d ps (suc y)).1) → DifferFrom d.1 ps
+pub differ_from : (top : ℕ) (d : Cut) (ps : List Cut) → IsRisingFrom top d.0 ps → ((y : ℕ) → StartsAt (suc y) ps → (piece_at d ps y).1 ≢ (piece_at d ps (suc y)).1) → DifferFrom d.1 ps
 differ_from top d [] r changes = tt
 differ_from top d (p ∷ ps) r changes =
     let y : ℕ = p.0 - 1 in

@@ -1,26 +1,27 @@
 -- The lines of all fields are the classifier of the boxes.
-use Rattle.std.proofs.Common.{◌≡◌, ℕ, zero, suc, ◌+◌, ◌-◌, ◌<◌, ◌≤◌, Bool, true, false, cond, List, [], ◌∷◌, ◌++◌, length, take, drop, get_or, refl, sym, ◌∙◌, ap, arith, subst, map, lit<}
+use Rattle.std.proofs.Common.{◌≡◌, ℕ, zero, suc, ◌+◌, ◌-◌, ◌<◌, ◌≤◌, Bool, true, false, cond, List, [], ◌∷◌, ◌++◌, length, take, drop, get_or, refl, sym, ◌∙◌, ap, arith, subst, map}
 use Rattle.std.specs.List.{insert, remove, range_with_len}
-use Rattle.std.specs.Prelude.{slice_index}
+use Rattle.std.specs.Prelude.{slice_index, Result, Ok, Err, OnErr}
 use Rattle.std.proofs.Math.Dec.{leb}
-use Rattle.std.proofs.lemmas.List.{map-append, take-map, drop-map, get_or_default, length-map, get_or-map, map-set, length-set, set-get_or}
+use Rattle.std.proofs.lemmas.List.{map-append, take-map, drop-map, get_or_default, get_or-map, map-set, length-set}
 use Rattle.std.proofs.Math.ListN.{set}
 use Rattle.std.proofs.lemmas.List.Edits.{length-insert, length-remove}
 use Rattle.fields.specs.declared.field.TheConstants.{FIELDS}
 use Rattle.fields.specs.declared.field.TheConstants.Field.{ALL}
 use Rattle.fields.specs.declared.field.Field.{Field}
-use Rattle.fields.specs.declared.field.Field.TheVariants.{Source}
 use Rattle.fields.specs.declared.spans.Interval.{Interval}
 use Rattle.fields.specs.Field.{index, top}
 use Rattle.fields.specs.Spans.{SpanSet, has}
-use Rattle.rules.specs.Boxed.{IsBox}
+use Rattle.rules.specs.Boxed.{IsBox, set_on}
+use Rattle.rules.proofs.BoxLaws.{index-lt, box_long}
+use Rattle.rules.proofs.BoxLaws as box_laws
 use Rattle.classify.specs.declared.line.Line.{Line}
 use Rattle.classify.specs.Line.{row_at, IsLineOf}
 use Rattle.classify.specs.Cuts.{CutsStart}
 use Rattle.classify.specs.Edits.{IsSound, EachRow}
 use Rattle.classify.specs.Steps.{piece_at, row_in}
 use Rattle.classify.specs.Fields.{shown_line, tops, IsKept, most_boxes, LosesBox}
-use Rattle.classify.specs.Classifier.{allows, set_on, line_on, IsClassifierOf, HasNoNewCut}
+use Rattle.classify.specs.Classifier.{allows, line_on, IsClassifierOf, HasNoNewCut}
 use Rattle.classify.proofs.ShownLaws.{row_in_first}
 use Rattle.classify.proofs.BoxLaws.{empty_line, empty_sound}
 use Rattle.classify.proofs.LineLaws.{AreSteps, line_from_steps, steps_from_line}
@@ -39,35 +40,18 @@ places_found (f ∷ fs) low e (suc k) lt =
 pub field_at : (k : ℕ) → k < FIELDS → (field : Field) × (index field ≡ k)
 field_at k lt = let r = places_found ALL 0 refl k lt in (r.0, omega (arith, r.1))
 
-pub index-lt : (field : Field) → index field < FIELDS
-index-lt Source = lit< tt
-index-lt _ = lit< tt
-
 pub top_at : (field : Field) → slice_index tops (index field) ≡ top field
 unfolding tops
-top_at Source = refl
-top_at _ = refl
+top_at field = box_laws.top_at field
 
 pub tops_at : (k : ℕ) (d : Field) → k < FIELDS → slice_index tops k ≡ top (get_or ALL k d)
 unfolding tops
 tops_at k d lt = get_or-map top ALL k d 0 lt
 
--- a set in the place of a field's is of the same box
-pub box_with : (spans : List SpanSet) (field : Field) (k : ℕ) (s : SpanSet) → IsBox spans → k ≡ index field → s.top ≡ top field → IsBox (set spans k s)
-unfolding tops
-box_with spans field k s h at same =
-    let e : top field ≡ get_or (map top ALL) (index field) 0 = sym (top_at field) in
-    map-set (λ (t : SpanSet). t.top) spans k s ∙ ap (λ (ts : List ℕ). set ts k s.top) h ∙ ap (λ j. set (map top ALL) j s.top) at ∙ ap (λ t. set (map top ALL) (index field) t) (same ∙ e) ∙ set-get_or (map top ALL) (index field) 0
-
 -- the sets of a box have the fields' tops
 pub box_tops : (spans : List SpanSet) → IsBox spans → (k : ℕ) (s : SpanSet) → k < FIELDS → (get_or spans k s).top ≡ slice_index tops k
 unfolding tops
-box_tops spans h k s lt =
-    let long : length spans ≡ FIELDS = sym (length-map spans (λ (t : SpanSet). t.top)) ∙ ap length h in
-    sym (get_or-map (λ (t : SpanSet). t.top) spans k s 0 (omega arith)) ∙ ap (λ (ts : List ℕ). get_or ts k 0) h
-
-pub box_long : (spans : List SpanSet) → IsBox spans → length spans ≡ FIELDS
-box_long spans h = sym (length-map spans (λ (t : SpanSet). t.top)) ∙ ap length h
+box_tops spans h k s lt = box_laws.box_tops spans h k s lt
 
 -- ---- boxes on one field are their sets
 
@@ -266,3 +250,8 @@ rows_long n d (p ∷ ps) x h hs =
 pub row_long : (top n : ℕ) (line : List (ℕ × List Bool)) (x : ℕ) → IsSound top n line → length (row_in line x) ≡ n
 row_long top n [] x h = absurd h.rising
 row_long top n (d ∷ ps) x h = ap length (row_in_first d ps x h.rising.0) ∙ rows_long n d ps x h.rows.0 h.rows.1
+
+-- what holds anyway holds after a refusal
+pub on_err_anyway : {T E : Type 0} (r : Result T E) {P : Type 0} → P → OnErr r P
+on_err_anyway (Ok x) h = tt
+on_err_anyway (Err e) h = h

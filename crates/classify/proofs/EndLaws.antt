@@ -1,36 +1,15 @@
 -- The ends of a set's intervals are where it begins and ends.
 use Rattle.fields.specs.declared.spans.Interval.{Interval}
-use Rattle.std.proofs.Common.{◌≡◌, ◌≢◌, inl, ℕ, zero, suc, ◌+◌, ◌<◌, ◌≤◌, ◌&&◌, ◌||◌, Bool, true, false, List, [], ◌∷◌, refl, sym, ◌∙◌, ap, arith, subst, All}
-use Rattle.std.proofs.Math.Dec.{leb}
-use Rattle.std.proofs.lemmas.Bool.{le-leb, lt-leb, true≢false, false≢true}
+use Rattle.std.proofs.Common.{◌≡◌, ◌≢◌, inl, ℕ, zero, suc, ◌+◌, ◌<◌, ◌≤◌, ◌||◌, Bool, true, false, List, [], ◌∷◌, refl, sym, ◌∙◌, ap, arith, subst, All}
+use Rattle.std.proofs.lemmas.Bool.{true≢false, false≢true}
 use Rattle.std.proofs.lemmas.List.Elements.{All-nil, All-cons}
 use Rattle.classify.specs.Steps.{StartsAt, IsRising}
-use Rattle.fields.specs.Spans.{has, in_span, AreSpansFrom}
+use Rattle.fields.specs.Spans.{has, AreSpansFrom}
 use Rattle.classify.specs.Cuts.{EndsStart}
+use Rattle.fields.proofs.SpanLaws.{out_below, out_above, in_it, none_below}
 
 abbrev Cut : Type 0
 Cut = ℕ × List Bool
-
-or-false : (b : Bool) → (b || false) ≡ b
-or-false true = refl
-or-false false = refl
-
-and-false : (b : Bool) → (b && false) ≡ false
-and-false true = refl
-and-false false = refl
-
-pub out_below : (s : Interval) (x : ℕ) → x < s.first → in_span x s ≡ false
-out_below s x lt = ap (λ b. b && leb x s.last) (lt-leb s.first x lt)
-
-pub out_above : (s : Interval) (x : ℕ) → s.last < x → in_span x s ≡ false
-out_above s x lt = ap (λ b. leb s.first x && b) (lt-leb x s.last lt) ∙ and-false (leb s.first x)
-
-pub in_it : (s : Interval) (x : ℕ) → s.first ≤ x → x ≤ s.last → in_span x s ≡ true
-in_it s x a b = ap (λ c. c && leb x s.last) (le-leb s.first x a) ∙ le-leb x s.last b
-
-pub none_below : (top low x : ℕ) (spans : List Interval) → AreSpansFrom top low spans → x < low → has spans x ≡ false
-none_below top low x [] h lt = refl
-none_below top low x (s ∷ ss) h lt = ap (λ b. b || has ss x) (out_below s x (omega (arith, h.0))) ∙ none_below top (s.last + 2) x ss h.3 (omega (arith, h.0, h.1))
 
 pub ends_from_cuts : (top low : ℕ) (line : List Cut) (spans : List Interval) → AreSpansFrom top low spans
     → ((x : ℕ) → low ≤ suc x → suc x ≤ top → has spans x ≢ has spans (suc x) → StartsAt (suc x) line) → (low ≡ 0 → StartsAt 0 line) → All (EndsStart top line) spans

@@ -6,18 +6,18 @@ use Rattle.std.specs.List.{insert, remove}
 use Rattle.std.proofs.lemmas.List.{get_or_append_left, get_or-append_right, get_or-take, set-append_left, set-append_right, drop-set-lt, length-set, take_at, get_or_read}
 use Rattle.std.proofs.lemmas.List.Edits.{length-remove, insert-append_left}
 use Rattle.std.proofs.lemmas.Nat.{shr-shr}
-use Rattle.classify.specs.Bits.{word_bits, all_bits, IsPacked}
-use Rattle.classify.proofs.BitLaws.{bit, length-word_bits}
+use Rattle.classify.specs.Bits.{low_bit, word_bits, all_bits, IsPacked}
+use Rattle.classify.proofs.BitLaws.{length-word_bits}
 
-pub word_bit_at : (n w i : ℕ) → i < n → get_or (word_bits n w) i false ≡ bit (w / 2 ^ i)
+pub word_bit_at : (n w i : ℕ) → i < n → get_or (word_bits n w) i false ≡ low_bit (w / 2 ^ i)
 unfolding word_bits
 word_bit_at zero w i lt = absurd (omega arith)
-word_bit_at (suc n) w zero lt = let e : w / 2 ^ 0 ≡ w = omega arith in ap bit (sym e)
+word_bit_at (suc n) w zero lt = let e : w / 2 ^ 0 ≡ w = omega arith in ap low_bit (sym e)
 word_bit_at (suc n) w (suc i) lt =
     let e : 1 + i ≡ suc i = omega arith in
-    word_bit_at n (w / 2) i (omega arith) ∙ ap bit (shr-shr w 1 i ∙ ap (λ k. w / 2 ^ k) e)
+    word_bit_at n (w / 2) i (omega arith) ∙ ap low_bit (shr-shr w 1 i ∙ ap (λ k. w / 2 ^ k) e)
 
-pub all_bit_at : (ws : List ℕ) (q r : ℕ) → q < length ws → r < 64 → get_or (all_bits ws) (64 * q + r) false ≡ bit (get_or ws q 0 / 2 ^ r)
+pub all_bit_at : (ws : List ℕ) (q r : ℕ) → q < length ws → r < 64 → get_or (all_bits ws) (64 * q + r) false ≡ low_bit (get_or ws q 0 / 2 ^ r)
 all_bit_at [] q r lt in' = absurd (omega arith)
 all_bit_at (w ∷ ws) zero r lt in' =
     let z : 64 * 0 + r ≡ r = omega arith in
@@ -34,11 +34,11 @@ word_read : (ws : List ℕ) (len at w : ℕ) → IsPacked ws len → at < len �
 word_read ws len at w h lt is = let in' : at / 64 < length ws = omega (arith, h.covers) in get_or_read ws (at / 64) w in' is 0
 
 -- the bit at a place of a packed row
-pub row_bit_at : (ws : List ℕ) (len at w : ℕ) → IsPacked ws len → at < len → w ≡ get_or ws (at / 64) w → get_or (take len (all_bits ws)) at false ≡ bit (w / 2 ^ (at % 64))
+pub row_bit_at : (ws : List ℕ) (len at w : ℕ) → IsPacked ws len → at < len → w ≡ get_or ws (at / 64) w → get_or (take len (all_bits ws)) at false ≡ low_bit (w / 2 ^ (at % 64))
 row_bit_at ws len at w h lt is =
     let e : 64 * (at / 64) + at % 64 ≡ at = omega arith in
     get_or-take len (all_bits ws) at false lt ∙ ap (λ k. get_or (all_bits ws) k false) (sym e) ∙ all_bit_at ws (at / 64) (at % 64) (omega (arith, h.covers)) (omega arith)
-    ∙ ap (λ v. bit (v / 2 ^ (at % 64))) (sym (word_read ws len at w h lt is))
+    ∙ ap (λ v. low_bit (v / 2 ^ (at % 64))) (sym (word_read ws len at w h lt is))
 
 -- ---- a bit written
 

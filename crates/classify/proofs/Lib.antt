@@ -1,6 +1,7 @@
 pub mod BitLaws
 pub mod WordLaws
 pub mod RowLaws
+pub mod RuleLaws
 pub mod SameLaws
 pub mod StepLaws
 pub mod LineLaws
@@ -18,3 +19,4 @@ pub mod PlaceLaws
 pub mod ApartLaws
 pub mod JoinLaws
 pub mod TellLaws
+pub mod UnsplitLaws

@@ -6,7 +6,7 @@ use Rattle.std.proofs.Math.Dec.{leb}
 use Rattle.std.specs.List.{remove}
 use Rattle.std.proofs.lemmas.List.{length-set, drop-set-lt, get_or-drop, get_or-set_same, get_or-set_other, map-set, take_all, drop_all, append-nil, set-get_or, drop_more, drop_at, length-take-le}
 use Rattle.std.proofs.lemmas.List.Edits.{map_over_more, get_or-remove_below, length-remove}
-use Rattle.std.proofs.lemmas.List.Elements.{All-weaker, All-more, All-nil, All-head, All-tail}
+use Rattle.std.proofs.lemmas.List.Elements.{All-weaker, All-more, All-nil}
 use Rattle.std.proofs.lemmas.Grind.{drop_more_same}
 use Rattle.std.proofs.lemmas.Bool.{le-leb, lt-leb, cases_lt, cases_eq}
 use Rattle.classify.specs.declared.line.Piece.{Piece}
@@ -14,8 +14,8 @@ use Rattle.classify.specs.Shown.{shown, shown_piece}
 use Rattle.fields.specs.Spans.{has, in_span, AreSpansFrom}
 use Rattle.classify.specs.Cuts.{CutsStart, EndsStart}
 use Rattle.classify.specs.Steps.{IsRisingFrom, IsRising, DifferFrom, Differ, StartsAt, StartsAtZero, IsSplitOf, SayTheSame}
-use Rattle.classify.specs.Edits.{IsMergeOf}
-use Rattle.classify.proofs.ShownLaws.{shown_at, length-shown, row_in_first, shown-remove}
+use Rattle.classify.specs.Edits.{IsMergeOf, IsEndOf}
+use Rattle.classify.proofs.ShownLaws.{shown_at, length-shown, row_in_first}
 use Rattle.classify.proofs.EditLaws.{merge_rising, merge_says}
 
 abbrev pub Cut : Type 0
@@ -108,18 +108,27 @@ span_cases s x =
       ]
     ]
 
-pub cuts_from_ends : (top : ℕ) (line : List Cut) (spans : List Interval) → All (EndsStart top line) spans → CutsStart top spans line
-cuts_from_ends top line [] h x le ne = absurd (ne refl)
-cuts_from_ends top line (s ∷ ss) h x le ne =
-    let P : ℕ → Type 0 = λ y. StartsAt y line in
-    let here : EndsStart top line s = All-head (EndsStart top line) s ss h in
+-- where a set changes, one of its intervals begins, or has ended
+pub change_is_end : (spans : List Interval) (d : Interval) (x : ℕ) → has spans x ≢ has spans (suc x) → (i : ℕ) × (i < length spans) × IsEndOf (get_or spans i d) (suc x)
+change_is_end [] d x ne = absurd (ne refl)
+change_is_end (s ∷ ss) d x ne =
     elim (span_cases s x) [
-      | inl same ↦ cuts_from_ends top line ss (All-tail (EndsStart top line) s ss h) x le (λ e. ne (ap (λ b. b || has ss x) same ∙ ap (λ b. in_span (suc x) s || b) e))
+      | inl same ↦ (
+          let r = change_is_end ss d x (λ e. ne (ap (λ b. b || has ss x) same ∙ ap (λ b. in_span (suc x) s || b) e)) in
+          (suc r.0, omega (arith, r.1), r.2))
       | inr end ↦ elim end [
-        | inl a ↦ subst P (sym a) here.0
-        | inr b ↦ (let e : s.last + 1 ≡ suc x = omega arith in subst P e (here.1 (omega arith)))
+        | inl a ↦ (0, omega arith, inl a)
+        | inr b ↦ (0, omega arith, inr (omega arith))
       ]
     ]
+
+pub cuts_from_ends : (top : ℕ) (line : List Cut) (spans : List Interval) → All (EndsStart top line) spans → CutsStart top spans line
+cuts_from_ends top line spans h x le ne =
+    let none : Interval = record { first = 0; last = 0 } in
+    let P : ℕ → Type 0 = λ y. StartsAt y line in
+    let r = change_is_end spans none x ne in
+    let here : EndsStart top line (get_or spans r.0 none) = h r.0 none r.1 in
+    elim r.2 [ inl a ↦ subst P (sym a) here.0 | inr b ↦ subst P (sym b) (here.1 (omega arith)) ]
 
 pub spans_within : (top low : ℕ) (spans : List Interval) (i : ℕ) (d : Interval) → AreSpansFrom top low spans → i < length spans → ((get_or spans i d).first ≤ top) × ((get_or spans i d).last ≤ top)
 spans_within top low [] i d h lt = absurd (omega arith)
@@ -190,11 +199,11 @@ merging_skip old now j h ne =
       differ = subst P (sym (drop_more now (suc j) no_cut lt ∙ ap (λ k. get_or now (suc j) no_cut ∷ drop k now) next)) (ne, h.differ);
     }
 
-merge_line_rising : (top : ℕ) (line : List Cut) (j : ℕ) → IsRising top line → IsRising top (remove line (suc j))
+pub merge_line_rising : (top : ℕ) (line : List Cut) (j : ℕ) → IsRising top line → IsRising top (remove line (suc j))
 merge_line_rising top [] j r = absurd r
 merge_line_rising top (d ∷ ps) j r = (r.0, merge_rising top 0 ps j r.1)
 
-merge_line_says : (top : ℕ) (line : List Cut) (j : ℕ) → IsRising top line → suc j < length line → (get_or line j no_cut).1 ≡ (get_or line (suc j) no_cut).1 → SayTheSame line (remove line (suc j))
+pub merge_line_says : (top : ℕ) (line : List Cut) (j : ℕ) → IsRising top line → suc j < length line → (get_or line j no_cut).1 ≡ (get_or line (suc j) no_cut).1 → SayTheSame line (remove line (suc j))
 merge_line_says top [] j r lt e x = absurd r
 merge_line_says top (d ∷ ps) j r lt e x =
     let P : ℕ → Type 0 = λ a. IsRisingFrom top a ps in
@@ -224,35 +233,6 @@ pub merging_done : (old now : List Cut) (j : ℕ) → Merging old now j → j �
 merging_done old now j h z top r =
     let P : ℕ → Type 0 = λ k. DifferFrom (get_or now k no_cut).1 (drop (suc k) now) in
     record { rising = h.rising top r; same = h.same top r; differ = merged_differ now (subst P z h.differ) }
-
--- the same over the pieces of a vector: k is one above the place
-pub merging_start : (ps : List Piece) (k : ℕ) → StartsAtZero (shown ps) → k ≡ length ps → Merging (shown ps) (shown ps) (k - 1)
-merging_start ps k h e = merging_first (shown ps) (k - 1) h (omega (arith, length-shown ps))
-
-row_at_place : (ps : List Piece) (k : ℕ) (p : Piece) → k < length ps → p ≡ get_or ps k p → (get_or (shown ps) k no_cut).1 ≡ p.row.bits
-row_at_place ps k p lt e = ap (λ (c : Cut). c.1) (shown_at ps k p no_cut lt ∙ ap shown_piece (sym e))
-
-pub merging_kept : (old : List Cut) (ps : List Piece) (k : ℕ) (p q : Piece) → Merging old (shown ps) (k - 1) → 1 < k → p ≡ get_or ps (k - 1) p → q ≡ get_or ps (k - 1 - 1) q → (p.row.bits ≡ q.row.bits → ⊥)
-    → Merging old (shown ps) (k - 1 - 1)
-merging_kept old ps k p q h lt ep eq ne =
-    let s : suc (k - 1 - 1) ≡ k - 1 = omega arith in
-    let a : k - 1 < length ps = omega (arith, h.place, length-shown ps) in
-    let b : k - 1 - 1 < length ps = omega arith in
-    let P : ℕ → Type 0 = λ j. Merging old (shown ps) j in
-    merging_skip old (shown ps) (k - 1 - 1) (subst P (sym s) h)
-    (λ e. ne (sym (row_at_place ps (k - 1) p a ep) ∙ ap (λ j. (get_or (shown ps) j no_cut).1) (sym s) ∙ sym e ∙ row_at_place ps (k - 1 - 1) q b eq))
-
-pub merging_left : (old : List Cut) (ps vs : List Piece) (k : ℕ) (p q : Piece) → Merging old (shown ps) (k - 1) → 1 < k → p ≡ get_or ps (k - 1) p → q ≡ get_or ps (k - 1 - 1) q → p.row.bits ≡ q.row.bits
-    → vs ≡ remove ps (k - 1) → Merging old (shown vs) (k - 1 - 1)
-merging_left old ps vs k p q h lt ep eq e is =
-    let s : suc (k - 1 - 1) ≡ k - 1 = omega arith in
-    let a : k - 1 < length ps = omega (arith, h.place, length-shown ps) in
-    let b : k - 1 - 1 < length ps = omega arith in
-    let P : ℕ → Type 0 = λ j. Merging old (shown ps) j in
-    let Q : List Cut → Type 0 = λ cs. Merging old cs (k - 1 - 1) in
-    subst Q (sym (ap shown is ∙ shown-remove ps (k - 1) ∙ ap (λ j. remove (shown ps) j) (sym s)))
-    (merging_drop old (shown ps) (k - 1 - 1) (subst P (sym s) h)
-    (row_at_place ps (k - 1 - 1) q b eq ∙ sym e ∙ sym (row_at_place ps (k - 1) p a ep) ∙ ap (λ j. (get_or (shown ps) j no_cut).1) (sym s)))
 
 pub reserved_part : (ps us : List Piece) (i : ℕ) (p : Piece) → Reserved ps us i → i < length us → p ≡ get_or us i p → All (λ (q : Piece). length q.row.bits % 64 ≢ 0) ps → length p.row.bits % 64 ≢ 0
 reserved_part ps us i p h lt e part =

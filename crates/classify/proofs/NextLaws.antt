@@ -12,7 +12,6 @@ use Rattle.std.proofs.lemmas.List.Elements.{All-get_or}
 use Rattle.fields.specs.declared.field.TheConstants.{FIELDS}
 use Rattle.fields.specs.declared.field.TheConstants.Field.{ALL}
 use Rattle.fields.specs.declared.field.Field.{Field}
-use Rattle.fields.specs.declared.field.Field.TheVariants.{Source}
 use Rattle.fields.specs.Field.{index, top}
 use Rattle.fields.specs.Spans.{SpanSet}
 use Rattle.classify.specs.declared.line.Line.{Line}
@@ -24,10 +23,12 @@ use Rattle.classify.specs.Steps.{row_in, IsRising}
 use Rattle.classify.specs.Edits.{IsSound}
 use Rattle.classify.specs.Fields.{shown_line, tops, IsKept}
 use Rattle.classify.specs.Search.{IsRow, AreRows, AreWide, HaveAll, IsFirst}
-use Rattle.classify.specs.Classifier.{allows, set_on, line_on, Classified, IsClassifierOf, number_on, IsPoint, allows_point, next_match}
+use Rattle.rules.specs.Boxed.{set_on}
+use Rattle.rules.proofs.BoxLaws.{index-lt, here_is}
+use Rattle.classify.specs.Classifier.{allows, line_on, Classified, IsClassifierOf, number_on, IsPoint, allows_point, next_match}
 use Rattle.classify.proofs.BoxLaws.{says_from_line}
 use Rattle.classify.proofs.WordLaws.{length-all_bits}
-use Rattle.classify.proofs.ClassifierLaws.{index-lt, field_at, row_of_sets, line_of_sets, shown_at_place, row_long}
+use Rattle.classify.proofs.ClassifierLaws.{field_at, row_of_sets, line_of_sets, shown_at_place, row_long}
 
 -- ---- the row of a field at a number
 
@@ -71,11 +72,6 @@ row_answer c boxes point field row p b h within r lt =
     let said : row_in (line_on field c) x ≡ row_at (λ box y. allows box field y) boxes x =
     says_from_line (top field) (map (set_on field) boxes) (line_on field c) (line_of_sets field (top field) boxes (line_on field c) (h.lines field)) x (within field) ∙ sym (row_of_sets field boxes x) in
     sym (get_or-take c.len (all_bits row) p false in') ∙ ap (λ (bs : List Bool). get_or bs p false) (r.bits ∙ said) ∙ get_or-map (λ box. allows box field x) boxes p b false lt
-
--- every field is among all of them
-here_is : (field : Field) (d : Field) → get_or ALL (index field) d ≡ field
-here_is Source d = refl
-here_is _ d = refl
 
 every_passes : (test : Field → Bool) (fs : List Field) → ((field : Field) → test field ≡ true) → list_all test fs ≡ true
 every_passes test [] h = refl

@@ -2,17 +2,13 @@
 use Rattle.std.specs.Prelude.{◌≡◌, ℕ, ◌+◌, ◌≤◌, Bool, List, [], length, drop, slice_index, slice_index_or, Option}
 use Rattle.std.specs.Option.{option_map}
 use Rattle.std.specs.List.{list_all, position}
-use Rattle.fields.specs.declared.spans.Interval.{Interval}
 use Rattle.fields.specs.declared.field.Field.{Field}
 use Rattle.fields.specs.declared.field.TheConstants.Field.{ALL}
 use Rattle.fields.specs.Field.{index, top}
 use Rattle.fields.specs.Spans.{SpanSet, has}
+use Rattle.rules.specs.Boxed.{set_on}
 use Rattle.classify.specs.Line.{IsLineOf}
 use Rattle.classify.specs.Cuts.{CutsStart}
-
--- a box's set on a field
-abbrev pub set_on : Field → List SpanSet → List Interval
-set_on field box = let empty : SpanSet = record { top = 0; intervals = [] } in let own : SpanSet = slice_index_or box (index field) empty in own.intervals
 
 -- whether a box allows a number on a field
 abbrev pub allows : List SpanSet → Field → ℕ → Bool

@@ -1,9 +1,9 @@
 -- What the steps of an edit leave of a line.
 use Rattle.fields.specs.declared.spans.Interval.{Interval}
-use Rattle.std.specs.Prelude.{◌≡◌, ℕ, ◌≤◌, Bool, List, [], ◌∷◌, length, insert, remove, slice_set, slice_index_or, ◌≢◌, ◌⊎◌, ◌<◌, suc, false}
+use Rattle.std.specs.Prelude.{◌≡◌, ℕ, ◌+◌, ◌≤◌, Bool, List, [], ◌∷◌, length, insert, remove, slice_set, slice_index_or, ◌≢◌, ◌⊎◌, ◌<◌, suc, false}
 use Rattle.fields.specs.Spans.{has}
 use Rattle.classify.specs.Line.{row_at}
-use Rattle.classify.specs.Steps.{IsRising, SayTheSame, Differ, row_in}
+use Rattle.classify.specs.Steps.{IsRising, StartsAt, SayTheSame, Differ, row_in}
 
 -- a new box's answer put into a piece's row
 abbrev pub with_answer : ℕ → List Interval → ℕ × List Bool → ℕ × List Bool
@@ -22,6 +22,21 @@ pub record IsMergeOf (top : ℕ) (old new : List (ℕ × List Bool)) : Type 0 wh
   pub rising : IsRising top new
   pub same : SayTheSame old new
   pub differ : Differ new
+
+-- new says what old says with no more pieces, and at the numbers of P it has one only where the row changes
+pub record IsUnsplitAt (P : ℕ → Type 0) (top : ℕ) (old new : List (ℕ × List Bool)) : Type 0 where
+  pub rising : IsRising top new
+  pub same : SayTheSame old new
+  pub only : (x : ℕ) → StartsAt x new → StartsAt x old
+  pub apart : (y : ℕ) → P (suc y) → StartsAt (suc y) new → row_in old y ≢ row_in old (suc y)
+
+-- one number alone
+abbrev pub IsNumber : ℕ → ℕ → Type 0
+IsNumber x y = y ≡ x
+
+-- where an interval begins, and behind its end
+abbrev pub IsEndOf : Interval → ℕ → Type 0
+IsEndOf s x = (x ≡ s.first) ⊎ (x ≡ s.last + 1)
 
 -- the line says of each number up to the top which sets have it
 abbrev pub Says : ℕ → List (List Interval) → List (ℕ × List Bool) → Type 0

@@ -7,6 +7,7 @@ use Rattle.fields.specs.Field.{top}
 use Rattle.fields.specs.Spans.{SpanSet, has}
 use Rattle.classify.specs.declared.line.Piece.{Piece}
 use Rattle.classify.specs.declared.line.Line.{Line}
+use Rattle.classify.specs.Bits.{TakesBit}
 use Rattle.classify.specs.Line.{IsLineOf}
 use Rattle.classify.specs.Shown.{shown}
 use Rattle.classify.specs.Cuts.{CutsStart}
@@ -37,7 +38,7 @@ EachField R sets old new = (k : ℕ) (s : SpanSet) (l : Line) → k < length old
 -- all memory for a set's answers is taken, and the line is cut where they change
 pub record IsReady (s : SpanSet) (l : Line) : Type 0 where
   pub cuts : CutsStart s.top s.intervals (shown_line l)
-  pub room : All (λ (p : Piece). 0 < p.row.room) l.pieces.items
+  pub room : All (λ (p : Piece). TakesBit p.row) l.pieces.items
 
 -- a box's set put in at a place: the line of any sets becomes that of the sets with it, and the rows are longer by one bit
 pub record TakesIn (at : ℕ) (s : SpanSet) (old new : Line) : Type 0 where

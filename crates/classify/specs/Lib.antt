@@ -7,4 +7,5 @@ pub mod Edits
 pub mod Fields
 pub mod Classifier
 pub mod Laws
+pub mod RuleLines
 pub mod Search

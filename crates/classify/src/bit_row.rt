@@ -2,7 +2,7 @@
 
 ghost use Rattle.std.specs.Prelude.{◌≡◌, ◌≢◌, ◌++◌, ◌∷◌, [], ◌<◌, ◌≤◌, ◌*◌, ◌%◌, length, false, insert, remove, take, slice_set, slice_index_or, OnOk, OnErr, IsOk, IfOk, IsTrue, ◌↔◌};
 ghost use Rattle.std.specs.Vec.{vec_capacity};
-ghost use Rattle.classify.specs.Bits.{word_bits, all_bits, IsPacked, IsOpen, room_of};
+ghost use Rattle.classify.specs.Bits.{word_bits, all_bits, low_bit, top_bit, IsPacked, IsOpen, TakesBit, room_of};
 
 use std::alloc::{AllocError, Global};
 use std::marker::Model;
@@ -14,13 +14,13 @@ const MOST_WORDS: usize = (1 << 58) - 1;
 pub(crate) const MOST_BITS: usize = 64 * MOST_WORDS;
 
 /// Puts a bit into a word: the later bits move up, and the highest falls out.
-fn insert_bit(word: u64, offset: u32, bit: bool) -> (u64, bool)
+fn insert_bit(word: u64, offset: u32, bit: bool) -> u64
     requires { offset < 64 }
-    ensures { word_bits 64 result.0 ++ result.1 ∷ [] ≡ insert (word_bits 64 word) offset bit }
+    ensures { word_bits 64 result ++ top_bit word ∷ [] ≡ insert (word_bits 64 word) offset bit }
 {
     let low = word & ((1 << offset) - 1);
     let high = ((word >> offset) << 1) | u64::from(bit);
-    ((high << offset) | low, word >> 63 == 1)
+    (high << offset) | low
 }
 
 /// Takes a bit out of a word: the later bits move down, and `top` comes in as the highest.
@@ -38,8 +38,21 @@ fn set_bit(word: u64, offset: u32, bit: bool) -> u64
     requires { offset < 64 }
     ensures { word_bits 64 result ≡ slice_set (word_bits 64 word) offset bit }
 {
-    let (put, _last) = insert_bit(remove_bit(word, offset, false), offset, bit);
-    put
+    insert_bit(remove_bit(word, offset, false), offset, bit)
+}
+
+/// Moves the bits of a word up by one: the highest bit of the word below comes in first.
+fn shift_up(word: u64, below: u64) -> u64
+    ensures { word_bits 64 result ++ top_bit word ∷ [] ≡ top_bit below ∷ word_bits 64 word }
+{
+    (word << 1) | (below >> 63)
+}
+
+/// Moves the bits of a word down by one: the lowest bit of the word above comes in last.
+fn shift_down(word: u64, above: u64) -> u64
+    ensures { word_bits 64 result ≡ remove (word_bits 64 word) 0 ++ low_bit above ∷ [] }
+{
+    (above << 63) | (word >> 1)
 }
 
 /// Puts a bit in at a place: the later bits move up, from word to word, and the last falls out.
@@ -47,15 +60,18 @@ fn shift_in(words: &mut [u64], at: usize, bit: bool) -> bool
     requires { at ≤ 64 * length words.old }
     ensures { all_bits words.new ++ result ∷ [] ≡ insert (all_bits words.old) at bit }
 {
-    let mut carry = bit;
-    let mut offset = (at % 64) as u32;
-    for k in at / 64..words.len() {
-        let (word, top) = insert_bit(words[k], offset, carry);
-        words[k] = word;
-        carry = top;
-        offset = 0;
+    let first = at / 64;
+    if first >= words.len() {
+        return bit;
     }
-    carry
+    let mut below = words[first];
+    words[first] = insert_bit(below, (at % 64) as u32, bit);
+    for k in first + 1..words.len() {
+        let word = words[k];
+        words[k] = shift_up(word, below);
+        below = word;
+    }
+    below >> 63 == 1
 }
 
 /// Takes the bit at a place out: the later bits move down, from word to word, and a 0 comes in last.
@@ -64,15 +80,15 @@ fn shift_out(words: &mut [u64], at: usize)
     ensures { all_bits words.new ≡ remove (all_bits words.old) at ++ false ∷ [] }
 {
     let first = at / 64;
-    let mut carry = false;
+    let mut above = 0;
     let mut k = words.len() - 1;
     while k > first {
         let word = words[k];
-        words[k] = remove_bit(word, 0, carry);
-        carry = word % 2 == 1;
+        words[k] = shift_down(word, above);
+        above = word;
         k -= 1;
     }
-    words[first] = remove_bit(words[first], (at % 64) as u32, carry);
+    words[first] = remove_bit(words[first], (at % 64) as u32, above % 2 == 1);
 }
 
 /// Adds a word of zeros where the words are full.
@@ -171,7 +187,7 @@ impl BitRow {
     /// Puts a bit in at a place, where there is room: the later ones move up by one.
     pub(crate) fn put(&mut self, at: usize, bit: bool)
         requires place { at ≤ length self.old.bits }
-        requires room { 0 < self.old.room }
+        requires room { TakesBit self.old }
         ensures { self.new.bits ≡ insert self.old.bits at bit }
     {
         if at == self.len && !bit && self.len % 64 != 0 {

@@ -16,8 +16,9 @@ use std::marker::Model;
 /// The classifier of a list of boxes: on each field the line of their answers, and no more.
 ///
 /// Places count from 0. An edit touches each row once: put in at the end it costs a row one bit, elsewhere
-/// the words from its place on. A cut is made or goes only where the box's own answers change; the row of a
-/// piece that is cut is the only one that is copied.
+/// the words from its place on. Where the number of boxes is a multiple of 64, an insert touches each row
+/// before that, to take its memory. A cut is made or goes only where the box's own answers change; the row
+/// of a piece that is cut is the only one that is copied.
 #[derive(Drop)]
 pub struct Classifier {
     len: usize,
@@ -100,13 +101,9 @@ impl Classifier {
         if self.len >= MOST_BITS {
             return Err(AllocError);
         }
-        match lines::insert_lines(&mut self.lines, self.len, at, boxed.lent()) {
-            Ok(()) => {
-                self.len += 1;
-                Ok(())
-            }
-            Err(refused) => Err(refused),
-        }
+        lines::insert_lines(&mut self.lines, self.len, at, boxed.spans())?;
+        self.len += 1;
+        Ok(())
     }
 
     /// Puts a box in the place of another, and spends it, also when it is refused.
@@ -121,10 +118,8 @@ impl Classifier {
         ensures err { OnErr result (self.new ≡ self.old) }
         ensures there { HasNoNewCut boxed self.old → IsOk result }
     {
-        match lines::replace_lines(&mut self.lines, self.len, at, boxed.lent()) {
-            Ok(()) => Ok(()),
-            Err(refused) => return Err(refused),
-        }
+        lines::replace_lines(&mut self.lines, self.len, at, boxed.spans())?;
+        Ok(())
     }
 
     /// Takes a box out: the later ones move down by one. It takes no memory.

@@ -2,12 +2,13 @@
 
 ghost use Rattle.fields.specs.declared.spans.Interval.{Interval};
 ghost use Rattle.std.specs.Prelude.{◌≡◌, ◌≢◌, ◌<◌, ◌≤◌, ◌+◌, ◌-◌, ◌%◌, ℕ, length, OnOk, IsOk, All, List, map, insert, remove, slice_set, slice_index_or, false, [], ◌∷◌};
+ghost use Rattle.classify.specs.Bits.{TakesBit};
 ghost use Rattle.classify.specs.Line.{IsLineOf};
 ghost use Rattle.classify.specs.Steps.{IsRising, IsRisingLine, IsSplitOf, StartsAt, StartsAtZero};
 ghost use Rattle.classify.specs.Shown.{shown};
 ghost use Rattle.fields.specs.Spans.{has};
 ghost use Rattle.classify.specs.Cuts.{CutsStart, EndsStart, ChangesAt, IsApart};
-ghost use Rattle.classify.specs.Edits.{with_answer, with_written, without_answer, IsMergeOf, IsJoined, Tells, Says, EachRow, IsSound, row_of};
+ghost use Rattle.classify.specs.Edits.{with_answer, with_written, without_answer, IsMergeOf, IsUnsplitAt, IsNumber, IsEndOf, IsJoined, Tells, Says, EachRow, IsSound, row_of};
 
 use crate::line::{Piece, place_of};
 use fields::{Interval, Spans};
@@ -60,6 +61,47 @@ pub(crate) fn split_all(pieces: &mut Vec<Piece>, spans: &Spans) -> Result<(), Al
     Ok(())
 }
 
+/// Takes the cut at x back where the rows on its two sides are equal.
+fn unsplit(pieces: &mut Vec<Piece>, x: u128)
+    requires { IsRisingLine (shown pieces.old.items) }
+    ensures { (top : ℕ) → IsRising top (shown pieces.old.items) → IsUnsplitAt (IsNumber x) top (shown pieces.old.items) (shown pieces.new.items) }
+{
+    let place = place_of(pieces, x);
+    if place == 0 {
+        return;
+    }
+    if pieces[place].start < x {
+        return;
+    }
+    if pieces[place].row.same(&pieces[place - 1].row) {
+        drop(pieces.remove(place));
+    }
+}
+
+/// Takes the cuts where an interval begins, and behind its end, back where the rows are equal.
+fn unsplit_interval(pieces: &mut Vec<Piece>, top: u128, interval: Interval)
+    requires { IsRising top (shown pieces.old.items) }
+    ensures { IsUnsplitAt (IsEndOf interval) top (shown pieces.old.items) (shown pieces.new.items) }
+{
+    unsplit(pieces, interval.first);
+    if interval.last < top {
+        unsplit(pieces, interval.last + 1);
+    }
+}
+
+/// Takes the cuts wherever a set begins or ends back where the rows are equal. Elsewhere no neighbours are
+/// compared: there the rows differ.
+pub(crate) fn unsplit_all(pieces: &mut Vec<Piece>, spans: &Spans)
+    requires rising { IsRising spans.now.top (shown pieces.old.items) }
+    requires apart { IsApart spans.now.intervals (shown pieces.old.items) }
+    ensures { IsMergeOf spans.now.top (shown pieces.old.items) (shown pieces.new.items) }
+{
+    let top = spans.top();
+    for interval in spans.intervals() {
+        unsplit_interval(pieces, top, *interval);
+    }
+}
+
 /// Takes the memory that one more bit in each row needs.
 pub(crate) fn reserve_rows(pieces: &mut Vec<Piece>) -> Result<(), AllocError>
     ensures same { shown pieces.new.items ≡ shown pieces.old.items }
@@ -76,7 +118,7 @@ pub(crate) fn reserve_rows(pieces: &mut Vec<Piece>) -> Result<(), AllocError>
 /// Puts a box's answers into the rows of a line that is cut wherever they change.
 fn put_answers(pieces: &mut Vec<Piece>, at: usize, spans: &Spans)
     requires place { All (λ p. at ≤ length p.row.bits) pieces.old.items }
-    requires room { All (λ p. 0 < p.row.room) pieces.old.items }
+    requires room { All (λ p. TakesBit p.row) pieces.old.items }
     ensures { shown pieces.new.items ≡ map (with_answer at spans.now.intervals) (shown pieces.old.items) }
 {
     for i in 0..pieces.len() {
@@ -164,27 +206,13 @@ fn remove_answers(pieces: &mut Vec<Piece>, at: usize)
     }
 }
 
-/// Joins neighbours with equal rows.
-pub(crate) fn merge(pieces: &mut Vec<Piece>)
-    requires { StartsAtZero (shown pieces.old.items) }
-    ensures { (top : ℕ) → IsRising top (shown pieces.old.items) → IsMergeOf top (shown pieces.old.items) (shown pieces.new.items) }
-{
-    let mut k = pieces.len();
-    while k > 1 {
-        k -= 1;
-        if pieces[k].row.same(&pieces[k - 1].row) {
-            drop(pieces.remove(k));
-        }
-    }
-}
-
 /// Puts a box's answers in, for which all memory is taken. No cut goes: at each one the rows still differ.
 pub(crate) fn commit(pieces: &mut Vec<Piece>, at: usize, spans: &Spans)
     requires rising { IsRising spans.now.top (shown pieces.old.items) }
     requires cuts { CutsStart spans.now.top spans.now.intervals (shown pieces.old.items) }
     requires apart { IsApart spans.now.intervals (shown pieces.old.items) }
     requires place { All (λ p. at ≤ length p.row.bits) pieces.old.items }
-    requires room { All (λ p. 0 < p.row.room) pieces.old.items }
+    requires room { All (λ p. TakesBit p.row) pieces.old.items }
     ensures sound { (n : ℕ) → at ≤ n → EachRow n (shown pieces.old.items) → IsSound spans.now.top (n + 1) (shown pieces.new.items) }
     ensures line { (n : ℕ) (sets : List (List Interval)) → at ≤ n → EachRow n (shown pieces.old.items) → Says spans.now.top sets (shown pieces.old.items) → IsLineOf has spans.now.top (insert sets at spans.now.intervals) (shown pieces.new.items) }
 {

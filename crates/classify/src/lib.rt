@@ -7,6 +7,7 @@ mod classifier;
 mod edit;
 mod line;
 mod lines;
+mod rule_lines;
 mod search;
 #[cfg(test)]
 mod tests;
@@ -14,3 +15,4 @@ mod tests;
 pub use bit_row::BitRow;
 pub use classifier::Classifier;
 pub use line::{Line, Piece, boxes_have_one_line};
+pub use rule_lines::boxes_stand_for_their_rules;

@@ -21,7 +21,7 @@ pub struct Piece {
 
 /// The line of a list of boxes on one field, from 0 to the field's top.
 ///
-/// A piece takes 64 bytes and the words of its row.
+/// A piece takes 48 bytes and the words of its row.
 #[derive(Drop)]
 pub struct Line {
     pub(crate) pieces: Vec<Piece>,

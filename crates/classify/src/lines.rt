@@ -67,27 +67,33 @@ fn reserve_lines(lines: &mut [Line]) -> Result<(), AllocError>
     Ok(())
 }
 
-/// Takes all memory that a box needs, in every line.
-fn prepare_lines(lines: &mut [Line], spans: &[Spans]) -> Result<(), AllocError>
+/// Takes all memory that a box needs, in every line: rows whose last word has a place left need none.
+fn prepare_lines(lines: &mut [Line], len: usize, spans: &[Spans]) -> Result<(), AllocError>
     requires as_long { length spans.now ≡ length lines.old }
     requires rising { EachField (λ s l _. IsRising s.top (shown_line l)) spans.now lines.old lines.old }
+    requires rows { (k : ℕ) (l : Line) → k < length lines.old → EachRow len (shown_line (slice_index_or lines.old k l)) }
     ensures split { EachField (λ s l m. IsSplitOf s.top s.intervals (shown_line l) (shown_line m)) spans.now lines.old lines.new }
     ensures ready { OnOk result (EachField (λ s _ m. IsReady s m) spans.now lines.old lines.new) }
     ensures there { EachField (λ s l _. HasRoom s l) spans.now lines.old lines.old → IsOk result }
 {
     split_lines(lines, spans)?;
+    if len % 64 != 0 {
+        return Ok(());
+    }
     reserve_lines(lines)?;
     Ok(())
 }
 
-/// Joins equal neighbours in every line.
-fn merge_lines(lines: &mut [Line])
-    requires { (k : ℕ) (l : Line) → k < length lines.old → StartsAtZero (shown_line (slice_index_or lines.old k l)) }
-    ensures { (top k : ℕ) (l : Line) → k < length lines.old → IsRising top (shown_line (slice_index_or lines.old k l)) → IsMergeOf top (shown_line (slice_index_or lines.old k l)) (shown_line (slice_index_or lines.new k l)) }
+/// Takes the cuts wherever the box's answers change back, in every line, where the rows are equal.
+fn unsplit_lines(lines: &mut [Line], spans: &[Spans])
+    requires as_long { length spans.now ≡ length lines.old }
+    requires rising { EachField (λ s l _. IsRising s.top (shown_line l)) spans.now lines.old lines.old }
+    requires apart { EachField (λ s l _. IsApart s.intervals (shown_line l)) spans.now lines.old lines.old }
+    ensures { EachField (λ s l m. IsMergeOf s.top (shown_line l) (shown_line m)) spans.now lines.old lines.new }
 {
     for k in 0..lines.len() {
         let line = &mut lines[k];
-        edit::merge(&mut line.pieces);
+        edit::unsplit_all(&mut line.pieces, &spans[k]);
     }
 }
 
@@ -121,13 +127,13 @@ pub(crate) fn insert_lines(
     ensures there { len % 64 ≢ 0 → EachField (λ s l _. CutsStart s.top s.intervals (shown_line l)) spans.now lines.old lines.old → IsOk result }
     ensures err { OnErr result ((k : ℕ) (l : Line) → k < length lines.old → shown_line (slice_index_or lines.new k l) ≡ shown_line (slice_index_or lines.old k l)) }
 {
-    match prepare_lines(lines, spans) {
+    match prepare_lines(lines, len, spans) {
         Ok(()) => {
             commit_lines(lines, at, spans);
             Ok(())
         }
         Err(refused) => {
-            merge_lines(lines);
+            unsplit_lines(lines, spans);
             Err(refused)
         }
     }
@@ -169,7 +175,7 @@ pub(crate) fn replace_lines(
             Ok(())
         }
         Err(refused) => {
-            merge_lines(lines);
+            unsplit_lines(lines, spans);
             Err(refused)
         }
     }

@@ -4,10 +4,11 @@ use Rattle.std.specs.List.{list_all, list_any}
 use Rattle.std.proofs.lemmas.Bool.{or_parts, and_from}
 use Rattle.fields.specs.declared.field.Field.{Field}
 use Rattle.fields.specs.declared.field.Field.TheVariants as field
+use Rattle.rules.specs.Kinds.{kind_row}
 use Rattle.rules.specs.Options.{owner, is_match_of}
 use Rattle.rules.specs.Settings.{option_of_value}
 use Rattle.rules.specs.Rules.{Match, Rule}
-use Rattle.rules.specs.Allows.{field_of, holds_of, same_field, is_on, asks, asks_on, setting_allows, asks_fragment, match_allows, allows}
+use Rattle.rules.specs.Allows.{field_of, holds_of, same_field, is_on, asks, asks_on, setting_allows, fragment_allows, match_allows, allows}
 use Rattle.rules.specs.RoundTrip.{ReadsItself}
 use Rattle.rules.specs.declared.kind.Kind.{Kind}
 use Rattle.rules.specs.declared.setting.Setting.{Setting}
@@ -19,59 +20,22 @@ use Rattle.rules.proofs.RoundTripLaws.{readable}
 false-true : {A : Type 0} → false ≡ true → A
 false-true h = absurd (cc)
 
--- no option of a match asks on in
-none-in : (v : Value) (k : Kind) → is_match_of (owner (option_of_value v)) k ≡ true → is_on field.InIface (field_of v) ≡ false
-none-in (value.Source x) k h = false-true h
-none-in (value.Destination x) k h = false-true h
-none-in (value.InInterface x) k h = false-true h
-none-in (value.OutInterface x) k h = false-true h
-none-in (value.Protocol x) k h = false-true h
-none-in value.Fragment k h = false-true h
-none-in (value.SourcePort x) k h = refl
-none-in (value.DestinationPort x) k h = refl
-none-in (value.TcpFlags x) k h = refl
-none-in (value.IcmpType x) k h = refl
-none-in (value.SourcePorts x) k h = refl
-none-in (value.DestinationPorts x) k h = refl
-none-in (value.SourceRange x) k h = refl
-none-in (value.DestinationRange x) k h = refl
-none-in (value.Ctstate x) k h = refl
-none-in (value.State x) k h = refl
-none-in (value.Comment x) k h = refl
-none-in (value.RejectWith x) k h = false-true h
-none-in (value.LogPrefix x) k h = false-true h
-none-in (value.LogLevel x) k h = false-true h
-none-in value.LogTcpSequence k h = false-true h
-none-in value.LogTcpOptions k h = false-true h
-none-in value.LogIpOptions k h = false-true h
-none-in value.LogUid k h = false-true h
-
--- no option of a match asks on out
-none-out : (v : Value) (k : Kind) → is_match_of (owner (option_of_value v)) k ≡ true → is_on field.OutIface (field_of v) ≡ false
-none-out (value.Source x) k h = false-true h
-none-out (value.Destination x) k h = false-true h
-none-out (value.InInterface x) k h = false-true h
-none-out (value.OutInterface x) k h = false-true h
-none-out (value.Protocol x) k h = false-true h
-none-out value.Fragment k h = false-true h
-none-out (value.SourcePort x) k h = refl
-none-out (value.DestinationPort x) k h = refl
-none-out (value.TcpFlags x) k h = refl
-none-out (value.IcmpType x) k h = refl
-none-out (value.SourcePorts x) k h = refl
-none-out (value.DestinationPorts x) k h = refl
-none-out (value.SourceRange x) k h = refl
-none-out (value.DestinationRange x) k h = refl
-none-out (value.Ctstate x) k h = refl
-none-out (value.State x) k h = refl
-none-out (value.Comment x) k h = refl
-none-out (value.RejectWith x) k h = false-true h
-none-out (value.LogPrefix x) k h = false-true h
-none-out (value.LogLevel x) k h = false-true h
-none-out value.LogTcpSequence k h = false-true h
-none-out value.LogTcpOptions k h = false-true h
-none-out value.LogIpOptions k h = false-true h
-none-out value.LogUid k h = false-true h
+-- no option of a match asks on an interface
+none-asks : (v : Value) (k : Kind) → is_match_of (owner (option_of_value v)) k ≡ true → (is_on field.InIface (field_of v) ≡ false) × (is_on field.OutIface (field_of v) ≡ false)
+none-asks (value.Source x) k h = false-true h
+none-asks (value.Destination x) k h = false-true h
+none-asks (value.InInterface x) k h = false-true h
+none-asks (value.OutInterface x) k h = false-true h
+none-asks (value.Protocol x) k h = false-true h
+none-asks value.Fragment k h = false-true h
+none-asks (value.RejectWith x) k h = false-true h
+none-asks (value.LogPrefix x) k h = false-true h
+none-asks (value.LogLevel x) k h = false-true h
+none-asks value.LogTcpSequence k h = false-true h
+none-asks value.LogTcpOptions k h = false-true h
+none-asks value.LogIpOptions k h = false-true h
+none-asks value.LogUid k h = false-true h
+none-asks v k h = (refl, refl)
 
 -- nor does a match
 module _ (f : Field) (none : (v : Value) (k : Kind) → is_match_of (owner (option_of_value v)) k ≡ true → is_on f (field_of v) ≡ false) where
@@ -91,21 +55,21 @@ module _ (f : Field) (none : (v : Value) (k : Kind) → is_match_of (owner (opti
       or-false false = refl
 
 pub in_is_own : (r : Rule) → ReadsItself r → list_any (asks field.InIface) r.settings ≡ asks_on field.InIface r
-in_is_own r is = own-asks field.InIface none-in r is
+in_is_own r is = own-asks field.InIface (λ v k h. (none-asks v k h).0) r is
 
 pub out_is_own : (r : Rule) → ReadsItself r → list_any (asks field.OutIface) r.settings ≡ asks_on field.OutIface r
-out_is_own r is = own-asks field.OutIface none-out r is
+out_is_own r is = own-asks field.OutIface (λ v k h. (none-asks v k h).1) r is
 
 -- where nothing is asked all is allowed
-module _ (f : Field) (n : ℕ) (other : same_field field.Fragment f ≡ false) where
+module _ (f : Field) (n : ℕ) (other : same_field f field.Fragment ≡ false) where
   settings-allow : (ss : List Setting) → list_any (asks f) ss ≡ false → list_all (setting_allows f n) ss ≡ true
   settings-allow [] free = refl
   settings-allow (s ∷ ss) free =
       let (here, rest) = or_parts (asks f s) (list_any (asks f) ss) free in
       and_from _ _ (ap (λ b. cond b (cond s.inverted (not (holds_of s.value n)) (holds_of s.value n)) true) here) (settings-allow ss rest)
 
-  first-part : (k : Kind) → (not (asks_fragment k && same_field field.Fragment f) || (n == 0)) ≡ true
-  first-part k = ap (λ b. not (asks_fragment k && b) || (n == 0)) other ∙ go (asks_fragment k)
+  first-part : (k : Kind) → fragment_allows f n k ≡ true
+  first-part k = ap (λ b. not ((kind_row k).asks_fragment && b) || (n == 0)) other ∙ go (kind_row k).asks_fragment
     where
       go : (b : Bool) → (not (b && false) || (n == 0)) ≡ true
       go true = refl

@@ -1,7 +1,9 @@
 pub mod AskLaws
+pub mod BoxLaws
 pub mod CompleteLaws
 pub mod GroupLaws
 pub mod KeepLaws
+pub mod NarrowLaws
 pub mod PartLaws
 pub mod PlaceLaws
 pub mod PrintLaws

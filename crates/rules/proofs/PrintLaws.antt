@@ -21,56 +21,21 @@ spaced_all-append xs ys = flat_map-append spaced xs ys
 
 -- a value behind its blank
 pub value-written : (v : Value) → has_words v ≡ true → spaced_all (shown_value v) ≡ 32 ∷ value_text v
-value-written (value.Source x) h = append-nil (32 ∷ value_text (value.Source x))
-value-written (value.Destination x) h = append-nil (32 ∷ value_text (value.Destination x))
-value-written (value.InInterface x) h = append-nil (32 ∷ value_text (value.InInterface x))
-value-written (value.OutInterface x) h = append-nil (32 ∷ value_text (value.OutInterface x))
-value-written (value.Protocol x) h = append-nil (32 ∷ value_text (value.Protocol x))
-value-written (value.SourcePort x) h = append-nil (32 ∷ value_text (value.SourcePort x))
-value-written (value.DestinationPort x) h = append-nil (32 ∷ value_text (value.DestinationPort x))
 value-written (value.TcpFlags x) h = ap (λ l. 32 ∷ (tcp_flags_text x.mask ++ l)) (append-nil (32 ∷ tcp_flags_text x.comp))
-value-written (value.IcmpType x) h = append-nil (32 ∷ value_text (value.IcmpType x))
-value-written (value.SourcePorts x) h = append-nil (32 ∷ value_text (value.SourcePorts x))
-value-written (value.DestinationPorts x) h = append-nil (32 ∷ value_text (value.DestinationPorts x))
-value-written (value.SourceRange x) h = append-nil (32 ∷ value_text (value.SourceRange x))
-value-written (value.DestinationRange x) h = append-nil (32 ∷ value_text (value.DestinationRange x))
-value-written (value.Ctstate x) h = append-nil (32 ∷ value_text (value.Ctstate x))
-value-written (value.State x) h = append-nil (32 ∷ value_text (value.State x))
-value-written (value.Comment x) h = append-nil (32 ∷ value_text (value.Comment x))
-value-written (value.RejectWith x) h = append-nil (32 ∷ value_text (value.RejectWith x))
-value-written (value.LogPrefix x) h = append-nil (32 ∷ value_text (value.LogPrefix x))
-value-written (value.LogLevel x) h = append-nil (32 ∷ value_text (value.LogLevel x))
 value-written value.Fragment h = absurd (cc)
 value-written value.LogTcpSequence h = absurd (cc)
 value-written value.LogTcpOptions h = absurd (cc)
 value-written value.LogIpOptions h = absurd (cc)
 value-written value.LogUid h = absurd (cc)
+value-written v h = append-nil (32 ∷ value_text v)
 
 pub no-value-written : (v : Value) → has_words v ≡ false → spaced_all (shown_value v) ≡ []
-no-value-written (value.Source x) h = absurd (cc)
-no-value-written (value.Destination x) h = absurd (cc)
-no-value-written (value.InInterface x) h = absurd (cc)
-no-value-written (value.OutInterface x) h = absurd (cc)
-no-value-written (value.Protocol x) h = absurd (cc)
-no-value-written (value.SourcePort x) h = absurd (cc)
-no-value-written (value.DestinationPort x) h = absurd (cc)
-no-value-written (value.TcpFlags x) h = absurd (cc)
-no-value-written (value.IcmpType x) h = absurd (cc)
-no-value-written (value.SourcePorts x) h = absurd (cc)
-no-value-written (value.DestinationPorts x) h = absurd (cc)
-no-value-written (value.SourceRange x) h = absurd (cc)
-no-value-written (value.DestinationRange x) h = absurd (cc)
-no-value-written (value.Ctstate x) h = absurd (cc)
-no-value-written (value.State x) h = absurd (cc)
-no-value-written (value.Comment x) h = absurd (cc)
-no-value-written (value.RejectWith x) h = absurd (cc)
-no-value-written (value.LogPrefix x) h = absurd (cc)
-no-value-written (value.LogLevel x) h = absurd (cc)
 no-value-written value.Fragment h = refl
 no-value-written value.LogTcpSequence h = refl
 no-value-written value.LogTcpOptions h = refl
 no-value-written value.LogIpOptions h = refl
 no-value-written value.LogUid h = refl
+no-value-written v h = absurd (cc)
 
 pub setting-parts : (s : Setting) → setting_text s ≡ spaced_all (shown_bang s.inverted) ++ (spaced (bare (name_of (option_of_value s.value))) ++ spaced_all (shown_value s.value))
 setting-parts s = spaced_all-append (shown_bang s.inverted) (bare (name_of (option_of_value s.value)) ∷ shown_value s.value)

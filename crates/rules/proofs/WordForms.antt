@@ -205,25 +205,6 @@ ports-valid text p e = go (cut_at 58 text) e
         let (to, read_to, is) = step_before (port_or 65535 q.1) (λ to. ports_between from to) p rest in
         between-valid from to p (or-small q.1 to read_to) is
 
-pub ports-word : (p : Ports) → ArePorts p → IsWord 11 (ports_text p)
-ports-word p are = record { bare = ports-bare p are; short = go (p.from == p.to) }
-  where
-    ordered : p.from ≤ p.to
-    ordered = are.ordered
-
-    within : p.to ≤ 65535
-    within = are.within
-
-    five : (n : ℕ) → n ≤ 65535 → length (decimal n) ≤ 5
-    five n h = length-decimal-le 5 n (omega arith) (omega arith) (omega arith)
-
-    go : (t : Bool) → length (cond t (decimal p.from) (decimal p.from ++ 58 ∷ decimal p.to)) ≤ 11
-    go true = let a = five p.from (omega (arith, ordered, within)) in omega arith
-    go false =
-        let a = five p.from (omega (arith, ordered, within)) in
-        let b = five p.to within in
-        omega (arith, length-append (decimal p.from) (58 ∷ decimal p.to))
-
 -- an item of a list has at most five bytes, or eleven where it counts as two
 item-short : (p : Ports) → ArePorts p → length (ports_text p) + 1 ≤ 6 * port_count p
 item-short p are = go (p.from == p.to)
@@ -243,6 +224,13 @@ item-short p are = go (p.from == p.to)
         let a = five p.from (omega (arith, ordered, within)) in
         let b = five p.to within in
         omega (arith, length-append (decimal p.from) (58 ∷ decimal p.to))
+
+pub ports-word : (p : Ports) → ArePorts p → IsWord 11 (ports_text p)
+ports-word p are = record { bare = ports-bare p are; short = (let short = item-short p are in let count = at_most_two (p.from == p.to) in omega arith) }
+  where
+    at_most_two : (t : Bool) → cond t 1 2 ≤ 2
+    at_most_two true = omega arith
+    at_most_two false = omega arith
 
 items-short : (item : Ports) (items : List Ports) → All ArePorts (item ∷ items) → length (port_list_text (item ∷ items)) + 1 ≤ 6 * sum_by port_count (item ∷ items)
 items-short item [] are = let one = item-short item (are 0 item (omega arith)) in omega arith

@@ -12,9 +12,9 @@ use Rattle.fields.specs.PortRange.{has_port}
 use Rattle.fields.specs.Prefix.{holds}
 use Rattle.fields.specs.declared.field.Field.{Field}
 use Rattle.fields.specs.declared.field.Field.TheVariants as field
+use Rattle.rules.specs.Kinds.{kind_row}
 use Rattle.rules.specs.Rules.{Match, Rule}
 use Rattle.rules.specs.declared.kind.Kind.{Kind}
-use Rattle.rules.specs.declared.kind.Kind.TheVariants as kind
 use Rattle.rules.specs.declared.setting.Setting.{Setting}
 use Rattle.rules.specs.declared.value.Value.{Value}
 use Rattle.rules.specs.declared.value.Value.TheVariants as value
@@ -71,22 +71,21 @@ same_field f g = index f == index g
 
 abbrev pub is_on : Field → Option Field → Bool
 is_on f None = false
-is_on f (Some g) = same_field g f
+is_on f (Some g) = same_field f g
 
 -- a condition, or its opposite
+abbrev pub setting_holds : Setting → ℕ → Bool
+setting_holds s n = if s.inverted then not (holds_of s.value n) else holds_of s.value n
+
 abbrev pub setting_allows : Field → ℕ → Setting → Bool
-setting_allows f n s = if is_on f (field_of s.value) then (if s.inverted then not (holds_of s.value n) else holds_of s.value n) else true
+setting_allows f n s = if is_on f (field_of s.value) then setting_holds s n else true
 
 -- a match that looks into the packet's parts asks for a first fragment
-abbrev pub asks_fragment : Kind → Bool
-asks_fragment kind.Tcp = true
-asks_fragment kind.Udp = true
-asks_fragment kind.Icmp = true
-asks_fragment kind.Multiport = true
-asks_fragment k = false
+abbrev pub fragment_allows : Field → ℕ → Kind → Bool
+fragment_allows f n k = not ((kind_row k).asks_fragment && same_field f field.Fragment) || (n == 0)
 
 abbrev pub match_allows : Field → ℕ → Match → Bool
-match_allows f n m = (not (asks_fragment m.kind && same_field field.Fragment f) || (n == 0)) && list_all (setting_allows f n) m.settings
+match_allows f n m = fragment_allows f n m.kind && list_all (setting_allows f n) m.settings
 
 -- every condition of the rule on the field holds of the number
 unfoldable pub allows : Rule → Field → ℕ → Bool

@@ -2,6 +2,7 @@ pub mod Actions
 pub mod Allows
 pub mod Boxed
 pub mod Chains
+pub mod Conditions
 pub mod KindViews
 pub mod Kinds
 pub mod OptionNames

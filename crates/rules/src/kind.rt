@@ -15,12 +15,14 @@ pub(crate) enum Kind {
     Comment,
 }
 
-// A match's name, the protocols of which it needs one (none: it needs no protocol), and whether it needs an option.
+// A match's name, the protocols of which it needs one (none: it needs no protocol), whether it needs an option, and whether it
+// asks for a first fragment.
 #[derive(Clone, Copy)]
 pub(crate) struct KindRow {
     pub(crate) name: &'static [u8],
     pub(crate) protocols: &'static [u8],
     pub(crate) needs_option: bool,
+    pub(crate) asks_fragment: bool,
 }
 
 impl Kind {
@@ -46,14 +48,14 @@ impl Kind {
         ensures { IsKindRow result self }
     {
         match self {
-            Kind::Tcp => KindRow::of(b"tcp", &[6], false),
-            Kind::Udp => KindRow::of(b"udp", &[17], false),
-            Kind::Icmp => KindRow::of(b"icmp", &[1], false),
-            Kind::Multiport => KindRow::of(b"multiport", &[6, 17, 136, 33, 132], true),
-            Kind::Iprange => KindRow::of(b"iprange", &[], true),
-            Kind::Conntrack => KindRow::of(b"conntrack", &[], true),
-            Kind::State => KindRow::of(b"state", &[], true),
-            Kind::Comment => KindRow::of(b"comment", &[], true),
+            Kind::Tcp => KindRow::of(b"tcp", &[6], false, true),
+            Kind::Udp => KindRow::of(b"udp", &[17], false, true),
+            Kind::Icmp => KindRow::of(b"icmp", &[1], false, true),
+            Kind::Multiport => KindRow::of(b"multiport", &[6, 17, 136, 33, 132], true, true),
+            Kind::Iprange => KindRow::of(b"iprange", &[], true, false),
+            Kind::Conntrack => KindRow::of(b"conntrack", &[], true, false),
+            Kind::State => KindRow::of(b"state", &[], true, false),
+            Kind::Comment => KindRow::of(b"comment", &[], true, false),
         }
     }
 
@@ -76,13 +78,19 @@ impl Kind {
 }
 
 impl KindRow {
-    fn of(name: &'static [u8], protocols: &'static [u8], needs_option: bool) -> KindRow
-        ensures { result ≡ record { name = name.entry; protocols = protocols.entry; needs_option = needs_option } }
+    fn of(
+        name: &'static [u8],
+        protocols: &'static [u8],
+        needs_option: bool,
+        asks_fragment: bool,
+    ) -> KindRow
+        ensures { result ≡ record { name = name.entry; protocols = protocols.entry; needs_option = needs_option; asks_fragment = asks_fragment } }
     {
         KindRow {
             name,
             protocols,
             needs_option,
+            asks_fragment,
         }
     }
 }

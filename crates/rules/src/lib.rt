@@ -5,6 +5,7 @@ mod action;
 mod boxed;
 mod comment;
 mod complete;
+mod condition;
 mod copy;
 mod draft;
 mod fault;
@@ -18,6 +19,7 @@ mod same;
 mod setting;
 mod target;
 mod value;
+mod work;
 mod write;
 
 pub use boxed::Boxed;
@@ -26,6 +28,7 @@ pub use laws::reading_is_by_rows;
 pub use read::read_rule;
 pub use rule::Rule;
 pub use target::Target;
+pub use work::Work;
 pub use write::write_rule;
 
 #[cfg(test)]

@@ -45,6 +45,30 @@ impl Model for Rule {
     ghost invariant = { λ r. ReadsItself (view_draft r.draft) };
 }
 
+// Rules are equal where they have one text (`Rule::equals` says more).
+impl PartialEq for Rule {
+    ghost use Rattle.std.specs.Prelude.{nat_eq};
+    ghost use Rattle.std.specs.Ordering.{on};
+    ghost use Rattle.std.specs.Cmp.{partial_equiv_from_equiv};
+    ghost use Rattle.std.specs.Cmp.Lexicographic.{pointwise, on_texts_equal};
+    ghost use Rattle.rules.specs.Printing.{rule_text};
+
+    ghost eq = { on rule_text (pointwise nat_eq) };
+
+    ghost laws = { partial_equiv_from_equiv (on_texts_equal rule_text) };
+
+    fn eq(&self, other: &Rule) -> bool {
+        self.equals(other)
+    }
+}
+
+impl Eq for Rule {
+    ghost use Rattle.std.specs.Cmp.Lexicographic.{on_texts_equal};
+    ghost use Rattle.rules.specs.Printing.{rule_text};
+
+    ghost laws = { on_texts_equal rule_text };
+}
+
 // The type of REJECT among the options of the target.
 fn reject_in(extras: &[Setting]) -> RejectType
     ensures { result ≡ reject_in extras.now }

@@ -1,5 +1,6 @@
-use Rattle.std.proofs.Common.{arith, ◌<◌, ◌≤◌, ap, sym, ◌∙◌, length, insert, Bool, subst}
+use Rattle.std.proofs.Common.{arith, ◌≤◌, ap, sym, ◌∙◌, length, insert, Bool, subst}
 use Rattle.classify.specs.declared.line.Piece.{Piece}
+use Rattle.classify.specs.Bits.{TakesBit}
 use Rattle.classify.proofs.LoopLaws.{mapped_first, mapped_read, mapped_more, mapped_all}
 use Rattle.classify.proofs.edit.put_answers.Goals as goal
 
@@ -15,7 +16,7 @@ put-requires-clause-place c =
 pub put-requires-clause-room : goal.put-requires-clause-room
 put-requires-clause-room c =
     let h = c.loop-i.invariant in
-    let P : Piece → Type 0 = λ p. 0 < p.row.room in
+    let P : Piece → Type 0 = λ p. TakesBit p.row in
     subst P (sym (mapped_read _ _ _ _ _ h c.index_mut-piece.ensures.value)) (c.requires.room c.loop-i.i c.index_mut-piece.result.now (omega (arith, h.as_long)))
 
 pub loop-i-preserved : goal.loop-i-preserved

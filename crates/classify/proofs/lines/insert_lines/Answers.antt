@@ -3,7 +3,6 @@ use Rattle.std.proofs.lemmas.Bool.{false≢true}
 use Rattle.std.proofs.lemmas.List.Elements.{All-weaker}
 use Rattle.classify.specs.declared.line.Piece.{Piece}
 use Rattle.fields.specs.Spans.{SpanSet}
-use Rattle.classify.proofs.LoopLaws.{zero_from_rising}
 use Rattle.classify.proofs.ApartLaws.{apart_after}
 use Rattle.classify.proofs.BoxLaws.{all_rows_kept, places_from_rows, says_from_line, long_after, same_after_merge}
 use Rattle.classify.proofs.lines.insert_lines.Goals as goal
@@ -13,6 +12,9 @@ no_set = record { top = 0; intervals = [] }
 
 pub prepare_lines-requires-clause-rising : goal.prepare_lines-requires-clause-rising
 prepare_lines-requires-clause-rising c k s l lt = (c.requires.sound k s l lt).rising
+
+pub prepare_lines-requires-clause-rows : goal.prepare_lines-requires-clause-rows
+prepare_lines-requires-clause-rows c k l lt = (c.requires.sound k no_set l lt).rows
 
 pub commit_lines-requires-clause-rising : goal.commit_lines-requires-clause-rising
 commit_lines-requires-clause-rising c k s l lt = (c.prepare_lines.ensures.split k s l (omega (arith, c.prepare_lines.auto.lines))).rising
@@ -26,10 +28,14 @@ commit_lines-requires-clause-place c k l lt =
     all_rows_kept (λ bs. c.args.at ≤ length bs) _ _ _ _ sound.rising split
     (All-weaker (λ (p : Piece). length p.row.bits ≡ c.args.len) (λ (p : Piece). c.args.at ≤ length p.row.bits) (λ p e. omega (arith, c.requires.place)) (get_or c.args.lines.now k l).pieces.items places)
 
-pub merge_lines-requires : goal.merge_lines-requires
-merge_lines-requires c k l lt =
+pub unsplit_lines-requires-clause-rising : goal.unsplit_lines-requires-clause-rising
+unsplit_lines-requires-clause-rising c k s l lt = (c.prepare_lines.ensures.split k s l (omega (arith, c.prepare_lines.auto.lines))).rising
+
+pub unsplit_lines-requires-clause-apart : goal.unsplit_lines-requires-clause-apart
+unsplit_lines-requires-clause-apart c k s l lt =
     let lt' : k < length c.args.lines.now = omega (arith, c.prepare_lines.auto.lines) in
-    zero_from_rising _ _ (c.prepare_lines.ensures.split k no_set l lt').rising
+    let sound = c.requires.sound k s l lt' in
+    apart_after _ _ _ _ sound.rising sound.differ (c.prepare_lines.ensures.split k s l lt')
 
 pub returns-in-Ok-clause-ok : goal.returns-in-Ok-clause-ok
 returns-in-Ok-clause-ok c k s l lt sets line =
@@ -50,7 +56,7 @@ returns-in-Err-clause-err c k l lt =
     let lt' : k < length c.prepare_lines.new.lines = omega (arith, c.prepare_lines.auto.lines) in
     let sound = c.requires.sound k no_set l lt in
     let split = c.prepare_lines.ensures.split k no_set l lt in
-    same_after_merge _ _ _ _ _ sound.rising sound.differ split (c.merge_lines.ensures _ k l lt' split.rising)
+    same_after_merge _ _ _ _ _ sound.rising sound.differ split (c.unsplit_lines.ensures k no_set l lt')
 
 pub returns-in-Err-clause-there : goal.returns-in-Err-clause-there
 returns-in-Err-clause-there c part cuts =

@@ -1,9 +1,13 @@
-use Rattle.std.proofs.Common.{arith, get_or, length, ◌<◌, ◌≢◌, ◌%◌, sym, subst, List}
+use Rattle.std.proofs.Common.{◌≡◌, ◌∙◌, ap, inl, inr, arith, get_or, length, ◌<◌, ◌≢◌, ◌%◌, sym, subst, List}
 use Rattle.std.proofs.lemmas.Bool.{false≢true}
+use Rattle.std.proofs.lemmas.List.Elements.{All-weaker}
+use Rattle.classify.specs.declared.line.Piece.{Piece}
+use Rattle.classify.specs.Bits.{TakesBit}
 use Rattle.classify.specs.Cuts.{CutsStart}
 use Rattle.classify.specs.Steps.{IsSplitOf}
 use Rattle.classify.specs.Fields.{shown_line}
-use Rattle.classify.proofs.BoxLaws.{all_rows_kept, Cut}
+use Rattle.classify.specs.Edits.{EachRow}
+use Rattle.classify.proofs.BoxLaws.{all_rows_kept, long_after, places_from_rows, Cut}
 use Rattle.classify.proofs.ClassifierLaws.{no_set}
 use Rattle.classify.proofs.lines.prepare_lines.Goals as goal
 
@@ -21,7 +25,22 @@ pub returns-clause-ready : goal.returns-clause-ready
 returns-clause-ready c k s l lt =
     let lt' : k < length c.split_lines.new.lines = omega (arith, c.split_lines.auto.lines) in
     let P : List Cut → Type 0 = λ line. CutsStart (get_or c.args.spans.now k s).top (get_or c.args.spans.now k s).intervals line in
-    record { cuts = subst P (sym (c.reserve_lines.ensures.same k l lt')) (c.in_ok-split_lines.ensures.cuts k s l lt); room = c.in_ok-reserve_lines.ensures.room k l lt' }
+    record {
+      cuts = subst P (sym (c.reserve_lines.ensures.same k l lt')) (c.in_ok-split_lines.ensures.cuts k s l lt);
+      room =
+          All-weaker (λ (p : Piece). 0 < p.row.room) (λ (p : Piece). TakesBit p.row) (λ p room. inr room) (get_or c.reserve_lines.new.lines k l).pieces.items (c.in_ok-reserve_lines.ensures.room k l lt');
+    }
+
+pub returns-then-len-ne0-clause-ready : goal.returns-then-len-ne0-clause-ready
+returns-then-len-ne0-clause-ready c k s l lt =
+    let split = c.split_lines.ensures.split k s l lt in
+    let rows : EachRow c.args.len (shown_line (get_or c.split_lines.new.lines k l)) = long_after c.args.len _ _ _ (c.requires.rising k s l lt) split.rising split.same (c.requires.rows k l lt) in
+    record {
+      cuts = c.in_ok-split_lines.ensures.cuts k s l lt;
+      room =
+          All-weaker (λ (p : Piece). length p.row.bits ≡ c.args.len) (λ (p : Piece). TakesBit p.row) (λ p e. inl (λ z. c.if-len-ne0.true (sym (ap (λ n. n % 64) e) ∙ z)))
+          (get_or c.split_lines.new.lines k l).pieces.items (places_from_rows c.args.len (get_or c.split_lines.new.lines k l).pieces.items rows);
+    }
 
 pub returns-in_err-split_lines-clause-there : goal.returns-in_err-split_lines-clause-there
 returns-in_err-split_lines-clause-there c room = absurd (false≢true (c.in_err-split_lines.ensures.there (λ k s l lt. (room k s l lt).cuts)))

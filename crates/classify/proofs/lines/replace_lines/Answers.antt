@@ -1,7 +1,6 @@
 use Rattle.std.proofs.Common.{arith, length, ◌<◌, [], ◌∙◌}
 use Rattle.std.proofs.lemmas.Bool.{false≢true}
 use Rattle.fields.specs.Spans.{SpanSet}
-use Rattle.classify.proofs.LoopLaws.{zero_from_rising}
 use Rattle.classify.proofs.BoxLaws.{says_from_line, long_after, same_after_merge}
 use Rattle.classify.proofs.ApartLaws.{apart_after}
 use Rattle.classify.proofs.lines.replace_lines.Goals as goal
@@ -32,10 +31,14 @@ settle_lines-requires-clause-apart c k s l lt =
     let sound = c.requires.sound k s l lt' in
     apart_after _ _ _ _ sound.rising sound.differ (c.split_lines.ensures.split k s l lt')
 
-pub merge_lines-requires : goal.merge_lines-requires
-merge_lines-requires c k l lt =
+pub unsplit_lines-requires-clause-rising : goal.unsplit_lines-requires-clause-rising
+unsplit_lines-requires-clause-rising c k s l lt = (c.split_lines.ensures.split k s l (omega (arith, c.split_lines.auto.lines))).rising
+
+pub unsplit_lines-requires-clause-apart : goal.unsplit_lines-requires-clause-apart
+unsplit_lines-requires-clause-apart c k s l lt =
     let lt' : k < length c.args.lines.now = omega (arith, c.split_lines.auto.lines) in
-    zero_from_rising _ _ (c.split_lines.ensures.split k no_set l lt').rising
+    let sound = c.requires.sound k s l lt' in
+    apart_after _ _ _ _ sound.rising sound.differ (c.split_lines.ensures.split k s l lt')
 
 pub returns-in-Ok-clause-ok : goal.returns-in-Ok-clause-ok
 returns-in-Ok-clause-ok c k s l lt sets line =
@@ -55,7 +58,7 @@ returns-in-Err-clause-err c k l lt =
     let lt' : k < length c.split_lines.new.lines = omega (arith, c.split_lines.auto.lines) in
     let sound = c.requires.sound k no_set l lt in
     let split = c.split_lines.ensures.split k no_set l lt in
-    same_after_merge _ _ _ _ _ sound.rising sound.differ split (c.merge_lines.ensures _ k l lt' split.rising)
+    same_after_merge _ _ _ _ _ sound.rising sound.differ split (c.unsplit_lines.ensures k no_set l lt')
 
 pub returns-in-Err-clause-there : goal.returns-in-Err-clause-there
 returns-in-Err-clause-there c cuts = absurd (false≢true (c.in-Err.ensures.there cuts))

@@ -1,7 +1,18 @@
-use Rattle.std.proofs.Common.{sym, ◌∙◌, ◌≡◌, ◌≤◌, ap, length, arith, insert}
-use Rattle.classify.specs.Bits.{Row}
+use Rattle.std.proofs.Common.{inl, inr, sym, ◌∙◌, ◌≡◌, ◌≢◌, ◌≤◌, ◌%◌, ap, length, arith, rules, insert, vec_len, vec_capacity}
+use Rattle.classify.specs.Bits.{Row, room_of}
 use Rattle.classify.proofs.RowLaws.{front_len, put_packed_vec, put_bits_vec, zero_packed, zero_bits}
 use Rattle.classify.proofs.bit_row.BitRow.put.Goals as goal
+
+pub open_word-requires-clause-room : goal.open_word-requires-clause-room
+open_word-requires-clause-room c =
+    let n : length c.args.self.now.bits ≡ c.self.inside.len = sym (ap (λ (r : Row). length r.bits) c.self.view_is) ∙ front_len c.self.inside.words.items c.self.inside.len c.self.invariant in
+    elim c.requires.room [
+      | inl odd ↦ (
+          let ne : c.self.inside.len % 64 ≢ 0 = λ z. odd (ap (λ k. k % 64) n ∙ z) in
+          let held : vec_len c.self.inside.words ≡ length c.self.inside.words.items = search rules in
+          omega (arith, c.self.invariant.covers, c.self.invariant.few, c.self.inside.words.ok.1))
+      | inr room ↦ (let same : room_of (vec_capacity c.self.inside.words) c.self.inside.len ≡ c.args.self.now.room = ap (λ (r : Row). r.room) c.self.view_is in omega arith)
+    ]
 
 pub invariant_of-self-2 : goal.invariant_of-self-2
 invariant_of-self-2 c =

@@ -3,42 +3,43 @@ use Rattle.std.proofs.lemmas.Bool.{false≢true}
 use Rattle.fields.specs.declared.field.TheConstants.{FIELDS}
 use Rattle.classify.specs.Classifier.{Classified, IsClassifierOf, HasNoNewCut}
 use Rattle.classify.specs.Fields.{IsKept}
-use Rattle.classify.proofs.ClassifierLaws.{classifier_written, sound_lines, still_sound, same_shown, no_new_cuts}
+use Rattle.classify.proofs.ClassifierLaws.{classifier_written, sound_lines, still_sound, same_shown, no_new_cuts, on_err_anyway}
 use Rattle.classify.proofs.classifier.Classifier.replace.Goals as goal
 
 pub replace_lines-requires-clause-sound : goal.replace_lines-requires-clause-sound
 replace_lines-requires-clause-sound c =
     let n : length c.self.inside.lines ≡ FIELDS = search rules in
-    sound_lines c.self.inside.lines c.lent.result.now c.args.boxed c.self.inside.len n c.lent.ensures.value c.lent.ensures.whole c.self.invariant
+    sound_lines c.self.inside.lines c.spans.result.now c.args.boxed c.self.inside.len n c.spans.ensures.value c.spans.ensures.whole c.self.invariant
 
 pub invariant_of-self-2 : goal.invariant_of-self-2
 invariant_of-self-2 c =
     let n : length c.self.inside.lines ≡ FIELDS = search rules in
     let m : length c.replace_lines.new.lines ≡ length c.self.inside.lines = c.replace_lines.auto.lines in
-    still_sound c.replace_lines.new.lines c.lent.result.now c.args.boxed c.self.inside.len (m ∙ n) c.lent.ensures.value c.lent.ensures.whole c.self.invariant.few
-    (λ k s l lt. c.in-Ok.ensures.sound k s l (omega arith))
+    still_sound c.replace_lines.new.lines c.spans.result.now c.args.boxed c.self.inside.len (m ∙ n) c.spans.ensures.value c.spans.ensures.whole c.self.invariant.few
+    (λ k s l lt. c.in_ok-replace_lines.ensures.sound k s l (omega arith))
 
 pub returns-clause-ok : goal.returns-clause-ok
 returns-clause-ok c boxes h =
     let n : length c.self.inside.lines ≡ FIELDS = search rules in
     let m : length c.replace_lines.new.lines ≡ length c.self.inside.lines = c.replace_lines.auto.lines in
     let P : Classified → Type 0 = λ k. IsClassifierOf boxes k in
-    classifier_written c.self.inside.lines c.replace_lines.new.lines c.lent.result.now c.args.boxed boxes c.self.inside.len c.args.at n m c.lent.ensures.value c.lent.ensures.whole
-    c.in-Ok.ensures.ok (subst P (sym c.self.view_is) h)
+    classifier_written c.self.inside.lines c.replace_lines.new.lines c.spans.result.now c.args.boxed boxes c.self.inside.len c.args.at n m c.spans.ensures.value c.spans.ensures.whole
+    c.in_ok-replace_lines.ensures.ok (subst P (sym c.self.view_is) h)
 
 pub invariant_of-self : goal.invariant_of-self
 invariant_of-self c =
     let m : length c.replace_lines.new.lines ≡ length c.self.inside.lines = c.replace_lines.auto.lines in
     let P : List (List (ℕ × List Bool)) → Type 0 = λ lines. IsKept (record { len = c.self.inside.len; lines = lines }) in
-    subst P (sym (same_shown c.self.inside.lines c.replace_lines.new.lines m c.in-Err.ensures.err)) c.self.invariant
+    subst P (sym (same_shown c.self.inside.lines c.replace_lines.new.lines m c.in_err-replace_lines.ensures.err)) c.self.invariant
 
-pub returns-in-Err-clause-err : goal.returns-in-Err-clause-err
-returns-in-Err-clause-err c =
+pub returns-in_err-replace_lines-clause-err : goal.returns-in_err-replace_lines-clause-err
+returns-in_err-replace_lines-clause-err c =
     let m : length c.replace_lines.new.lines ≡ length c.self.inside.lines = c.replace_lines.auto.lines in
-    ap (λ (lines : List (List (ℕ × List Bool))). record { len = c.self.inside.len; lines = lines }) (same_shown c.self.inside.lines c.replace_lines.new.lines m c.in-Err.ensures.err) ∙ c.self.view_is
+    on_err_anyway c.from_residual.result (
+    ap (λ (lines : List (List (ℕ × List Bool))). record { len = c.self.inside.len; lines = lines }) (same_shown c.self.inside.lines c.replace_lines.new.lines m c.in_err-replace_lines.ensures.err) ∙ c.self.view_is)
 
-pub returns-in-Err-clause-there : goal.returns-in-Err-clause-there
-returns-in-Err-clause-there c none =
+pub returns-in_err-replace_lines-clause-there : goal.returns-in_err-replace_lines-clause-there
+returns-in_err-replace_lines-clause-there c none =
     let n : length c.self.inside.lines ≡ FIELDS = search rules in
     let P : Classified → Type 0 = λ k. HasNoNewCut c.args.boxed k in
-    absurd (false≢true (c.in-Err.ensures.there (no_new_cuts c.self.inside.lines c.lent.result.now c.args.boxed c.self.inside.len n c.lent.ensures.value c.lent.ensures.whole (subst P (sym c.self.view_is) none))))
+    absurd (false≢true (c.in_err-replace_lines.ensures.there (no_new_cuts c.self.inside.lines c.spans.result.now c.args.boxed c.self.inside.len n c.spans.ensures.value c.spans.ensures.whole (subst P (sym c.self.view_is) none))))
