@@ -1,0 +1,69 @@
+//! The boxes of rules.
+use crate::case::{Refusals, Trouble, again, expect, expect_kept};
+use crate::rulings::{has_text, rule_of};
+use crate::sets::{Ends, has_just};
+use fields::{FIELDS, Field};
+use rules::{Boxed, Work};
+use std::alloc::Global;
+
+/// The box of the rule that a line writes.
+pub fn box_of(alloc: Global, refusals: &mut Refusals, line: &[u8]) -> Result<Boxed, Trouble> {
+    let rule = rule_of(alloc, refusals, line)?;
+    let mut work = Work::new();
+    Ok(again!(refusals, Boxed::of(alloc, &rule, &mut work), true))
+}
+
+/// Whether a box has these intervals on these fields, and all numbers on the others.
+fn is_box(boxed: &Boxed, rows: &[(Field, &[Ends])]) -> bool {
+    for field in Field::ALL {
+        let set = &boxed.spans()[field.index()];
+        let expected = match rows.iter().find(|row| row.0 == field) {
+            Some(row) => has_just(set, row.1),
+            None => has_just(set, &[(0, field.top())]),
+        };
+        if !expected || set.top() != field.top() {
+            return false;
+        }
+    }
+    boxed.spans().len() == FIELDS
+}
+
+/// `Boxed::of`.
+pub fn of(alloc: Global, refusals: &mut Refusals) -> Result<(), Trouble> {
+    let rows: [(&[u8], &[u8], &[(Field, &[Ends])]); 3] = [
+        (b"-j DROP", b" -j DROP", &[]),
+        (
+            b"-p tcp ! --dport 80 -j DROP",
+            b" -p tcp -m tcp ! --dport 80 -j DROP",
+            &[
+                (Field::Protocol, &[(6, 6)]),
+                (Field::Fragment, &[(0, 0)]),
+                (Field::DestinationPort, &[(0, 79), (81, 65535)]),
+            ],
+        ),
+        (
+            b"-m iprange --src-range 10.0.0.9-10.0.0.1 -j DROP",
+            b" -m iprange --src-range 10.0.0.9-10.0.0.1 -j DROP",
+            &[(Field::Source, &[])],
+        ),
+    ];
+    for (line, text, sets) in rows {
+        let rule = rule_of(alloc, refusals, line)?;
+        let mut work = Work::new();
+        let mut calls = 1;
+        let boxed = match Boxed::of(alloc, &rule, &mut work) {
+            Ok(boxed) => boxed,
+            Err(_) => {
+                refusals.note();
+                expect_kept(work.boxes() == 1 && has_text(alloc, refusals, &rule, text)?)?;
+                calls = 2;
+                match Boxed::of(alloc, &rule, &mut work) {
+                    Ok(boxed) => boxed,
+                    Err(_) => return Err(Trouble::RefusedTwice),
+                }
+            }
+        };
+        expect(work.boxes() == calls && is_box(&boxed, sets))?;
+    }
+    Ok(())
+}

@@ -1,0 +1,206 @@
+//! Classifiers: the lines of a list of boxes.
+use crate::bits::has_bits;
+use crate::boxes::box_of;
+use crate::case::{Refusals, Trouble, again, expect, expect_kept};
+use classify::{Classifier, Line};
+use fields::Field;
+use std::alloc::Global;
+
+/// The start of a piece, and the places of the boxes that allow its numbers.
+type Cut<'a> = (u128, &'a [usize]);
+
+/// The line of a field.
+type Row<'a> = (Field, &'a [Cut<'a>]);
+
+const FIRST: &[u8] = b"-s 10.1.2.3/8 -j ACCEPT";
+
+const SECOND: &[u8] = b"-p tcp --dport 22 -j DROP";
+
+const ANY: &[u8] = b"-j LOG";
+
+/// The lines of the first box alone.
+const OF_FIRST: [Row<'static>; 1] = [(
+    Field::Source,
+    &[(0, &[]), (167_772_160, &[0]), (184_549_376, &[])],
+)];
+
+/// The lines of the second box alone.
+const OF_SECOND: [Row<'static>; 3] = [
+    (Field::Protocol, &[(0, &[]), (6, &[0]), (7, &[])]),
+    (Field::Fragment, &[(0, &[0]), (1, &[])]),
+    (Field::DestinationPort, &[(0, &[]), (22, &[0]), (23, &[])]),
+];
+
+/// The lines of the two boxes.
+const OF_BOTH: [Row<'static>; 4] = [
+    (
+        Field::Source,
+        &[(0, &[1]), (167_772_160, &[0, 1]), (184_549_376, &[1])],
+    ),
+    (Field::Protocol, &[(0, &[0]), (6, &[0, 1]), (7, &[0])]),
+    (Field::Fragment, &[(0, &[0, 1]), (1, &[0])]),
+    (
+        Field::DestinationPort,
+        &[(0, &[0]), (22, &[0, 1]), (23, &[0])],
+    ),
+];
+
+/// The lines of a box without conditions before the two.
+const OF_ANY_AND_BOTH: [Row<'static>; 4] = [
+    (
+        Field::Source,
+        &[
+            (0, &[0, 2]),
+            (167_772_160, &[0, 1, 2]),
+            (184_549_376, &[0, 2]),
+        ],
+    ),
+    (
+        Field::Protocol,
+        &[(0, &[0, 1]), (6, &[0, 1, 2]), (7, &[0, 1])],
+    ),
+    (Field::Fragment, &[(0, &[0, 1, 2]), (1, &[0, 1])]),
+    (
+        Field::DestinationPort,
+        &[(0, &[0, 1]), (22, &[0, 1, 2]), (23, &[0, 1])],
+    ),
+];
+
+fn is_line(line: &Line, boxes: usize, cuts: &[Cut]) -> bool {
+    let pieces = line.pieces();
+    if pieces.len() != cuts.len() {
+        return false;
+    }
+    for place in 0..pieces.len() {
+        let (start, set) = cuts[place];
+        if pieces[place].start != start || !has_bits(&pieces[place].row, boxes, set) {
+            return false;
+        }
+    }
+    true
+}
+
+/// Whether there are so many boxes, with these lines on these fields and one piece that all allow on the others.
+fn is_of(classifier: &Classifier, boxes: usize, rows: &[Row]) -> bool {
+    let all = [0, 1, 2];
+    if classifier.len() != boxes || boxes > all.len() {
+        return false;
+    }
+    for field in Field::ALL {
+        let line = classifier.line(field);
+        let is_row = match rows.iter().find(|row| row.0 == field) {
+            Some(row) => is_line(line, boxes, row.1),
+            None => is_line(line, boxes, &[(0, &all[..boxes])]),
+        };
+        if !is_row {
+            return false;
+        }
+    }
+    true
+}
+
+/// Puts the box of a rule in at a place; a refusal leaves the lines that were there.
+fn put(
+    alloc: Global,
+    refusals: &mut Refusals,
+    classifier: &mut Classifier,
+    place: usize,
+    line: &[u8],
+    rows: &[Row],
+) -> Result<(), Trouble> {
+    let boxes = classifier.len();
+    for _ in 0..2 {
+        let boxed = box_of(alloc, refusals, line)?;
+        if place > classifier.len() {
+            return Err(Trouble::OtherAnswer);
+        }
+        if classifier.insert(place, boxed).is_ok() {
+            return Ok(());
+        }
+        refusals.note();
+        expect_kept(is_of(classifier, boxes, rows))?;
+    }
+    Err(Trouble::RefusedTwice)
+}
+
+fn none(alloc: Global, refusals: &mut Refusals) -> Result<Classifier, Trouble> {
+    Ok(again!(refusals, Classifier::new(alloc), true))
+}
+
+fn of_both(alloc: Global, refusals: &mut Refusals) -> Result<Classifier, Trouble> {
+    let mut classifier = none(alloc, refusals)?;
+    put(alloc, refusals, &mut classifier, 0, FIRST, &[])?;
+    put(alloc, refusals, &mut classifier, 1, SECOND, &OF_FIRST)?;
+    expect(is_of(&classifier, 2, &OF_BOTH))?;
+    Ok(classifier)
+}
+
+/// `Classifier::new`.
+pub fn new(alloc: Global, refusals: &mut Refusals) -> Result<(), Trouble> {
+    let classifier = none(alloc, refusals)?;
+    expect(is_of(&classifier, 0, &[]))
+}
+
+/// `Classifier::copy`.
+pub fn copy(alloc: Global, refusals: &mut Refusals) -> Result<(), Trouble> {
+    let classifier = of_both(alloc, refusals)?;
+    let copy = again!(
+        refusals,
+        classifier.copy(alloc),
+        is_of(&classifier, 2, &OF_BOTH)
+    );
+    expect(is_of(&copy, 2, &OF_BOTH) && is_of(&classifier, 2, &OF_BOTH))
+}
+
+/// `Classifier::insert`, of boxes that bring new cuts, behind another box and before it.
+pub fn insert(alloc: Global, refusals: &mut Refusals) -> Result<(), Trouble> {
+    let _behind = of_both(alloc, refusals)?;
+    let mut classifier = none(alloc, refusals)?;
+    put(alloc, refusals, &mut classifier, 0, SECOND, &[])?;
+    put(alloc, refusals, &mut classifier, 0, FIRST, &OF_SECOND)?;
+    expect(is_of(&classifier, 2, &OF_BOTH))
+}
+
+/// `Classifier::replace`, by a box that brings new cuts and lacks old ones.
+pub fn replace(alloc: Global, refusals: &mut Refusals) -> Result<(), Trouble> {
+    let mut classifier = none(alloc, refusals)?;
+    put(alloc, refusals, &mut classifier, 0, FIRST, &[])?;
+    for _ in 0..2 {
+        let boxed = box_of(alloc, refusals, SECOND)?;
+        if classifier.len() == 0 {
+            return Err(Trouble::OtherAnswer);
+        }
+        if classifier.replace(0, boxed).is_ok() {
+            return expect(is_of(&classifier, 1, &OF_SECOND));
+        }
+        refusals.note();
+        expect_kept(is_of(&classifier, 1, &OF_FIRST))?;
+    }
+    Err(Trouble::RefusedTwice)
+}
+
+/// A box without conditions, made before, goes into a classifier of two boxes and takes the place of one.
+///
+/// Neither call takes memory: the contracts of `insert` and `replace` (`there`) promise success, since there is room for a
+/// third bit in each word and no cut is new. Here each allocation of the run is refused in turn, and both have to succeed
+/// at the first call every time.
+pub fn needless(alloc: Global, refusals: &mut Refusals) -> Result<(), Trouble> {
+    let mut classifier = of_both(alloc, refusals)?;
+    let (put_in, put_over) = (box_of(alloc, refusals, ANY)?, box_of(alloc, refusals, ANY)?);
+    if classifier.len() != 2 || classifier.insert(0, put_in).is_err() {
+        return Err(Trouble::Needless);
+    }
+    expect(is_of(&classifier, 3, &OF_ANY_AND_BOTH))?;
+    if classifier.len() != 3 {
+        return Err(Trouble::OtherAnswer);
+    }
+    classifier.remove(0);
+    if classifier.len() != 2 || classifier.replace(1, put_over).is_err() {
+        return Err(Trouble::Needless);
+    }
+    let rows: [Row; 1] = [(
+        Field::Source,
+        &[(0, &[1]), (167_772_160, &[0, 1]), (184_549_376, &[1])],
+    )];
+    expect(is_of(&classifier, 2, &rows))
+}

@@ -1,0 +1,88 @@
+//! The program `refusals`: each call that takes memory, on small cases. Where a call answers want of memory, all that it was
+//! given has to be as before, and the same call made again has to give the expected answer.
+//!
+//! It is made for runs in which one allocation is refused. Each byte of standard input takes memory once before the first case,
+//! so that with the Nth allocation of the run refused, the length of the input says which one of the cases it is.
+//! What is printed is the same whether one was refused or not. The status is 0 where no call was refused, and 4 where one was.
+#![tactic(auto)]
+
+mod bits;
+mod boxes;
+mod case;
+mod classifiers;
+mod rulings;
+mod sets;
+mod values;
+mod words;
+
+use crate::case::{Refusals, Trouble};
+use std::alloc::Global;
+use std::io::{BufRead, BufReader};
+use std::process::ExitCode;
+
+/// Takes memory once for each byte of the input, and gives it back.
+fn take_first<R: BufRead>(alloc: Global, input: &mut R) {
+    for _ in 0..u64::MAX {
+        let count = match input.fill_buf() {
+            Ok(shown) => shown.len(),
+            Err(_) => 0,
+        };
+        if count == 0 {
+            return;
+        }
+        for _ in 0..count {
+            let mut taken = Vec::new(alloc);
+            let _ = taken.push(0u8);
+        }
+        input.consume(count);
+    }
+}
+
+/// Prints how a case ended.
+fn tell<R: Print>(rt: &R, name: &str, ended: Result<(), Trouble>) {
+    let _ = match ended {
+        Ok(()) => println!(rt; "{name}: as expected"),
+        Err(trouble) => println!(rt; "{name}: {trouble}"),
+    };
+}
+
+fn run<R: Print + AllocGlobal>(rt: &R, refusals: &mut Refusals) {
+    let alloc = rt.alloc();
+    tell(rt, "words", words::split(alloc, refusals));
+    tell(rt, "whole sets", sets::whole(alloc, refusals));
+    tell(rt, "one interval", sets::one(alloc, refusals));
+    tell(rt, "other numbers", sets::except(alloc, refusals));
+    tell(rt, "numbers in both", sets::meet(alloc, refusals));
+    tell(rt, "numbers in either", sets::join(alloc, refusals));
+    tell(rt, "addresses", values::addresses(alloc, refusals));
+    tell(rt, "interfaces", values::interfaces(alloc, refusals));
+    tell(rt, "ports", values::ports(alloc, refusals));
+    tell(rt, "icmp types", values::icmp_types(alloc, refusals));
+    tell(rt, "flags and states", values::flags(alloc, refusals));
+    tell(rt, "rules read", rulings::read_all(alloc, refusals));
+    tell(rt, "rules copied", rulings::copy_all(alloc, refusals));
+    tell(rt, "boxes", boxes::of(alloc, refusals));
+    tell(rt, "bits", bits::insert(alloc, refusals));
+    tell(rt, "no box", classifiers::new(alloc, refusals));
+    tell(rt, "boxes copied", classifiers::copy(alloc, refusals));
+    tell(rt, "boxes put in", classifiers::insert(alloc, refusals));
+    tell(
+        rt,
+        "boxes put over others",
+        classifiers::replace(alloc, refusals),
+    );
+    tell(
+        rt,
+        "boxes without a new cut",
+        classifiers::needless(alloc, refusals),
+    );
+}
+
+fn main(rt: HostRuntime) -> ExitCode {
+    if let Ok(mut input) = BufReader::new(rt.alloc(), rt.reader()) {
+        take_first(rt.alloc(), &mut input);
+    }
+    let mut refusals = Refusals::new();
+    run(&rt, &mut refusals);
+    ExitCode::from(if refusals.any() { 4 } else { 0 })
+}
