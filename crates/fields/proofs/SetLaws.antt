@@ -47,11 +47,3 @@ neither a b out_a out_b none either f g h is = is ∙ ap not (h ∙ ap (λ t. t 
     go true b = refl
     go false true = refl
     go false false = refl
-
--- no number is from 1 to 0
-pub no_number : (x : ℕ) → (nat_le 1 x && nat_le x 0) ≡ false
-no_number x =
-    elim (cases_lt x 1) [
-      | inl lt ↦ ap (λ t. t && nat_le x 0) (lt-leb 1 x lt)
-      | inr ge ↦ ap (λ t. nat_le 1 x && t) (lt-leb x 0 (omega arith)) ∙ and-false (nat_le 1 x)
-    ]
