@@ -25,7 +25,8 @@ use Rattle.classify.specs.Fields.{shown_line, tops, IsKept}
 use Rattle.classify.specs.Search.{IsRow, AreRows, AreWide, HaveAll, IsFirst}
 use Rattle.rules.specs.Boxed.{set_on}
 use Rattle.rules.proofs.BoxLaws.{index-lt, here_is}
-use Rattle.classify.specs.Classifier.{allows, line_on, Classified, IsClassifierOf, number_on, IsPoint, allows_point, next_match}
+use Rattle.classify.specs.Classifier.{allows, line_on, Classified, IsClassifierOf, IsPoint, allows_point, next_match}
+use Rattle.fields.specs.Field.{number_on}
 use Rattle.classify.proofs.BoxLaws.{says_from_line}
 use Rattle.classify.proofs.WordLaws.{length-all_bits}
 use Rattle.classify.proofs.ClassifierLaws.{field_at, row_of_sets, line_of_sets, shown_at_place, row_long}

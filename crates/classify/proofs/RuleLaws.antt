@@ -4,14 +4,13 @@ use Rattle.std.specs.List.{list_all, position, position_or_len}
 use Rattle.std.specs.Option.{option_map}
 use Rattle.std.proofs.lemmas.List.{drop-map, length-map}
 use Rattle.fields.specs.declared.field.Field.{Field}
-use Rattle.fields.specs.declared.field.TheConstants.Field.{ALL}
-use Rattle.fields.specs.Field.{top}
+use Rattle.fields.specs.Field.{all_fields, number_on, top}
 use Rattle.fields.specs.Spans.{SpanSet}
 use Rattle.rules.specs.Allows as rules
 use Rattle.rules.specs.Boxed.{IsBoxOf}
 use Rattle.rules.specs.Rules.{Rule}
-use Rattle.classify.specs.Classifier.{line_on, number_on, allows, allows_point, next_match}
-use Rattle.classify.specs.RuleLines.{AreBoxesOf, rule_allows_point, BoxesHaveTheRulesLines, BoxesHaveTheRulesMatches}
+use Rattle.classify.specs.Classifier.{line_on, allows, allows_point, next_match}
+use Rattle.classify.specs.RuleLines.{AreBoxesOf, BoxesHaveTheRulesLines, BoxesHaveTheRulesMatches}
 use Rattle.classify.proofs.LineLaws.{line_alike}
 
 -- what holds of each rule and its box holds of the answers
@@ -46,7 +45,7 @@ next_by_answers test xs from =
 
 pub matches_of_rules : BoxesHaveTheRulesMatches
 matches_of_rules rs bs point from are within =
-    let same : map (allows_point point) bs ≡ map (rule_allows_point point) rs =
-    answers_alike (rule_allows_point point) (allows_point point)
-    (λ r b h. all_alike (λ f. rules.allows r f (number_on point f)) (λ f. allows b f (number_on point f)) (λ f. h f (number_on point f) (within f)) ALL) rs bs are in
-    sym (next_by_answers (allows_point point) bs from) ∙ ap (λ (xs : List Bool). option_map (λ (k : ℕ). from + k) (position (λ b. b) (drop from xs))) same ∙ next_by_answers (rule_allows_point point) rs from
+    let same : map (allows_point point) bs ≡ map (rules.matches point) rs =
+    answers_alike (rules.matches point) (allows_point point)
+    (λ r b h. all_alike (λ f. rules.allows r f (number_on point f)) (λ f. allows b f (number_on point f)) (λ f. h f (number_on point f) (within f)) all_fields) rs bs are in
+    sym (next_by_answers (allows_point point) bs from) ∙ ap (λ (xs : List Bool). option_map (λ (k : ℕ). from + k) (position (λ b. b) (drop from xs))) same ∙ next_by_answers (rules.matches point) rs from

@@ -1,10 +1,9 @@
 -- The classifier of a list of boxes, and the next box that allows a point.
-use Rattle.std.specs.Prelude.{◌≡◌, ℕ, ◌+◌, ◌≤◌, Bool, List, [], length, drop, slice_index, slice_index_or, Option}
+use Rattle.std.specs.Prelude.{◌≡◌, ℕ, ◌+◌, ◌≤◌, Bool, List, [], length, drop, slice_index_or, Option}
 use Rattle.std.specs.Option.{option_map}
 use Rattle.std.specs.List.{list_all, position}
 use Rattle.fields.specs.declared.field.Field.{Field}
-use Rattle.fields.specs.declared.field.TheConstants.Field.{ALL}
-use Rattle.fields.specs.Field.{index, top}
+use Rattle.fields.specs.Field.{all_fields, index, number_on, top}
 use Rattle.fields.specs.Spans.{SpanSet, has}
 use Rattle.rules.specs.Boxed.{set_on}
 use Rattle.classify.specs.Line.{IsLineOf}
@@ -32,17 +31,13 @@ pub record IsClassifierOf (boxes : List (List SpanSet)) (c : Classified) : Type 
 abbrev pub HasNoNewCut : List SpanSet → Classified → Type 0
 HasNoNewCut box c = (field : Field) → CutsStart (top field) (set_on field box) (line_on field c)
 
--- the number of a point on a field
-abbrev pub number_on : List ℕ → Field → ℕ
-number_on point field = slice_index point (index field)
-
 -- each number is within its field's top
 abbrev pub IsPoint : List ℕ → Type 0
 IsPoint point = (field : Field) → number_on point field ≤ top field
 
 -- whether a box allows each number of a point on its field
 abbrev pub allows_point : List ℕ → List SpanSet → Bool
-allows_point point box = list_all (λ field. allows box field (number_on point field)) ALL
+allows_point point box = list_all (λ field. allows box field (number_on point field)) all_fields
 
 -- the least place, at or after `from`, of a box that passes the test
 abbrev pub next_match : {B : Type 0} → (B → Bool) → List B → ℕ → Option ℕ

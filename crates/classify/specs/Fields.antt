@@ -1,9 +1,8 @@
 -- The lines of all fields at once, each at its field's place.
 use Rattle.std.specs.Prelude.{◌≢◌, ◌%◌, ℕ, ◌+◌, ◌*◌, ◌^◌, ◌-◌, ◌≤◌, ◌<◌, Bool, List, [], map, length, All, slice_index, slice_index_or, slice_set, insert, remove}
 use Rattle.fields.specs.declared.field.TheConstants.{FIELDS}
-use Rattle.fields.specs.declared.field.TheConstants.Field.{ALL}
 use Rattle.fields.specs.declared.spans.Interval.{Interval}
-use Rattle.fields.specs.Field.{top}
+use Rattle.fields.specs.Field.{all_fields, top}
 use Rattle.fields.specs.Spans.{SpanSet, has}
 use Rattle.classify.specs.declared.line.Piece.{Piece}
 use Rattle.classify.specs.declared.line.Line.{Line}
@@ -20,7 +19,7 @@ shown_line l = shown l.pieces.items
 
 -- the tops of the fields, in their order
 unfoldable pub tops : List ℕ
-tops = map top ALL
+tops = map top all_fields
 
 -- the most boxes of a classifier, so that a row's length is a `usize`
 abbrev pub most_boxes : ℕ

@@ -11,7 +11,7 @@ use Rattle.fields.specs.Field.{index, top}
 use Rattle.fields.specs.Hook.{hook_of}
 use Rattle.fields.specs.Key.{key_of, value_of}
 use Rattle.fields.specs.Number.{number_to}
-use Rattle.fields.specs.Packet.{IsPacket, text_in, text_of, number_on, word_fault, leftmost_fault, value_on, checked, packet_at, packet_of}
+use Rattle.fields.specs.Packet.{IsPacket, text_in, text_of, number_of_text, word_fault, leftmost_fault, value_on, checked, packet_at, packet_of}
 use Rattle.fields.specs.declared.field.Field.{Field}
 use Rattle.fields.specs.declared.field.Field.TheVariants as fields
 use Rattle.fields.specs.declared.field.TheConstants.Field.{ALL}
@@ -154,15 +154,15 @@ greatest_fits : (field : Field) → greatest (key_of field).value ≤ top field
 greatest_fits fields.Source = lit≤ tt
 greatest_fits _ = lit≤ tt
 
-number_on_fits : (field : Field) (text : List ℕ) (n : ℕ) → number_on field text ≡ Some n → n ≤ top field
+number_on_fits : (field : Field) (text : List ℕ) (n : ℕ) → number_of_text field text ≡ Some n → n ≤ top field
 number_on_fits field text n e = let kind = value_of_fits (key_of field).value text n e in let whole = greatest_fits field in omega (arith, kind, whole)
 
 value_on_fits : (words : List (List ℕ)) (field : Field) → value_on words field ≤ top field
-value_on_fits words field = go (text_of field words >>= λ text. number_on field text) refl
+value_on_fits words field = go (text_of field words >>= λ text. number_of_text field text) refl
   where
-    go : (o : Option ℕ) → (text_of field words >>= λ text. number_on field text) ≡ o → unwrap_or o 0 ≤ top field
+    go : (o : Option ℕ) → (text_of field words >>= λ text. number_of_text field text) ≡ o → unwrap_or o 0 ≤ top field
     go None e = omega arith
-    go (Some n) e = let (text, given, is) = step_before (text_of field words) (λ t. number_on field t) n e in number_on_fits field text n is
+    go (Some n) e = let (text, given, is) = step_before (text_of field words) (λ t. number_of_text field t) n e in number_on_fits field text n is
 
 -- a list of one value a field has each at the field's index
 at_index : (f : Field → ℕ) (field : Field) → slice_index (map f ALL) (index field) ≡ f field

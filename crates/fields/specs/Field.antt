@@ -1,5 +1,5 @@
 -- The fields of a packet.
-use Rattle.std.specs.Prelude.{ℕ, List, codes}
+use Rattle.std.specs.Prelude.{ℕ, List, [], ◌∷◌, slice_index, codes}
 use Rattle.fields.specs.declared.field.Field.{Field}
 use Rattle.fields.specs.declared.field.Field.TheVariants.{Source, Destination, InIface, OutIface, Protocol, Fragment, SourcePort, DestinationPort, TcpFlags, IcmpType, ConnectionState}
 
@@ -11,6 +11,12 @@ pub record Row : Type 0 where
 
 abbrev pub row : ℕ → ℕ → List ℕ → Row
 row index top name = record { index = index; top = top; name = name }
+
+-- the fields, in their order
+abbrev pub all_fields : List Field
+all_fields =
+    Source ∷ Destination ∷ InIface ∷ OutIface ∷ Protocol ∷ Fragment ∷ SourcePort ∷ DestinationPort ∷ TcpFlags ∷ IcmpType
+    ∷ ConnectionState ∷ []
 
 -- the table of fields
 abbrev pub row_of : Field → Row
@@ -34,3 +40,7 @@ top field = (row_of field).top
 
 abbrev pub name : Field → List ℕ
 name field = (row_of field).name
+
+-- the number on a field among numbers in the order of the fields
+abbrev pub number_on : List ℕ → Field → ℕ
+number_on numbers field = slice_index numbers (index field)

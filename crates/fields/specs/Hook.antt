@@ -1,9 +1,8 @@
 -- The places where a packet meets the table.
-use Rattle.std.specs.Prelude.{ℕ, List, Option, codes, find}
+use Rattle.std.specs.Prelude.{ℕ, List, [], ◌∷◌, Option, codes, find}
 use Rattle.std.specs.Str.{bytes_eq}
 use Rattle.fields.specs.declared.hook.Hook.{Hook}
 use Rattle.fields.specs.declared.hook.Hook.TheVariants.{Input, Forward, Output}
-use Rattle.fields.specs.declared.hook.TheConstants.Hook.{ALL}
 
 -- the name of the built-in chain
 abbrev pub name : Hook → List ℕ
@@ -11,6 +10,10 @@ name Input = codes "INPUT"
 name Forward = codes "FORWARD"
 name Output = codes "OUTPUT"
 
+-- the hooks, in the order of a listing
+abbrev pub all_hooks : List Hook
+all_hooks = Input ∷ Forward ∷ Output ∷ []
+
 -- the hook of this name
 abbrev pub hook_of : List ℕ → Option Hook
-hook_of text = find (λ hook. bytes_eq (name hook) text) ALL
+hook_of text = find (λ hook. bytes_eq (name hook) text) all_hooks

@@ -1,12 +1,11 @@
 -- The levels of LOG, as `--log-level` of iptables-extensions(8) takes them.
-use Rattle.std.specs.Prelude.{ℕ, ◌==◌, List, Option, find, codes, decimal}
+use Rattle.std.specs.Prelude.{ℕ, ◌==◌, List, [], ◌∷◌, Option, find, codes, decimal}
 use Rattle.std.specs.Option.{option_or}
 use Rattle.std.specs.Str.{bytes_eq}
 use Rattle.fields.specs.Chains.{◌>>=◌}
 use Rattle.fields.specs.Number.{number_to}
 use Rattle.fields.specs.declared.log_level.LogLevel.{LogLevel}
 use Rattle.fields.specs.declared.log_level.LogLevel.TheVariants.{Emerg, Alert, Crit, Error, Warning, Notice, Info, Debug}
-use Rattle.fields.specs.declared.log_level.TheConstants.LogLevel.{ALL}
 
 -- a level's number and name
 pub record Row : Type 0 where
@@ -41,9 +40,13 @@ level_at n levels = find (λ level. level_number level == n) levels
 abbrev pub level_named : List ℕ → List LogLevel → Option LogLevel
 level_named text levels = find (λ level. bytes_eq (level_name level) text) levels
 
+-- the levels, the most urgent first
+abbrev pub all_levels : List LogLevel
+all_levels = Emerg ∷ Alert ∷ Crit ∷ Error ∷ Warning ∷ Notice ∷ Info ∷ Debug ∷ []
+
 -- the level that a text writes, as a number up to 7 or by its name
 unfoldable pub log_level_of : List ℕ → Option LogLevel
-log_level_of text = option_or (number_to 7 text >>= λ n. level_at n ALL) (level_named text ALL)
+log_level_of text = option_or (number_to 7 text >>= λ n. level_at n all_levels) (level_named text all_levels)
 
 -- the number of a level
 abbrev pub log_level_text : LogLevel → List ℕ

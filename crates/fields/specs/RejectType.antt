@@ -1,9 +1,8 @@
 -- What REJECT answers with, as `--reject-with` of iptables-extensions(8) names it.
-use Rattle.std.specs.Prelude.{ℕ, List, Option, codes, find}
+use Rattle.std.specs.Prelude.{ℕ, List, [], ◌∷◌, Option, codes, find}
 use Rattle.std.specs.Str.{bytes_eq}
 use Rattle.fields.specs.declared.reject.RejectType.{RejectType}
 use Rattle.fields.specs.declared.reject.RejectType.TheVariants.{NetUnreachable, HostUnreachable, PortUnreachable, ProtoUnreachable, NetProhibited, HostProhibited, AdminProhibited, TcpReset}
-use Rattle.fields.specs.declared.reject.TheConstants.RejectType.{ALL}
 
 -- the text of a type
 abbrev pub reject_text : RejectType → List ℕ
@@ -20,6 +19,12 @@ reject_text TcpReset = codes "tcp-reset"
 abbrev pub reject_named : List ℕ → List RejectType → Option RejectType
 reject_named text answers = find (λ answer. bytes_eq (reject_text answer) text) answers
 
+-- the types
+abbrev pub all_reject_types : List RejectType
+all_reject_types =
+    NetUnreachable ∷ HostUnreachable ∷ PortUnreachable ∷ ProtoUnreachable ∷ NetProhibited ∷ HostProhibited ∷ AdminProhibited
+    ∷ TcpReset ∷ []
+
 -- the type of this text
 abbrev pub reject_of : List ℕ → Option RejectType
-reject_of text = reject_named text ALL
+reject_of text = reject_named text all_reject_types

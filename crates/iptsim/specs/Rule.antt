@@ -1,9 +1,9 @@
 -- Rules: what a rule asks of a packet, and how it is printed. iptables(8), "PARAMETERS" and "TARGETS".
 use Rattle.std.specs.Prelude.{ℕ, Bool, true, ◌==◌, List, [], ◌++◌, codes, if◌then◌else◌}
 use Rattle.std.specs.List.{list_all}
+use Rattle.fields.specs.Field.{all_fields}
 use Rattle.fields.specs.declared.field.Field.{Field}
 use Rattle.fields.specs.declared.field.Field.TheVariants as field
-use Rattle.fields.specs.declared.field.TheConstants.Field.{ALL}
 use Rattle.fields.specs.Prefix.{Network, holds, prefix_text}
 use Rattle.fields.specs.Packet.{PacketView as Packet, point}
 use Rattle.iptsim.specs.declared.rule.Rule.{Rule}
@@ -17,7 +17,7 @@ allows rule _ value = true
 
 -- a rule matches a packet when it allows the packet's value on every field
 abbrev pub matches : Rule → Packet → Bool
-matches rule packet = list_all (λ f. allows rule f (point packet f)) ALL
+matches rule packet = list_all (λ f. allows rule f (point packet f)) all_fields
 
 -- a prefix of length 0 has every address: it is no condition, and isn't printed
 abbrev pub source_text : Network → List ℕ

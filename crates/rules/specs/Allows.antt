@@ -1,8 +1,8 @@
 -- Which numbers a rule allows on a field, and which packets it matches (iptables(8), iptables-extensions(8)).
-use Rattle.std.specs.Prelude.{◌≡◌, ℕ, ◌==◌, Bool, true, false, ◌&&◌, ◌||◌, not, Option, Some, None, if◌then◌else◌}
+use Rattle.std.specs.Prelude.{ℕ, ◌==◌, Bool, true, false, ◌&&◌, ◌||◌, not, List, Option, Some, None, if◌then◌else◌}
 use Rattle.std.specs.List.{list_all, list_any}
 use Rattle.fields.specs.ConnectionState.{states_pass}
-use Rattle.fields.specs.Field.{index}
+use Rattle.fields.specs.Field.{all_fields, index, number_on}
 use Rattle.fields.specs.FlagTest.{flags_pass}
 use Rattle.fields.specs.Icmp.{icmp_passes}
 use Rattle.fields.specs.Interface.{interface_holds}
@@ -91,9 +91,9 @@ match_allows f n m = fragment_allows f n m.kind && list_all (setting_allows f n)
 unfoldable pub allows : Rule → Field → ℕ → Bool
 allows r f n = list_all (setting_allows f n) r.settings && list_all (match_allows f n) r.matches
 
--- the rule matches a packet with these values: it allows each on its field
-abbrev pub Matches : Rule → (Field → ℕ) → Type 0
-Matches r values = (f : Field) → allows r f (values f) ≡ true
+-- whether the rule matches a packet with these numbers, one a field in the order of the fields: it allows each on its field
+abbrev pub matches : List ℕ → Rule → Bool
+matches numbers r = list_all (λ f. allows r f (number_on numbers f)) all_fields
 
 -- the condition asks something on the field
 abbrev pub asks : Field → Setting → Bool

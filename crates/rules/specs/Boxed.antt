@@ -1,16 +1,15 @@
 -- The numbers that a rule allows on each field.
 use Rattle.std.specs.Prelude.{◌≡◌, ℕ, ◌≤◌, Bool, List, [], map, slice_index_or}
 use Rattle.fields.specs.declared.field.Field.{Field}
-use Rattle.fields.specs.declared.field.TheConstants.Field.{ALL}
 use Rattle.fields.specs.declared.spans.Interval.{Interval}
-use Rattle.fields.specs.Field.{index, top}
+use Rattle.fields.specs.Field.{all_fields, index, top}
 use Rattle.fields.specs.Spans.{SpanSet, has}
 use Rattle.rules.specs.Allows.{allows}
 use Rattle.rules.specs.Rules.{Rule}
 
 -- the sets of a box stand in the order of the fields, each up to its field's top
 abbrev pub IsBox : List SpanSet → Type 0
-IsBox spans = map (λ (s : SpanSet). s.top) spans ≡ map top ALL
+IsBox spans = map (λ (s : SpanSet). s.top) spans ≡ map top all_fields
 
 -- a box's set on a field
 abbrev pub set_on : Field → List SpanSet → List Interval

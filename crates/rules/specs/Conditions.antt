@@ -1,8 +1,7 @@
 -- The steps by which a box is made: each condition leaves fewer numbers on its field.
 use Rattle.std.specs.Prelude.{◌≡◌, ℕ, ◌≤◌, Bool, true, ◌&&◌, List, map, slice_index, nat_le, Option, Some, None, if◌then◌else◌}
 use Rattle.fields.specs.declared.field.Field.{Field}
-use Rattle.fields.specs.declared.field.TheConstants.Field.{ALL}
-use Rattle.fields.specs.Field.{top}
+use Rattle.fields.specs.Field.{all_fields, top}
 use Rattle.fields.specs.Spans.{SpanSet, has}
 use Rattle.rules.specs.declared.condition.Condition.{Condition}
 use Rattle.rules.specs.Allows.{same_field}
@@ -23,5 +22,5 @@ Narrows passes old new = (before : Field → ℕ → Bool) → AreSetsOf before 
 
 -- all numbers of the field at a place
 pub record IsWhole (place : ℕ) (s : SpanSet) : Type 0 where
-  pub top : s.top ≡ slice_index (map top ALL) place
+  pub top : s.top ≡ slice_index (map top all_fields) place
   pub members : (x : ℕ) → has s.intervals x ≡ nat_le x s.top

@@ -3,7 +3,6 @@ use Rattle.std.specs.Prelude.{ℕ, Bool, true, false, ◌==◌, List, [], ◌∷
 use Rattle.std.specs.Str.{bytes_eq}
 use Rattle.rules.specs.declared.kind.Kind.{Kind}
 use Rattle.rules.specs.declared.kind.Kind.TheVariants as kind
-use Rattle.rules.specs.declared.kind.TheConstants.Kind.{ALL}
 
 -- A match's number, its name, the protocols of which it needs one (none: it needs no protocol), whether it needs an option, and
 -- whether it looks into a packet's parts, so that it asks for a first fragment.
@@ -34,6 +33,14 @@ kind_name k = (kind_row k).name
 abbrev pub same_kind : Kind → Kind → Bool
 same_kind k l = (kind_row k).number == (kind_row l).number
 
+-- the matches
+abbrev pub all_kinds : List Kind
+all_kinds = kind.Tcp ∷ kind.Udp ∷ kind.Icmp ∷ kind.Multiport ∷ kind.Iprange ∷ kind.Conntrack ∷ kind.State ∷ kind.Comment ∷ []
+
+-- the matches that an option starts by itself, after `-p` of the protocol of their name: tcp, udp and icmp
+abbrev pub implied_kinds : List Kind
+implied_kinds = kind.Tcp ∷ kind.Udp ∷ kind.Icmp ∷ []
+
 -- the match of a name
 unfoldable pub kind_of : List ℕ → Option Kind
-kind_of name = find (λ k. bytes_eq (kind_name k) name) ALL
+kind_of name = find (λ k. bytes_eq (kind_name k) name) all_kinds

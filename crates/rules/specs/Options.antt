@@ -11,7 +11,6 @@ use Rattle.rules.specs.declared.option.Opt.TheVariants as opt
 use Rattle.rules.specs.declared.option.Owner.{Owner}
 use Rattle.rules.specs.declared.option.Owner.TheVariants as owned
 use Rattle.rules.specs.declared.option.Extended.TheVariants as extended
-use Rattle.rules.specs.declared.option.TheConstants.Opt.{ALL}
 use Rattle.rules.specs.Kinds.{same_kind}
 
 -- An option's spellings, of which the first is printed, how many values follow it, whether `!` may stand before it, what it
@@ -74,9 +73,18 @@ first_of (word ∷ words) = word
 abbrev pub spells : List ℕ → Opt → Bool
 spells word o = list_any (bytes_eq word) (row_of o).names
 
+-- the options
+abbrev pub all_options : List Opt
+all_options =
+    opt.Source ∷ opt.Destination ∷ opt.InInterface ∷ opt.OutInterface ∷ opt.Protocol ∷ opt.Fragment ∷ opt.Match
+    ∷ opt.Jump ∷ opt.Goto ∷ opt.SourcePort ∷ opt.DestinationPort ∷ opt.TcpFlags ∷ opt.Syn ∷ opt.IcmpType
+    ∷ opt.SourcePorts ∷ opt.DestinationPorts ∷ opt.SourceRange ∷ opt.DestinationRange ∷ opt.Ctstate ∷ opt.State
+    ∷ opt.Comment ∷ opt.RejectWith ∷ opt.LogPrefix ∷ opt.LogLevel ∷ opt.LogTcpSequence ∷ opt.LogTcpOptions
+    ∷ opt.LogIpOptions ∷ opt.LogUid ∷ []
+
 -- the option that a word spells
 unfoldable pub option_of : List ℕ → Option Opt
-option_of word = find (spells word) ALL
+option_of word = find (spells word) all_options
 
 -- the spelling that is printed
 abbrev pub name_of : Opt → List ℕ

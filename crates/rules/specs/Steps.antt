@@ -6,7 +6,7 @@ use Rattle.std.specs.List.{slice_index_or, list_any}
 use Rattle.fields.specs.Name.{name_of}
 use Rattle.fields.specs.declared.reject.RejectType.TheVariants as reject
 use Rattle.rules.specs.Chains.{◌>>=◌, or_refused}
-use Rattle.rules.specs.Kinds.{kind_of, kind_row}
+use Rattle.rules.specs.Kinds.{kind_of, kind_row, implied_kinds}
 use Rattle.rules.specs.Options.{option_of, value_count, may_be_inverted, owner, slot, kind_has, first_of}
 use Rattle.rules.specs.Settings.{value_of, has_protocol}
 use Rattle.rules.specs.Actions.{action_of, action_has}
@@ -18,7 +18,6 @@ use Rattle.rules.specs.declared.option.Owner.{Owner}
 use Rattle.rules.specs.declared.option.Owner.TheVariants as owned
 use Rattle.rules.specs.declared.kind.Kind.{Kind}
 use Rattle.rules.specs.declared.kind.Kind.TheVariants as kind
-use Rattle.rules.specs.declared.kind.TheConstants.Kind.{IMPLIED}
 use Rattle.rules.specs.declared.setting.Setting.{Setting}
 use Rattle.rules.specs.declared.action.Action.{Action}
 use Rattle.rules.specs.declared.action.Action.TheVariants as action
@@ -88,11 +87,11 @@ is_met_for k settings = is_met (kind_row k).protocols settings
 
 -- tcp, udp or icmp, where it is the rule's protocol: the match that an option starts by itself
 abbrev pub implied : List Setting → Opt → Option Kind
-implied settings o = find (λ k. is_met_for k settings && kind_has k o) IMPLIED
+implied settings o = find (λ k. is_met_for k settings && kind_has k o) implied_kinds
 
 -- an option that may start a match by itself
 abbrev pub is_implied_option : Opt → Bool
-is_implied_option o = list_any (λ k. kind_has k o) IMPLIED
+is_implied_option o = list_any (λ k. kind_has k o) implied_kinds
 
 abbrev pub started_for : Rule → Part → Option Kind → Result (Rule × ℕ) Refusal
 started_for r p None = if is_implied_option p.option then Err refusal.ProtocolNeeded else Err (refusal.UnknownOption p.place)
