@@ -2,15 +2,15 @@
 use Rattle.std.proofs.Common.{◌≡◌, ◌≢◌, inl, inr, ℕ, zero, suc, ◌+◌, ◌-◌, ◌<◌, ◌≤◌, ◌||◌, Bool, true, false, cond, List, [], ◌∷◌, length, get_or, sym, ◌∙◌, ap, arith, subst, map}
 use Rattle.std.specs.List.{insert}
 use Rattle.std.proofs.lemmas.Bool.{le-leb, lt-leb, true≢false, false≢true}
-use Rattle.fields.specs.declared.spans.Interval.{Interval}
-use Rattle.fields.specs.Spans.{has, AreSpansFrom}
+use Rattle.fields.specs.declared.numbers.spans.Interval.{Interval}
+use Rattle.fields.specs.numbers.Spans.{has, AreSpansFrom}
 use Rattle.classify.specs.Cuts.{CutsStart, ChangesAt, IsApart}
 use Rattle.classify.specs.Steps.{piece_at, row_in, IsRisingFrom, IsRising, DifferFrom, Differ, StartsAt, IsSplitOf}
 use Rattle.classify.specs.Edits.{with_answer, EachRow}
 use Rattle.classify.proofs.StepLaws.{EachPiece, before_all, starts_above, starts_within, row_changes, piece_at_each}
 use Rattle.classify.proofs.EditLaws.{rows_say, rows_rising, same_over_piece}
 use Rattle.classify.proofs.ShownLaws.{row_in_first}
-use Rattle.fields.proofs.SpanLaws.{out_below, out_above, in_it, none_below}
+use Rattle.fields.proofs.laws.numbers.SpanLaws.{out_below, out_above, in_it, none_below}
 
 abbrev Cut : Type 0
 Cut = ℕ × List Bool

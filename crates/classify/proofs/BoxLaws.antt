@@ -1,5 +1,5 @@
 -- A box put in or taken out leaves the line of the boxes as they are then.
-use Rattle.fields.specs.declared.spans.Interval.{Interval}
+use Rattle.fields.specs.declared.numbers.spans.Interval.{Interval}
 use Rattle.std.proofs.Common.{◌≡◌, ◌≢◌, inl, inr, ℕ, suc, ◌+◌, ◌-◌, ◌<◌, ◌≤◌, Bool, List, [], ◌∷◌, ◌++◌, length, take, drop, refl, sym, ◌∙◌, ap, arith, subst, map, All}
 use Rattle.std.specs.List.{insert, remove}
 use Rattle.std.proofs.Math.ListN.{set}
@@ -9,7 +9,7 @@ use Rattle.std.proofs.lemmas.List.Elements.{All-head, All-tail, All-cons, All-ni
 use Rattle.classify.specs.declared.line.Piece.{Piece}
 use Rattle.classify.specs.Shown.{shown}
 use Rattle.classify.specs.Line.{row_at, IsLineOf}
-use Rattle.fields.specs.Spans.{has}
+use Rattle.fields.specs.numbers.Spans.{has}
 use Rattle.classify.specs.Cuts.{CutsStart}
 use Rattle.classify.specs.Steps.{piece_at, row_in, IsRising, Differ, StartsAt, StartsAtZero, IsSplitOf, SayTheSame}
 use Rattle.classify.specs.Edits.{IsMergeOf, with_answer, with_written, without_answer, Says, EachRow, IsSound}

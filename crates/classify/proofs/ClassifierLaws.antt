@@ -6,15 +6,15 @@ use Rattle.std.proofs.Math.Dec.{leb}
 use Rattle.std.proofs.lemmas.List.{map-append, take-map, drop-map, get_or_default, get_or-map, map-set, length-set}
 use Rattle.std.proofs.Math.ListN.{set}
 use Rattle.std.proofs.lemmas.List.Edits.{length-insert, length-remove}
-use Rattle.fields.specs.declared.field.TheConstants.{FIELDS}
-use Rattle.fields.specs.declared.field.TheConstants.Field.{ALL}
-use Rattle.fields.specs.declared.field.Field.{Field}
-use Rattle.fields.specs.declared.spans.Interval.{Interval}
-use Rattle.fields.specs.Field.{index, top}
-use Rattle.fields.specs.Spans.{SpanSet, has}
-use Rattle.rules.specs.Boxed.{IsBox, set_on}
-use Rattle.rules.proofs.BoxLaws.{index-lt, box_long}
-use Rattle.rules.proofs.BoxLaws as box_laws
+use Rattle.fields.specs.declared.numbers.field.TheConstants.{FIELDS}
+use Rattle.fields.specs.declared.numbers.field.TheConstants.Field.{ALL}
+use Rattle.fields.specs.declared.numbers.field.Field.{Field}
+use Rattle.fields.specs.declared.numbers.spans.Interval.{Interval}
+use Rattle.fields.specs.numbers.Field.{index, top}
+use Rattle.fields.specs.numbers.Spans.{SpanSet, has}
+use Rattle.rules.specs.boxing.Boxed.{IsBox, set_on}
+use Rattle.rules.proofs.laws.boxing.BoxLaws.{index-lt, box_long}
+use Rattle.rules.proofs.laws.boxing.BoxLaws as box_laws
 use Rattle.classify.specs.declared.line.Line.{Line}
 use Rattle.classify.specs.Line.{row_at, IsLineOf}
 use Rattle.classify.specs.Cuts.{CutsStart}

@@ -1,12 +1,12 @@
 -- The ends of a set's intervals are where it begins and ends.
-use Rattle.fields.specs.declared.spans.Interval.{Interval}
+use Rattle.fields.specs.declared.numbers.spans.Interval.{Interval}
 use Rattle.std.proofs.Common.{◌≡◌, ◌≢◌, inl, ℕ, zero, suc, ◌+◌, ◌<◌, ◌≤◌, ◌||◌, Bool, true, false, List, [], ◌∷◌, refl, sym, ◌∙◌, ap, arith, subst, All}
 use Rattle.std.proofs.lemmas.Bool.{true≢false, false≢true}
 use Rattle.std.proofs.lemmas.List.Elements.{All-nil, All-cons}
 use Rattle.classify.specs.Steps.{StartsAt, IsRising}
-use Rattle.fields.specs.Spans.{has, AreSpansFrom}
+use Rattle.fields.specs.numbers.Spans.{has, AreSpansFrom}
 use Rattle.classify.specs.Cuts.{EndsStart}
-use Rattle.fields.proofs.SpanLaws.{out_below, out_above, in_it, none_below}
+use Rattle.fields.proofs.laws.numbers.SpanLaws.{out_below, out_above, in_it, none_below}
 
 abbrev Cut : Type 0
 Cut = ℕ × List Bool

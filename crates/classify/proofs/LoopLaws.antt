@@ -1,5 +1,5 @@
 -- The loops over the pieces of a line.
-use Rattle.fields.specs.declared.spans.Interval.{Interval}
+use Rattle.fields.specs.declared.numbers.spans.Interval.{Interval}
 use Rattle.std.proofs.Common.{◌≡◌, ◌≢◌, ◌⊎◌, ◌%◌, inl, inr, ℕ, zero, suc, ◌+◌, ◌-◌, ◌<◌, ◌≤◌, ◌&&◌, ◌||◌, Bool, List, [], ◌∷◌, ◌++◌, length, take, drop, get_or, refl, sym, ◌∙◌, ap, arith, subst, map, All}
 use Rattle.std.proofs.Math.ListN.{set}
 use Rattle.std.proofs.Math.Dec.{leb}
@@ -11,7 +11,7 @@ use Rattle.std.proofs.lemmas.Grind.{drop_more_same}
 use Rattle.std.proofs.lemmas.Bool.{le-leb, lt-leb, cases_lt, cases_eq}
 use Rattle.classify.specs.declared.line.Piece.{Piece}
 use Rattle.classify.specs.Shown.{shown, shown_piece}
-use Rattle.fields.specs.Spans.{has, in_span, AreSpansFrom}
+use Rattle.fields.specs.numbers.Spans.{has, in_span, AreSpansFrom}
 use Rattle.classify.specs.Cuts.{CutsStart, EndsStart}
 use Rattle.classify.specs.Steps.{IsRisingFrom, IsRising, DifferFrom, Differ, StartsAt, StartsAtZero, IsSplitOf, SayTheSame}
 use Rattle.classify.specs.Edits.{IsMergeOf, IsEndOf}

@@ -9,11 +9,11 @@ use Rattle.std.proofs.lemmas.List.{get_or-drop, get_or-take, get_or-map, length-
 use Rattle.std.proofs.Math.ListN.{set}
 use Rattle.std.proofs.lemmas.List.Folds.{list_all_at}
 use Rattle.std.proofs.lemmas.List.Elements.{All-get_or}
-use Rattle.fields.specs.declared.field.TheConstants.{FIELDS}
-use Rattle.fields.specs.declared.field.TheConstants.Field.{ALL}
-use Rattle.fields.specs.declared.field.Field.{Field}
-use Rattle.fields.specs.Field.{index, top}
-use Rattle.fields.specs.Spans.{SpanSet}
+use Rattle.fields.specs.declared.numbers.field.TheConstants.{FIELDS}
+use Rattle.fields.specs.declared.numbers.field.TheConstants.Field.{ALL}
+use Rattle.fields.specs.declared.numbers.field.Field.{Field}
+use Rattle.fields.specs.numbers.Field.{index, top}
+use Rattle.fields.specs.numbers.Spans.{SpanSet}
 use Rattle.classify.specs.declared.line.Line.{Line}
 use Rattle.classify.specs.declared.line.Piece.{Piece}
 use Rattle.classify.specs.Bits.{all_bits, IsPacked}
@@ -23,10 +23,10 @@ use Rattle.classify.specs.Steps.{row_in, IsRising}
 use Rattle.classify.specs.Edits.{IsSound}
 use Rattle.classify.specs.Fields.{shown_line, tops, IsKept}
 use Rattle.classify.specs.Search.{IsRow, AreRows, AreWide, HaveAll, IsFirst}
-use Rattle.rules.specs.Boxed.{set_on}
-use Rattle.rules.proofs.BoxLaws.{index-lt, here_is}
+use Rattle.rules.specs.boxing.Boxed.{set_on}
+use Rattle.rules.proofs.laws.boxing.BoxLaws.{index-lt, here_is}
 use Rattle.classify.specs.Classifier.{allows, line_on, Classified, IsClassifierOf, IsPoint, allows_point, next_match}
-use Rattle.fields.specs.Field.{number_on}
+use Rattle.fields.specs.numbers.Field.{number_on}
 use Rattle.classify.proofs.BoxLaws.{says_from_line}
 use Rattle.classify.proofs.WordLaws.{length-all_bits}
 use Rattle.classify.proofs.ClassifierLaws.{field_at, row_of_sets, line_of_sets, shown_at_place, row_long}

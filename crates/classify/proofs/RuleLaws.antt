@@ -3,12 +3,12 @@ use Rattle.std.proofs.Common.{◌≡◌, ℕ, ◌+◌, Bool, cond, ◌&&◌, not
 use Rattle.std.specs.List.{list_all, position, position_or_len}
 use Rattle.std.specs.Option.{option_map}
 use Rattle.std.proofs.lemmas.List.{drop-map, length-map}
-use Rattle.fields.specs.declared.field.Field.{Field}
-use Rattle.fields.specs.Field.{all_fields, number_on, top}
-use Rattle.fields.specs.Spans.{SpanSet}
-use Rattle.rules.specs.Allows as rules
-use Rattle.rules.specs.Boxed.{IsBoxOf}
-use Rattle.rules.specs.Rules.{Rule}
+use Rattle.fields.specs.declared.numbers.field.Field.{Field}
+use Rattle.fields.specs.numbers.Field.{all_fields, number_on, top}
+use Rattle.fields.specs.numbers.Spans.{SpanSet}
+use Rattle.rules.specs.rule.Allows as rules
+use Rattle.rules.specs.boxing.Boxed.{IsBoxOf}
+use Rattle.rules.specs.rule.Rules.{Rule}
 use Rattle.classify.specs.Classifier.{line_on, allows, allows_point, next_match}
 use Rattle.classify.specs.RuleLines.{AreBoxesOf, BoxesHaveTheRulesLines, BoxesHaveTheRulesMatches}
 use Rattle.classify.proofs.LineLaws.{line_alike}

@@ -10,7 +10,7 @@ use Rattle.classify.specs.Line.{starts}
 use Rattle.classify.specs.Steps.{piece_at, row_in, IsRisingFrom, IsRising, StartsAt, StartsAtZero, IsSplitOf}
 use Rattle.classify.specs.Shown.{shown, shown_piece}
 use Rattle.classify.specs.Cuts.{ChangesAt}
-use Rattle.fields.specs.declared.spans.Interval.{Interval}
+use Rattle.fields.specs.declared.numbers.spans.Interval.{Interval}
 use Rattle.classify.proofs.EditLaws.{Splits, split_rising, split_says, split_starts, split_keeps, split_only}
 use Rattle.classify.proofs.StepLaws.{starts_above, before_all}
 

@@ -3,8 +3,8 @@ use Rattle.std.proofs.Common.{◌≡◌, ◌≢◌, ◌⊎◌, inl, inr, ℕ, ze
 use Rattle.std.proofs.Math.ListN.{set}
 use Rattle.std.specs.List.{remove}
 use Rattle.std.specs.Prelude.{slice_index}
-use Rattle.fields.specs.declared.spans.Interval.{Interval}
-use Rattle.fields.specs.Spans.{has}
+use Rattle.fields.specs.declared.numbers.spans.Interval.{Interval}
+use Rattle.fields.specs.numbers.Spans.{has}
 use Rattle.classify.specs.Line.{starts}
 use Rattle.classify.specs.Cuts.{CutsStart, IsApart}
 use Rattle.classify.specs.Steps.{piece_at, IsRisingFrom, IsRising, DifferFrom, Differ, StartsAt}

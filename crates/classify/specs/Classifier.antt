@@ -2,10 +2,10 @@
 use Rattle.std.specs.Prelude.{◌≡◌, ℕ, ◌+◌, ◌≤◌, Bool, List, [], length, drop, slice_index_or, Option}
 use Rattle.std.specs.Option.{option_map}
 use Rattle.std.specs.List.{list_all, position}
-use Rattle.fields.specs.declared.field.Field.{Field}
-use Rattle.fields.specs.Field.{all_fields, index, number_on, top}
-use Rattle.fields.specs.Spans.{SpanSet, has}
-use Rattle.rules.specs.Boxed.{set_on}
+use Rattle.fields.specs.declared.numbers.field.Field.{Field}
+use Rattle.fields.specs.numbers.Field.{all_fields, index, number_on, top}
+use Rattle.fields.specs.numbers.Spans.{SpanSet, has}
+use Rattle.rules.specs.boxing.Boxed.{set_on}
 use Rattle.classify.specs.Line.{IsLineOf}
 use Rattle.classify.specs.Cuts.{CutsStart}
 

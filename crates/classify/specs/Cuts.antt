@@ -1,7 +1,7 @@
 -- Where a set of numbers begins and ends, and whether pieces start there.
 use Rattle.std.specs.Prelude.{◌≡◌, ◌≢◌, ◌⊎◌, ℕ, suc, ◌+◌, ◌≤◌, ◌<◌, Bool, List}
-use Rattle.fields.specs.declared.spans.Interval.{Interval}
-use Rattle.fields.specs.Spans.{has}
+use Rattle.fields.specs.declared.numbers.spans.Interval.{Interval}
+use Rattle.fields.specs.numbers.Spans.{has}
 use Rattle.classify.specs.Steps.{StartsAt, row_in}
 
 -- each number at which the set begins or ends is where a piece starts

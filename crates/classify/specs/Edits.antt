@@ -1,7 +1,7 @@
 -- What the steps of an edit leave of a line.
-use Rattle.fields.specs.declared.spans.Interval.{Interval}
+use Rattle.fields.specs.declared.numbers.spans.Interval.{Interval}
 use Rattle.std.specs.Prelude.{◌≡◌, ℕ, ◌+◌, ◌≤◌, Bool, List, [], ◌∷◌, length, insert, remove, slice_set, slice_index_or, ◌≢◌, ◌⊎◌, ◌<◌, suc, false}
-use Rattle.fields.specs.Spans.{has}
+use Rattle.fields.specs.numbers.Spans.{has}
 use Rattle.classify.specs.Line.{row_at}
 use Rattle.classify.specs.Steps.{IsRising, StartsAt, SayTheSame, Differ, row_in}
 

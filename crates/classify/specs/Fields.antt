@@ -1,9 +1,9 @@
 -- The lines of all fields at once, each at its field's place.
 use Rattle.std.specs.Prelude.{◌≢◌, ◌%◌, ℕ, ◌+◌, ◌*◌, ◌^◌, ◌-◌, ◌≤◌, ◌<◌, Bool, List, [], map, length, All, slice_index, slice_index_or, slice_set, insert, remove}
-use Rattle.fields.specs.declared.field.TheConstants.{FIELDS}
-use Rattle.fields.specs.declared.spans.Interval.{Interval}
-use Rattle.fields.specs.Field.{all_fields, top}
-use Rattle.fields.specs.Spans.{SpanSet, has}
+use Rattle.fields.specs.declared.numbers.field.TheConstants.{FIELDS}
+use Rattle.fields.specs.declared.numbers.spans.Interval.{Interval}
+use Rattle.fields.specs.numbers.Field.{all_fields, top}
+use Rattle.fields.specs.numbers.Spans.{SpanSet, has}
 use Rattle.classify.specs.declared.line.Piece.{Piece}
 use Rattle.classify.specs.declared.line.Line.{Line}
 use Rattle.classify.specs.Bits.{TakesBit}

@@ -1,7 +1,7 @@
 -- What the definition of a line comes to.
 use Rattle.std.specs.Prelude.{◌≡◌, ℕ, Bool, List}
-use Rattle.fields.specs.Spans.{SpanSet}
-use Rattle.fields.specs.declared.field.Field.{Field}
+use Rattle.fields.specs.numbers.Spans.{SpanSet}
+use Rattle.fields.specs.declared.numbers.field.Field.{Field}
 use Rattle.classify.specs.Line.{IsLineOf}
 use Rattle.classify.specs.Classifier.{allows}
 

@@ -1,11 +1,11 @@
 -- The boxes of rules stand for the rules: what a classifier says of the boxes, it says of the rules.
 use Rattle.std.specs.Prelude.{◌≡◌, ℕ, List, [], ◌∷◌}
-use Rattle.fields.specs.declared.field.Field.{Field}
-use Rattle.fields.specs.Field.{top}
-use Rattle.fields.specs.Spans.{SpanSet}
-use Rattle.rules.specs.Allows.{allows, matches}
-use Rattle.rules.specs.Boxed.{IsBoxOf}
-use Rattle.rules.specs.Rules.{Rule}
+use Rattle.fields.specs.declared.numbers.field.Field.{Field}
+use Rattle.fields.specs.numbers.Field.{top}
+use Rattle.fields.specs.numbers.Spans.{SpanSet}
+use Rattle.rules.specs.rule.Allows.{allows, matches}
+use Rattle.rules.specs.boxing.Boxed.{IsBoxOf}
+use Rattle.rules.specs.rule.Rules.{Rule}
 use Rattle.classify.specs.Line.{IsLineOf}
 use Rattle.classify.specs.Classifier.{Classified, IsClassifierOf, IsPoint, line_on, allows_point, next_match}
 

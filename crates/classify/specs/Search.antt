@@ -2,7 +2,7 @@
 use Rattle.std.specs.Prelude.{◌≡◌, ℕ, ◌+◌, ◌<◌, ◌≤◌, ◌↔◌, List, length, slice_index, slice_index_or, [], take, Option, MatchOption, All, false, true}
 use Rattle.std.specs.Borrow.{Bor}
 use Rattle.std.specs.Int.{bit_at}
-use Rattle.fields.specs.declared.field.TheConstants.{FIELDS}
+use Rattle.fields.specs.declared.numbers.field.TheConstants.{FIELDS}
 use Rattle.classify.specs.Bits.{all_bits, IsPacked}
 use Rattle.classify.specs.Steps.{row_in}
 use Rattle.classify.specs.Classifier.{Classified}

@@ -1,6 +1,6 @@
 -- What a line says of each number, whether or not it is the shortest that says so.
-use Rattle.fields.specs.declared.spans.Interval.{Interval}
-use Rattle.fields.specs.Spans.{has}
+use Rattle.fields.specs.declared.numbers.spans.Interval.{Interval}
+use Rattle.fields.specs.numbers.Spans.{has}
 use Rattle.std.specs.Prelude.{◌≡◌, ◌≢◌, ℕ, suc, ◌<◌, ◌≤◌, nat_le, Bool, List, [], ◌∷◌, if◌then◌else◌, ◌⊎◌}
 
 -- the last piece that starts at or before x, and `first` where there is none

@@ -1,8 +1,8 @@
 //! The classifier: the lines of all fields.
 
 ghost use Rattle.std.specs.Prelude.{◌≡◌, ◌≢◌, ◌≤◌, ◌%◌, OnOk, OnErr, IsOk, IfOk, List, [], ◌<◌, insert, remove, slice_set};
-ghost use Rattle.fields.specs.Spans.{SpanSet};
-ghost use Rattle.fields.specs.Field.{index};
+ghost use Rattle.fields.specs.numbers.Spans.{SpanSet};
+ghost use Rattle.fields.specs.numbers.Field.{index};
 
 use crate::bit_row::MOST_BITS;
 use crate::line::{self, Line};

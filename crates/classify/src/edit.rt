@@ -1,12 +1,12 @@
 //! The steps of an edit on one line: all memory first, then what cannot fail.
 
-ghost use Rattle.fields.specs.declared.spans.Interval.{Interval};
+ghost use Rattle.fields.specs.declared.numbers.spans.Interval.{Interval};
 ghost use Rattle.std.specs.Prelude.{◌≡◌, ◌≢◌, ◌<◌, ◌≤◌, ◌+◌, ◌-◌, ◌%◌, ℕ, length, OnOk, IsOk, All, List, map, insert, remove, slice_set, slice_index_or, false, [], ◌∷◌};
 ghost use Rattle.classify.specs.Bits.{TakesBit};
 ghost use Rattle.classify.specs.Line.{IsLineOf};
 ghost use Rattle.classify.specs.Steps.{IsRising, IsRisingLine, IsSplitOf, StartsAt, StartsAtZero};
 ghost use Rattle.classify.specs.Shown.{shown};
-ghost use Rattle.fields.specs.Spans.{has};
+ghost use Rattle.fields.specs.numbers.Spans.{has};
 ghost use Rattle.classify.specs.Cuts.{CutsStart, EndsStart, ChangesAt, IsApart};
 ghost use Rattle.classify.specs.Edits.{with_answer, with_written, without_answer, IsMergeOf, IsUnsplitAt, IsNumber, IsEndOf, IsJoined, Tells, Says, EachRow, IsSound, row_of};
 

@@ -1,8 +1,8 @@
 //! The lines of all fields: each step on every line in turn.
 
-ghost use Rattle.fields.specs.declared.spans.Interval.{Interval};
+ghost use Rattle.fields.specs.declared.numbers.spans.Interval.{Interval};
 ghost use Rattle.std.specs.Prelude.{◌≡◌, ◌≢◌, ◌<◌, ◌≤◌, ◌+◌, ◌%◌, ℕ, length, OnOk, OnErr, IsOk, All, List, insert, slice_set, slice_index_or, [], ◌∷◌};
-ghost use Rattle.fields.specs.Spans.{has};
+ghost use Rattle.fields.specs.numbers.Spans.{has};
 ghost use Rattle.classify.specs.Cuts.{CutsStart, IsApart};
 ghost use Rattle.classify.specs.Steps.{IsRising, IsSplitOf, StartsAtZero};
 ghost use Rattle.classify.specs.Line.{IsLineOf};

@@ -1,14 +1,17 @@
-// Packets.
+//! Packets, and the words of a packet line.
 ghost use Rattle.std.specs.Prelude.{◌≡◌, ◌<◌, ◌≤◌, [], find, map, length, take, drop, slice_index_or, option_map, IfOk};
 ghost use Rattle.std.specs.List.{list_any};
-ghost use Rattle.fields.specs.Field.{top};
-ghost use Rattle.fields.specs.Packet.{has_key, field_of, text_in, text_of, word_fault, leftmost_fault, parts_of, strays, lacks, value_on};
+ghost use Rattle.fields.specs.numbers.Field.{top};
+ghost use Rattle.fields.specs.packet.Packet.{has_key, field_of, text_in, text_of, word_fault, leftmost_fault, parts_of, strays, lacks, value_on};
 
-use crate::cut::cut_at;
-use crate::field::{FIELDS, Field};
-use crate::hook::Hook;
-use crate::key::{Key, Parts};
-use crate::words::Words;
+pub(crate) mod hook;
+pub(crate) mod keys;
+
+use crate::numbers::field::{FIELDS, Field};
+use crate::packet::hook::Hook;
+use crate::packet::keys::{Key, Parts};
+use crate::text::cut::cut_at;
+use crate::text::words::Words;
 use std::marker::Model;
 use thiserror::Error;
 
@@ -38,7 +41,7 @@ pub struct Packet {
 }
 
 impl Model for Packet {
-    ghost use Rattle.fields.specs.Packet.{PacketView, IsPacket};
+    ghost use Rattle.fields.specs.packet.Packet.{PacketView, IsPacket};
 
     ghost Value = { PacketView };
 
@@ -209,7 +212,7 @@ fn values_of(words: &Words, first: usize) -> [u128; FIELDS]
 }
 
 impl Packet {
-    ghost use Rattle.fields.specs.Packet.{IsPacket, checked, packet_of, point};
+    ghost use Rattle.fields.specs.packet.Packet.{IsPacket, checked, packet_of, point};
 
     fn behind_hook(hook: Hook, words: &Words, first: usize) -> Result<Packet, PacketFault>
         requires { first ≤ length words.now }

@@ -1,7 +1,7 @@
 -- A session leaves what its accepted commands give by plain list edits.
 use Rattle.std.proofs.Common.{◌≡◌, Bool, true, false, cond, List, [], ◌∷◌, fold, length, leb, Result, Ok, Err, refl, sym, ap, ◌∙◌}
 use Rattle.std.proofs.lemmas.Grind.{fold-append}
-use Rattle.fields.specs.Line.{lines_of}
+use Rattle.fields.specs.text.Line.{lines_of}
 use Rattle.iptsim.specs.Table.{Filter, Command, Append, edited, chain_of}
 use Rattle.iptsim.specs.Request.{Request, Nothing, Edit, Save, Ask, request_on}
 use Rattle.iptsim.specs.Session.{State, Line, serve, edit, turn, step, start, marked}

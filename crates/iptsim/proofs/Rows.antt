@@ -1,9 +1,9 @@
 -- The definitions, computed on worked rows.
 use Rattle.std.proofs.Common.{◌≡◌, [], ◌∷◌, true, false, refl, codes}
 use Rattle.std.specs.Fmt.{digits}
-use Rattle.fields.specs.Number.{number_of, number_to}
-use Rattle.fields.specs.Prefix.{address_of, length_of, prefix_of}
-use Rattle.fields.specs.Protocol.{one_protocol_of, protocol_number}
+use Rattle.fields.specs.text.Number.{number_of, number_to}
+use Rattle.fields.specs.values.Prefix.{address_of, length_of, prefix_of}
+use Rattle.fields.specs.values.Protocol.{one_protocol_of, protocol_number}
 use Rattle.iptsim.specs.Rule.{rule_text}
 use Rattle.iptsim.specs.Table.{empty_table}
 use Rattle.iptsim.specs.Walk.{walk_within}

@@ -1,6 +1,6 @@
 -- A request that was read and served is a turn of the definition, for some mark.
 use Rattle.std.proofs.Common.{◌≡◌, ℕ, Bool, true, false, cond, List, length, ltb, Result, Ok, Err, refl, sym, ap, ◌∙◌, inl, inr}
-use Rattle.fields.specs.Words.{words_of}
+use Rattle.fields.specs.text.Words.{words_of}
 use Rattle.iptsim.specs.Table.{Filter, Command}
 use Rattle.iptsim.specs.Request.{Request, Nothing, Edit, is_quiet, read_words, request_on}
 use Rattle.iptsim.specs.Session.{fails, serve, turn}

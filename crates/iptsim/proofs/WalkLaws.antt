@@ -1,9 +1,9 @@
 -- What a walk gives where the first rule that matches is known.
 use Rattle.std.proofs.Common.{◌≡◌, ℕ, zero, suc, ◌+◌, ◌<◌, true, false, cond, List, [], ◌∷◌, length, get_or, Option, None, Some, refl, ap, ◌∙◌, arith}
-use Rattle.fields.specs.declared.hook.Hook.{Hook}
-use Rattle.fields.specs.declared.hook.Hook.TheVariants as hook
-use Rattle.fields.specs.Hook.{name as hook_name}
-use Rattle.fields.specs.Packet.{PacketView as Packet}
+use Rattle.fields.specs.declared.packet.hook.Hook.{Hook}
+use Rattle.fields.specs.declared.packet.hook.Hook.TheVariants as hook
+use Rattle.fields.specs.packet.Hook.{name as hook_name}
+use Rattle.fields.specs.packet.Packet.{PacketView as Packet}
 use Rattle.iptsim.specs.Rule.{matches}
 use Rattle.iptsim.specs.Table.{Filter, chain_of, chains_of}
 use Rattle.iptsim.specs.Walk.{Rest, Hit, Walked, Decided, ByPolicy, Ends, hit_in, or_else, first_hit, after_match, entered, with_room, walk_within, rules_of, whole}

@@ -1,6 +1,6 @@
 -- What a session leaves of its commands: those that were accepted, as plain list edits.
 use Rattle.std.specs.Prelude.{◌≡◌, ℕ, Bool, List, [], ◌∷◌, ◌++◌, fold, Result, Ok, Err}
-use Rattle.fields.specs.Line.{lines_of}
+use Rattle.fields.specs.text.Line.{lines_of}
 use Rattle.iptsim.specs.Table.{Filter, Command, edited, step}
 use Rattle.iptsim.specs.Request.{Request, Nothing, Edit, Save, Ask, request_on}
 use Rattle.iptsim.specs.Session.{Line, turn, marked, session}

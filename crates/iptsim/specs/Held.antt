@@ -1,7 +1,7 @@
 -- How the code's values stand for those of the definition.
 use Rattle.std.specs.Prelude.{◌≡◌, ◌⊎◌, ℕ, Bool, List, [], ◌++◌, Option, Some, None, Result, Ok, Err, codes}
-use Rattle.fields.specs.declared.hook.Hook.{Hook}
-use Rattle.fields.specs.Hook.{name as hook_name}
+use Rattle.fields.specs.declared.packet.hook.Hook.{Hook}
+use Rattle.fields.specs.packet.Hook.{name as hook_name}
 use Rattle.iptsim.specs.Request as request
 use Rattle.iptsim.specs.Request.{request_on}
 use Rattle.iptsim.specs.Table.{Filter, Command, Append}

@@ -1,7 +1,7 @@
 -- What is printed: the listing of a table, what became of a packet, and a fault. iptables-save(8).
 use Rattle.std.specs.Prelude.{ℕ, List, [], ◌∷◌, ◌++◌, codes, decimal, flat_map}
-use Rattle.fields.specs.Hook.{name as hook_name}
-use Rattle.fields.specs.Packet.{PacketView as Packet}
+use Rattle.fields.specs.packet.Hook.{name as hook_name}
+use Rattle.fields.specs.packet.Packet.{PacketView as Packet}
 use Rattle.iptsim.specs.Rule.{rule_text}
 use Rattle.iptsim.specs.Table.{Filter, Named, chains_of, chain_of}
 use Rattle.iptsim.specs.Walk.{Entry, Walked, Decided, ByPolicy, TooLong, walk}

@@ -1,6 +1,6 @@
 -- How the code's outcome of a walk stands for what the definition gives.
 use Rattle.std.specs.Prelude.{◌≡◌, ℕ, ◌<◌, true, false, List, [], ◌∷◌, length, slice_index_or, Option, MatchOption}
-use Rattle.fields.specs.Packet.{PacketView as Packet}
+use Rattle.fields.specs.packet.Packet.{PacketView as Packet}
 use Rattle.iptsim.specs.Rule.{matches}
 use Rattle.iptsim.specs.Walk.{Walked, Decided, ByPolicy}
 use Rattle.iptsim.specs.declared.chain.Policy.{Policy}

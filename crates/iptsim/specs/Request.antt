@@ -1,12 +1,12 @@
 -- What a line asks: its kind by its first word, and then the reading of the words behind it.
 use Rattle.std.specs.Prelude.{ℕ, Bool, ◌&&◌, ◌==◌, nat_lt, not, List, [], length, drop, slice_get, unwrap_or, false, Option, Some, None, Result, Ok, Err, true, codes, find, if◌then◌else◌}
 use Rattle.std.specs.Str.{bytes_eq}
-use Rattle.fields.specs.declared.hook.Hook.TheVariants as hook
+use Rattle.fields.specs.declared.packet.hook.Hook.TheVariants as hook
 use Rattle.fields.specs.declared.packet.PacketFault.{PacketFault}
 use Rattle.fields.specs.declared.packet.PacketFault.TheVariants as packet
-use Rattle.fields.specs.Words.{is_blank, words_of}
-use Rattle.fields.specs.Prefix.{Network, network, prefix_of}
-use Rattle.fields.specs.Packet.{PacketView as Packet, packet_of}
+use Rattle.fields.specs.text.Words.{is_blank, words_of}
+use Rattle.fields.specs.values.Prefix.{Network, network, prefix_of}
+use Rattle.fields.specs.packet.Packet.{PacketView as Packet, packet_of}
 use Rattle.iptsim.specs.Table.{Command, Append}
 use Rattle.iptsim.specs.declared.rule.Target.{Target}
 use Rattle.iptsim.specs.declared.rule.Target.TheVariants as target

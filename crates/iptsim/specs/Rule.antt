@@ -1,11 +1,11 @@
 -- Rules: what a rule asks of a packet, and how it is printed. iptables(8), "PARAMETERS" and "TARGETS".
 use Rattle.std.specs.Prelude.{ℕ, Bool, true, ◌==◌, List, [], ◌++◌, codes, if◌then◌else◌}
 use Rattle.std.specs.List.{list_all}
-use Rattle.fields.specs.Field.{all_fields}
-use Rattle.fields.specs.declared.field.Field.{Field}
-use Rattle.fields.specs.declared.field.Field.TheVariants as field
-use Rattle.fields.specs.Prefix.{Network, holds, prefix_text}
-use Rattle.fields.specs.Packet.{PacketView as Packet, point}
+use Rattle.fields.specs.numbers.Field.{all_fields}
+use Rattle.fields.specs.declared.numbers.field.Field.{Field}
+use Rattle.fields.specs.declared.numbers.field.Field.TheVariants as field
+use Rattle.fields.specs.values.Prefix.{Network, holds, prefix_text}
+use Rattle.fields.specs.packet.Packet.{PacketView as Packet, point}
 use Rattle.iptsim.specs.declared.rule.Rule.{Rule}
 use Rattle.iptsim.specs.declared.rule.Target.{Target}
 use Rattle.iptsim.specs.declared.rule.Target.TheVariants as target

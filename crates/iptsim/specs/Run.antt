@@ -1,9 +1,9 @@
 -- What a run of lines did: to its table, its reader and its writer, whatever came of them.
 use Rattle.std.specs.Prelude.{◌≡◌, ◌⊎◌, ℕ, Bool, List, [], ◌∷◌, ◌++◌, Result, Ok, Err, Option, IfSome, MatchResult, fold}
 use Rattle.std.specs.Io.KnownBytes.{Appends, Consumes}
-use Rattle.fields.specs.declared.tap.Tap.{Tap}
-use Rattle.fields.specs.Tap.{known, IsBeginning, Wrote, Stopped, Puts}
-use Rattle.fields.specs.Line.{lines_of, ended_lines}
+use Rattle.fields.specs.declared.text.tap.Tap.{Tap}
+use Rattle.fields.specs.text.Tap.{known, IsBeginning, Wrote, Stopped, Puts}
+use Rattle.fields.specs.text.Line.{lines_of, ended_lines}
 use Rattle.iptsim.specs.Table.{Filter}
 use Rattle.iptsim.specs.Session.{State, Line, play, step, marked}
 use Rattle.iptsim.specs.declared.session.Session.{Session}

@@ -1,6 +1,6 @@
 -- A session: a fold over its lines. iptables(8), iptables-save(8).
 use Rattle.std.specs.Prelude.{ℕ, ◌+◌, Bool, ◌==◌, List, [], ◌∷◌, ◌++◌, fold, Result, Ok, Err, false, if◌then◌else◌}
-use Rattle.fields.specs.Line.{lines_of}
+use Rattle.fields.specs.text.Line.{lines_of}
 use Rattle.iptsim.specs.Table.{Filter, step as table_step}
 use Rattle.iptsim.specs.Listing.{listing, packet_text}
 use Rattle.iptsim.specs.Fault.{fault_line, fault_status}

@@ -1,7 +1,7 @@
 -- The table `filter`: its built-in chains, and what a command does to them. iptables(8), "TABLES" and "COMMANDS".
 use Rattle.std.specs.Prelude.{ℕ, nat_le, List, [], ◌∷◌, ◌++◌, length, Result, Ok, Err, codes, if◌then◌else◌}
-use Rattle.fields.specs.declared.hook.Hook.{Hook}
-use Rattle.fields.specs.declared.hook.Hook.TheVariants as hook
+use Rattle.fields.specs.declared.packet.hook.Hook.{Hook}
+use Rattle.fields.specs.declared.packet.hook.Hook.TheVariants as hook
 use Rattle.iptsim.specs.declared.rule.Rule.{Rule}
 use Rattle.iptsim.specs.declared.chain.Policy.{Policy}
 use Rattle.iptsim.specs.declared.chain.Policy.TheVariants as policy

@@ -1,7 +1,7 @@
 -- The walk of a packet: iptables(8), "TARGETS". Later targets add cases to `after_match`, and nothing else.
 use Rattle.std.specs.Prelude.{ℕ, zero, suc, ◌+◌, List, [], ◌∷◌, Option, Some, None, if◌then◌else◌}
 use Rattle.std.specs.Str.{bytes_eq}
-use Rattle.fields.specs.Packet.{PacketView as Packet}
+use Rattle.fields.specs.packet.Packet.{PacketView as Packet}
 use Rattle.iptsim.specs.Rule.{matches}
 use Rattle.iptsim.specs.Table.{Named}
 use Rattle.iptsim.specs.declared.rule.Rule.{Rule}

@@ -1,8 +1,8 @@
 //! What is printed: iptables-save(8).
 ghost use Rattle.std.specs.Prelude.{◌≡◌, false, ◌++◌, [], ◌∷◌, codes, Option, List, ℕ, flat_map};
-ghost use Rattle.fields.specs.declared.hook.Hook.{Hook};
-ghost use Rattle.fields.specs.Hook.{name as hook_name};
-ghost use Rattle.fields.specs.Tap.{has_failed, Puts};
+ghost use Rattle.fields.specs.declared.packet.hook.Hook.{Hook};
+ghost use Rattle.fields.specs.packet.Hook.{name as hook_name};
+ghost use Rattle.fields.specs.text.Tap.{has_failed, Puts};
 ghost use Rattle.iptsim.specs.Rule.{source_text};
 ghost use Rattle.iptsim.specs.Table.{named, chain_of, chains_of};
 ghost use Rattle.iptsim.specs.Listing.{chain_line, rule_line, rule_lines, verdict_line, verdict_text, listing};

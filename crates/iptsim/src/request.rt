@@ -1,7 +1,7 @@
 //! What a line of a session asks for.
 ghost use Rattle.std.specs.Prelude.{◌≡◌, ◌<◌, ◌≤◌, ℕ, List, length, drop, Bool, true, false, codes, Option, option_map, Result, Ok, Err, None};
-ghost use Rattle.fields.specs.Line.{IsHeld};
-ghost use Rattle.fields.specs.Packet.{packet_of};
+ghost use Rattle.fields.specs.text.Line.{IsHeld};
+ghost use Rattle.fields.specs.packet.Packet.{packet_of};
 ghost use Rattle.iptsim.specs.Request.{is_quiet, target_of, word_at, has_word, with_target, with_source, command_of, packet_fault, asked, request_of, request_on};
 ghost use Rattle.iptsim.specs.Held.{request_view, request_view_of, ReadsRequest};
 

@@ -1,6 +1,6 @@
 //! What a request does to a table, and what it answers.
 ghost use Rattle.std.specs.Prelude.{◌≡◌, ◌≤◌, ℕ, List, Bool, length};
-ghost use Rattle.fields.specs.Line.{IsHeld};
+ghost use Rattle.fields.specs.text.Line.{IsHeld};
 ghost use Rattle.iptsim.specs.Session.{turn, table_fault};
 ghost use Rattle.iptsim.specs.Held.{IsServed, turn_of};
 

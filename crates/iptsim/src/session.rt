@@ -1,7 +1,7 @@
 //! Sessions: lines in, replies out.
 ghost use Rattle.std.specs.Prelude.{◌≡◌, ◌+◌, ◌^◌, ◌<◌, ◌≤◌, ◌↔◌, ℕ, List, [], false, true, IfOk, OnOk, length, vec_len, vec_capacity};
-ghost use Rattle.fields.specs.Tap.{has_failed, known, Puts};
-ghost use Rattle.fields.specs.Line.{IsHeld, EndsAt};
+ghost use Rattle.fields.specs.text.Tap.{has_failed, known, Puts};
+ghost use Rattle.fields.specs.text.Line.{IsHeld, EndsAt};
 ghost use Rattle.iptsim.specs.Session.{status_after, reply_text, step, start, finish, session};
 ghost use Rattle.iptsim.specs.Held.{reply_of};
 

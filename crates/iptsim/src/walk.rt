@@ -1,6 +1,6 @@
 //! What a table does with a packet: iptables(8), "TARGETS".
 ghost use Rattle.std.specs.Prelude.{◌≡◌, ◌<◌, ℕ, List, length, true, false, slice_index_or, Option, MatchOption};
-ghost use Rattle.fields.specs.Hook.{name as hook_name};
+ghost use Rattle.fields.specs.packet.Hook.{name as hook_name};
 ghost use Rattle.iptsim.specs.Listing.{verdict_text};
 ghost use Rattle.iptsim.specs.Rule.{matches};
 ghost use Rattle.iptsim.specs.Table.{Named, chain_of, chains_of};

@@ -1,17 +1,23 @@
-// Rules.
+//! Rules.
 ghost use Rattle.std.specs.Prelude.{◌≡◌, Option, Some, None};
 ghost use Rattle.std.specs.List.{list_any};
-ghost use Rattle.fields.specs.declared.field.Field.{Field};
-ghost use Rattle.rules.specs.Actions.{reject_in, target_with, renamed_action};
-ghost use Rattle.rules.specs.Allows.{asks};
+ghost use Rattle.fields.specs.declared.numbers.field.Field.{Field};
+ghost use Rattle.rules.specs.rule.Actions.{reject_in, target_with, renamed_action};
+ghost use Rattle.rules.specs.rule.Allows.{asks};
 
-use crate::action::Action;
-use crate::copy::copy_draft;
-use crate::draft::{Draft, Match};
-use crate::same::same_draft;
-use crate::setting::Setting;
-use crate::target::Target;
-use crate::value::Value;
+pub(crate) mod action;
+pub(crate) mod content;
+pub(crate) mod copy;
+pub(crate) mod equality;
+pub(crate) mod target;
+
+use crate::rule::action::Action;
+use crate::rule::copy::copy_draft;
+use crate::rule::content::{Draft, Match};
+use crate::rule::equality::same_draft;
+use crate::options::setting::Setting;
+use crate::rule::target::Target;
+use crate::options::value::Value;
 use fields::{Field, Name, RejectType};
 use std::alloc::{AllocError, Global};
 use std::marker::Model;
@@ -34,9 +40,9 @@ const _: () = prove!(size_of::<Match>() == 32);
 const _: () = prove!(size_of::<Setting>() == 88);
 
 impl Model for Rule {
-    ghost use Rattle.rules.specs.Rules.{Rule as Shown};
-    ghost use Rattle.rules.specs.Views.{view_draft};
-    ghost use Rattle.rules.specs.RoundTrip.{ReadsItself};
+    ghost use Rattle.rules.specs.rule.Rules.{Rule as Shown};
+    ghost use Rattle.rules.specs.steps.Views.{view_draft};
+    ghost use Rattle.rules.specs.printing.RoundTrip.{ReadsItself};
 
     ghost Value = { Shown };
 
@@ -51,7 +57,7 @@ impl PartialEq for Rule {
     ghost use Rattle.std.specs.Ordering.{on};
     ghost use Rattle.std.specs.Cmp.{partial_equiv_from_equiv};
     ghost use Rattle.std.specs.Cmp.Lexicographic.{pointwise, on_texts_equal};
-    ghost use Rattle.rules.specs.Printing.{rule_text};
+    ghost use Rattle.rules.specs.printing.Printing.{rule_text};
 
     ghost eq = { on rule_text (pointwise nat_eq) };
 
@@ -64,7 +70,7 @@ impl PartialEq for Rule {
 
 impl Eq for Rule {
     ghost use Rattle.std.specs.Cmp.Lexicographic.{on_texts_equal};
-    ghost use Rattle.rules.specs.Printing.{rule_text};
+    ghost use Rattle.rules.specs.printing.Printing.{rule_text};
 
     ghost laws = { on_texts_equal rule_text };
 }
@@ -132,12 +138,12 @@ fn asks_out(settings: &[Setting]) -> bool
 
 impl Rule {
     ghost use Rattle.std.specs.Prelude.{◌≡◌, ◌↔◌, ℕ, true, false, IfOk, IsTrue};
-    ghost use Rattle.fields.specs.declared.field.Field.{Field};
-    ghost use Rattle.rules.specs.Actions.{target_of, renamed, names_chain};
-    ghost use Rattle.rules.specs.Allows.{asks_on, allows};
-    ghost use Rattle.rules.specs.Printing.{rule_text};
-    ghost use Rattle.rules.specs.RoundTrip.{ReadsItself};
-    ghost use Rattle.rules.specs.Views.{view_draft};
+    ghost use Rattle.fields.specs.declared.numbers.field.Field.{Field};
+    ghost use Rattle.rules.specs.rule.Actions.{target_of, renamed, names_chain};
+    ghost use Rattle.rules.specs.rule.Allows.{asks_on, allows};
+    ghost use Rattle.rules.specs.printing.Printing.{rule_text};
+    ghost use Rattle.rules.specs.printing.RoundTrip.{ReadsItself};
+    ghost use Rattle.rules.specs.steps.Views.{view_draft};
 
     pub(crate) fn of(draft: Draft) -> Rule
         requires { ReadsItself (view_draft draft) }
@@ -162,7 +168,7 @@ impl Rule {
     }
 
     /// Whether the rules are equal: each asks and does the same, and they have one text.
-    #[tactic(auto, using(crate::proofs::RoundTripLaws::same_text))]
+    #[tactic(auto, using(crate::proofs::laws::printing::RoundTripLaws::same_text))]
     pub fn equals(&self, other: &Rule) -> bool
         ensures value { IsTrue result ↔ (self.now ≡ other.now) }
         ensures text { IsTrue result ↔ (rule_text self.now ≡ rule_text other.now) }
@@ -192,7 +198,7 @@ impl Rule {
 
     /// Whether the rule has a condition on the incoming interface (`-i`; no condition is `-i +`). Without one it allows every
     /// interface.
-    #[tactic(auto, using(crate::proofs::AskLaws::in_is_own, crate::proofs::AskLaws::in_free))]
+    #[tactic(auto, using(crate::proofs::laws::rule::AskLaws::in_is_own, crate::proofs::laws::rule::AskLaws::in_free))]
     pub fn on_in(&self) -> bool
         ensures value { result ≡ asks_on Field.InIface self.now }
         ensures free { result ≡ false → (n : ℕ) → allows self.now Field.InIface n ≡ true }
@@ -202,7 +208,7 @@ impl Rule {
 
     /// Whether the rule has a condition on the outgoing interface (`-o`; no condition is `-o +`). Without one it allows every
     /// interface.
-    #[tactic(auto, using(crate::proofs::AskLaws::out_is_own, crate::proofs::AskLaws::out_free))]
+    #[tactic(auto, using(crate::proofs::laws::rule::AskLaws::out_is_own, crate::proofs::laws::rule::AskLaws::out_free))]
     pub fn on_out(&self) -> bool
         ensures value { result ≡ asks_on Field.OutIface self.now }
         ensures free { result ≡ false → (n : ℕ) → allows self.now Field.OutIface n ≡ true }

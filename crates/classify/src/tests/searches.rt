@@ -1,7 +1,7 @@
 //! Searches, with lanes and by the plain search.
 
 ghost use Rattle.std.specs.Prelude.{◌≡◌, IsTrue, List};
-ghost use Rattle.fields.specs.Spans.{SpanSet};
+ghost use Rattle.fields.specs.numbers.Spans.{SpanSet};
 ghost use Rattle.classify.specs.Classifier.{IsPoint, IsClassifierOf, next_match, allows_point};
 
 use super::*;

@@ -1,9 +1,9 @@
-use Rattle.fields.specs.declared.spans.Interval.{Interval}
+use Rattle.fields.specs.declared.numbers.spans.Interval.{Interval}
 use Rattle.std.proofs.Common.{sym, List, ℕ, subst, insert, ◌+◌}
 use Rattle.classify.specs.Line.{IsLineOf, row_at}
 use Rattle.classify.specs.Edits.{with_answer, IsSound}
 use Rattle.std.specs.Prelude.{map}
-use Rattle.fields.specs.Spans.{has}
+use Rattle.fields.specs.numbers.Spans.{has}
 use Rattle.classify.specs.Shown.{shown}
 use Rattle.classify.proofs.LineLaws.{line_from_steps}
 use Rattle.classify.proofs.BoxLaws.{answers_say, answers_rising, steps_of_line, longer, Cut}

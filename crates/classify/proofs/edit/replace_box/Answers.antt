@@ -1,4 +1,4 @@
-use Rattle.fields.specs.declared.spans.Interval.{Interval}
+use Rattle.fields.specs.declared.numbers.spans.Interval.{Interval}
 use Rattle.std.proofs.Common.{arith, List, ℕ, slice_set}
 use Rattle.classify.proofs.BoxLaws.{written_say, written_rising, line_from_merge, as_long, sound_from_merge}
 use Rattle.classify.specs.Shown.{shown}

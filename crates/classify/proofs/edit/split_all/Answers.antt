@@ -1,11 +1,11 @@
-use Rattle.fields.specs.declared.spans.Interval.{Interval}
+use Rattle.fields.specs.declared.numbers.spans.Interval.{Interval}
 use Rattle.std.proofs.Common.{arith, sym, List, subst, ℕ, get_or}
 use Rattle.std.proofs.lemmas.Bool.{false≢true}
 use Rattle.classify.proofs.EndLaws.{ends_from_cuts, starts_zero}
 use Rattle.classify.proofs.LoopLaws.{ends_kept}
 use Rattle.classify.proofs.ApartLaws.{both_change}
 use Rattle.std.specs.Prelude.{All}
-use Rattle.fields.specs.Spans.{AreSpansFrom}
+use Rattle.fields.specs.numbers.Spans.{AreSpansFrom}
 use Rattle.classify.specs.Cuts.{EndsStart}
 use Rattle.classify.specs.Shown.{shown}
 use Rattle.classify.specs.Steps.{IsSplitOf}

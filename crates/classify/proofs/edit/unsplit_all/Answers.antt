@@ -1,4 +1,4 @@
-use Rattle.fields.specs.declared.spans.Interval.{Interval}
+use Rattle.fields.specs.declared.numbers.spans.Interval.{Interval}
 use Rattle.std.proofs.Common.{arith, ap, subst, List, ℕ, get_or, length}
 use Rattle.classify.specs.Shown.{shown}
 use Rattle.classify.specs.Edits.{IsUnsplitAt, IsEndOf}

@@ -2,7 +2,7 @@ use Rattle.std.proofs.Common.{arith, ap, length, get_or, ◌<◌, ◌≤◌, [],
 use Rattle.std.proofs.lemmas.Bool.{false≢true}
 use Rattle.std.proofs.lemmas.List.Elements.{All-weaker}
 use Rattle.classify.specs.declared.line.Piece.{Piece}
-use Rattle.fields.specs.Spans.{SpanSet}
+use Rattle.fields.specs.numbers.Spans.{SpanSet}
 use Rattle.classify.proofs.ApartLaws.{apart_after}
 use Rattle.classify.proofs.BoxLaws.{all_rows_kept, places_from_rows, says_from_line, long_after, same_after_merge}
 use Rattle.classify.proofs.lines.insert_lines.Goals as goal

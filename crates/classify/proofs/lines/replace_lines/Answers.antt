@@ -1,6 +1,6 @@
 use Rattle.std.proofs.Common.{arith, length, ◌<◌, [], ◌∙◌}
 use Rattle.std.proofs.lemmas.Bool.{false≢true}
-use Rattle.fields.specs.Spans.{SpanSet}
+use Rattle.fields.specs.numbers.Spans.{SpanSet}
 use Rattle.classify.proofs.BoxLaws.{says_from_line, long_after, same_after_merge}
 use Rattle.classify.proofs.ApartLaws.{apart_after}
 use Rattle.classify.proofs.lines.replace_lines.Goals as goal

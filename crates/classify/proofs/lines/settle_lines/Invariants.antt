@@ -1,5 +1,5 @@
 use Rattle.std.proofs.Common.{get_or}
-use Rattle.fields.specs.Spans.{SpanSet}
+use Rattle.fields.specs.numbers.Spans.{SpanSet}
 use Rattle.classify.specs.Fields.{TakesOver}
 use Rattle.classify.proofs.FieldLaws.{Edited}
 use Rattle.classify.proofs.lines.settle_lines.Given as goal

@@ -1,7 +1,7 @@
 use Rattle.std.proofs.Common.{arith, ap, length, get_or, ◌<◌, ◌+◌, ℕ, subst, ◌≡◌, ◌∙◌, sym}
 use Rattle.std.proofs.lemmas.List.{get_or_default}
 use Rattle.classify.specs.declared.line.Line.{Line}
-use Rattle.fields.specs.Spans.{SpanSet}
+use Rattle.fields.specs.numbers.Spans.{SpanSet}
 use Rattle.classify.specs.Fields.{shown_line}
 use Rattle.classify.specs.Cuts.{CutsStart}
 use Rattle.std.proofs.lemmas.Bool.{false≢true}

@@ -1,5 +1,5 @@
 use Rattle.std.proofs.Common.{get_or}
-use Rattle.fields.specs.Spans.{SpanSet}
+use Rattle.fields.specs.numbers.Spans.{SpanSet}
 use Rattle.classify.specs.Cuts.{CutsStart}
 use Rattle.classify.specs.Steps.{IsSplitOf}
 use Rattle.classify.specs.Fields.{shown_line}

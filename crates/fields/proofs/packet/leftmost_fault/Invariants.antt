@@ -1,5 +1,5 @@
 use Rattle.std.proofs.Common.{◌≡◌, take, drop, []}
-use Rattle.fields.specs.Packet.{leftmost_fault}
+use Rattle.fields.specs.packet.Packet.{leftmost_fault}
 use Rattle.fields.proofs.packet.leftmost_fault.Given as goal
 
 abbrev pub invariant-loop-place : goal.invariant-loop-place

@@ -1,5 +1,5 @@
 use Rattle.std.proofs.Common.{◌≡◌, map, take, drop}
-use Rattle.fields.specs.Packet.{value_on}
+use Rattle.fields.specs.packet.Packet.{value_on}
 use Rattle.fields.proofs.packet.put_values.Given as goal
 
 abbrev pub invariant-loop-i : goal.invariant-loop-i

@@ -1,5 +1,5 @@
 use Rattle.std.proofs.Common.{sym, ◌∙◌}
-use Rattle.fields.proofs.PacketLaws.{text_of_here, text_of_further}
+use Rattle.fields.proofs.laws.packet.PacketLaws.{text_of_here, text_of_further}
 use Rattle.fields.proofs.packet.text_of.Goals as goal
 
 pub returns-in-Some : goal.returns-in-Some

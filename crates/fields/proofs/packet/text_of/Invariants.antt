@@ -1,5 +1,5 @@
 use Rattle.std.proofs.Common.{◌≡◌, take, drop}
-use Rattle.fields.specs.Packet.{text_of}
+use Rattle.fields.specs.packet.Packet.{text_of}
 use Rattle.fields.proofs.packet.text_of.Given as goal
 
 abbrev pub invariant-loop-place : goal.invariant-loop-place

@@ -1,5 +1,5 @@
 use Rattle.std.proofs.Common.{refl, ap, append-nil, ◌++◌, codes}
-use Rattle.fields.proofs.PutLaws.{puts-after, stops-in}
+use Rattle.fields.proofs.laws.text.PutLaws.{puts-after, stops-in}
 use Rattle.iptsim.specs.Table.{named}
 use Rattle.iptsim.specs.Listing.{chain_line}
 use Rattle.iptsim.proofs.print.put_chains.Goals as goal

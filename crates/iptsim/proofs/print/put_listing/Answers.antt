@@ -1,5 +1,5 @@
 use Rattle.std.proofs.Common.{refl, codes, flat_map}
-use Rattle.fields.proofs.PutLaws.{puts-after, stops-in}
+use Rattle.fields.proofs.laws.text.PutLaws.{puts-after, stops-in}
 use Rattle.iptsim.specs.Table.{chains_of}
 use Rattle.iptsim.specs.Listing.{chain_line, rule_lines}
 use Rattle.iptsim.proofs.print.put_listing.Goals as goal

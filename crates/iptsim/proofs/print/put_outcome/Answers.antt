@@ -1,4 +1,4 @@
-use Rattle.fields.proofs.PutLaws.{puts-then}
+use Rattle.fields.proofs.laws.text.PutLaws.{puts-then}
 use Rattle.iptsim.proofs.print.put_outcome.Goals as goal
 
 pub returns : goal.returns

@@ -1,5 +1,5 @@
 use Rattle.std.proofs.Common.{refl, sym, ap, ◌∙◌, append_assoc, append-nil, ◌≡◌, List, ℕ, ◌++◌, ◌∷◌, [], codes}
-use Rattle.fields.proofs.PutLaws.{puts-after, stops-in}
+use Rattle.fields.proofs.laws.text.PutLaws.{puts-after, stops-in}
 use Rattle.iptsim.specs.Rule.{source_text, target_text}
 use Rattle.iptsim.proofs.print.put_rule.Goals as goal
 

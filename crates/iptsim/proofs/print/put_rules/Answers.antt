@@ -1,5 +1,5 @@
 use Rattle.std.proofs.Common.{arith}
-use Rattle.fields.proofs.PutLaws.{puts-stopped, stopped-item}
+use Rattle.fields.proofs.laws.text.PutLaws.{puts-stopped, stopped-item}
 use Rattle.iptsim.specs.Listing.{rule_line}
 use Rattle.iptsim.proofs.print.put_rules.Goals as goal
 

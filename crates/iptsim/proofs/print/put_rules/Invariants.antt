@@ -1,5 +1,5 @@
 use Rattle.std.proofs.Common.{take, flat_map}
-use Rattle.fields.specs.Tap.{Wrote}
+use Rattle.fields.specs.text.Tap.{Wrote}
 use Rattle.iptsim.specs.Listing.{rule_line}
 use Rattle.iptsim.proofs.print.put_rules.Given as goal
 

@@ -1,6 +1,6 @@
 use Rattle.std.proofs.Common.{◌≡◌, ◌≢◌, [], ◌++◌, ap, cond, ne_eqb, subst, ℕ, codes}
-use Rattle.fields.specs.Prefix.{Network, prefix_text}
-use Rattle.fields.proofs.PutLaws.{puts-after, stops-in}
+use Rattle.fields.specs.values.Prefix.{Network, prefix_text}
+use Rattle.fields.proofs.laws.text.PutLaws.{puts-after, stops-in}
 use Rattle.iptsim.specs.Rule.{source_text}
 use Rattle.iptsim.proofs.print.put_source.Goals as goal
 

@@ -1,5 +1,5 @@
 use Rattle.std.proofs.Common.{◌≡◌, drop}
-use Rattle.rules.specs.Actions.{reject_in}
+use Rattle.rules.specs.rule.Actions.{reject_in}
 use Rattle.rules.proofs.rule.reject_in.Given as goal
 
 abbrev pub invariant-loop-setting : goal.invariant-loop-setting

@@ -1,6 +1,6 @@
 use Rattle.std.proofs.Common.{arith, length, ◌≡◌, ◌∙◌, rules}
 use Rattle.std.specs.Prelude.{slice_index}
-use Rattle.fields.specs.declared.field.TheConstants.{FIELDS}
+use Rattle.fields.specs.declared.numbers.field.TheConstants.{FIELDS}
 use Rattle.classify.specs.Fields.{tops}
 use Rattle.classify.proofs.LoopLaws.{zero_from_rising}
 use Rattle.classify.proofs.ClassifierLaws.{classifier_empty, kept_empty, line_sound}

@@ -1,5 +1,5 @@
 use Rattle.std.proofs.Common.{ap, length, ◌≡◌, ◌∙◌, sym, subst, rules, List, ℕ, Bool}
-use Rattle.fields.specs.declared.field.TheConstants.{FIELDS}
+use Rattle.fields.specs.declared.numbers.field.TheConstants.{FIELDS}
 use Rattle.classify.specs.Fields.{IsKept}
 use Rattle.classify.proofs.ClassifierLaws.{same_shown}
 use Rattle.classify.proofs.classifier.Classifier.copy.Goals as goal

@@ -1,5 +1,5 @@
 use Rattle.std.proofs.Common.{arith, length, ◌≡◌, ◌∙◌, rules}
-use Rattle.fields.specs.declared.field.TheConstants.{FIELDS}
+use Rattle.fields.specs.declared.numbers.field.TheConstants.{FIELDS}
 use Rattle.classify.proofs.ClassifierLaws.{classifier_empty, kept_empty}
 use Rattle.classify.proofs.classifier.Classifier.new.Goals as goal
 

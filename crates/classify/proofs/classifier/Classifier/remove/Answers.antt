@@ -1,6 +1,6 @@
 use Rattle.std.proofs.Common.{arith, ap, length, ◌-◌, ◌<◌, ◌≡◌, ◌∙◌, sym, subst, rules}
 use Rattle.std.specs.Prelude.{slice_index}
-use Rattle.fields.specs.declared.field.TheConstants.{FIELDS}
+use Rattle.fields.specs.declared.numbers.field.TheConstants.{FIELDS}
 use Rattle.classify.specs.Classifier.{Classified, IsClassifierOf}
 use Rattle.classify.specs.Fields.{tops}
 use Rattle.classify.proofs.ClassifierLaws.{classifier_without, line_sound, still_kept}

@@ -1,9 +1,9 @@
 use Rattle.std.proofs.Common.{arith, below_more, ◌≤◌, ℕ, subst, ◌<◌}
-use Rattle.fields.specs.Field.{index}
-use Rattle.fields.specs.declared.field.Field.TheVariants.{Source}
-use Rattle.fields.specs.declared.field.TheConstants.{FIELDS}
-use Rattle.fields.specs.Field.{number_on}
-use Rattle.rules.proofs.BoxLaws.{index-lt}
+use Rattle.fields.specs.numbers.Field.{index}
+use Rattle.fields.specs.declared.numbers.field.Field.TheVariants.{Source}
+use Rattle.fields.specs.declared.numbers.field.TheConstants.{FIELDS}
+use Rattle.fields.specs.numbers.Field.{number_on}
+use Rattle.rules.proofs.laws.boxing.BoxLaws.{index-lt}
 use Rattle.classify.proofs.ClassifierLaws.{top_at, tops_at}
 use Rattle.classify.proofs.tests.searches.is_point.Goals as goal
 

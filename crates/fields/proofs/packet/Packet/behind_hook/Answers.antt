@@ -1,5 +1,5 @@
 use Rattle.std.proofs.Common.{drop}
-use Rattle.fields.proofs.PacketLaws.{values_fit}
+use Rattle.fields.proofs.laws.packet.PacketLaws.{values_fit}
 use Rattle.fields.proofs.packet.Packet.behind_hook.Goals as goal
 
 pub invariant_of-result : goal.invariant_of-result

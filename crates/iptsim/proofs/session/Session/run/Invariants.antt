@@ -1,5 +1,5 @@
 use Rattle.std.proofs.Common.{◌≡◌, ◌+◌, ◌≤◌, false}
-use Rattle.fields.specs.Tap.{has_failed, turns_left}
+use Rattle.fields.specs.text.Tap.{has_failed, turns_left}
 use Rattle.iptsim.specs.Session.{step, start}
 use Rattle.iptsim.specs.Run.{table_of}
 use Rattle.iptsim.proofs.Reached.{Reached}

@@ -1,5 +1,5 @@
-use Rattle.rules.specs.Views.{view_draft}
-use Rattle.rules.proofs.RenameLaws.{renamed_reads}
+use Rattle.rules.specs.steps.Views.{view_draft}
+use Rattle.rules.proofs.laws.rule.RenameLaws.{renamed_reads}
 use Rattle.rules.proofs.rule.Rule.rename_target.Goals as goal
 
 pub invariant_of-self : goal.invariant_of-self

@@ -1,8 +1,0 @@
-use Rattle.std.proofs.Common.{◌≡◌, drop}
-use Rattle.fields.specs.NameList.{number_named}
-use Rattle.fields.specs.PacketStateTable.{shown}
-use Rattle.fields.proofs.connection_state.number_in.Given as goal
-
--- the answer is among the rows that are left
-abbrev pub invariant-loop-name : goal.invariant-loop-name
-invariant-loop-name l = number_named (shown l.rows) l.text ≡ number_named (shown (drop l.name-index l.rows)) l.text

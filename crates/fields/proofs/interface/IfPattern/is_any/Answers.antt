@@ -1,6 +1,0 @@
-use Rattle.std.proofs.Common.{◌≡◌, rules, codes}
-use Rattle.fields.proofs.InterfaceLaws.{any-holds}
-use Rattle.fields.proofs.interface.IfPattern.is_any.Goals as goal
-
-pub returns-clause-all : goal.returns-clause-all
-returns-clause-all c = λ found. any-holds c.args.self.now (let same : c.args.self.now ≡ codes "+" = search rules in same)

@@ -1,0 +1,5 @@
+pub mod ListLaws
+pub mod numbers
+pub mod packet
+pub mod text
+pub mod values

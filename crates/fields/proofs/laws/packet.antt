@@ -1,0 +1,2 @@
+pub mod PacketLaws
+mod PacketRows

@@ -1,0 +1,180 @@
+-- Laws of the words of a packet line.
+use Rattle.std.proofs.Common.{◌≡◌, ℕ, ◌+◌, ◌*◌, ◌<◌, ◌≤◌, find, option_map, leb-true, List, [], ◌∷◌, ◌++◌, length, map, get_or, take, drop, length-take, get_or-take, Option, None, Some, Err, Bool, true, false, cond, lit≤, refl, sym, subst, ap, ◌∙◌, arith}
+use Rattle.std.specs.Prelude.{slice_get, slice_index, unwrap_or, nat_le}
+use Rattle.std.specs.Str.{bytes_eq}
+use Rattle.std.specs.List.{list_all}
+use Rattle.std.specs.Option.{option_or}
+use Rattle.std.proofs.lemmas.List.{drop_more, take_more, drop-append-le}
+use Rattle.std.proofs.lemmas.Option.{get_or_from_slice_get}
+use Rattle.fields.specs.Sequence.{◌>>=◌}
+use Rattle.fields.specs.numbers.Field.{index, top}
+use Rattle.fields.specs.packet.Hook.{hook_of}
+use Rattle.fields.specs.packet.Keys.{key_of, value_of}
+use Rattle.fields.specs.text.Number.{number_to}
+use Rattle.fields.specs.packet.Packet.{IsPacket, text_in, text_of, number_of_text, word_fault, leftmost_fault, value_on, checked, packet_at, packet_of}
+use Rattle.fields.specs.declared.numbers.field.Field.{Field}
+use Rattle.fields.specs.declared.numbers.field.Field.TheVariants as fields
+use Rattle.fields.specs.declared.numbers.field.TheConstants.Field.{ALL}
+use Rattle.fields.specs.declared.packet.hook.Hook.{Hook}
+use Rattle.fields.specs.declared.packet.keys.Value.{Value}
+use Rattle.fields.specs.declared.packet.keys.Value.TheVariants as value
+use Rattle.fields.specs.declared.packet.PacketFault.TheVariants.{UnknownKey}
+use Rattle.fields.specs.text.Cut.{cut_at}
+use Rattle.fields.specs.values.Interface.{is_interface, interface_of, interface_value}
+use Rattle.fields.specs.values.PacketIcmp.{packet_icmp_of}
+use Rattle.fields.specs.values.Protocol.{protocols, protocol_number, one_protocol_of}
+use Rattle.fields.proofs.laws.values.ConnectionStateLaws.{packet_state_within}
+use Rattle.fields.proofs.laws.values.InterfaceLaws.{bound-is, bound-fits, interface_of-form}
+use Rattle.fields.proofs.laws.ListLaws.{find-passes}
+use Rattle.fields.proofs.laws.values.TcpFlagsLaws.{known as flags_known}
+use Rattle.fields.proofs.laws.text.CutLaws.{step_before, same_some}
+use Rattle.fields.proofs.laws.text.NumberLaws.{number_to_sound}
+use Rattle.fields.proofs.laws.values.PrefixLaws.{address_of_sound}
+
+-- a word, and those behind it up to an end
+word_first : (words : List (List ℕ)) (place end : ℕ) (word : List ℕ) → place < end → end ≤ length words → slice_get words place ≡ Some word
+    → drop place (take end words) ≡ word ∷ drop (place + 1) (take end words)
+word_first words place end word before within is =
+    let inside : place < length (take end words) = grind (arith, length-take {A = List ℕ}) in
+    let same : get_or (take end words) place [] ≡ word = get_or-take end words place [] before ∙ get_or_from_slice_get words place word [] is in
+    drop_more (take end words) place [] inside ∙ ap (λ w. w ∷ drop (place + 1) (take end words)) same
+
+module _ (field : Field) (words : List (List ℕ)) (place end : ℕ) (word : List ℕ) (before : place < end) (within : end ≤ length words) (is : slice_get words place ≡ Some word) where
+  text_of_first : text_of field (drop place (take end words)) ≡ option_or (text_in field word) (text_of field (drop (place + 1) (take end words)))
+  text_of_first = ap (text_of field) (word_first words place end word before within is)
+
+  -- the first word gives the text
+  pub text_of_here : (text : List ℕ) → Some text ≡ text_in field word → text_of field (drop place (take end words)) ≡ Some text
+  text_of_here text gives = text_of_first ∙ ap (λ o. option_or o (text_of field (drop (place + 1) (take end words)))) (sym gives)
+
+  -- it gives none
+  pub text_of_further : None ≡ text_in field word → text_of field (drop place (take end words)) ≡ text_of field (drop (place + 1) (take end words))
+  text_of_further none = text_of_first ∙ ap (λ o. option_or o (text_of field (drop (place + 1) (take end words)))) (sym none)
+
+-- the word at a place, behind those from the first on
+pub leftmost_fault_first : (words : List (List ℕ)) (first place : ℕ) → first ≤ place → place < length words
+    → leftmost_fault (drop first (take place words)) (drop place words)
+    ≡ option_or (word_fault (drop first (take place words)) (get_or words place [])) (leftmost_fault (drop first (take (place + 1) words)) (drop (place + 1) words))
+leftmost_fault_first words first place ordered within =
+    let before = drop first (take place words) in
+    let word = get_or words place [] in
+    let inside : first ≤ length (take place words) = grind (arith, length-take {A = List ℕ}) in
+    let grown : drop first (take (place + 1) words) ≡ before ++ word ∷ [] =
+    ap (drop first) (take_more words place [] within) ∙ drop-append-le first (take place words) (word ∷ []) inside in
+    ap (leftmost_fault before) (drop_more words place [] within) ∙ ap (λ l. option_or (word_fault before word) (leftmost_fault l (drop (place + 1) words))) (sym grown)
+
+-- the hook, and the words behind it
+pub packet_of_first : (words : List (List ℕ)) (from : ℕ) (word : List ℕ) → from < length words → slice_get words from ≡ Some word
+    → packet_of (drop from words) ≡ packet_at (hook_of word) (drop (from + 1) words)
+packet_of_first words from word within is =
+    ap packet_of (drop_more words from [] within) ∙ ap (λ w. packet_at (hook_of w) (drop (from + 1) words)) (get_or_from_slice_get words from word [] is)
+
+pub packet_of_unknown : (words : List (List ℕ)) (from : ℕ) (word : List ℕ) → from < length words → slice_get words from ≡ Some word → None ≡ hook_of word
+    → packet_of (drop from words) ≡ Err UnknownKey
+packet_of_unknown words from word within is none = packet_of_first words from word within is ∙ ap (λ h. packet_at h (drop (from + 1) words)) (sym none)
+
+pub packet_of_hook : (words : List (List ℕ)) (from : ℕ) (word : List ℕ) (hook : Hook) → from < length words → slice_get words from ≡ Some word → Some hook ≡ hook_of word
+    → packet_of (drop from words) ≡ checked hook (drop (from + 1) words) (leftmost_fault [] (drop (from + 1) words))
+packet_of_hook words from word hook within is some = packet_of_first words from word within is ∙ ap (λ h. packet_at h (drop (from + 1) words)) (sym some)
+
+-- the greatest number of each kind of value
+abbrev greatest : Value → ℕ
+greatest value.Address = 4294967295
+greatest value.Interface = 340282366920938463463374607431768211455
+greatest value.Protocol = 255
+greatest value.Bit = 1
+greatest value.Port = 65535
+greatest value.Flags = 63
+greatest value.Icmp = 65535
+greatest value.State = 13
+
+-- an accepted text of an interface is the interface itself
+interface_is_text : (text name : List ℕ) → interface_of text ≡ Some name → interface_of name ≡ Some name
+unfolding interface_of
+interface_is_text text name reads = go (is_interface text) refl reads
+  where
+    go : (t : Bool) → is_interface text ≡ t → cond t (Some text) None ≡ Some name → cond (is_interface name) (Some name) None ≡ Some name
+    go false is e = absurd (cc)
+    go true is e = let same = same_some text name e in ap (λ b. cond b (Some name) None) (ap is_interface (sym same) ∙ is)
+
+interface_fits : (name : List ℕ) → interface_of name ≡ Some name → interface_value name ≤ 340282366920938463463374607431768211455
+unfolding interface_value
+interface_fits name reads =
+    let form = interface_of-form name reads in
+    let few = form.few in
+    let number = bound-is 0 16 name (omega arith) in
+    let fits = bound-fits 0 16 name (omega arith) form.bytes in
+    omega arith
+
+abbrev is_small : List ℕ × ℕ → Bool
+is_small entry = nat_le entry.1 255
+
+numbers_small : list_all is_small protocols ≡ true
+numbers_small = refl
+
+protocol_fits : (text : List ℕ) (n : ℕ) → one_protocol_of text ≡ Some n → n ≤ 255
+unfolding one_protocol_of protocol_number
+protocol_fits text n e = go (find (λ (entry : List ℕ × ℕ). bytes_eq entry.0 text) protocols) refl e
+  where
+    go : (o : Option (List ℕ × ℕ)) → find (λ (entry : List ℕ × ℕ). bytes_eq entry.0 text) protocols ≡ o
+        → option_or (option_map (λ entry. entry.1) o) (number_to 255 text) ≡ Some n → n ≤ 255
+    go None found is = let (number, small) = number_to_sound 255 text n is in small
+    go (Some entry) found is =
+        let small = leb-true entry.1 255 (find-passes (λ (e : List ℕ × ℕ). bytes_eq e.0 text) is_small protocols entry found numbers_small).1 in
+        let same = same_some entry.1 n is in
+        omega arith
+
+icmp_fits : (text : List ℕ) (n : ℕ) → packet_icmp_of text ≡ Some n → n ≤ 65535
+unfolding packet_icmp_of
+icmp_fits text n e =
+    let (p, cut, behind) = step_before (cut_at 47 text) (λ p. number_to 255 p.0 >>= λ t. number_to 255 p.1 >>= λ c. Some (t * 256 + c)) n e in
+    let (t, first, further) = step_before (number_to 255 p.0) (λ t. number_to 255 p.1 >>= λ c. Some (t * 256 + c)) n behind in
+    let (c, second, last) = step_before (number_to 255 p.1) (λ c. Some (t * 256 + c)) n further in
+    let high = (number_to_sound 255 p.0 t first).1 in
+    let low = (number_to_sound 255 p.1 c second).1 in
+    let same = same_some (t * 256 + c) n last in
+    omega arith
+
+value_of_fits : (kind : Value) (text : List ℕ) (n : ℕ) → value_of kind text ≡ Some n → n ≤ greatest kind
+value_of_fits value.Address text n e = let (is, small) = address_of_sound text n e in omega arith
+value_of_fits value.Interface text n e =
+    let (name, reads, is) = step_before (interface_of text) (λ name. Some (interface_value name)) n e in
+    let fits = interface_fits name (interface_is_text text name reads) in
+    let same = same_some (interface_value name) n is in
+    omega arith
+value_of_fits value.Protocol text n e = protocol_fits text n e
+value_of_fits value.Bit text n e = let (number, small) = number_to_sound 1 text n e in small
+value_of_fits value.Port text n e = let (number, small) = number_to_sound 65535 text n e in small
+value_of_fits value.Flags text n e = let small = flags_known text n e in omega arith
+value_of_fits value.Icmp text n e = icmp_fits text n e
+value_of_fits value.State text n e = packet_state_within text (Some n) (sym e)
+
+-- is within the top of each field whose key has the kind
+greatest_fits : (field : Field) → greatest (key_of field).value ≤ top field
+greatest_fits fields.Source = lit≤ tt
+greatest_fits _ = lit≤ tt
+
+number_on_fits : (field : Field) (text : List ℕ) (n : ℕ) → number_of_text field text ≡ Some n → n ≤ top field
+number_on_fits field text n e = let kind = value_of_fits (key_of field).value text n e in let whole = greatest_fits field in omega (arith, kind, whole)
+
+value_on_fits : (words : List (List ℕ)) (field : Field) → value_on words field ≤ top field
+value_on_fits words field = go (text_of field words >>= λ text. number_of_text field text) refl
+  where
+    go : (o : Option ℕ) → (text_of field words >>= λ text. number_of_text field text) ≡ o → unwrap_or o 0 ≤ top field
+    go None e = omega arith
+    go (Some n) e = let (text, given, is) = step_before (text_of field words) (λ t. number_of_text field t) n e in number_on_fits field text n is
+
+-- a list of one value a field has each at the field's index
+at_index : (f : Field → ℕ) (field : Field) → slice_index (map f ALL) (index field) ≡ f field
+at_index f fields.Source = refl
+at_index f _ = refl
+
+pub values_fit : (hook : Hook) (words : List (List ℕ)) (values : List ℕ) → values ≡ map (value_on words) ALL → IsPacket (record { hook = hook; values = values })
+values_fit hook words values are =
+    subst
+    (λ (vs : List ℕ). IsPacket (record { hook = hook; values = vs }))
+    (sym are)
+    (record {
+      whole = refl;
+      within = λ field. subst (λ n. n ≤ top field) (sym (at_index (value_on words) field)) (value_on_fits words field);
+    })

@@ -1,0 +1,11 @@
+pub mod CutLaws
+pub mod CuttingLaws
+pub mod DecimalLaws
+pub mod LineLaws
+pub mod NumberLaws
+pub mod PartLaws
+pub mod PrintedLaws
+pub mod PutLaws
+pub mod SplitLaws
+mod WordExamples
+pub mod WordLaws

@@ -1,0 +1,57 @@
+-- The code cuts a line into the words of the line.
+use Rattle.std.proofs.Common.{◌≡◌, ℕ, List, [], ◌∷◌, ◌++◌, Option, Some, None, option_and_then, refl, sym, ap, ◌∙◌, append_assoc, append-nil}
+use Rattle.std.specs.Option.{option_map}
+use Rattle.fields.specs.text.Words.{Place, Between, Bare, Quoted, Escaped, Closed, Act, Skips, Joins, Ends, Breaks, act_of, in_front, acted, words_from, words_of}
+use Rattle.fields.specs.steps.Cutting.{Cut, cut_by, after, whole, cut_from, start}
+
+abbrev at : List (List ℕ) → List ℕ → Place → Cut
+at words word place = record { words = words; word = word; place = place }
+
+-- the word at hand goes on with the first of the further words
+abbrev glued : List (List ℕ) → List ℕ → List (List ℕ) → List (List ℕ)
+glued words word [] = words ++ []
+glued words word (rest ∷ further) = words ++ (word ++ rest) ∷ further
+
+glued-joins : (words : List (List ℕ)) (word : List ℕ) (byte : ℕ) (found : Option (List (List ℕ)))
+    → option_map (glued words (word ++ byte ∷ [])) found ≡ option_map (glued words word) (option_map (in_front byte) found)
+glued-joins words word byte None = refl
+glued-joins words word byte (Some []) = refl
+glued-joins words word byte (Some (rest ∷ further)) = ap (λ w. Some (words ++ w ∷ further)) (append_assoc word (byte ∷ []) rest)
+
+glued-ends : (words : List (List ℕ)) (word : List ℕ) (found : Option (List (List ℕ)))
+    → option_map (glued (words ++ word ∷ []) []) found ≡ option_map (glued words word) (option_map (λ further. [] ∷ further) found)
+glued-ends words word None = refl
+glued-ends words word (Some []) = ap Some (append-nil (words ++ word ∷ []) ∙ ap (λ w. words ++ w ∷ []) (sym (append-nil word)))
+glued-ends words word (Some (rest ∷ further)) =
+    ap Some (append_assoc words (word ∷ []) (rest ∷ further) ∙ ap (λ w. words ++ w ∷ rest ∷ further) (sym (append-nil word)))
+
+cut_from-act : (bytes : List ℕ) (byte : ℕ) (act : Act) (words : List (List ℕ)) (word : List ℕ) (place : Place)
+    → ((ws : List (List ℕ)) (w : List ℕ) (p : Place) → cut_from (at ws w p) bytes ≡ option_map (glued ws w) (words_from p bytes))
+    → option_and_then (λ next. cut_from next bytes) (cut_by act byte (at words word place)) ≡ option_map (glued words word) (acted act byte (λ next. words_from next bytes))
+cut_from-act bytes byte (Skips next) words word place further = further words word next
+cut_from-act bytes byte (Joins next) words word place further = further words (word ++ byte ∷ []) next ∙ glued-joins words word byte (words_from next bytes)
+cut_from-act bytes byte (Ends next) words word place further = further (words ++ word ∷ []) [] next ∙ glued-ends words word (words_from next bytes)
+cut_from-act bytes byte Breaks words word place further = refl
+
+cut_from-at : (bytes : List ℕ) (words : List (List ℕ)) (word : List ℕ) (place : Place) → cut_from (at words word place) bytes ≡ option_map (glued words word) (words_from place bytes)
+unfolding after whole
+cut_from-at [] words word Between = ap Some (sym (append-nil words))
+cut_from-at [] words word Bare = ap (λ w. Some (words ++ w ∷ [])) (sym (append-nil word))
+cut_from-at [] words word Quoted = refl
+cut_from-at [] words word Escaped = refl
+cut_from-at [] words word Closed = ap Some (sym (append-nil words))
+cut_from-at (byte ∷ bytes) words word Between = cut_from-act bytes byte (act_of Between byte) words word Between (λ ws w p. cut_from-at bytes ws w p)
+cut_from-at (byte ∷ bytes) words word Bare = cut_from-act bytes byte (act_of Bare byte) words word Bare (λ ws w p. cut_from-at bytes ws w p)
+cut_from-at (byte ∷ bytes) words word Quoted = cut_from-act bytes byte (act_of Quoted byte) words word Quoted (λ ws w p. cut_from-at bytes ws w p)
+cut_from-at (byte ∷ bytes) words word Escaped = cut_from-act bytes byte (act_of Escaped byte) words word Escaped (λ ws w p. cut_from-at bytes ws w p)
+cut_from-at (byte ∷ bytes) words word Closed = cut_from-act bytes byte (act_of Closed byte) words word Closed (λ ws w p. cut_from-at bytes ws w p)
+
+-- nothing stands before the words of a line
+unglued : (found : Option (List (List ℕ))) → option_map (glued [] []) found ≡ found
+unglued None = refl
+unglued (Some []) = refl
+unglued (Some (word ∷ words)) = refl
+
+-- what the code cuts are the words of the line
+pub cut_from-start : (line : List ℕ) → cut_from start line ≡ words_of line
+cut_from-start line = cut_from-at line [] [] Between ∙ unglued (words_of line)

@@ -1,0 +1,16 @@
+pub mod BareLaws
+pub mod ConnectionStateLaws
+pub mod IcmpLaws
+pub mod InterfaceLaws
+pub mod InterfaceNameLaws
+pub mod IpRangeLaws
+pub mod JoinLaws
+pub mod LogLevelLaws
+pub mod NameListLaws
+pub mod PortListLaws
+pub mod PortRangeLaws
+pub mod PrefixLaws
+pub mod ProtocolLaws
+pub mod RejectLaws
+pub mod TcpFlagsLaws
+pub mod UnionLaws

@@ -1,5 +1,0 @@
-use Rattle.fields.proofs.BareLaws.{name_is_bare}
-use Rattle.fields.proofs.name.Name.put.Goals as goal
-
-pub returns-clause-word : goal.returns-clause-word
-returns-clause-word g c = rw (← c.self.view_is) (name_is_bare _ c.self.invariant)

@@ -1,9 +1,0 @@
-use Rattle.std.proofs.Common.{◌≡◌, ◌<◌, ◌^◌, drop}
-use Rattle.fields.specs.Number.{number_from}
-use Rattle.fields.proofs.number.value_of.Given as goal
-
-abbrev pub invariant-loop-byte : goal.invariant-loop-byte
-invariant-loop-byte l = record {
-  value : number_from l.value (drop l.byte-index l.text) ≡ number_from 0 l.text;
-  small : l.value < 10 ^ l.byte-index;
-}

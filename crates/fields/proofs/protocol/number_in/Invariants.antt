@@ -1,8 +1,0 @@
-use Rattle.std.proofs.Common.{◌≡◌, drop}
-use Rattle.fields.specs.Protocol.{number_in}
-use Rattle.fields.specs.ProtocolTable.{shown}
-use Rattle.fields.proofs.protocol.number_in.Given as goal
-
--- the answer is among the entries that are left
-abbrev pub invariant-loop-name : goal.invariant-loop-name
-invariant-loop-name l = number_in l.text (shown (drop l.name-index l.entries)) ≡ number_in l.text (shown l.entries)

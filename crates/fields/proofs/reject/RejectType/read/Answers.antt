@@ -1,5 +1,0 @@
-use Rattle.fields.proofs.RejectLaws.{named}
-use Rattle.fields.proofs.reject.RejectType.read.Goals as goal
-
-pub returns-clause-sound : goal.returns-clause-sound
-returns-clause-sound c = named c.args.text.now c.named.result c.named.ensures

@@ -1,9 +1,0 @@
-use Rattle.std.proofs.Common.{◌+◌, length}
-use Rattle.fields.proofs.MeetLaws.{Meeting}
-use Rattle.fields.proofs.spans.Spans.meet.Given as goal
-
-abbrev pub invariant-loop-a : goal.invariant-loop-a
-invariant-loop-a l = Meeting l.self.top l.self.intervals l.other.intervals l.shared.items l.left l.right
-
-abbrev pub decreases-loop-a : goal.decreases-loop-a
-decreases-loop-a l = length l.left + length l.right

@@ -1,0 +1,3 @@
+pub mod Hook
+pub mod Keys
+pub mod Packet

@@ -1,0 +1,71 @@
+-- The keys of a packet line: what each takes, which packets carry it, and which need it.
+use Rattle.std.specs.Prelude.{ℕ, Bool, true, false, ◌==◌, ◌&&◌, List, Option, Some, None}
+use Rattle.fields.specs.Sequence.{◌>>=◌}
+use Rattle.fields.specs.text.Number.{number_to}
+use Rattle.fields.specs.values.Prefix.{address_of}
+use Rattle.fields.specs.values.Interface.{interface_of, interface_value}
+use Rattle.fields.specs.values.Protocol.{one_protocol_of, carries_ports}
+use Rattle.fields.specs.values.TcpFlags.{tcp_flags_of}
+use Rattle.fields.specs.values.PacketIcmp.{packet_icmp_of}
+use Rattle.fields.specs.values.ConnectionState.{packet_state_of}
+use Rattle.fields.specs.declared.packet.hook.Hook.{Hook}
+use Rattle.fields.specs.declared.packet.hook.Hook.TheVariants.{Input, Output}
+use Rattle.fields.specs.declared.numbers.field.Field.{Field}
+use Rattle.fields.specs.declared.numbers.field.Field.TheVariants as field
+use Rattle.fields.specs.declared.packet.keys.Key.{Key}
+use Rattle.fields.specs.declared.packet.keys.Value.{Value}
+use Rattle.fields.specs.declared.packet.keys.Value.TheVariants as value
+use Rattle.fields.specs.declared.packet.keys.Parts.{Parts}
+use Rattle.fields.specs.declared.packet.keys.Carrier.{Carrier}
+use Rattle.fields.specs.declared.packet.keys.Carrier.TheVariants as carrier
+
+-- the number that a text is as a value of this kind
+abbrev pub value_of : Value → List ℕ → Option ℕ
+value_of value.Address text = address_of text
+value_of value.Interface text = interface_of text >>= λ name. Some (interface_value name)
+value_of value.Protocol text = one_protocol_of text
+value_of value.Bit text = number_to 1 text
+value_of value.Port text = number_to 65535 text
+value_of value.Flags text = tcp_flags_of text
+value_of value.Icmp text = packet_icmp_of text
+value_of value.State text = packet_state_of text
+
+-- a packet comes in unless it is sent from here, and goes out unless it is for here
+abbrev pub comes_in : Hook → Bool
+comes_in Output = false
+comes_in hook = true
+
+abbrev pub goes_out : Hook → Bool
+goes_out Input = false
+goes_out hook = true
+
+-- a first fragment of such a protocol; without a protocol there is none
+abbrev pub is_first_of : (ℕ → Bool) → ℕ → Option ℕ → Bool
+is_first_of has fragment None = false
+is_first_of has fragment (Some protocol) = has protocol && (fragment == 0)
+
+-- Whether a packet carries a part, by its hook, its protocol where one is given, and whether it is a further fragment.
+abbrev pub carries : Parts → Carrier → Bool
+carries parts carrier.Every = true
+carries parts carrier.Incoming = comes_in parts.hook
+carries parts carrier.Outgoing = goes_out parts.hook
+carries parts carrier.WithPorts = is_first_of carries_ports parts.fragment parts.protocol
+carries parts carrier.Tcp = is_first_of (λ n. n == 6) parts.fragment parts.protocol
+carries parts carrier.Icmp = is_first_of (λ n. n == 1) parts.fragment parts.protocol
+
+abbrev pub key : Value → Carrier → Bool → Key
+key value carrier required = record { value = value; carrier = carrier; is_required = required }
+
+-- the table of keys: one row a field, whose name is the key. What it takes, who carries it, and whether a packet that does needs it
+abbrev pub key_of : Field → Key
+key_of field.Source = key value.Address carrier.Every true
+key_of field.Destination = key value.Address carrier.Every true
+key_of field.InIface = key value.Interface carrier.Incoming false
+key_of field.OutIface = key value.Interface carrier.Outgoing false
+key_of field.Protocol = key value.Protocol carrier.Every true
+key_of field.Fragment = key value.Bit carrier.Every false
+key_of field.SourcePort = key value.Port carrier.WithPorts true
+key_of field.DestinationPort = key value.Port carrier.WithPorts true
+key_of field.TcpFlags = key value.Flags carrier.Tcp false
+key_of field.IcmpType = key value.Icmp carrier.Icmp true
+key_of field.ConnectionState = key value.State carrier.Every false

@@ -1,0 +1,110 @@
+-- Packets, and the words of a packet line.
+use Rattle.std.specs.Prelude.{ℕ, ◌≡◌, ◌≤◌, Bool, not, ◌&&◌, ◌||◌, List, [], ◌∷◌, ◌++◌, length, map, find, Option, Some, None, is_some, is_none, unwrap_or, Result, Ok, Err, if◌then◌else◌}
+use Rattle.std.specs.List.{list_any}
+use Rattle.std.specs.Option.{option_or}
+use Rattle.std.specs.Str.{bytes_eq}
+use Rattle.fields.specs.Sequence.{◌>>=◌}
+use Rattle.fields.specs.text.Cut.{cut_at}
+use Rattle.fields.specs.numbers.Field.{all_fields, number_on, top, name}
+use Rattle.fields.specs.packet.Hook.{hook_of}
+use Rattle.fields.specs.packet.Keys.{key_of, value_of, carries}
+use Rattle.fields.specs.declared.numbers.field.Field.{Field}
+use Rattle.fields.specs.declared.numbers.field.Field.TheVariants as fields
+use Rattle.fields.specs.declared.packet.keys.Parts.{Parts}
+use Rattle.fields.specs.declared.packet.hook.Hook.{Hook}
+use Rattle.fields.specs.declared.packet.PacketFault.{PacketFault}
+use Rattle.fields.specs.declared.packet.PacketFault.TheVariants.{UnknownKey, KeyMissing, BadValue, NotCarried}
+
+-- a packet: its hook, and its value on each field, in the fields' order
+pub record PacketView : Type 0 where
+  pub hook : Hook
+  pub values : List ℕ
+
+-- the packet's value on a field
+abbrev pub point : PacketView → Field → ℕ
+point p field = number_on p.values field
+
+-- what a packet can be: it has one value a field, each within the field's top
+pub record IsPacket (p : PacketView) : Type 0 where
+  pub whole : length p.values ≡ length all_fields
+  pub within : (field : Field) → point p field ≤ top field
+
+-- the field of a key: the one whose name is the key
+abbrev pub has_key : List ℕ → Field → Bool
+has_key key field = bytes_eq (name field) key
+
+abbrev pub field_of : List ℕ → Option Field
+field_of key = find (has_key key) all_fields
+
+-- what a word `key=value` gives: the field of the key, and the value's text
+abbrev pub part_of : List ℕ → Option (Field × List ℕ)
+part_of word = cut_at 61 word >>= λ p. field_of p.0 >>= λ field. Some (field, p.1)
+
+-- the text that a word gives a field
+abbrev pub text_in : Field → List ℕ → Option (List ℕ)
+text_in field word = cut_at 61 word >>= λ p. if bytes_eq (name field) p.0 then Some p.1 else None
+
+-- the text that some words give a field: that of the first one that gives it
+abbrev pub text_of : Field → List (List ℕ) → Option (List ℕ)
+text_of field [] = None
+text_of field (word ∷ words) = option_or (text_in field word) (text_of field words)
+
+-- the number of the text behind a field's key
+abbrev pub number_of_text : Field → List ℕ → Option ℕ
+number_of_text field text = value_of (key_of field).value text
+
+-- the fault of a word that gives this, behind other words
+abbrev pub fault_of_part : List (List ℕ) → Option (Field × List ℕ) → Option PacketFault
+fault_of_part before None = Some UnknownKey
+fault_of_part before (Some part) = if is_some (text_of part.0 before) || is_none (number_of_text part.0 part.1) then Some BadValue else None
+
+abbrev pub word_fault : List (List ℕ) → List ℕ → Option PacketFault
+word_fault before word = fault_of_part before (part_of word)
+
+-- the fault of the leftmost word at fault, of words behind others
+abbrev pub leftmost_fault : List (List ℕ) → List (List ℕ) → Option PacketFault
+leftmost_fault before [] = None
+leftmost_fault before (word ∷ words) = option_or (word_fault before word) (leftmost_fault (before ++ word ∷ []) words)
+
+-- the value that the words give a field: 0 where none does
+abbrev pub value_on : List (List ℕ) → Field → ℕ
+value_on words field = unwrap_or (text_of field words >>= λ text. number_of_text field text) 0
+
+-- the parts of a packet that decide which others it carries
+abbrev pub parts_of : Hook → List (List ℕ) → Parts
+parts_of hook words = record {
+  hook = hook;
+  protocol = text_of fields.Protocol words >>= λ text. number_of_text fields.Protocol text;
+  fragment = value_on words fields.Fragment;
+}
+
+-- whether the key of a field is given, of a packet that doesn't carry it
+abbrev pub strays : Parts → List (List ℕ) → Field → Bool
+strays parts words field = is_some (text_of field words) && not (carries parts (key_of field).carrier)
+
+abbrev pub strays_key : Parts → List (List ℕ) → Bool
+strays_key parts words = list_any (strays parts words) all_fields
+
+-- whether the key of a field has to be given and isn't
+abbrev pub lacks : Parts → List (List ℕ) → Field → Bool
+lacks parts words field = (key_of field).is_required && carries parts (key_of field).carrier && is_none (text_of field words)
+
+abbrev pub lacks_key : Parts → List (List ℕ) → Bool
+lacks_key parts words = list_any (lacks parts words) all_fields
+
+-- the packet of a hook and the words behind it, or the first fault: of a word, then a key that it doesn't carry, then one that it lacks
+abbrev pub checked : Hook → List (List ℕ) → Option PacketFault → Result PacketView PacketFault
+checked hook words (Some fault) = Err fault
+checked hook words None =
+    if strays_key (parts_of hook words) words then Err NotCarried
+    else if lacks_key (parts_of hook words) words then Err KeyMissing
+    else Ok (record { hook = hook; values = map (value_on words) all_fields })
+
+abbrev pub packet_at : Option Hook → List (List ℕ) → Result PacketView PacketFault
+packet_at None words = Err UnknownKey
+packet_at (Some hook) words = checked hook words (leftmost_fault [] words)
+
+-- the packet that words write: the first is the hook
+abbrev pub packet_of : List (List ℕ) → Result PacketView PacketFault
+packet_of [] = Err UnknownKey
+packet_of (word ∷ words) = packet_at (hook_of word) words

@@ -1,0 +1,6 @@
+pub mod Cutting
+pub mod IcmpTable
+pub mod NamedFlags
+pub mod PacketStateTable
+pub mod PortItems
+pub mod ProtocolTable

@@ -1,0 +1,75 @@
+-- How the code cuts a line: byte after byte, with the words so far and the word at hand.
+use Rattle.std.specs.Prelude.{◌≡◌, ℕ, List, [], ◌∷◌, ◌++◌, map, Option, Some, None, Result, Ok, Err, option_and_then}
+use Rattle.std.specs.Global.{Vec}
+use Rattle.fields.specs.text.Words.{Act, act_of, OnQuoting}
+use Rattle.fields.specs.text.Words as line
+use Rattle.fields.specs.declared.text.words.Act.{Act as CodeAct}
+use Rattle.fields.specs.declared.text.words.Act.TheVariants as acts
+use Rattle.fields.specs.declared.text.words.Place.{Place}
+use Rattle.fields.specs.declared.text.words.Place.TheVariants as places
+use Rattle.fields.specs.declared.text.words.Cutting.{Cutting}
+use Rattle.fields.specs.declared.text.words.WordFault.{WordFault}
+
+-- the place that the code's place stands for
+abbrev pub view_place : Place → line.Place
+view_place places.Between = line.Between
+view_place places.Bare = line.Bare
+view_place places.Quoted = line.Quoted
+view_place places.Escaped = line.Escaped
+view_place places.Closed = line.Closed
+
+-- the act that the code's act stands for
+abbrev pub view_act : CodeAct → Act
+view_act (acts.Skips next) = line.Skips (view_place next)
+view_act (acts.Joins next) = line.Joins (view_place next)
+view_act (acts.Ends next) = line.Ends (view_place next)
+view_act acts.Breaks = line.Breaks
+
+-- the words in vectors
+abbrev pub view_words : List (Vec ℕ) → List (List ℕ)
+view_words items = map (λ (word : Vec ℕ). word.items) items
+
+-- the words so far, the word at hand, and the place of the next byte
+pub record Cut : Type 0 where
+  pub words : List (List ℕ)
+  pub word : List ℕ
+  pub place : line.Place
+
+abbrev pub view_cutting : Cutting → Cut
+view_cutting cutting = record { words = view_words cutting.words.items; word = cutting.word.items; place = view_place cutting.place }
+
+-- what an act makes of a cut
+abbrev pub cut_by : Act → ℕ → Cut → Option Cut
+cut_by (line.Skips next) byte cut = Some (record { words = cut.words; word = cut.word; place = next })
+cut_by (line.Joins next) byte cut = Some (record { words = cut.words; word = cut.word ++ byte ∷ []; place = next })
+cut_by (line.Ends next) byte cut = Some (record { words = cut.words ++ cut.word ∷ []; word = []; place = next })
+cut_by line.Breaks byte cut = None
+
+-- what a byte makes of a cut
+unfoldable pub after : Cut → ℕ → Option Cut
+after cut byte = cut_by (act_of cut.place byte) byte cut
+
+abbrev pub whole_at : line.Place → Cut → Option (List (List ℕ))
+whole_at line.Between cut = Some cut.words
+whole_at line.Bare cut = Some (cut.words ++ cut.word ∷ [])
+whole_at line.Quoted cut = None
+whole_at line.Escaped cut = None
+whole_at line.Closed cut = Some cut.words
+
+-- the words at the line's end
+unfoldable pub whole : Cut → Option (List (List ℕ))
+whole cut = whole_at cut.place cut
+
+-- the words of the cut and of the bytes that follow
+abbrev pub cut_from : Cut → List ℕ → Option (List (List ℕ))
+cut_from cut [] = whole cut
+cut_from cut (byte ∷ bytes) = option_and_then (λ next. cut_from next bytes) (after cut byte)
+
+-- before the first byte
+abbrev pub start : Cut
+start = record { words = []; word = []; place = line.Between }
+
+-- what came is what is wanted, and bad quoting is told only where nothing is; want of memory says nothing
+abbrev pub Gives : {X Y : Type 0} → (X → Y) → Result X WordFault → Option Y → Type 0
+Gives view (Ok x) wanted = wanted ≡ Some (view x)
+Gives view (Err fault) wanted = OnQuoting fault (wanted ≡ None)

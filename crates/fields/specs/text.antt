@@ -1,0 +1,6 @@
+pub mod Cut
+pub mod Line
+pub mod Number
+pub mod Printed
+pub mod Tap
+pub mod Words

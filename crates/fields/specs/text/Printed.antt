@@ -1,0 +1,40 @@
+-- Lines of printed words.
+use Rattle.std.specs.Prelude.{◌≡◌, ◌≢◌, ℕ, Bool, true, false, IsTrue, List, [], ◌∷◌, map, flat_map, All, Some, if◌then◌else◌}
+use Rattle.std.specs.List.{list_all}
+use Rattle.fields.specs.text.Words.{is_bare, words_of}
+use Rattle.fields.specs.values.FreeText.{quoted}
+
+-- a word as it is printed: as it is, or as a text, in quotes where it needs them
+pub record Shown : Type 0 where
+  pub word : List ℕ
+  pub text : Bool
+
+abbrev pub bare : List ℕ → Shown
+bare word = record { word = word; text = false }
+
+abbrev pub as_text : List ℕ → Shown
+as_text word = record { word = word; text = true }
+
+abbrev pub spelling : Shown → List ℕ
+spelling shown = if shown.text then quoted shown.word else shown.word
+
+-- the word after one blank (32)
+abbrev pub spaced : Shown → List ℕ
+spaced shown = 32 ∷ spelling shown
+
+-- the words, each after one blank
+abbrev pub spaced_all : List Shown → List ℕ
+spaced_all line = flat_map spaced line
+
+-- what may stand without quotes: one or more bytes without blank, tab and `"`
+pub record IsBareWord (word : List ℕ) : Type 0 where
+  pub some : word ≢ []
+  pub bytes : IsTrue (list_all is_bare word)
+
+-- what isn't printed as a text may stand without quotes
+abbrev pub AreSpelled : List Shown → Type 0
+AreSpelled line = All (λ shown. shown.text ≡ false → IsBareWord shown.word) line
+
+-- a line of printed words has these words
+abbrev pub LinesReadBack : Type 0
+LinesReadBack = (line : List Shown) → AreSpelled line → words_of (spaced_all line) ≡ Some (map (λ shown. shown.word) line)

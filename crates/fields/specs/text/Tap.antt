@@ -1,0 +1,41 @@
+-- What a clause reads of a `Tap`, and what its calls do.
+use Rattle.std.specs.Prelude.{◌≡◌, ℕ, Bool, true, false, List, ◌++◌, Result, MatchResult}
+use Rattle.std.specs.Prelude.{Option}
+use Rattle.std.specs.Io.KnownBytes.{Appends}
+use Rattle.fields.specs.declared.text.tap.Tap.{Tap}
+
+-- `t.failed()`
+abbrev pub has_failed : {T : Type 0} → Tap T → Bool
+has_failed t = t.failed
+
+-- the device
+abbrev pub device : {T : Type 0} → Tap T → T
+device t = t.device
+
+-- the bytes that the device has left or holds, where it tells them
+abbrev pub known : {T X : Type 0} → (T → Option X) → Tap T → Option X
+known bytes t = bytes t.device
+
+-- how often the tap may still be filled
+abbrev pub turns_left : {T : Type 0} → Tap T → ℕ
+turns_left t = t.turns
+
+-- part begins whole
+abbrev pub IsBeginning : List ℕ → List ℕ → Type 0
+IsBeginning part whole = (rest : List ℕ) × (whole ≡ part ++ rest)
+
+-- the writer got bs, and has not failed
+pub record Wrote {T : Type 0} (contents : T → Option (List ℕ)) (old new : Tap T) (bs : List ℕ) : Type 0 where
+  pub fresh : has_failed new ≡ false
+  pub appends : Appends (known contents old) (known contents new) bs
+
+-- the writer failed, and got a beginning of bs
+pub record Stopped {T : Type 0} (contents : T → Option (List ℕ)) (old new : Tap T) (bs : List ℕ) : Type 0 where
+  pub failed : has_failed new ≡ true
+  pub part : List ℕ
+  pub begins : IsBeginning part bs
+  pub appends : Appends (known contents old) (known contents new) part
+
+-- bs was written, or a beginning of it where the writer failed
+abbrev pub Puts : {T X E : Type 0} → (T → Option (List ℕ)) → Tap T → Tap T → Result X E → List ℕ → Type 0
+Puts contents old new r bs = MatchResult r (λ _. Wrote contents old new bs) (λ _. Stopped contents old new bs)

@@ -1,0 +1,16 @@
+pub mod ConnectionState
+pub mod FlagTest
+pub mod FreeText
+pub mod Icmp
+pub mod Interface
+pub mod IpRange
+pub mod LogLevel
+pub mod Name
+pub mod NameList
+pub mod PacketIcmp
+pub mod PortList
+pub mod PortRange
+pub mod Prefix
+pub mod Protocol
+pub mod RejectType
+pub mod TcpFlags

@@ -1,0 +1,30 @@
+-- What REJECT answers with, as `--reject-with` of iptables-extensions(8) names it.
+use Rattle.std.specs.Prelude.{ℕ, List, [], ◌∷◌, Option, codes, find}
+use Rattle.std.specs.Str.{bytes_eq}
+use Rattle.fields.specs.declared.values.reject.RejectType.{RejectType}
+use Rattle.fields.specs.declared.values.reject.RejectType.TheVariants.{NetUnreachable, HostUnreachable, PortUnreachable, ProtoUnreachable, NetProhibited, HostProhibited, AdminProhibited, TcpReset}
+
+-- the text of a type
+abbrev pub reject_text : RejectType → List ℕ
+reject_text NetUnreachable = codes "icmp-net-unreachable"
+reject_text HostUnreachable = codes "icmp-host-unreachable"
+reject_text PortUnreachable = codes "icmp-port-unreachable"
+reject_text ProtoUnreachable = codes "icmp-proto-unreachable"
+reject_text NetProhibited = codes "icmp-net-prohibited"
+reject_text HostProhibited = codes "icmp-host-prohibited"
+reject_text AdminProhibited = codes "icmp-admin-prohibited"
+reject_text TcpReset = codes "tcp-reset"
+
+-- the first of some types with this text
+abbrev pub reject_named : List ℕ → List RejectType → Option RejectType
+reject_named text answers = find (λ answer. bytes_eq (reject_text answer) text) answers
+
+-- the types
+abbrev pub all_reject_types : List RejectType
+all_reject_types =
+    NetUnreachable ∷ HostUnreachable ∷ PortUnreachable ∷ ProtoUnreachable ∷ NetProhibited ∷ HostProhibited ∷ AdminProhibited
+    ∷ TcpReset ∷ []
+
+-- the type of this text
+abbrev pub reject_of : List ℕ → Option RejectType
+reject_of text = reject_named text all_reject_types

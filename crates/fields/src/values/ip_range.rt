@@ -1,0 +1,89 @@
+// Ranges of IPv4 addresses.
+ghost use Rattle.std.specs.Prelude.{◌≡◌, Some, IfSome, false};
+ghost use Rattle.fields.specs.values.IpRange.{AreEnds, ip_range_of, ip_range_text, range_has};
+ghost use Rattle.fields.specs.text.Tap.{has_failed, Puts};
+
+use crate::text::cut::cut_at;
+use crate::text::tap::{Tap, WriteFailed};
+use crate::values::prefix::{put_address, read_address};
+use std::io::Write;
+use std::marker::Model;
+
+/// The addresses from one to another, both among them: the range of `--src-range` and `--dst-range` in
+/// iptables-extensions(8). Where the first is above the second it has no address.
+#[derive(Clone, Copy, Debug, PartialEq, Eq)]
+pub struct IpRange {
+    from: u32,
+    to: u32,
+}
+
+impl Model for IpRange {
+    ghost use Rattle.fields.specs.values.IpRange.{Ends, AreEnds};
+
+    ghost Value = { Ends };
+
+    ghost view = { λ range. record { from = range.from; to = range.to } };
+
+    ghost invariant = { λ range. AreEnds (record { from = range.from; to = range.to }) };
+
+    ghost inverse = { λ ends. record { from = ends.from; to = ends.to } };
+}
+
+impl IpRange {
+    /// The range that a text writes: `from-to`, or `from`, which is `from-from`.
+    #[tactic(auto, unfolding(crate::specs::values::IpRange::ip_range_of))]
+    pub fn read(text: &[u8]) -> Option<IpRange>
+        ensures value { result ≡ ip_range_of text.now }
+        ensures valid { IfSome result AreEnds }
+    {
+        match cut_at(text, b'-') {
+            None => {
+                let from = read_address(text)?;
+                Some(IpRange { from, to: from })
+            }
+            Some((from, to)) => {
+                let from = read_address(from)?;
+                let to = read_address(to)?;
+                Some(IpRange { from, to })
+            }
+        }
+    }
+
+    /// The first address. It may be above the last.
+    pub fn first(self) -> u32
+        ensures value { result ≡ self.from }
+        ensures valid { AreEnds self }
+    {
+        self.from
+    }
+
+    /// The last address.
+    pub fn last(self) -> u32
+        ensures value { result ≡ self.to }
+        ensures valid { AreEnds self }
+    {
+        self.to
+    }
+
+    /// Whether an address lies in the range.
+    pub fn holds(self, address: u32) -> bool
+        ensures { result ≡ range_has self address }
+    {
+        self.first() <= address && address <= self.last()
+    }
+
+    /// Writes `from-to`, both ends always. That text reads back as this range. It takes no memory.
+    #[tactic(auto, using(crate::proofs::laws::values::IpRangeLaws::reads_back))]
+    pub fn put<W: Write>(self, output: &mut Tap<W>) -> Result<(), WriteFailed>
+        requires { has_failed output.old ≡ false }
+        ensures text { Puts W.contents output.old output.new result (ip_range_text self) }
+        ensures reads_back { ip_range_of (ip_range_text self) ≡ Some self }
+    {
+        put_address(self.first(), output)?;
+        output.put(b"-")?;
+        put_address(self.last(), output)
+    }
+}
+
+#[cfg(test)]
+mod tests;

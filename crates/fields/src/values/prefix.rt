@@ -1,0 +1,219 @@
+// IPv4 addresses with a prefix length.
+ghost use Rattle.std.specs.Prelude.{◌≡◌, ℕ, ◌<◌, ◌≤◌, ◌^◌, ◌∷◌, [], Option, Some, None, IfSome, option_map};
+ghost use Rattle.std.specs.Prelude.{false};
+ghost use Rattle.fields.specs.text.Tap.{has_failed, Puts};
+ghost use Rattle.fields.specs.values.Prefix.{Network, IsNetwork, IsAddressText, IsPrefixText, block_size, netmask, mask_length, network, address_of, length_of, prefix_of, address_text, prefix_text, octets, holds};
+
+use crate::text::cut::cut_at;
+use crate::text::number::read_number_to;
+use crate::text::tap::{Tap, WriteFailed};
+use itoa::Buffer;
+use std::io::Write;
+use std::marker::Model;
+
+/// An IPv4 address and the number of its leading bits that count, 0 to 32: the `address[/mask]` of
+/// `--source` and `--destination` in iptables(8). The bits past the length are 0.
+#[derive(Clone, Copy, Debug, PartialEq, Eq)]
+pub struct Prefix {
+    address: u32,
+    length: u8,
+}
+
+impl Model for Prefix {
+    ghost use Rattle.fields.specs.values.Prefix.{Network, IsNetwork};
+
+    ghost Value = { Network };
+
+    ghost view = { λ p. record { address = p.address; length = p.length } };
+
+    ghost invariant = { λ p. IsNetwork (record { address = p.address; length = p.length }) };
+
+    ghost inverse = { λ n. record { address = n.address; length = n.length } };
+}
+
+// How many addresses have the same leading bits.
+pub(crate) fn block_size(length: u8) -> u64
+    requires { length ≤ 32 }
+    ensures size { result ≡ block_size length }
+    ensures some { 1 ≤ result }
+    ensures few { result ≤ 2 ^ 32 }
+{
+    1u64 << (32 - length)
+}
+
+fn netmask(length: u8) -> u32
+    requires { length ≤ 32 }
+    ensures { result ≡ netmask length }
+{
+    ((1u64 << 32) - block_size(length)) as u32
+}
+
+fn mask_length(mask: u32) -> Option<u8>
+    ensures length { result ≡ mask_length mask }
+    ensures small { IfSome result (λ n. n ≤ 32) }
+{
+    let length = mask.count_ones() as u8;
+    if netmask(length) == mask {
+        Some(length)
+    } else {
+        None
+    }
+}
+
+// Four numbers up to 255 with dots.
+#[tactic(auto, unfolding(crate::specs::values::Prefix::address_of))]
+fn dotted_value(text: &[u8]) -> Option<u32>
+    ensures { result ≡ address_of text.now }
+{
+    let (a, rest) = cut_at(text, b'.')?;
+    let (b, rest) = cut_at(rest, b'.')?;
+    let (c, d) = cut_at(rest, b'.')?;
+    let a = read_number_to(a, 255)?;
+    let b = read_number_to(b, 255)?;
+    let c = read_number_to(c, 255)?;
+    let d = read_number_to(d, 255)?;
+    Some(((a * 256 + b) * 256 + c) * 256 + d)
+}
+
+/// The number of a dotted address `a.b.c.d`, of which `a` is the most significant byte.
+#[tactic(auto, using(crate::proofs::laws::values::PrefixLaws::address_of_only, crate::proofs::laws::values::PrefixLaws::address_of_complete))]
+pub fn read_address(text: &[u8]) -> Option<u32>
+    ensures value { result ≡ address_of text.now }
+    ensures sound { IfSome result (λ a. IsAddressText text.now a) }
+    ensures complete { (a : ℕ) → IsAddressText text.now a → result ≡ Some a }
+{
+    dotted_value(text)
+}
+
+// A length up to 32, or that of a dotted mask.
+#[tactic(auto, unfolding(crate::specs::values::Prefix::length_of))]
+fn read_length(text: &[u8]) -> Option<u8>
+    ensures length { result ≡ length_of text.now }
+    ensures small { IfSome result (λ n. n ≤ 32) }
+{
+    match read_number_to(text, 32) {
+        Some(length) => Some(length as u8),
+        None => {
+            let mask = read_address(text)?;
+            mask_length(mask)
+        }
+    }
+}
+
+impl Prefix {
+    fn new(address: u32, length: u8) -> Prefix
+        requires { length ≤ 32 }
+        ensures value { result ≡ network address length }
+        ensures valid { IsNetwork result }
+    {
+        let size = block_size(length);
+        let cleared = u64::from(address) / size * size;
+        Prefix {
+            address: cleared as u32,
+            length,
+        }
+    }
+
+    /// The prefix that a text writes: an address, alone (length 32) or with `/` and a length from 0 to 32 or a dotted
+    /// mask whose one bits are all before its zero bits. Bits of the address past the length are cleared.
+    #[tactic(auto, using(crate::proofs::laws::values::PrefixLaws::prefix_of_only, crate::proofs::laws::values::PrefixLaws::prefix_of_complete))]
+    pub fn read(text: &[u8]) -> Option<Prefix>
+        ensures value { result ≡ prefix_of text.now }
+        ensures valid { IfSome result (λ p. IsNetwork p) }
+        ensures sound { IfSome result (λ p. IsPrefixText text.now p) }
+        ensures complete { (p : Network) → IsPrefixText text.now p → result ≡ Some p }
+    {
+        Prefix::read_parts(text)
+    }
+
+    #[tactic(auto, unfolding(crate::specs::values::Prefix::prefix_of))]
+    fn read_parts(text: &[u8]) -> Option<Prefix>
+        ensures value { result ≡ prefix_of text.now }
+        ensures valid { IfSome result (λ p. IsNetwork p) }
+    {
+        match cut_at(text, b'/') {
+            None => {
+                let address = read_address(text)?;
+                Some(Prefix::new(address, 32))
+            }
+            Some((address, length)) => {
+                let address = read_address(address)?;
+                let length = read_length(length)?;
+                Some(Prefix::new(address, length))
+            }
+        }
+    }
+
+    /// 0.0.0.0/0, which holds every address.
+    pub fn any() -> Prefix
+        ensures { result ≡ network 0 0 }
+    {
+        Prefix::new(0, 0)
+    }
+
+    /// The address, whose bits past the length are 0.
+    pub fn address(&self) -> u32
+        ensures value { result ≡ self.now.address }
+        ensures valid { IsNetwork self.now }
+    {
+        self.address
+    }
+
+    /// How many leading bits count: 0 to 32.
+    pub fn length(&self) -> u8
+        ensures value { result ≡ self.now.length }
+        ensures valid { IsNetwork self.now }
+    {
+        self.length
+    }
+
+    /// Tells whether the leading bits of an address, as many as the length says, are those of the prefix.
+    pub fn holds(&self, address: u32) -> bool
+        ensures { result ≡ holds self.now address }
+    {
+        let past = 32 - self.length;
+        u64::from(address) >> past == u64::from(self.address) >> past
+    }
+
+    /// The four bytes of the address, the most significant first, as its text `a.b.c.d/n` writes them. That text
+    /// reads back as this prefix.
+    pub fn octets(&self) -> [u8; 4]
+        ensures value { result ≡ octets self.now.address }
+        ensures reads_back { prefix_of (prefix_text self.now) ≡ Some self.now }
+    {
+        self.address.to_be_bytes()
+    }
+}
+
+// Writes the dotted text of an address.
+pub(crate) fn put_address<W: Write>(address: u32, output: &mut Tap<W>) -> Result<(), WriteFailed>
+    requires { has_failed output.old ≡ false }
+    ensures { Puts W.contents output.old output.new result (address_text address) }
+{
+    let mut first = Buffer::new();
+    let mut second = Buffer::new();
+    let mut third = Buffer::new();
+    let mut fourth = Buffer::new();
+    output.put_all(&[
+        first.format(address / 16_777_216).as_bytes(),
+        b".",
+        second.format(address / 65_536 % 256).as_bytes(),
+        b".",
+        third.format(address / 256 % 256).as_bytes(),
+        b".",
+        fourth.format(address % 256).as_bytes(),
+    ])
+}
+
+impl Prefix {
+    /// Writes `a.b.c.d/n`, or fails. It takes no memory.
+    pub fn put<W: Write>(&self, output: &mut Tap<W>) -> Result<(), WriteFailed>
+        requires { has_failed output.old ≡ false }
+        ensures { Puts W.contents output.old output.new result (prefix_text self.now) }
+    {
+        let mut length = Buffer::new();
+        put_address(self.address(), output)?;
+        output.put(b"/")?;
+        output.put(length.format(self.length()).as_bytes())
+    }
+}

@@ -1,0 +1,173 @@
+// Protocols by name and number.
+ghost use Rattle.std.specs.Prelude.{◌≡◌, ◌≤◌, ◌<◌, ◌↔◌, IsTrue, Option, Some, None, option_map};
+ghost use Rattle.fields.specs.values.Protocol.{protocols, number_in, name_in, protocol_number, protocol_name, one_protocol_of, protocol_of, protocol_text, carries_ports};
+ghost use Rattle.fields.specs.steps.ProtocolTable.{shown};
+ghost use Rattle.fields.specs.text.Printed.{IsBareWord};
+ghost use Rattle.fields.specs.text.Tap.{Puts};
+
+use crate::text::number::read_number_to;
+use crate::text::tap::{Tap, WriteFailed};
+use itoa::Buffer;
+use std::io::Write;
+use std::marker::Model;
+
+const ICMP: u8 = 1;
+
+const TCP: u8 = 6;
+
+const UDP: u8 = 17;
+
+const DCCP: u8 = 33;
+
+const SCTP: u8 = 132;
+
+const UDPLITE: u8 = 136;
+
+// The names with their numbers; of the names of one number the first is printed.
+static PROTOCOLS: [(&[u8], u8); 14] = [
+    (b"icmp", ICMP),
+    (b"igmp", 2),
+    (b"tcp", TCP),
+    (b"udp", UDP),
+    (b"dccp", DCCP),
+    (b"gre", 47),
+    (b"esp", 50),
+    (b"ah", 51),
+    (b"ipv6-icmp", 58),
+    (b"icmpv6", 58),
+    (b"ospf", 89),
+    (b"vrrp", 112),
+    (b"sctp", SCTP),
+    (b"udplite", UDPLITE),
+];
+
+// The entries of the table.
+fn entries() -> &'static [(&'static [u8], u8)]
+    ensures { shown result.now ≡ protocols }
+{
+    &PROTOCOLS
+}
+
+// The number of the first entry with this name.
+fn number_in(text: &[u8], entries: &[(&[u8], u8)]) -> Option<u8>
+    ensures { result ≡ number_in text.now (shown entries.now) }
+{
+    for (name, number) in entries {
+        if *name == text {
+            return Some(*number);
+        }
+    }
+    None
+}
+
+// The name of the first entry with this number.
+fn name_in<'a>(protocol: u8, entries: &[(&'a [u8], u8)]) -> Option<&'a [u8]>
+    ensures { option_map (λ name. name.now) result ≡ name_in protocol (shown entries.now) }
+{
+    for (name, number) in entries {
+        if *number == protocol {
+            return Some(*name);
+        }
+    }
+    None
+}
+
+/// A protocol by its number, 0 to 255. In a rule 0 stands for all protocols.
+#[derive(Clone, Copy, Debug, PartialEq, Eq)]
+pub struct Protocol(u8);
+
+impl Model for Protocol {
+    ghost use Rattle.std.specs.Prelude.{ℕ, ◌<◌};
+
+    ghost Value = { ℕ };
+
+    ghost view = { λ protocol. protocol.0 };
+
+    ghost invariant = { λ protocol. protocol.0 < 256 };
+
+    ghost inverse = { λ number. record { 0 = number } };
+}
+
+impl Protocol {
+    /// The protocol that a text writes in a rule: `all`, which is 0, or one protocol (iptables(8), `-p`).
+    #[tactic(auto, unfolding(crate::specs::values::Protocol::protocol_of))]
+    pub fn read(text: &[u8]) -> Option<Protocol>
+        ensures { result ≡ protocol_of text.now }
+    {
+        if text == b"all".as_slice() {
+            return Some(Protocol(0));
+        }
+        Protocol::read_one(text)
+    }
+
+    /// The one protocol that a text writes: a number 0 to 255, or one of icmp, igmp, tcp, udp, dccp,
+    /// gre, esp, ah, ipv6-icmp (also icmpv6), ospf, vrrp, sctp and udplite.
+    #[tactic(auto, unfolding(crate::specs::values::Protocol::one_protocol_of, crate::specs::values::Protocol::protocol_number))]
+    pub fn read_one(text: &[u8]) -> Option<Protocol>
+        ensures { result ≡ one_protocol_of text.now }
+    {
+        if let Some(number) = number_in(text, entries()) {
+            return Some(Protocol(number));
+        }
+        let number = read_number_to(text, 255)?;
+        Some(Protocol(number as u8))
+    }
+
+    /// The protocol's number.
+    pub fn number(self) -> u8
+        ensures value { result ≡ self }
+        ensures byte { self < 256 }
+    {
+        let Protocol(number) = self;
+        number
+    }
+
+    /// Whether it stands for all protocols in a rule, which is no condition.
+    pub fn is_all(self) -> bool
+        ensures { IsTrue result ↔ (self ≡ 0) }
+    {
+        self.0 == 0
+    }
+
+    /// Whether it is icmp.
+    pub fn is_icmp(self) -> bool
+        ensures { IsTrue result ↔ (self ≡ 1) }
+    {
+        self.0 == ICMP
+    }
+
+    /// Whether it is tcp.
+    pub fn is_tcp(self) -> bool
+        ensures { IsTrue result ↔ (self ≡ 6) }
+    {
+        self.0 == TCP
+    }
+
+    /// Whether it is udp.
+    pub fn is_udp(self) -> bool
+        ensures { IsTrue result ↔ (self ≡ 17) }
+    {
+        self.0 == UDP
+    }
+
+    /// Whether its packets have ports: tcp, udp, dccp, sctp and udplite.
+    pub fn has_ports(self) -> bool
+        ensures { result ≡ carries_ports self }
+    {
+        matches!(self.0, TCP | UDP | DCCP | SCTP | UDPLITE)
+    }
+
+    /// Writes the first name of the protocol, else its number. It needs no quotes.
+    #[tactic(auto, using(crate::proofs::laws::values::ProtocolLaws::reads_back, crate::proofs::laws::values::BareLaws::protocol_is_bare), unfolding(crate::specs::values::Protocol::protocol_text, crate::specs::values::Protocol::protocol_name))]
+    pub fn put<W: Write>(self, output: &mut Tap<W>) -> Result<(), WriteFailed>
+        ensures puts { Puts W.contents output.old output.new result (protocol_text self) }
+        ensures word { IsBareWord (protocol_text self) }
+        ensures reads_back { protocol_of (protocol_text self) ≡ Some self }
+    {
+        if let Some(name) = name_in(self.0, entries()) {
+            return output.put(name);
+        }
+        let mut number = Buffer::new();
+        output.put(number.format(self.0).as_bytes())
+    }
+}

@@ -1,6 +1,0 @@
-use Rattle.std.proofs.Common.{◌≡◌, take}
-use Rattle.rules.specs.Views.{view_matches}
-use Rattle.rules.proofs.copy.copy_matches.Given as goal
-
-abbrev pub invariant-loop-one : goal.invariant-loop-one
-invariant-loop-one l = view_matches l.copies.items ≡ view_matches (take l.one-index l.matches)

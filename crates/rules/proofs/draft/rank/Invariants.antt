@@ -1,6 +1,0 @@
-use Rattle.std.proofs.Common.{◌≡◌, ◌+◌, drop}
-use Rattle.rules.specs.Places.{rank}
-use Rattle.rules.proofs.draft.rank.Given as goal
-
-abbrev pub invariant-loop-i : goal.invariant-loop-i
-invariant-loop-i l = rank l.slot l.settings ≡ l.i + rank l.slot (drop l.i l.settings)

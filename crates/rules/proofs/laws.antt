@@ -1,0 +1,5 @@
+pub mod boxing
+pub mod options
+pub mod printing
+pub mod reading
+pub mod rule

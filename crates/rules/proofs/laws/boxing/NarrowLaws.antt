@@ -1,0 +1,189 @@
+-- What is left of a box's sets, condition by condition.
+use Rattle.std.proofs.Common.{◌≡◌, ◌≢◌, inl, inr, ℕ, ◌+◌, ◌<◌, ◌≤◌, Bool, true, false, cond, ◌&&◌, ◌||◌, not, List, [], length, get_or, take, refl, sym, ◌∙◌, ap, subst, arith, map, Option, Some, Result}
+use Rattle.std.specs.List.{list_all}
+use Rattle.std.proofs.Math.Dec.{eqb, leb}
+use Rattle.std.specs.Result.{OnOk}
+use Rattle.std.proofs.lemmas.Result.{on_ok_weaker}
+use Rattle.std.proofs.lemmas.Bool.Decides.{nat_tests}
+use Rattle.std.proofs.Math.ListN.{set}
+use Rattle.std.proofs.lemmas.List.{get_or-set_same, get_or-set_other, get_or_default, get_or-map, length-map, same_lists, take_all}
+use Rattle.std.proofs.lemmas.List.Folds.{list_all-map, list_all_more}
+use Rattle.std.proofs.lemmas.Bool.{cases_eq, eq-eqb, ne_eqb, le-leb}
+use Rattle.fields.specs.declared.numbers.field.TheConstants.{FIELDS}
+use Rattle.fields.specs.declared.numbers.field.TheConstants.Field.{ALL}
+use Rattle.fields.specs.declared.numbers.field.Field.{Field}
+use Rattle.fields.specs.declared.numbers.field.Field.TheVariants as field
+use Rattle.fields.specs.numbers.Field.{index, top}
+use Rattle.fields.specs.numbers.Spans.{SpanSet, has}
+use Rattle.rules.specs.declared.boxing.condition.Condition.{Condition}
+use Rattle.rules.specs.declared.rule.content.Match as drafted
+use Rattle.rules.specs.steps.Views.{view_match, view_matches}
+use Rattle.rules.specs.declared.options.match_kind.Kind.{Kind}
+use Rattle.rules.specs.declared.options.setting.Setting.{Setting}
+use Rattle.rules.specs.rule.Allows.{is_on, same_field, setting_holds, setting_allows, fragment_allows, match_allows, allows}
+use Rattle.rules.specs.boxing.Boxed.{IsBox, set_on, AreSetsOf, IsBoxOf}
+use Rattle.rules.specs.steps.Conditions.{Asks, IsWhole, Narrows, condition_allows}
+use Rattle.rules.specs.options.Matches.{kind_row}
+use Rattle.rules.specs.rule.Rules.{Match, Rule}
+use Rattle.rules.proofs.laws.boxing.BoxLaws.{index-lt, here_is, top_at, box_long}
+
+abbrev Test : Type 0
+Test = Field → ℕ → Bool
+
+no_set : SpanSet
+no_set = record { top = 0; intervals = [] }
+
+and-true : (b : Bool) → b ≡ (b && true)
+and-true true = refl
+and-true false = refl
+
+and-assoc : (a b c : Bool) → ((a && b) && c) ≡ (a && (b && c))
+and-assoc true b c = refl
+and-assoc false b c = refl
+
+-- fields at one place are one field
+same_place : (f g : Field) → index f ≡ index g → f ≡ g
+same_place f g e = sym (here_is f f) ∙ ap (λ k. get_or ALL k f) e ∙ here_is g f
+
+-- ---- a set met with a condition's
+
+module _ (spans : List SpanSet) (c : Condition) (k : ℕ) (d both : SpanSet) (box : IsBox spans) (at : k ≡ index c.field)
+    (met : (x : ℕ) → has both.intervals x ≡ (has (get_or spans k d).intervals x && has c.set.intervals x)) (before : Test) (sets : AreSetsOf before spans) (f : Field) (x : ℕ) (le : x ≤ top f) where
+  here : index f ≡ index c.field → has (set_on f (set spans k both)) x ≡ (before f x && condition_allows f x c)
+  here e =
+      let lt : index f < length spans = omega (arith, index-lt f, box_long spans box) in
+      let j : index f ≡ k = e ∙ sym at in
+      let is : get_or (set spans k both) (index f) (record { top = 0; intervals = [] }) ≡ both =
+      ap (λ i. get_or (set spans i both) (index f) (record { top = 0; intervals = [] })) (sym j) ∙ get_or-set_same spans (index f) both (record { top = 0; intervals = [] }) lt in
+      let same : get_or spans k d ≡ get_or spans (index f) (record { top = 0; intervals = [] }) =
+      ap (λ i. get_or spans i d) (sym j) ∙ get_or_default spans (index f) d (record { top = 0; intervals = [] }) lt in
+      ap (λ (s : SpanSet). has s.intervals x) is ∙ met x ∙ ap (λ (s : SpanSet). has s.intervals x && has c.set.intervals x) same
+      ∙ ap (λ b. b && has c.set.intervals x) (sets f x le) ∙ ap (λ t. before f x && cond t (has c.set.intervals x) true) (sym (eq-eqb (index f) (index c.field) e))
+
+  elsewhere : (index f ≡ index c.field → ⊥) → has (set_on f (set spans k both)) x ≡ (before f x && condition_allows f x c)
+  elsewhere ne =
+      let other : index f ≢ k = λ e. ne (e ∙ at) in
+      ap (λ (s : SpanSet). has s.intervals x) (get_or-set_other spans k (index f) both (record { top = 0; intervals = [] }) other) ∙ sets f x le ∙ and-true (before f x)
+      ∙ ap (λ t. before f x && cond t (has c.set.intervals x) true) (sym (ne_eqb (index f) (index c.field) ne))
+
+pub narrows_met : (spans : List SpanSet) (c : Condition) (k : ℕ) (d both : SpanSet) → IsBox spans → k ≡ index c.field
+    → ((x : ℕ) → has both.intervals x ≡ (has (get_or spans k d).intervals x && has c.set.intervals x)) → Narrows (λ f x. condition_allows f x c) spans (set spans k both)
+narrows_met spans c k d both box at met before sets f x le = elim (cases_eq (index f) (index c.field)) [
+  | inl e ↦ here spans c k d both box at met before sets f x le e
+  | inr ne ↦ elsewhere spans c k d both box at met before sets f x le ne
+]
+
+-- ---- one test after another
+
+pub narrows_alike : (p q : Test) (old new : List SpanSet) → ((f : Field) (x : ℕ) → x ≤ top f → p f x ≡ q f x) → Narrows p old new → Narrows q old new
+narrows_alike p q old new same n before sets f x le = n before sets f x le ∙ ap (λ b. before f x && b) (same f x le)
+
+pub narrows_both : (p q : Test) (a b c : List SpanSet) → Narrows p a b → Narrows q b c → Narrows (λ f x. p f x && q f x) a c
+narrows_both p q a b c n m before sets f x le = m (λ g y. before g y && p g y) (n before sets) f x le ∙ and-assoc (before f x) (p f x) (q f x)
+
+pub narrows_by_none : (spans : List SpanSet) → Narrows (λ _ _. true) spans spans
+narrows_by_none spans before sets f x le = sets f x le ∙ and-true (before f x)
+
+-- each thing's test after those of the ones before it
+module _ {A : Type 0} (tests : Field → ℕ → A → Bool) (xs : List A) where
+  pub narrows_next : (i : ℕ) (y : A) (a b c : List SpanSet) → i < length xs → y ≡ get_or xs i y → Narrows (λ f x. list_all (tests f x) (take i xs)) a b → Narrows (λ f x. tests f x y) b c
+      → Narrows (λ f x. list_all (tests f x) (take (i + 1) xs)) a c
+  narrows_next i y a b c lt is n m =
+      narrows_alike (λ f x. list_all (tests f x) (take i xs) && tests f x y) (λ f x. list_all (tests f x) (take (i + 1) xs)) a c
+      (λ f x le. ap (λ z. list_all (tests f x) (take i xs) && tests f x z) is ∙ sym (list_all_more (tests f x) xs i y lt))
+      (narrows_both (λ f x. list_all (tests f x) (take i xs)) (λ f x. tests f x y) a b c n m)
+
+  pub narrows_all : (i : ℕ) (a b : List SpanSet) → length xs ≤ i → Narrows (λ f x. list_all (tests f x) (take i xs)) a b → Narrows (λ f x. list_all (tests f x) xs) a b
+  narrows_all i a b le n = narrows_alike (λ f x. list_all (tests f x) (take i xs)) (λ f x. list_all (tests f x) xs) a b (λ f x _. ap (list_all (tests f x)) (take_all i xs le)) n
+
+-- ---- options, matches, rules
+
+same_allowed : (f g : Field) (x : ℕ) (t p : Bool) → x ≤ top f → (x ≤ top g → t ≡ p) → cond (same_field f g) t true ≡ cond (same_field f g) p true
+same_allowed f g x t p le same =
+    elim (cases_eq (index f) (index g)) [
+      | inl e ↦ (
+          let P : Field → Type 0 = λ h. x ≤ top h in
+          ap (λ b. cond (same_field f g) b true) (same (subst P (same_place f g e) le)))
+      | inr ne ↦ (
+          let no : same_field f g ≡ false = ne_eqb (index f) (index g) ne in
+          ap (λ b. cond b t true) no ∙ ap (λ b. cond b p true) (sym no))
+    ]
+
+asked_alike : (on : Option Field) (passes : ℕ → Bool) (c : Condition) → Asks on passes (Some c) → (f : Field) (x : ℕ) → x ≤ top f → condition_allows f x c ≡ cond (is_on f on) (passes x) true
+asked_alike on passes c h f x le =
+    same_allowed f c.field x (has c.set.intervals x) (passes x) le (h.2 x) ∙ ap (λ o. cond (is_on f o) (passes x) true) (sym h.0)
+
+-- what an option asks, if it asks
+pub narrows_asked : {E : Type 0} (s : Setting) (on : Option Field) (asked : Option Condition) (c : Condition) (old new : List SpanSet) (r : Result (Unit {0}) E) → Asks on (setting_holds s) asked → asked ≡ Some c
+    → OnOk r (Narrows (λ f x. condition_allows f x c) old new) → OnOk r (Narrows (λ f x. cond (is_on f on) (setting_holds s x) true) old new)
+narrows_asked s on asked c old new r h e n =
+    let A : Option Condition → Type 0 = λ o. Asks on (setting_holds s) o in
+    on_ok_weaker r (narrows_alike (λ f x. condition_allows f x c) (λ f x. cond (is_on f on) (setting_holds s x) true) old new (asked_alike on (setting_holds s) c (subst A e h))) n
+
+-- no number but 0 is from 0 to 0
+zero_alone : (x : ℕ) → (leb 0 x && leb x 0) ≡ eqb x 0
+zero_alone x = grind (arith, nat_tests)
+
+fragment_alike : (a b t e : Bool) → a ≡ true → t ≡ e → cond b t true ≡ (not (a && b) || e)
+fragment_alike a true t e is same = same ∙ ap (λ c. not (c && true) || e) (sym is)
+fragment_alike a false t e is same = ap (λ c. not (c && false) || e) (sym is)
+
+-- a match that asks for a first fragment
+pub narrows_fragment : {E : Type 0} (k : Kind) (first : SpanSet) (old new : List SpanSet) (r : Result (Unit {0}) E) → (kind_row k).asks_fragment ≡ true
+    → ((x : ℕ) → has first.intervals x ≡ (leb 0 x && leb x 0))
+    → OnOk r (Narrows (λ f x. condition_allows f x (record { field = field.Fragment; set = first })) old new) → OnOk r (Narrows (λ f x. fragment_allows f x k) old new)
+narrows_fragment k first old new r is members n =
+    on_ok_weaker r (narrows_alike (λ f x. condition_allows f x (record { field = field.Fragment; set = first })) (λ f x. fragment_allows f x k) old new
+    (λ f x le. fragment_alike (kind_row k).asks_fragment (same_field f field.Fragment) (has first.intervals x) (eqb x 0) is (members x ∙ zero_alone x))) n
+
+-- a match: a first fragment where it asks for one, and its options
+pub narrows_match : {E : Type 0} (m : drafted.Match) (settings : List Setting) (a b c : List SpanSet) (r : Result (Unit {0}) E) → settings ≡ m.settings.items
+    → Narrows (λ f x. fragment_allows f x m.kind) a b → OnOk r (Narrows (λ f x. list_all (setting_allows f x) settings) b c) → OnOk r (Narrows (λ f x. match_allows f x (view_match m)) a c)
+narrows_match m settings a b c r same n =
+    on_ok_weaker r (λ k. narrows_both (λ f x. fragment_allows f x m.kind) (λ f x. list_all (setting_allows f x) m.settings.items) a b c n
+    (narrows_alike (λ f x. list_all (setting_allows f x) settings) (λ f x. list_all (setting_allows f x) m.settings.items) b c (λ f x _. ap (list_all (setting_allows f x)) same) k))
+
+pub narrows_viewed : (ms : List drafted.Match) (a b : List SpanSet) → Narrows (λ f x. list_all (λ m. match_allows f x (view_match m)) ms) a b → Narrows (λ f x. list_all (match_allows f x) (view_matches ms)) a b
+narrows_viewed ms a b n =
+    narrows_alike (λ f x. list_all (λ m. match_allows f x (view_match m)) ms) (λ f x. list_all (match_allows f x) (view_matches ms)) a b (λ f x _. sym (list_all-map (match_allows f x) view_match ms)) n
+
+-- ---- all numbers at first
+
+pub whole_next : (spans : List SpanSet) (k : ℕ) (v : SpanSet) → length spans ≡ FIELDS → ((j : ℕ) (s : SpanSet) → j < k → IsWhole j (get_or spans j s)) → k < FIELDS → IsWhole k v
+    → (j : ℕ) (s : SpanSet) → j < k + 1 → IsWhole j (get_or (set spans k v) j s)
+whole_next spans k v long below lt is j s less =
+    elim (cases_eq j k) [
+      | inl e ↦ (
+          let P : ℕ → Type 0 = λ i. IsWhole i (get_or (set spans k v) i s) in
+          let Q : SpanSet → Type 0 = λ t. IsWhole k t in
+          subst P (sym e) (subst Q (sym (get_or-set_same spans k v s (omega arith))) is))
+      | inr ne ↦ (
+          let R : SpanSet → Type 0 = λ t. IsWhole j t in
+          let other : j ≢ k = ne in
+          subst R (sym (get_or-set_other spans k j v s other)) (below j s (omega arith)))
+    ]
+
+module _ (spans : List SpanSet) (long : length spans ≡ FIELDS) (whole : (k : ℕ) (s : SpanSet) → k < FIELDS → IsWhole k (get_or spans k s)) where
+  pub box_of_whole : IsBox spans
+  box_of_whole =
+      let same : length (map (λ (s : SpanSet). s.top) spans) ≡ FIELDS = length-map spans (λ (s : SpanSet). s.top) ∙ long in
+      same_lists (map (λ (s : SpanSet). s.top) spans) (map top ALL) same (λ k d lt.
+      (let under : k < FIELDS = omega arith in
+      let within : k < length spans = omega arith in
+      let other : k < length (map top ALL) = under in
+      get_or-map (λ (s : SpanSet). s.top) spans k no_set d within ∙ (whole k no_set under).top ∙ get_or_default (map top ALL) k 0 d other))
+
+  pub sets_of_whole : AreSetsOf (λ _ _. true) spans
+  sets_of_whole f x le =
+      let w : IsWhole (index f) (get_or spans (index f) (record { top = 0; intervals = [] })) = whole (index f) (record { top = 0; intervals = [] }) (index-lt f) in
+      w.members x ∙ le-leb x (get_or spans (index f) (record { top = 0; intervals = [] })).top (omega (arith, w.top, top_at f))
+
+-- the box of a rule
+pub box_of_rule : (r rule : Rule) (settings : List Setting) (a b c : List SpanSet) → r ≡ rule → settings ≡ r.settings → AreSetsOf (λ _ _. true) a → Narrows (λ f x. list_all (setting_allows f x) settings) a b
+    → (matches : List Match) → matches ≡ r.matches → Narrows (λ f x. list_all (match_allows f x) matches) b c → IsBoxOf rule c
+unfolding allows
+box_of_rule r rule settings a b c same own sets n matches held m f x le =
+    m (λ g y. true && list_all (setting_allows g y) settings) (n (λ _ _. true) sets) f x le
+    ∙ ap (λ ss. list_all (setting_allows f x) ss && list_all (match_allows f x) matches) own
+    ∙ ap (λ ms. list_all (setting_allows f x) r.settings && list_all (match_allows f x) ms) held
+    ∙ ap (λ q. allows q f x) same

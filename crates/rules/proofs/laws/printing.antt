@@ -1,0 +1,4 @@
+pub mod PrintLaws
+pub mod RoundLaws
+pub mod RoundTripLaws
+pub mod TextLaws

@@ -1,0 +1,75 @@
+-- Laws of rule texts: the parts that are written are the text.
+use Rattle.std.proofs.Common.{◌≡◌, true, false, List, [], ◌∷◌, ◌++◌, flat_map, refl, sym, ap, ◌∙◌, append_assoc, append-nil}
+use Rattle.std.specs.Prelude.{codes}
+use Rattle.std.proofs.lemmas.Grind.{flat_map-append}
+use Rattle.fields.specs.text.Printed.{Shown, bare, spaced, spaced_all}
+use Rattle.fields.specs.values.TcpFlags.{tcp_flags_text}
+use Rattle.rules.specs.options.Matches.{kind_name}
+use Rattle.rules.specs.options.Options.{name_of}
+use Rattle.rules.specs.options.Settings.{option_of_value}
+use Rattle.rules.specs.rule.Rules.{Match, Rule}
+use Rattle.rules.specs.printing.Printing.{shown_value, shown_bang, shown_setting, shown_settings, shown_match, shown_action, rule_text}
+use Rattle.rules.specs.steps.Writing.{has_words, value_text, setting_text, start_text, match_text, action_text}
+use Rattle.rules.specs.steps.Views as views
+use Rattle.rules.specs.declared.rule.content.Match as code
+use Rattle.rules.specs.declared.options.setting.Setting.{Setting}
+use Rattle.rules.specs.declared.options.value.Value.{Value}
+use Rattle.rules.specs.declared.options.value.Value.TheVariants as value
+
+pub spaced_all-append : (xs ys : List Shown) → spaced_all (xs ++ ys) ≡ spaced_all xs ++ spaced_all ys
+spaced_all-append xs ys = flat_map-append spaced xs ys
+
+-- a value behind its blank
+pub value-written : (v : Value) → has_words v ≡ true → spaced_all (shown_value v) ≡ 32 ∷ value_text v
+value-written (value.TcpFlags x) h = ap (λ l. 32 ∷ (tcp_flags_text x.mask ++ l)) (append-nil (32 ∷ tcp_flags_text x.comp))
+value-written value.Fragment h = absurd (cc)
+value-written value.LogTcpSequence h = absurd (cc)
+value-written value.LogTcpOptions h = absurd (cc)
+value-written value.LogIpOptions h = absurd (cc)
+value-written value.LogUid h = absurd (cc)
+value-written v h = append-nil (32 ∷ value_text v)
+
+pub no-value-written : (v : Value) → has_words v ≡ false → spaced_all (shown_value v) ≡ []
+no-value-written value.Fragment h = refl
+no-value-written value.LogTcpSequence h = refl
+no-value-written value.LogTcpOptions h = refl
+no-value-written value.LogIpOptions h = refl
+no-value-written value.LogUid h = refl
+no-value-written v h = absurd (cc)
+
+pub setting-parts : (s : Setting) → setting_text s ≡ spaced_all (shown_bang s.inverted) ++ (spaced (bare (name_of (option_of_value s.value))) ++ spaced_all (shown_value s.value))
+setting-parts s = spaced_all-append (shown_bang s.inverted) (bare (name_of (option_of_value s.value)) ∷ shown_value s.value)
+
+settings-text : (ss : List Setting) → spaced_all (shown_settings ss) ≡ flat_map setting_text ss
+settings-text [] = refl
+settings-text (s ∷ ss) = spaced_all-append (shown_setting s) (shown_settings ss) ∙ ap (λ l. setting_text s ++ l) (settings-text ss)
+
+match-text : (m : Match) → spaced_all (shown_match m) ≡ match_text m
+unfolding start_text
+match-text m =
+    ap (λ l. spaced (bare (codes "-m")) ++ (spaced (bare (kind_name m.kind)) ++ l)) (settings-text m.settings)
+    ∙ sym (append_assoc (spaced (bare (codes "-m"))) (spaced (bare (kind_name m.kind))) (flat_map setting_text m.settings))
+
+matches-text : (ms : List code.Match) → spaced_all (flat_map shown_match (views.view_matches ms)) ≡ flat_map (λ m. match_text (views.view_match m)) ms
+matches-text [] = refl
+matches-text (m ∷ ms) =
+    let rest = flat_map shown_match (views.view_matches ms) in
+    spaced_all-append (shown_match (views.view_match m)) rest ∙ ap (λ l. l ++ spaced_all rest) (match-text (views.view_match m))
+    ∙ ap (λ l. match_text (views.view_match m) ++ l) (matches-text ms)
+
+-- the text of a rule, part by part
+pub rule_text-parts : (r : Rule) (settings : List Setting) (ms : List code.Match) (extras : List Setting) → settings ≡ r.settings → views.view_matches ms ≡ r.matches → extras ≡ r.extras
+    → rule_text r ≡ flat_map setting_text settings ++ (flat_map (λ m. match_text (views.view_match m)) ms ++ (action_text r.action ++ flat_map setting_text extras))
+rule_text-parts r settings ms extras is-settings is-matches is-extras =
+    let a = shown_settings r.settings in
+    let b = flat_map shown_match r.matches in
+    let c = shown_action r.action in
+    let d = shown_settings r.extras in
+    let first = settings-text r.settings ∙ ap (flat_map setting_text) (sym is-settings) in
+    let second = ap (λ ns. spaced_all (flat_map shown_match ns)) (sym is-matches) ∙ matches-text ms in
+    let last = settings-text r.extras ∙ ap (flat_map setting_text) (sym is-extras) in
+    spaced_all-append a (b ++ (c ++ d))
+    ∙ ap (λ l. spaced_all a ++ l) (spaced_all-append b (c ++ d) ∙ ap (λ l. spaced_all b ++ l) (spaced_all-append c d))
+    ∙ ap (λ l. l ++ (spaced_all b ++ (spaced_all c ++ spaced_all d))) first
+    ∙ ap (λ l. flat_map setting_text settings ++ (l ++ (spaced_all c ++ spaced_all d))) second
+    ∙ ap (λ l. flat_map setting_text settings ++ (flat_map (λ m. match_text (views.view_match m)) ms ++ (spaced_all c ++ l))) last

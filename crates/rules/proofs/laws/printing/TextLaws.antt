@@ -1,0 +1,290 @@
+-- The text of a readable rule is cut into its words, and is short.
+use Prim.Native.Nat.{zero, suc}
+use Rattle.std.proofs.Common.{◌≡◌, ℕ, ◌+◌, ◌*◌, ◌≤◌, Bool, true, false, ◌||◌, not, List, [], ◌∷◌, ◌++◌, length, get_or, flat_map, Option, None, Some, refl, sym, ap, ◌∙◌, arith, length-append}
+use Rattle.std.specs.Prelude.{codes, nat_lt, nat_le}
+use Rattle.std.specs.List.{list_all}
+use Rattle.std.proofs.lemmas.Bool.{and_parts, leb-true, ltb-true}
+use Rattle.std.proofs.lemmas.Grind.{flat_map-append}
+use Rattle.std.proofs.lemmas.List.Elements.{All-append}
+use Rattle.fields.specs.text.Words.{is_bare, words_of}
+use Rattle.fields.specs.text.Printed.{Shown, bare, spaced, spaced_all, IsBareWord, AreSpelled}
+use Rattle.fields.proofs.laws.values.BareLaws.{some-bytes, is_bare_word}
+use Rattle.fields.proofs.laws.text.PrintedLaws.{words_of-spaced_all}
+use Rattle.rules.specs.options.Matches.{kind_name}
+use Rattle.rules.specs.options.Options.{name_of, may_be_inverted, owner, slot, kind_has}
+use Rattle.rules.specs.options.Settings.{option_of_value, slot_of}
+use Rattle.rules.specs.rule.Actions.{is_action_of}
+use Rattle.rules.specs.rule.Rules.{Match, Rule}
+use Rattle.rules.specs.printing.Printing.{one, shown_value, shown_bang, shown_setting, shown_settings, shown_match, shown_action, shown_rule, rule_text}
+use Rattle.rules.specs.declared.rule.action.Action.{Action}
+use Rattle.rules.specs.declared.rule.action.Action.TheVariants as action
+use Rattle.rules.specs.declared.options.match_kind.Kind.{Kind}
+use Rattle.rules.specs.declared.options.match_kind.Kind.TheVariants as kind
+use Rattle.rules.specs.declared.options.option.Opt.{Opt}
+use Rattle.rules.specs.declared.options.option.Owner.{Owner}
+use Rattle.rules.specs.declared.options.option.Owner.TheVariants as owned
+use Rattle.rules.specs.declared.options.option.TheConstants.Opt as options
+use Rattle.rules.specs.declared.options.setting.Setting.{Setting}
+use Rattle.rules.proofs.laws.reading.Readable.{value_room, ReadsBack, Each, Rises, IsGroup, OfRule, OfMatch, OfAction, ActionBack, IsMatch, HasParts}
+use Rattle.rules.proofs.laws.options.TableLaws.{plain, each_option, each_kind}
+use Rattle.rules.proofs.laws.options.WordForms.{name-word}
+
+false-true : {A : Type 0} → false ≡ true → A
+false-true h = absurd (cc)
+
+-- words that are spelled
+no-words : AreSpelled []
+no-words k d within = absurd (omega arith)
+
+word-more : (w : Shown) (ws : List Shown) → (w.text ≡ false → IsBareWord w.word) → AreSpelled ws → AreSpelled (w ∷ ws)
+word-more w ws is are zero d within = is
+word-more w ws is are (suc k) d within = are k d (omega arith)
+
+words-more : (xs ys : List Shown) → AreSpelled xs → AreSpelled ys → AreSpelled (xs ++ ys)
+words-more xs ys a b = All-append (λ (w : Shown). w.text ≡ false → IsBareWord w.word) xs ys a b
+
+bare-from : (text : List ℕ) → is_bare_word text ≡ true → IsBareWord text
+bare-from text is =
+    let (some, bytes) = and_parts (nat_lt 0 (length text)) (list_all is_bare text) is in
+    record { some = some-bytes text (ltb-true 0 (length text) some); bytes = bytes }
+
+name-bare : (o : Opt) → IsBareWord (name_of o)
+name-bare o = bare-from (name_of o) (each_option (λ o. is_bare_word (name_of o)) refl o)
+
+kind-bare : (k : Kind) → IsBareWord (kind_name k)
+kind-bare k = bare-from (kind_name k) (each_kind (λ k. is_bare_word (kind_name k)) refl k)
+
+setting-spelled : (s : Setting) → ReadsBack s → AreSpelled (shown_setting s)
+setting-spelled s back = words-more (shown_bang s.inverted) (bare (name_of (option_of_value s.value)) ∷ shown_value s.value) (bang s.inverted)
+    (word-more (bare (name_of (option_of_value s.value))) (shown_value s.value) (λ e. name-bare (option_of_value s.value)) back.spelled)
+  where
+    bang : (b : Bool) → AreSpelled (shown_bang b)
+    bang true = word-more (bare (codes "!")) [] (λ e. bare-from (codes "!") refl) no-words
+    bang false = no-words
+
+settings-spelled : (ss : List Setting) → Each ReadsBack ss → AreSpelled (shown_settings ss)
+settings-spelled [] back = no-words
+settings-spelled (s ∷ ss) back = words-more (shown_setting s) (shown_settings ss) (setting-spelled s back.0) (settings-spelled ss back.1)
+
+matches-spelled : (ms : List Match) → Each IsMatch ms → AreSpelled (flat_map shown_match ms)
+matches-spelled [] are = no-words
+matches-spelled (m ∷ ms) are =
+    words-more (shown_match m) (flat_map shown_match ms)
+    (word-more (bare (codes "-m")) (bare (kind_name m.kind) ∷ shown_settings m.settings) (λ e. bare-from (codes "-m") refl) (word-more (bare (kind_name m.kind)) (shown_settings m.settings) (λ e. kind-bare m.kind) (settings-spelled m.settings are.0.back)))
+    (matches-spelled ms are.1)
+
+two-words : (a b : List ℕ) → IsBareWord a → IsBareWord b → AreSpelled (bare a ∷ one b)
+two-words a b is are = word-more (bare a) (one b) (λ e. is) (word-more (bare b) [] (λ e. are) no-words)
+
+action-spelled : (g : Option Action) → ActionBack g → AreSpelled (shown_action g)
+action-spelled None back = no-words
+action-spelled (Some action.Accept) back = two-words (codes "-j") (codes "ACCEPT") (bare-from (codes "-j") refl) (bare-from (codes "ACCEPT") refl)
+action-spelled (Some action.Drop) back = two-words (codes "-j") (codes "DROP") (bare-from (codes "-j") refl) (bare-from (codes "DROP") refl)
+action-spelled (Some action.Return) back = two-words (codes "-j") (codes "RETURN") (bare-from (codes "-j") refl) (bare-from (codes "RETURN") refl)
+action-spelled (Some action.Reject) back = two-words (codes "-j") (codes "REJECT") (bare-from (codes "-j") refl) (bare-from (codes "REJECT") refl)
+action-spelled (Some action.Log) back = two-words (codes "-j") (codes "LOG") (bare-from (codes "-j") refl) (bare-from (codes "LOG") refl)
+action-spelled (Some (action.Jump name)) back = two-words (codes "-j") name (bare-from (codes "-j") refl) (name-word name back).bare
+action-spelled (Some (action.Goto name)) back = two-words (codes "-g") name (bare-from (codes "-g") refl) (name-word name back).bare
+
+-- the words of a readable rule are spelled
+pub rule-spelled : (r : Rule) → HasParts r → AreSpelled (shown_rule r)
+rule-spelled r has =
+    words-more (shown_settings r.settings) (flat_map shown_match r.matches ++ (shown_action r.action ++ shown_settings r.extras)) (settings-spelled r.settings has.settings.back)
+    (words-more (flat_map shown_match r.matches) (shown_action r.action ++ shown_settings r.extras) (matches-spelled r.matches has.matches)
+    (words-more (shown_action r.action) (shown_settings r.extras) (action-spelled r.action has.action) (settings-spelled r.extras has.extras.back)))
+
+pub words-of-text : (r : Rule) → HasParts r → words_of (rule_text r) ≡ Some (plain (shown_rule r))
+words-of-text r has = words_of-spaced_all (shown_rule r) (rule-spelled r has)
+
+-- how many bytes an option has at most, with `!`, its name and its values
+abbrev bang_room : Bool → ℕ
+bang_room true = 2
+bang_room false = 0
+
+abbrev setting_room : Opt → ℕ
+setting_room o = bang_room (may_be_inverted o) + (length (name_of o) + 1 + value_room o)
+
+size : List Shown → ℕ
+size ws = length (spaced_all ws)
+
+size-append : (xs ys : List Shown) → size (xs ++ ys) ≡ size xs + size ys
+unfolding size
+size-append xs ys = ap length (flat_map-append spaced xs ys) ∙ length-append (spaced_all xs) (spaced_all ys)
+
+size-more : (word : List ℕ) (ws : List Shown) → size (bare word ∷ ws) ≡ length word + 1 + size ws
+unfolding size
+size-more word ws = let e = length-append (spaced (bare word)) (spaced_all ws) in omega (arith, e)
+
+size-none : size [] ≡ 0
+unfolding size
+size-none = refl
+
+setting-size : (s : Setting) → ReadsBack s → size (shown_setting s) ≤ setting_room (option_of_value s.value)
+unfolding size
+setting-size s back = go s.inverted (may_be_inverted (option_of_value s.value)) refl back.bang
+  where
+    o : Opt
+    o = option_of_value s.value
+
+    short : length (spaced_all (shown_value s.value)) ≤ value_room (option_of_value s.value)
+    short = back.short
+
+    named : size (bare (name_of (option_of_value s.value)) ∷ shown_value s.value) ≡ length (name_of (option_of_value s.value)) + 1 + length (spaced_all (shown_value s.value))
+    named = size-more (name_of (option_of_value s.value)) (shown_value s.value)
+
+    banged : size (bare (codes "!") ∷ (bare (name_of (option_of_value s.value)) ∷ shown_value s.value)) ≡ 1 + 1 + size (bare (name_of (option_of_value s.value)) ∷ shown_value s.value)
+    banged = size-more (codes "!") (bare (name_of (option_of_value s.value)) ∷ shown_value s.value)
+
+    go : (inverted may : Bool) → may_be_inverted (option_of_value s.value) ≡ may → (inverted ≡ true → may_be_inverted (option_of_value s.value) ≡ true)
+        → size (shown_bang inverted ++ (bare (name_of (option_of_value s.value)) ∷ shown_value s.value)) ≤ bang_room may + (length (name_of (option_of_value s.value)) + 1 + value_room (option_of_value s.value))
+    go true true is bang = omega (arith, short, named, banged)
+    go true false is bang = false-true (sym is ∙ bang refl)
+    go false true is bang = omega (arith, short, named)
+    go false false is bang = omega (arith, short, named)
+
+-- the sum of the numbers from a place on
+rest : ℕ → List ℕ → ℕ
+rest n [] = 0
+rest zero (x ∷ xs) = x + rest zero xs
+rest (suc n) (x ∷ xs) = rest n xs
+
+rest-at : (n : ℕ) (xs : List ℕ) → get_or xs n 0 + rest (suc n) xs ≡ rest n xs
+unfolding rest
+rest-at n [] = refl
+rest-at zero (x ∷ xs) = refl
+rest-at (suc n) (x ∷ xs) = rest-at n xs
+
+rest-less : (m n : ℕ) (xs : List ℕ) → m ≤ n → rest n xs ≤ rest m xs
+unfolding rest
+rest-less m n [] h = omega arith
+rest-less zero zero (x ∷ xs) h = omega arith
+rest-less zero (suc n) (x ∷ xs) h = let less = rest-less zero n xs (omega arith) in omega (arith, less)
+rest-less (suc m) zero (x ∷ xs) h = absurd (omega arith)
+rest-less (suc m) (suc n) (x ∷ xs) h = rest-less m n xs (omega arith)
+
+-- options whose places rise fit into the room of the places
+group-size : (limits : List ℕ) (n : ℕ) (ss : List Setting) → Rises n ss → Each ReadsBack ss → Each (λ s. setting_room (option_of_value s.value) ≤ get_or limits (slot_of s) 0) ss
+    → size (shown_settings ss) ≤ rest n limits
+group-size limits n [] rises back fits = let none = size-none in omega (arith, none)
+group-size limits n (s ∷ ss) rises back fits =
+    let first = setting-size s back.0 in
+    let fit = fits.0 in
+    let more = group-size limits (suc (slot_of s)) ss rises.1 back.1 fits.1 in
+    let sum = size-append (shown_setting s) (shown_settings ss) in
+    let at = rest-at (slot_of s) limits in
+    let less = rest-less n (slot_of s) limits rises.0 in
+    omega (arith, first, fit, more, sum, at, less)
+
+fits-all : (Owns : Owner → Type 0) (limits : List ℕ) → ((o : Opt) → Owns (owner o) → setting_room o ≤ get_or limits (slot o) 0) → (ss : List Setting)
+    → Each (λ s. Owns (owner (option_of_value s.value))) ss → Each (λ s. setting_room (option_of_value s.value) ≤ get_or limits (slot_of s) 0) ss
+fits-all Owns limits room [] own = tt
+fits-all Owns limits room (s ∷ ss) own = (room (option_of_value s.value) own.0, fits-all Owns limits room ss own.1)
+
+-- a test that an owner lets through
+allowed : (owns : Bool) (a b : ℕ) → (not owns || nat_le a b) ≡ true → owns ≡ true → a ≤ b
+allowed true a b h e = leb-true a b h
+allowed false a b h e = false-true e
+
+-- a rule's own options
+abbrev is_of_rule : Owner → Bool
+is_of_rule owned.Rule = true
+is_of_rule w = false
+
+abbrev rule_limits : List ℕ
+rule_limits = 24 ∷ 24 ∷ 21 ∷ 21 ∷ 15 ∷ 5 ∷ []
+
+own-room : (o : Opt) → owner o ≡ owned.Rule → setting_room o ≤ get_or rule_limits (slot o) 0
+own-room o e = allowed (is_of_rule (owner o)) (setting_room o) (get_or rule_limits (slot o) 0) (each_option (λ o. not (is_of_rule (owner o)) || nat_le (setting_room o) (get_or rule_limits (slot o) 0)) refl o) (ap is_of_rule e)
+
+own-size : (ss : List Setting) → IsGroup OfRule ss → size (shown_settings ss) ≤ 110
+unfolding rest
+own-size ss is = group-size rule_limits 0 ss is.rises is.back (fits-all OfRule rule_limits own-room ss is.own)
+
+-- a match
+abbrev kind_limits : Kind → List ℕ
+kind_limits kind.Tcp = 22 ∷ 22 ∷ 62 ∷ []
+kind_limits kind.Udp = 22 ∷ 22 ∷ []
+kind_limits kind.Icmp = 22 ∷ []
+kind_limits kind.Multiport = 102 ∷ []
+kind_limits kind.Iprange = 46 ∷ 46 ∷ []
+kind_limits kind.Conntrack = 73 ∷ []
+kind_limits kind.State = 71 ∷ []
+kind_limits kind.Comment = 525 ∷ []
+
+match-room : (k : Kind) (o : Opt) → kind_has k o ≡ true → setting_room o ≤ get_or (kind_limits k) (slot o) 0
+match-room k o e =
+    allowed (kind_has k o) (setting_room o) (get_or (kind_limits k) (slot o) 0) (each_option (λ o. not (kind_has k o) || nat_le (setting_room o) (get_or (kind_limits k) (slot o) 0)) (each_kind (λ k. list_all (λ o. not (kind_has k o) || nat_le (setting_room o) (get_or (kind_limits k) (slot o) 0)) options.ALL) refl k) o) e
+
+kind-room : (k : Kind) → 3 + (length (kind_name k) + 1 + rest 0 (kind_limits k)) ≤ 536
+unfolding rest
+kind-room k = leb-true _ 536 (each_kind (λ k. nat_le (3 + (length (kind_name k) + 1 + rest 0 (kind_limits k))) 536) refl k)
+
+match-size : (m : Match) → IsMatch m → size (shown_match m) ≤ 536
+match-size m is =
+    let inside = group-size (kind_limits m.kind) 0 m.settings is.rises is.back (fits-all (OfMatch m) (kind_limits m.kind) (match-room m.kind) m.settings is.own) in
+    let first = size-more (codes "-m") (bare (kind_name m.kind) ∷ shown_settings m.settings) in
+    let second = size-more (kind_name m.kind) (shown_settings m.settings) in
+    let room = kind-room m.kind in
+    let two : length (codes "-m") ≡ 2 = refl in
+    omega (arith, inside, first, second, room, two)
+
+matches-size : (ms : List Match) → Each IsMatch ms → size (flat_map shown_match ms) ≤ 536 * length ms
+matches-size [] are = let none = size-none in omega (arith, none)
+matches-size (m ∷ ms) are =
+    let one = match-size m are.0 in
+    let others = matches-size ms are.1 in
+    let sum = size-append (shown_match m) (flat_map shown_match ms) in
+    omega (arith, one, others, sum)
+
+-- a target with its options
+abbrev action_limits : Option Action → List ℕ
+action_limits (Some action.Reject) = 37 ∷ []
+action_limits (Some action.Log) = 74 ∷ 14 ∷ 19 ∷ 18 ∷ 17 ∷ 10 ∷ []
+action_limits g = []
+
+extra-room : (g : Option Action) (o : Opt) → is_action_of g (owner o) ≡ true → setting_room o ≤ get_or (action_limits g) (slot o) 0
+extra-room None o e = false-true e
+extra-room (Some action.Accept) o e = allowed (is_action_of (Some action.Accept) (owner o)) (setting_room o) (get_or (action_limits (Some action.Accept)) (slot o) 0) (each_option (λ o. not (is_action_of (Some action.Accept) (owner o)) || nat_le (setting_room o) (get_or (action_limits (Some action.Accept)) (slot o) 0)) refl o) e
+extra-room (Some action.Drop) o e = allowed (is_action_of (Some action.Drop) (owner o)) (setting_room o) (get_or (action_limits (Some action.Drop)) (slot o) 0) (each_option (λ o. not (is_action_of (Some action.Drop) (owner o)) || nat_le (setting_room o) (get_or (action_limits (Some action.Drop)) (slot o) 0)) refl o) e
+extra-room (Some action.Return) o e = allowed (is_action_of (Some action.Return) (owner o)) (setting_room o) (get_or (action_limits (Some action.Return)) (slot o) 0) (each_option (λ o. not (is_action_of (Some action.Return) (owner o)) || nat_le (setting_room o) (get_or (action_limits (Some action.Return)) (slot o) 0)) refl o) e
+extra-room (Some action.Reject) o e = allowed (is_action_of (Some action.Reject) (owner o)) (setting_room o) (get_or (action_limits (Some action.Reject)) (slot o) 0) (each_option (λ o. not (is_action_of (Some action.Reject) (owner o)) || nat_le (setting_room o) (get_or (action_limits (Some action.Reject)) (slot o) 0)) refl o) e
+extra-room (Some action.Log) o e = allowed (is_action_of (Some action.Log) (owner o)) (setting_room o) (get_or (action_limits (Some action.Log)) (slot o) 0) (each_option (λ o. not (is_action_of (Some action.Log) (owner o)) || nat_le (setting_room o) (get_or (action_limits (Some action.Log)) (slot o) 0)) refl o) e
+extra-room (Some (action.Jump n)) o e = allowed (is_action_of (Some (action.Jump n)) (owner o)) (setting_room o) (get_or (action_limits (Some (action.Jump n))) (slot o) 0) (each_option (λ o. not (is_action_of (Some (action.Jump n)) (owner o)) || nat_le (setting_room o) (get_or (action_limits (Some (action.Jump n))) (slot o) 0)) refl o) e
+extra-room (Some (action.Goto n)) o e = allowed (is_action_of (Some (action.Goto n)) (owner o)) (setting_room o) (get_or (action_limits (Some (action.Goto n))) (slot o) 0) (each_option (λ o. not (is_action_of (Some (action.Goto n)) (owner o)) || nat_le (setting_room o) (get_or (action_limits (Some (action.Goto n))) (slot o) 0)) refl o) e
+
+action-size : (g : Option Action) → ActionBack g → size (shown_action g) + rest 0 (action_limits g) ≤ 159
+unfolding size rest
+action-size None back = omega arith
+action-size (Some action.Accept) back = leb-true _ 159 refl
+action-size (Some action.Drop) back = leb-true _ 159 refl
+action-size (Some action.Return) back = leb-true _ 159 refl
+action-size (Some action.Reject) back = leb-true _ 159 refl
+action-size (Some action.Log) back = leb-true _ 159 refl
+action-size (Some (action.Jump name)) back =
+    let short = (name-word name back).short in
+    let whole = size-more (codes "-j") (one name) in
+    let word = size-more name [] in
+    omega (arith, short, whole, word)
+action-size (Some (action.Goto name)) back =
+    let short = (name-word name back).short in
+    let whole = size-more (codes "-g") (one name) in
+    let word = size-more name [] in
+    omega (arith, short, whole, word)
+
+-- the text of a readable rule has at most 110 + 16 * 536 + 159 bytes
+pub rule-short : (r : Rule) → HasParts r → length (rule_text r) ≤ 8845
+unfolding size
+rule-short r has =
+    let a = shown_settings r.settings in
+    let b = flat_map shown_match r.matches in
+    let c = shown_action r.action in
+    let d = shown_settings r.extras in
+    let own = own-size r.settings has.settings in
+    let few = has.few in
+    let matches = matches-size r.matches has.matches in
+    let target = action-size r.action has.action in
+    let extras = group-size (action_limits r.action) 0 r.extras has.extras.rises has.extras.back (fits-all (OfAction r.action) (action_limits r.action) (extra-room r.action) r.extras has.extras.own) in
+    let one = size-append a (b ++ (c ++ d)) in
+    let two = size-append b (c ++ d) in
+    let three = size-append c d in
+    omega (arith, own, few, matches, target, extras, one, two, three)

@@ -1,0 +1,9 @@
+pub mod GroupLaws
+pub mod KeepLaws
+pub mod NormalFormLaws
+pub mod OptionWordsLaws
+pub mod PlaceLaws
+pub mod Readable
+pub mod ReadableLaws
+pub mod RowLaws
+pub mod StepLaws

@@ -1,0 +1,94 @@
+-- What a rule asks of interfaces, it asks by options of its own; where it asks nothing, it allows all.
+use Rattle.std.proofs.Common.{◌≡◌, ℕ, Bool, true, false, cond, ◌==◌, ◌&&◌, ◌||◌, not, List, [], ◌∷◌, refl, sym, ap, ◌∙◌}
+use Rattle.std.specs.List.{list_all, list_any}
+use Rattle.std.proofs.lemmas.Bool.{or_parts, and_from}
+use Rattle.fields.specs.declared.numbers.field.Field.{Field}
+use Rattle.fields.specs.declared.numbers.field.Field.TheVariants as field
+use Rattle.rules.specs.options.Matches.{kind_row}
+use Rattle.rules.specs.options.Options.{owner, is_match_of}
+use Rattle.rules.specs.options.Settings.{option_of_value}
+use Rattle.rules.specs.rule.Rules.{Match, Rule}
+use Rattle.rules.specs.rule.Allows.{field_of, holds_of, same_field, is_on, asks, asks_on, setting_allows, fragment_allows, match_allows, allows}
+use Rattle.rules.specs.printing.RoundTrip.{ReadsItself}
+use Rattle.rules.specs.declared.options.match_kind.Kind.{Kind}
+use Rattle.rules.specs.declared.options.setting.Setting.{Setting}
+use Rattle.rules.specs.declared.options.value.Value.{Value}
+use Rattle.rules.specs.declared.options.value.Value.TheVariants as value
+use Rattle.rules.proofs.laws.reading.Readable.{Each, OfMatch, IsMatch}
+use Rattle.rules.proofs.laws.printing.RoundTripLaws.{readable}
+
+false-true : {A : Type 0} → false ≡ true → A
+false-true h = absurd (cc)
+
+-- no option of a match asks on an interface
+none-asks : (v : Value) (k : Kind) → is_match_of (owner (option_of_value v)) k ≡ true → (is_on field.InIface (field_of v) ≡ false) × (is_on field.OutIface (field_of v) ≡ false)
+none-asks (value.Source x) k h = false-true h
+none-asks (value.Destination x) k h = false-true h
+none-asks (value.InInterface x) k h = false-true h
+none-asks (value.OutInterface x) k h = false-true h
+none-asks (value.Protocol x) k h = false-true h
+none-asks value.Fragment k h = false-true h
+none-asks (value.RejectWith x) k h = false-true h
+none-asks (value.LogPrefix x) k h = false-true h
+none-asks (value.LogLevel x) k h = false-true h
+none-asks value.LogTcpSequence k h = false-true h
+none-asks value.LogTcpOptions k h = false-true h
+none-asks value.LogIpOptions k h = false-true h
+none-asks value.LogUid k h = false-true h
+none-asks v k h = (refl, refl)
+
+-- nor does a match
+module _ (f : Field) (none : (v : Value) (k : Kind) → is_match_of (owner (option_of_value v)) k ≡ true → is_on f (field_of v) ≡ false) where
+  settings-ask : (m : Match) (ss : List Setting) → Each (λ s. OfMatch m (owner (option_of_value s.value))) ss → list_any (asks f) ss ≡ false
+  settings-ask m [] own = refl
+  settings-ask m (s ∷ ss) own = ap (λ b. b || list_any (asks f) ss) (none s.value m.kind own.0) ∙ settings-ask m ss own.1
+
+  matches-ask : (ms : List Match) → Each IsMatch ms → list_any (λ (m : Match). list_any (asks f) m.settings) ms ≡ false
+  matches-ask [] are = refl
+  matches-ask (m ∷ ms) are = ap (λ b. b || list_any (λ (m : Match). list_any (asks f) m.settings) ms) (settings-ask m m.settings are.0.own) ∙ matches-ask ms are.1
+
+  own-asks : (r : Rule) → ReadsItself r → list_any (asks f) r.settings ≡ asks_on f r
+  own-asks r is = sym (ap (λ b. list_any (asks f) r.settings || b) (matches-ask r.matches (readable r is).parts.matches) ∙ or-false (list_any (asks f) r.settings))
+    where
+      or-false : (b : Bool) → (b || false) ≡ b
+      or-false true = refl
+      or-false false = refl
+
+pub in_is_own : (r : Rule) → ReadsItself r → list_any (asks field.InIface) r.settings ≡ asks_on field.InIface r
+in_is_own r is = own-asks field.InIface (λ v k h. (none-asks v k h).0) r is
+
+pub out_is_own : (r : Rule) → ReadsItself r → list_any (asks field.OutIface) r.settings ≡ asks_on field.OutIface r
+out_is_own r is = own-asks field.OutIface (λ v k h. (none-asks v k h).1) r is
+
+-- where nothing is asked all is allowed
+module _ (f : Field) (n : ℕ) (other : same_field f field.Fragment ≡ false) where
+  settings-allow : (ss : List Setting) → list_any (asks f) ss ≡ false → list_all (setting_allows f n) ss ≡ true
+  settings-allow [] free = refl
+  settings-allow (s ∷ ss) free =
+      let (here, rest) = or_parts (asks f s) (list_any (asks f) ss) free in
+      and_from _ _ (ap (λ b. cond b (cond s.inverted (not (holds_of s.value n)) (holds_of s.value n)) true) here) (settings-allow ss rest)
+
+  first-part : (k : Kind) → fragment_allows f n k ≡ true
+  first-part k = ap (λ b. not ((kind_row k).asks_fragment && b) || (n == 0)) other ∙ go (kind_row k).asks_fragment
+    where
+      go : (b : Bool) → (not (b && false) || (n == 0)) ≡ true
+      go true = refl
+      go false = refl
+
+  matches-allow : (ms : List Match) → list_any (λ (m : Match). list_any (asks f) m.settings) ms ≡ false → list_all (match_allows f n) ms ≡ true
+  matches-allow [] free = refl
+  matches-allow (m ∷ ms) free =
+      let (here, rest) = or_parts (list_any (asks f) m.settings) (list_any (λ (m : Match). list_any (asks f) m.settings) ms) free in
+      and_from _ _ (and_from _ _ (first-part m.kind) (settings-allow m.settings here)) (matches-allow ms rest)
+
+  all-allowed : (r : Rule) → asks_on f r ≡ false → allows r f n ≡ true
+  unfolding allows
+  all-allowed r free =
+      let (own, rest) = or_parts (list_any (asks f) r.settings) (list_any (λ (m : Match). list_any (asks f) m.settings) r.matches) free in
+      and_from _ _ (settings-allow r.settings own) (matches-allow r.matches rest)
+
+pub in_free : (r : Rule) (n : ℕ) → asks_on field.InIface r ≡ false → allows r field.InIface n ≡ true
+in_free r n free = all-allowed field.InIface n refl r free
+
+pub out_free : (r : Rule) (n : ℕ) → asks_on field.OutIface r ≡ false → allows r field.OutIface n ≡ true
+out_free r n free = all-allowed field.OutIface n refl r free

@@ -1,0 +1,62 @@
+-- A rule that names another chain is readable too.
+use Rattle.std.proofs.Common.{◌≡◌, ℕ, List, Option, None, Some, refl, ap, ◌∙◌}
+use Rattle.fields.specs.values.Name.{name_of}
+use Rattle.rules.specs.rule.Actions.{renamed_action, renamed}
+use Rattle.rules.specs.rule.Rules.{Rule, action_default, or_default, completed}
+use Rattle.rules.specs.options.Settings.{is_condition}
+use Rattle.rules.specs.printing.RoundTrip.{ReadsItself}
+use Rattle.rules.specs.declared.rule.action.Action.{Action}
+use Rattle.rules.specs.declared.rule.action.Action.TheVariants as action
+use Rattle.rules.specs.declared.options.setting.Setting.{Setting}
+use Rattle.rules.proofs.laws.reading.Readable.{IsGroup, OfAction, ActionBack}
+use Rattle.rules.proofs.laws.printing.RoundLaws.{rule_of-shown_rule}
+use Rattle.rules.proofs.laws.printing.RoundTripLaws.{readable}
+use Rattle.std.specs.Prelude.{filter}
+
+same-default : (name : List ℕ) (a : Option Action) → action_default (renamed_action name a) ≡ action_default a
+same-default name None = refl
+same-default name (Some action.Accept) = refl
+same-default name (Some action.Drop) = refl
+same-default name (Some action.Return) = refl
+same-default name (Some action.Reject) = refl
+same-default name (Some action.Log) = refl
+same-default name (Some (action.Jump old)) = refl
+same-default name (Some (action.Goto old)) = refl
+
+named-back : (name : List ℕ) (a : Option Action) → name_of name ≡ Some name → ActionBack a → ActionBack (renamed_action name a)
+named-back name None is back = tt
+named-back name (Some action.Accept) is back = tt
+named-back name (Some action.Drop) is back = tt
+named-back name (Some action.Return) is back = tt
+named-back name (Some action.Reject) is back = tt
+named-back name (Some action.Log) is back = tt
+named-back name (Some (action.Jump old)) is back = is
+named-back name (Some (action.Goto old)) is back = is
+
+same-extras : (name : List ℕ) (a : Option Action) (ss : List Setting) → IsGroup (OfAction a) ss → IsGroup (OfAction (renamed_action name a)) ss
+same-extras name None ss is = is
+same-extras name (Some action.Accept) ss is = is
+same-extras name (Some action.Drop) ss is = is
+same-extras name (Some action.Return) ss is = is
+same-extras name (Some action.Reject) ss is = is
+same-extras name (Some action.Log) ss is = is
+same-extras name (Some (action.Jump old)) ss is = record { rises = is.rises; own = is.own; back = is.back }
+same-extras name (Some (action.Goto old)) ss is = record { rises = is.rises; own = is.own; back = is.back }
+
+pub renamed_reads : (name : List ℕ) (r : Rule) → name_of name ≡ Some name → ReadsItself r → ReadsItself (renamed name r)
+renamed_reads name r is reads =
+    let was = readable r reads in
+    rule_of-shown_rule 0 (renamed name r) (record {
+      parts = record {
+        settings = was.parts.settings;
+        few = was.parts.few;
+        matches = was.parts.matches;
+        action = named-back name r.action is was.parts.action;
+        extras = same-extras name r.action r.extras was.parts.extras;
+      };
+      conditions = ap (λ d. with_extras (or_default d (filter is_condition r.extras))) (same-default name r.action) ∙ ap (renamed name) was.conditions;
+      met = was.met;
+    })
+  where
+    with_extras : List Setting → Rule
+    with_extras ss = record { settings = (completed r).settings; matches = (completed r).matches; action = renamed_action name r.action; extras = ss }

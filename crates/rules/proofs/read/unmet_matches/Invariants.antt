@@ -1,7 +1,0 @@
-use Rattle.std.proofs.Common.{◌≡◌, drop}
-use Rattle.rules.specs.Steps.{unmet_matches}
-use Rattle.rules.specs.Views.{view_matches}
-use Rattle.rules.proofs.read.unmet_matches.Given as goal
-
-abbrev pub invariant-loop-one : goal.invariant-loop-one
-invariant-loop-one l = unmet_matches l.settings (view_matches (drop l.one-index l.matches)) ≡ unmet_matches l.settings (view_matches l.matches)

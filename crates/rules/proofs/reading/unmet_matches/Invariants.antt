@@ -1,0 +1,7 @@
+use Rattle.std.proofs.Common.{◌≡◌, drop}
+use Rattle.rules.specs.reading.Steps.{unmet_matches}
+use Rattle.rules.specs.steps.Views.{view_matches}
+use Rattle.rules.proofs.reading.unmet_matches.Given as goal
+
+abbrev pub invariant-loop-one : goal.invariant-loop-one
+invariant-loop-one l = unmet_matches l.settings (view_matches (drop l.one-index l.matches)) ≡ unmet_matches l.settings (view_matches l.matches)

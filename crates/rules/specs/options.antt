@@ -1,0 +1,3 @@
+pub mod Matches
+pub mod Options
+pub mod Settings

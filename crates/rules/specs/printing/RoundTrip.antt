@@ -1,0 +1,23 @@
+-- Rules and their texts: the text of a rule is read as the rule.
+use Rattle.std.specs.Prelude.{◌≡◌, ℕ, ◌≤◌, List, ◌++◌, length, map, Some, Ok, codes}
+use Rattle.fields.specs.text.Printed.{Shown}
+use Rattle.fields.specs.text.Words.{words_of}
+use Rattle.rules.specs.rule.Rules.{Rule}
+use Rattle.rules.specs.printing.Printing.{shown_rule, rule_text}
+use Rattle.rules.specs.reading.Steps.{rule_of}
+
+-- the words that a rule prints read as the rule
+abbrev pub ReadsItself : Rule → Type 0
+ReadsItself r = rule_of 0 (map (λ (w : Shown). w.word) (shown_rule r)) ≡ Ok r
+
+-- the text of a rule is cut into words, and they read as the rule, wherever they stand
+abbrev pub TextReadsBack : Rule → Type 0
+TextReadsBack r = (words : List (List ℕ)) × (words_of (rule_text r) ≡ Some words) × ((end : ℕ) → rule_of end words ≡ Ok r)
+
+-- with `-A ` and the name of a chain, which has 28 bytes at most, the line of a rule has at most 8,876 bytes
+abbrev pub HasShortLine : Rule → Type 0
+HasShortLine r = (name : List ℕ) → length name ≤ 28 → length (codes "-A " ++ (name ++ rule_text r)) ≤ 8876
+
+-- no other rule has the text
+abbrev pub IsOnlyOne : Rule → Type 0
+IsOnlyOne r = (other : Rule) → TextReadsBack other → rule_text other ≡ rule_text r → other ≡ r

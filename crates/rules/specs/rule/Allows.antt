@@ -1,0 +1,104 @@
+-- Which numbers a rule allows on a field, and which packets it matches (iptables(8), iptables-extensions(8)).
+use Rattle.std.specs.Prelude.{ℕ, ◌==◌, Bool, true, false, ◌&&◌, ◌||◌, not, List, Option, Some, None, if◌then◌else◌}
+use Rattle.std.specs.List.{list_all, list_any}
+use Rattle.fields.specs.values.ConnectionState.{states_pass}
+use Rattle.fields.specs.numbers.Field.{all_fields, index, number_on}
+use Rattle.fields.specs.values.FlagTest.{flags_pass}
+use Rattle.fields.specs.values.Icmp.{icmp_passes}
+use Rattle.fields.specs.values.Interface.{interface_holds}
+use Rattle.fields.specs.values.IpRange.{range_has}
+use Rattle.fields.specs.values.PortList.{list_has_port}
+use Rattle.fields.specs.values.PortRange.{has_port}
+use Rattle.fields.specs.values.Prefix.{holds}
+use Rattle.fields.specs.declared.numbers.field.Field.{Field}
+use Rattle.fields.specs.declared.numbers.field.Field.TheVariants as field
+use Rattle.rules.specs.options.Matches.{kind_row}
+use Rattle.rules.specs.rule.Rules.{Match, Rule}
+use Rattle.rules.specs.declared.options.match_kind.Kind.{Kind}
+use Rattle.rules.specs.declared.options.setting.Setting.{Setting}
+use Rattle.rules.specs.declared.options.value.Value.{Value}
+use Rattle.rules.specs.declared.options.value.Value.TheVariants as value
+
+-- the field that a value speaks of, if it speaks of one
+abbrev pub field_of : Value → Option Field
+field_of (value.Source x) = Some field.Source
+field_of (value.Destination x) = Some field.Destination
+field_of (value.InInterface x) = Some field.InIface
+field_of (value.OutInterface x) = Some field.OutIface
+field_of (value.Protocol x) = Some field.Protocol
+field_of value.Fragment = Some field.Fragment
+field_of (value.SourcePort x) = Some field.SourcePort
+field_of (value.DestinationPort x) = Some field.DestinationPort
+field_of (value.TcpFlags x) = Some field.TcpFlags
+field_of (value.IcmpType x) = Some field.IcmpType
+field_of (value.SourcePorts x) = Some field.SourcePort
+field_of (value.DestinationPorts x) = Some field.DestinationPort
+field_of (value.SourceRange x) = Some field.Source
+field_of (value.DestinationRange x) = Some field.Destination
+field_of (value.Ctstate x) = Some field.ConnectionState
+field_of (value.State x) = Some field.ConnectionState
+field_of (value.Comment x) = None
+field_of (value.RejectWith x) = None
+field_of (value.LogPrefix x) = None
+field_of (value.LogLevel x) = None
+field_of value.LogTcpSequence = None
+field_of value.LogTcpOptions = None
+field_of value.LogIpOptions = None
+field_of value.LogUid = None
+
+-- whether the value holds of a number of its field
+abbrev pub holds_of : Value → ℕ → Bool
+holds_of (value.Source x) n = holds x n
+holds_of (value.Destination x) n = holds x n
+holds_of (value.InInterface x) n = interface_holds x n
+holds_of (value.OutInterface x) n = interface_holds x n
+holds_of (value.Protocol x) n = n == x
+holds_of value.Fragment n = n == 1
+holds_of (value.SourcePort x) n = has_port x n
+holds_of (value.DestinationPort x) n = has_port x n
+holds_of (value.TcpFlags x) n = flags_pass x n
+holds_of (value.IcmpType x) n = icmp_passes x n
+holds_of (value.SourcePorts x) n = list_has_port x n
+holds_of (value.DestinationPorts x) n = list_has_port x n
+holds_of (value.SourceRange x) n = range_has x n
+holds_of (value.DestinationRange x) n = range_has x n
+holds_of (value.Ctstate x) n = states_pass x n
+holds_of (value.State x) n = states_pass x n
+holds_of v n = true
+
+abbrev pub same_field : Field → Field → Bool
+same_field f g = index f == index g
+
+abbrev pub is_on : Field → Option Field → Bool
+is_on f None = false
+is_on f (Some g) = same_field f g
+
+-- a condition, or its opposite
+abbrev pub setting_holds : Setting → ℕ → Bool
+setting_holds s n = if s.inverted then not (holds_of s.value n) else holds_of s.value n
+
+abbrev pub setting_allows : Field → ℕ → Setting → Bool
+setting_allows f n s = if is_on f (field_of s.value) then setting_holds s n else true
+
+-- a match that looks into the packet's parts asks for a first fragment
+abbrev pub fragment_allows : Field → ℕ → Kind → Bool
+fragment_allows f n k = not ((kind_row k).asks_fragment && same_field f field.Fragment) || (n == 0)
+
+abbrev pub match_allows : Field → ℕ → Match → Bool
+match_allows f n m = fragment_allows f n m.kind && list_all (setting_allows f n) m.settings
+
+-- every condition of the rule on the field holds of the number
+unfoldable pub allows : Rule → Field → ℕ → Bool
+allows r f n = list_all (setting_allows f n) r.settings && list_all (match_allows f n) r.matches
+
+-- whether the rule matches a packet with these numbers, one a field in the order of the fields: it allows each on its field
+abbrev pub matches : List ℕ → Rule → Bool
+matches numbers r = list_all (λ f. allows r f (number_on numbers f)) all_fields
+
+-- the condition asks something on the field
+abbrev pub asks : Field → Setting → Bool
+asks f s = is_on f (field_of s.value)
+
+-- the rule has a condition on the field, of its own or in a match
+abbrev pub asks_on : Field → Rule → Bool
+asks_on f r = list_any (asks f) r.settings || list_any (λ (m : Match). list_any (asks f) m.settings) r.matches

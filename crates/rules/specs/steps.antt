@@ -1,0 +1,7 @@
+pub mod Conditions
+pub mod MatchRows
+pub mod OptionNames
+pub mod OptionRows
+pub mod Places
+pub mod Views
+pub mod Writing

@@ -1,0 +1,67 @@
+// What an option asks of packets, as a set of numbers on a field.
+ghost use Rattle.std.specs.Prelude.{◌≡◌, Some, Ok, IfOk};
+ghost use Rattle.rules.specs.rule.Allows.{field_of, holds_of, setting_holds};
+ghost use Rattle.rules.specs.steps.Conditions.{Asks};
+
+use crate::options::setting::Setting;
+use crate::options::value::Value;
+use fields::{Field, Spans};
+use std::alloc::{AllocError, Global};
+
+// A field, and numbers on it.
+#[derive(Drop)]
+pub(crate) struct Condition {
+    pub(crate) field: Field,
+    pub(crate) set: Spans,
+}
+
+fn on(field: Field, set: Spans) -> Result<Option<Condition>, AllocError>
+    ensures { result ≡ Ok (Some (record { field = field; set = set })) }
+{
+    Ok(Some(Condition { field, set }))
+}
+
+impl Value {
+    // The numbers of which the value holds, on the field of which it speaks; a text, or what a target does, speaks of none.
+    fn condition(&self, alloc: Global) -> Result<Option<Condition>, AllocError>
+        ensures { IfOk result (λ asked. Asks (field_of self.now) (holds_of self.now) asked) }
+    {
+        match self {
+            Value::Source(prefix) => on(Field::Source, prefix.allowed(alloc)?),
+            Value::Destination(prefix) => on(Field::Destination, prefix.allowed(alloc)?),
+            Value::InInterface(pattern) => on(Field::InIface, pattern.allowed(alloc)?),
+            Value::OutInterface(pattern) => on(Field::OutIface, pattern.allowed(alloc)?),
+            Value::Protocol(protocol) => on(Field::Protocol, protocol.allowed(alloc)?),
+            Value::Fragment => on(Field::Fragment, Spans::one(alloc, 1, 1, 1)?),
+            Value::SourcePort(ports) => on(Field::SourcePort, ports.allowed(alloc)?),
+            Value::DestinationPort(ports) => on(Field::DestinationPort, ports.allowed(alloc)?),
+            Value::TcpFlags(test) => on(Field::TcpFlags, test.allowed(alloc)?),
+            Value::IcmpType(asked) => on(Field::IcmpType, asked.allowed(alloc)?),
+            Value::SourcePorts(list) => on(Field::SourcePort, list.allowed(alloc)?),
+            Value::DestinationPorts(list) => on(Field::DestinationPort, list.allowed(alloc)?),
+            Value::SourceRange(range) => on(Field::Source, range.allowed(alloc)?),
+            Value::DestinationRange(range) => on(Field::Destination, range.allowed(alloc)?),
+            Value::Ctstate(states) => on(Field::ConnectionState, states.allowed(alloc)?),
+            Value::State(states) => on(Field::ConnectionState, states.allowed(alloc)?),
+            _ => Ok(None),
+        }
+    }
+}
+
+impl Setting {
+    // The numbers that the option allows, on the field of which it speaks: those of its value or, inverted, the others.
+    pub(crate) fn condition(&self, alloc: Global) -> Result<Option<Condition>, AllocError>
+        ensures { IfOk result (λ asked. Asks (field_of self.now.value) (setting_holds self.now) asked) }
+    {
+        match self.value.condition(alloc)? {
+            None => Ok(None),
+            Some(asked) => {
+                if self.inverted {
+                    on(asked.field, asked.set.except(alloc)?)
+                } else {
+                    Ok(Some(asked))
+                }
+            }
+        }
+    }
+}

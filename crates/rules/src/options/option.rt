@@ -1,0 +1,299 @@
+// The options of a rule.
+ghost use Rattle.std.specs.Prelude.{◌≡◌, Option, Some, None};
+ghost use Rattle.std.specs.List.{list_any};
+ghost use Rattle.std.specs.Str.{bytes_eq};
+ghost use Rattle.rules.specs.steps.OptionNames.{shown_names};
+ghost use Rattle.rules.specs.options.Options.{option_of, name_of, spells, is_one_of, is_match_of, kind_has};
+
+use crate::options::match_kind::Kind;
+
+/// An option, whatever its spelling.
+#[derive(Clone, Copy)]
+pub(crate) enum Opt {
+    Source,
+    Destination,
+    InInterface,
+    OutInterface,
+    Protocol,
+    Fragment,
+    Match,
+    Jump,
+    Goto,
+    SourcePort,
+    DestinationPort,
+    TcpFlags,
+    Syn,
+    IcmpType,
+    SourcePorts,
+    DestinationPorts,
+    SourceRange,
+    DestinationRange,
+    Ctstate,
+    State,
+    Comment,
+    RejectWith,
+    LogPrefix,
+    LogLevel,
+    LogTcpSequence,
+    LogTcpOptions,
+    LogIpOptions,
+    LogUid,
+}
+
+/// The matches that have an option.
+#[derive(Clone, Copy)]
+pub(crate) enum Kinds {
+    One(Kind),
+    Either(Kind, Kind),
+}
+
+/// The targets that have options.
+#[derive(Clone, Copy)]
+pub(crate) enum Extended {
+    Reject,
+    Log,
+}
+
+/// What an option belongs to.
+#[derive(Clone, Copy)]
+pub(crate) enum Owner {
+    /// The rule itself.
+    Rule,
+    /// It starts a match.
+    Start,
+    /// It names a target.
+    Jump,
+    /// It names a chain to go on with.
+    Goto,
+    /// A match.
+    Match(Kinds),
+    /// A target.
+    Target(Extended),
+}
+
+/// An option's spellings, of which the first is printed, how many values follow it, whether `!` may stand before it, what
+/// it belongs to, and its place among the options of its owner. Options of one place count as one.
+#[derive(Clone, Copy)]
+pub(crate) struct Row {
+    pub(crate) names: &'static [&'static [u8]],
+    pub(crate) values: usize,
+    pub(crate) inverts: bool,
+    pub(crate) owner: Owner,
+    pub(crate) slot: u8,
+}
+
+const PORTS: Owner = Owner::Match(Kinds::Either(Kind::Tcp, Kind::Udp));
+
+impl Row {
+    fn of(
+        names: &'static [&'static [u8]],
+        values: usize,
+        inverts: bool,
+        owner: Owner,
+        slot: u8,
+    ) -> Row
+        ensures { result ≡ record { names = names.entry; values = values; inverts = inverts; owner = owner; slot = slot } }
+    {
+        Row {
+            names,
+            values,
+            inverts,
+            owner,
+            slot,
+        }
+    }
+}
+
+impl Opt {
+    ghost use Rattle.rules.specs.steps.OptionRows.{IsRow};
+
+    // Each option.
+    pub(crate) const ALL: [Opt; 28] = [
+        Opt::Source,
+        Opt::Destination,
+        Opt::InInterface,
+        Opt::OutInterface,
+        Opt::Protocol,
+        Opt::Fragment,
+        Opt::Match,
+        Opt::Jump,
+        Opt::Goto,
+        Opt::SourcePort,
+        Opt::DestinationPort,
+        Opt::TcpFlags,
+        Opt::Syn,
+        Opt::IcmpType,
+        Opt::SourcePorts,
+        Opt::DestinationPorts,
+        Opt::SourceRange,
+        Opt::DestinationRange,
+        Opt::Ctstate,
+        Opt::State,
+        Opt::Comment,
+        Opt::RejectWith,
+        Opt::LogPrefix,
+        Opt::LogLevel,
+        Opt::LogTcpSequence,
+        Opt::LogTcpOptions,
+        Opt::LogIpOptions,
+        Opt::LogUid,
+    ];
+
+    // The row of the option.
+    pub(crate) fn row(self) -> Row
+        ensures { IsRow result self }
+    {
+        match self {
+            Opt::Source => Row::of(&[b"-s", b"--source", b"--src"], 1, true, Owner::Rule, 0),
+            Opt::Destination => Row::of(
+                &[b"-d", b"--destination", b"--dst"],
+                1,
+                true,
+                Owner::Rule,
+                1,
+            ),
+            Opt::InInterface => Row::of(&[b"-i", b"--in-interface"], 1, true, Owner::Rule, 2),
+            Opt::OutInterface => Row::of(&[b"-o", b"--out-interface"], 1, true, Owner::Rule, 3),
+            Opt::Protocol => Row::of(&[b"-p", b"--protocol"], 1, true, Owner::Rule, 4),
+            Opt::Fragment => Row::of(&[b"-f", b"--fragment"], 0, true, Owner::Rule, 5),
+            Opt::Match => Row::of(&[b"-m", b"--match"], 1, false, Owner::Start, 0),
+            Opt::Jump => Row::of(&[b"-j", b"--jump"], 1, false, Owner::Jump, 0),
+            Opt::Goto => Row::of(&[b"-g", b"--goto"], 1, false, Owner::Goto, 0),
+            Opt::SourcePort => Row::of(&[b"--sport", b"--source-port"], 1, true, PORTS, 0),
+            Opt::DestinationPort => Row::of(
+                &[b"--dport", b"--destination-port"],
+                1,
+                true,
+                PORTS,
+                1,
+            ),
+            Opt::TcpFlags => Row::of(&[b"--tcp-flags"], 2, true, of(Kind::Tcp), 2),
+            Opt::Syn => Row::of(&[b"--syn"], 0, true, of(Kind::Tcp), 2),
+            Opt::IcmpType => Row::of(&[b"--icmp-type"], 1, true, of(Kind::Icmp), 0),
+            Opt::SourcePorts => Row::of(
+                &[b"--sports", b"--source-ports"],
+                1,
+                true,
+                of(Kind::Multiport),
+                0,
+            ),
+            Opt::DestinationPorts => Row::of(
+                &[b"--dports", b"--destination-ports"],
+                1,
+                true,
+                of(Kind::Multiport),
+                0,
+            ),
+            Opt::SourceRange => Row::of(&[b"--src-range"], 1, true, of(Kind::Iprange), 0),
+            Opt::DestinationRange => Row::of(&[b"--dst-range"], 1, true, of(Kind::Iprange), 1),
+            Opt::Ctstate => Row::of(&[b"--ctstate"], 1, true, of(Kind::Conntrack), 0),
+            Opt::State => Row::of(&[b"--state"], 1, true, of(Kind::State), 0),
+            Opt::Comment => Row::of(&[b"--comment"], 1, false, of(Kind::Comment), 0),
+            Opt::RejectWith => Row::of(
+                &[b"--reject-with"],
+                1,
+                false,
+                Owner::Target(Extended::Reject),
+                0,
+            ),
+            Opt::LogPrefix => Row::of(
+                &[b"--log-prefix"],
+                1,
+                false,
+                Owner::Target(Extended::Log),
+                0,
+            ),
+            Opt::LogLevel => Row::of(&[b"--log-level"], 1, false, Owner::Target(Extended::Log), 1),
+            Opt::LogTcpSequence => Row::of(
+                &[b"--log-tcp-sequence"],
+                0,
+                false,
+                Owner::Target(Extended::Log),
+                2,
+            ),
+            Opt::LogTcpOptions => Row::of(
+                &[b"--log-tcp-options"],
+                0,
+                false,
+                Owner::Target(Extended::Log),
+                3,
+            ),
+            Opt::LogIpOptions => Row::of(
+                &[b"--log-ip-options"],
+                0,
+                false,
+                Owner::Target(Extended::Log),
+                4,
+            ),
+            Opt::LogUid => Row::of(&[b"--log-uid"], 0, false, Owner::Target(Extended::Log), 5),
+        }
+    }
+
+    pub(crate) fn name(self) -> &'static [u8]
+        ensures { result.now ≡ name_of self }
+    {
+        match self.row().names {
+            [] => b"",
+            [name, ..] => name,
+        }
+    }
+
+    fn is_spelled(self, word: &[u8]) -> bool
+        ensures { result ≡ spells word.now self }
+    {
+        is_among(self.row().names, word)
+    }
+
+    // The option that a word spells.
+    #[tactic(auto, unfolding(crate::specs::options::Options::option_of))]
+    pub(crate) fn read(word: &[u8]) -> Option<Opt>
+        ensures { result ≡ option_of word.now }
+    {
+        Opt::ALL
+            .iter()
+            .copied()
+            .find(|option| option.is_spelled(word))
+    }
+}
+
+// Whether a word is one of these.
+fn is_among(names: &[&[u8]], word: &[u8]) -> bool
+    ensures { result ≡ list_any (bytes_eq word.now) (shown_names names.now) }
+{
+    for name in names {
+        if word == *name {
+            return true;
+        }
+    }
+    false
+}
+
+// Belongs to one match.
+fn of(kind: Kind) -> Owner
+    ensures { result ≡ Owner.Match (Kinds.One kind) }
+{
+    Owner::Match(Kinds::One(kind))
+}
+
+impl Kinds {
+    fn has(self, kind: Kind) -> bool
+        ensures { result ≡ is_one_of self kind }
+    {
+        match self {
+            Kinds::One(one) => one.is(kind),
+            Kinds::Either(one, other) => one.is(kind) || other.is(kind),
+        }
+    }
+}
+
+impl Kind {
+    // Whether the match has the option.
+    pub(crate) fn has(self, option: Opt) -> bool
+        ensures { result ≡ kind_has self option }
+    {
+        match option.row().owner {
+            Owner::Match(kinds) => kinds.has(self),
+            _ => false,
+        }
+    }
+}

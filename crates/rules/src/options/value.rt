@@ -1,0 +1,188 @@
+// The values of options.
+ghost use Rattle.std.specs.Prelude.{◌≡◌, ◌≤◌, Option, Some, None, List, length};
+ghost use Rattle.rules.specs.Sequence.{Gives, or_refused};
+ghost use Rattle.rules.specs.options.Options.{first_of};
+ghost use Rattle.rules.specs.options.Settings.{option_of_value, is_trivial, value_of, second_of, with_opposite};
+ghost use Rattle.fields.specs.steps.Cutting.{view_words};
+ghost use Rattle.fields.specs.values.Protocol.{protocol_of};
+
+use crate::options::comment::Comment;
+use crate::reading::fault::{Refusal, RuleFault};
+use crate::options::option::Opt;
+use fields::{
+    CtSet, FlagTest, IcmpType, IfPattern, IpRange, LogLevel, PortList, PortRange, Prefix, Protocol,
+    RejectType, Text,
+};
+use std::alloc::Global;
+
+/// A value, of the option that it is named after.
+#[derive(Drop)]
+pub(crate) enum Value {
+    Source(Prefix),
+    Destination(Prefix),
+    InInterface(IfPattern),
+    OutInterface(IfPattern),
+    Protocol(Protocol),
+    Fragment,
+    SourcePort(PortRange),
+    DestinationPort(PortRange),
+    TcpFlags(FlagTest),
+    IcmpType(IcmpType),
+    SourcePorts(PortList),
+    DestinationPorts(PortList),
+    SourceRange(IpRange),
+    DestinationRange(IpRange),
+    Ctstate(CtSet),
+    State(CtSet),
+    Comment(Comment),
+    RejectWith(RejectType),
+    LogPrefix(Text<29>),
+    LogLevel(LogLevel),
+    LogTcpSequence,
+    LogTcpOptions,
+    LogIpOptions,
+    LogUid,
+}
+
+impl Value {
+    pub(crate) fn option(&self) -> Opt
+        ensures { result ≡ option_of_value self.now }
+    {
+        match self {
+            Value::Source(_) => Opt::Source,
+            Value::Destination(_) => Opt::Destination,
+            Value::InInterface(_) => Opt::InInterface,
+            Value::OutInterface(_) => Opt::OutInterface,
+            Value::Protocol(_) => Opt::Protocol,
+            Value::Fragment => Opt::Fragment,
+            Value::SourcePort(_) => Opt::SourcePort,
+            Value::DestinationPort(_) => Opt::DestinationPort,
+            Value::TcpFlags(_) => Opt::TcpFlags,
+            Value::IcmpType(_) => Opt::IcmpType,
+            Value::SourcePorts(_) => Opt::SourcePorts,
+            Value::DestinationPorts(_) => Opt::DestinationPorts,
+            Value::SourceRange(_) => Opt::SourceRange,
+            Value::DestinationRange(_) => Opt::DestinationRange,
+            Value::Ctstate(_) => Opt::Ctstate,
+            Value::State(_) => Opt::State,
+            Value::Comment(_) => Opt::Comment,
+            Value::RejectWith(_) => Opt::RejectWith,
+            Value::LogPrefix(_) => Opt::LogPrefix,
+            Value::LogLevel(_) => Opt::LogLevel,
+            Value::LogTcpSequence => Opt::LogTcpSequence,
+            Value::LogTcpOptions => Opt::LogTcpOptions,
+            Value::LogIpOptions => Opt::LogIpOptions,
+            Value::LogUid => Opt::LogUid,
+        }
+    }
+
+    // Whether it stands for no condition, where it isn't inverted.
+    pub(crate) fn is_trivial(&self) -> bool
+        ensures { result ≡ is_trivial self.now }
+    {
+        match self {
+            Value::Source(prefix) | Value::Destination(prefix) => prefix.length() == 0,
+            Value::InInterface(pattern) | Value::OutInterface(pattern) => {
+                pattern.bytes() == b"+".as_slice()
+            }
+            Value::Protocol(protocol) => protocol.number() == 0,
+            Value::SourcePort(ports) | Value::DestinationPort(ports) => {
+                ports.first() == 0 && ports.last() == 65535
+            }
+            Value::TcpFlags(test) => test.asks_nothing(),
+            Value::LogPrefix(text) => text.bytes().is_empty(),
+            Value::LogLevel(level) => level.number() == 4,
+            _ => false,
+        }
+    }
+}
+
+pub(crate) fn bad<T>(value: Option<T>) -> Result<T, RuleFault>
+    ensures { Gives (λ x. x) result (or_refused Refusal.BadValue value) }
+{
+    match value {
+        Some(value) => Ok(value),
+        None => Err(RuleFault::Refused(Refusal::BadValue)),
+    }
+}
+
+fn too_long<T>(value: Option<T>) -> Result<T, RuleFault>
+    ensures { Gives (λ x. x) result (or_refused Refusal.TextTooLong value) }
+{
+    match value {
+        Some(value) => Ok(value),
+        None => Err(RuleFault::Refused(Refusal::TextTooLong)),
+    }
+}
+
+// The protocol; all protocols have no opposite.
+fn protocol(inverted: bool, text: &[u8]) -> Option<Protocol>
+    ensures { result ≡ with_opposite inverted (protocol_of text.now) }
+{
+    let protocol = Protocol::read(text)?;
+    if inverted && protocol.number() == 0 {
+        return None;
+    }
+    Some(protocol)
+}
+
+// The first word, if there is one.
+pub(crate) fn first_of(words: &[Vec<u8>]) -> &[u8]
+    ensures { result.now ≡ first_of (view_words words.now) }
+{
+    match words {
+        [] => b"",
+        [first, ..] => first.as_slice(),
+    }
+}
+
+// The second word, if there is one.
+fn second_of(words: &[Vec<u8>]) -> &[u8]
+    ensures { result.now ≡ second_of (view_words words.now) }
+{
+    match words {
+        [] => b"",
+        [_, rest @ ..] => first_of(rest),
+    }
+}
+
+// The value that the words behind an option give it.
+#[tactic(auto, unfolding(crate::specs::options::Settings::value_of))]
+pub(crate) fn value_of(
+    alloc: Global,
+    option: Opt,
+    inverted: bool,
+    words: &[Vec<u8>],
+) -> Result<Value, RuleFault>
+    ensures { Gives (λ x. x) result (value_of option inverted (view_words words.now)) }
+{
+    let text = first_of(words);
+    match option {
+        Opt::Source => Ok(Value::Source(bad(Prefix::read(text))?)),
+        Opt::Destination => Ok(Value::Destination(bad(Prefix::read(text))?)),
+        Opt::InInterface => Ok(Value::InInterface(bad(IfPattern::read(text))?)),
+        Opt::OutInterface => Ok(Value::OutInterface(bad(IfPattern::read(text))?)),
+        Opt::Protocol => Ok(Value::Protocol(bad(protocol(inverted, text))?)),
+        Opt::Fragment => Ok(Value::Fragment),
+        Opt::SourcePort => Ok(Value::SourcePort(bad(PortRange::read(text))?)),
+        Opt::DestinationPort => Ok(Value::DestinationPort(bad(PortRange::read(text))?)),
+        Opt::TcpFlags => Ok(Value::TcpFlags(bad(FlagTest::read(text, second_of(words)))?)),
+        Opt::Syn => Ok(Value::TcpFlags(FlagTest::syn())),
+        Opt::IcmpType => Ok(Value::IcmpType(bad(IcmpType::read(text))?)),
+        Opt::SourcePorts => Ok(Value::SourcePorts(bad(PortList::read(text))?)),
+        Opt::DestinationPorts => Ok(Value::DestinationPorts(bad(PortList::read(text))?)),
+        Opt::SourceRange => Ok(Value::SourceRange(bad(IpRange::read(text))?)),
+        Opt::DestinationRange => Ok(Value::DestinationRange(bad(IpRange::read(text))?)),
+        Opt::Ctstate => Ok(Value::Ctstate(bad(CtSet::read(text))?)),
+        Opt::State => Ok(Value::State(bad(CtSet::read_state(text))?)),
+        Opt::Comment => Ok(Value::Comment(Comment::read(alloc, text)?)),
+        Opt::RejectWith => Ok(Value::RejectWith(bad(RejectType::read(text))?)),
+        Opt::LogPrefix => Ok(Value::LogPrefix(too_long(Text::read(text))?)),
+        Opt::LogLevel => Ok(Value::LogLevel(bad(LogLevel::read(text))?)),
+        Opt::LogTcpSequence => Ok(Value::LogTcpSequence),
+        Opt::LogTcpOptions => Ok(Value::LogTcpOptions),
+        Opt::LogIpOptions => Ok(Value::LogIpOptions),
+        Opt::LogUid => Ok(Value::LogUid),
+        Opt::Match | Opt::Jump | Opt::Goto => Err(RuleFault::Refused(Refusal::BadValue)),
+    }
+}

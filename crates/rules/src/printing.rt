@@ -1,0 +1,182 @@
+//! How a rule is written.
+ghost use Rattle.std.specs.Prelude.{◌≡◌, ◌∷◌, [], ◌++◌, false, nat_lt, flat_map};
+ghost use Rattle.fields.specs.text.Printed.{spaced, bare, spaced_all};
+ghost use Rattle.fields.specs.text.Tap.{has_failed, Puts};
+ghost use Rattle.rules.specs.options.Options.{name_of};
+ghost use Rattle.rules.specs.options.Settings.{option_of_value};
+ghost use Rattle.rules.specs.printing.Printing.{shown_value, shown_bang, shown_setting, shown_action, rule_text};
+ghost use Rattle.rules.specs.printing.RoundTrip.{TextReadsBack, IsOnlyOne, HasShortLine};
+ghost use Rattle.rules.specs.steps.Writing.{has_words, value_text, setting_text, start_text, match_text, action_text};
+ghost use Rattle.rules.specs.steps.Views.{view_match, view_draft};
+
+
+use crate::rule::action::Action;
+use crate::rule::content::{Draft, Match};
+use crate::options::match_kind::Kind;
+use crate::rule::Rule;
+use crate::options::setting::Setting;
+use crate::options::value::Value;
+use fields::{Tap, WriteFailed};
+use std::io::Write;
+
+// Writes the words of a value, if it has any, without the first blank.
+fn put_words<W: Write>(output: &mut Tap<W>, value: &Value) -> Result<(), WriteFailed>
+    requires { has_failed output.old ≡ false }
+    ensures { Puts W.contents output.old output.new result (value_text value.now) }
+{
+    match value {
+        Value::Source(prefix) | Value::Destination(prefix) => prefix.put(output),
+        Value::InInterface(pattern) | Value::OutInterface(pattern) => pattern.put(output),
+        Value::Protocol(protocol) => protocol.put(output),
+        Value::SourcePort(ports) | Value::DestinationPort(ports) => ports.put(output),
+        Value::TcpFlags(test) => test.put(output),
+        Value::IcmpType(icmp) => icmp.put(output),
+        Value::SourcePorts(list) | Value::DestinationPorts(list) => list.put(output),
+        Value::SourceRange(range) | Value::DestinationRange(range) => range.put(output),
+        Value::Ctstate(states) | Value::State(states) => states.put(output),
+        Value::Comment(comment) => comment.put(output),
+        Value::RejectWith(answer) => answer.put(output),
+        Value::LogPrefix(text) => text.put(output),
+        Value::LogLevel(level) => level.put(output),
+        Value::Fragment
+        | Value::LogTcpSequence
+        | Value::LogTcpOptions
+        | Value::LogIpOptions
+        | Value::LogUid => Ok(()),
+    }
+}
+
+fn has_words(value: &Value) -> bool
+    ensures { result ≡ has_words value.now }
+{
+    value.option().row().values > 0
+}
+
+fn put_value<W: Write>(output: &mut Tap<W>, value: &Value) -> Result<(), WriteFailed>
+    requires { has_failed output.old ≡ false }
+    ensures { Puts W.contents output.old output.new result (spaced_all (shown_value value.now)) }
+{
+    if has_words(value) {
+        output.put(b" ")?;
+        return put_words(output, value);
+    }
+    Ok(())
+}
+
+// Writes a word behind a blank.
+fn put_bare<W: Write>(output: &mut Tap<W>, word: &[u8]) -> Result<(), WriteFailed>
+    requires { has_failed output.old ≡ false }
+    ensures { Puts W.contents output.old output.new result (spaced (bare word.now)) }
+{
+    output.put_all(&[b" ", word])
+}
+
+fn put_bang<W: Write>(output: &mut Tap<W>, inverted: bool) -> Result<(), WriteFailed>
+    requires { has_failed output.old ≡ false }
+    ensures { Puts W.contents output.old output.new result (spaced_all (shown_bang inverted)) }
+{
+    if inverted {
+        return put_bare(output, b"!");
+    }
+    Ok(())
+}
+
+fn put_name<W: Write>(output: &mut Tap<W>, value: &Value) -> Result<(), WriteFailed>
+    requires { has_failed output.old ≡ false }
+    ensures { Puts W.contents output.old output.new result (spaced (bare (name_of (option_of_value value.now)))) }
+{
+    put_bare(output, value.option().name())
+}
+
+fn put_setting<W: Write>(output: &mut Tap<W>, setting: &Setting) -> Result<(), WriteFailed>
+    requires { has_failed output.old ≡ false }
+    ensures { Puts W.contents output.old output.new result (setting_text setting.now) }
+{
+    put_bang(output, setting.inverted)?;
+    put_name(output, &setting.value)?;
+    put_value(output, &setting.value)
+}
+
+fn put_settings<W: Write>(output: &mut Tap<W>, settings: &[Setting]) -> Result<(), WriteFailed>
+    requires { has_failed output.old ≡ false }
+    ensures { Puts W.contents output.old output.new result (flat_map setting_text settings.now) }
+{
+    for setting in settings {
+        put_setting(output, setting)?;
+    }
+    Ok(())
+}
+
+fn put_named<W: Write>(output: &mut Tap<W>, option: &[u8], name: &[u8]) -> Result<(), WriteFailed>
+    requires { has_failed output.old ≡ false }
+    ensures { Puts W.contents output.old output.new result (spaced (bare option.now) ++ spaced (bare name.now)) }
+{
+    output.put_all(&[b" ", option, b" ", name])
+}
+
+#[tactic(auto, unfolding(crate::specs::steps::Writing::start_text))]
+fn put_start<W: Write>(output: &mut Tap<W>, kind: Kind) -> Result<(), WriteFailed>
+    requires { has_failed output.old ≡ false }
+    ensures { Puts W.contents output.old output.new result (start_text kind) }
+{
+    put_named(output, b"-m", kind.row().name)
+}
+
+fn put_match<W: Write>(output: &mut Tap<W>, one: &Match) -> Result<(), WriteFailed>
+    requires { has_failed output.old ≡ false }
+    ensures { Puts W.contents output.old output.new result (match_text (view_match one.now)) }
+{
+    put_start(output, one.kind)?;
+    put_settings(output, one.settings.as_slice())
+}
+
+fn put_matches<W: Write>(output: &mut Tap<W>, matches: &[Match]) -> Result<(), WriteFailed>
+    requires { has_failed output.old ≡ false }
+    ensures { Puts W.contents output.old output.new result (flat_map (λ m. match_text (view_match m)) matches.now) }
+{
+    for one in matches {
+        put_match(output, one)?;
+    }
+    Ok(())
+}
+
+fn put_action<W: Write>(output: &mut Tap<W>, action: &Option<Action>) -> Result<(), WriteFailed>
+    requires { has_failed output.old ≡ false }
+    ensures { Puts W.contents output.old output.new result (action_text action.now) }
+{
+    match action {
+        None => Ok(()),
+        Some(Action::Accept) => put_named(output, b"-j", b"ACCEPT"),
+        Some(Action::Drop) => put_named(output, b"-j", b"DROP"),
+        Some(Action::Return) => put_named(output, b"-j", b"RETURN"),
+        Some(Action::Reject) => put_named(output, b"-j", b"REJECT"),
+        Some(Action::Log) => put_named(output, b"-j", b"LOG"),
+        Some(Action::Jump(name)) => put_named(output, b"-j", name.bytes()),
+        Some(Action::Goto(name)) => put_named(output, b"-g", name.bytes()),
+    }
+}
+
+fn put_draft<W: Write>(output: &mut Tap<W>, draft: &Draft) -> Result<(), WriteFailed>
+    requires { has_failed output.old ≡ false }
+    ensures { Puts W.contents output.old output.new result (rule_text (view_draft draft.now)) }
+{
+    put_settings(output, draft.settings.as_slice())?;
+    put_matches(output, draft.matches.as_slice())?;
+    put_action(output, &draft.action)?;
+    put_settings(output, draft.extras.as_slice())
+}
+
+/// Writes the text of a rule, each of its words after one blank: what stands behind `-A chain` in a listing
+/// (iptables-save(8)). It takes no memory.
+///
+/// The text's words are read as this rule, and no other rule has the text.
+#[tactic(auto, using(crate::proofs::laws::printing::RoundTripLaws::text_reads_back, crate::proofs::laws::printing::RoundTripLaws::is_only_one, crate::proofs::laws::printing::RoundTripLaws::line_is_short))]
+pub fn write_rule<W: Write>(rule: &Rule, output: &mut Tap<W>) -> Result<(), WriteFailed>
+    requires { has_failed output.old ≡ false }
+    ensures puts { Puts W.contents output.old output.new result (rule_text rule.now) }
+    ensures reads_back { TextReadsBack rule.now }
+    ensures only { IsOnlyOne rule.now }
+    ensures short { HasShortLine rule.now }
+{
+    put_draft(output, rule.draft())
+}

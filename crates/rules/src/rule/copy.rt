@@ -1,0 +1,108 @@
+// Copies of a rule's parts.
+ghost use Rattle.std.specs.Prelude.{◌≡◌, Option, Some, None, IfOk};
+ghost use Rattle.rules.specs.steps.Views.{view_match, view_matches, view_draft};
+
+use crate::rule::action::Action;
+use crate::rule::content::{Draft, Match};
+use crate::options::setting::Setting;
+use crate::options::value::Value;
+use std::alloc::{AllocError, Global};
+
+fn copy_value(alloc: Global, value: &Value) -> Result<Value, AllocError>
+    ensures { IfOk result (λ copy. copy ≡ value.now) }
+{
+    match value {
+        Value::Source(x) => Ok(Value::Source(*x)),
+        Value::Destination(x) => Ok(Value::Destination(*x)),
+        Value::InInterface(x) => Ok(Value::InInterface(x.copy())),
+        Value::OutInterface(x) => Ok(Value::OutInterface(x.copy())),
+        Value::Protocol(x) => Ok(Value::Protocol(*x)),
+        Value::Fragment => Ok(Value::Fragment),
+        Value::SourcePort(x) => Ok(Value::SourcePort(*x)),
+        Value::DestinationPort(x) => Ok(Value::DestinationPort(*x)),
+        Value::TcpFlags(x) => Ok(Value::TcpFlags(*x)),
+        Value::IcmpType(x) => Ok(Value::IcmpType(*x)),
+        Value::SourcePorts(x) => Ok(Value::SourcePorts(x.copy())),
+        Value::DestinationPorts(x) => Ok(Value::DestinationPorts(x.copy())),
+        Value::SourceRange(x) => Ok(Value::SourceRange(*x)),
+        Value::DestinationRange(x) => Ok(Value::DestinationRange(*x)),
+        Value::Ctstate(x) => Ok(Value::Ctstate(*x)),
+        Value::State(x) => Ok(Value::State(*x)),
+        Value::Comment(comment) => Ok(Value::Comment(comment.copy(alloc)?)),
+        Value::RejectWith(x) => Ok(Value::RejectWith(*x)),
+        Value::LogPrefix(x) => Ok(Value::LogPrefix(x.copy())),
+        Value::LogLevel(x) => Ok(Value::LogLevel(*x)),
+        Value::LogTcpSequence => Ok(Value::LogTcpSequence),
+        Value::LogTcpOptions => Ok(Value::LogTcpOptions),
+        Value::LogIpOptions => Ok(Value::LogIpOptions),
+        Value::LogUid => Ok(Value::LogUid),
+    }
+}
+
+fn copy_setting(alloc: Global, setting: &Setting) -> Result<Setting, AllocError>
+    ensures { IfOk result (λ copy. copy ≡ setting.now) }
+{
+    let inverted = setting.inverted;
+    let value = copy_value(alloc, &setting.value)?;
+    Ok(Setting { inverted, value })
+}
+
+fn copy_settings(alloc: Global, settings: &[Setting]) -> Result<Vec<Setting>, AllocError>
+    ensures { IfOk result (λ copy. copy.items ≡ settings.now) }
+{
+    let mut copies = Vec::new(alloc);
+    for setting in settings {
+        let copy = copy_setting(alloc, setting)?;
+        copies.push(copy)?;
+    }
+    Ok(copies)
+}
+
+fn copy_match(alloc: Global, one: &Match) -> Result<Match, AllocError>
+    ensures { IfOk result (λ copy. view_match copy ≡ view_match one.now) }
+{
+    let kind = one.kind;
+    let settings = copy_settings(alloc, one.settings.as_slice())?;
+    Ok(Match { kind, settings })
+}
+
+fn copy_matches(alloc: Global, matches: &[Match]) -> Result<Vec<Match>, AllocError>
+    ensures { IfOk result (λ copy. view_matches copy.items ≡ view_matches matches.now) }
+{
+    let mut copies = Vec::new(alloc);
+    for one in matches {
+        let copy = copy_match(alloc, one)?;
+        copies.push(copy)?;
+    }
+    Ok(copies)
+}
+
+fn copy_action(action: &Option<Action>) -> Option<Action>
+    ensures { result ≡ action.now }
+{
+    match action {
+        None => None,
+        Some(Action::Accept) => Some(Action::Accept),
+        Some(Action::Drop) => Some(Action::Drop),
+        Some(Action::Return) => Some(Action::Return),
+        Some(Action::Reject) => Some(Action::Reject),
+        Some(Action::Log) => Some(Action::Log),
+        Some(Action::Jump(name)) => Some(Action::Jump(name.copy())),
+        Some(Action::Goto(name)) => Some(Action::Goto(name.copy())),
+    }
+}
+
+pub(crate) fn copy_draft(alloc: Global, draft: &Draft) -> Result<Draft, AllocError>
+    ensures { IfOk result (λ copy. view_draft copy ≡ view_draft draft.now) }
+{
+    let settings = copy_settings(alloc, draft.settings.as_slice())?;
+    let matches = copy_matches(alloc, draft.matches.as_slice())?;
+    let action = copy_action(&draft.action);
+    let extras = copy_settings(alloc, draft.extras.as_slice())?;
+    Ok(Draft {
+        settings,
+        matches,
+        action,
+        extras,
+    })
+}
