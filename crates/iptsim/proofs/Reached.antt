@@ -6,7 +6,8 @@ use Rattle.std.specs.Io.KnownBytes.{Consumes, Appends}
 use Rattle.std.proofs.KnownBytes.{Consumes-trans, Consumes-nil, Appends-trans}
 use Rattle.fields.specs.declared.text.tap.Tap.{Tap}
 use Rattle.fields.specs.text.Tap.{known, Wrote, Stopped, IsBeginning}
-use Rattle.fields.specs.text.Line.{IsOneLine, EndsAt, lines_of, ended_lines}
+use Rattle.fields.specs.text.OneLine.{IsOneLine}
+use Rattle.fields.specs.text.Line.{EndsAt, lines_of, ended_lines}
 use Rattle.fields.proofs.laws.text.LineLaws.{lines_of-ended, lines_of-last, ended_lines-ended, ended_lines-part}
 use Rattle.fields.proofs.laws.text.PutLaws.{wrote-then, wrote-nothing}
 use Rattle.iptsim.specs.Table.{Filter}

@@ -1,47 +1,19 @@
 -- Lines of bytes, and what a call takes of them.
-use Rattle.std.specs.Prelude.{◌≡◌, ◌≢◌, ℕ, ◌+◌, ◌<◌, ◌≤◌, ◌==◌, Bool, List, [], ◌∷◌, ◌++◌, length, All, Result, Ok, Err, Option, OnSome, if◌then◌else◌}
+use Rattle.std.specs.Prelude.{◌≡◌, ℕ, ◌+◌, ◌<◌, ◌≤◌, ◌==◌, Bool, List, [], ◌∷◌, ◌++◌, length, Result, Ok, Err, Option, OnSome, if◌then◌else◌}
 use Rattle.std.specs.Bool.{MatchBool}
 use Rattle.std.specs.Io.KnownBytes.{Consumes, IsAtEnd}
+use Rattle.fields.specs.text.OneLine.{IsOneLine}
 use Rattle.fields.specs.declared.text.line.LineEnd.{LineEnd}
 use Rattle.fields.specs.declared.text.line.LineEnd.TheVariants as ends
 use Rattle.fields.specs.declared.text.line.LineRead.{LineRead}
-use Rattle.fields.specs.declared.text.line.Part.{Part}
-use Rattle.fields.specs.declared.text.line.Part.TheVariants as parts
-
--- no byte is a newline
-abbrev pub IsOneLine : List ℕ → Type 0
-IsOneLine text = All (λ b. b ≢ 10) text
 
 -- a text of at most max bytes is held, and of a longer one it is known that it is longer
 abbrev pub IsHeld : ℕ → List ℕ → List ℕ → Bool → Type 0
 IsHeld max text items too_long = MatchBool too_long (max < length text) (items ≡ text)
 
--- what held a text holds it with the part at its end
-abbrev pub HoldsMore : ℕ → List ℕ → List ℕ → Bool → List ℕ → Bool → Type 0
-HoldsMore max part items too_long items' too_long' =
-    (text : List ℕ) → IsHeld max text items too_long → IsHeld max (text ++ part) items' too_long'
-
 -- known bytes came to their end
 abbrev pub EndsAt : Option (List ℕ) → Option (List ℕ) → Type 0
 EndsAt old new = OnSome old (IsAtEnd new)
-
--- how many known bytes a step took: a part of a line, and its newline
-abbrev pub TakenBy : {E : Type 0} → Option (List ℕ) → Option (List ℕ) → Result Part E → List ℕ → Type 0
-TakenBy old new (Ok parts.More) part = (0 < length part) × Consumes old new part
-TakenBy old new (Ok parts.Newline) part = Consumes old new (part ++ 10 ∷ [])
-TakenBy old new (Ok parts.End) part = (part ≡ []) × Consumes old new [] × EndsAt old new
-TakenBy old new (Err e) part = (part ≡ []) × Consumes old new []
-
--- a step took a part of a line, and holds it too
-abbrev pub TakesPart : {E : Type 0} → Option (List ℕ) → Option (List ℕ) → Result Part E → ℕ → List ℕ → Bool → List ℕ → Bool → Type 0
-TakesPart old new r max items too_long items' too_long' =
-    (part : List ℕ) × IsOneLine part × HoldsMore max part items too_long items' too_long' × TakenBy old new r part
-
--- the text is the last one, or there was none
-abbrev pub IsLast : List ℕ → LineEnd → Type 0
-IsLast text ends.Newline = ⊥
-IsLast text ends.Input = 0 < length text
-IsLast text ends.Nothing = text ≡ []
 
 -- the known bytes that a line took
 abbrev pub TakesLine : Option (List ℕ) → Option (List ℕ) → LineEnd → List ℕ → Type 0
@@ -58,20 +30,22 @@ LineOf old new turns left max items (Err e) text = Consumes old new text
 abbrev pub ReadsLine : {E : Type 0} → Option (List ℕ) → Option (List ℕ) → ℕ → ℕ → ℕ → List ℕ → Result LineRead E → Type 0
 ReadsLine old new turns left max items r = (text : List ℕ) × IsOneLine text × LineOf old new turns left max items r text
 
--- The lines of some bytes. A newline ends a line, and the last may lack it.
+-- a byte before those of the first line
 abbrev pub onto_first : ℕ → List (List ℕ) → List (List ℕ)
 onto_first b [] = (b ∷ []) ∷ []
 onto_first b (l ∷ ls) = (b ∷ l) ∷ ls
 
+-- the lines of some bytes: a newline (10) ends a line, and the last may lack it
 abbrev pub lines_of : List ℕ → List (List ℕ)
 lines_of [] = []
 lines_of (b ∷ bs) = if b == 10 then [] ∷ lines_of bs else onto_first b (lines_of bs)
 
--- The lines that a newline ends.
+-- the same, where there is a line
 abbrev pub onto_ended : ℕ → List (List ℕ) → List (List ℕ)
 onto_ended b [] = []
 onto_ended b (l ∷ ls) = (b ∷ l) ∷ ls
 
+-- the lines that a newline ends
 abbrev pub ended_lines : List ℕ → List (List ℕ)
 ended_lines [] = []
 ended_lines (b ∷ bs) = if b == 10 then [] ∷ ended_lines bs else onto_ended b (ended_lines bs)

@@ -1,6 +1,5 @@
 -- What a clause reads of a `Tap`, and what its calls do.
-use Rattle.std.specs.Prelude.{◌≡◌, ℕ, Bool, true, false, List, ◌++◌, Result, MatchResult}
-use Rattle.std.specs.Prelude.{Option}
+use Rattle.std.specs.Prelude.{◌≡◌, ℕ, Bool, true, false, List, ◌++◌, Option, Result, MatchResult}
 use Rattle.std.specs.Io.KnownBytes.{Appends}
 use Rattle.fields.specs.declared.text.tap.Tap.{Tap}
 
@@ -16,7 +15,7 @@ device t = t.device
 abbrev pub known : {T X : Type 0} → (T → Option X) → Tap T → Option X
 known bytes t = bytes t.device
 
--- how often the tap may still be filled
+-- how many steps of reading are left
 abbrev pub turns_left : {T : Type 0} → Tap T → ℕ
 turns_left t = t.turns
 
@@ -24,18 +23,20 @@ turns_left t = t.turns
 abbrev pub IsBeginning : List ℕ → List ℕ → Type 0
 IsBeginning part whole = (rest : List ℕ) × (whole ≡ part ++ rest)
 
--- the writer got bs, and has not failed
+-- the writer got bs, and has failed neither before nor now
 pub record Wrote {T : Type 0} (contents : T → Option (List ℕ)) (old new : Tap T) (bs : List ℕ) : Type 0 where
+  pub ready : has_failed old ≡ false
   pub fresh : has_failed new ≡ false
   pub appends : Appends (known contents old) (known contents new) bs
 
--- the writer failed, and got a beginning of bs
+-- the writer has failed, and got a beginning of bs: nothing, where it had failed before
 pub record Stopped {T : Type 0} (contents : T → Option (List ℕ)) (old new : Tap T) (bs : List ℕ) : Type 0 where
   pub failed : has_failed new ≡ true
+  pub unmoved : has_failed old ≡ true → new ≡ old
   pub part : List ℕ
   pub begins : IsBeginning part bs
   pub appends : Appends (known contents old) (known contents new) part
 
--- bs was written, or a beginning of it where the writer failed
+-- bs was written, or the writer has failed and a beginning of bs was written; a writer that had failed before got nothing
 abbrev pub Puts : {T X E : Type 0} → (T → Option (List ℕ)) → Tap T → Tap T → Result X E → List ℕ → Type 0
 Puts contents old new r bs = MatchResult r (λ _. Wrote contents old new bs) (λ _. Stopped contents old new bs)

@@ -1,9 +1,9 @@
-// One line from a reader.
+//! Lines from a reader.
 ghost use Rattle.std.specs.Prelude.{◌≡◌, ◌≢◌, ◌<◌, ◌≤◌, ℕ, List, [], ◌∷◌, ◌++◌, true, false, length, take, drop, All, IfOk, OnOk, IsTrue, is_err, slice_index, vec_len, vec_capacity};
 ghost use Rattle.std.specs.Io.KnownBytes.{Consumes, Keeps, IsAtEnd};
-ghost use Rattle.fields.specs.text.Tap.{has_failed, known, turns_left};
-ghost use Rattle.fields.specs.text.Tap.{device};
-ghost use Rattle.fields.specs.text.Line.{IsHeld, TakesPart, HoldsMore, IsLast, ReadsLine};
+ghost use Rattle.fields.specs.text.Tap.{has_failed, device, known, turns_left};
+ghost use Rattle.fields.specs.text.Line.{IsHeld, ReadsLine};
+ghost use Rattle.fields.specs.steps.LineSteps.{TakesPart, HoldsMore, IsLast};
 
 use crate::text::tap::{ReadFailed, Tap};
 use std::io::BufRead;
@@ -19,15 +19,17 @@ pub enum LineEnd {
     Nothing,
 }
 
-/// What was read.
+/// What was read of a line.
 #[derive(Clone, Copy, Debug, PartialEq, Eq)]
 pub struct LineRead {
+    /// How the line ended.
     pub end: LineEnd,
+    /// Whether the line has more bytes than were asked for at most.
     pub too_long: bool,
 }
 
-// What a step met.
-pub(crate) enum Part {
+// What a step of reading met: more of the line, its newline, or the end of the input.
+enum LineStep {
     More,
     Newline,
     End,
@@ -66,12 +68,12 @@ fn hold(part: &[u8], max: usize, line: &mut Vec<u8>, too_long: &mut bool)
 }
 
 // Takes what the reader shows, up to and including the first newline.
-pub(crate) fn take_part<R: BufRead>(
+fn take_part<R: BufRead>(
     tap: &mut Tap<R>,
     max: usize,
     line: &mut Vec<u8>,
     too_long: &mut bool,
-) -> Result<Part, ReadFailed>
+) -> Result<LineStep, ReadFailed>
     requires room { max ≤ vec_capacity line.old }
     requires within { vec_len line.old ≤ max }
     requires fresh { has_failed tap.old ≡ false }
@@ -87,20 +89,20 @@ pub(crate) fn take_part<R: BufRead>(
         Err(failed) => return Err(failed),
     };
     if shown.is_empty() {
-        return Ok(Part::End);
+        return Ok(LineStep::End);
     }
     let n = newline_at(shown);
     hold(&shown[..n], max, line, too_long);
     if n < shown.len() {
         tap.eat(n + 1);
-        return Ok(Part::Newline);
+        return Ok(LineStep::Newline);
     }
     tap.eat(n);
-    Ok(Part::More)
+    Ok(LineStep::More)
 }
 
 // The line at the end of the input.
-pub(crate) fn last_line(line: &Vec<u8>, too_long: bool) -> LineRead
+fn last_line(line: &Vec<u8>, too_long: bool) -> LineRead
     ensures { (text : List ℕ) → (max : ℕ) → IsHeld max text line.now.items too_long → IsLast text result.end × (result.too_long ≡ too_long) }
 {
     let end = if too_long || !line.is_empty() {
@@ -112,8 +114,13 @@ pub(crate) fn last_line(line: &Vec<u8>, too_long: bool) -> LineRead
 }
 
 impl<R: BufRead> Tap<R> {
-    /// Reads the next line into `line`, which has room for `max` bytes. Of a longer one it says so,
-    /// and what it left in `line` isn't the line.
+    /// Reads the next line into `line`, which has room for `max` bytes. The newline is none of them. A longer line is read to
+    /// its end too, and `too_long` says so: what stands in `line` then isn't the line.
+    ///
+    /// # Errors
+    ///
+    /// `ReadFailed` where the tap has failed before, where a call of the device fails, and where the tap's steps of reading
+    /// are used up. A line takes at most as many steps as it has bytes, and one more.
     pub fn read_line(&mut self, max: usize, line: &mut Vec<u8>) -> Result<LineRead, ReadFailed>
         requires room { max ≤ vec_capacity line.old }
         ensures reads { ReadsLine (known R.remaining self.old) (known R.remaining self.new)
@@ -125,25 +132,20 @@ impl<R: BufRead> Tap<R> {
         ensures capacity { vec_capacity line.old ≤ vec_capacity line.new }
     {
         line.clear();
-        if self.failed {
-            return Err(ReadFailed);
-        }
         let mut too_long = false;
-        while !self.failed && self.turns > 0 {
-            self.turns -= 1;
+        loop {
+            self.step()?;
             match take_part(self, max, line, &mut too_long) {
-                Ok(Part::More) => {}
-                Ok(Part::Newline) => {
+                Ok(LineStep::More) => {}
+                Ok(LineStep::Newline) => {
                     return Ok(LineRead {
                         end: LineEnd::Newline,
                         too_long,
                     });
                 }
-                Ok(Part::End) => return Ok(last_line(line, too_long)),
+                Ok(LineStep::End) => return Ok(last_line(line, too_long)),
                 Err(failed) => return Err(failed),
             }
         }
-        self.failed = true;
-        Err(ReadFailed)
     }
 }

@@ -1,5 +1,5 @@
-// A device, and whether a call of it has failed.
-ghost use Rattle.std.specs.Prelude.{◌≡◌, [], IfSome, ◌<◌, ◌≤◌, true, false, length, IfOk, OnOk, OnErr, IsErr, is_err, flat_map};
+//! Taps: a reader or a writer, and whether a call of it has failed.
+ghost use Rattle.std.specs.Prelude.{◌≡◌, [], IfSome, ◌+◌, ◌-◌, ◌^◌, ◌<◌, ◌≤◌, true, false, length, IfOk, OnOk, IsOk, IsErr, is_err, flat_map};
 ghost use Rattle.fields.specs.text.Tap.{has_failed, device, known, turns_left, Puts};
 ghost use Rattle.fields.specs.contracts.text.tap.Tap.{the_row};
 ghost use Rattle.std.specs.Borrow.{sem};
@@ -19,21 +19,23 @@ pub struct ReadFailed;
 #[error("a write failed")]
 pub struct WriteFailed;
 
-/// A reader or a writer, and whether a call of it has failed. Once one has, no further call reaches the device.
+/// A reader or a writer, and whether it has failed. Once it has, no further call reaches the device.
 ///
-/// It also counts the steps of reading that are left, of 2 to the 64 less 1, so that every loop over a device that
-/// never ends has an end: a tap without a step left counts as failed.
+/// A tap fails where a call of its device fails, where a write takes no byte, and where its steps of reading are used
+/// up, and nowhere else. It has 2 to the 64 less 1 steps, so that every loop over a device that never ends has an end.
 #[derive(Drop)]
 pub struct Tap<T> {
     device: T,
-    pub(crate) failed: bool,
-    pub(crate) turns: u64,
+    failed: bool,
+    turns: u64,
 }
 
 impl<T> Tap<T> {
+    /// A tap over a device, which has not failed and has all its steps of reading.
     pub fn new(inner: T) -> Tap<T>
         ensures fresh { has_failed result ≡ false }
         ensures inner { device result ≡ inner }
+        ensures turns { turns_left result ≡ 2 ^ 64 - 1 }
     {
         Tap {
             device: inner,
@@ -54,16 +56,46 @@ impl<T> Tap<T> {
         device
     }
 
-    /// Whether a call of the device has failed.
+    /// Whether the tap has failed: a call of the device failed, a write took no byte, or the steps of reading are used up.
     pub fn failed(&self) -> bool
         ensures { result ≡ has_failed self.now }
     {
         self.failed
     }
+
+    /// How many steps of reading are left.
+    pub fn turns(&self) -> u64
+        ensures { result ≡ turns_left self.now }
+    {
+        self.turns
+    }
+
+    // Takes a step of reading. A tap that has none left fails.
+    pub(crate) fn step(&mut self) -> Result<(), ReadFailed>
+        ensures taken { OnOk result (turns_left self.old ≡ turns_left self.new + 1) }
+        ensures ready { OnOk result (has_failed self.old ≡ false) }
+        ensures failed { has_failed self.new ≡ is_err result }
+        ensures unmoved { device self.new ≡ device self.old }
+        ensures due { has_failed self.old ≡ false → 0 < turns_left self.old → IsOk result }
+    {
+        if self.failed {
+            return Err(ReadFailed);
+        }
+        if self.turns == 0 {
+            self.failed = true;
+            return Err(ReadFailed);
+        }
+        self.turns -= 1;
+        Ok(())
+    }
 }
 
 impl<R: BufRead> Tap<R> {
-    /// What the device shows, nothing at its end alone.
+    /// The bytes that the device shows, at least one of them before its end. They stay until they are taken by `eat`.
+    ///
+    /// # Errors
+    ///
+    /// `ReadFailed` where the device's call fails, and from then on.
     pub fn fill(&mut self) -> Result<&[u8], ReadFailed>
         ensures* after_borrow { sem 𝓛 (Rests (the_row R.row) self.entry (λ new.
             FillKeeps (known R.remaining self.old) (known R.remaining new) (known R.consumable_len new) result
@@ -77,7 +109,7 @@ impl<R: BufRead> Tap<R> {
         fill_from(&mut self.device, &mut self.failed)
     }
 
-    /// Takes the first `amount` bytes of what `fill` lent.
+    /// Takes the first `amount` bytes of those that `fill` lent. A failed tap takes none.
     pub fn eat(&mut self, amount: usize)
         ensures bytes { has_failed self.old ≡ false → DropsConsumable (known R.remaining self.old)
             (known R.remaining self.new) (known R.consumable_len self.old) amount }
@@ -88,13 +120,6 @@ impl<R: BufRead> Tap<R> {
         if !self.failed {
             self.device.consume(amount);
         }
-    }
-
-    /// How many steps of reading are left. A tap that has made them all fails.
-    pub fn turns(&self) -> u64
-        ensures { result ≡ turns_left self.now }
-    {
-        self.turns
     }
 }
 
@@ -124,15 +149,23 @@ fn fill_from<'a, 'b, R: BufRead>(
 }
 
 impl<W: Write> Tap<W> {
-    /// Writes all of the bytes, or fails.
+    /// Writes all of the bytes, in as many calls of the device as it takes for them: none for no bytes.
+    ///
+    /// # Errors
+    ///
+    /// `WriteFailed` where a call of the device fails or takes no byte, and from then on: a failed tap calls the device
+    /// no more. A beginning of the bytes was written then.
     pub fn put(&mut self, bytes: &[u8]) -> Result<(), WriteFailed>
         ensures puts { Puts W.contents self.old self.new result bytes.now }
         ensures turns { turns_left self.new ≡ turns_left self.old }
-        ensures spent { has_failed self.old ≡ true → IsErr result }
-        ensures unmoved { has_failed self.old ≡ true → self.new ≡ self.old }
+        ensures nothing { bytes.now ≡ [] → has_failed self.old ≡ false → IsOk result }
+        ensures unmoved { bytes.now ≡ [] → self.new ≡ self.old }
     {
         if self.failed {
             return Err(WriteFailed);
+        }
+        if bytes.is_empty() {
+            return Ok(());
         }
         let mut rest = bytes;
         while !rest.is_empty() {
@@ -147,14 +180,20 @@ impl<W: Write> Tap<W> {
         Ok(())
     }
 
-    /// Writes the parts, one after another, or fails.
-    pub fn put_all(&mut self, parts: &[&[u8]]) -> Result<(), WriteFailed>
-        requires { has_failed self.old ≡ false }
-        ensures puts { Puts W.contents self.old self.new result (flat_map (λ part. part.now) parts.now) }
+    /// Writes some texts, one after another, as `put` writes each.
+    ///
+    /// # Errors
+    ///
+    /// `WriteFailed` as of `put`. A beginning of the texts was written then.
+    pub fn put_all(&mut self, texts: &[&[u8]]) -> Result<(), WriteFailed>
+        ensures puts { Puts W.contents self.old self.new result (flat_map (λ text. text.now) texts.now) }
         ensures turns { turns_left self.new ≡ turns_left self.old }
     {
-        for part in parts {
-            self.put(part)?;
+        if self.failed {
+            return Err(WriteFailed);
+        }
+        for text in texts {
+            self.put(text)?;
         }
         Ok(())
     }

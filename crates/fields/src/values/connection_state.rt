@@ -196,7 +196,6 @@ impl CtSet {
     /// That text reads back as this set. It takes no memory.
     #[tactic(auto, using(crate::proofs::laws::values::ConnectionStateLaws::ctstate_reads_back, crate::proofs::laws::values::ConnectionStateLaws::state_reads_back))]
     pub fn put<W: Write>(self, output: &mut Tap<W>) -> Result<(), WriteFailed>
-        requires { has_failed output.old ≡ false }
         ensures text { Puts W.contents output.old output.new result (states_text self) }
         ensures reads_back { ctstate_of (states_text self) ≡ Some self }
         ensures state_reads_back { bit_and self 96 ≡ 0 → state_of (states_text self) ≡ Some self }

@@ -59,7 +59,6 @@ impl FlagTest {
 
     /// Writes the mask, a blank and the other set. It takes no memory.
     pub fn put<W: Write>(self, output: &mut Tap<W>) -> Result<(), WriteFailed>
-        requires { has_failed output.old ≡ false }
         ensures { Puts W.contents output.old output.new result (flag_test_text self) }
     {
         self.mask.put(output)?;

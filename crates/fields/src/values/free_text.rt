@@ -61,7 +61,6 @@ impl<const N: usize> Text<N> {
     /// letters, digits, `_` or `-`, else in `"`, with a backslash before each `"`, `\` and `'`.
     #[tactic(auto, using(crate::proofs::laws::text::PrintedLaws::text_reads_back, crate::proofs::laws::text::PrintedLaws::lines_read_back))]
     pub fn put<W: Write>(&self, output: &mut Tap<W>) -> Result<(), WriteFailed>
-        requires { has_failed output.old ≡ false }
         ensures puts { Puts W.contents output.old output.new result (quoted self.now) }
 
         // The words of what is written are this text alone. In a line of words, each after one
@@ -97,7 +96,6 @@ fn is_plain(text: &[u8]) -> bool
 
 // Writes a byte as it stands between quotes.
 fn put_escaped_byte<W: Write>(output: &mut Tap<W>, byte: u8) -> Result<(), WriteFailed>
-    requires { has_failed output.old ≡ false }
     ensures { Puts W.contents output.old output.new result (escaped byte) }
 {
     if byte == b'"' || byte == b'\\' || byte == b'\'' {
@@ -117,7 +115,6 @@ fn put_escaped<W: Write>(output: &mut Tap<W>, text: &[u8]) -> Result<(), WriteFa
 }
 
 fn put_in_quotes<W: Write>(output: &mut Tap<W>, text: &[u8]) -> Result<(), WriteFailed>
-    requires { has_failed output.old ≡ false }
     ensures { Puts W.contents output.old output.new result (in_quotes text.now) }
 {
     output.put(b"\"")?;

@@ -178,7 +178,6 @@ impl IcmpType {
     /// Writes `t`, `t/c` or `any`. That text reads back as this value. It takes no memory.
     #[tactic(auto, using(crate::proofs::laws::values::IcmpLaws::reads_back))]
     pub fn put<W: Write>(self, output: &mut Tap<W>) -> Result<(), WriteFailed>
-        requires { has_failed output.old ≡ false }
         ensures text { Puts W.contents output.old output.new result (icmp_text self) }
         ensures reads_back { icmp_of (icmp_text self) ≡ Some self }
     {

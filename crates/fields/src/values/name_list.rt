@@ -62,10 +62,12 @@ pub(crate) fn put_names<F: Flags + Copy, W: Write>(
     output: &mut Tap<W>,
 ) -> Result<(), WriteFailed>
     requires exact { F.exact }
-    requires fresh { has_failed output.old ≡ false }
     ensures { Puts W.contents output.old output.new result
         (names_listed (rows_of F.set_of flags.now) (F.set_of set)) }
 {
+    if output.failed() {
+        return Err(WriteFailed);
+    }
     let mut separator: &[u8] = b"";
     for flag in flags {
         if set.contains(*flag.value()) {

@@ -117,7 +117,6 @@ impl PortList {
     /// Writes the list in its order, with a comma between two. It needs no quotes.
     #[tactic(auto, using(crate::proofs::laws::values::PortListLaws::reads_back, crate::proofs::laws::values::BareLaws::list_is_bare))]
     pub fn put<W: Write>(&self, output: &mut Tap<W>) -> Result<(), WriteFailed>
-        requires { has_failed output.old ≡ false }
         ensures puts { Puts W.contents output.old output.new result (port_list_text self.now) }
         ensures word { IsBareWord (port_list_text self.now) }
         ensures reads_back { port_list_of (port_list_text self.now) ≡ Some self.now }
@@ -142,7 +141,6 @@ fn put_further<W: Write>(output: &mut Tap<W>, items: &[PortRange]) -> Result<(),
 
 // Writes a comma and an item.
 fn put_next<W: Write>(output: &mut Tap<W>, item: PortRange) -> Result<(), WriteFailed>
-    requires { has_failed output.old ≡ false }
     ensures { Puts W.contents output.old output.new result (44 ∷ ports_text item) }
 {
     output.put(b",")?;

@@ -96,7 +96,6 @@ impl PortRange {
     /// Writes one port as its number, more as `a:b`. It needs no quotes.
     #[tactic(auto, using(crate::proofs::laws::values::PortRangeLaws::reads_back, crate::proofs::laws::values::BareLaws::range_is_bare))]
     pub fn put<W: Write>(self, output: &mut Tap<W>) -> Result<(), WriteFailed>
-        requires { has_failed output.old ≡ false }
         ensures puts { Puts W.contents output.old output.new result (ports_text self) }
         ensures word { IsBareWord (ports_text self) }
         ensures reads_back { port_range_of (ports_text self) ≡ Some self }

@@ -187,7 +187,6 @@ impl Prefix {
 
 // Writes the dotted text of an address.
 pub(crate) fn put_address<W: Write>(address: u32, output: &mut Tap<W>) -> Result<(), WriteFailed>
-    requires { has_failed output.old ≡ false }
     ensures { Puts W.contents output.old output.new result (address_text address) }
 {
     let mut first = Buffer::new();
@@ -208,7 +207,6 @@ pub(crate) fn put_address<W: Write>(address: u32, output: &mut Tap<W>) -> Result
 impl Prefix {
     /// Writes `a.b.c.d/n`, or fails. It takes no memory.
     pub fn put<W: Write>(&self, output: &mut Tap<W>) -> Result<(), WriteFailed>
-        requires { has_failed output.old ≡ false }
         ensures { Puts W.contents output.old output.new result (prefix_text self.now) }
     {
         let mut length = Buffer::new();

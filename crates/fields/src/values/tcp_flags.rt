@@ -138,7 +138,6 @@ impl TcpFlags {
     /// reads back as this set. It takes no memory.
     #[tactic(auto, using(crate::proofs::laws::values::TcpFlagsLaws::reads_back), unfolding(crate::specs::values::TcpFlags::tcp_flags_text))]
     pub fn put<W: Write>(self, output: &mut Tap<W>) -> Result<(), WriteFailed>
-        requires { has_failed output.old ≡ false }
         ensures text { Puts W.contents output.old output.new result (tcp_flags_text self) }
         ensures reads_back { tcp_flags_of (tcp_flags_text self) ≡ Some self }
     {

@@ -1,7 +1,8 @@
 -- Laws of `lines_of` and `ended_lines`: bytes are read off line by line from the front.
 use Rattle.std.proofs.Common.{◌≡◌, ◌≢◌, ℕ, ◌<◌, cond, List, [], ◌∷◌, ◌++◌, length, refl, ap, ◌∙◌, arith, ne_eqb}
 use Rattle.std.proofs.lemmas.List.Elements.{All-head, All-tail}
-use Rattle.fields.specs.text.Line.{IsOneLine, lines_of, ended_lines, onto_first, onto_ended}
+use Rattle.fields.specs.text.OneLine.{IsOneLine}
+use Rattle.fields.specs.text.Line.{lines_of, ended_lines, onto_first, onto_ended}
 
 -- a line and its newline come first
 pub lines_of-ended : (text rest : List ℕ) → IsOneLine text → lines_of ((text ++ 10 ∷ []) ++ rest) ≡ text ∷ lines_of rest

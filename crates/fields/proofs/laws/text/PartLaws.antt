@@ -4,7 +4,9 @@ use Rattle.std.proofs.lemmas.List.{take_more}
 use Rattle.std.proofs.lemmas.List.Elements.{All-append}
 use Rattle.std.specs.Io.KnownBytes.{Consumes, Keeps}
 use Rattle.std.proofs.KnownBytes.{Consumes-trans}
-use Rattle.fields.specs.text.Line.{IsOneLine, IsHeld, HoldsMore, EndsAt}
+use Rattle.fields.specs.text.OneLine.{IsOneLine}
+use Rattle.fields.specs.text.Line.{IsHeld, EndsAt}
+use Rattle.fields.specs.steps.LineSteps.{HoldsMore}
 
 -- a part more of the line
 pub goes_on : (a b c : Option (List ℕ)) (max : ℕ) (i j : List ℕ) (p q : Bool) (turns left less : ℕ) → left ≡ less + 1

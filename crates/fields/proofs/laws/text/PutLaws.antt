@@ -5,22 +5,24 @@ use Rattle.std.specs.Prelude.{IsErr}
 use Rattle.std.proofs.lemmas.List.{drop_more}
 use Rattle.std.proofs.lemmas.Grind.{flat_map-append}
 use Rattle.std.proofs.lemmas.Result.{MatchResult-from_err}
+use Rattle.std.proofs.lemmas.Bool.{true≢false}
 use Rattle.fields.specs.declared.text.tap.Tap.{Tap}
 use Rattle.fields.specs.text.Tap.{has_failed, known, Wrote, Stopped, Puts}
 
 pub wrote-nothing : {T : Type 0} {contents : T → Option (List ℕ)} {a : Tap T} → has_failed a ≡ false → Wrote contents a a []
-wrote-nothing {contents = contents} {a = a} fresh = record { fresh = fresh; appends = Appends-nil (known contents a) }
+wrote-nothing {contents = contents} {a = a} fresh = record { ready = fresh; fresh = fresh; appends = Appends-nil (known contents a) }
 
 pub wrote-then : {T : Type 0} {contents : T → Option (List ℕ)} {a b c : Tap T} {xs ys : List ℕ}
     → Wrote contents a b xs → Wrote contents b c ys → Wrote contents a c (xs ++ ys)
 wrote-then {contents = contents} {a = a} {b = b} {c = c} {xs = xs} {ys = ys} p q =
-    record { fresh = q.fresh; appends = Appends-trans (known contents a) (known contents b) (known contents c) xs ys p.appends q.appends }
+    record { ready = p.ready; fresh = q.fresh; appends = Appends-trans (known contents a) (known contents b) (known contents c) xs ys p.appends q.appends }
 
 pub stopped-then : {T : Type 0} {contents : T → Option (List ℕ)} {a b c : Tap T} {xs ys : List ℕ}
     → Wrote contents a b xs → Stopped contents b c ys → Stopped contents a c (xs ++ ys)
 stopped-then {contents = contents} {a = a} {b = b} {c = c} {xs = xs} {ys = ys} p q =
     record {
       failed = q.failed;
+      unmoved = λ had. absurd (true≢false (sym had ∙ p.ready));
       part = xs ++ q.part;
       begins = (q.begins.0, ap (λ l. xs ++ l) q.begins.1 ∙ sym (append_assoc xs q.part q.begins.0));
       appends = Appends-trans (known contents a) (known contents b) (known contents c) xs q.part p.appends q.appends;
@@ -31,6 +33,7 @@ pub stopped-before : {T : Type 0} {contents : T → Option (List ℕ)} {a b : Ta
 stopped-before {xs = xs} p ys =
     record {
       failed = p.failed;
+      unmoved = p.unmoved;
       part = p.part;
       begins = (p.begins.0 ++ ys, ap (λ l. l ++ ys) p.begins.1 ∙ append_assoc p.part p.begins.0 ys);
       appends = p.appends;
