@@ -1,7 +1,8 @@
 //! Packets, and the words of a packet line.
 ghost use Rattle.std.specs.Prelude.{◌≡◌, ◌<◌, ◌≤◌, [], find, map, length, take, drop, slice_index_or, option_map, IfOk};
 ghost use Rattle.std.specs.List.{list_any};
-ghost use Rattle.fields.specs.numbers.Field.{top};
+ghost use Rattle.fields.specs.declared.numbers.field.Field.{Field};
+ghost use Rattle.fields.specs.numbers.Field.{number_on, top};
 ghost use Rattle.fields.specs.packet.Packet.{has_key, field_of, text_in, text_of, word_fault, leftmost_fault, parts_of, strays, lacks, value_on};
 
 pub(crate) mod hook;
@@ -239,11 +240,10 @@ impl Packet {
     /// of the leftmost word at fault, else F4, else F2. Takes no memory. A word is compared with those before it, which are at
     /// most as many as the fields: the first word that repeats a key ends the reading.
     pub fn read(words: &Words, from: usize) -> Result<Packet, PacketFault>
-        requires { from ≤ length words.now }
         ensures value { result ≡ packet_of (drop from words.now) }
         ensures valid { IfOk result (λ p. IsPacket p) }
     {
-        if from == words.len() {
+        if from >= words.len() {
             return Err(PacketFault::UnknownKey);
         }
         match Hook::read(words.get(from)) {
@@ -260,7 +260,16 @@ impl Packet {
         self.hook
     }
 
-    /// The packet's value on a field: at most the field's top.
+    /// The packet's number on each field, in the order of `Field::ALL`, each within its field's top; they are lent.
+    pub fn numbers(&self) -> &[u128; FIELDS]
+        ensures value { result.now ≡ self.now.values }
+        ensures point { (field : Field) → number_on result.now field ≡ point self.now field }
+        ensures within { (field : Field) → number_on result.now field ≤ top field }
+    {
+        &self.values
+    }
+
+    /// The packet's number on a field: at most the field's top.
     pub fn point(&self, field: Field) -> u128
         ensures value { result ≡ point self.now field }
         ensures within { result ≤ top field }

@@ -174,11 +174,13 @@ impl Words {
         cut(alloc, line).map(|items| Words { items })
     }
 
-    /// The words from a place on.
+    /// The words from a place on, counted from 0: none from beyond the last word.
     pub fn after(&self, from: usize) -> &[Vec<u8>]
-        requires { from ≤ length self.now }
         ensures { view_words result.now ≡ drop from self.now }
     {
+        if from >= self.items.len() {
+            return &[];
+        }
         &self.items[from..]
     }
 
