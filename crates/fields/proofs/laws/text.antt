@@ -3,6 +3,7 @@ pub mod CuttingLaws
 pub mod DecimalLaws
 pub mod LineLaws
 pub mod NumberLaws
+pub mod OneLineLaws
 pub mod PartLaws
 pub mod PrintedLaws
 pub mod PutLaws

@@ -9,3 +9,7 @@ IsOneLine text = All (λ byte. byte ≢ 10) text
 -- the same, as a test
 abbrev pub is_one_line : List ℕ → Bool
 is_one_line text = list_all (λ byte. not (byte == 10)) text
+
+-- none of the texts has a newline
+abbrev pub AreOneLine : List (List ℕ) → Type 0
+AreOneLine texts = All IsOneLine texts

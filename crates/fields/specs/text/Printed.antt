@@ -1,6 +1,8 @@
 -- Lines of printed words.
 use Rattle.std.specs.Prelude.{◌≡◌, ◌≢◌, ℕ, Bool, true, false, IsTrue, List, [], ◌∷◌, map, flat_map, All, Some, if◌then◌else◌}
+use Rattle.std.specs.Bool.{MatchBool}
 use Rattle.std.specs.List.{list_all}
+use Rattle.fields.specs.text.OneLine.{IsOneLine}
 use Rattle.fields.specs.text.Words.{is_bare, words_of}
 use Rattle.fields.specs.values.FreeText.{quoted}
 
@@ -26,15 +28,19 @@ spaced shown = 32 ∷ spelling shown
 abbrev pub spaced_all : List Shown → List ℕ
 spaced_all line = flat_map spaced line
 
--- what may stand without quotes: one or more bytes without blank, tab and `"`
+-- what may stand without quotes: one or more bytes without blank, tab, `"` and newline
 pub record IsBareWord (word : List ℕ) : Type 0 where
   pub some : word ≢ []
   pub bytes : IsTrue (list_all is_bare word)
 
--- what isn't printed as a text may stand without quotes
-abbrev pub AreSpelled : List Shown → Type 0
-AreSpelled line = All (λ shown. shown.text ≡ false → IsBareWord shown.word) line
+-- a text has no newline, and what is printed as it is may stand without quotes
+abbrev pub IsPrintable : Shown → Type 0
+IsPrintable shown = MatchBool shown.text (IsOneLine shown.word) (IsBareWord shown.word)
+
+-- each word may be printed
+abbrev pub ArePrintable : List Shown → Type 0
+ArePrintable line = All IsPrintable line
 
 -- a line of printed words has these words
 abbrev pub LinesReadBack : Type 0
-LinesReadBack = (line : List Shown) → AreSpelled line → words_of (spaced_all line) ≡ Some (map (λ shown. shown.word) line)
+LinesReadBack = (line : List Shown) → ArePrintable line → words_of (spaced_all line) ≡ Some (map (λ shown. shown.word) line)

@@ -13,13 +13,14 @@ is_blank byte = byte == 32 || byte == 9
 abbrev pub AreBlanks : List ℕ → Type 0
 AreBlanks bytes = IsTrue (list_all is_blank bytes)
 
--- a byte of an unquoted word: no blank, no tab and no `"`
+-- a byte of an unquoted word: no blank, no tab, no `"` and no newline (10)
 abbrev pub is_bare : ℕ → Bool
-is_bare byte = not (is_blank byte) && not (byte == 34)
+is_bare byte = not (is_blank byte) && not (byte == 34) && not (byte == 10)
 
--- between quotes a byte is spelled as itself, unless it is `"` or a backslash, or as itself after a backslash
+-- between quotes a byte other than a newline is spelled as itself, unless it is `"` or a backslash, or as itself after a
+-- backslash
 abbrev pub IsQuotedByte : List ℕ → ℕ → Type 0
-IsQuotedByte text byte = ((text ≡ byte ∷ []) × (byte ≢ 34) × (byte ≢ 92)) ⊎ (text ≡ 92 ∷ byte ∷ [])
+IsQuotedByte text byte = (byte ≢ 10) × (((text ≡ byte ∷ []) × (byte ≢ 34) × (byte ≢ 92)) ⊎ (text ≡ 92 ∷ byte ∷ []))
 
 -- the text between quotes spells the bytes of the word, one after another
 abbrev pub IsQuotedText : List ℕ → List ℕ → Type 0
@@ -27,7 +28,7 @@ IsQuotedText text [] = text ≡ []
 IsQuotedText text (byte ∷ word) =
     (first further : List ℕ) × (text ≡ first ++ further) × IsQuotedByte first byte × IsQuotedText further word
 
--- an unquoted word is spelled as itself: one or more bytes without blank, tab and `"`
+-- an unquoted word is spelled as itself: one or more bytes without blank, tab, `"` and newline
 abbrev pub IsBareSpelling : List ℕ → List ℕ → Type 0
 IsBareSpelling spelling word = (spelling ≡ word) × (word ≢ []) × IsTrue (list_all is_bare word)
 
@@ -51,8 +52,8 @@ AreWords [] line = AreBlanks line
 AreWords (word ∷ words) line =
     (gap spelling rest : List ℕ) × (line ≡ gap ++ (spelling ++ rest)) × AreBlanks gap × IsSpelling spelling word × EndsWord rest × AreWords words rest
 
--- where a byte of a line stands: between two words, in an unquoted word, between the quotes of a
--- word, behind a backslash there, or behind the closing quote
+-- where a byte of a line stands: between two words, in an unquoted word, between the quotes of a word, after a backslash
+-- there, or after the closing quote
 pub data Place : Type 0 where
   Between : Place
   Bare : Place
@@ -68,14 +69,17 @@ pub data Act : Type 0 where
   Ends : Place → Act
   Breaks : Act
 
--- between words a blank or a tab is skipped, `"` opens a quoted word and any other byte an
--- unquoted one, which a blank or a tab ends; a quoted word ends at its `"`, and a blank or a tab
--- follows
+-- a byte of a word joins it, but a newline is no byte of one
+abbrev pub joins : Place → ℕ → Act
+joins next byte = if byte == 10 then Breaks else Joins next
+
+-- between words a blank or a tab is skipped, `"` opens a quoted word and any other byte an unquoted one, which a blank or a
+-- tab ends; a quoted word ends at its `"`, and a blank or a tab follows
 abbrev pub act_of : Place → ℕ → Act
-act_of Between byte = if is_blank byte then Skips Between else if byte == 34 then Skips Quoted else Joins Bare
-act_of Bare byte = if is_blank byte then Ends Between else if byte == 34 then Breaks else Joins Bare
-act_of Quoted byte = if byte == 34 then Ends Closed else if byte == 92 then Skips Escaped else Joins Quoted
-act_of Escaped byte = Joins Quoted
+act_of Between byte = if is_blank byte then Skips Between else if byte == 34 then Skips Quoted else joins Bare byte
+act_of Bare byte = if is_blank byte then Ends Between else if byte == 34 then Breaks else joins Bare byte
+act_of Quoted byte = if byte == 34 then Ends Closed else if byte == 92 then Skips Escaped else joins Quoted byte
+act_of Escaped byte = joins Quoted byte
 act_of Closed byte = if is_blank byte then Skips Between else Breaks
 
 -- a byte before the bytes of the first word

@@ -2,10 +2,11 @@
 use Rattle.std.specs.Prelude.{ℕ, Bool, ◌&&◌, ◌||◌, ◌==◌, nat_lt, nat_le, List, [], ◌∷◌, ◌++◌, length, flat_map, Option, Some, None, if◌then◌else◌}
 use Rattle.std.specs.List.{list_all}
 use Rattle.std.specs.Char.{is_ascii_alphanumeric}
+use Rattle.fields.specs.text.OneLine.{is_one_line}
 
--- any bytes, also none, up to a number of them
+-- any bytes but newlines, also none, up to a number of them
 unfoldable pub text_of : ℕ → List ℕ → Option (List ℕ)
-text_of most bytes = if nat_le (length bytes) most then Some bytes else None
+text_of most bytes = if nat_le (length bytes) most && is_one_line bytes then Some bytes else None
 
 -- an ASCII letter or digit, `_` (95) or `-` (45)
 abbrev pub is_plain_byte : ℕ → Bool

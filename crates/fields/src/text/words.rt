@@ -1,5 +1,6 @@
-// The words of a line.
-ghost use Rattle.std.specs.Prelude.{◌≡◌, ◌<◌, ◌≤◌, ◌↔◌, ℕ, List, [], length, drop, slice_get, IsTrue, Some, None, MatchResult, IfOk, IfErr};
+//! The words of a line.
+ghost use Rattle.std.specs.Prelude.{◌≡◌, ◌<◌, ◌≤◌, ◌↔◌, ℕ, List, [], length, drop, slice_get, IsTrue, Some, None, MatchResult, OnOk, IfOk, IfErr};
+ghost use Rattle.fields.specs.text.OneLine.{IsOneLine, AreOneLine};
 ghost use Rattle.fields.specs.text.Words.{act_of, words_of, AreWords, OnQuoting};
 ghost use Rattle.fields.specs.steps.Cutting.{view_act, view_place, view_cutting, view_words, after, whole, start, Gives};
 
@@ -31,6 +32,10 @@ impl Model for Words {
     ghost Value = { List (List ℕ) };
 
     ghost view = { λ words. map (λ word. word.items) words.items.items };
+
+    ghost use Rattle.fields.specs.text.OneLine.{AreOneLine};
+
+    ghost invariant = { λ words. AreOneLine (map (λ word. word.items) words.items.items) };
 }
 
 // Where a byte of a line stands: between two words, in an unquoted word, between the quotes of a
@@ -66,6 +71,7 @@ fn act_of(place: Place, byte: u8) -> Act
     ensures { view_act result ≡ act_of (view_place place) byte }
 {
     match (place, byte) {
+        (_, b'\n') => Act::Breaks,
         (Place::Between | Place::Closed, b' ' | b'\t') => Act::Skips(Place::Between),
         (Place::Between, b'"') => Act::Skips(Place::Quoted),
         (Place::Bare, b' ' | b'\t') => Act::Ends(Place::Between),
@@ -170,13 +176,19 @@ impl Words {
         // That function finds what the line is made of.
         ensures law { (words : List (List ℕ))
             → (words_of line.now ≡ Some words) ↔ AreWords words line.now }
+
+        // A line with a newline has no words, and no word has one.
+        ensures one_line { OnOk result (IsOneLine line.now) }
+        ensures words_in_line { IfOk result AreOneLine }
     {
-        cut(alloc, line).map(|items| Words { items })
+        let items = cut(alloc, line)?;
+        Ok(Words { items })
     }
 
     /// The words from a place on, counted from 0: none from beyond the last word.
     pub fn after(&self, from: usize) -> &[Vec<u8>]
-        ensures { view_words result.now ≡ drop from self.now }
+        ensures value { view_words result.now ≡ drop from self.now }
+        ensures one_line { AreOneLine self.now }
     {
         if from >= self.items.len() {
             return &[];
@@ -201,7 +213,8 @@ impl Words {
     /// The bytes of the word at a place, counted from 0, without quotes and escapes.
     pub fn get(&self, place: usize) -> &[u8]
         requires { place < length self.now }
-        ensures { slice_get self.now place ≡ Some result.now }
+        ensures value { slice_get self.now place ≡ Some result.now }
+        ensures one_line { IsOneLine result.now }
     {
         self.items[place].as_slice()
     }

@@ -1,6 +1,7 @@
-// Free texts.
+//! Free texts.
 ghost use Rattle.std.specs.Prelude.{◌≡◌, ◌≤◌, ◌∷◌, [], length, Option, Some, None, false, flat_map};
 ghost use Rattle.std.specs.List.{list_all};
+ghost use Rattle.fields.specs.text.OneLine.{IsOneLine, is_one_line};
 ghost use Rattle.fields.specs.text.Words.{words_of};
 ghost use Rattle.fields.specs.values.FreeText.{text_of, is_plain_byte, is_plain, escaped, in_quotes, quoted};
 ghost use Rattle.fields.specs.text.Printed.{LinesReadBack};
@@ -12,7 +13,8 @@ use arrayvec::ArrayVec;
 use std::io::Write;
 use std::marker::Model;
 
-/// A text of any bytes, at most `N` of them: a comment has 256 at most, a log prefix 29.
+/// A text of any bytes but newlines, at most `N` of them: a comment has 256 at most, a log prefix 29
+/// (iptables-extensions(8), comment and LOG).
 #[derive(Debug, PartialEq, Eq, Drop)]
 pub struct Text<const N: usize> {
     bytes: ArrayVec<u8, N>,
@@ -25,17 +27,22 @@ impl<const N: usize> Model for Text<N> {
 
     ghost view = { λ text. text.bytes.items };
 
-    ghost invariant = { λ text. length text.bytes.items ≤ N };
+    ghost use Rattle.fields.specs.text.OneLine.{IsOneLine};
+
+    ghost invariant = { λ text. (length text.bytes.items ≤ N) × IsOneLine text.bytes.items };
 
     ghost inverse = { λ bytes. record { bytes = record { items = bytes } } };
 }
 
 impl<const N: usize> Text<N> {
-    /// The text of these bytes, where there are at most `N`.
-    #[tactic(auto, unfolding(crate::specs::values::FreeText::text_of))]
+    /// The text of these bytes, where there are at most `N`, and no newline (10) among them. It takes no memory.
+    #[tactic(auto, using(crate::proofs::laws::text::OneLineLaws::one_line_is), unfolding(crate::specs::values::FreeText::text_of))]
     pub fn read(bytes: &[u8]) -> Option<Text<N>>
         ensures { result ≡ text_of N bytes.now }
     {
+        if bytes.len() > N || !is_one_line(bytes) {
+            return None;
+        }
         let bytes = ArrayVec::try_from(bytes).ok()?;
         Some(Text { bytes })
     }
@@ -44,6 +51,7 @@ impl<const N: usize> Text<N> {
     pub fn bytes(&self) -> &[u8]
         ensures value { result.now ≡ self.now }
         ensures bounded { length self.now ≤ N }
+        ensures one_line { IsOneLine self.now }
     {
         self.bytes.as_slice()
     }
@@ -59,7 +67,7 @@ impl<const N: usize> Text<N> {
 
     /// Writes the text as one word: without quotes if it has at least one byte and all are ASCII
     /// letters, digits, `_` or `-`, else in `"`, with a backslash before each `"`, `\` and `'`.
-    #[tactic(auto, using(crate::proofs::laws::text::PrintedLaws::text_reads_back, crate::proofs::laws::text::PrintedLaws::lines_read_back))]
+    #[tactic(auto, using(crate::proofs::laws::text::PrintedLaws::text_reads_back, crate::proofs::laws::text::PrintedLaws::lines_read_back, crate::proofs::laws::text::PrintedLaws::quoted_one_line))]
     pub fn put<W: Write>(&self, output: &mut Tap<W>) -> Result<(), WriteFailed>
         ensures puts { Puts W.contents output.old output.new result (quoted self.now) }
 
@@ -67,6 +75,7 @@ impl<const N: usize> Text<N> {
         // blank, it is one of the words.
         ensures reads_back { words_of (quoted self.now) ≡ Some (self.now ∷ []) }
         ensures lines_read_back { LinesReadBack }
+        ensures one_line { IsOneLine (quoted self.now) }
     {
         let text = self.bytes.as_slice();
         if is_plain(text) {
@@ -74,6 +83,12 @@ impl<const N: usize> Text<N> {
         }
         put_in_quotes(output, text)
     }
+}
+
+fn is_one_line(bytes: &[u8]) -> bool
+    ensures { result ≡ is_one_line bytes.now }
+{
+    bytes.iter().all(|byte| *byte != b'\n')
 }
 
 fn is_plain_byte(byte: u8) -> bool

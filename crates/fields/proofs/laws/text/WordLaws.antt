@@ -3,7 +3,7 @@ use Rattle.std.proofs.Common.{◌≡◌, ◌≢◌, ◌==◌, ◌↔◌, inl, in
 use Rattle.std.specs.List.{list_all}
 use Rattle.std.specs.Option.{option_map}
 use Rattle.std.proofs.lemmas.Bool.{and_parts, and_from, not-true, eqb-true}
-use Rattle.fields.specs.text.Words.{is_blank, AreBlanks, is_bare, IsQuotedByte, IsQuotedText, IsSpelling, EndsWord, AreWords, Place, Between, Bare, Quoted, Escaped, Closed, Skips, Joins, Ends, Breaks, act_of, in_front, acted, words_from, words_of}
+use Rattle.fields.specs.text.Words.{is_blank, AreBlanks, is_bare, IsQuotedByte, IsQuotedText, IsSpelling, EndsWord, AreWords, Place, Between, Bare, Quoted, Escaped, Closed, Skips, Joins, Ends, Breaks, joins, act_of, in_front, acted, words_from, words_of}
 
 -- From the spellings to the words found.
 
@@ -12,38 +12,42 @@ after-gap : (gap line : List ℕ) → AreBlanks gap → words_from Between (gap 
 after-gap [] line blank = refl
 after-gap (byte ∷ gap) line blank =
     let (first, others) = and_parts (is_blank byte) (list_all is_blank gap) blank in
-    ap (λ t. acted (cond t (Skips Between) (cond (byte == 34) (Skips Quoted) (Joins Bare))) byte (λ next. words_from next (gap ++ line))) first ∙ after-gap gap line others
+    ap (λ t. acted (cond t (Skips Between) (cond (byte == 34) (Skips Quoted) (joins Bare byte))) byte (λ next. words_from next (gap ++ line))) first ∙ after-gap gap line others
 
 -- nothing but blanks is no word
 only-blanks : (line : List ℕ) → AreBlanks line → words_from Between line ≡ Some []
 only-blanks [] blank = refl
 only-blanks (byte ∷ line) blank =
     let (first, others) = and_parts (is_blank byte) (list_all is_blank line) blank in
-    ap (λ t. acted (cond t (Skips Between) (cond (byte == 34) (Skips Quoted) (Joins Bare))) byte (λ next. words_from next line)) first ∙ only-blanks line others
+    ap (λ t. acted (cond t (Skips Between) (cond (byte == 34) (Skips Quoted) (joins Bare byte))) byte (λ next. words_from next line)) first ∙ only-blanks line others
 
 -- after an unquoted word
 bare-end : (rest : List ℕ) (words : List (List ℕ)) → EndsWord rest → words_from Between rest ≡ Some words → words_from Bare rest ≡ Some ([] ∷ words)
 bare-end [] words ends found = ap (option_map (λ further. [] ∷ further)) found
 bare-end (byte ∷ rest) words ends found =
-    ap (λ t. acted (cond t (Ends Between) (cond (byte == 34) Breaks (Joins Bare))) byte (λ next. words_from next rest)) ends
-    ∙ ap (option_map (λ further. [] ∷ further)) (ap (λ t. acted (cond t (Skips Between) (cond (byte == 34) (Skips Quoted) (Joins Bare))) byte (λ next. words_from next rest)) (sym ends) ∙ found)
+    ap (λ t. acted (cond t (Ends Between) (cond (byte == 34) Breaks (joins Bare byte))) byte (λ next. words_from next rest)) ends
+    ∙ ap (option_map (λ further. [] ∷ further)) (ap (λ t. acted (cond t (Skips Between) (cond (byte == 34) (Skips Quoted) (joins Bare byte))) byte (λ next. words_from next rest)) (sym ends) ∙ found)
 
 -- after a quoted word
 closed-end : (rest : List ℕ) (words : List (List ℕ)) → EndsWord rest → words_from Between rest ≡ Some words → words_from Closed rest ≡ Some words
 closed-end [] words ends found = found
 closed-end (byte ∷ rest) words ends found =
     ap (λ t. acted (cond t (Skips Between) Breaks) byte (λ next. words_from next rest)) ends
-    ∙ ap (λ t. acted (cond t (Skips Between) (cond (byte == 34) (Skips Quoted) (Joins Bare))) byte (λ next. words_from next rest)) (sym ends) ∙ found
+    ∙ ap (λ t. acted (cond t (Skips Between) (cond (byte == 34) (Skips Quoted) (joins Bare byte))) byte (λ next. words_from next rest)) (sym ends) ∙ found
 
 bare-joins : (byte : ℕ) → is_bare byte ≡ true → act_of Bare byte ≡ Joins Bare
 bare-joins byte bare =
-    let (unblank, unquoted) = and_parts (not (is_blank byte)) (not (byte == 34)) bare in
-    ap (λ t. cond t (Ends Between) (cond (byte == 34) Breaks (Joins Bare))) (not-true (is_blank byte) unblank) ∙ ap (λ t. cond t Breaks (Joins Bare)) (not-true (byte == 34) unquoted)
+    let (first, unbroken) = and_parts (not (is_blank byte) && not (byte == 34)) (not (byte == 10)) bare in
+    let (unblank, unquoted) = and_parts (not (is_blank byte)) (not (byte == 34)) first in
+    ap (λ t. cond t (Ends Between) (cond (byte == 34) Breaks (joins Bare byte))) (not-true (is_blank byte) unblank)
+    ∙ ap (λ t. cond t Breaks (joins Bare byte)) (not-true (byte == 34) unquoted) ∙ ap (λ t. cond t Breaks (Joins Bare)) (not-true (byte == 10) unbroken)
 
 first-joins : (byte : ℕ) → is_bare byte ≡ true → act_of Between byte ≡ Joins Bare
 first-joins byte bare =
-    let (unblank, unquoted) = and_parts (not (is_blank byte)) (not (byte == 34)) bare in
-    ap (λ t. cond t (Skips Between) (cond (byte == 34) (Skips Quoted) (Joins Bare))) (not-true (is_blank byte) unblank) ∙ ap (λ t. cond t (Skips Quoted) (Joins Bare)) (not-true (byte == 34) unquoted)
+    let (first, unbroken) = and_parts (not (is_blank byte) && not (byte == 34)) (not (byte == 10)) bare in
+    let (unblank, unquoted) = and_parts (not (is_blank byte)) (not (byte == 34)) first in
+    ap (λ t. cond t (Skips Between) (cond (byte == 34) (Skips Quoted) (joins Bare byte))) (not-true (is_blank byte) unblank)
+    ∙ ap (λ t. cond t (Skips Quoted) (joins Bare byte)) (not-true (byte == 34) unquoted) ∙ ap (λ t. cond t Breaks (Joins Bare)) (not-true (byte == 10) unbroken)
 
 -- the bytes of an unquoted word, from the second on
 bare-run : (word rest : List ℕ) (words : List (List ℕ)) → list_all is_bare word ≡ true → words_from Bare rest ≡ Some ([] ∷ words) → words_from Bare (word ++ rest) ≡ Some (word ∷ words)
@@ -66,11 +70,13 @@ quoted-run text (byte ∷ word) rest words (first, further, are, spelled, others
     ∙ one spelled (further ++ 34 ∷ rest) ∙ ap (option_map (in_front byte)) (quoted-run further word rest words others found)
   where
     one : IsQuotedByte first byte → (line : List ℕ) → words_from Quoted (first ++ line) ≡ option_map (in_front byte) (words_from Quoted line)
-    one (inl (itself, quote, slash)) line =
+    one (unbroken, inl (itself, quote, slash)) line =
         ap (λ l. words_from Quoted (l ++ line)) itself
-        ∙ ap (λ t. acted (cond t (Ends Closed) (cond (byte == 92) (Skips Escaped) (Joins Quoted))) byte (λ next. words_from next line)) (ne_eqb byte 34 quote)
-        ∙ ap (λ t. acted (cond t (Skips Escaped) (Joins Quoted)) byte (λ next. words_from next line)) (ne_eqb byte 92 slash)
-    one (inr behind) line = ap (λ l. words_from Quoted (l ++ line)) behind
+        ∙ ap (λ t. acted (cond t (Ends Closed) (cond (byte == 92) (Skips Escaped) (joins Quoted byte))) byte (λ next. words_from next line)) (ne_eqb byte 34 quote)
+        ∙ ap (λ t. acted (cond t (Skips Escaped) (joins Quoted byte)) byte (λ next. words_from next line)) (ne_eqb byte 92 slash)
+        ∙ ap (λ t. acted (cond t Breaks (Joins Quoted)) byte (λ next. words_from next line)) (ne_eqb byte 10 unbroken)
+    one (unbroken, inr after) line =
+        ap (λ l. words_from Quoted (l ++ line)) after ∙ ap (λ t. acted (cond t Breaks (Joins Quoted)) byte (λ next. words_from next line)) (ne_eqb byte 10 unbroken)
 
 spelled-word : (spelling word rest : List ℕ) (words : List (List ℕ)) → IsSpelling spelling word → EndsWord rest → words_from Between rest ≡ Some words → words_from Between (spelling ++ rest) ≡ Some (word ∷ words)
 spelled-word spelling word rest words (inl (itself, some, bare)) ends found =
@@ -97,7 +103,7 @@ Standing Quoted (word ∷ words) line = (text rest : List ℕ) × (line ≡ text
 Standing Escaped [] line = ⊥
 Standing Escaped ([] ∷ words) line = ⊥
 Standing Escaped ((byte ∷ word) ∷ words) line =
-    (text rest : List ℕ) × (line ≡ byte ∷ (text ++ 34 ∷ rest)) × IsQuotedText text word × EndsWord rest × AreWords words rest
+    (text rest : List ℕ) × (line ≡ byte ∷ (text ++ 34 ∷ rest)) × (byte ≢ 10) × IsQuotedText text word × EndsWord rest × AreWords words rest
 Standing Closed words line = EndsWord line × AreWords words line
 
 abbrev Means : Place → Option (List (List ℕ)) → List ℕ → Type 0
@@ -143,49 +149,57 @@ slash-escapes : (byte : ℕ) (bytes : List ℕ) (found : Option (List (List ℕ)
 slash-escapes byte bytes None slash means = tt
 slash-escapes byte bytes (Some []) slash means = absurd means
 slash-escapes byte bytes (Some ([] ∷ words)) slash means = absurd means
-slash-escapes byte bytes (Some ((next ∷ word) ∷ words)) slash (text, rest, is, spelled, ends, others) =
-    (92 ∷ next ∷ text, rest, ap (λ b. b ∷ bytes) slash ∙ ap (λ l. 92 ∷ l) is, (92 ∷ next ∷ [], text, refl, inr refl, spelled), ends, others)
+slash-escapes byte bytes (Some ((next ∷ word) ∷ words)) slash (text, rest, is, unbroken, spelled, ends, others) =
+    (92 ∷ next ∷ text, rest, ap (λ b. b ∷ bytes) slash ∙ ap (λ l. 92 ∷ l) is, (92 ∷ next ∷ [], text, refl, (unbroken, inr refl), spelled), ends, others)
 
-quoted-more : (byte : ℕ) (bytes : List ℕ) (found : Option (List (List ℕ))) → byte ≢ 34 → byte ≢ 92 → Means Quoted found bytes → Means Quoted (option_map (in_front byte) found) (byte ∷ bytes)
-quoted-more byte bytes None quote slash means = tt
-quoted-more byte bytes (Some []) quote slash means = absurd means
-quoted-more byte bytes (Some (word ∷ words)) quote slash (text, rest, is, spelled, ends, others) =
-    (byte ∷ text, rest, ap (λ l. byte ∷ l) is, (byte ∷ [], text, refl, inl (refl, quote, slash), spelled), ends, others)
+quoted-more : (byte : ℕ) (bytes : List ℕ) (found : Option (List (List ℕ))) → byte ≢ 34 → byte ≢ 92 → byte ≢ 10 → Means Quoted found bytes → Means Quoted (option_map (in_front byte) found) (byte ∷ bytes)
+quoted-more byte bytes None quote slash unbroken means = tt
+quoted-more byte bytes (Some []) quote slash unbroken means = absurd means
+quoted-more byte bytes (Some (word ∷ words)) quote slash unbroken (text, rest, is, spelled, ends, others) =
+    (byte ∷ text, rest, ap (λ l. byte ∷ l) is, (byte ∷ [], text, refl, (unbroken, inl (refl, quote, slash)), spelled), ends, others)
 
-escaped-more : (byte : ℕ) (bytes : List ℕ) (found : Option (List (List ℕ))) → Means Quoted found bytes → Means Escaped (option_map (in_front byte) found) (byte ∷ bytes)
-escaped-more byte bytes None means = tt
-escaped-more byte bytes (Some []) means = absurd means
-escaped-more byte bytes (Some (word ∷ words)) (text, rest, is, spelled, ends, others) = (text, rest, ap (λ l. byte ∷ l) is, spelled, ends, others)
+escaped-more : (byte : ℕ) (bytes : List ℕ) (found : Option (List (List ℕ))) → byte ≢ 10 → Means Quoted found bytes → Means Escaped (option_map (in_front byte) found) (byte ∷ bytes)
+escaped-more byte bytes None unbroken means = tt
+escaped-more byte bytes (Some []) unbroken means = absurd means
+escaped-more byte bytes (Some (word ∷ words)) unbroken (text, rest, is, spelled, ends, others) = (text, rest, ap (λ l. byte ∷ l) is, unbroken, spelled, ends, others)
 
 closed-ends : (byte : ℕ) (bytes : List ℕ) (found : Option (List (List ℕ))) → is_blank byte ≡ true → Means Between found bytes → Means Closed found (byte ∷ bytes)
 closed-ends byte bytes None blank means = tt
 closed-ends byte bytes (Some words) blank means = (blank, blank-more byte bytes (Some words) blank means)
 
-is-bare : (byte : ℕ) → is_blank byte ≡ false → (byte == 34) ≡ false → is_bare byte ≡ true
-is-bare byte blank quote = ap (λ t. not t && not (byte == 34)) blank ∙ ap not quote
+is-bare : (byte : ℕ) → is_blank byte ≡ false → (byte == 34) ≡ false → (byte == 10) ≡ false → is_bare byte ≡ true
+is-bare byte blank quote newline = ap (λ t. not t && not (byte == 34) && not (byte == 10)) blank ∙ ap (λ t. not t && not (byte == 10)) quote ∙ ap not newline
 
 -- what the words found from the next byte on say, of each place that it may stand in
 abbrev Further : List ℕ → Type 0
 Further bytes = (place : Place) → Means place (words_from place bytes) bytes
 
-in-between : (byte : ℕ) (bytes : List ℕ) (blank quote : Bool) → is_blank byte ≡ blank → (byte == 34) ≡ quote → Further bytes
-    → Means Between (acted (cond blank (Skips Between) (cond quote (Skips Quoted) (Joins Bare))) byte (λ next. words_from next bytes)) (byte ∷ bytes)
-in-between byte bytes true quote is-blank is-quote further = blank-more byte bytes (words_from Between bytes) is-blank (further Between)
-in-between byte bytes false true is-blank is-quote further = quote-opens byte bytes (words_from Quoted bytes) (eqb-true byte 34 is-quote) (further Quoted)
-in-between byte bytes false false is-blank is-quote further = bare-opens byte bytes (words_from Bare bytes) (is-bare byte is-blank is-quote) (further Bare)
+in-between : (byte : ℕ) (bytes : List ℕ) (blank quote newline : Bool) → is_blank byte ≡ blank → (byte == 34) ≡ quote → (byte == 10) ≡ newline → Further bytes
+    → Means Between (acted (cond blank (Skips Between) (cond quote (Skips Quoted) (cond newline Breaks (Joins Bare)))) byte (λ next. words_from next bytes)) (byte ∷ bytes)
+in-between byte bytes true quote newline is-blank is-quote is-newline further = blank-more byte bytes (words_from Between bytes) is-blank (further Between)
+in-between byte bytes false true newline is-blank is-quote is-newline further = quote-opens byte bytes (words_from Quoted bytes) (eqb-true byte 34 is-quote) (further Quoted)
+in-between byte bytes false false true is-blank is-quote is-newline further = tt
+in-between byte bytes false false false is-blank is-quote is-newline further = bare-opens byte bytes (words_from Bare bytes) (is-bare byte is-blank is-quote is-newline) (further Bare)
 
-in-bare : (byte : ℕ) (bytes : List ℕ) (blank quote : Bool) → is_blank byte ≡ blank → (byte == 34) ≡ quote → Further bytes
-    → Means Bare (acted (cond blank (Ends Between) (cond quote Breaks (Joins Bare))) byte (λ next. words_from next bytes)) (byte ∷ bytes)
-in-bare byte bytes true quote is-blank is-quote further = bare-ends byte bytes (words_from Between bytes) is-blank (further Between)
-in-bare byte bytes false true is-blank is-quote further = tt
-in-bare byte bytes false false is-blank is-quote further = bare-more byte bytes (words_from Bare bytes) (is-bare byte is-blank is-quote) (further Bare)
+in-bare : (byte : ℕ) (bytes : List ℕ) (blank quote newline : Bool) → is_blank byte ≡ blank → (byte == 34) ≡ quote → (byte == 10) ≡ newline → Further bytes
+    → Means Bare (acted (cond blank (Ends Between) (cond quote Breaks (cond newline Breaks (Joins Bare)))) byte (λ next. words_from next bytes)) (byte ∷ bytes)
+in-bare byte bytes true quote newline is-blank is-quote is-newline further = bare-ends byte bytes (words_from Between bytes) is-blank (further Between)
+in-bare byte bytes false true newline is-blank is-quote is-newline further = tt
+in-bare byte bytes false false true is-blank is-quote is-newline further = tt
+in-bare byte bytes false false false is-blank is-quote is-newline further = bare-more byte bytes (words_from Bare bytes) (is-bare byte is-blank is-quote is-newline) (further Bare)
 
-in-quotes : (byte : ℕ) (bytes : List ℕ) (quote slash : Bool) → (byte == 34) ≡ quote → (byte == 92) ≡ slash → Further bytes
-    → Means Quoted (acted (cond quote (Ends Closed) (cond slash (Skips Escaped) (Joins Quoted))) byte (λ next. words_from next bytes)) (byte ∷ bytes)
-in-quotes byte bytes true slash is-quote is-slash further = quote-closes byte bytes (words_from Closed bytes) (eqb-true byte 34 is-quote) (further Closed)
-in-quotes byte bytes false true is-quote is-slash further = slash-escapes byte bytes (words_from Escaped bytes) (eqb-true byte 92 is-slash) (further Escaped)
-in-quotes byte bytes false false is-quote is-slash further =
-    quoted-more byte bytes (words_from Quoted bytes) (differs byte 34 is-quote) (differs byte 92 is-slash) (further Quoted)
+in-quotes : (byte : ℕ) (bytes : List ℕ) (quote slash newline : Bool) → (byte == 34) ≡ quote → (byte == 92) ≡ slash → (byte == 10) ≡ newline → Further bytes
+    → Means Quoted (acted (cond quote (Ends Closed) (cond slash (Skips Escaped) (cond newline Breaks (Joins Quoted)))) byte (λ next. words_from next bytes)) (byte ∷ bytes)
+in-quotes byte bytes true slash newline is-quote is-slash is-newline further = quote-closes byte bytes (words_from Closed bytes) (eqb-true byte 34 is-quote) (further Closed)
+in-quotes byte bytes false true newline is-quote is-slash is-newline further = slash-escapes byte bytes (words_from Escaped bytes) (eqb-true byte 92 is-slash) (further Escaped)
+in-quotes byte bytes false false true is-quote is-slash is-newline further = tt
+in-quotes byte bytes false false false is-quote is-slash is-newline further =
+    quoted-more byte bytes (words_from Quoted bytes) (differs byte 34 is-quote) (differs byte 92 is-slash) (differs byte 10 is-newline) (further Quoted)
+
+in-escape : (byte : ℕ) (bytes : List ℕ) (newline : Bool) → (byte == 10) ≡ newline → Further bytes
+    → Means Escaped (acted (cond newline Breaks (Joins Quoted)) byte (λ next. words_from next bytes)) (byte ∷ bytes)
+in-escape byte bytes true is-newline further = tt
+in-escape byte bytes false is-newline further = escaped-more byte bytes (words_from Quoted bytes) (differs byte 10 is-newline) (further Quoted)
 
 in-closed : (byte : ℕ) (bytes : List ℕ) (blank : Bool) → is_blank byte ≡ blank → Further bytes
     → Means Closed (acted (cond blank (Skips Between) Breaks) byte (λ next. words_from next bytes)) (byte ∷ bytes)
@@ -198,10 +212,10 @@ means-found [] Bare = ([], refl, refl, tt, refl)
 means-found [] Quoted = tt
 means-found [] Escaped = tt
 means-found [] Closed = (tt, refl)
-means-found (byte ∷ bytes) Between = in-between byte bytes (is_blank byte) (byte == 34) refl refl (λ place. means-found bytes place)
-means-found (byte ∷ bytes) Bare = in-bare byte bytes (is_blank byte) (byte == 34) refl refl (λ place. means-found bytes place)
-means-found (byte ∷ bytes) Quoted = in-quotes byte bytes (byte == 34) (byte == 92) refl refl (λ place. means-found bytes place)
-means-found (byte ∷ bytes) Escaped = escaped-more byte bytes (words_from Quoted bytes) (means-found bytes Quoted)
+means-found (byte ∷ bytes) Between = in-between byte bytes (is_blank byte) (byte == 34) (byte == 10) refl refl refl (λ place. means-found bytes place)
+means-found (byte ∷ bytes) Bare = in-bare byte bytes (is_blank byte) (byte == 34) (byte == 10) refl refl refl (λ place. means-found bytes place)
+means-found (byte ∷ bytes) Quoted = in-quotes byte bytes (byte == 34) (byte == 92) (byte == 10) refl refl refl (λ place. means-found bytes place)
+means-found (byte ∷ bytes) Escaped = in-escape byte bytes (byte == 10) refl (λ place. means-found bytes place)
 means-found (byte ∷ bytes) Closed = in-closed byte bytes (is_blank byte) refl (λ place. means-found bytes place)
 
 -- the words found are those that the line is made of

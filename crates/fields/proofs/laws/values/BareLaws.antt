@@ -25,8 +25,9 @@ some-bytes (byte ∷ text) some e = cc
 -- a byte above the blank that is no `"`
 bare-byte : (byte : ℕ) → 33 ≤ byte → not (byte == 34) ≡ true → is_bare byte ≡ true
 bare-byte byte low quote =
-    ap (λ t. not (t || (byte == 9)) && not (byte == 34)) (ne_eqb byte 32 (λ e. omega arith))
-    ∙ ap (λ t. not t && not (byte == 34)) (ne_eqb byte 9 (λ e. omega arith)) ∙ quote
+    ap (λ t. not (t || (byte == 9)) && not (byte == 34) && not (byte == 10)) (ne_eqb byte 32 (λ e. omega arith))
+    ∙ ap (λ t. not t && not (byte == 34) && not (byte == 10)) (ne_eqb byte 9 (λ e. omega arith)) ∙ ap (λ t. t && not (byte == 10)) quote
+    ∙ ap (λ t. not t) (ne_eqb byte 10 (λ e. omega arith))
 
 bare-interface : (byte : ℕ) → is_interface_byte byte ≡ true → is_bare byte ≡ true
 bare-interface byte is = bare-byte byte (interface-byte byte is).0 (and_parts (nat_le 33 byte && nat_le byte 126 && not (byte == 47)) (not (byte == 34)) is).1

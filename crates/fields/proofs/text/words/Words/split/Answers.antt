@@ -1,22 +1,33 @@
-use Rattle.std.proofs.Common.{rules}
+use Rattle.std.proofs.Common.{◌≡◌, ap, Ok, rules}
+use Rattle.fields.specs.steps.Cutting.{view_words}
 use Rattle.fields.proofs.laws.text.WordLaws.{words_of-law}
-use Rattle.fields.proofs.laws.text.SplitLaws.{IsExact, exact-found, exact-only, exact-quoting}
+use Rattle.fields.proofs.laws.text.OneLineLaws.{found_line, found_words}
+use Rattle.fields.proofs.laws.text.SplitLaws.{exact-found, exact-only, exact-quoting}
 use Rattle.fields.proofs.text.words.Words.split.Goals as goal
 
-exact : (c : goal.After-map) → IsExact c.map.result c.args.line.now
-exact c = search rules
+pub invariant_of-result : goal.invariant_of-result
+invariant_of-result c = found_words (view_words c.in_ok-items.items.items) c.args.line.now c.in_ok-items.ensures
 
-pub returns-clause-exact : goal.returns-clause-exact
-returns-clause-exact c = exact c
+pub returns-in_err-items-clause-only : goal.returns-in_err-items-clause-only
+returns-in_err-items-clause-only c = exact-only c.from_residual.result c.args.line.now (search rules)
+
+pub returns-in_err-items-clause-quoting : goal.returns-in_err-items-clause-quoting
+returns-in_err-items-clause-quoting c = exact-quoting c.from_residual.result c.args.line.now (search rules)
+
+pub returns-in_err-items-clause-law : goal.returns-in_err-items-clause-law
+returns-in_err-items-clause-law c = λ words. words_of-law words c.args.line.now
 
 pub returns-clause-found : goal.returns-clause-found
-returns-clause-found c = exact-found c.map.result c.args.line.now (exact c)
+returns-clause-found c = exact-found (Ok (view_words c.in_ok-items.items.items)) c.args.line.now c.in_ok-items.ensures
 
 pub returns-clause-only : goal.returns-clause-only
-returns-clause-only c = exact-only c.map.result c.args.line.now (exact c)
-
-pub returns-clause-quoting : goal.returns-clause-quoting
-returns-clause-quoting c = exact-quoting c.map.result c.args.line.now (exact c)
+returns-clause-only c = exact-only (Ok (view_words c.in_ok-items.items.items)) c.args.line.now c.in_ok-items.ensures
 
 pub returns-clause-law : goal.returns-clause-law
 returns-clause-law c = λ words. words_of-law words c.args.line.now
+
+pub returns-clause-one_line : goal.returns-clause-one_line
+returns-clause-one_line c = found_line (view_words c.in_ok-items.items.items) c.args.line.now c.in_ok-items.ensures
+
+pub returns-clause-words_in_line : goal.returns-clause-words_in_line
+returns-clause-words_in_line c = found_words (view_words c.in_ok-items.items.items) c.args.line.now c.in_ok-items.ensures
