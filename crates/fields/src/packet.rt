@@ -3,14 +3,14 @@ ghost use Rattle.std.specs.Prelude.{◌≡◌, ◌<◌, ◌≤◌, [], find, map
 ghost use Rattle.std.specs.List.{list_any};
 ghost use Rattle.fields.specs.declared.numbers.field.Field.{Field};
 ghost use Rattle.fields.specs.numbers.Field.{number_on, top};
-ghost use Rattle.fields.specs.packet.Packet.{has_key, field_of, text_in, text_of, word_fault, leftmost_fault, parts_of, strays, lacks, value_on};
+ghost use Rattle.fields.specs.packet.Packet.{has_key, field_of, text_in, text_of, word_fault, leftmost_fault, shape_of, strays, lacks, value_on};
 
 pub(crate) mod hook;
 pub(crate) mod keys;
 
 use crate::numbers::field::{FIELDS, Field};
 use crate::packet::hook::Hook;
-use crate::packet::keys::{Key, Parts};
+use crate::packet::keys::{KeyRow, Shape};
 use crate::text::cut::cut_at;
 use crate::text::words::Words;
 use std::marker::Model;
@@ -110,7 +110,9 @@ fn word_fault(words: &Words, first: usize, place: usize) -> Option<PacketFault>
     let Some(field) = field_of(key) else {
         return Some(PacketFault::UnknownKey);
     };
-    if text_of(words, first, place, field).is_some() || Key::of(field).value.read(text).is_none() {
+    if text_of(words, first, place, field).is_some()
+        || KeyRow::of(field).value.read(text).is_none()
+    {
         Some(PacketFault::BadValue)
     } else {
         None
@@ -137,20 +139,20 @@ fn value_on(words: &Words, first: usize, field: Field) -> u128
 {
     match text_of(words, first, words.len(), field) {
         None => 0,
-        Some(text) => Key::of(field).value.read(text).unwrap_or(0),
+        Some(text) => KeyRow::of(field).value.read(text).unwrap_or(0),
     }
 }
 
-// The parts that decide which others the packet carries.
-fn parts_of(hook: Hook, words: &Words, first: usize) -> Parts
+// The shape that decide which others the packet carries.
+fn shape_of(hook: Hook, words: &Words, first: usize) -> Shape
     requires { first ≤ length words.now }
-    ensures { result ≡ parts_of hook (drop first words.now) }
+    ensures { result ≡ shape_of hook (drop first words.now) }
 {
     let protocol = match text_of(words, first, words.len(), Field::Protocol) {
         None => None,
-        Some(text) => Key::of(Field::Protocol).value.read(text),
+        Some(text) => KeyRow::of(Field::Protocol).value.read(text),
     };
-    Parts {
+    Shape {
         hook,
         protocol,
         fragment: value_on(words, first, Field::Fragment),
@@ -158,39 +160,39 @@ fn parts_of(hook: Hook, words: &Words, first: usize) -> Parts
 }
 
 // Tells whether the key of a field is given, of a packet that doesn't carry it.
-fn strays(parts: Parts, words: &Words, first: usize, field: Field) -> bool
+fn strays(shape: Shape, words: &Words, first: usize, field: Field) -> bool
     requires { first ≤ length words.now }
-    ensures { result ≡ strays parts (drop first words.now) field }
+    ensures { result ≡ strays shape (drop first words.now) field }
 {
-    text_of(words, first, words.len(), field).is_some() && !parts.carry(Key::of(field).carrier)
+    text_of(words, first, words.len(), field).is_some() && !shape.carry(KeyRow::of(field).carrier)
 }
 
-fn strays_any(parts: Parts, words: &Words, first: usize, fields: &[Field]) -> bool
+fn strays_any(shape: Shape, words: &Words, first: usize, fields: &[Field]) -> bool
     requires { first ≤ length words.now }
-    ensures { result ≡ list_any (strays parts (drop first words.now)) fields.now }
+    ensures { result ≡ list_any (strays shape (drop first words.now)) fields.now }
 {
     fields
         .iter()
-        .any(|field| strays(parts, words, first, *field))
+        .any(|field| strays(shape, words, first, *field))
 }
 
 // Tells whether the key of a field has to be given and isn't.
-fn lacks(parts: Parts, words: &Words, first: usize, field: Field) -> bool
+fn lacks(shape: Shape, words: &Words, first: usize, field: Field) -> bool
     requires { first ≤ length words.now }
-    ensures { result ≡ lacks parts (drop first words.now) field }
+    ensures { result ≡ lacks shape (drop first words.now) field }
 {
-    Key::of(field).is_required
-        && parts.carry(Key::of(field).carrier)
+    KeyRow::of(field).is_required
+        && shape.carry(KeyRow::of(field).carrier)
         && text_of(words, first, words.len(), field).is_none()
 }
 
-fn lacks_any(parts: Parts, words: &Words, first: usize, fields: &[Field]) -> bool
+fn lacks_any(shape: Shape, words: &Words, first: usize, fields: &[Field]) -> bool
     requires { first ≤ length words.now }
-    ensures { result ≡ list_any (lacks parts (drop first words.now)) fields.now }
+    ensures { result ≡ list_any (lacks shape (drop first words.now)) fields.now }
 {
     fields
         .iter()
-        .any(|field| lacks(parts, words, first, *field))
+        .any(|field| lacks(shape, words, first, *field))
 }
 
 fn put_values(words: &Words, first: usize, fields: &[Field], values: &mut [u128])
@@ -215,7 +217,7 @@ fn values_of(words: &Words, first: usize) -> [u128; FIELDS]
 impl Packet {
     ghost use Rattle.fields.specs.packet.Packet.{IsPacket, checked, packet_of, point};
 
-    fn behind_hook(hook: Hook, words: &Words, first: usize) -> Result<Packet, PacketFault>
+    fn after_hook(hook: Hook, words: &Words, first: usize) -> Result<Packet, PacketFault>
         requires { first ≤ length words.now }
         ensures value { result ≡ checked hook (drop first words.now) (leftmost_fault [] (drop first words.now)) }
         ensures valid { IfOk result (λ p. IsPacket p) }
@@ -223,11 +225,11 @@ impl Packet {
         match leftmost_fault(words, first) {
             Some(fault) => Err(fault),
             None => {
-                let parts = parts_of(hook, words, first);
-                if strays_any(parts, words, first, &Field::ALL) {
+                let shape = shape_of(hook, words, first);
+                if strays_any(shape, words, first, &Field::ALL) {
                     return Err(PacketFault::NotCarried);
                 }
-                if lacks_any(parts, words, first, &Field::ALL) {
+                if lacks_any(shape, words, first, &Field::ALL) {
                     return Err(PacketFault::KeyMissing);
                 }
                 let values = values_of(words, first);
@@ -248,7 +250,7 @@ impl Packet {
         }
         match Hook::read(words.get(from)) {
             None => Err(PacketFault::UnknownKey),
-            Some(hook) => Packet::behind_hook(hook, words, from + 1),
+            Some(hook) => Packet::after_hook(hook, words, from + 1),
         }
     }
 

@@ -1,3 +1,4 @@
+mod allowed;
 mod packets;
 mod taps;
 mod values;

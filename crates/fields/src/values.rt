@@ -1,6 +1,5 @@
 //! The values that conditions and targets have: each with its reading, its test, its text and the set of its numbers.
 
-pub(crate) mod allowed;
 pub(crate) mod connection_state;
 pub(crate) mod copied;
 pub(crate) mod flag_test;

@@ -3,13 +3,46 @@ use Rattle.std.specs.Prelude.{ℕ, List, [], ◌∷◌, slice_index, codes}
 use Rattle.fields.specs.declared.numbers.field.Field.{Field}
 use Rattle.fields.specs.declared.numbers.field.Field.TheVariants.{Source, Destination, InIface, OutIface, Protocol, Fragment, SourcePort, DestinationPort, TcpFlags, IcmpType, ConnectionState}
 
+-- the greatest address
+abbrev pub address_top : ℕ
+address_top = 4294967295
+
+-- the greatest number of an interface: all bits of its 16 bytes
+abbrev pub interface_top : ℕ
+interface_top = 340282366920938463463374607431768211455
+
+-- the greatest protocol
+abbrev pub protocol_top : ℕ
+protocol_top = 255
+
+-- 1 for a further fragment
+abbrev pub fragment_top : ℕ
+fragment_top = 1
+
+-- the greatest port
+abbrev pub port_top : ℕ
+port_top = 65535
+
+-- the sum of all six flags
+abbrev pub flags_top : ℕ
+flags_top = 63
+
+-- the greatest ICMP type and code, the type times 256 plus the code
+abbrev pub icmp_top : ℕ
+icmp_top = 65535
+
+-- the number of the last state of a connection
+abbrev pub state_top : ℕ
+state_top = 13
+
 -- a field's place among all, its greatest value, and its short name
-pub record Row : Type 0 where
+pub record FieldRow : Type 0 where
   pub index : ℕ
   pub top : ℕ
   pub name : List ℕ
 
-abbrev pub row : ℕ → ℕ → List ℕ → Row
+-- the row of these
+abbrev pub row : ℕ → ℕ → List ℕ → FieldRow
 row index top name = record { index = index; top = top; name = name }
 
 -- the fields, in their order
@@ -19,25 +52,28 @@ all_fields =
     ∷ ConnectionState ∷ []
 
 -- the table of fields
-abbrev pub row_of : Field → Row
-row_of Source = row 0 4294967295 (codes "src")
-row_of Destination = row 1 4294967295 (codes "dst")
-row_of InIface = row 2 340282366920938463463374607431768211455 (codes "in")
-row_of OutIface = row 3 340282366920938463463374607431768211455 (codes "out")
-row_of Protocol = row 4 255 (codes "proto")
-row_of Fragment = row 5 1 (codes "frag")
-row_of SourcePort = row 6 65535 (codes "sport")
-row_of DestinationPort = row 7 65535 (codes "dport")
-row_of TcpFlags = row 8 63 (codes "flags")
-row_of IcmpType = row 9 65535 (codes "icmp")
-row_of ConnectionState = row 10 13 (codes "ct")
+abbrev pub row_of : Field → FieldRow
+row_of Source = row 0 address_top (codes "src")
+row_of Destination = row 1 address_top (codes "dst")
+row_of InIface = row 2 interface_top (codes "in")
+row_of OutIface = row 3 interface_top (codes "out")
+row_of Protocol = row 4 protocol_top (codes "proto")
+row_of Fragment = row 5 fragment_top (codes "frag")
+row_of SourcePort = row 6 port_top (codes "sport")
+row_of DestinationPort = row 7 port_top (codes "dport")
+row_of TcpFlags = row 8 flags_top (codes "flags")
+row_of IcmpType = row 9 icmp_top (codes "icmp")
+row_of ConnectionState = row 10 state_top (codes "ct")
 
+-- the field's place among all
 abbrev pub index : Field → ℕ
 index field = (row_of field).index
 
+-- the field's greatest value
 abbrev pub top : Field → ℕ
 top field = (row_of field).top
 
+-- the field's short name
 abbrev pub name : Field → List ℕ
 name field = (row_of field).name
 

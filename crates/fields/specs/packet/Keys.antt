@@ -12,15 +12,15 @@ use Rattle.fields.specs.declared.packet.hook.Hook.{Hook}
 use Rattle.fields.specs.declared.packet.hook.Hook.TheVariants.{Input, Output}
 use Rattle.fields.specs.declared.numbers.field.Field.{Field}
 use Rattle.fields.specs.declared.numbers.field.Field.TheVariants as field
-use Rattle.fields.specs.declared.packet.keys.Key.{Key}
-use Rattle.fields.specs.declared.packet.keys.Value.{Value}
-use Rattle.fields.specs.declared.packet.keys.Value.TheVariants as value
-use Rattle.fields.specs.declared.packet.keys.Parts.{Parts}
+use Rattle.fields.specs.declared.packet.keys.KeyRow.{KeyRow}
+use Rattle.fields.specs.declared.packet.keys.ValueKind.{ValueKind}
+use Rattle.fields.specs.declared.packet.keys.ValueKind.TheVariants as value
+use Rattle.fields.specs.declared.packet.keys.Shape.{Shape}
 use Rattle.fields.specs.declared.packet.keys.Carrier.{Carrier}
 use Rattle.fields.specs.declared.packet.keys.Carrier.TheVariants as carrier
 
 -- the number that a text is as a value of this kind
-abbrev pub value_of : Value → List ℕ → Option ℕ
+abbrev pub value_of : ValueKind → List ℕ → Option ℕ
 value_of value.Address text = address_of text
 value_of value.Interface text = interface_of text >>= λ name. Some (interface_value name)
 value_of value.Protocol text = one_protocol_of text
@@ -30,11 +30,12 @@ value_of value.Flags text = tcp_flags_of text
 value_of value.Icmp text = packet_icmp_of text
 value_of value.State text = packet_state_of text
 
--- a packet comes in unless it is sent from here, and goes out unless it is for here
+-- a packet comes in unless it is sent from here
 abbrev pub comes_in : Hook → Bool
 comes_in Output = false
 comes_in hook = true
 
+-- a packet goes out unless it is for here
 abbrev pub goes_out : Hook → Bool
 goes_out Input = false
 goes_out hook = true
@@ -44,20 +45,21 @@ abbrev pub is_first_of : (ℕ → Bool) → ℕ → Option ℕ → Bool
 is_first_of has fragment None = false
 is_first_of has fragment (Some protocol) = has protocol && (fragment == 0)
 
--- Whether a packet carries a part, by its hook, its protocol where one is given, and whether it is a further fragment.
-abbrev pub carries : Parts → Carrier → Bool
-carries parts carrier.Every = true
-carries parts carrier.Incoming = comes_in parts.hook
-carries parts carrier.Outgoing = goes_out parts.hook
-carries parts carrier.WithPorts = is_first_of carries_ports parts.fragment parts.protocol
-carries parts carrier.Tcp = is_first_of (λ n. n == 6) parts.fragment parts.protocol
-carries parts carrier.Icmp = is_first_of (λ n. n == 1) parts.fragment parts.protocol
+-- whether a packet of a shape carries a key
+abbrev pub carries : Shape → Carrier → Bool
+carries shape carrier.Every = true
+carries shape carrier.Incoming = comes_in shape.hook
+carries shape carrier.Outgoing = goes_out shape.hook
+carries shape carrier.WithPorts = is_first_of carries_ports shape.fragment shape.protocol
+carries shape carrier.Tcp = is_first_of (λ n. n == 6) shape.fragment shape.protocol
+carries shape carrier.Icmp = is_first_of (λ n. n == 1) shape.fragment shape.protocol
 
-abbrev pub key : Value → Carrier → Bool → Key
+-- the row of these
+abbrev pub key : ValueKind → Carrier → Bool → KeyRow
 key value carrier required = record { value = value; carrier = carrier; is_required = required }
 
 -- the table of keys: one row a field, whose name is the key. What it takes, who carries it, and whether a packet that does needs it
-abbrev pub key_of : Field → Key
+abbrev pub key_of : Field → KeyRow
 key_of field.Source = key value.Address carrier.Every true
 key_of field.Destination = key value.Address carrier.Every true
 key_of field.InIface = key value.Interface carrier.Incoming false

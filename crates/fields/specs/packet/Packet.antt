@@ -10,7 +10,7 @@ use Rattle.fields.specs.packet.Hook.{hook_of}
 use Rattle.fields.specs.packet.Keys.{key_of, value_of, carries}
 use Rattle.fields.specs.declared.numbers.field.Field.{Field}
 use Rattle.fields.specs.declared.numbers.field.Field.TheVariants as fields
-use Rattle.fields.specs.declared.packet.keys.Parts.{Parts}
+use Rattle.fields.specs.declared.packet.keys.Shape.{Shape}
 use Rattle.fields.specs.declared.packet.hook.Hook.{Hook}
 use Rattle.fields.specs.declared.packet.PacketFault.{PacketFault}
 use Rattle.fields.specs.declared.packet.PacketFault.TheVariants.{UnknownKey, KeyMissing, BadValue, NotCarried}
@@ -70,34 +70,34 @@ leftmost_fault before (word ∷ words) = option_or (word_fault before word) (lef
 abbrev pub value_on : List (List ℕ) → Field → ℕ
 value_on words field = unwrap_or (text_of field words >>= λ text. number_of_text field text) 0
 
--- the parts of a packet that decide which others it carries
-abbrev pub parts_of : Hook → List (List ℕ) → Parts
-parts_of hook words = record {
+-- the shape of a packet that decide which others it carries
+abbrev pub shape_of : Hook → List (List ℕ) → Shape
+shape_of hook words = record {
   hook = hook;
   protocol = text_of fields.Protocol words >>= λ text. number_of_text fields.Protocol text;
   fragment = value_on words fields.Fragment;
 }
 
 -- whether the key of a field is given, of a packet that doesn't carry it
-abbrev pub strays : Parts → List (List ℕ) → Field → Bool
-strays parts words field = is_some (text_of field words) && not (carries parts (key_of field).carrier)
+abbrev pub strays : Shape → List (List ℕ) → Field → Bool
+strays shape words field = is_some (text_of field words) && not (carries shape (key_of field).carrier)
 
-abbrev pub strays_key : Parts → List (List ℕ) → Bool
-strays_key parts words = list_any (strays parts words) all_fields
+abbrev pub strays_key : Shape → List (List ℕ) → Bool
+strays_key shape words = list_any (strays shape words) all_fields
 
 -- whether the key of a field has to be given and isn't
-abbrev pub lacks : Parts → List (List ℕ) → Field → Bool
-lacks parts words field = (key_of field).is_required && carries parts (key_of field).carrier && is_none (text_of field words)
+abbrev pub lacks : Shape → List (List ℕ) → Field → Bool
+lacks shape words field = (key_of field).is_required && carries shape (key_of field).carrier && is_none (text_of field words)
 
-abbrev pub lacks_key : Parts → List (List ℕ) → Bool
-lacks_key parts words = list_any (lacks parts words) all_fields
+abbrev pub lacks_key : Shape → List (List ℕ) → Bool
+lacks_key shape words = list_any (lacks shape words) all_fields
 
 -- the packet of a hook and the words behind it, or the first fault: of a word, then a key that it doesn't carry, then one that it lacks
 abbrev pub checked : Hook → List (List ℕ) → Option PacketFault → Result PacketView PacketFault
 checked hook words (Some fault) = Err fault
 checked hook words None =
-    if strays_key (parts_of hook words) words then Err NotCarried
-    else if lacks_key (parts_of hook words) words then Err KeyMissing
+    if strays_key (shape_of hook words) words then Err NotCarried
+    else if lacks_key (shape_of hook words) words then Err KeyMissing
     else Ok (record { hook = hook; values = map (value_on words) all_fields })
 
 abbrev pub packet_at : Option Hook → List (List ℕ) → Result PacketView PacketFault

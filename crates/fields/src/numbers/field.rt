@@ -1,28 +1,56 @@
-// The fields of a packet.
+//! The fields of a packet.
 ghost use Rattle.std.specs.Prelude.{◌≡◌, ◌<◌, Some, slice_get};
 
 /// What a packet has one whole number of, and what a condition of a rule asks.
 #[derive(Clone, Copy, Debug, PartialEq, Eq)]
 pub enum Field {
+    /// The address that the packet comes from.
     Source,
+    /// The address that it goes to.
     Destination,
+    /// The interface that it comes in by.
     InIface,
+    /// The interface that it goes out by.
     OutIface,
+    /// Its protocol.
     Protocol,
+    /// 1 for a further fragment, else 0.
     Fragment,
+    /// The port that it comes from.
     SourcePort,
+    /// The port that it goes to.
     DestinationPort,
+    /// Its TCP flags, as the sum of their numbers.
     TcpFlags,
+    /// Its ICMP type times 256, plus the code.
     IcmpType,
+    /// The state of its connection, with translations.
     ConnectionState,
 }
 
 /// How many fields there are.
 pub const FIELDS: usize = 11;
 
+// The greatest numbers of what stands on the fields.
+pub(crate) const ADDRESS_TOP: u128 = u32::MAX as u128;
+
+pub(crate) const INTERFACE_TOP: u128 = u128::MAX;
+
+pub(crate) const PROTOCOL_TOP: u128 = 255;
+
+pub(crate) const FRAGMENT_TOP: u128 = 1;
+
+pub(crate) const PORT_TOP: u128 = 65535;
+
+pub(crate) const FLAGS_TOP: u8 = 63;
+
+pub(crate) const ICMP_TOP: u128 = 65535;
+
+pub(crate) const STATE_TOP: u8 = 13;
+
 // What belongs to a field.
 #[derive(Clone, Copy)]
-struct Row {
+struct FieldRow {
     top: u128,
     name: &'static [u8],
 }
@@ -45,24 +73,24 @@ impl Field {
         Field::ConnectionState,
     ];
 
-    fn row(self) -> Row
+    fn row(self) -> FieldRow
         ensures top { result.top ≡ (row_of self).top }
         ensures name { result.name.now ≡ (row_of self).name }
     {
         let (top, name): (u128, &'static [u8]) = match self {
-            Field::Source => (u32::MAX as u128, b"src"),
-            Field::Destination => (u32::MAX as u128, b"dst"),
-            Field::InIface => (u128::MAX, b"in"),
-            Field::OutIface => (u128::MAX, b"out"),
-            Field::Protocol => (255, b"proto"),
-            Field::Fragment => (1, b"frag"),
-            Field::SourcePort => (65535, b"sport"),
-            Field::DestinationPort => (65535, b"dport"),
-            Field::TcpFlags => (63, b"flags"),
-            Field::IcmpType => (65535, b"icmp"),
-            Field::ConnectionState => (13, b"ct"),
+            Field::Source => (ADDRESS_TOP, b"src"),
+            Field::Destination => (ADDRESS_TOP, b"dst"),
+            Field::InIface => (INTERFACE_TOP, b"in"),
+            Field::OutIface => (INTERFACE_TOP, b"out"),
+            Field::Protocol => (PROTOCOL_TOP, b"proto"),
+            Field::Fragment => (FRAGMENT_TOP, b"frag"),
+            Field::SourcePort => (PORT_TOP, b"sport"),
+            Field::DestinationPort => (PORT_TOP, b"dport"),
+            Field::TcpFlags => (FLAGS_TOP as u128, b"flags"),
+            Field::IcmpType => (ICMP_TOP, b"icmp"),
+            Field::ConnectionState => (STATE_TOP as u128, b"ct"),
         };
-        Row { top, name }
+        FieldRow { top, name }
     }
 
     /// The greatest value that a packet can have on the field.

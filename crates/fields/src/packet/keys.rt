@@ -1,4 +1,4 @@
-// The keys of a packet line.
+//! The keys of a packet line.
 ghost use Rattle.std.specs.Prelude.{◌≡◌, ◌==◌};
 ghost use Rattle.fields.specs.values.Protocol.{carries_ports};
 
@@ -9,12 +9,12 @@ use crate::values::connection_state::read_packet_state;
 use crate::values::icmp::read_packet_icmp;
 use crate::values::interface::IfPattern;
 use crate::values::prefix::read_address;
-use crate::values::protocol::Protocol;
+use crate::values::protocol::{DCCP, ICMP, Protocol, SCTP, TCP, UDP, UDPLITE};
 use crate::values::tcp_flags::TcpFlags;
 
-// What stands behind a key's `=`.
+// What stands after a key's `=`.
 #[derive(Clone, Copy)]
-pub(crate) enum Value {
+pub(crate) enum ValueKind {
     Address,
     Interface,
     Protocol,
@@ -25,7 +25,7 @@ pub(crate) enum Value {
     State,
 }
 
-// Which packets carry the part.
+// Which packets carry a key.
 #[derive(Clone, Copy)]
 pub(crate) enum Carrier {
     Every,
@@ -38,35 +38,35 @@ pub(crate) enum Carrier {
 
 // What the key of a field takes, who carries it, and whether a packet that does needs it.
 #[derive(Clone, Copy)]
-pub(crate) struct Key {
-    pub value: Value,
+pub(crate) struct KeyRow {
+    pub value: ValueKind,
     pub carrier: Carrier,
     pub is_required: bool,
 }
 
-// What decides which parts a packet carries.
+// What decides which keys a packet carries: its hook, its protocol where one is given, and whether it is a further fragment.
 #[derive(Clone, Copy)]
-pub(crate) struct Parts {
+pub(crate) struct Shape {
     pub hook: Hook,
     pub protocol: Option<u128>,
     pub fragment: u128,
 }
 
-impl Value {
+impl ValueKind {
     ghost use Rattle.fields.specs.packet.Keys.{value_of};
 
     pub(crate) fn read(self, text: &[u8]) -> Option<u128>
         ensures { result ≡ value_of self text.now }
     {
         match self {
-            Value::Address => Some(u128::from(read_address(text)?)),
-            Value::Interface => Some(IfPattern::read(text)?.value()),
-            Value::Protocol => Some(u128::from(Protocol::read_one(text)?.number())),
-            Value::Bit => Some(u128::from(read_number_to(text, 1)?)),
-            Value::Port => Some(u128::from(read_number_to(text, 65535)?)),
-            Value::Flags => Some(u128::from(TcpFlags::read(text)?.value())),
-            Value::Icmp => Some(u128::from(read_packet_icmp(text)?)),
-            Value::State => Some(u128::from(read_packet_state(text)?)),
+            ValueKind::Address => Some(u128::from(read_address(text)?)),
+            ValueKind::Interface => Some(IfPattern::read(text)?.value()),
+            ValueKind::Protocol => Some(u128::from(Protocol::read_one(text)?.number())),
+            ValueKind::Bit => Some(u128::from(read_number_to(text, 1)?)),
+            ValueKind::Port => Some(u128::from(read_number_to(text, 65535)?)),
+            ValueKind::Flags => Some(u128::from(TcpFlags::read(text)?.value())),
+            ValueKind::Icmp => Some(u128::from(read_packet_icmp(text)?)),
+            ValueKind::State => Some(u128::from(read_packet_state(text)?)),
         }
     }
 }
@@ -75,10 +75,14 @@ impl Value {
 fn has_ports(protocol: u128) -> bool
     ensures { result ≡ carries_ports protocol }
 {
-    protocol == 6 || protocol == 17 || protocol == 33 || protocol == 132 || protocol == 136
+    protocol == TCP as u128
+        || protocol == UDP as u128
+        || protocol == DCCP as u128
+        || protocol == SCTP as u128
+        || protocol == UDPLITE as u128
 }
 
-impl Parts {
+impl Shape {
     ghost use Rattle.fields.specs.packet.Keys.{carries, comes_in, goes_out, is_first_of};
 
     fn comes_in(self) -> bool
@@ -117,7 +121,7 @@ impl Parts {
         }
     }
 
-    // Whether a packet with these parts carries one more.
+    // Whether a packet of this shape carries the key.
     pub(crate) fn carry(self, carrier: Carrier) -> bool
         ensures { result ≡ carries self carrier }
     {
@@ -126,19 +130,19 @@ impl Parts {
             Carrier::Incoming => self.comes_in(),
             Carrier::Outgoing => self.goes_out(),
             Carrier::WithPorts => self.has_ports(),
-            Carrier::Tcp => self.is_first_of(6),
-            Carrier::Icmp => self.is_first_of(1),
+            Carrier::Tcp => self.is_first_of(TCP as u128),
+            Carrier::Icmp => self.is_first_of(ICMP as u128),
         }
     }
 }
 
-impl Key {
+impl KeyRow {
     ghost use Rattle.fields.specs.packet.Keys.{key, key_of};
 
-    fn new(value: Value, carrier: Carrier, is_required: bool) -> Key
+    fn new(value: ValueKind, carrier: Carrier, is_required: bool) -> KeyRow
         ensures { result ≡ key value carrier is_required }
     {
-        Key {
+        KeyRow {
             value,
             carrier,
             is_required,
@@ -146,21 +150,21 @@ impl Key {
     }
 
     // The table of keys: one row a field.
-    pub(crate) fn of(field: Field) -> Key
+    pub(crate) fn of(field: Field) -> KeyRow
         ensures { result ≡ key_of field }
     {
         match field {
-            Field::Source => Key::new(Value::Address, Carrier::Every, true),
-            Field::Destination => Key::new(Value::Address, Carrier::Every, true),
-            Field::InIface => Key::new(Value::Interface, Carrier::Incoming, false),
-            Field::OutIface => Key::new(Value::Interface, Carrier::Outgoing, false),
-            Field::Protocol => Key::new(Value::Protocol, Carrier::Every, true),
-            Field::Fragment => Key::new(Value::Bit, Carrier::Every, false),
-            Field::SourcePort => Key::new(Value::Port, Carrier::WithPorts, true),
-            Field::DestinationPort => Key::new(Value::Port, Carrier::WithPorts, true),
-            Field::TcpFlags => Key::new(Value::Flags, Carrier::Tcp, false),
-            Field::IcmpType => Key::new(Value::Icmp, Carrier::Icmp, true),
-            Field::ConnectionState => Key::new(Value::State, Carrier::Every, false),
+            Field::Source => KeyRow::new(ValueKind::Address, Carrier::Every, true),
+            Field::Destination => KeyRow::new(ValueKind::Address, Carrier::Every, true),
+            Field::InIface => KeyRow::new(ValueKind::Interface, Carrier::Incoming, false),
+            Field::OutIface => KeyRow::new(ValueKind::Interface, Carrier::Outgoing, false),
+            Field::Protocol => KeyRow::new(ValueKind::Protocol, Carrier::Every, true),
+            Field::Fragment => KeyRow::new(ValueKind::Bit, Carrier::Every, false),
+            Field::SourcePort => KeyRow::new(ValueKind::Port, Carrier::WithPorts, true),
+            Field::DestinationPort => KeyRow::new(ValueKind::Port, Carrier::WithPorts, true),
+            Field::TcpFlags => KeyRow::new(ValueKind::Flags, Carrier::Tcp, false),
+            Field::IcmpType => KeyRow::new(ValueKind::Icmp, Carrier::Icmp, true),
+            Field::ConnectionState => KeyRow::new(ValueKind::State, Carrier::Every, false),
         }
     }
 }

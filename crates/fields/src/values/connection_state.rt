@@ -1,14 +1,19 @@
 // States of connections.
-ghost use Rattle.std.specs.Prelude.{⊤, ◌≡◌, ◌==◌, ◌≤◌, true, Some, IfSome, IsTrue, false, option_map};
+ghost use Rattle.std.specs.Prelude.{⊤, ◌≡◌, ◌==◌, ◌≤◌, true, Some, IfSome, IsTrue, false, option_map, ℕ, IfOk};
+ghost use Rattle.fields.specs.numbers.Field.{state_top};
+ghost use Rattle.fields.specs.numbers.Spans.{has};
 ghost use Rattle.std.specs.Int.RustNames.{bit_and};
 ghost use Rattle.fields.specs.values.ConnectionState.{states, ctstate_of, state_of, IsStates, states_text, packet_states, packet_state_of, marks_of, states_pass};
 ghost use Rattle.fields.specs.values.NameList.{number_named};
 ghost use Rattle.fields.specs.steps.PacketStateTable.{shown, marks_in, all_marked};
 ghost use Rattle.fields.specs.text.Tap.{has_failed, Puts};
 
+use crate::numbers::field::STATE_TOP;
+use crate::numbers::spans::Spans;
 use crate::text::tap::{Tap, WriteFailed};
 use crate::values::name_list::{is_name, put_names, read_names};
 use bitflags::{Flag, Flags};
+use std::alloc::{AllocError, Global};
 use std::io::Write;
 use std::marker::Model;
 
@@ -124,7 +129,7 @@ fn marks_in(value: u8, rows: &[(&[u8], u8, StateBits)]) -> Option<StateBits>
 /// The number on the field `ct` of the state that a packet line writes: INVALID 0; UNTRACKED 1; NEW 2, RELATED 6 and
 /// ESTABLISHED 10, plus 1 where `,SNAT` follows, plus 2 where `,DNAT` follows; in any mix of upper and lower case.
 #[tactic(auto, using(crate::proofs::laws::values::ConnectionStateLaws::packet_state_within))]
-pub fn read_packet_state(text: &[u8]) -> Option<u8>
+pub(crate) fn read_packet_state(text: &[u8]) -> Option<u8>
     ensures value { result ≡ packet_state_of text.now }
     ensures within { IfSome result (λ number. number ≤ 13) }
 {
@@ -201,6 +206,14 @@ impl CtSet {
         ensures state_reads_back { bit_and self 96 ≡ 0 → state_of (states_text self) ≡ Some self }
     {
         put_names(self.bits, &NAMES, output)
+    }
+
+    /// The numbers of the states of packets of which the set holds. It answers `AllocError` only where memory was refused.
+    pub fn allowed(&self, alloc: Global) -> Result<Spans, AllocError>
+        ensures top { IfOk result (λ set. set.top ≡ state_top) }
+        ensures members { IfOk result (λ set. (x : ℕ) → x ≤ state_top → has set.intervals x ≡ states_pass self.now x) }
+    {
+        Spans::of_test(alloc, STATE_TOP, |state| self.holds(state))
     }
 }
 

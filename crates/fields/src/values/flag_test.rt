@@ -1,10 +1,15 @@
 // The condition on TCP flags.
-ghost use Rattle.std.specs.Prelude.{◌≡◌, Some, IfSome, false, codes};
+ghost use Rattle.std.specs.Prelude.{◌≡◌, Some, IfSome, false, codes, ◌≤◌, ℕ, IfOk};
+ghost use Rattle.fields.specs.numbers.Field.{flags_top};
+ghost use Rattle.fields.specs.numbers.Spans.{has};
 ghost use Rattle.fields.specs.text.Tap.{has_failed, Puts};
 ghost use Rattle.fields.specs.values.TcpFlags.{tcp_flags_text};
 
+use crate::numbers::field::FLAGS_TOP;
+use crate::numbers::spans::Spans;
 use crate::text::tap::{Tap, WriteFailed};
 use crate::values::tcp_flags::TcpFlags;
+use std::alloc::{AllocError, Global};
 use std::io::Write;
 
 /// The condition `--tcp-flags mask comp` of iptables-extensions(8): of the flags in the mask, a packet has exactly those of
@@ -64,6 +69,15 @@ impl FlagTest {
         self.mask.put(output)?;
         output.put(b" ")?;
         self.comp.put(output)
+    }
+
+    /// The sums of flags of which the condition holds, each sum with the numbers of FIN 1, SYN 2, RST 4, PSH 8, ACK 16 and
+    /// URG 32. It answers `AllocError` only where memory was refused.
+    pub fn allowed(&self, alloc: Global) -> Result<Spans, AllocError>
+        ensures top { IfOk result (λ set. set.top ≡ flags_top) }
+        ensures members { IfOk result (λ set. (x : ℕ) → x ≤ flags_top → has set.intervals x ≡ flags_pass self.now x) }
+    {
+        Spans::of_test(alloc, FLAGS_TOP, |flags| self.holds(flags))
     }
 }
 

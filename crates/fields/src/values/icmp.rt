@@ -1,12 +1,17 @@
 // ICMP types and codes.
-ghost use Rattle.std.specs.Prelude.{◌≡◌, ℕ, ◌<◌, ◌≤◌, ◌&&◌, nat_le, Some, IfSome, false};
+ghost use Rattle.std.specs.Prelude.{◌≡◌, ℕ, ◌<◌, ◌≤◌, ◌&&◌, nat_le, Some, IfSome, false, IfOk};
+ghost use Rattle.fields.specs.numbers.Field.{icmp_top};
+ghost use Rattle.fields.specs.numbers.Spans.{has};
 ghost use Rattle.fields.specs.values.PacketIcmp.{packet_icmp_of};
 ghost use Rattle.fields.specs.text.Tap.{has_failed, Puts};
 
+use crate::numbers::field::ICMP_TOP;
+use crate::numbers::spans::Spans;
 use crate::text::cut::cut_at;
 use crate::text::number::read_number_to;
 use crate::text::tap::{Tap, WriteFailed};
 use itoa::Buffer;
+use std::alloc::{AllocError, Global};
 use std::io::Write;
 use std::marker::Model;
 
@@ -157,7 +162,7 @@ impl IcmpType {
 
     /// The first and the last number on the field `icmp` of which it holds. It holds of those between them too, and of no
     /// other.
-    pub fn interval(self) -> (u16, u16)
+    pub(crate) fn interval(self) -> (u16, u16)
         ensures exact { (value : ℕ) → value < 65536
             → icmp_passes self value ≡ (nat_le result.0 value && nat_le value result.1) }
         ensures ordered { result.0 ≤ result.1 }
@@ -193,11 +198,21 @@ impl IcmpType {
             ]),
         }
     }
+
+    /// The numbers of types and codes, type times 256 plus code, of which it holds: one interval. It answers `AllocError` only
+    /// where memory was refused.
+    pub fn allowed(&self, alloc: Global) -> Result<Spans, AllocError>
+        ensures top { IfOk result (λ set. set.top ≡ icmp_top) }
+        ensures members { IfOk result (λ set. (x : ℕ) → x ≤ icmp_top → has set.intervals x ≡ icmp_passes self.now x) }
+    {
+        let (first, last) = self.interval();
+        Spans::one(alloc, ICMP_TOP, first.into(), last.into())
+    }
 }
 
 /// The number on the field `icmp` that a packet line's `type/code` writes, each from 0 to 255: the type times 256, plus the code.
 #[tactic(auto, unfolding(crate::specs::values::PacketIcmp::packet_icmp_of))]
-pub fn read_packet_icmp(text: &[u8]) -> Option<u16>
+pub(crate) fn read_packet_icmp(text: &[u8]) -> Option<u16>
     ensures { result ≡ packet_icmp_of text.now }
 {
     let (of_type, code) = cut_at(text, b'/')?;

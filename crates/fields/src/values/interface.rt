@@ -1,13 +1,18 @@
 // Interface patterns.
-ghost use Rattle.std.specs.Prelude.{◌≡◌, ℕ, ◌<◌, ◌≤◌, ◌^◌, ◌↔◌, ◌&&◌, nat_le, List, length, slice_index, codes, IsTrue, Option, Some, None};
+ghost use Rattle.std.specs.Prelude.{◌≡◌, ℕ, ◌<◌, ◌≤◌, ◌^◌, ◌↔◌, ◌&&◌, nat_le, List, length, slice_index, codes, IsTrue, Option, Some, None, IfOk};
+ghost use Rattle.fields.specs.numbers.Field.{interface_top};
+ghost use Rattle.fields.specs.numbers.Spans.{has};
 ghost use Rattle.std.specs.List.{list_all};
 ghost use Rattle.fields.specs.values.Interface.{is_interface_byte, is_interface, interface_of, filled, bytes_value, interface_value, interface_holds, interface_interval, interface_matches, IsInterfaceName, is_open};
 ghost use Rattle.fields.specs.text.Printed.{IsBareWord};
 ghost use Rattle.fields.specs.text.Tap.{Puts};
 
+use crate::numbers::field::INTERFACE_TOP;
+use crate::numbers::spans::Spans;
 use crate::text::tap::{Tap, WriteFailed};
 use crate::values::copied::copied;
 use arrayvec::ArrayVec;
+use std::alloc::{AllocError, Global};
 use std::io::Write;
 use std::marker::Model;
 
@@ -114,7 +119,7 @@ impl IfPattern {
     /// The first and the last number of an interface of which the pattern holds. It holds of all
     /// between them, and of no other.
     #[tactic(auto, using(crate::proofs::laws::values::InterfaceNameLaws::names_hold), unfolding(crate::specs::values::Interface::interface_interval))]
-    pub fn interval(&self) -> (u128, u128)
+    pub(crate) fn interval(&self) -> (u128, u128)
         ensures value { result ≡ interface_interval self.now }
         ensures exact { (value : ℕ) → value < 2 ^ 128
             → interface_holds self.now value ≡ (nat_le result.0 value && nat_le value result.1) }
@@ -165,5 +170,15 @@ impl IfPattern {
         ensures word { IsBareWord self.now }
     {
         output.put(self.bytes.as_slice())
+    }
+
+    /// The numbers of the interfaces of which the pattern holds: one interval. It answers `AllocError` only where memory was
+    /// refused.
+    pub fn allowed(&self, alloc: Global) -> Result<Spans, AllocError>
+        ensures top { IfOk result (λ set. set.top ≡ interface_top) }
+        ensures members { IfOk result (λ set. (x : ℕ) → x ≤ interface_top → has set.intervals x ≡ interface_holds self.now x) }
+    {
+        let (first, last) = self.interval();
+        Spans::one(alloc, INTERFACE_TOP, first, last)
     }
 }

@@ -1,11 +1,16 @@
 // Ranges of IPv4 addresses.
-ghost use Rattle.std.specs.Prelude.{◌≡◌, Some, IfSome, false};
+ghost use Rattle.std.specs.Prelude.{◌≡◌, Some, IfSome, false, ◌≤◌, ℕ, IfOk};
+ghost use Rattle.fields.specs.numbers.Field.{address_top};
+ghost use Rattle.fields.specs.numbers.Spans.{has};
 ghost use Rattle.fields.specs.values.IpRange.{AreEnds, ip_range_of, ip_range_text, range_has};
 ghost use Rattle.fields.specs.text.Tap.{has_failed, Puts};
 
+use crate::numbers::field::ADDRESS_TOP;
+use crate::numbers::spans::Spans;
 use crate::text::cut::cut_at;
 use crate::text::tap::{Tap, WriteFailed};
 use crate::values::prefix::{put_address, read_address};
+use std::alloc::{AllocError, Global};
 use std::io::Write;
 use std::marker::Model;
 
@@ -50,7 +55,7 @@ impl IpRange {
     }
 
     /// The first address. It may be above the last.
-    pub fn first(self) -> u32
+    pub(crate) fn first(self) -> u32
         ensures value { result ≡ self.from }
         ensures valid { AreEnds self }
     {
@@ -58,7 +63,7 @@ impl IpRange {
     }
 
     /// The last address.
-    pub fn last(self) -> u32
+    pub(crate) fn last(self) -> u32
         ensures value { result ≡ self.to }
         ensures valid { AreEnds self }
     {
@@ -81,6 +86,16 @@ impl IpRange {
         put_address(self.first(), output)?;
         output.put(b"-")?;
         put_address(self.last(), output)
+    }
+
+    /// The addresses of the range: one interval, or none where the first is above the last. It answers `AllocError` only where
+    /// memory was refused.
+    pub fn allowed(&self, alloc: Global) -> Result<Spans, AllocError>
+        ensures top { IfOk result (λ set. set.top ≡ address_top) }
+        ensures members { IfOk result (λ set. (x : ℕ) → x ≤ address_top → has set.intervals x ≡ range_has self.now x) }
+    {
+        let (first, last) = (self.first().into(), self.last().into());
+        Spans::one(alloc, ADDRESS_TOP, first, last)
     }
 }
 

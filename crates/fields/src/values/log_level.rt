@@ -82,7 +82,7 @@ impl LogLevel {
     }
 
     /// The level's name.
-    pub fn name(self) -> &'static [u8]
+    fn name(self) -> &'static [u8]
         ensures { result.now ≡ level_name self }
     {
         match self {

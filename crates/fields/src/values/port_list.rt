@@ -1,17 +1,22 @@
 // Lists of ports.
-ghost use Rattle.std.specs.Prelude.{◌≡◌, ◌≤◌, ◌<◌, ◌+◌, ◌∷◌, [], ◌++◌, Option, Some, None, IfSome, false, flat_map, length};
+ghost use Rattle.std.specs.Prelude.{◌≡◌, ◌≤◌, ◌<◌, ◌+◌, ◌∷◌, [], ◌++◌, Option, Some, None, IfSome, false, flat_map, length, ℕ, IfOk};
+ghost use Rattle.fields.specs.numbers.Field.{port_top};
+ghost use Rattle.fields.specs.numbers.Spans.{has};
 ghost use Rattle.fields.specs.values.PortRange.{ports_text};
 ghost use Rattle.fields.specs.values.PortList.{port_item_of, port_count, port_list_of, IsPortList, port_list_text, list_has_port};
 ghost use Rattle.fields.specs.steps.PortItems.{item_within};
 ghost use Rattle.fields.specs.text.Printed.{IsBareWord};
 ghost use Rattle.fields.specs.text.Tap.{has_failed, Puts};
 
+use crate::numbers::field::PORT_TOP;
+use crate::numbers::spans::Spans;
 use crate::text::cut::cut_at;
 use crate::text::number::read_number_to;
 use crate::text::tap::{Tap, WriteFailed};
 use crate::values::copied::copied;
 use crate::values::port_range::PortRange;
 use arrayvec::ArrayVec;
+use std::alloc::{AllocError, Global};
 use std::io::Write;
 use std::marker::Model;
 
@@ -124,6 +129,19 @@ impl PortList {
         let items = self.items.as_slice();
         items[0].put(output)?;
         put_further(output, &items[1..])
+    }
+
+    /// The ports of all items of the list. It answers `AllocError` only where memory was refused.
+    pub fn allowed(&self, alloc: Global) -> Result<Spans, AllocError>
+        ensures top { IfOk result (λ set. set.top ≡ port_top) }
+        ensures members { IfOk result (λ set. (x : ℕ) → x ≤ port_top → has set.intervals x ≡ list_has_port self.now x) }
+    {
+        let mut set = Spans::none(alloc, PORT_TOP);
+        for item in self.items() {
+            let ports = item.allowed(alloc)?;
+            set = set.join(alloc, &ports)?;
+        }
+        Ok(set)
     }
 }
 

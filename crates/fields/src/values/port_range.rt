@@ -1,11 +1,16 @@
 // Ranges of ports.
-ghost use Rattle.std.specs.Prelude.{◌≡◌, ◌≤◌, ◌↔◌, ℕ, IsTrue, Option, Some, None, IfSome, false};
+ghost use Rattle.std.specs.Prelude.{◌≡◌, ◌≤◌, ◌↔◌, ℕ, IsTrue, Option, Some, None, IfSome, false, IfOk};
+ghost use Rattle.fields.specs.numbers.Field.{port_top};
+ghost use Rattle.fields.specs.numbers.Spans.{has};
 ghost use Rattle.fields.specs.values.PortRange.{port_or};
 
+use crate::numbers::field::PORT_TOP;
+use crate::numbers::spans::Spans;
 use crate::text::cut::cut_at;
 use crate::text::number::read_number_to;
 use crate::text::tap::{Tap, WriteFailed};
 use itoa::Buffer;
+use std::alloc::{AllocError, Global};
 use std::io::Write;
 use std::marker::Model;
 
@@ -110,6 +115,15 @@ impl PortRange {
             b":",
             to.format(self.to).as_bytes(),
         ])
+    }
+
+    /// The ports of the range: one interval. It answers `AllocError` only where memory was refused.
+    pub fn allowed(&self, alloc: Global) -> Result<Spans, AllocError>
+        ensures top { IfOk result (λ set. set.top ≡ port_top) }
+        ensures members { IfOk result (λ set. (x : ℕ) → x ≤ port_top → has set.intervals x ≡ has_port self.now x) }
+    {
+        let (first, last) = (self.first().into(), self.last().into());
+        Spans::one(alloc, PORT_TOP, first, last)
     }
 }
 

@@ -1,13 +1,18 @@
 // IPv4 addresses with a prefix length.
-ghost use Rattle.std.specs.Prelude.{◌≡◌, ℕ, ◌<◌, ◌≤◌, ◌^◌, ◌∷◌, [], Option, Some, None, IfSome, option_map};
+ghost use Rattle.std.specs.Prelude.{◌≡◌, ℕ, ◌<◌, ◌≤◌, ◌^◌, ◌∷◌, [], Option, Some, None, IfSome, option_map, IfOk};
+ghost use Rattle.fields.specs.numbers.Field.{address_top};
+ghost use Rattle.fields.specs.numbers.Spans.{has};
 ghost use Rattle.std.specs.Prelude.{false};
 ghost use Rattle.fields.specs.text.Tap.{has_failed, Puts};
 ghost use Rattle.fields.specs.values.Prefix.{Network, IsNetwork, IsAddressText, IsPrefixText, block_size, netmask, mask_length, network, address_of, length_of, prefix_of, address_text, prefix_text, octets, holds};
 
+use crate::numbers::field::ADDRESS_TOP;
+use crate::numbers::spans::Spans;
 use crate::text::cut::cut_at;
 use crate::text::number::read_number_to;
 use crate::text::tap::{Tap, WriteFailed};
 use itoa::Buffer;
+use std::alloc::{AllocError, Global};
 use std::io::Write;
 use std::marker::Model;
 
@@ -177,11 +182,21 @@ impl Prefix {
 
     /// The four bytes of the address, the most significant first, as its text `a.b.c.d/n` writes them. That text
     /// reads back as this prefix.
-    pub fn octets(&self) -> [u8; 4]
+    pub(crate) fn octets(&self) -> [u8; 4]
         ensures value { result ≡ octets self.now.address }
         ensures reads_back { prefix_of (prefix_text self.now) ≡ Some self.now }
     {
         self.address.to_be_bytes()
+    }
+
+    /// The addresses that the prefix holds: one interval. It answers `AllocError` only where memory was refused.
+    pub fn allowed(&self, alloc: Global) -> Result<Spans, AllocError>
+        ensures top { IfOk result (λ set. set.top ≡ address_top) }
+        ensures members { IfOk result (λ set. (x : ℕ) → x ≤ address_top → has set.intervals x ≡ holds self.now x) }
+    {
+        let first = u128::from(self.address());
+        let others = u128::from(block_size(self.length()) - 1);
+        Spans::one(alloc, ADDRESS_TOP, first, first + others)
     }
 }
 

@@ -1,27 +1,32 @@
-// Protocols by name and number.
-ghost use Rattle.std.specs.Prelude.{◌≡◌, ◌≤◌, ◌<◌, ◌↔◌, IsTrue, Option, Some, None, option_map};
-ghost use Rattle.fields.specs.values.Protocol.{protocols, number_in, name_in, protocol_number, protocol_name, one_protocol_of, protocol_of, protocol_text, carries_ports};
+//! Protocols by name and number.
+ghost use Rattle.std.specs.Prelude.{◌≡◌, ◌≤◌, ◌<◌, ◌↔◌, IsTrue, Option, Some, None, option_map, ℕ, IfOk, ◌==◌};
+ghost use Rattle.fields.specs.numbers.Field.{protocol_top};
+ghost use Rattle.fields.specs.numbers.Spans.{has};
+ghost use Rattle.fields.specs.values.Protocol.{protocols, number_in, name_in, protocol_number, protocol_name, one_protocol_of, protocol_of, protocol_text};
 ghost use Rattle.fields.specs.steps.ProtocolTable.{shown};
 ghost use Rattle.fields.specs.text.Printed.{IsBareWord};
 ghost use Rattle.fields.specs.text.Tap.{Puts};
 
+use crate::numbers::field::PROTOCOL_TOP;
+use crate::numbers::spans::Spans;
 use crate::text::number::read_number_to;
 use crate::text::tap::{Tap, WriteFailed};
 use itoa::Buffer;
+use std::alloc::{AllocError, Global};
 use std::io::Write;
 use std::marker::Model;
 
-const ICMP: u8 = 1;
+pub(crate) const ICMP: u8 = 1;
 
-const TCP: u8 = 6;
+pub(crate) const TCP: u8 = 6;
 
-const UDP: u8 = 17;
+pub(crate) const UDP: u8 = 17;
 
-const DCCP: u8 = 33;
+pub(crate) const DCCP: u8 = 33;
 
-const SCTP: u8 = 132;
+pub(crate) const SCTP: u8 = 132;
 
-const UDPLITE: u8 = 136;
+pub(crate) const UDPLITE: u8 = 136;
 
 // The names with their numbers; of the names of one number the first is printed.
 static PROTOCOLS: [(&[u8], u8); 14] = [
@@ -129,34 +134,6 @@ impl Protocol {
         self.0 == 0
     }
 
-    /// Whether it is icmp.
-    pub fn is_icmp(self) -> bool
-        ensures { IsTrue result ↔ (self ≡ 1) }
-    {
-        self.0 == ICMP
-    }
-
-    /// Whether it is tcp.
-    pub fn is_tcp(self) -> bool
-        ensures { IsTrue result ↔ (self ≡ 6) }
-    {
-        self.0 == TCP
-    }
-
-    /// Whether it is udp.
-    pub fn is_udp(self) -> bool
-        ensures { IsTrue result ↔ (self ≡ 17) }
-    {
-        self.0 == UDP
-    }
-
-    /// Whether its packets have ports: tcp, udp, dccp, sctp and udplite.
-    pub fn has_ports(self) -> bool
-        ensures { result ≡ carries_ports self }
-    {
-        matches!(self.0, TCP | UDP | DCCP | SCTP | UDPLITE)
-    }
-
     /// Writes the first name of the protocol, else its number. It needs no quotes.
     #[tactic(auto, using(crate::proofs::laws::values::ProtocolLaws::reads_back, crate::proofs::laws::values::BareLaws::protocol_is_bare), unfolding(crate::specs::values::Protocol::protocol_text, crate::specs::values::Protocol::protocol_name))]
     pub fn put<W: Write>(self, output: &mut Tap<W>) -> Result<(), WriteFailed>
@@ -169,5 +146,14 @@ impl Protocol {
         }
         let mut number = Buffer::new();
         output.put(number.format(self.0).as_bytes())
+    }
+
+    /// The protocol's number alone. It answers `AllocError` only where memory was refused.
+    pub fn allowed(&self, alloc: Global) -> Result<Spans, AllocError>
+        ensures top { IfOk result (λ set. set.top ≡ protocol_top) }
+        ensures members { IfOk result (λ set. (x : ℕ) → x ≤ protocol_top → has set.intervals x ≡ (x == self.now)) }
+    {
+        let number = u128::from(self.number());
+        Spans::one(alloc, PROTOCOL_TOP, number, number)
     }
 }

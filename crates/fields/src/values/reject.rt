@@ -63,7 +63,7 @@ impl RejectType {
     }
 
     /// The text of the type, which reads back as this type.
-    pub fn text(self) -> &'static [u8]
+    fn text(self) -> &'static [u8]
         ensures text { result.now ≡ reject_text self }
         ensures reads_back { reject_of (reject_text self) ≡ Some self }
     {

@@ -95,8 +95,8 @@ impl Model for TcpFlags {
 }
 
 impl TcpFlags {
-    /// SYN alone.
-    pub const SYN: TcpFlags = TcpFlags { bits: FlagBits(2) };
+    // SYN alone.
+    pub(crate) const SYN: TcpFlags = TcpFlags { bits: FlagBits(2) };
 
     // SYN, RST, ACK and FIN.
     pub(crate) const SYN_MASK: TcpFlags = TcpFlags { bits: FlagBits(23) };
@@ -112,26 +112,12 @@ impl TcpFlags {
         Some(TcpFlags { bits })
     }
 
-    /// The empty set.
-    pub fn none() -> TcpFlags
-        ensures { result ≡ 0 }
-    {
-        TcpFlags { bits: FlagBits(0) }
-    }
-
     /// The sum of the flags' numbers, 0 to 63: a packet's number on the field `flags`.
     pub fn value(self) -> u8
         ensures sum { result ≡ self }
         ensures known { self < 64 }
     {
         self.bits.0
-    }
-
-    /// Whether each flag of the other set is in this one.
-    pub fn contains(self, other: TcpFlags) -> bool
-        ensures { result ≡ (bit_and self other == other) }
-    {
-        self.bits.contains(other.bits)
     }
 
     /// Writes the names of the set's flags in the order FIN, SYN, RST, PSH, ACK, URG, parted by commas, or `NONE`. That text

@@ -16,8 +16,8 @@ use Rattle.fields.specs.declared.numbers.field.Field.{Field}
 use Rattle.fields.specs.declared.numbers.field.Field.TheVariants as fields
 use Rattle.fields.specs.declared.numbers.field.TheConstants.Field.{ALL}
 use Rattle.fields.specs.declared.packet.hook.Hook.{Hook}
-use Rattle.fields.specs.declared.packet.keys.Value.{Value}
-use Rattle.fields.specs.declared.packet.keys.Value.TheVariants as value
+use Rattle.fields.specs.declared.packet.keys.ValueKind.{ValueKind}
+use Rattle.fields.specs.declared.packet.keys.ValueKind.TheVariants as value
 use Rattle.fields.specs.declared.packet.PacketFault.TheVariants.{UnknownKey}
 use Rattle.fields.specs.text.Cut.{cut_at}
 use Rattle.fields.specs.values.Interface.{is_interface, interface_of, interface_value}
@@ -78,7 +78,7 @@ pub packet_of_hook : (words : List (List ℕ)) (from : ℕ) (word : List ℕ) (h
 packet_of_hook words from word hook within is some = packet_of_first words from word within is ∙ ap (λ h. packet_at h (drop (from + 1) words)) (sym some)
 
 -- the greatest number of each kind of value
-abbrev greatest : Value → ℕ
+abbrev greatest : ValueKind → ℕ
 greatest value.Address = 4294967295
 greatest value.Interface = 340282366920938463463374607431768211455
 greatest value.Protocol = 255
@@ -135,7 +135,7 @@ icmp_fits text n e =
     let same = same_some (t * 256 + c) n last in
     omega arith
 
-value_of_fits : (kind : Value) (text : List ℕ) (n : ℕ) → value_of kind text ≡ Some n → n ≤ greatest kind
+value_of_fits : (kind : ValueKind) (text : List ℕ) (n : ℕ) → value_of kind text ≡ Some n → n ≤ greatest kind
 value_of_fits value.Address text n e = let (is, small) = address_of_sound text n e in omega arith
 value_of_fits value.Interface text n e =
     let (name, reads, is) = step_before (interface_of text) (λ name. Some (interface_value name)) n e in

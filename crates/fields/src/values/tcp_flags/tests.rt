@@ -44,12 +44,3 @@ fn lists_of_flags(rt: HostRuntime) -> Result<(), Fail> {
     }
     Ok(())
 }
-
-#[test]
-fn flags_among_others(rt: HostRuntime) -> Result<(), Fail> {
-    let both = TcpFlags::read(b"SYN,ACK").ok_or("refused")?;
-    assert!(rt; both.contains(TcpFlags::SYN));
-    assert!(rt; !TcpFlags::SYN.contains(both));
-    assert!(rt; both.contains(TcpFlags::none()));
-    Ok(())
-}

@@ -3,8 +3,8 @@ use Rattle.fields.proofs.laws.packet.PacketLaws.{packet_of_unknown, packet_of_ho
 use Rattle.fields.proofs.packet.Packet.read.Goals as goal
 
 pub returns-in-None-clause-value : goal.returns-in-None-clause-value
-returns-in-None-clause-value c = sym (packet_of_unknown c.args.words.now c.args.from c.get.result.now (omega arith) c.get.ensures c.in-None.ensures.value)
+returns-in-None-clause-value c = sym (packet_of_unknown c.args.words.now c.args.from c.get.result.now (omega arith) c.get.ensures.value c.in-None.ensures.value)
 
 pub returns-in-Some-clause-value : goal.returns-in-Some-clause-value
 returns-in-Some-clause-value c =
-    c.behind_hook.ensures.value ∙ sym (packet_of_hook c.args.words.now c.args.from c.get.result.now c.in-Some.hook (omega arith) c.get.ensures c.in-Some.ensures.value)
+    c.after_hook.ensures.value ∙ sym (packet_of_hook c.args.words.now c.args.from c.get.result.now c.in-Some.hook (omega arith) c.get.ensures.value c.in-Some.ensures.value)

@@ -8,7 +8,7 @@ use Rattle.fields.proofs.values.port_list.PortList.allowed.Goals as goal
 
 pub loop-item-init : goal.loop-item-init
 loop-item-init c = record {
-  top = ap (λ (s : SpanSet). s.top) c.none-set.ensures ∙ c.into.ensures;
+  top = ap (λ (s : SpanSet). s.top) c.none-set.ensures;
   members = λ x le. ap (λ (s : SpanSet). has s.intervals x) c.none-set.ensures;
 }
 

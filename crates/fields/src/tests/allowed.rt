@@ -1,6 +1,7 @@
 // The sets of the conditions of rules.
-use super::*;
-use crate::numbers::spans::Interval;
+use crate::{
+    CtSet, FlagTest, IcmpType, IfPattern, IpRange, PortList, PortRange, Prefix, Protocol, Spans,
+};
 use std::test::Fail;
 
 /// Whether these are the set's intervals, each by its first and last number.
