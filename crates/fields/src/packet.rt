@@ -98,7 +98,7 @@ fn text_of(words: &Words, first: usize, end: usize, field: Field) -> Option<&[u8
     None
 }
 
-// The fault of the word at a place, behind those from `first` on.
+// The fault of the word at a place, after those from `first` on.
 fn word_fault(words: &Words, first: usize, place: usize) -> Option<PacketFault>
     requires ordered { first ≤ place }
     requires within { place < length words.now }
@@ -239,8 +239,8 @@ impl Packet {
     }
 
     /// The packet that the words from a place on write: the hook, and then `key=value` in any order. The fault is that
-    /// of the leftmost word at fault, else F4, else F2. Takes no memory. A word is compared with those before it, which are at
-    /// most as many as the fields: the first word that repeats a key ends the reading.
+    /// of the leftmost word at fault, else F4, else F2. Takes no memory. A word is compared with those before it, which
+    /// are at most as many as the fields: the first word that repeats a key ends the reading.
     pub fn read(words: &Words, from: usize) -> Result<Packet, PacketFault>
         ensures value { result ≡ packet_of (drop from words.now) }
         ensures valid { IfOk result (λ p. IsPacket p) }

@@ -1,7 +1,8 @@
 -- The fields of a packet.
 use Rattle.std.specs.Prelude.{ℕ, List, [], ◌∷◌, slice_index, codes}
 use Rattle.fields.specs.declared.numbers.field.Field.{Field}
-use Rattle.fields.specs.declared.numbers.field.Field.TheVariants.{Source, Destination, InIface, OutIface, Protocol, Fragment, SourcePort, DestinationPort, TcpFlags, IcmpType, ConnectionState}
+use Rattle.fields.specs.declared.numbers.field.Field.TheVariants.{Source, Destination, InIface, OutIface, Protocol, Fragment, SourcePort}
+use Rattle.fields.specs.declared.numbers.field.Field.TheVariants.{DestinationPort, TcpFlags, IcmpType, ConnectionState}
 
 -- the greatest address
 abbrev pub address_top : ℕ

@@ -23,4 +23,5 @@ pub record SpanSet : Type 0 where
 
 -- two such lists that have the same numbers are one list
 abbrev pub CanonicalIsUnique : Type 0
-CanonicalIsUnique = (top : ℕ) (a b : List Interval) → AreSpansFrom top 0 a → AreSpansFrom top 0 b → ((x : ℕ) → x ≤ top → has a x ≡ has b x) → a ≡ b
+CanonicalIsUnique =
+    (top : ℕ) (a b : List Interval) → AreSpansFrom top 0 a → AreSpansFrom top 0 b → ((x : ℕ) → x ≤ top → has a x ≡ has b x) → a ≡ b

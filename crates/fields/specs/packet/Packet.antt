@@ -1,5 +1,6 @@
 -- Packets, and the words of a packet line.
-use Rattle.std.specs.Prelude.{ℕ, ◌≡◌, ◌≤◌, Bool, not, ◌&&◌, ◌||◌, List, [], ◌∷◌, ◌++◌, length, map, find, Option, Some, None, is_some, is_none, unwrap_or, Result, Ok, Err, if◌then◌else◌}
+use Rattle.std.specs.Prelude.{ℕ, ◌≡◌, ◌≤◌, Bool, not, ◌&&◌, ◌||◌, List, [], ◌∷◌, ◌++◌, length, map, find, Option, Some, None, is_some}
+use Rattle.std.specs.Prelude.{is_none, unwrap_or, Result, Ok, Err, if◌then◌else◌}
 use Rattle.std.specs.List.{list_any}
 use Rattle.std.specs.Option.{option_or}
 use Rattle.std.specs.Str.{bytes_eq}
@@ -33,6 +34,7 @@ pub record IsPacket (p : PacketView) : Type 0 where
 abbrev pub has_key : List ℕ → Field → Bool
 has_key key field = bytes_eq (name field) key
 
+-- the field of a key
 abbrev pub field_of : List ℕ → Option Field
 field_of key = find (has_key key) all_fields
 
@@ -49,19 +51,20 @@ abbrev pub text_of : Field → List (List ℕ) → Option (List ℕ)
 text_of field [] = None
 text_of field (word ∷ words) = option_or (text_in field word) (text_of field words)
 
--- the number of the text behind a field's key
+-- the number of the text after a field's key
 abbrev pub number_of_text : Field → List ℕ → Option ℕ
 number_of_text field text = value_of (key_of field).value text
 
--- the fault of a word that gives this, behind other words
+-- the fault of a word that gives this, after other words
 abbrev pub fault_of_part : List (List ℕ) → Option (Field × List ℕ) → Option PacketFault
 fault_of_part before None = Some UnknownKey
 fault_of_part before (Some part) = if is_some (text_of part.0 before) || is_none (number_of_text part.0 part.1) then Some BadValue else None
 
+-- the fault of a word after other words
 abbrev pub word_fault : List (List ℕ) → List ℕ → Option PacketFault
 word_fault before word = fault_of_part before (part_of word)
 
--- the fault of the leftmost word at fault, of words behind others
+-- the fault of the leftmost word at fault, of words after others
 abbrev pub leftmost_fault : List (List ℕ) → List (List ℕ) → Option PacketFault
 leftmost_fault before [] = None
 leftmost_fault before (word ∷ words) = option_or (word_fault before word) (leftmost_fault (before ++ word ∷ []) words)
@@ -82,6 +85,7 @@ shape_of hook words = record {
 abbrev pub strays : Shape → List (List ℕ) → Field → Bool
 strays shape words field = is_some (text_of field words) && not (carries shape (key_of field).carrier)
 
+-- whether such a key is given
 abbrev pub strays_key : Shape → List (List ℕ) → Bool
 strays_key shape words = list_any (strays shape words) all_fields
 
@@ -89,10 +93,11 @@ strays_key shape words = list_any (strays shape words) all_fields
 abbrev pub lacks : Shape → List (List ℕ) → Field → Bool
 lacks shape words field = (key_of field).is_required && carries shape (key_of field).carrier && is_none (text_of field words)
 
+-- whether such a key is missing
 abbrev pub lacks_key : Shape → List (List ℕ) → Bool
 lacks_key shape words = list_any (lacks shape words) all_fields
 
--- the packet of a hook and the words behind it, or the first fault: of a word, then a key that it doesn't carry, then one that it lacks
+-- the packet of a hook and the words after it, or the first fault: of a word, then a key that it doesn't carry, then one that it lacks
 abbrev pub checked : Hook → List (List ℕ) → Option PacketFault → Result PacketView PacketFault
 checked hook words (Some fault) = Err fault
 checked hook words None =
@@ -100,6 +105,7 @@ checked hook words None =
     else if lacks_key (shape_of hook words) words then Err KeyMissing
     else Ok (record { hook = hook; values = map (value_on words) all_fields })
 
+-- the packet at a hook, where there is one
 abbrev pub packet_at : Option Hook → List (List ℕ) → Result PacketView PacketFault
 packet_at None words = Err UnknownKey
 packet_at (Some hook) words = checked hook words (leftmost_fault [] words)

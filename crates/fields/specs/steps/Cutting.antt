@@ -35,6 +35,7 @@ pub record Cut : Type 0 where
   pub word : List ℕ
   pub place : line.Place
 
+-- the cut that the code's state stands for
 abbrev pub view_cutting : Cutting → Cut
 view_cutting cutting = record { words = view_words cutting.words.items; word = cutting.word.items; place = view_place cutting.place }
 
@@ -49,27 +50,28 @@ cut_by line.Breaks byte cut = None
 unfoldable pub after : Cut → ℕ → Option Cut
 after cut byte = cut_by (act_of cut.place byte) byte cut
 
-abbrev pub whole_at : line.Place → Cut → Option (List (List ℕ))
-whole_at line.Between cut = Some cut.words
-whole_at line.Bare cut = Some (cut.words ++ cut.word ∷ [])
-whole_at line.Quoted cut = None
-whole_at line.Escaped cut = None
-whole_at line.Closed cut = Some cut.words
+-- the words at the line's end, by the place of the last byte
+abbrev pub words_at : line.Place → Cut → Option (List (List ℕ))
+words_at line.Between cut = Some cut.words
+words_at line.Bare cut = Some (cut.words ++ cut.word ∷ [])
+words_at line.Quoted cut = None
+words_at line.Escaped cut = None
+words_at line.Closed cut = Some cut.words
 
 -- the words at the line's end
-unfoldable pub whole : Cut → Option (List (List ℕ))
-whole cut = whole_at cut.place cut
+unfoldable pub at_line_end : Cut → Option (List (List ℕ))
+at_line_end cut = words_at cut.place cut
 
 -- the words of the cut and of the bytes that follow
 abbrev pub cut_from : Cut → List ℕ → Option (List (List ℕ))
-cut_from cut [] = whole cut
+cut_from cut [] = at_line_end cut
 cut_from cut (byte ∷ bytes) = option_and_then (λ next. cut_from next bytes) (after cut byte)
 
 -- before the first byte
 abbrev pub start : Cut
 start = record { words = []; word = []; place = line.Between }
 
--- what came is what is wanted, and bad quoting is told only where nothing is; want of memory says nothing
+-- what came is what is wanted, and bad quoting is reported only where nothing is; out of memory says nothing
 abbrev pub Gives : {X Y : Type 0} → (X → Y) → Result X WordFault → Option Y → Type 0
 Gives view (Ok x) wanted = wanted ≡ Some (view x)
 Gives view (Err fault) wanted = OnQuoting fault (wanted ≡ None)

@@ -1,5 +1,6 @@
 -- Lines of bytes, and what a call takes of them.
-use Rattle.std.specs.Prelude.{◌≡◌, ℕ, ◌+◌, ◌<◌, ◌≤◌, ◌==◌, Bool, List, [], ◌∷◌, ◌++◌, length, Result, Ok, Err, Option, OnSome, if◌then◌else◌}
+use Rattle.std.specs.Prelude.{◌≡◌, ℕ, ◌+◌, ◌<◌, ◌≤◌, ◌==◌, Bool, List, [], ◌∷◌, ◌++◌, length, Result, Ok, Err, Option, OnSome}
+use Rattle.std.specs.Prelude.{if◌then◌else◌}
 use Rattle.std.specs.Bool.{MatchBool}
 use Rattle.std.specs.Io.KnownBytes.{Consumes, IsAtEnd}
 use Rattle.fields.specs.text.OneLine.{IsOneLine}
@@ -23,7 +24,8 @@ TakesLine old new ends.Nothing text = (text ≡ []) × Consumes old new [] × En
 
 -- a line was read, in at most a step a byte and one more, or the reader failed after a part of it
 abbrev pub LineOf : {E : Type 0} → Option (List ℕ) → Option (List ℕ) → ℕ → ℕ → ℕ → List ℕ → Result LineRead E → List ℕ → Type 0
-LineOf old new turns left max items (Ok read) text = IsHeld max text items read.too_long × TakesLine old new read.end text × (turns ≤ left + (length text + 1))
+LineOf old new turns left max items (Ok read) text =
+    IsHeld max text items read.too_long × TakesLine old new read.end text × (turns ≤ left + (length text + 1))
 LineOf old new turns left max items (Err e) text = Consumes old new text
 
 -- the same, of a reader with these steps left before and after

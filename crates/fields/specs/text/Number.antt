@@ -1,12 +1,13 @@
 -- Numbers as they are written.
-use Rattle.std.specs.Prelude.{◌≡◌, ℕ, ◌+◌, ◌-◌, ◌*◌, ◌<◌, ◌==◌, Bool, not, ◌&&◌, ◌||◌, nat_lt, nat_le, List, [], ◌∷◌, length, slice_index, Option, Some, None, if◌then◌else◌, decimal}
+use Rattle.std.specs.Prelude.{◌≡◌, ℕ, ◌+◌, ◌-◌, ◌*◌, ◌<◌, ◌==◌, Bool, not, ◌&&◌, ◌||◌, nat_lt, nat_le, List, [], ◌∷◌, length, slice_index}
+use Rattle.std.specs.Prelude.{Option, Some, None, if◌then◌else◌, decimal}
 use Rattle.std.specs.Char.{is_ascii_digit}
 
 -- the text is the decimal text of n, which has nine digits at most
 abbrev pub IsNumber : List ℕ → ℕ → Type 0
 IsNumber text n = (text ≡ decimal n) × (n < 1000000000)
 
--- the number of these digits behind the number n, if all are digits
+-- the number of these digits after the number n, if all are digits
 abbrev pub number_from : ℕ → List ℕ → Option ℕ
 number_from n [] = Some n
 number_from n (b ∷ bs) = if is_ascii_digit b then number_from (n * 10 + (b - 48)) bs else None

@@ -11,12 +11,15 @@ pub record Shown : Type 0 where
   pub word : List ℕ
   pub text : Bool
 
+-- a word as it is
 abbrev pub bare : List ℕ → Shown
 bare word = record { word = word; text = false }
 
+-- a word as a text
 abbrev pub as_text : List ℕ → Shown
 as_text word = record { word = word; text = true }
 
+-- what is printed of it
 abbrev pub spelling : Shown → List ℕ
 spelling shown = if shown.text then quoted shown.word else shown.word
 

@@ -11,7 +11,7 @@ has_failed t = t.failed
 abbrev pub device : {T : Type 0} → Tap T → T
 device t = t.device
 
--- the bytes that the device has left or holds, where it tells them
+-- the bytes that the device has left or holds, where they are known
 abbrev pub known : {T X : Type 0} → (T → Option X) → Tap T → Option X
 known bytes t = bytes t.device
 

@@ -50,7 +50,8 @@ EndsWord (byte ∷ bytes) = IsTrue (is_blank byte)
 abbrev pub AreWords : List (List ℕ) → List ℕ → Type 0
 AreWords [] line = AreBlanks line
 AreWords (word ∷ words) line =
-    (gap spelling rest : List ℕ) × (line ≡ gap ++ (spelling ++ rest)) × AreBlanks gap × IsSpelling spelling word × EndsWord rest × AreWords words rest
+    (gap spelling rest : List ℕ) × (line ≡ gap ++ (spelling ++ rest)) × AreBlanks gap × IsSpelling spelling word × EndsWord rest
+    × AreWords words rest
 
 -- where a byte of a line stands: between two words, in an unquoted word, between the quotes of a word, after a backslash
 -- there, or after the closing quote

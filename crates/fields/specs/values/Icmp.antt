@@ -1,5 +1,6 @@
 -- ICMP types and codes, as `--icmp-type` of iptables-extensions(8) takes them.
-use Rattle.std.specs.Prelude.{ℕ, ◌<◌, ◌/◌, ◌%◌, ◌==◌, ◌&&◌, Bool, true, List, [], ◌∷◌, ◌++◌, find, Option, Some, None, option_map, if◌then◌else◌, codes, decimal}
+use Rattle.std.specs.Prelude.{ℕ, ◌<◌, ◌/◌, ◌%◌, ◌==◌, ◌&&◌, Bool, true, List, [], ◌∷◌, ◌++◌, find, Option, Some, None, option_map}
+use Rattle.std.specs.Prelude.{if◌then◌else◌, codes, decimal}
 use Rattle.std.specs.Option.{option_or}
 use Rattle.std.specs.Str.{bytes_eq}
 use Rattle.fields.specs.Sequence.{◌>>=◌}
@@ -31,6 +32,7 @@ abbrev pub numbers_parted : List ℕ → Option (List ℕ × List ℕ) → Optio
 numbers_parted text None = number_to 255 text >>= λ n. Some (asked_type n)
 numbers_parted text (Some p) = number_to 254 p.0 >>= λ t. number_to 255 p.1 >>= λ c. Some (OfCode t c)
 
+-- what numbers ask for
 unfoldable pub asked_by_numbers : List ℕ → Option Asked
 asked_by_numbers text = numbers_parted text (cut_at 47 text)
 

@@ -1,5 +1,6 @@
 -- Interface patterns, as `-i` and `-o` take them (iptables(8)), and the numbers of interfaces.
-use Rattle.std.specs.Prelude.{◌≡◌, ◌⊎◌, ℕ, ◌+◌, ◌-◌, ◌*◌, ◌==◌, nat_eq, nat_lt, nat_le, Bool, not, ◌&&◌, List, [], ◌++◌, length, take, slice_index, replicate, fold, Option, Some, None, if◌then◌else◌}
+use Rattle.std.specs.Prelude.{◌≡◌, ◌⊎◌, ℕ, ◌+◌, ◌-◌, ◌*◌, ◌==◌, nat_eq, nat_lt, nat_le, Bool, not, ◌&&◌, List, [], ◌++◌, length, take}
+use Rattle.std.specs.Prelude.{slice_index, replicate, fold, Option, Some, None, if◌then◌else◌}
 use Rattle.std.specs.List.{list_all, starts_with}
 use Rattle.std.specs.Str.{bytes_eq}
 use Rattle.std.specs.Int.{w128, to_be_bytes}
@@ -16,7 +17,7 @@ is_interface text = nat_lt 0 (length text) && nat_le (length text) 15 && list_al
 unfoldable pub interface_of : List ℕ → Option (List ℕ)
 interface_of text = if is_interface text then Some text else None
 
--- the bytes, and behind them a filling up to 16
+-- the bytes, and after them a filling up to 16
 abbrev pub filled : ℕ → List ℕ → List ℕ
 filled fill bytes = bytes ++ replicate (16 - length bytes) fill
 
@@ -34,7 +35,8 @@ is_open pattern = slice_index pattern (length pattern - 1) == 43
 
 -- the pattern stands for a name: it is the name or, where it ends in `+`, the name begins with the bytes before that
 abbrev pub interface_matches : List ℕ → List ℕ → Bool
-interface_matches pattern name = if is_open pattern then starts_with nat_eq name (take (length pattern - 1) pattern) else bytes_eq pattern name
+interface_matches pattern name =
+    if is_open pattern then starts_with nat_eq name (take (length pattern - 1) pattern) else bytes_eq pattern name
 
 -- the name of an interface, or the empty name of a missing one
 abbrev pub IsInterfaceName : List ℕ → Type 0

@@ -9,11 +9,12 @@ pub record Ends : Type 0 where
   pub from : ℕ
   pub to : ℕ
 
+-- both are addresses
 pub record AreEnds (ends : Ends) : Type 0 where
   pub from_small : ends.from < 2 ^ 32
   pub to_small : ends.to < 2 ^ 32
 
--- an address alone is both ends; else they stand before and behind the first `-` (45)
+-- an address alone is both ends; else they stand before and after the first `-` (45)
 abbrev pub ends_parted : List ℕ → Option (List ℕ × List ℕ) → Option Ends
 ends_parted text None = address_of text >>= λ a. Some (record { from = a; to = a })
 ends_parted text (Some p) = address_of p.0 >>= λ a. address_of p.1 >>= λ b. Some (record { from = a; to = b })

@@ -8,15 +8,16 @@ use Rattle.fields.specs.declared.values.log_level.LogLevel.{LogLevel}
 use Rattle.fields.specs.declared.values.log_level.LogLevel.TheVariants.{Emerg, Alert, Crit, Error, Warning, Notice, Info, Debug}
 
 -- a level's number and name
-pub record Row : Type 0 where
+pub record LevelRow : Type 0 where
   pub number : ℕ
   pub name : List ℕ
 
-abbrev pub row : ℕ → List ℕ → Row
+-- the row of these
+abbrev pub row : ℕ → List ℕ → LevelRow
 row number name = record { number = number; name = name }
 
 -- the table of levels
-abbrev pub row_of : LogLevel → Row
+abbrev pub row_of : LogLevel → LevelRow
 row_of Emerg = row 0 (codes "emerg")
 row_of Alert = row 1 (codes "alert")
 row_of Crit = row 2 (codes "crit")
@@ -26,9 +27,11 @@ row_of Notice = row 5 (codes "notice")
 row_of Info = row 6 (codes "info")
 row_of Debug = row 7 (codes "debug")
 
+-- the level's number
 abbrev pub level_number : LogLevel → ℕ
 level_number level = (row_of level).number
 
+-- the level's name
 abbrev pub level_name : LogLevel → List ℕ
 level_name level = (row_of level).name
 

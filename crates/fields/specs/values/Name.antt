@@ -1,5 +1,6 @@
 -- Names of chains.
-use Rattle.std.specs.Prelude.{ℕ, Bool, ◌&&◌, not, ◌==◌, nat_lt, nat_le, List, [], ◌∷◌, length, slice_index, Option, Some, None, codes, if◌then◌else◌}
+use Rattle.std.specs.Prelude.{ℕ, Bool, ◌&&◌, not, ◌==◌, nat_lt, nat_le, List, [], ◌∷◌, length, slice_index, Option, Some, None, codes}
+use Rattle.std.specs.Prelude.{if◌then◌else◌}
 use Rattle.std.specs.List.{list_all, list_any}
 use Rattle.std.specs.Str.{bytes_eq}
 
@@ -18,7 +19,8 @@ is_target_word text = list_any (bytes_eq text) target_words
 -- 1 to 28 such bytes, of which the first isn't `-` (45) or `!` (33)
 abbrev pub has_name_form : List ℕ → Bool
 has_name_form text =
-    nat_lt 0 (length text) && nat_le (length text) 28 && not (slice_index text 0 == 45) && not (slice_index text 0 == 33) && list_all is_name_byte text
+    nat_lt 0 (length text) && nat_le (length text) 28 && not (slice_index text 0 == 45) && not (slice_index text 0 == 33)
+    && list_all is_name_byte text
 
 -- a text of that form, but none of those words
 abbrev pub is_name : List ℕ → Bool

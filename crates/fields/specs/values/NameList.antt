@@ -1,4 +1,4 @@
--- Lists of names, parted by commas, of which each stands for a set of bits.
+-- Lists of names, separated by commas, of which each stands for a set of bits.
 use Rattle.std.specs.Prelude.{ℕ, Bool, false, ◌==◌, List, [], ◌∷◌, map, filter, find, Option, Some, None, option_map}
 use Rattle.std.specs.Int.RustNames.{bit_and, bit_or}
 use Rattle.std.specs.List.{slice_split, join_with_byte}

@@ -5,7 +5,7 @@ use Rattle.fields.specs.Sequence.{◌>>=◌}
 use Rattle.fields.specs.text.Cut.{cut_at}
 use Rattle.fields.specs.values.PortRange.{Ports, ArePorts, ports_between, port_of, ports_text, has_port}
 
--- one port, or a range by what stands before and behind its colon, both ends given
+-- one port, or a range by what stands before and after its colon, both ends given
 abbrev pub item_parted : List ℕ → Option (List ℕ × List ℕ) → Option Ports
 item_parted text None = port_of text >>= λ port. ports_between port port
 item_parted text (Some p) = port_of p.0 >>= λ from. port_of p.1 >>= λ to. ports_between from to

@@ -27,7 +27,7 @@ abbrev pub port_or : ℕ → List ℕ → Option ℕ
 port_or missing [] = Some missing
 port_or missing (byte ∷ bytes) = port_of (byte ∷ bytes)
 
--- one port, or a range `a:b` by what stands before and behind its colon; a missing a is 0, a missing b 65535
+-- one port, or a range `a:b` by what stands before and after its colon; a missing a is 0, a missing b 65535
 abbrev pub range_parted : List ℕ → Option (List ℕ × List ℕ) → Option Ports
 range_parted text None = port_of text >>= λ port. ports_between port port
 range_parted text (Some p) = port_or 0 p.0 >>= λ from. port_or 65535 p.1 >>= λ to. ports_between from to

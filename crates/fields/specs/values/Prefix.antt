@@ -1,5 +1,6 @@
 -- IPv4 addresses with a prefix length, as `--source address[/mask]` of iptables(8) takes them.
-use Rattle.std.specs.Prelude.{ℕ, Bool, ◌+◌, ◌-◌, ◌*◌, ◌/◌, ◌%◌, ◌^◌, ◌<◌, ◌≤◌, ◌≡◌, ◌==◌, List, [], ◌∷◌, ◌++◌, Option, Some, None, if◌then◌else◌, decimal, count_ones}
+use Rattle.std.specs.Prelude.{ℕ, Bool, ◌+◌, ◌-◌, ◌*◌, ◌/◌, ◌%◌, ◌^◌, ◌<◌, ◌≤◌, ◌≡◌, ◌==◌, List, [], ◌∷◌, ◌++◌, Option, Some, None}
+use Rattle.std.specs.Prelude.{if◌then◌else◌, decimal, count_ones}
 use Rattle.fields.specs.Sequence.{◌>>=◌}
 use Rattle.fields.specs.text.Cut.{cut_at}
 use Rattle.fields.specs.text.Number.{number_to}
@@ -35,7 +36,7 @@ network address n = record { address = cleared n address; length = n }
 abbrev pub holds : Network → ℕ → Bool
 holds p address = top_bits p.length address == top_bits p.length p.address
 
--- n one bits, and 32 - n zero bits behind them
+-- n one bits, and 32 - n zero bits after them
 abbrev pub netmask : ℕ → ℕ
 netmask n = 2 ^ 32 - 2 ^ (32 - n)
 
@@ -60,14 +61,16 @@ abbrev pub length_from : List ℕ → Option ℕ → Option ℕ
 length_from text None = address_of text >>= λ mask. mask_length mask
 length_from text (Some n) = Some n
 
+-- the length that a text writes
 unfoldable pub length_of : List ℕ → Option ℕ
 length_of text = length_from text (number_to 32 text)
 
--- an address alone has the length 32; else its length stands behind the first `/`
+-- an address alone has the length 32; else its length stands after the first `/`
 abbrev pub prefix_parted : List ℕ → Option (List ℕ × List ℕ) → Option Network
 prefix_parted text None = address_of text >>= λ a. Some (network a 32)
 prefix_parted text (Some p) = address_of p.0 >>= λ a. length_of p.1 >>= λ n. Some (network a n)
 
+-- the prefix that a text writes
 unfoldable pub prefix_of : List ℕ → Option Network
 prefix_of text = prefix_parted text (cut_at 47 text)
 
@@ -77,7 +80,8 @@ octets a = (a / 16777216) ∷ (a / 65536 % 256) ∷ (a / 256 % 256) ∷ (a % 256
 
 -- a.b.c.d
 abbrev pub address_text : ℕ → List ℕ
-address_text a = decimal (a / 16777216) ++ (46 ∷ (decimal (a / 65536 % 256) ++ (46 ∷ (decimal (a / 256 % 256) ++ (46 ∷ decimal (a % 256))))))
+address_text a =
+    decimal (a / 16777216) ++ (46 ∷ (decimal (a / 65536 % 256) ++ (46 ∷ (decimal (a / 256 % 256) ++ (46 ∷ decimal (a % 256))))))
 
 -- a.b.c.d/n
 abbrev pub prefix_text : Network → List ℕ

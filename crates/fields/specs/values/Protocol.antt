@@ -7,8 +7,9 @@ use Rattle.fields.specs.text.Number.{number_to}
 -- the names with their numbers; of the names of one number the first is printed
 abbrev pub protocols : List (List ℕ × ℕ)
 protocols =
-    (codes "icmp", 1) ∷ (codes "igmp", 2) ∷ (codes "tcp", 6) ∷ (codes "udp", 17) ∷ (codes "dccp", 33) ∷ (codes "gre", 47) ∷ (codes "esp", 50)
-    ∷ (codes "ah", 51) ∷ (codes "ipv6-icmp", 58) ∷ (codes "icmpv6", 58) ∷ (codes "ospf", 89) ∷ (codes "vrrp", 112) ∷ (codes "sctp", 132) ∷ (codes "udplite", 136) ∷ []
+    (codes "icmp", 1) ∷ (codes "igmp", 2) ∷ (codes "tcp", 6) ∷ (codes "udp", 17) ∷ (codes "dccp", 33) ∷ (codes "gre", 47)
+    ∷ (codes "esp", 50) ∷ (codes "ah", 51) ∷ (codes "ipv6-icmp", 58) ∷ (codes "icmpv6", 58) ∷ (codes "ospf", 89)
+    ∷ (codes "vrrp", 112) ∷ (codes "sctp", 132) ∷ (codes "udplite", 136) ∷ []
 
 -- the number of the first entry with this name
 abbrev pub number_in : List ℕ → List (List ℕ × ℕ) → Option ℕ
@@ -39,6 +40,7 @@ abbrev pub named_or_decimal : ℕ → Option (List ℕ) → List ℕ
 named_or_decimal number None = decimal number
 named_or_decimal number (Some name) = name
 
+-- the text of a protocol: its first name, else its number
 unfoldable pub protocol_text : ℕ → List ℕ
 protocol_text number = named_or_decimal number (protocol_name number)
 

@@ -2,7 +2,8 @@
 use Rattle.std.specs.Prelude.{ℕ, List, [], ◌∷◌, Option, codes, find}
 use Rattle.std.specs.Str.{bytes_eq}
 use Rattle.fields.specs.declared.values.reject.RejectType.{RejectType}
-use Rattle.fields.specs.declared.values.reject.RejectType.TheVariants.{NetUnreachable, HostUnreachable, PortUnreachable, ProtoUnreachable, NetProhibited, HostProhibited, AdminProhibited, TcpReset}
+use Rattle.fields.specs.declared.values.reject.RejectType.TheVariants.{NetUnreachable, HostUnreachable, PortUnreachable, ProtoUnreachable}
+use Rattle.fields.specs.declared.values.reject.RejectType.TheVariants.{NetProhibited, HostProhibited, AdminProhibited, TcpReset}
 
 -- the text of a type
 abbrev pub reject_text : RejectType → List ℕ

@@ -78,7 +78,8 @@ impl Spans {
         ensures members { IfOk result (λ set. (x : ℕ) → x ≤ top → F.post test x (has set.intervals x)) }
     {
         let mut runs = Vec::new(alloc);
-        // The test holds of all numbers from `first` to before `x`; the number behind the top ends the last of these runs.
+        // The test holds of all numbers from `first` to before `x`; the number after the top ends the last of these
+        // runs.
         let mut first = 0;
         for x in 0..top + 2 {
             if x > top || !test(x) {
@@ -173,7 +174,8 @@ impl Spans {
     pub fn join(&self, alloc: Global, other: &Spans) -> Result<Spans, AllocError>
         requires { self.now.top ≡ other.now.top }
         ensures top { IfOk result (λ set. set.top ≡ self.now.top) }
-        ensures members { IfOk result (λ set. (x : ℕ) → x ≤ self.now.top → has set.intervals x ≡ (has self.now.intervals x || has other.now.intervals x)) }
+        ensures members { IfOk result (λ set. (x : ℕ) → x ≤ self.now.top
+            → has set.intervals x ≡ (has self.now.intervals x || has other.now.intervals x)) }
     {
         // All but what both leave out.
         let others = other.except(alloc)?;

@@ -44,7 +44,8 @@ pub(crate) struct KeyRow {
     pub is_required: bool,
 }
 
-// What decides which keys a packet carries: its hook, its protocol where one is given, and whether it is a further fragment.
+// What decides which keys a packet carries: its hook, its protocol where one is given, and whether it is a further
+// fragment.
 #[derive(Clone, Copy)]
 pub(crate) struct Shape {
     pub hook: Hook,

@@ -1,8 +1,8 @@
-// A text cut in two.
+//! A text cut in two.
 ghost use Rattle.std.specs.Prelude.{◌≡◌, option_map};
 ghost use Rattle.fields.specs.text.Cut.{cut_at};
 
-// What stands before the first such byte, and what behind it.
+// What stands before the first such byte, and what after it.
 pub(crate) fn cut_at(text: &[u8], at: u8) -> Option<(&[u8], &[u8])>
     ensures { option_map (λ p. (p.0.now, p.1.now)) result ≡ cut_at at text.now }
 {

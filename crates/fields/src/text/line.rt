@@ -103,7 +103,8 @@ fn take_part<R: BufRead>(
 
 // The line at the end of the input.
 fn last_line(line: &Vec<u8>, too_long: bool) -> LineRead
-    ensures { (text : List ℕ) → (max : ℕ) → IsHeld max text line.now.items too_long → IsLast text result.end × (result.too_long ≡ too_long) }
+    ensures { (text : List ℕ) → (max : ℕ) → IsHeld max text line.now.items too_long
+        → IsLast text result.end × (result.too_long ≡ too_long) }
 {
     let end = if too_long || !line.is_empty() {
         LineEnd::Input
@@ -114,13 +115,13 @@ fn last_line(line: &Vec<u8>, too_long: bool) -> LineRead
 }
 
 impl<R: BufRead> Tap<R> {
-    /// Reads the next line into `line`, which has room for `max` bytes. The newline is none of them. A longer line is read to
-    /// its end too, and `too_long` says so: what stands in `line` then isn't the line.
+    /// Reads the next line into `line`, which has room for `max` bytes. The newline is none of them. A longer line is
+    /// read to its end too, and `too_long` says so: what stands in `line` then isn't the line.
     ///
     /// # Errors
     ///
-    /// `ReadFailed` where the tap has failed before, where a call of the device fails, and where the tap's steps of reading
-    /// are used up. A line takes at most as many steps as it has bytes, and one more.
+    /// `ReadFailed` where the tap has failed before, where a call of the device fails, and where the tap's steps of
+    /// reading are used up. A line takes at most as many steps as it has bytes, and one more.
     pub fn read_line(&mut self, max: usize, line: &mut Vec<u8>) -> Result<LineRead, ReadFailed>
         requires room { max ≤ vec_capacity line.old }
         ensures reads { ReadsLine (known R.remaining self.old) (known R.remaining self.new)

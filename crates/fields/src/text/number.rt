@@ -1,4 +1,4 @@
-// Numbers as they are written.
+//! Numbers as they are written.
 ghost use Rattle.std.specs.Prelude.{◌≡◌, ℕ, ◌<◌, ◌≤◌, length, Option, Some, None, IfSome};
 ghost use Rattle.fields.specs.text.Number.{IsNumber, has_number_form, number_from, number_of, number_to};
 

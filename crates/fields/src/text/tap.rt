@@ -56,7 +56,8 @@ impl<T> Tap<T> {
         device
     }
 
-    /// Whether the tap has failed: a call of the device failed, a write took no byte, or the steps of reading are used up.
+    /// Whether the tap has failed: a call of the device failed, a write took no byte, or the steps of reading are used
+    /// up.
     pub fn failed(&self) -> bool
         ensures { result ≡ has_failed self.now }
     {

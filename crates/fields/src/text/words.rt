@@ -2,7 +2,7 @@
 ghost use Rattle.std.specs.Prelude.{◌≡◌, ◌<◌, ◌≤◌, ◌↔◌, ℕ, List, [], length, drop, slice_get, IsTrue, Some, None, MatchResult, OnOk, IfOk, IfErr};
 ghost use Rattle.fields.specs.text.OneLine.{IsOneLine, AreOneLine};
 ghost use Rattle.fields.specs.text.Words.{act_of, words_of, AreWords, OnQuoting};
-ghost use Rattle.fields.specs.steps.Cutting.{view_act, view_place, view_cutting, view_words, after, whole, start, Gives};
+ghost use Rattle.fields.specs.steps.Cutting.{view_act, view_place, view_cutting, view_words, after, at_line_end, start, Gives};
 
 use std::alloc::Global;
 use std::marker::Model;
@@ -39,7 +39,7 @@ impl Model for Words {
 }
 
 // Where a byte of a line stands: between two words, in an unquoted word, between the quotes of a
-// word, behind a backslash there, or behind the closing quote.
+// word, after a backslash there, or after the closing quote.
 #[derive(Clone, Copy)]
 enum Place {
     Between,
@@ -116,9 +116,9 @@ impl Cutting {
     }
 
     // The words at the line's end.
-    #[tactic(auto, unfolding(crate::specs::steps::Cutting::whole))]
+    #[tactic(auto, unfolding(crate::specs::steps::Cutting::at_line_end))]
     fn finish(self) -> Result<Vec<Vec<u8>>, WordFault>
-        ensures { Gives (λ v. view_words v.items) result (whole (view_cutting self)) }
+        ensures { Gives (λ v. view_words v.items) result (at_line_end (view_cutting self)) }
     {
         let Cutting {
             mut words,
@@ -150,7 +150,7 @@ fn cut(alloc: Global, line: &[u8]) -> Result<Vec<Vec<u8>>, WordFault>
 impl Words {
     /// Cuts a line into its words (iptables-restore(8)).
     ///
-    /// Words are parted by blanks (32) and tabs (9) alone. A word is a run of bytes without blank,
+    /// Words are separated by blanks (32) and tabs (9) alone. A word is a run of bytes without blank,
     /// tab and `"`, or a text between two `"`, in which a backslash before any byte gives that byte;
     /// so `""` is the empty word. A quoted word is followed by a blank, a tab or the line's end.
     ///

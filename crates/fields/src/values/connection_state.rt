@@ -1,11 +1,11 @@
-// States of connections.
+//! States of connections.
 ghost use Rattle.std.specs.Prelude.{⊤, ◌≡◌, ◌==◌, ◌≤◌, true, Some, IfSome, IsTrue, false, option_map, ℕ, IfOk};
 ghost use Rattle.fields.specs.numbers.Field.{state_top};
 ghost use Rattle.fields.specs.numbers.Spans.{has};
 ghost use Rattle.std.specs.Int.RustNames.{bit_and};
 ghost use Rattle.fields.specs.values.ConnectionState.{states, ctstate_of, state_of, IsStates, states_text, packet_states, packet_state_of, marks_of, states_pass};
 ghost use Rattle.fields.specs.values.NameList.{number_named};
-ghost use Rattle.fields.specs.steps.PacketStateTable.{shown, marks_in, all_marked};
+ghost use Rattle.fields.specs.steps.PacketStateTable.{named_numbers, marks_in, all_marked};
 ghost use Rattle.fields.specs.text.Tap.{has_failed, Puts};
 
 use crate::numbers::field::STATE_TOP;
@@ -96,7 +96,7 @@ static PACKET_STATES: [(&[u8], u8, StateBits); 14] = [
 // The rows of that table.
 #[tactic(auto, unfolding(crate::specs::values::NameList::set_listed))]
 fn rows() -> &'static [(&'static [u8], u8, StateBits)]
-    ensures names { shown result.now ≡ packet_states }
+    ensures names { named_numbers result.now ≡ packet_states }
     ensures sets { IsTrue (all_marked result.now) }
 {
     &PACKET_STATES
@@ -104,7 +104,7 @@ fn rows() -> &'static [(&'static [u8], u8, StateBits)]
 
 // The number of the first row of this name.
 fn number_in(text: &[u8], rows: &[(&[u8], u8, StateBits)]) -> Option<u8>
-    ensures { result ≡ number_named (shown rows.now) text.now }
+    ensures { result ≡ number_named (named_numbers rows.now) text.now }
 {
     for (name, number, _) in rows {
         if is_name(name, text) {
@@ -136,8 +136,8 @@ pub(crate) fn read_packet_state(text: &[u8]) -> Option<u8>
     number_in(text, rows())
 }
 
-/// A set of one or more of the states INVALID, NEW, RELATED, ESTABLISHED and UNTRACKED and the translations SNAT and DNAT
-/// (iptables-extensions(8), conntrack `--ctstate` and state `--state`).
+/// A set of one or more of the states INVALID, NEW, RELATED, ESTABLISHED and UNTRACKED and the translations SNAT and
+/// DNAT (iptables-extensions(8), conntrack `--ctstate` and state `--state`).
 #[derive(Clone, Copy, Debug, PartialEq, Eq)]
 pub struct CtSet {
     bits: StateBits,
@@ -160,8 +160,8 @@ impl CtSet {
     // SNAT and DNAT.
     const TRANSLATIONS: StateBits = StateBits(96);
 
-    /// The set that a list of `--ctstate` writes: names parted by commas, of all seven, in any mix of upper and lower case. A
-    /// name may be repeated.
+    /// The set that a list of `--ctstate` writes: names separated by commas, of all seven, in any mix of upper and
+    /// lower case. A name may be repeated.
     #[tactic(auto, using(crate::proofs::laws::values::ConnectionStateLaws::are_states))]
     pub fn read(text: &[u8]) -> Option<CtSet>
         ensures value { result ≡ ctstate_of text.now }
@@ -185,8 +185,8 @@ impl CtSet {
         }
     }
 
-    /// Whether it holds of a packet with this number on the field `ct`: its state is listed, or SNAT or DNAT is listed and
-    /// the packet has it. It holds of no number above 13.
+    /// Whether it holds of a packet with this number on the field `ct`: its state is listed, or SNAT or DNAT is listed
+    /// and the packet has it. It holds of no number above 13.
     #[tactic(auto, using(crate::proofs::laws::values::ConnectionStateLaws::marks_in_rows))]
     pub fn holds(self, number: u8) -> bool
         ensures { result ≡ states_pass self number }
@@ -197,8 +197,8 @@ impl CtSet {
         }
     }
 
-    /// Writes the names of the set in the order INVALID, NEW, RELATED, ESTABLISHED, UNTRACKED, SNAT, DNAT, parted by commas.
-    /// That text reads back as this set. It takes no memory.
+    /// Writes the names of the set in the order INVALID, NEW, RELATED, ESTABLISHED, UNTRACKED, SNAT, DNAT, separated by
+    /// commas. That text reads back as this set. It takes no memory.
     #[tactic(auto, using(crate::proofs::laws::values::ConnectionStateLaws::ctstate_reads_back, crate::proofs::laws::values::ConnectionStateLaws::state_reads_back))]
     pub fn put<W: Write>(self, output: &mut Tap<W>) -> Result<(), WriteFailed>
         ensures text { Puts W.contents output.old output.new result (states_text self) }
@@ -208,7 +208,8 @@ impl CtSet {
         put_names(self.bits, &NAMES, output)
     }
 
-    /// The numbers of the states of packets of which the set holds. It answers `AllocError` only where memory was refused.
+    /// The numbers of the states of packets of which the set holds. It answers `AllocError` only where memory was
+    /// refused.
     pub fn allowed(&self, alloc: Global) -> Result<Spans, AllocError>
         ensures top { IfOk result (λ set. set.top ≡ state_top) }
         ensures members { IfOk result (λ set. (x : ℕ) → x ≤ state_top → has set.intervals x ≡ states_pass self.now x) }

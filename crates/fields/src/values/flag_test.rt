@@ -1,4 +1,4 @@
-// The condition on TCP flags.
+//! The condition on TCP flags.
 ghost use Rattle.std.specs.Prelude.{◌≡◌, Some, IfSome, false, codes, ◌≤◌, ℕ, IfOk};
 ghost use Rattle.fields.specs.numbers.Field.{flags_top};
 ghost use Rattle.fields.specs.numbers.Spans.{has};
@@ -12,8 +12,8 @@ use crate::values::tcp_flags::TcpFlags;
 use std::alloc::{AllocError, Global};
 use std::io::Write;
 
-/// The condition `--tcp-flags mask comp` of iptables-extensions(8): of the flags in the mask, a packet has exactly those of
-/// `comp`. It holds of no packet where `comp` has a flag that the mask lacks.
+/// The condition `--tcp-flags mask comp` of iptables-extensions(8): of the flags in the mask, a packet has exactly
+/// those of `comp`. It holds of no packet where `comp` has a flag that the mask lacks.
 #[derive(Clone, Copy, Debug, PartialEq, Eq)]
 pub struct FlagTest {
     pub mask: TcpFlags,
@@ -24,8 +24,8 @@ impl FlagTest {
     ghost use Rattle.fields.specs.declared.values.flag_test.FlagTest.{FlagTest};
     ghost use Rattle.fields.specs.values.FlagTest.{IsFlagTest, flags_pass, flag_test_of, asks_nothing, flag_test_text};
 
-    /// The condition that two flag lists write, the mask first. The two words that `put` writes of a condition read back as
-    /// it.
+    /// The condition that two flag lists write, the mask first. The two words that `put` writes of a condition read
+    /// back as it.
     #[tactic(auto, using(crate::proofs::laws::values::TcpFlagsLaws::test_reads_back))]
     pub fn read(mask: &[u8], comp: &[u8]) -> Option<FlagTest>
         ensures value { result ≡ flag_test_of mask.now comp.now }
@@ -71,8 +71,8 @@ impl FlagTest {
         self.comp.put(output)
     }
 
-    /// The sums of flags of which the condition holds, each sum with the numbers of FIN 1, SYN 2, RST 4, PSH 8, ACK 16 and
-    /// URG 32. It answers `AllocError` only where memory was refused.
+    /// The sums of flags of which the condition holds, each sum with the numbers of FIN 1, SYN 2, RST 4, PSH 8, ACK 16
+    /// and URG 32. It answers `AllocError` only where memory was refused.
     pub fn allowed(&self, alloc: Global) -> Result<Spans, AllocError>
         ensures top { IfOk result (λ set. set.top ≡ flags_top) }
         ensures members { IfOk result (λ set. (x : ℕ) → x ≤ flags_top → has set.intervals x ≡ flags_pass self.now x) }

@@ -1,4 +1,4 @@
-// ICMP types and codes.
+//! ICMP types and codes.
 ghost use Rattle.std.specs.Prelude.{◌≡◌, ℕ, ◌<◌, ◌≤◌, ◌&&◌, nat_le, Some, IfSome, false, IfOk};
 ghost use Rattle.fields.specs.numbers.Field.{icmp_top};
 ghost use Rattle.fields.specs.numbers.Spans.{has};
@@ -107,7 +107,8 @@ impl Asked {
     }
 }
 
-/// What `--icmp-type` of iptables-extensions(8) asks for: any type, a type from 0 to 254, or such a type and a code from 0 to
+/// What `--icmp-type` of iptables-extensions(8) asks for: any type, a type from 0 to 254, or such a type and a code
+/// from 0 to
 /// 255.
 #[derive(Clone, Copy, Debug, PartialEq, Eq)]
 pub struct IcmpType {
@@ -160,8 +161,8 @@ impl IcmpType {
         }
     }
 
-    /// The first and the last number on the field `icmp` of which it holds. It holds of those between them too, and of no
-    /// other.
+    /// The first and the last number on the field `icmp` of which it holds. It holds of those between them too, and of
+    /// no other.
     pub(crate) fn interval(self) -> (u16, u16)
         ensures exact { (value : ℕ) → value < 65536
             → icmp_passes self value ≡ (nat_le result.0 value && nat_le value result.1) }
@@ -199,8 +200,8 @@ impl IcmpType {
         }
     }
 
-    /// The numbers of types and codes, type times 256 plus code, of which it holds: one interval. It answers `AllocError` only
-    /// where memory was refused.
+    /// The numbers of types and codes, type times 256 plus code, of which it holds: one interval. It answers
+    /// `AllocError` only where memory was refused.
     pub fn allowed(&self, alloc: Global) -> Result<Spans, AllocError>
         ensures top { IfOk result (λ set. set.top ≡ icmp_top) }
         ensures members { IfOk result (λ set. (x : ℕ) → x ≤ icmp_top → has set.intervals x ≡ icmp_passes self.now x) }
@@ -210,7 +211,8 @@ impl IcmpType {
     }
 }
 
-/// The number on the field `icmp` that a packet line's `type/code` writes, each from 0 to 255: the type times 256, plus the code.
+/// The number on the field `icmp` that a packet line's `type/code` writes, each from 0 to 255: the type times 256, plus
+/// the code.
 #[tactic(auto, unfolding(crate::specs::values::PacketIcmp::packet_icmp_of))]
 pub(crate) fn read_packet_icmp(text: &[u8]) -> Option<u16>
     ensures { result ≡ packet_icmp_of text.now }

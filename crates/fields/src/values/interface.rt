@@ -1,4 +1,4 @@
-// Interface patterns.
+//! Interface patterns.
 ghost use Rattle.std.specs.Prelude.{◌≡◌, ℕ, ◌<◌, ◌≤◌, ◌^◌, ◌↔◌, ◌&&◌, nat_le, List, length, slice_index, codes, IsTrue, Option, Some, None, IfOk};
 ghost use Rattle.fields.specs.numbers.Field.{interface_top};
 ghost use Rattle.fields.specs.numbers.Spans.{has};
@@ -62,7 +62,7 @@ fn is_open(pattern: &[u8]) -> bool
     !pattern.is_empty() && pattern[pattern.len() - 1] == b'+'
 }
 
-// A byte of these 16: the bytes, and a filling behind them.
+// A byte of these 16: the bytes, and a filling after them.
 fn filled_byte(bytes: &[u8], fill: u8, place: usize) -> u8
     requires { place < 16 }
     ensures { result ≡ slice_index (filled fill bytes.now) place }
@@ -172,8 +172,8 @@ impl IfPattern {
         output.put(self.bytes.as_slice())
     }
 
-    /// The numbers of the interfaces of which the pattern holds: one interval. It answers `AllocError` only where memory was
-    /// refused.
+    /// The numbers of the interfaces of which the pattern holds: one interval. It answers `AllocError` only where
+    /// memory was refused.
     pub fn allowed(&self, alloc: Global) -> Result<Spans, AllocError>
         ensures top { IfOk result (λ set. set.top ≡ interface_top) }
         ensures members { IfOk result (λ set. (x : ℕ) → x ≤ interface_top → has set.intervals x ≡ interface_holds self.now x) }

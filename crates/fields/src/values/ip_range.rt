@@ -1,4 +1,4 @@
-// Ranges of IPv4 addresses.
+//! Ranges of IPv4 addresses.
 ghost use Rattle.std.specs.Prelude.{◌≡◌, Some, IfSome, false, ◌≤◌, ℕ, IfOk};
 ghost use Rattle.fields.specs.numbers.Field.{address_top};
 ghost use Rattle.fields.specs.numbers.Spans.{has};
@@ -88,8 +88,8 @@ impl IpRange {
         put_address(self.last(), output)
     }
 
-    /// The addresses of the range: one interval, or none where the first is above the last. It answers `AllocError` only where
-    /// memory was refused.
+    /// The addresses of the range: one interval, or none where the first is above the last. It answers `AllocError`
+    /// only where memory was refused.
     pub fn allowed(&self, alloc: Global) -> Result<Spans, AllocError>
         ensures top { IfOk result (λ set. set.top ≡ address_top) }
         ensures members { IfOk result (λ set. (x : ℕ) → x ≤ address_top → has set.intervals x ≡ range_has self.now x) }

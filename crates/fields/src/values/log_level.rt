@@ -1,4 +1,4 @@
-// The levels of LOG.
+//! The levels of LOG.
 ghost use Rattle.std.specs.Prelude.{◌≡◌, ◌≤◌, Some};
 ghost use Rattle.fields.specs.text.Tap.{Puts};
 
@@ -10,13 +10,21 @@ use std::io::Write;
 /// How urgent a message of the target LOG is (iptables-extensions(8), `--log-level`), from 0, the most urgent, to 7.
 #[derive(Clone, Copy, Debug, PartialEq, Eq)]
 pub enum LogLevel {
+    /// 0: the system is unusable.
     Emerg,
+    /// 1: action must be taken at once.
     Alert,
+    /// 2: critical conditions.
     Crit,
+    /// 3: errors.
     Error,
+    /// 4: warnings, the default.
     Warning,
+    /// 5: normal but significant.
     Notice,
+    /// 6: informational.
     Info,
+    /// 7: for debugging.
     Debug,
 }
 
@@ -33,8 +41,8 @@ impl Default for LogLevel {
 impl LogLevel {
     ghost use Rattle.fields.specs.values.LogLevel.{level_number, level_name, level_at, level_named, log_level_of, log_level_text};
 
-    /// Each level, at its number.
-    pub const ALL: [LogLevel; 8] = [
+    // Each level.
+    const ALL: [LogLevel; 8] = [
         LogLevel::Emerg,
         LogLevel::Alert,
         LogLevel::Crit,

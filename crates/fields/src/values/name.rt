@@ -1,4 +1,4 @@
-// Names of chains.
+//! Names of chains.
 ghost use Rattle.std.specs.Prelude.{◌≡◌, Option, Some, None};
 ghost use Rattle.std.specs.List.{list_all};
 ghost use Rattle.fields.specs.values.Name.{is_name_byte, has_name_form, is_target_word, is_name, name_of};

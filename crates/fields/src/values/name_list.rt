@@ -1,4 +1,4 @@
-// Lists of names, parted by commas, of which each stands for a set of bits.
+//! Lists of names, separated by commas, of which each stands for a set of bits.
 ghost use Rattle.std.specs.Prelude.{◌≡◌, false, IsTrue, option_map};
 ghost use Rattle.std.specs.Str.{str_eq_ignore_ascii_case};
 ghost use Rattle.fields.specs.values.NameList.{row_named, number_named, set_listed, names_listed};
@@ -47,9 +47,9 @@ pub(crate) fn read_names<F: Flags>(text: &[u8]) -> Option<F>
 {
     let mut set = F::empty();
     let mut rest = text;
-    while let Some((name, behind)) = cut_at(rest, b',') {
+    while let Some((name, further)) = cut_at(rest, b',') {
         set.insert(set_named(name)?);
-        rest = behind;
+        rest = further;
     }
     set.insert(set_named(rest)?);
     Some(set)

@@ -1,4 +1,4 @@
-// Lists of ports.
+//! Lists of ports.
 ghost use Rattle.std.specs.Prelude.{◌≡◌, ◌≤◌, ◌<◌, ◌+◌, ◌∷◌, [], ◌++◌, Option, Some, None, IfSome, false, flat_map, length, ℕ, IfOk};
 ghost use Rattle.fields.specs.numbers.Field.{port_top};
 ghost use Rattle.fields.specs.numbers.Spans.{has};
@@ -75,7 +75,7 @@ fn read_item_within(text: &[u8], room: usize) -> Option<PortRange>
 }
 
 impl PortList {
-    /// The list that a text writes: 1 to 15 ports parted by commas, where a range `a:b` counts as
+    /// The list that a text writes: 1 to 15 ports separated by commas, where a range `a:b` counts as
     /// two. Both ends of a range stand there, a not above b, and `a:a` is `a`
     /// (iptables-extensions(8), `--sports`).
     pub fn read(text: &[u8]) -> Option<PortList>
@@ -84,11 +84,11 @@ impl PortList {
         let mut items = ArrayVec::new();
         let mut room = 15;
         let mut rest = text;
-        while let Some((part, behind)) = cut_at(rest, b',') {
+        while let Some((part, further)) = cut_at(rest, b',') {
             let item = read_item_within(part, room)?;
             room -= port_count(item);
             items.push(item);
-            rest = behind;
+            rest = further;
         }
         let item = read_item_within(rest, room)?;
         items.push(item);

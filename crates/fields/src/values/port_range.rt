@@ -1,4 +1,4 @@
-// Ranges of ports.
+//! Ranges of ports.
 ghost use Rattle.std.specs.Prelude.{◌≡◌, ◌≤◌, ◌↔◌, ℕ, IsTrue, Option, Some, None, IfSome, false, IfOk};
 ghost use Rattle.fields.specs.numbers.Field.{port_top};
 ghost use Rattle.fields.specs.numbers.Spans.{has};

@@ -1,4 +1,4 @@
-// IPv4 addresses with a prefix length.
+//! IPv4 addresses with a prefix length.
 ghost use Rattle.std.specs.Prelude.{◌≡◌, ℕ, ◌<◌, ◌≤◌, ◌^◌, ◌∷◌, [], Option, Some, None, IfSome, option_map, IfOk};
 ghost use Rattle.fields.specs.numbers.Field.{address_top};
 ghost use Rattle.fields.specs.numbers.Spans.{has};

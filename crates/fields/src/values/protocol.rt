@@ -3,7 +3,7 @@ ghost use Rattle.std.specs.Prelude.{◌≡◌, ◌≤◌, ◌<◌, ◌↔◌, Is
 ghost use Rattle.fields.specs.numbers.Field.{protocol_top};
 ghost use Rattle.fields.specs.numbers.Spans.{has};
 ghost use Rattle.fields.specs.values.Protocol.{protocols, number_in, name_in, protocol_number, protocol_name, one_protocol_of, protocol_of, protocol_text};
-ghost use Rattle.fields.specs.steps.ProtocolTable.{shown};
+ghost use Rattle.fields.specs.steps.ProtocolTable.{entries_of};
 ghost use Rattle.fields.specs.text.Printed.{IsBareWord};
 ghost use Rattle.fields.specs.text.Tap.{Puts};
 
@@ -48,14 +48,14 @@ static PROTOCOLS: [(&[u8], u8); 14] = [
 
 // The entries of the table.
 fn entries() -> &'static [(&'static [u8], u8)]
-    ensures { shown result.now ≡ protocols }
+    ensures { entries_of result.now ≡ protocols }
 {
     &PROTOCOLS
 }
 
 // The number of the first entry with this name.
 fn number_in(text: &[u8], entries: &[(&[u8], u8)]) -> Option<u8>
-    ensures { result ≡ number_in text.now (shown entries.now) }
+    ensures { result ≡ number_in text.now (entries_of entries.now) }
 {
     for (name, number) in entries {
         if *name == text {
@@ -67,7 +67,7 @@ fn number_in(text: &[u8], entries: &[(&[u8], u8)]) -> Option<u8>
 
 // The name of the first entry with this number.
 fn name_in<'a>(protocol: u8, entries: &[(&'a [u8], u8)]) -> Option<&'a [u8]>
-    ensures { option_map (λ name. name.now) result ≡ name_in protocol (shown entries.now) }
+    ensures { option_map (λ name. name.now) result ≡ name_in protocol (entries_of entries.now) }
 {
     for (name, number) in entries {
         if *number == protocol {

@@ -1,21 +1,29 @@
-// What REJECT answers with.
+//! What REJECT answers with.
 ghost use Rattle.std.specs.Prelude.{◌≡◌, Some, IfSome};
 ghost use Rattle.fields.specs.text.Tap.{Puts};
 
 use crate::text::tap::{Tap, WriteFailed};
 use std::io::Write;
 
-/// What the target REJECT answers a packet with (iptables-extensions(8), `--reject-with`): an ICMP message, or the reset of a
-/// TCP connection.
+/// What the target REJECT answers a packet with (iptables-extensions(8), `--reject-with`): an ICMP message, or the
+/// reset of a TCP connection.
 #[derive(Clone, Copy, Debug, PartialEq, Eq)]
 pub enum RejectType {
+    /// `icmp-net-unreachable`
     NetUnreachable,
+    /// `icmp-host-unreachable`
     HostUnreachable,
+    /// `icmp-port-unreachable`, the default
     PortUnreachable,
+    /// `icmp-proto-unreachable`
     ProtoUnreachable,
+    /// `icmp-net-prohibited`
     NetProhibited,
+    /// `icmp-host-prohibited`
     HostProhibited,
+    /// `icmp-admin-prohibited`
     AdminProhibited,
+    /// `tcp-reset`, of packets of tcp alone
     TcpReset,
 }
 
@@ -33,8 +41,8 @@ impl RejectType {
     ghost use Rattle.fields.specs.declared.values.reject.RejectType.{RejectType};
     ghost use Rattle.fields.specs.values.RejectType.{reject_text, reject_named, reject_of};
 
-    /// Each type.
-    pub const ALL: [RejectType; 8] = [
+    // Each type.
+    const ALL: [RejectType; 8] = [
         RejectType::NetUnreachable,
         RejectType::HostUnreachable,
         RejectType::PortUnreachable,

@@ -1,4 +1,4 @@
-// Sets of TCP flags.
+//! Sets of TCP flags.
 ghost use Rattle.std.specs.Prelude.{⊤, ◌≡◌, ◌==◌, ◌<◌, Some, IfSome, false, codes};
 ghost use Rattle.std.specs.Int.RustNames.{bit_and};
 ghost use Rattle.fields.specs.values.TcpFlags.{flag_names, tcp_flags_of, tcp_flags_text};
@@ -75,8 +75,8 @@ impl Flags for FlagBits {
     }
 }
 
-/// A set of the TCP flags FIN 1, SYN 2, RST 4, PSH 8, ACK 16 and URG 32, as the sum of their numbers (iptables-extensions(8),
-/// `--tcp-flags`).
+/// A set of the TCP flags FIN 1, SYN 2, RST 4, PSH 8, ACK 16 and URG 32, as the sum of their numbers
+/// (iptables-extensions(8), `--tcp-flags`).
 #[derive(Clone, Copy, Debug, PartialEq, Eq)]
 pub struct TcpFlags {
     bits: FlagBits,
@@ -101,8 +101,8 @@ impl TcpFlags {
     // SYN, RST, ACK and FIN.
     pub(crate) const SYN_MASK: TcpFlags = TcpFlags { bits: FlagBits(23) };
 
-    /// The set that a flag list writes: names parted by commas, of SYN, ACK, FIN, RST, URG, PSH, ALL and NONE, in any mix of
-    /// upper and lower case. ALL is all six flags, NONE adds nothing, and a name may be repeated.
+    /// The set that a flag list writes: names separated by commas, of SYN, ACK, FIN, RST, URG, PSH, ALL and NONE, in
+    /// any mix of upper and lower case. ALL is all six flags, NONE adds nothing, and a name may be repeated.
     #[tactic(auto, using(crate::proofs::laws::values::TcpFlagsLaws::known))]
     pub fn read(text: &[u8]) -> Option<TcpFlags>
         ensures value { result ≡ tcp_flags_of text.now }
@@ -120,8 +120,8 @@ impl TcpFlags {
         self.bits.0
     }
 
-    /// Writes the names of the set's flags in the order FIN, SYN, RST, PSH, ACK, URG, parted by commas, or `NONE`. That text
-    /// reads back as this set. It takes no memory.
+    /// Writes the names of the set's flags in the order FIN, SYN, RST, PSH, ACK, URG, separated by commas, or `NONE`.
+    /// That text reads back as this set. It takes no memory.
     #[tactic(auto, using(crate::proofs::laws::values::TcpFlagsLaws::reads_back), unfolding(crate::specs::values::TcpFlags::tcp_flags_text))]
     pub fn put<W: Write>(self, output: &mut Tap<W>) -> Result<(), WriteFailed>
         ensures text { Puts W.contents output.old output.new result (tcp_flags_text self) }

@@ -2,7 +2,7 @@
 use Rattle.std.proofs.Common.{◌≡◌, ℕ, List, [], ◌∷◌, ◌++◌, Option, Some, None, option_and_then, refl, sym, ap, ◌∙◌, append_assoc, append-nil}
 use Rattle.std.specs.Option.{option_map}
 use Rattle.fields.specs.text.Words.{Place, Between, Bare, Quoted, Escaped, Closed, Act, Skips, Joins, Ends, Breaks, act_of, in_front, acted, words_from, words_of}
-use Rattle.fields.specs.steps.Cutting.{Cut, cut_by, after, whole, cut_from, start}
+use Rattle.fields.specs.steps.Cutting.{Cut, cut_by, after, at_line_end, cut_from, start}
 
 abbrev at : List (List ℕ) → List ℕ → Place → Cut
 at words word place = record { words = words; word = word; place = place }
@@ -34,7 +34,7 @@ cut_from-act bytes byte (Ends next) words word place further = further (words ++
 cut_from-act bytes byte Breaks words word place further = refl
 
 cut_from-at : (bytes : List ℕ) (words : List (List ℕ)) (word : List ℕ) (place : Place) → cut_from (at words word place) bytes ≡ option_map (glued words word) (words_from place bytes)
-unfolding after whole
+unfolding after at_line_end
 cut_from-at [] words word Between = ap Some (sym (append-nil words))
 cut_from-at [] words word Bare = ap (λ w. Some (words ++ w ∷ [])) (sym (append-nil word))
 cut_from-at [] words word Quoted = refl

@@ -6,7 +6,7 @@ use Rattle.std.proofs.lemmas.Bool.{and_parts, eqb-true, leb-true}
 use Rattle.fields.specs.Sequence.{◌>>=◌}
 use Rattle.fields.specs.values.NameList.{is_just, set_listed, names_listed}
 use Rattle.fields.specs.values.ConnectionState.{states, ctstate_of, untranslated, state_of, IsStates, states_text, packet_states, packet_state_of, marks_of}
-use Rattle.fields.specs.steps.PacketStateTable.{Row, shown, marks_in, all_marked}
+use Rattle.fields.specs.steps.PacketStateTable.{StateRow, named_numbers, marks_in, all_marked}
 use Rattle.fields.proofs.laws.numbers.BelowLaws.{all_below, all_below-at, is_just-same}
 use Rattle.fields.proofs.laws.values.NameListLaws.{set_listed-lt, set_listed-some, number_named-passes}
 
@@ -37,18 +37,18 @@ packet_state_within text None e = tt
 packet_state_within text (Some n) e = leb-true n 13 (number_named-passes (λ m. nat_le m 13) packet_states text n refl (sym e))
 
 -- the sets beside the names are those that the names list
-marks-rows : (number : ℕ) (rows : List Row) → all_marked rows ≡ true → marks_in number rows ≡ (find (λ row. row.1 == number) (shown rows) >>= λ row. set_listed states row.0)
+marks-rows : (number : ℕ) (rows : List StateRow) → all_marked rows ≡ true → marks_in number rows ≡ (find (λ row. row.1 == number) (named_numbers rows) >>= λ row. set_listed states row.0)
 marks-rows number [] all = refl
 marks-rows number (row ∷ rows) all =
     let (first, others) = and_parts (is_just (set_listed states row.0.now) row.2.0) (all_marked rows) all in
     go (row.1 == number) (sym (is_just-same (set_listed states row.0.now) row.2.0 first)) (marks-rows number rows others)
   where
-    go : (t : Bool) → Some row.2.0 ≡ set_listed states row.0.now → marks_in number rows ≡ (find (λ r. r.1 == number) (shown rows) >>= λ r. set_listed states r.0)
-        → option_map (λ (r : Row). r.2.0) (cond t (Some row) (find (λ (r : Row). r.1 == number) rows))
-        ≡ (cond t (Some (row.0.now, row.1)) (find (λ r. r.1 == number) (shown rows)) >>= λ r. set_listed states r.0)
+    go : (t : Bool) → Some row.2.0 ≡ set_listed states row.0.now → marks_in number rows ≡ (find (λ r. r.1 == number) (named_numbers rows) >>= λ r. set_listed states r.0)
+        → option_map (λ (r : StateRow). r.2.0) (cond t (Some row) (find (λ (r : StateRow). r.1 == number) rows))
+        ≡ (cond t (Some (row.0.now, row.1)) (find (λ r. r.1 == number) (named_numbers rows)) >>= λ r. set_listed states r.0)
     go true here further = here
     go false here further = further
 
-pub marks_in_rows : (number : ℕ) (rows : List Row) → shown rows ≡ packet_states → all_marked rows ≡ true → marks_in number rows ≡ marks_of number
+pub marks_in_rows : (number : ℕ) (rows : List StateRow) → named_numbers rows ≡ packet_states → all_marked rows ≡ true → marks_in number rows ≡ marks_of number
 unfolding marks_of
 marks_in_rows number rows names sets = marks-rows number rows sets ∙ ap (λ l. find (λ (r : List ℕ × ℕ). r.1 == number) l >>= λ r. set_listed states r.0) names

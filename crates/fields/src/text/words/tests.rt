@@ -1,7 +1,7 @@
 use super::*;
 use std::test::Fail;
 
-// The words with a `|` behind each.
+// The words with a `|` after each.
 fn marked(alloc: Global, words: &Words) -> Result<Vec<u8>, Fail> {
     let mut text = Vec::new(alloc);
     for place in 0..words.len() {

@@ -1,8 +1,8 @@
 use Rattle.std.proofs.Common.{◌≡◌, drop}
 use Rattle.fields.specs.values.Protocol.{name_in}
-use Rattle.fields.specs.steps.ProtocolTable.{shown}
+use Rattle.fields.specs.steps.ProtocolTable.{entries_of}
 use Rattle.fields.proofs.values.protocol.name_in.Given as goal
 
 -- the answer is among the entries that are left
 abbrev pub invariant-loop-name : goal.invariant-loop-name
-invariant-loop-name l = name_in l.protocol (shown (drop l.name-index l.entries)) ≡ name_in l.protocol (shown l.entries)
+invariant-loop-name l = name_in l.protocol (entries_of (drop l.name-index l.entries)) ≡ name_in l.protocol (entries_of l.entries)

@@ -7,9 +7,9 @@ use Rattle.fields.proofs.values.port_list.PortList.read.Goals as goal
 
 pub returns-in_err-item : goal.returns-in_err-item
 returns-in_err-item c =
-    let cut : cut_at 44 c.loop-part.rest.now ≡ Some (c.in-Some.part.now, c.in-Some.behind.now) = search (rules, c.in-Some.ensures) in
+    let cut : cut_at 44 c.loop-part.rest.now ≡ Some (c.in-Some.part.now, c.in-Some.further.now) = search (rules, c.in-Some.ensures) in
     let none : item_within c.loop-part.room c.in-Some.part.now ≡ None = search (rules, c.in_err-item.ensures) in
-    let all = more-none c.args.text.now c.loop-part.items.items c.loop-part.room c.loop-part.rest.now c.loop-part.invariant.0 c.in-Some.part.now c.in-Some.behind.now cut none in
+    let all = more-none c.args.text.now c.loop-part.items.items c.loop-part.room c.loop-part.rest.now c.loop-part.invariant.0 c.in-Some.part.now c.in-Some.further.now cut none in
     search (rules, all)
 
 pub overflow_sub-room : goal.overflow_sub-room
@@ -27,15 +27,15 @@ push-requires c =
 
 pub loop-part-smaller : goal.loop-part-smaller
 loop-part-smaller c =
-    let cut : cut_at 44 c.loop-part.rest.now ≡ Some (c.in-Some.part.now, c.in-Some.behind.now) = search (rules, c.in-Some.ensures) in
-    let whole = cut_at_only 44 c.loop-part.rest.now (c.in-Some.part.now, c.in-Some.behind.now) cut in
-    omega (arith, ap length whole, length-append c.in-Some.part.now (44 ∷ c.in-Some.behind.now))
+    let cut : cut_at 44 c.loop-part.rest.now ≡ Some (c.in-Some.part.now, c.in-Some.further.now) = search (rules, c.in-Some.ensures) in
+    let whole = cut_at_only 44 c.loop-part.rest.now (c.in-Some.part.now, c.in-Some.further.now) cut in
+    omega (arith, ap length whole, length-append c.in-Some.part.now (44 ∷ c.in-Some.further.now))
 
 pub loop-part-preserved : goal.loop-part-preserved
 loop-part-preserved c =
-    let cut : cut_at 44 c.loop-part.rest.now ≡ Some (c.in-Some.part.now, c.in-Some.behind.now) = search (rules, c.in-Some.ensures) in
+    let cut : cut_at 44 c.loop-part.rest.now ≡ Some (c.in-Some.part.now, c.in-Some.further.now) = search (rules, c.in-Some.ensures) in
     let one : item_within c.loop-part.room c.in-Some.part.now ≡ Some c.in_ok-item.item = search (rules, c.in_ok-item.ensures) in
-    let next = more-item c.args.text.now c.loop-part.items.items c.loop-part.room c.loop-part.rest.now c.loop-part.invariant.0 c.in-Some.part.now c.in-Some.behind.now c.in_ok-item.item cut one in
+    let next = more-item c.args.text.now c.loop-part.items.items c.loop-part.room c.loop-part.rest.now c.loop-part.invariant.0 c.in-Some.part.now c.in-Some.further.now c.in_ok-item.item cut one in
     let some = port_count-some c.in_ok-item.item in
     let fits = item_within-room c.loop-part.room c.in-Some.part.now c.in_ok-item.item one in
     rw (c.push.ensures.items, c.port_count-room.ensures) (next, omega (arith, length-append c.loop-part.items.items (c.in_ok-item.item ∷ [])))
