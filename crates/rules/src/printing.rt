@@ -7,12 +7,12 @@ ghost use Rattle.rules.specs.options.Settings.{option_of_value};
 ghost use Rattle.rules.specs.printing.Printing.{shown_value, shown_bang, shown_setting, shown_action, rule_text};
 ghost use Rattle.rules.specs.printing.RoundTrip.{TextReadsBack, IsOnlyOne, HasShortLine};
 ghost use Rattle.rules.specs.steps.Writing.{has_words, value_text, setting_text, start_text, match_text, action_text};
-ghost use Rattle.rules.specs.steps.Views.{view_match, view_draft};
+ghost use Rattle.rules.specs.steps.Views.{view_match, view_content};
 
 
 use crate::rule::action::Action;
-use crate::rule::content::{Draft, Match};
-use crate::options::match_kind::Kind;
+use crate::rule::content::{Content, Match};
+use crate::options::match_kind::MatchKind;
 use crate::rule::Rule;
 use crate::options::setting::Setting;
 use crate::options::value::Value;
@@ -115,7 +115,7 @@ fn put_named<W: Write>(output: &mut Tap<W>, option: &[u8], name: &[u8]) -> Resul
 }
 
 #[tactic(auto, unfolding(crate::specs::steps::Writing::start_text))]
-fn put_start<W: Write>(output: &mut Tap<W>, kind: Kind) -> Result<(), WriteFailed>
+fn put_start<W: Write>(output: &mut Tap<W>, kind: MatchKind) -> Result<(), WriteFailed>
     requires { has_failed output.old ≡ false }
     ensures { Puts W.contents output.old output.new result (start_text kind) }
 {
@@ -156,14 +156,14 @@ fn put_action<W: Write>(output: &mut Tap<W>, action: &Option<Action>) -> Result<
     }
 }
 
-fn put_draft<W: Write>(output: &mut Tap<W>, draft: &Draft) -> Result<(), WriteFailed>
+fn put_content<W: Write>(output: &mut Tap<W>, content: &Content) -> Result<(), WriteFailed>
     requires { has_failed output.old ≡ false }
-    ensures { Puts W.contents output.old output.new result (rule_text (view_draft draft.now)) }
+    ensures { Puts W.contents output.old output.new result (rule_text (view_content content.now)) }
 {
-    put_settings(output, draft.settings.as_slice())?;
-    put_matches(output, draft.matches.as_slice())?;
-    put_action(output, &draft.action)?;
-    put_settings(output, draft.extras.as_slice())
+    put_settings(output, content.settings.as_slice())?;
+    put_matches(output, content.matches.as_slice())?;
+    put_action(output, &content.action)?;
+    put_settings(output, content.target_options.as_slice())
 }
 
 /// Writes the text of a rule, each of its words after one blank: what stands behind `-A chain` in a listing
@@ -178,5 +178,5 @@ pub fn write_rule<W: Write>(rule: &Rule, output: &mut Tap<W>) -> Result<(), Writ
     ensures only { IsOnlyOne rule.now }
     ensures short { HasShortLine rule.now }
 {
-    put_draft(output, rule.draft())
+    put_content(output, rule.content())
 }

@@ -3,51 +3,51 @@ ghost use Rattle.std.specs.Prelude.{◌≡◌, ◌≤◌, ◌<◌, ◌+◌, ◌-
 ghost use Rattle.std.specs.List.{list_any};
 ghost use Rattle.fields.specs.steps.Cutting.{view_words};
 ghost use Rattle.rules.specs.Sequence.{Gives};
-ghost use Rattle.rules.specs.options.Matches.{kind_row};
+ghost use Rattle.rules.specs.options.Matches.{match_row};
 ghost use Rattle.rules.specs.rule.Rules.{empty_rule};
-ghost use Rattle.rules.specs.reading.Steps.{steps_from, is_met_for, unmet_match, or_else, unmet_matches, is_reset, unmet_reset, unmet, finished, whole, rule_of};
-ghost use Rattle.rules.specs.steps.Views.{view_match, view_matches, view_draft};
+ghost use Rattle.rules.specs.reading.Steps.{steps_from, is_met_for, unmet_match, or_else, unmet_matches, is_reset, unmet_reset, unmet, unless_unmet, with_needs_met, rule_of};
+ghost use Rattle.rules.specs.steps.Views.{view_match, view_matches, view_content};
 
-pub(crate) mod by_rows;
+pub(crate) mod grammar;
 pub(crate) mod fault;
 pub(crate) mod normal_form;
 pub(crate) mod option_words;
 pub(crate) mod steps;
 
-use crate::reading::normal_form::completed;
+use crate::reading::normal_form::normalized;
 use crate::reading::steps::{is_met_for, step};
-use crate::rule::content::{Draft, Match};
+use crate::rule::content::{Content, Match};
 use crate::reading::fault::{Refusal, RuleFault};
-use crate::reading::option_words::part_at;
+use crate::reading::option_words::option_words_at;
 use crate::rule::Rule;
 use crate::options::setting::{Setting, has_protocol};
 use crate::options::value::Value;
 use fields::{RejectType, Words};
 use std::alloc::Global;
 
-fn empty(alloc: Global) -> Draft
-    ensures { view_draft result ≡ empty_rule }
+fn empty(alloc: Global) -> Content
+    ensures { view_content result ≡ empty_rule }
 {
-    Draft {
+    Content {
         settings: Vec::new(alloc),
         matches: Vec::new(alloc),
         action: None,
-        extras: Vec::new(alloc),
+        target_options: Vec::new(alloc),
     }
 }
 
-fn parts(alloc: Global, end: usize, words: &[Vec<u8>]) -> Result<Draft, RuleFault>
+fn read_options(alloc: Global, end: usize, words: &[Vec<u8>]) -> Result<Content, RuleFault>
     requires { length words.now ≤ end }
-    ensures { Gives view_draft result (steps_from (length (view_words words.now)) end empty_rule (view_words words.now)) }
+    ensures { Gives view_content result (steps_from (length (view_words words.now)) end empty_rule (view_words words.now)) }
 {
-    let mut draft = empty(alloc);
+    let mut content = empty(alloc);
     let mut rest = words;
     while !rest.is_empty() {
-        let (part, behind) = part_at(end, rest)?;
-        draft = step(alloc, draft, &part)?;
-        rest = behind;
+        let (given, after) = option_words_at(end, rest)?;
+        content = step(alloc, content, &given)?;
+        rest = after;
     }
-    Ok(draft)
+    Ok(content)
 }
 
 // What a match lacks.
@@ -80,49 +80,49 @@ fn is_reset(setting: &Setting) -> bool
     matches!(setting.value, Value::RejectWith(RejectType::TcpReset))
 }
 
-fn asks_reset(extras: &[Setting]) -> bool
-    ensures { result ≡ list_any is_reset extras.now }
+fn asks_reset(target_options: &[Setting]) -> bool
+    ensures { result ≡ list_any is_reset target_options.now }
 {
-    extras.iter().any(is_reset)
+    target_options.iter().any(is_reset)
 }
 
-fn unmet_reset(settings: &[Setting], extras: &[Setting]) -> Option<Refusal>
-    ensures { result ≡ unmet_reset settings.now extras.now }
+fn unmet_reset(settings: &[Setting], target_options: &[Setting]) -> Option<Refusal>
+    ensures { result ≡ unmet_reset settings.now target_options.now }
 {
-    if asks_reset(extras) && !has_protocol(settings, 6) {
+    if asks_reset(target_options) && !has_protocol(settings, 6) {
         return Some(Refusal::ProtocolNeeded);
     }
     None
 }
 
 // What is told after the last word.
-fn unmet(draft: &Draft) -> Option<Refusal>
-    ensures { result ≡ unmet (view_draft draft.now) }
+fn unmet(content: &Content) -> Option<Refusal>
+    ensures { result ≡ unmet (view_content content.now) }
 {
-    let settings = draft.settings.as_slice();
-    match unmet_matches(settings, draft.matches.as_slice()) {
+    let settings = content.settings.as_slice();
+    match unmet_matches(settings, content.matches.as_slice()) {
         Some(refusal) => Some(refusal),
-        None => unmet_reset(settings, draft.extras.as_slice()),
+        None => unmet_reset(settings, content.target_options.as_slice()),
     }
 }
 
-fn whole(draft: Draft) -> Result<Draft, RuleFault>
-    ensures { Gives view_draft result (whole (view_draft draft)) }
+fn with_needs_met(content: Content) -> Result<Content, RuleFault>
+    ensures { Gives view_content result (with_needs_met (view_content content)) }
 {
-    let draft = completed(draft)?;
-    match unmet(&draft) {
-        None => Ok(draft),
+    let content = normalized(content)?;
+    match unmet(&content) {
+        None => Ok(content),
         Some(refusal) => Err(RuleFault::Refused(refusal)),
     }
 }
 
 #[tactic(auto, unfolding(crate::specs::reading::Steps::rule_of))]
-fn rule_of(alloc: Global, end: usize, words: &[Vec<u8>]) -> Result<Draft, RuleFault>
+fn rule_of(alloc: Global, end: usize, words: &[Vec<u8>]) -> Result<Content, RuleFault>
     requires { length words.now ≤ end }
-    ensures { Gives view_draft result (rule_of end (view_words words.now)) }
+    ensures { Gives view_content result (rule_of end (view_words words.now)) }
 {
-    let draft = parts(alloc, end, words)?;
-    whole(draft)
+    let content = read_options(alloc, end, words)?;
+    with_needs_met(content)
 }
 
 /// The rule that the words from a place on read as, or the first fault: P1 to P12, and P0 where memory was refused.
@@ -130,6 +130,6 @@ pub fn read_rule(alloc: Global, words: &Words, from: usize) -> Result<Rule, Rule
     requires { from ≤ length words.now }
     ensures { Gives (λ r. r) result (rule_of (length words.now) (drop from words.now)) }
 {
-    let draft = rule_of(alloc, words.len(), words.after(from))?;
-    Ok(Rule::of(draft))
+    let content = rule_of(alloc, words.len(), words.after(from))?;
+    Ok(Rule::of(content))
 }

@@ -5,5 +5,5 @@ pub mod OptionWordsLaws
 pub mod PlaceLaws
 pub mod Readable
 pub mod ReadableLaws
-pub mod RowLaws
+pub mod GrammarLaws
 pub mod StepLaws

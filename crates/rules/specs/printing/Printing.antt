@@ -82,7 +82,7 @@ shown_action (Some a) = shown_given a
 
 -- the words of a rule
 abbrev pub shown_rule : Rule → List Shown
-shown_rule r = shown_settings r.settings ++ (flat_map shown_match r.matches ++ (shown_action r.action ++ shown_settings r.extras))
+shown_rule r = shown_settings r.settings ++ (flat_map shown_match r.matches ++ (shown_action r.action ++ shown_settings r.target_options))
 
 -- the text of a rule: its words, each after one blank
 abbrev pub rule_text : Rule → List ℕ

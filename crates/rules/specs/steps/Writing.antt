@@ -18,7 +18,7 @@ use Rattle.rules.specs.options.Settings.{option_of_value}
 use Rattle.rules.specs.rule.Rules.{Match}
 use Rattle.rules.specs.printing.Printing.{shown_setting, shown_action}
 use Rattle.rules.specs.declared.rule.action.Action.{Action}
-use Rattle.rules.specs.declared.options.match_kind.Kind.{Kind}
+use Rattle.rules.specs.declared.options.match_kind.MatchKind.{MatchKind}
 use Rattle.rules.specs.declared.options.setting.Setting.{Setting}
 use Rattle.rules.specs.declared.options.value.Value.{Value}
 use Rattle.rules.specs.declared.options.value.Value.TheVariants as value
@@ -58,7 +58,7 @@ abbrev pub setting_text : Setting → List ℕ
 setting_text s = spaced_all (shown_setting s)
 
 -- the text that starts a match
-unfoldable pub start_text : Kind → List ℕ
+unfoldable pub start_text : MatchKind → List ℕ
 start_text k = spaced (bare (codes "-m")) ++ spaced (bare (kind_name k))
 
 abbrev pub match_text : Match → List ℕ
