@@ -4,8 +4,10 @@ ghost use Rattle.std.specs.List.{list_any};
 ghost use Rattle.fields.specs.steps.Cutting.{view_words};
 ghost use Rattle.rules.specs.Sequence.{Gives};
 ghost use Rattle.rules.specs.options.Matches.{match_row};
+ghost use Rattle.rules.specs.rule.Readable.{IsReadable};
 ghost use Rattle.rules.specs.rule.Rules.{empty_rule};
-ghost use Rattle.rules.specs.reading.Steps.{steps_from, is_met_for, unmet_match, or_else, unmet_matches, is_reset, unmet_reset, unmet, unless_unmet, with_needs_met, rule_of};
+ghost use Rattle.rules.specs.reading.Steps.{steps_from, unless_unmet, with_needs_met, rule_of};
+ghost use Rattle.rules.specs.rule.Needs.{is_met_for, unmet_match, or_else, unmet_matches, is_reset, unmet_reset, unmet};
 ghost use Rattle.rules.specs.steps.Views.{view_match, view_matches, view_content};
 
 pub(crate) mod grammar;
@@ -25,6 +27,7 @@ use crate::options::value::Value;
 use fields::{RejectType, Words};
 use std::alloc::Global;
 
+// A rule of which nothing was read yet.
 fn empty(alloc: Global) -> Content
     ensures { view_content result ≡ empty_rule }
 {
@@ -36,6 +39,7 @@ fn empty(alloc: Global) -> Content
     }
 }
 
+// The rule that the options of the words make, one after another.
 fn read_options(alloc: Global, end: usize, words: &[Vec<u8>]) -> Result<Content, RuleFault>
     requires { length words.now ≤ end }
     ensures { Gives view_content result (steps_from (length (view_words words.now)) end empty_rule (view_words words.now)) }
@@ -63,6 +67,7 @@ fn unmet_match(settings: &[Setting], one: &Match) -> Option<Refusal>
     None
 }
 
+// What the first match lacks that lacks something.
 fn unmet_matches(settings: &[Setting], matches: &[Match]) -> Option<Refusal>
     ensures { result ≡ unmet_matches settings.now (view_matches matches.now) }
 {
@@ -74,18 +79,21 @@ fn unmet_matches(settings: &[Setting], matches: &[Match]) -> Option<Refusal>
     None
 }
 
+// Whether the option asks for the reset of a connection.
 fn is_reset(setting: &Setting) -> bool
     ensures { result ≡ is_reset setting.now }
 {
     matches!(setting.value, Value::RejectWith(RejectType::TcpReset))
 }
 
+// Whether one of the options does.
 fn asks_reset(target_options: &[Setting]) -> bool
     ensures { result ≡ list_any is_reset target_options.now }
 {
     target_options.iter().any(is_reset)
 }
 
+// What a reset lacks: it is of tcp alone.
 fn unmet_reset(settings: &[Setting], target_options: &[Setting]) -> Option<Refusal>
     ensures { result ≡ unmet_reset settings.now target_options.now }
 {
@@ -95,7 +103,7 @@ fn unmet_reset(settings: &[Setting], target_options: &[Setting]) -> Option<Refus
     None
 }
 
-// What is told after the last word.
+// What the rule lacks after its last word.
 fn unmet(content: &Content) -> Option<Refusal>
     ensures { result ≡ unmet (view_content content.now) }
 {
@@ -106,6 +114,7 @@ fn unmet(content: &Content) -> Option<Refusal>
     }
 }
 
+// The rule in its normal form, where its needs hold.
 fn with_needs_met(content: Content) -> Result<Content, RuleFault>
     ensures { Gives view_content result (with_needs_met (view_content content)) }
 {
@@ -116,6 +125,7 @@ fn with_needs_met(content: Content) -> Result<Content, RuleFault>
     }
 }
 
+// The rule that the words read as; `end` is the place after the last word of the line.
 #[tactic(auto, unfolding(crate::specs::reading::Steps::rule_of))]
 fn rule_of(alloc: Global, end: usize, words: &[Vec<u8>]) -> Result<Content, RuleFault>
     requires { length words.now ≤ end }
@@ -125,11 +135,25 @@ fn rule_of(alloc: Global, end: usize, words: &[Vec<u8>]) -> Result<Content, Rule
     with_needs_met(content)
 }
 
-/// The rule that the words from a place on read as, or the first fault: P1 to P12, and P0 where memory was refused.
-pub fn read_rule(alloc: Global, words: &Words, from: usize) -> Result<Rule, RuleFault>
-    requires { from ≤ length words.now }
-    ensures { Gives (λ r. r) result (rule_of (length words.now) (drop from words.now)) }
+// The words from a place on; from beyond the last word on there are none.
+fn words_from(words: &Words, from: usize) -> &[Vec<u8>]
+    ensures { view_words result.now ≡ drop from words.now }
 {
-    let content = rule_of(alloc, words.len(), words.after(from))?;
+    words.after(from.min(words.len()))
+}
+
+/// The rule that the words from a place on read as (iptables(8), iptables-extensions(8)). From beyond the last word on there are no
+/// words, and they read as the rule that asks and does nothing.
+///
+/// It takes memory for the rule's matches and options and for its comments, as `Rule` says, and time linear in the words.
+///
+/// # Errors
+///
+/// `RuleFault::Refused` with the first fault of the words, P1 to P12, and `RuleFault::NoMemory`, P0, where memory was refused.
+pub fn read_rule(alloc: Global, words: &Words, from: usize) -> Result<Rule, RuleFault>
+    ensures reads { Gives (λ r. r) result (rule_of (length words.now) (drop from words.now)) }
+    ensures readable { IfOk result IsReadable }
+{
+    let content = rule_of(alloc, words.len(), words_from(words, from))?;
     Ok(Rule::of(content))
 }

@@ -13,8 +13,10 @@ pub record MatchRow : Type 0 where
   pub needs_option : Bool
   pub asks_fragment : Bool
 
+-- a row of these
 abbrev pub match_row_with : ℕ → List ℕ → List ℕ → Bool → Bool → MatchRow
-match_row_with number name protocols needs_option asks_fragment = record { number = number; name = name; protocols = protocols; needs_option = needs_option; asks_fragment = asks_fragment }
+match_row_with number name protocols needs_option asks_fragment =
+    record { number = number; name = name; protocols = protocols; needs_option = needs_option; asks_fragment = asks_fragment }
 
 -- the rows; the protocols are tcp 6, udp 17, icmp 1, udplite 136, dccp 33 and sctp 132
 abbrev pub match_row : MatchKind → MatchRow
@@ -27,9 +29,11 @@ match_row kind.Conntrack = match_row_with 5 (codes "conntrack") [] true false
 match_row kind.State = match_row_with 6 (codes "state") [] true false
 match_row kind.Comment = match_row_with 7 (codes "comment") [] true false
 
+-- the name of a match
 abbrev pub kind_name : MatchKind → List ℕ
 kind_name k = (match_row k).name
 
+-- two matches are one
 abbrev pub same_kind : MatchKind → MatchKind → Bool
 same_kind k l = (match_row k).number == (match_row l).number
 

@@ -22,6 +22,7 @@ pub record OptionRow : Type 0 where
   pub owner : Owner
   pub slot : ℕ
 
+-- a row of these
 abbrev pub option_row_with : List (List ℕ) → ℕ → Bool → Owner → ℕ → OptionRow
 option_row_with names values inverts owner slot = record { names = names; values = values; inverts = inverts; owner = owner; slot = slot }
 
@@ -32,6 +33,14 @@ or short long = short ∷ long ∷ []
 -- one spelling
 abbrev pub alone : List ℕ → List (List ℕ)
 alone name = name ∷ []
+
+-- what belongs to one match
+abbrev pub of : MatchKind → Owner
+of k = owned.Match (One k)
+
+-- what belongs to tcp and to udp
+abbrev pub of_ports : Owner
+of_ports = owned.Match (Either kind.Tcp kind.Udp)
 
 -- the rows
 abbrev pub option_row : Opt → OptionRow
@@ -44,18 +53,18 @@ option_row opt.Fragment = option_row_with (or (codes "-f") (codes "--fragment"))
 option_row opt.Match = option_row_with (or (codes "-m") (codes "--match")) 1 false owned.Start 0
 option_row opt.Jump = option_row_with (or (codes "-j") (codes "--jump")) 1 false owned.Jump 0
 option_row opt.Goto = option_row_with (or (codes "-g") (codes "--goto")) 1 false owned.Goto 0
-option_row opt.SourcePort = option_row_with (or (codes "--sport") (codes "--source-port")) 1 true (owned.Match (Either kind.Tcp kind.Udp)) 0
-option_row opt.DestinationPort = option_row_with (or (codes "--dport") (codes "--destination-port")) 1 true (owned.Match (Either kind.Tcp kind.Udp)) 1
-option_row opt.TcpFlags = option_row_with (alone (codes "--tcp-flags")) 2 true (owned.Match (One kind.Tcp)) 2
-option_row opt.Syn = option_row_with (alone (codes "--syn")) 0 true (owned.Match (One kind.Tcp)) 2
-option_row opt.IcmpType = option_row_with (alone (codes "--icmp-type")) 1 true (owned.Match (One kind.Icmp)) 0
-option_row opt.SourcePorts = option_row_with (or (codes "--sports") (codes "--source-ports")) 1 true (owned.Match (One kind.Multiport)) 0
-option_row opt.DestinationPorts = option_row_with (or (codes "--dports") (codes "--destination-ports")) 1 true (owned.Match (One kind.Multiport)) 0
-option_row opt.SourceRange = option_row_with (alone (codes "--src-range")) 1 true (owned.Match (One kind.Iprange)) 0
-option_row opt.DestinationRange = option_row_with (alone (codes "--dst-range")) 1 true (owned.Match (One kind.Iprange)) 1
-option_row opt.Ctstate = option_row_with (alone (codes "--ctstate")) 1 true (owned.Match (One kind.Conntrack)) 0
-option_row opt.State = option_row_with (alone (codes "--state")) 1 true (owned.Match (One kind.State)) 0
-option_row opt.Comment = option_row_with (alone (codes "--comment")) 1 false (owned.Match (One kind.Comment)) 0
+option_row opt.SourcePort = option_row_with (or (codes "--sport") (codes "--source-port")) 1 true of_ports 0
+option_row opt.DestinationPort = option_row_with (or (codes "--dport") (codes "--destination-port")) 1 true of_ports 1
+option_row opt.TcpFlags = option_row_with (alone (codes "--tcp-flags")) 2 true (of kind.Tcp) 2
+option_row opt.Syn = option_row_with (alone (codes "--syn")) 0 true (of kind.Tcp) 2
+option_row opt.IcmpType = option_row_with (alone (codes "--icmp-type")) 1 true (of kind.Icmp) 0
+option_row opt.SourcePorts = option_row_with (or (codes "--sports") (codes "--source-ports")) 1 true (of kind.Multiport) 0
+option_row opt.DestinationPorts = option_row_with (or (codes "--dports") (codes "--destination-ports")) 1 true (of kind.Multiport) 0
+option_row opt.SourceRange = option_row_with (alone (codes "--src-range")) 1 true (of kind.Iprange) 0
+option_row opt.DestinationRange = option_row_with (alone (codes "--dst-range")) 1 true (of kind.Iprange) 1
+option_row opt.Ctstate = option_row_with (alone (codes "--ctstate")) 1 true (of kind.Conntrack) 0
+option_row opt.State = option_row_with (alone (codes "--state")) 1 true (of kind.State) 0
+option_row opt.Comment = option_row_with (alone (codes "--comment")) 1 false (of kind.Comment) 0
 option_row opt.RejectWith = option_row_with (alone (codes "--reject-with")) 1 false (owned.Target extended.Reject) 0
 option_row opt.LogPrefix = option_row_with (alone (codes "--log-prefix")) 1 false (owned.Target extended.Log) 0
 option_row opt.LogLevel = option_row_with (alone (codes "--log-level")) 1 false (owned.Target extended.Log) 1
@@ -90,15 +99,19 @@ option_of word = find (spells word) all_options
 abbrev pub name_of : Opt → List ℕ
 name_of o = first_of (option_row o).names
 
+-- how many values follow the option
 abbrev pub value_count : Opt → ℕ
 value_count o = (option_row o).values
 
+-- `!` may stand before the option
 abbrev pub may_be_inverted : Opt → Bool
 may_be_inverted o = (option_row o).inverts
 
+-- what the option belongs to
 abbrev pub owner : Opt → Owner
 owner o = (option_row o).owner
 
+-- the option's place among those of its owner
 abbrev pub slot : Opt → ℕ
 slot o = (option_row o).slot
 
@@ -107,6 +120,7 @@ abbrev pub is_one_of : MatchKinds → MatchKind → Bool
 is_one_of (One k) m = same_kind k m
 is_one_of (Either k l) m = same_kind k m || same_kind l m
 
+-- what belongs there belongs to the match
 abbrev pub is_match_of : Owner → MatchKind → Bool
 is_match_of (owned.Match ks) m = is_one_of ks m
 is_match_of w m = false

@@ -18,6 +18,7 @@ use Rattle.rules.specs.declared.rule.target.Target.TheVariants as target
 use Rattle.rules.specs.declared.options.value.Value.{Value}
 use Rattle.rules.specs.declared.options.value.Value.TheVariants as value
 
+-- a jump to a chain, where the name is one
 abbrev pub jump_to : Option (List ℕ) → Option Action
 jump_to None = None
 jump_to (Some name) = Some (action.Jump name)
@@ -38,6 +39,7 @@ is_owned_by action.Reject (owned.Target extended.Reject) = true
 is_owned_by action.Log (owned.Target extended.Log) = true
 is_owned_by a w = false
 
+-- and of the action that was given, if one was
 abbrev pub is_action_of : Option Action → Owner → Bool
 is_action_of None w = false
 is_action_of (Some a) w = is_owned_by a w
@@ -46,11 +48,12 @@ is_action_of (Some a) w = is_owned_by a w
 abbrev pub action_has : Option Action → Opt → Bool
 action_has a o = is_action_of a (owner o)
 
--- the type of REJECT among the options of the target
+-- the type of REJECT that the value is, or else the other
 abbrev pub reject_in_value : Value → RejectType → RejectType
 reject_in_value (value.RejectWith t) other = t
 reject_in_value v other = other
 
+-- the type of REJECT among the options of the target; where none is given, that the port is unreachable
 abbrev pub reject_in : List Setting → RejectType
 reject_in [] = reject.PortUnreachable
 reject_in (s ∷ ss) = reject_in_value s.value (reject_in ss)
@@ -75,8 +78,10 @@ action_with_chain_name name (Some (action.Jump old)) = Some (action.Jump name)
 action_with_chain_name name (Some (action.Goto old)) = Some (action.Goto name)
 action_with_chain_name name a = a
 
+-- the rule with another chain as its target, where it names one
 abbrev pub with_chain_name : List ℕ → Rule → Rule
-with_chain_name name r = record { settings = r.settings; matches = r.matches; action = action_with_chain_name name r.action; target_options = r.target_options }
+with_chain_name name r =
+    record { settings = r.settings; matches = r.matches; action = action_with_chain_name name r.action; target_options = r.target_options }
 
 -- the target is a chain
 abbrev pub names_chain : Option Target → Bool

@@ -1,9 +1,8 @@
 -- Rules.
-use Rattle.std.specs.Prelude.{ℕ, ◌==◌, Bool, false, nat_lt, List, [], ◌∷◌, map, filter, Option, Some, None, if◌then◌else◌}
-use Rattle.std.specs.List.{list_any}
+use Rattle.std.specs.Prelude.{false, List, [], ◌∷◌, map, filter, Option, Some, None}
 use Rattle.fields.specs.declared.values.icmp.Asked.TheVariants as asked
 use Rattle.fields.specs.declared.values.reject.RejectType.TheVariants as reject
-use Rattle.rules.specs.options.Settings.{slot_of, is_condition}
+use Rattle.rules.specs.options.Settings.{is_condition}
 use Rattle.rules.specs.declared.rule.action.Action.{Action}
 use Rattle.rules.specs.declared.rule.action.Action.TheVariants as action
 use Rattle.rules.specs.declared.options.match_kind.MatchKind.{MatchKind}
@@ -25,35 +24,30 @@ pub record Rule : Type 0 where
   pub action : Option Action
   pub target_options : List Setting
 
+-- a rule of which nothing was read yet
 abbrev pub empty_rule : Rule
 empty_rule = record { settings = []; matches = []; action = None; target_options = [] }
 
--- whether an option of a place was given
-abbrev pub is_given : ℕ → List Setting → Bool
-is_given slot settings = list_any (λ (s : Setting). slot_of s == slot) settings
-
--- a setting before the first one of a later place
-abbrev pub insert_by_place : ℕ → Setting → List Setting → List Setting
-insert_by_place slot s [] = s ∷ []
-insert_by_place slot s (t ∷ ts) = if nat_lt slot (slot_of t) then s ∷ t ∷ ts else t ∷ insert_by_place slot s ts
-
--- what a match or a target asks or does where its option isn't given
+-- what a match asks where its option isn't given: icmp asks for any type
 abbrev pub match_default : MatchKind → Option Value
 match_default kind.Icmp = Some (value.IcmpType asked.Any)
 match_default k = None
 
+-- what a target does where its option isn't given: REJECT answers that the port is unreachable
 abbrev pub action_default : Option Action → Option Value
 action_default (Some action.Reject) = Some (value.RejectWith reject.PortUnreachable)
 action_default a = None
 
+-- the options or, where there are none, what is meant then
 abbrev pub or_default : Option Value → List Setting → List Setting
 or_default (Some v) [] = record { inverted = false; value = v } ∷ []
 or_default v settings = settings
 
--- what is no condition is as if absent
+-- a match without what is no condition, and with what is meant where nothing is said
 abbrev pub normal_match : Match → Match
 normal_match m = record { kind = m.kind; settings = or_default (match_default m.kind) (filter is_condition m.settings) }
 
+-- The form in which a rule is kept: what is no condition is as if absent, and what is meant where nothing is said stands there.
 abbrev pub normal_form : Rule → Rule
 normal_form r = record {
   settings = filter is_condition r.settings;

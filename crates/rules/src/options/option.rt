@@ -2,7 +2,7 @@
 ghost use Rattle.std.specs.Prelude.{◌≡◌, Option, Some, None};
 ghost use Rattle.std.specs.List.{list_any};
 ghost use Rattle.std.specs.Str.{bytes_eq};
-ghost use Rattle.rules.specs.steps.OptionNames.{shown_names};
+ghost use Rattle.rules.specs.steps.OptionNames.{names_now};
 ghost use Rattle.rules.specs.options.Options.{option_of, name_of, spells, is_one_of, is_match_of, kind_has};
 
 use crate::options::match_kind::MatchKind;
@@ -258,7 +258,7 @@ impl Opt {
 
 // Whether a word is one of these.
 fn is_among(names: &[&[u8]], word: &[u8]) -> bool
-    ensures { result ≡ list_any (bytes_eq word.now) (shown_names names.now) }
+    ensures { result ≡ list_any (bytes_eq word.now) (names_now names.now) }
 {
     for name in names {
         if word == *name {

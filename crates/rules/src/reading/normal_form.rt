@@ -1,4 +1,4 @@
-// What is no condition taken out of a rule, and what is meant where nothing is said put in.
+// The form in which a rule is kept: without what is no condition, and with what is meant where nothing is said.
 ghost use Rattle.std.specs.Prelude.{◌≡◌, ◌≤◌, Option, Some, None, Ok, List, filter, map, IfOk};
 ghost use Rattle.rules.specs.Sequence.{Gives};
 ghost use Rattle.rules.specs.options.Settings.{is_condition};
@@ -34,6 +34,7 @@ fn action_default(action: &Option<Action>) -> Option<Value>
     }
 }
 
+// Puts in what is meant where nothing is said.
 fn add_default(settings: &mut Vec<Setting>, value: Value) -> Result<(), AllocError>
     ensures { IfOk result (λ _. settings.new.items ≡ or_default (Some value) settings.old.items) }
 {
@@ -46,12 +47,14 @@ fn add_default(settings: &mut Vec<Setting>, value: Value) -> Result<(), AllocErr
     Ok(())
 }
 
+// Takes out what is no condition.
 fn keep_conditions(settings: &mut Vec<Setting>)
     ensures { settings.new.items ≡ filter is_condition settings.old.items }
 {
     settings.retain(|setting| setting.is_condition());
 }
 
+// Brings options to the form in which they are kept.
 fn normalize_options(settings: &mut Vec<Setting>, default: Option<Value>) -> Result<(), AllocError>
     ensures { IfOk result (λ _. settings.new.items ≡ or_default default (filter is_condition settings.old.items)) }
 {
@@ -62,6 +65,7 @@ fn normalize_options(settings: &mut Vec<Setting>, default: Option<Value>) -> Res
     }
 }
 
+// Brings a match to that form.
 fn normalize_match(one: &mut Match) -> Result<(), AllocError>
     ensures { IfOk result (λ _. view_match one.new ≡ normal_match (view_match one.old)) }
 {
@@ -69,6 +73,7 @@ fn normalize_match(one: &mut Match) -> Result<(), AllocError>
     normalize_options(&mut one.settings, default)
 }
 
+// Brings each match to that form.
 fn normalize_matches(matches: &mut [Match]) -> Result<(), AllocError>
     ensures { IfOk result (λ _. view_matches matches.new ≡ map normal_match (view_matches matches.old)) }
 {
@@ -78,6 +83,7 @@ fn normalize_matches(matches: &mut [Match]) -> Result<(), AllocError>
     Ok(())
 }
 
+// Brings a rule to that form.
 fn normalize(content: &mut Content) -> Result<(), AllocError>
     ensures { IfOk result (λ _. view_content content.new ≡ normal_form (view_content content.old)) }
 {
@@ -87,7 +93,7 @@ fn normalize(content: &mut Content) -> Result<(), AllocError>
     normalize_options(&mut content.target_options, default)
 }
 
-// The rule as it is kept.
+// The rule in that form.
 pub(crate) fn normalized(mut content: Content) -> Result<Content, RuleFault>
     ensures { Gives view_content result (Ok (normal_form (view_content content))) }
 {

@@ -1,12 +1,13 @@
-// A part of a rule's words: an option with its values.
+// An option as words give it: an optional `!`, a spelling of the option, its values.
 ghost use Rattle.std.specs.Prelude.{◌≡◌, ◌≤◌, ◌<◌, ◌+◌, ◌-◌, Option, Some, None, List, length, IfOk};
 ghost use Rattle.fields.specs.steps.Cutting.{view_words};
-ghost use Rattle.rules.specs.reading.Steps.{with_values, inverted_words, after_bang, plain_words, option_words_at};
+ghost use Rattle.rules.specs.reading.OptionWords.{with_values, inverted_words, after_bang, plain_words, option_words_at};
 ghost use Rattle.rules.specs.steps.Views.{OptionWordsGive};
 
 use crate::reading::fault::{Refusal, RuleFault};
 use crate::options::option::Opt;
 
+// An option with the words of its values, which are lent, and the place of the option's word.
 #[derive(Drop)]
 pub(crate) struct OptionWords<'a> {
     pub(crate) inverted: bool,
@@ -15,12 +16,14 @@ pub(crate) struct OptionWords<'a> {
     pub(crate) place: usize,
 }
 
+// The answer that refuses.
 fn refused<T>(refusal: Refusal) -> Result<T, RuleFault>
     ensures { result ≡ Err (RuleFault.Refused refusal) }
 {
     Err(RuleFault::Refused(refusal))
 }
 
+// An option takes the words of its values, whatever they look like.
 fn with_values<'a>(
     inverted: bool,
     option: Opt,
@@ -43,6 +46,7 @@ fn with_values<'a>(
     Ok((given, &words[count..]))
 }
 
+// An option after `!`, where it may be inverted.
 fn inverted_words<'a>(
     option: Option<Opt>,
     place: usize,
@@ -61,6 +65,7 @@ fn inverted_words<'a>(
     with_values(true, option, place, words)
 }
 
+// What stands after `!`.
 fn after_bang<'a>(
     place: usize,
     words: &'a [Vec<u8>],
@@ -74,6 +79,7 @@ fn after_bang<'a>(
     }
 }
 
+// An option without `!`.
 fn plain_words<'a>(
     option: Option<Opt>,
     place: usize,
@@ -88,8 +94,8 @@ fn plain_words<'a>(
     }
 }
 
-// The part at the front of the words, and the words behind it.
-#[tactic(auto, unfolding(crate::specs::reading::Steps::option_words_at))]
+// The option at the front of the words, and the words after it; `end` is the place after the last word of the line.
+#[tactic(auto, unfolding(crate::specs::reading::OptionWords::option_words_at))]
 pub(crate) fn option_words_at<'a>(
     end: usize,
     words: &'a [Vec<u8>],

@@ -1,13 +1,13 @@
-// A rule as its parts so far make it.
+// A rule as the options read so far make it.
 ghost use Rattle.std.specs.Prelude.{◌≡◌, ◌==◌, ◌||◌, ◌≤◌, ◌<◌, ◌+◌, Option, Some, None, Ok, List, length, IfSome, IfOk, vec_len};
 ghost use Rattle.std.specs.List.{list_any};
 ghost use Rattle.rules.specs.rule.Actions.{action_has};
-ghost use Rattle.rules.specs.Sequence.{Gives, or_refused};
+ghost use Rattle.rules.specs.Sequence.{Gives, RefusesFirst, or_refused};
 ghost use Rattle.rules.specs.options.Matches.{kind_of};
 ghost use Rattle.rules.specs.steps.Places.{rank};
-ghost use Rattle.rules.specs.rule.Rules.{is_given, insert_by_place};
 ghost use Rattle.rules.specs.options.Settings.{has_protocol};
-ghost use Rattle.rules.specs.reading.Steps.{with_option, with_match, last_with, is_met, is_met_for, implied_match, is_implied_option, match_for, with_option_at, has_goto, has_jump, with_jump, with_goto, match_step, step};
+ghost use Rattle.rules.specs.reading.Steps.{with_option, with_match, last_with, implied_match, is_implied_option, match_for, with_option_at, has_goto, has_jump, with_jump, with_goto, match_step, step, is_given, insert_by_place};
+ghost use Rattle.rules.specs.rule.Needs.{is_met, is_met_for};
 ghost use Rattle.rules.specs.steps.Views.{view_matches, view_content, view_option_words};
 
 use crate::rule::action::{Action, action_has};
@@ -21,12 +21,14 @@ use crate::options::value::{bad, first_of, value_of};
 use fields::Name;
 use std::alloc::Global;
 
+// Whether an option of this place was given.
 fn is_given(settings: &[Setting], slot: u8) -> bool
     ensures { result ≡ is_given slot settings.now }
 {
     settings.iter().any(|s| s.value.option().row().slot == slot)
 }
 
+// How many options stand before the first one of a later place.
 fn rank(settings: &[Setting], slot: u8) -> usize
     ensures value { result ≡ rank slot settings.now }
     ensures within { result ≤ length settings.now }
@@ -51,9 +53,11 @@ fn place(settings: &mut Vec<Setting>, slot: u8, setting: Setting) -> Result<(), 
     }
 }
 
+// One more option, where none of its place was given.
 #[tactic(auto, unfolding(crate::specs::reading::Steps::with_option))]
 fn add(alloc: Global, settings: &mut Vec<Setting>, given: &OptionWords) -> Result<(), RuleFault>
-    ensures { Gives (λ _. settings.new.items) result (with_option settings.old.items (view_option_words given.now)) }
+    ensures gives { Gives (λ _. settings.new.items) result (with_option settings.old.items (view_option_words given.now)) }
+    ensures refuses { RefusesFirst result (with_option settings.old.items (view_option_words given.now)) }
 {
     let slot = given.option.row().slot;
     if is_given(settings.as_slice(), slot) {
@@ -64,9 +68,11 @@ fn add(alloc: Global, settings: &mut Vec<Setting>, given: &OptionWords) -> Resul
     place(settings, slot, Setting { inverted, value })
 }
 
+// The rule with one more match, where it has fewer than 16.
 #[tactic(auto, unfolding(crate::specs::reading::Steps::with_match))]
 fn start(alloc: Global, mut content: Content, kind: MatchKind) -> Result<Content, RuleFault>
     ensures gives { Gives view_content result (with_match (view_content content) kind) }
+    ensures refuses { RefusesFirst result (with_match (view_content content) kind) }
     ensures longer { IfOk result (λ d. vec_len d.matches ≡ vec_len content.matches + 1) }
 {
     if content.matches.len() >= 16 {
@@ -124,13 +130,14 @@ fn implied_match(settings: &[Setting], option: Opt) -> Option<MatchKind>
         .find(|kind| is_met_for(*kind, settings) && kind.has(option))
 }
 
+// Whether an option may start a match by itself.
 fn is_implied_option(option: Opt) -> bool
     ensures { result ≡ is_implied_option option }
 {
     MatchKind::IMPLIED.iter().any(|kind| kind.has(option))
 }
 
-// The rule with the match that a part belongs to, and that match's place.
+// The rule with the match that an option belongs to, and that match's place.
 #[tactic(auto, unfolding(crate::specs::reading::Steps::match_for))]
 fn match_for(alloc: Global, content: Content, given: &OptionWords) -> Result<(Content, usize), RuleFault>
     ensures gives { Gives (λ r. (view_content r.0, r.1)) result (match_for (view_content content) (view_option_words given.now)) }
@@ -165,12 +172,14 @@ fn add_at(alloc: Global, matches: &mut Vec<Match>, i: usize, given: &OptionWords
     add(alloc, &mut one.settings, given)
 }
 
+// Whether `-g` was given.
 fn has_goto(action: &Option<Action>) -> bool
     ensures { result ≡ has_goto action.now }
 {
     matches!(action, Some(Action::Goto(_)))
 }
 
+// Whether `-j` was given.
 fn has_jump(action: &Option<Action>) -> bool
     ensures { result ≡ has_jump action.now }
 {
@@ -180,6 +189,7 @@ fn has_jump(action: &Option<Action>) -> bool
     }
 }
 
+// The rule with the target that `-j` names, where none was given.
 #[tactic(auto, unfolding(crate::specs::reading::Steps::with_jump))]
 fn jump(mut content: Content, text: &[u8]) -> Result<Content, RuleFault>
     ensures { Gives view_content result (with_jump (view_content content) text.now) }
@@ -195,6 +205,7 @@ fn jump(mut content: Content, text: &[u8]) -> Result<Content, RuleFault>
     Ok(content)
 }
 
+// The rule with the chain that `-g` names, where no target was given.
 #[tactic(auto, unfolding(crate::specs::reading::Steps::with_goto))]
 fn go(mut content: Content, text: &[u8]) -> Result<Content, RuleFault>
     ensures { Gives view_content result (with_goto (view_content content) text.now) }
@@ -229,7 +240,7 @@ fn add_to_match(alloc: Global, content: Content, given: &OptionWords) -> Result<
     Ok(content)
 }
 
-// The rule so far with a part more.
+// The rule so far with one more option.
 #[tactic(auto, unfolding(crate::specs::reading::Steps::step))]
 pub(crate) fn step(alloc: Global, mut content: Content, given: &OptionWords) -> Result<Content, RuleFault>
     ensures { Gives view_content result (step (view_content content) (view_option_words given.now)) }

@@ -13,7 +13,9 @@ use Rattle.rules.specs.rule.Actions.{action_of, jump_to, is_action_of}
 use Rattle.fields.specs.values.Name as chain
 use Rattle.rules.specs.rule.Rules.{Match, Rule, empty_rule}
 use Rattle.rules.specs.printing.Printing.{shown_value, shown_settings, shown_match, shown_action, shown_rule}
-use Rattle.rules.specs.reading.Steps.{OptionWords, with_option, with_match, with_jump, with_goto, step, owned_step, with_settings, with_matches, with_action, with_target_options, last_with, match_for, at_match_or_new, with_option_at, no_match, has_goto, has_jump, unmet, with_needs_met, unless_unmet, rule_of}
+use Rattle.rules.specs.reading.Steps.{with_option, with_match, with_jump, with_goto, step, owned_step, with_settings, with_matches, with_action, with_target_options, last_with, match_for, at_match_or_new, with_option_at, no_match, has_goto, has_jump, with_needs_met, unless_unmet, rule_of}
+use Rattle.rules.specs.reading.OptionWords.{OptionWords}
+use Rattle.rules.specs.rule.Needs.{unmet}
 use Rattle.rules.proofs.laws.reading.Readable.{ReadsBack, Each, OfRule, OfMatch, OfAction, ActionBack, IsMatch, IsLegal, IsReadable}
 use Rattle.rules.specs.declared.reading.fault.Refusal.{Refusal}
 use Rattle.rules.specs.declared.reading.fault.Refusal.TheVariants as refusal

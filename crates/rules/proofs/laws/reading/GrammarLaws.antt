@@ -9,7 +9,8 @@ use Rattle.std.proofs.lemmas.List.{length-append, length-take-le}
 use Rattle.rules.specs.Sequence.{◌>>=◌}
 use Rattle.rules.specs.options.Options.{option_of, value_count, may_be_inverted}
 use Rattle.rules.specs.rule.Rules.{Rule, empty_rule}
-use Rattle.rules.specs.reading.Steps.{OptionWords, with_values, inverted_words, plain_words, after_bang, option_words_at, step, steps_from, with_needs_met, rule_of}
+use Rattle.rules.specs.reading.Steps.{step, steps_from, with_needs_met, rule_of}
+use Rattle.rules.specs.reading.OptionWords.{OptionWords, with_values, inverted_words, plain_words, after_bang, option_words_at}
 use Rattle.rules.specs.reading.Grammar.{spelled_words, BeginsWith, AreOptions, ReadsAs, IsRefused, HasFault}
 use Rattle.rules.specs.declared.reading.fault.Refusal.{Refusal}
 use Rattle.rules.specs.declared.reading.fault.Refusal.TheVariants as refusal

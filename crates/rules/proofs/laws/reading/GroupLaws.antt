@@ -7,9 +7,10 @@ use Rattle.fields.specs.text.Printed.{Shown, bare}
 use Rattle.rules.specs.Sequence.{◌>>=◌}
 use Rattle.rules.specs.options.Options.{name_of, owner, slot}
 use Rattle.rules.specs.options.Settings.{option_of_value, slot_of, value_of}
-use Rattle.rules.specs.rule.Rules.{Rule, is_given, insert_by_place}
+use Rattle.rules.specs.rule.Rules.{Rule}
 use Rattle.rules.specs.printing.Printing.{shown_value, shown_bang, shown_setting, shown_settings}
-use Rattle.rules.specs.reading.Steps.{option_words_at, with_option, step}
+use Rattle.rules.specs.reading.Steps.{with_option, step, is_given, insert_by_place}
+use Rattle.rules.specs.reading.OptionWords.{option_words_at}
 use Rattle.rules.specs.declared.reading.fault.Refusal.{Refusal}
 use Rattle.rules.specs.declared.reading.fault.Refusal.TheVariants as refusal
 use Rattle.rules.specs.declared.options.option.Opt.{Opt}

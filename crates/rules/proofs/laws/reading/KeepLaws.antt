@@ -12,8 +12,10 @@ use Rattle.rules.specs.options.Matches.{kind_of}
 use Rattle.rules.specs.options.Options.{first_of, may_be_inverted, owner, slot, kind_has}
 use Rattle.rules.specs.options.Settings.{option_of_value, slot_of, value_of}
 use Rattle.rules.specs.rule.Actions.{action_of, jump_to, is_action_of}
-use Rattle.rules.specs.rule.Rules.{Match, Rule, empty_rule, is_given, insert_by_place}
-use Rattle.rules.specs.reading.Steps.{OptionWords, with_option, with_match, later, last_with, implied_match, is_implied_option, is_met_for, with_match_for, at_match_or_new, match_for, no_match, with_option_at, with_settings, with_matches, with_action, with_target_options, has_goto, has_jump, with_jump, with_goto, match_step, owned_step, step}
+use Rattle.rules.specs.rule.Rules.{Match, Rule, empty_rule}
+use Rattle.rules.specs.reading.Steps.{with_option, with_match, later, last_with, implied_match, is_implied_option, with_match_for, at_match_or_new, match_for, no_match, with_option_at, with_settings, with_matches, with_action, with_target_options, has_goto, has_jump, with_jump, with_goto, match_step, owned_step, step, is_given, insert_by_place}
+use Rattle.rules.specs.reading.OptionWords.{OptionWords}
+use Rattle.rules.specs.rule.Needs.{is_met_for}
 use Rattle.rules.specs.declared.rule.action.Action.{Action}
 use Rattle.rules.specs.declared.rule.action.Action.TheVariants as action
 use Rattle.rules.specs.declared.reading.fault.Refusal.{Refusal}

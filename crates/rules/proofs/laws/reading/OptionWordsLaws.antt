@@ -5,7 +5,8 @@ use Rattle.std.specs.Prelude.{Ok, Err, codes}
 use Rattle.rules.specs.Sequence.{◌>>=◌}
 use Rattle.rules.specs.options.Options.{option_of, name_of, value_count, may_be_inverted}
 use Rattle.rules.specs.rule.Rules.{Rule}
-use Rattle.rules.specs.reading.Steps.{OptionWords, with_values, inverted_words, plain_words, after_bang, option_words_at, step, steps_from}
+use Rattle.rules.specs.reading.Steps.{step, steps_from}
+use Rattle.rules.specs.reading.OptionWords.{OptionWords, with_values, inverted_words, plain_words, after_bang, option_words_at}
 use Rattle.rules.specs.declared.options.option.Opt.{Opt}
 use Rattle.rules.proofs.laws.options.TableLaws.{option_of-name_of, name_of-bang}
 use Rattle.std.proofs.lemmas.List.{length-append}

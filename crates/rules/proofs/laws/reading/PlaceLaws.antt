@@ -2,7 +2,7 @@
 use Rattle.std.proofs.Common.{◌≡◌, ℕ, ◌+◌, Bool, true, false, cond, List, [], ◌∷◌, refl, ap, ◌∙◌, ltb, add-one}
 use Rattle.std.specs.Prelude.{insert}
 use Rattle.rules.specs.options.Settings.{slot_of}
-use Rattle.rules.specs.rule.Rules.{insert_by_place}
+use Rattle.rules.specs.reading.Steps.{insert_by_place}
 use Rattle.rules.specs.steps.Places.{rank}
 use Rattle.rules.specs.declared.options.setting.Setting.{Setting}
 

@@ -8,7 +8,7 @@ use Rattle.rules.specs.options.Options.{may_be_inverted, owner, is_match_of}
 use Rattle.rules.specs.options.Settings.{option_of_value, slot_of, value_of}
 use Rattle.rules.specs.rule.Rules.{Match, Rule, normal_form}
 use Rattle.rules.specs.printing.Printing.{shown_value}
-use Rattle.rules.specs.reading.Steps.{unmet}
+use Rattle.rules.specs.rule.Needs.{unmet}
 use Rattle.rules.specs.declared.rule.action.Action.{Action}
 use Rattle.rules.specs.declared.rule.action.Action.TheVariants as action
 use Rattle.rules.specs.declared.options.option.Opt.{Opt}

@@ -3,7 +3,8 @@ use Rattle.std.proofs.Common.{◌≡◌, ℕ, ◌+◌, ◌<◌, suc, Bool, true,
 use Rattle.std.proofs.lemmas.List.{length-map, length-take-le, map-set}
 use Rattle.rules.specs.options.Options.{kind_has}
 use Rattle.rules.specs.rule.Rules.{Match}
-use Rattle.rules.specs.reading.Steps.{OptionWords, last_with, later, no_match, with_option, with_option_at}
+use Rattle.rules.specs.reading.Steps.{last_with, later, no_match, with_option, with_option_at}
+use Rattle.rules.specs.reading.OptionWords.{OptionWords}
 use Rattle.rules.specs.steps.Views as views
 use Rattle.rules.specs.declared.options.option.Opt.{Opt}
 use Rattle.rules.specs.declared.rule.content.Match as code
