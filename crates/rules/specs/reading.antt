@@ -1,2 +1,3 @@
-pub mod Rows
+pub mod Grammar
+pub mod OptionWords
 pub mod Steps

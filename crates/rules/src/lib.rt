@@ -10,7 +10,7 @@ mod rule;
 pub use boxing::boxed::Boxed;
 pub use boxing::work::Work;
 pub use printing::write_rule;
-pub use reading::by_rows::reading_is_by_rows;
+pub use reading::grammar::reading_is_by_grammar;
 pub use reading::fault::{Refusal, RuleFault};
 pub use reading::read_rule;
 pub use rule::Rule;

@@ -6,13 +6,13 @@ ghost use Rattle.rules.specs.options.Options.{name_of};
 ghost use Rattle.rules.specs.options.Settings.{option_of_value};
 ghost use Rattle.rules.specs.printing.Printing.{shown_value, shown_bang, shown_setting, shown_action, rule_text};
 ghost use Rattle.rules.specs.printing.RoundTrip.{TextReadsBack, IsOnlyOne, HasShortLine};
+ghost use Rattle.rules.specs.rule.Readable.{IsInOrder, IsReadable};
 ghost use Rattle.rules.specs.steps.Writing.{has_words, value_text, setting_text, start_text, match_text, action_text};
-ghost use Rattle.rules.specs.steps.Views.{view_match, view_draft};
-
+ghost use Rattle.rules.specs.steps.Views.{view_match, view_content};
 
 use crate::rule::action::Action;
-use crate::rule::content::{Draft, Match};
-use crate::options::match_kind::Kind;
+use crate::rule::content::{Content, Match};
+use crate::options::match_kind::MatchKind;
 use crate::rule::Rule;
 use crate::options::setting::Setting;
 use crate::options::value::Value;
@@ -46,12 +46,14 @@ fn put_words<W: Write>(output: &mut Tap<W>, value: &Value) -> Result<(), WriteFa
     }
 }
 
+// Whether the value has words.
 fn has_words(value: &Value) -> bool
     ensures { result ≡ has_words value.now }
 {
     value.option().row().values > 0
 }
 
+// Writes the words of a value, each after a blank.
 fn put_value<W: Write>(output: &mut Tap<W>, value: &Value) -> Result<(), WriteFailed>
     requires { has_failed output.old ≡ false }
     ensures { Puts W.contents output.old output.new result (spaced_all (shown_value value.now)) }
@@ -63,7 +65,7 @@ fn put_value<W: Write>(output: &mut Tap<W>, value: &Value) -> Result<(), WriteFa
     Ok(())
 }
 
-// Writes a word behind a blank.
+// Writes a word after a blank.
 fn put_bare<W: Write>(output: &mut Tap<W>, word: &[u8]) -> Result<(), WriteFailed>
     requires { has_failed output.old ≡ false }
     ensures { Puts W.contents output.old output.new result (spaced (bare word.now)) }
@@ -71,6 +73,7 @@ fn put_bare<W: Write>(output: &mut Tap<W>, word: &[u8]) -> Result<(), WriteFaile
     output.put_all(&[b" ", word])
 }
 
+// Writes `!` before an option that is inverted.
 fn put_bang<W: Write>(output: &mut Tap<W>, inverted: bool) -> Result<(), WriteFailed>
     requires { has_failed output.old ≡ false }
     ensures { Puts W.contents output.old output.new result (spaced_all (shown_bang inverted)) }
@@ -81,6 +84,7 @@ fn put_bang<W: Write>(output: &mut Tap<W>, inverted: bool) -> Result<(), WriteFa
     Ok(())
 }
 
+// Writes the name of a value's option.
 fn put_name<W: Write>(output: &mut Tap<W>, value: &Value) -> Result<(), WriteFailed>
     requires { has_failed output.old ≡ false }
     ensures { Puts W.contents output.old output.new result (spaced (bare (name_of (option_of_value value.now)))) }
@@ -88,6 +92,7 @@ fn put_name<W: Write>(output: &mut Tap<W>, value: &Value) -> Result<(), WriteFai
     put_bare(output, value.option().name())
 }
 
+// Writes an option with its value.
 fn put_setting<W: Write>(output: &mut Tap<W>, setting: &Setting) -> Result<(), WriteFailed>
     requires { has_failed output.old ≡ false }
     ensures { Puts W.contents output.old output.new result (setting_text setting.now) }
@@ -97,6 +102,7 @@ fn put_setting<W: Write>(output: &mut Tap<W>, setting: &Setting) -> Result<(), W
     put_value(output, &setting.value)
 }
 
+// Writes options, one after another.
 fn put_settings<W: Write>(output: &mut Tap<W>, settings: &[Setting]) -> Result<(), WriteFailed>
     requires { has_failed output.old ≡ false }
     ensures { Puts W.contents output.old output.new result (flat_map setting_text settings.now) }
@@ -107,6 +113,7 @@ fn put_settings<W: Write>(output: &mut Tap<W>, settings: &[Setting]) -> Result<(
     Ok(())
 }
 
+// Writes an option and a name.
 fn put_named<W: Write>(output: &mut Tap<W>, option: &[u8], name: &[u8]) -> Result<(), WriteFailed>
     requires { has_failed output.old ≡ false }
     ensures { Puts W.contents output.old output.new result (spaced (bare option.now) ++ spaced (bare name.now)) }
@@ -114,14 +121,16 @@ fn put_named<W: Write>(output: &mut Tap<W>, option: &[u8], name: &[u8]) -> Resul
     output.put_all(&[b" ", option, b" ", name])
 }
 
+// Writes what starts a match.
 #[tactic(auto, unfolding(crate::specs::steps::Writing::start_text))]
-fn put_start<W: Write>(output: &mut Tap<W>, kind: Kind) -> Result<(), WriteFailed>
+fn put_start<W: Write>(output: &mut Tap<W>, kind: MatchKind) -> Result<(), WriteFailed>
     requires { has_failed output.old ≡ false }
     ensures { Puts W.contents output.old output.new result (start_text kind) }
 {
     put_named(output, b"-m", kind.row().name)
 }
 
+// Writes a match with its options.
 fn put_match<W: Write>(output: &mut Tap<W>, one: &Match) -> Result<(), WriteFailed>
     requires { has_failed output.old ≡ false }
     ensures { Puts W.contents output.old output.new result (match_text (view_match one.now)) }
@@ -130,6 +139,7 @@ fn put_match<W: Write>(output: &mut Tap<W>, one: &Match) -> Result<(), WriteFail
     put_settings(output, one.settings.as_slice())
 }
 
+// Writes matches, one after another.
 fn put_matches<W: Write>(output: &mut Tap<W>, matches: &[Match]) -> Result<(), WriteFailed>
     requires { has_failed output.old ≡ false }
     ensures { Puts W.contents output.old output.new result (flat_map (λ m. match_text (view_match m)) matches.now) }
@@ -140,6 +150,7 @@ fn put_matches<W: Write>(output: &mut Tap<W>, matches: &[Match]) -> Result<(), W
     Ok(())
 }
 
+// Writes a target without its options.
 fn put_action<W: Write>(output: &mut Tap<W>, action: &Option<Action>) -> Result<(), WriteFailed>
     requires { has_failed output.old ≡ false }
     ensures { Puts W.contents output.old output.new result (action_text action.now) }
@@ -156,27 +167,38 @@ fn put_action<W: Write>(output: &mut Tap<W>, action: &Option<Action>) -> Result<
     }
 }
 
-fn put_draft<W: Write>(output: &mut Tap<W>, draft: &Draft) -> Result<(), WriteFailed>
+// Writes what a rule holds.
+fn put_content<W: Write>(output: &mut Tap<W>, content: &Content) -> Result<(), WriteFailed>
     requires { has_failed output.old ≡ false }
-    ensures { Puts W.contents output.old output.new result (rule_text (view_draft draft.now)) }
+    ensures { Puts W.contents output.old output.new result (rule_text (view_content content.now)) }
 {
-    put_settings(output, draft.settings.as_slice())?;
-    put_matches(output, draft.matches.as_slice())?;
-    put_action(output, &draft.action)?;
-    put_settings(output, draft.extras.as_slice())
+    put_settings(output, content.settings.as_slice())?;
+    put_matches(output, content.matches.as_slice())?;
+    put_action(output, &content.action)?;
+    put_settings(output, content.target_options.as_slice())
 }
 
-/// Writes the text of a rule, each of its words after one blank: what stands behind `-A chain` in a listing
-/// (iptables-save(8)). It takes no memory.
+/// Writes the text of a rule, each of its words after one blank: what stands after `-A chain` in a listing
+/// (iptables-save(8)). It takes no memory, and time linear in the text, which has at most 8,845 bytes.
 ///
+/// The options of the rule, of each match and of the target stand in the order of a listing, in whatever order they were given.
 /// The text's words are read as this rule, and no other rule has the text.
-#[tactic(auto, using(crate::proofs::laws::printing::RoundTripLaws::text_reads_back, crate::proofs::laws::printing::RoundTripLaws::is_only_one, crate::proofs::laws::printing::RoundTripLaws::line_is_short))]
+///
+/// # Errors
+///
+/// `WriteFailed` where the writer failed, now or before: it then got a beginning of the text, none where it had failed before.
+#[tactic(auto, using(crate::proofs::laws::printing::RoundTripLaws::listing_laws))]
 pub fn write_rule<W: Write>(rule: &Rule, output: &mut Tap<W>) -> Result<(), WriteFailed>
-    requires { has_failed output.old ≡ false }
     ensures puts { Puts W.contents output.old output.new result (rule_text rule.now) }
+    ensures ordered { IsInOrder rule.now }
+    ensures readable { IsReadable rule.now }
     ensures reads_back { TextReadsBack rule.now }
     ensures only { IsOnlyOne rule.now }
     ensures short { HasShortLine rule.now }
 {
-    put_draft(output, rule.draft())
+    let content = rule.content();
+    if output.failed() {
+        return Err(WriteFailed);
+    }
+    put_content(output, content)
 }

@@ -3,51 +3,55 @@ ghost use Rattle.std.specs.Prelude.{◌≡◌, ◌≤◌, ◌<◌, ◌+◌, ◌-
 ghost use Rattle.std.specs.List.{list_any};
 ghost use Rattle.fields.specs.steps.Cutting.{view_words};
 ghost use Rattle.rules.specs.Sequence.{Gives};
-ghost use Rattle.rules.specs.options.Matches.{kind_row};
+ghost use Rattle.rules.specs.options.Matches.{match_row};
+ghost use Rattle.rules.specs.rule.Readable.{IsReadable};
 ghost use Rattle.rules.specs.rule.Rules.{empty_rule};
-ghost use Rattle.rules.specs.reading.Steps.{steps_from, is_met_for, unmet_match, or_else, unmet_matches, is_reset, unmet_reset, unmet, finished, whole, rule_of};
-ghost use Rattle.rules.specs.steps.Views.{view_match, view_matches, view_draft};
+ghost use Rattle.rules.specs.reading.Steps.{steps_from, unless_unmet, with_needs_met, rule_of};
+ghost use Rattle.rules.specs.rule.Needs.{is_met_for, unmet_match, or_else, unmet_matches, is_reset, unmet_reset, unmet};
+ghost use Rattle.rules.specs.steps.Views.{view_match, view_matches, view_content};
 
-pub(crate) mod by_rows;
+pub(crate) mod grammar;
 pub(crate) mod fault;
 pub(crate) mod normal_form;
 pub(crate) mod option_words;
 pub(crate) mod steps;
 
-use crate::reading::normal_form::completed;
+use crate::reading::normal_form::normalized;
 use crate::reading::steps::{is_met_for, step};
-use crate::rule::content::{Draft, Match};
+use crate::rule::content::{Content, Match};
 use crate::reading::fault::{Refusal, RuleFault};
-use crate::reading::option_words::part_at;
+use crate::reading::option_words::option_words_at;
 use crate::rule::Rule;
 use crate::options::setting::{Setting, has_protocol};
 use crate::options::value::Value;
 use fields::{RejectType, Words};
 use std::alloc::Global;
 
-fn empty(alloc: Global) -> Draft
-    ensures { view_draft result ≡ empty_rule }
+// A rule of which nothing was read yet.
+fn empty(alloc: Global) -> Content
+    ensures { view_content result ≡ empty_rule }
 {
-    Draft {
+    Content {
         settings: Vec::new(alloc),
         matches: Vec::new(alloc),
         action: None,
-        extras: Vec::new(alloc),
+        target_options: Vec::new(alloc),
     }
 }
 
-fn parts(alloc: Global, end: usize, words: &[Vec<u8>]) -> Result<Draft, RuleFault>
+// The rule that the options of the words make, one after another.
+fn read_options(alloc: Global, end: usize, words: &[Vec<u8>]) -> Result<Content, RuleFault>
     requires { length words.now ≤ end }
-    ensures { Gives view_draft result (steps_from (length (view_words words.now)) end empty_rule (view_words words.now)) }
+    ensures { Gives view_content result (steps_from (length (view_words words.now)) end empty_rule (view_words words.now)) }
 {
-    let mut draft = empty(alloc);
+    let mut content = empty(alloc);
     let mut rest = words;
     while !rest.is_empty() {
-        let (part, behind) = part_at(end, rest)?;
-        draft = step(alloc, draft, &part)?;
-        rest = behind;
+        let (given, after) = option_words_at(end, rest)?;
+        content = step(alloc, content, &given)?;
+        rest = after;
     }
-    Ok(draft)
+    Ok(content)
 }
 
 // What a match lacks.
@@ -63,6 +67,7 @@ fn unmet_match(settings: &[Setting], one: &Match) -> Option<Refusal>
     None
 }
 
+// What the first match lacks that lacks something.
 fn unmet_matches(settings: &[Setting], matches: &[Match]) -> Option<Refusal>
     ensures { result ≡ unmet_matches settings.now (view_matches matches.now) }
 {
@@ -74,62 +79,81 @@ fn unmet_matches(settings: &[Setting], matches: &[Match]) -> Option<Refusal>
     None
 }
 
+// Whether the option asks for the reset of a connection.
 fn is_reset(setting: &Setting) -> bool
     ensures { result ≡ is_reset setting.now }
 {
     matches!(setting.value, Value::RejectWith(RejectType::TcpReset))
 }
 
-fn asks_reset(extras: &[Setting]) -> bool
-    ensures { result ≡ list_any is_reset extras.now }
+// Whether one of the options does.
+fn asks_reset(target_options: &[Setting]) -> bool
+    ensures { result ≡ list_any is_reset target_options.now }
 {
-    extras.iter().any(is_reset)
+    target_options.iter().any(is_reset)
 }
 
-fn unmet_reset(settings: &[Setting], extras: &[Setting]) -> Option<Refusal>
-    ensures { result ≡ unmet_reset settings.now extras.now }
+// What a reset lacks: it is of tcp alone.
+fn unmet_reset(settings: &[Setting], target_options: &[Setting]) -> Option<Refusal>
+    ensures { result ≡ unmet_reset settings.now target_options.now }
 {
-    if asks_reset(extras) && !has_protocol(settings, 6) {
+    if asks_reset(target_options) && !has_protocol(settings, 6) {
         return Some(Refusal::ProtocolNeeded);
     }
     None
 }
 
-// What is told after the last word.
-fn unmet(draft: &Draft) -> Option<Refusal>
-    ensures { result ≡ unmet (view_draft draft.now) }
+// What the rule lacks after its last word.
+fn unmet(content: &Content) -> Option<Refusal>
+    ensures { result ≡ unmet (view_content content.now) }
 {
-    let settings = draft.settings.as_slice();
-    match unmet_matches(settings, draft.matches.as_slice()) {
+    let settings = content.settings.as_slice();
+    match unmet_matches(settings, content.matches.as_slice()) {
         Some(refusal) => Some(refusal),
-        None => unmet_reset(settings, draft.extras.as_slice()),
+        None => unmet_reset(settings, content.target_options.as_slice()),
     }
 }
 
-fn whole(draft: Draft) -> Result<Draft, RuleFault>
-    ensures { Gives view_draft result (whole (view_draft draft)) }
+// The rule in its normal form, where its needs hold.
+fn with_needs_met(content: Content) -> Result<Content, RuleFault>
+    ensures { Gives view_content result (with_needs_met (view_content content)) }
 {
-    let draft = completed(draft)?;
-    match unmet(&draft) {
-        None => Ok(draft),
+    let content = normalized(content)?;
+    match unmet(&content) {
+        None => Ok(content),
         Some(refusal) => Err(RuleFault::Refused(refusal)),
     }
 }
 
+// The rule that the words read as; `end` is the place after the last word of the line.
 #[tactic(auto, unfolding(crate::specs::reading::Steps::rule_of))]
-fn rule_of(alloc: Global, end: usize, words: &[Vec<u8>]) -> Result<Draft, RuleFault>
+fn rule_of(alloc: Global, end: usize, words: &[Vec<u8>]) -> Result<Content, RuleFault>
     requires { length words.now ≤ end }
-    ensures { Gives view_draft result (rule_of end (view_words words.now)) }
+    ensures { Gives view_content result (rule_of end (view_words words.now)) }
 {
-    let draft = parts(alloc, end, words)?;
-    whole(draft)
+    let content = read_options(alloc, end, words)?;
+    with_needs_met(content)
 }
 
-/// The rule that the words from a place on read as, or the first fault: P1 to P12, and P0 where memory was refused.
-pub fn read_rule(alloc: Global, words: &Words, from: usize) -> Result<Rule, RuleFault>
-    requires { from ≤ length words.now }
-    ensures { Gives (λ r. r) result (rule_of (length words.now) (drop from words.now)) }
+// The words from a place on; from beyond the last word on there are none.
+fn words_from(words: &Words, from: usize) -> &[Vec<u8>]
+    ensures { view_words result.now ≡ drop from words.now }
 {
-    let draft = rule_of(alloc, words.len(), words.after(from))?;
-    Ok(Rule::of(draft))
+    words.after(from.min(words.len()))
+}
+
+/// The rule that the words from a place on read as (iptables(8), iptables-extensions(8)). From beyond the last word on there are no
+/// words, and they read as the rule that asks and does nothing.
+///
+/// It takes memory for the rule's matches and options and for its comments, as `Rule` says, and time linear in the words.
+///
+/// # Errors
+///
+/// `RuleFault::Refused` with the first fault of the words, P1 to P12, and `RuleFault::NoMemory`, P0, where memory was refused.
+pub fn read_rule(alloc: Global, words: &Words, from: usize) -> Result<Rule, RuleFault>
+    ensures reads { Gives (λ r. r) result (rule_of (length words.now) (drop from words.now)) }
+    ensures readable { IfOk result IsReadable }
+{
+    let content = rule_of(alloc, words.len(), words_from(words, from))?;
+    Ok(Rule::of(content))
 }

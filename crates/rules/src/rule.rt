@@ -2,7 +2,7 @@
 ghost use Rattle.std.specs.Prelude.{◌≡◌, Option, Some, None};
 ghost use Rattle.std.specs.List.{list_any};
 ghost use Rattle.fields.specs.declared.numbers.field.Field.{Field};
-ghost use Rattle.rules.specs.rule.Actions.{reject_in, target_with, renamed_action};
+ghost use Rattle.rules.specs.rule.Actions.{reject_in, target_with, action_with_chain_name};
 ghost use Rattle.rules.specs.rule.Allows.{asks};
 
 pub(crate) mod action;
@@ -12,9 +12,9 @@ pub(crate) mod equality;
 pub(crate) mod target;
 
 use crate::rule::action::Action;
-use crate::rule::copy::copy_draft;
-use crate::rule::content::{Draft, Match};
-use crate::rule::equality::same_draft;
+use crate::rule::copy::copy_content;
+use crate::rule::content::{Content, Match};
+use crate::rule::equality::same_content;
 use crate::options::setting::Setting;
 use crate::rule::target::Target;
 use crate::options::value::Value;
@@ -30,7 +30,7 @@ use std::mem::size_of;
 /// options. Only a comment has further memory, of at most 272 bytes.
 #[derive(Drop)]
 pub struct Rule {
-    draft: Draft,
+    content: Content,
 }
 
 const _: () = prove!(size_of::<Rule>() == 128);
@@ -41,14 +41,14 @@ const _: () = prove!(size_of::<Setting>() == 88);
 
 impl Model for Rule {
     ghost use Rattle.rules.specs.rule.Rules.{Rule as Shown};
-    ghost use Rattle.rules.specs.steps.Views.{view_draft};
+    ghost use Rattle.rules.specs.steps.Views.{view_content};
     ghost use Rattle.rules.specs.printing.RoundTrip.{ReadsItself};
 
     ghost Value = { Shown };
 
-    ghost view = { λ r. view_draft r.draft };
+    ghost view = { λ r. view_content r.content };
 
-    ghost invariant = { λ r. ReadsItself (view_draft r.draft) };
+    ghost invariant = { λ r. ReadsItself (view_content r.content) };
 }
 
 // Rules are equal where they have one text (`Rule::equals` says more).
@@ -76,10 +76,10 @@ impl Eq for Rule {
 }
 
 // The type of REJECT among the options of the target.
-fn reject_in(extras: &[Setting]) -> RejectType
-    ensures { result ≡ reject_in extras.now }
+fn reject_in(target_options: &[Setting]) -> RejectType
+    ensures { result ≡ reject_in target_options.now }
 {
-    for setting in extras {
+    for setting in target_options {
         if let Value::RejectWith(answer) = &setting.value {
             return *answer;
         }
@@ -87,14 +87,14 @@ fn reject_in(extras: &[Setting]) -> RejectType
     RejectType::default()
 }
 
-fn target_with(action: &Action, extras: &[Setting]) -> Target
-    ensures { result ≡ target_with action.now extras.now }
+fn target_with(action: &Action, target_options: &[Setting]) -> Target
+    ensures { result ≡ target_with action.now target_options.now }
 {
     match action {
         Action::Accept => Target::Accept,
         Action::Drop => Target::Drop,
         Action::Return => Target::Return,
-        Action::Reject => Target::Reject(reject_in(extras)),
+        Action::Reject => Target::Reject(reject_in(target_options)),
         Action::Log => Target::Log,
         Action::Jump(name) => Target::Jump(name.copy()),
         Action::Goto(name) => Target::Goto(name.copy()),
@@ -103,7 +103,7 @@ fn target_with(action: &Action, extras: &[Setting]) -> Target
 
 // Changes the name of the action's chain.
 fn rename(action: &mut Option<Action>, name: &Name)
-    ensures { action.new ≡ renamed_action name.now action.old }
+    ensures { action.new ≡ action_with_chain_name name.now action.old }
 {
     match action {
         Some(Action::Jump(_)) => *action = Some(Action::Jump(name.copy())),
@@ -139,32 +139,32 @@ fn asks_out(settings: &[Setting]) -> bool
 impl Rule {
     ghost use Rattle.std.specs.Prelude.{◌≡◌, ◌↔◌, ℕ, true, false, IfOk, IsTrue};
     ghost use Rattle.fields.specs.declared.numbers.field.Field.{Field};
-    ghost use Rattle.rules.specs.rule.Actions.{target_of, renamed, names_chain};
+    ghost use Rattle.rules.specs.rule.Actions.{target_of, with_chain_name, names_chain};
     ghost use Rattle.rules.specs.rule.Allows.{asks_on, allows};
     ghost use Rattle.rules.specs.printing.Printing.{rule_text};
     ghost use Rattle.rules.specs.printing.RoundTrip.{ReadsItself};
-    ghost use Rattle.rules.specs.steps.Views.{view_draft};
+    ghost use Rattle.rules.specs.steps.Views.{view_content};
 
-    pub(crate) fn of(draft: Draft) -> Rule
-        requires { ReadsItself (view_draft draft) }
-        ensures { result ≡ view_draft draft }
+    pub(crate) fn of(content: Content) -> Rule
+        requires { ReadsItself (view_content content) }
+        ensures { result ≡ view_content content }
     {
-        Rule { draft }
+        Rule { content }
     }
 
-    pub(crate) fn draft(&self) -> &Draft
-        ensures value { view_draft result.now ≡ self.now }
+    pub(crate) fn content(&self) -> &Content
+        ensures value { view_content result.now ≡ self.now }
         ensures kept { ReadsItself self.now }
     {
-        &self.draft
+        &self.content
     }
 
     /// An equal rule, or none where memory was refused.
     pub fn copy(&self, alloc: Global) -> Result<Rule, AllocError>
         ensures { IfOk result (λ copy. copy ≡ self.now) }
     {
-        let draft = copy_draft(alloc, &self.draft)?;
-        Ok(Rule { draft })
+        let content = copy_content(alloc, &self.content)?;
+        Ok(Rule { content })
     }
 
     /// Whether the rules are equal: each asks and does the same, and they have one text.
@@ -173,7 +173,7 @@ impl Rule {
         ensures value { IsTrue result ↔ (self.now ≡ other.now) }
         ensures text { IsTrue result ↔ (rule_text self.now ≡ rule_text other.now) }
     {
-        same_draft(self.draft(), other.draft())
+        same_content(self.content(), other.content())
     }
 
     /// What becomes of the packets that the rule matches: `None` where it says nothing, so that the walk goes on. It takes no
@@ -181,19 +181,19 @@ impl Rule {
     pub fn target(&self) -> Option<Target>
         ensures { result ≡ target_of self.now }
     {
-        match &self.draft.action {
+        match &self.content.action {
             None => None,
-            Some(action) => Some(target_with(action, self.draft.extras.as_slice())),
+            Some(action) => Some(target_with(action, self.content.target_options.as_slice())),
         }
     }
 
     /// Changes the name of the chain that the rule jumps or goes to, and leaves all else. It takes no memory.
     pub fn rename_target(&mut self, name: &Name)
         requires { IsTrue (names_chain (target_of self.old)) }
-        ensures { self.new ≡ renamed name.now self.old }
+        ensures { self.new ≡ with_chain_name name.now self.old }
     {
         let _name = name.bytes();
-        rename(&mut self.draft.action, name);
+        rename(&mut self.content.action, name);
     }
 
     /// Whether the rule has a condition on the incoming interface (`-i`; no condition is `-i +`). Without one it allows every
@@ -203,7 +203,7 @@ impl Rule {
         ensures value { result ≡ asks_on Field.InIface self.now }
         ensures free { result ≡ false → (n : ℕ) → allows self.now Field.InIface n ≡ true }
     {
-        asks_in(self.draft.settings.as_slice())
+        asks_in(self.content.settings.as_slice())
     }
 
     /// Whether the rule has a condition on the outgoing interface (`-o`; no condition is `-o +`). Without one it allows every
@@ -213,6 +213,6 @@ impl Rule {
         ensures value { result ≡ asks_on Field.OutIface self.now }
         ensures free { result ≡ false → (n : ℕ) → allows self.now Field.OutIface n ≡ true }
     {
-        asks_out(self.draft.settings.as_slice())
+        asks_out(self.content.settings.as_slice())
     }
 }

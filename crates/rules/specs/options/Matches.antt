@@ -1,46 +1,50 @@
 -- The table of matches: a row for each (iptables-extensions(8)).
 use Rattle.std.specs.Prelude.{ℕ, Bool, true, false, ◌==◌, List, [], ◌∷◌, Option, find, codes}
 use Rattle.std.specs.Str.{bytes_eq}
-use Rattle.rules.specs.declared.options.match_kind.Kind.{Kind}
-use Rattle.rules.specs.declared.options.match_kind.Kind.TheVariants as kind
+use Rattle.rules.specs.declared.options.match_kind.MatchKind.{MatchKind}
+use Rattle.rules.specs.declared.options.match_kind.MatchKind.TheVariants as kind
 
 -- A match's number, its name, the protocols of which it needs one (none: it needs no protocol), whether it needs an option, and
 -- whether it looks into a packet's parts, so that it asks for a first fragment.
-pub record KindRow : Type 0 where
+pub record MatchRow : Type 0 where
   pub number : ℕ
   pub name : List ℕ
   pub protocols : List ℕ
   pub needs_option : Bool
   pub asks_fragment : Bool
 
-abbrev pub kind_row_with : ℕ → List ℕ → List ℕ → Bool → Bool → KindRow
-kind_row_with number name protocols needs_option asks_fragment = record { number = number; name = name; protocols = protocols; needs_option = needs_option; asks_fragment = asks_fragment }
+-- a row of these
+abbrev pub match_row_with : ℕ → List ℕ → List ℕ → Bool → Bool → MatchRow
+match_row_with number name protocols needs_option asks_fragment =
+    record { number = number; name = name; protocols = protocols; needs_option = needs_option; asks_fragment = asks_fragment }
 
 -- the rows; the protocols are tcp 6, udp 17, icmp 1, udplite 136, dccp 33 and sctp 132
-abbrev pub kind_row : Kind → KindRow
-kind_row kind.Tcp = kind_row_with 0 (codes "tcp") (6 ∷ []) false true
-kind_row kind.Udp = kind_row_with 1 (codes "udp") (17 ∷ []) false true
-kind_row kind.Icmp = kind_row_with 2 (codes "icmp") (1 ∷ []) false true
-kind_row kind.Multiport = kind_row_with 3 (codes "multiport") (6 ∷ 17 ∷ 136 ∷ 33 ∷ 132 ∷ []) true true
-kind_row kind.Iprange = kind_row_with 4 (codes "iprange") [] true false
-kind_row kind.Conntrack = kind_row_with 5 (codes "conntrack") [] true false
-kind_row kind.State = kind_row_with 6 (codes "state") [] true false
-kind_row kind.Comment = kind_row_with 7 (codes "comment") [] true false
+abbrev pub match_row : MatchKind → MatchRow
+match_row kind.Tcp = match_row_with 0 (codes "tcp") (6 ∷ []) false true
+match_row kind.Udp = match_row_with 1 (codes "udp") (17 ∷ []) false true
+match_row kind.Icmp = match_row_with 2 (codes "icmp") (1 ∷ []) false true
+match_row kind.Multiport = match_row_with 3 (codes "multiport") (6 ∷ 17 ∷ 136 ∷ 33 ∷ 132 ∷ []) true true
+match_row kind.Iprange = match_row_with 4 (codes "iprange") [] true false
+match_row kind.Conntrack = match_row_with 5 (codes "conntrack") [] true false
+match_row kind.State = match_row_with 6 (codes "state") [] true false
+match_row kind.Comment = match_row_with 7 (codes "comment") [] true false
 
-abbrev pub kind_name : Kind → List ℕ
-kind_name k = (kind_row k).name
+-- the name of a match
+abbrev pub kind_name : MatchKind → List ℕ
+kind_name k = (match_row k).name
 
-abbrev pub same_kind : Kind → Kind → Bool
-same_kind k l = (kind_row k).number == (kind_row l).number
+-- two matches are one
+abbrev pub same_kind : MatchKind → MatchKind → Bool
+same_kind k l = (match_row k).number == (match_row l).number
 
 -- the matches
-abbrev pub all_kinds : List Kind
+abbrev pub all_kinds : List MatchKind
 all_kinds = kind.Tcp ∷ kind.Udp ∷ kind.Icmp ∷ kind.Multiport ∷ kind.Iprange ∷ kind.Conntrack ∷ kind.State ∷ kind.Comment ∷ []
 
 -- the matches that an option starts by itself, after `-p` of the protocol of their name: tcp, udp and icmp
-abbrev pub implied_kinds : List Kind
+abbrev pub implied_kinds : List MatchKind
 implied_kinds = kind.Tcp ∷ kind.Udp ∷ kind.Icmp ∷ []
 
 -- the match of a name
-unfoldable pub kind_of : List ℕ → Option Kind
+unfoldable pub kind_of : List ℕ → Option MatchKind
 kind_of name = find (λ k. bytes_eq (kind_name k) name) all_kinds

@@ -1,5 +1,5 @@
 -- Options with their values.
-use Rattle.std.specs.Prelude.{ℕ, ◌==◌, Bool, false, ◌||◌, ◌&&◌, not, List, [], ◌∷◌, length, Option, Some, None, Result, Ok, Err, codes, if◌then◌else◌}
+use Rattle.std.specs.Prelude.{ℕ, ◌==◌, Bool, false, ◌||◌, ◌&&◌, not, nat_lt, List, [], ◌∷◌, length, Option, Some, None, Result, Ok, Err, codes, if◌then◌else◌}
 use Rattle.std.specs.Str.{bytes_eq}
 use Rattle.std.specs.List.{list_any}
 use Rattle.fields.specs.values.ConnectionState.{ctstate_of, state_of}
@@ -51,17 +51,20 @@ option_of_value value.LogTcpOptions = opt.LogTcpOptions
 option_of_value value.LogIpOptions = opt.LogIpOptions
 option_of_value value.LogUid = opt.LogUid
 
+-- the place of an option among those of its owner
 abbrev pub slot_of : Setting → ℕ
 slot_of s = slot (option_of_value s.value)
 
--- a protocol that isn't inverted
+-- the value is this protocol, and isn't inverted
 abbrev pub protocol_is : ℕ → Bool → Value → Bool
 protocol_is n inverted (value.Protocol m) = not inverted && (m == n)
 protocol_is n inverted v = false
 
+-- the option is this protocol, not inverted
 abbrev pub is_protocol : ℕ → Setting → Bool
 is_protocol n s = protocol_is n s.inverted s.value
 
+-- one of the options is this protocol, not inverted
 abbrev pub has_protocol : ℕ → List Setting → Bool
 has_protocol n settings = list_any (is_protocol n) settings
 
@@ -74,16 +77,20 @@ second_of (word ∷ words) = first_of words
 abbrev pub read_as : {X : Type 0} → (X → Value) → Option X → Result Value Refusal
 read_as make x = or_refused refusal.BadValue x >>= λ y. Ok (make y)
 
--- a text of so many bytes at most, or one that is too long
-abbrev pub text_as : (List ℕ → Value) → Option (List ℕ) → Result Value Refusal
-text_as make x = or_refused refusal.TextTooLong x >>= λ y. Ok (make y)
+-- a text of so many bytes at most; with more it is too long, whatever they are
+abbrev pub text_within : ℕ → List ℕ → Result (List ℕ) Refusal
+text_within most bytes = if nat_lt most (length bytes) then Err refusal.TextTooLong else or_refused refusal.BadValue (text_of most bytes)
+
+-- a text that was read, or why it is none
+abbrev pub text_as : (List ℕ → Value) → Result (List ℕ) Refusal → Result Value Refusal
+text_as make x = x >>= λ y. Ok (make y)
 
 -- all protocols have no opposite
 abbrev pub with_opposite : Bool → Option ℕ → Option ℕ
 with_opposite inverted None = None
 with_opposite inverted (Some n) = if inverted && (n == 0) then None else Some n
 
--- the value that the words behind an option give it
+-- the value that the words after an option give it
 unfoldable pub value_of : Opt → Bool → List (List ℕ) → Result Value Refusal
 value_of opt.Source inverted words = read_as value.Source (prefix_of (first_of words))
 value_of opt.Destination inverted words = read_as value.Destination (prefix_of (first_of words))
@@ -102,9 +109,9 @@ value_of opt.SourceRange inverted words = read_as value.SourceRange (ip_range_of
 value_of opt.DestinationRange inverted words = read_as value.DestinationRange (ip_range_of (first_of words))
 value_of opt.Ctstate inverted words = read_as value.Ctstate (ctstate_of (first_of words))
 value_of opt.State inverted words = read_as value.State (state_of (first_of words))
-value_of opt.Comment inverted words = text_as value.Comment (text_of 256 (first_of words))
+value_of opt.Comment inverted words = text_as value.Comment (text_within 256 (first_of words))
 value_of opt.RejectWith inverted words = read_as value.RejectWith (reject_of (first_of words))
-value_of opt.LogPrefix inverted words = text_as value.LogPrefix (text_of 29 (first_of words))
+value_of opt.LogPrefix inverted words = text_as value.LogPrefix (text_within 29 (first_of words))
 value_of opt.LogLevel inverted words = read_as value.LogLevel (log_level_of (first_of words))
 value_of opt.LogTcpSequence inverted words = Ok value.LogTcpSequence
 value_of opt.LogTcpOptions inverted words = Ok value.LogTcpOptions
@@ -141,5 +148,6 @@ is_trivial value.LogTcpOptions = false
 is_trivial value.LogIpOptions = false
 is_trivial value.LogUid = false
 
+-- an option that says something: an inverted one does always
 abbrev pub is_condition : Setting → Bool
 is_condition s = s.inverted || not (is_trivial s.value)

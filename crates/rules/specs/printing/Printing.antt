@@ -52,6 +52,7 @@ shown_value value.LogTcpOptions = []
 shown_value value.LogIpOptions = []
 shown_value value.LogUid = []
 
+-- the word before an option that is inverted
 abbrev pub shown_bang : Bool → List Shown
 shown_bang true = bare (codes "!") ∷ []
 shown_bang false = []
@@ -60,9 +61,11 @@ shown_bang false = []
 abbrev pub shown_setting : Setting → List Shown
 shown_setting s = shown_bang s.inverted ++ (bare (name_of (option_of_value s.value)) ∷ shown_value s.value)
 
+-- the words of options, one after another
 abbrev pub shown_settings : List Setting → List Shown
 shown_settings ss = flat_map shown_setting ss
 
+-- the words of a match: `-m`, its name, its options
 abbrev pub shown_match : Match → List Shown
 shown_match m = bare (codes "-m") ∷ (bare (kind_name m.kind) ∷ shown_settings m.settings)
 
@@ -76,13 +79,14 @@ shown_given action.Log = bare (codes "-j") ∷ one (codes "LOG")
 shown_given (action.Jump name) = bare (codes "-j") ∷ one name
 shown_given (action.Goto name) = bare (codes "-g") ∷ one name
 
+-- and no word where there is no target
 abbrev pub shown_action : Option Action → List Shown
 shown_action None = []
 shown_action (Some a) = shown_given a
 
 -- the words of a rule
 abbrev pub shown_rule : Rule → List Shown
-shown_rule r = shown_settings r.settings ++ (flat_map shown_match r.matches ++ (shown_action r.action ++ shown_settings r.extras))
+shown_rule r = shown_settings r.settings ++ (flat_map shown_match r.matches ++ (shown_action r.action ++ shown_settings r.target_options))
 
 -- the text of a rule: its words, each after one blank
 abbrev pub rule_text : Rule → List ℕ

@@ -18,6 +18,7 @@ use Rattle.rules.specs.declared.rule.target.Target.TheVariants as target
 use Rattle.rules.specs.declared.options.value.Value.{Value}
 use Rattle.rules.specs.declared.options.value.Value.TheVariants as value
 
+-- a jump to a chain, where the name is one
 abbrev pub jump_to : Option (List ℕ) → Option Action
 jump_to None = None
 jump_to (Some name) = Some (action.Jump name)
@@ -38,6 +39,7 @@ is_owned_by action.Reject (owned.Target extended.Reject) = true
 is_owned_by action.Log (owned.Target extended.Log) = true
 is_owned_by a w = false
 
+-- and of the action that was given, if one was
 abbrev pub is_action_of : Option Action → Owner → Bool
 is_action_of None w = false
 is_action_of (Some a) w = is_owned_by a w
@@ -46,37 +48,40 @@ is_action_of (Some a) w = is_owned_by a w
 abbrev pub action_has : Option Action → Opt → Bool
 action_has a o = is_action_of a (owner o)
 
--- the type of REJECT among the options of the target
+-- the type of REJECT that the value is, or else the other
 abbrev pub reject_in_value : Value → RejectType → RejectType
 reject_in_value (value.RejectWith t) other = t
 reject_in_value v other = other
 
+-- the type of REJECT among the options of the target; where none is given, that the port is unreachable
 abbrev pub reject_in : List Setting → RejectType
 reject_in [] = reject.PortUnreachable
 reject_in (s ∷ ss) = reject_in_value s.value (reject_in ss)
 
 -- the target with its type
 abbrev pub target_with : Action → List Setting → Target
-target_with action.Accept extras = target.Accept
-target_with action.Drop extras = target.Drop
-target_with action.Return extras = target.Return
-target_with action.Reject extras = target.Reject (reject_in extras)
-target_with action.Log extras = target.Log
-target_with (action.Jump name) extras = target.Jump name
-target_with (action.Goto name) extras = target.Goto name
+target_with action.Accept target_options = target.Accept
+target_with action.Drop target_options = target.Drop
+target_with action.Return target_options = target.Return
+target_with action.Reject target_options = target.Reject (reject_in target_options)
+target_with action.Log target_options = target.Log
+target_with (action.Jump name) target_options = target.Jump name
+target_with (action.Goto name) target_options = target.Goto name
 
 -- the target of a rule
 abbrev pub target_of : Rule → Option Target
-target_of r = option_map (λ a. target_with a r.extras) r.action
+target_of r = option_map (λ a. target_with a r.target_options) r.action
 
 -- the action with another chain, where it names one
-abbrev pub renamed_action : List ℕ → Option Action → Option Action
-renamed_action name (Some (action.Jump old)) = Some (action.Jump name)
-renamed_action name (Some (action.Goto old)) = Some (action.Goto name)
-renamed_action name a = a
+abbrev pub action_with_chain_name : List ℕ → Option Action → Option Action
+action_with_chain_name name (Some (action.Jump old)) = Some (action.Jump name)
+action_with_chain_name name (Some (action.Goto old)) = Some (action.Goto name)
+action_with_chain_name name a = a
 
-abbrev pub renamed : List ℕ → Rule → Rule
-renamed name r = record { settings = r.settings; matches = r.matches; action = renamed_action name r.action; extras = r.extras }
+-- the rule with another chain as its target, where it names one
+abbrev pub with_chain_name : List ℕ → Rule → Rule
+with_chain_name name r =
+    record { settings = r.settings; matches = r.matches; action = action_with_chain_name name r.action; target_options = r.target_options }
 
 -- the target is a chain
 abbrev pub names_chain : Option Target → Bool

@@ -12,9 +12,9 @@ use Rattle.fields.specs.values.PortRange.{has_port}
 use Rattle.fields.specs.values.Prefix.{holds}
 use Rattle.fields.specs.declared.numbers.field.Field.{Field}
 use Rattle.fields.specs.declared.numbers.field.Field.TheVariants as field
-use Rattle.rules.specs.options.Matches.{kind_row}
+use Rattle.rules.specs.options.Matches.{match_row}
 use Rattle.rules.specs.rule.Rules.{Match, Rule}
-use Rattle.rules.specs.declared.options.match_kind.Kind.{Kind}
+use Rattle.rules.specs.declared.options.match_kind.MatchKind.{MatchKind}
 use Rattle.rules.specs.declared.options.setting.Setting.{Setting}
 use Rattle.rules.specs.declared.options.value.Value.{Value}
 use Rattle.rules.specs.declared.options.value.Value.TheVariants as value
@@ -66,9 +66,11 @@ holds_of (value.Ctstate x) n = states_pass x n
 holds_of (value.State x) n = states_pass x n
 holds_of v n = true
 
+-- two fields are one
 abbrev pub same_field : Field → Field → Bool
 same_field f g = index f == index g
 
+-- the field that is spoken of, if there is one, is this
 abbrev pub is_on : Field → Option Field → Bool
 is_on f None = false
 is_on f (Some g) = same_field f g
@@ -77,13 +79,15 @@ is_on f (Some g) = same_field f g
 abbrev pub setting_holds : Setting → ℕ → Bool
 setting_holds s n = if s.inverted then not (holds_of s.value n) else holds_of s.value n
 
+-- the option allows the number on the field: it speaks of another field, or holds of it
 abbrev pub setting_allows : Field → ℕ → Setting → Bool
 setting_allows f n s = if is_on f (field_of s.value) then setting_holds s n else true
 
 -- a match that looks into the packet's parts asks for a first fragment
-abbrev pub fragment_allows : Field → ℕ → Kind → Bool
-fragment_allows f n k = not ((kind_row k).asks_fragment && same_field f field.Fragment) || (n == 0)
+abbrev pub fragment_allows : Field → ℕ → MatchKind → Bool
+fragment_allows f n k = not ((match_row k).asks_fragment && same_field f field.Fragment) || (n == 0)
 
+-- the match allows it: by the fragments that it asks for, and by each of its options
 abbrev pub match_allows : Field → ℕ → Match → Bool
 match_allows f n m = fragment_allows f n m.kind && list_all (setting_allows f n) m.settings
 

@@ -1,20 +1,19 @@
 -- Rules.
-use Rattle.std.specs.Prelude.{ℕ, ◌==◌, Bool, false, nat_lt, List, [], ◌∷◌, map, filter, Option, Some, None, if◌then◌else◌}
-use Rattle.std.specs.List.{list_any}
+use Rattle.std.specs.Prelude.{false, List, [], ◌∷◌, map, filter, Option, Some, None}
 use Rattle.fields.specs.declared.values.icmp.Asked.TheVariants as asked
 use Rattle.fields.specs.declared.values.reject.RejectType.TheVariants as reject
-use Rattle.rules.specs.options.Settings.{slot_of, is_condition}
+use Rattle.rules.specs.options.Settings.{is_condition}
 use Rattle.rules.specs.declared.rule.action.Action.{Action}
 use Rattle.rules.specs.declared.rule.action.Action.TheVariants as action
-use Rattle.rules.specs.declared.options.match_kind.Kind.{Kind}
-use Rattle.rules.specs.declared.options.match_kind.Kind.TheVariants as kind
+use Rattle.rules.specs.declared.options.match_kind.MatchKind.{MatchKind}
+use Rattle.rules.specs.declared.options.match_kind.MatchKind.TheVariants as kind
 use Rattle.rules.specs.declared.options.setting.Setting.{Setting}
 use Rattle.rules.specs.declared.options.value.Value.{Value}
 use Rattle.rules.specs.declared.options.value.Value.TheVariants as value
 
 -- a match with its options
 pub record Match : Type 0 where
-  pub kind : Kind
+  pub kind : MatchKind
   pub settings : List Setting
 
 -- A rule: its own options, its matches in the order in which they were started, what it does, and the options of that.
@@ -23,41 +22,36 @@ pub record Rule : Type 0 where
   pub settings : List Setting
   pub matches : List Match
   pub action : Option Action
-  pub extras : List Setting
+  pub target_options : List Setting
 
+-- a rule of which nothing was read yet
 abbrev pub empty_rule : Rule
-empty_rule = record { settings = []; matches = []; action = None; extras = [] }
+empty_rule = record { settings = []; matches = []; action = None; target_options = [] }
 
--- whether an option of a place was given
-abbrev pub is_given : ℕ → List Setting → Bool
-is_given slot settings = list_any (λ (s : Setting). slot_of s == slot) settings
-
--- a setting before the first one of a later place
-abbrev pub placed : ℕ → Setting → List Setting → List Setting
-placed slot s [] = s ∷ []
-placed slot s (t ∷ ts) = if nat_lt slot (slot_of t) then s ∷ t ∷ ts else t ∷ placed slot s ts
-
--- what a match or a target asks or does where its option isn't given
-abbrev pub match_default : Kind → Option Value
+-- what a match asks where its option isn't given: icmp asks for any type
+abbrev pub match_default : MatchKind → Option Value
 match_default kind.Icmp = Some (value.IcmpType asked.Any)
 match_default k = None
 
+-- what a target does where its option isn't given: REJECT answers that the port is unreachable
 abbrev pub action_default : Option Action → Option Value
 action_default (Some action.Reject) = Some (value.RejectWith reject.PortUnreachable)
 action_default a = None
 
+-- the options or, where there are none, what is meant then
 abbrev pub or_default : Option Value → List Setting → List Setting
 or_default (Some v) [] = record { inverted = false; value = v } ∷ []
 or_default v settings = settings
 
--- what is no condition is as if absent
-abbrev pub completed_match : Match → Match
-completed_match m = record { kind = m.kind; settings = or_default (match_default m.kind) (filter is_condition m.settings) }
+-- a match without what is no condition, and with what is meant where nothing is said
+abbrev pub normal_match : Match → Match
+normal_match m = record { kind = m.kind; settings = or_default (match_default m.kind) (filter is_condition m.settings) }
 
-abbrev pub completed : Rule → Rule
-completed r = record {
+-- The form in which a rule is kept: what is no condition is as if absent, and what is meant where nothing is said stands there.
+abbrev pub normal_form : Rule → Rule
+normal_form r = record {
   settings = filter is_condition r.settings;
-  matches = map completed_match r.matches;
+  matches = map normal_match r.matches;
   action = r.action;
-  extras = or_default (action_default r.action) (filter is_condition r.extras);
+  target_options = or_default (action_default r.action) (filter is_condition r.target_options);
 }

@@ -21,6 +21,6 @@ abbrev pub Narrows : (Field → ℕ → Bool) → List SpanSet → List SpanSet 
 Narrows passes old new = (before : Field → ℕ → Bool) → AreSetsOf before old → AreSetsOf (λ f x. before f x && passes f x) new
 
 -- all numbers of the field at a place
-pub record IsWhole (place : ℕ) (s : SpanSet) : Type 0 where
+pub record HasAllNumbers (place : ℕ) (s : SpanSet) : Type 0 where
   pub top : s.top ≡ slice_index (map top all_fields) place
   pub members : (x : ℕ) → has s.intervals x ≡ nat_le x s.top

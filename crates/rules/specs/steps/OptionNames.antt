@@ -2,6 +2,6 @@
 use Rattle.std.specs.Prelude.{ℕ, List, map}
 use Rattle.std.specs.Borrow.{Bor}
 
--- the spellings behind references
-abbrev pub shown_names : List (Bor (List ℕ)) → List (List ℕ)
-shown_names names = map (λ (name : Bor (List ℕ)). name.now) names
+-- the spellings that references point to
+abbrev pub names_now : List (Bor (List ℕ)) → List (List ℕ)
+names_now names = map (λ (name : Bor (List ℕ)). name.now) names

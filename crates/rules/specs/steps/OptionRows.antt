@@ -1,14 +1,14 @@
 -- An option's row as the code has it.
 use Rattle.std.specs.Prelude.{◌≡◌}
-use Rattle.rules.specs.steps.OptionNames.{shown_names}
+use Rattle.rules.specs.steps.OptionNames.{names_now}
 use Rattle.rules.specs.options.Options as table
 use Rattle.rules.specs.declared.options.option.Opt.{Opt}
-use Rattle.rules.specs.declared.options.option.Row.{Row}
+use Rattle.rules.specs.declared.options.option.OptionRow.{OptionRow}
 
 -- the row is that of the option
-pub record IsRow (row : Row) (option : Opt) : Type 0 where
-  pub names : shown_names row.names.now ≡ (table.row_of option).names
-  pub values : row.values ≡ (table.row_of option).values
-  pub inverts : row.inverts ≡ (table.row_of option).inverts
-  pub owner : row.owner ≡ (table.row_of option).owner
-  pub slot : row.slot ≡ (table.row_of option).slot
+pub record IsOptionRow (row : OptionRow) (option : Opt) : Type 0 where
+  pub names : names_now row.names.now ≡ (table.option_row option).names
+  pub values : row.values ≡ (table.option_row option).values
+  pub inverts : row.inverts ≡ (table.option_row option).inverts
+  pub owner : row.owner ≡ (table.option_row option).owner
+  pub slot : row.slot ≡ (table.option_row option).slot

@@ -7,23 +7,31 @@ use Rattle.rules.specs.declared.reading.fault.Refusal.{Refusal}
 use Rattle.rules.specs.declared.reading.fault.RuleFault.{RuleFault}
 use Rattle.fields.specs.steps.Cutting.{view_words}
 use Rattle.rules.specs.rule.Rules as rules
-use Rattle.rules.specs.reading.Steps as steps
+use Rattle.rules.specs.reading.OptionWords as words
 use Rattle.rules.specs.declared.rule.content.Match.{Match}
-use Rattle.rules.specs.declared.rule.content.Draft.{Draft}
-use Rattle.rules.specs.declared.reading.option_words.Part.{Part}
+use Rattle.rules.specs.declared.rule.content.Content.{Content}
+use Rattle.rules.specs.declared.reading.option_words.OptionWords.{OptionWords}
 
+-- a match as the definitions have it
 abbrev pub view_match : Match → rules.Match
 view_match m = record { kind = m.kind; settings = m.settings.items }
 
+-- matches as the definitions have them
 abbrev pub view_matches : List Match → List rules.Match
 view_matches ms = map view_match ms
 
-abbrev pub view_draft : Draft → rules.Rule
-view_draft d = record { settings = d.settings.items; matches = view_matches d.matches.items; action = d.action; extras = d.extras.items }
+-- what a rule holds as the definitions have it
+abbrev pub view_content : Content → rules.Rule
+view_content c = record { settings = c.settings.items; matches = view_matches c.matches.items; action = c.action; target_options = c.target_options.items }
 
-abbrev pub view_part : Part → steps.Part
-view_part p = record { inverted = p.inverted; option = p.option; values = view_words p.values.now; place = p.place }
+-- an option with the words of its values as the definitions have it
+abbrev pub view_option_words : OptionWords → words.OptionWords
+view_option_words p = record { inverted = p.inverted; option = p.option; values = view_words p.values.now; place = p.place }
 
--- A part and the words behind it are what the definition gives.
-abbrev pub PartGives : Result (Part × Bor (List (Vec ℕ))) RuleFault → Result (steps.Part × List (List ℕ)) Refusal → Type 0
-PartGives r given = Gives (λ (x : Part × Bor (List (Vec ℕ))). (view_part x.0, view_words x.1.now)) r given
+-- an option of the code and the words after it
+abbrev pub Lent : Type 0
+Lent = OptionWords × Bor (List (Vec ℕ))
+
+-- an option and the words after it are what the definition gives
+abbrev pub OptionWordsGive : Result Lent RuleFault → Result (words.OptionWords × List (List ℕ)) Refusal → Type 0
+OptionWordsGive r given = Gives (λ (x : Lent). (view_option_words x.0, view_words x.1.now)) r given

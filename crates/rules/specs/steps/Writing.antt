@@ -18,7 +18,7 @@ use Rattle.rules.specs.options.Settings.{option_of_value}
 use Rattle.rules.specs.rule.Rules.{Match}
 use Rattle.rules.specs.printing.Printing.{shown_setting, shown_action}
 use Rattle.rules.specs.declared.rule.action.Action.{Action}
-use Rattle.rules.specs.declared.options.match_kind.Kind.{Kind}
+use Rattle.rules.specs.declared.options.match_kind.MatchKind.{MatchKind}
 use Rattle.rules.specs.declared.options.setting.Setting.{Setting}
 use Rattle.rules.specs.declared.options.value.Value.{Value}
 use Rattle.rules.specs.declared.options.value.Value.TheVariants as value
@@ -27,7 +27,7 @@ use Rattle.rules.specs.declared.options.value.Value.TheVariants as value
 abbrev pub has_words : Value → Bool
 has_words v = nat_lt 0 (value_count (option_of_value v))
 
--- what is written of a value behind the blank
+-- what is written of a value after the blank
 abbrev pub value_text : Value → List ℕ
 value_text (value.Source x) = prefix_text x
 value_text (value.Destination x) = prefix_text x
@@ -54,15 +54,18 @@ value_text value.LogTcpOptions = []
 value_text value.LogIpOptions = []
 value_text value.LogUid = []
 
+-- an option's text, each of its words after a blank
 abbrev pub setting_text : Setting → List ℕ
 setting_text s = spaced_all (shown_setting s)
 
 -- the text that starts a match
-unfoldable pub start_text : Kind → List ℕ
+unfoldable pub start_text : MatchKind → List ℕ
 start_text k = spaced (bare (codes "-m")) ++ spaced (bare (kind_name k))
 
+-- a match's text
 abbrev pub match_text : Match → List ℕ
 match_text m = start_text m.kind ++ flat_map setting_text m.settings
 
+-- a target's text without its options
 abbrev pub action_text : Option Action → List ℕ
 action_text a = spaced_all (shown_action a)

@@ -5,12 +5,12 @@ ghost use Rattle.fields.specs.numbers.Field.{top};
 ghost use Rattle.fields.specs.numbers.Spans.{SpanSet};
 ghost use Rattle.rules.specs.rule.Allows.{setting_allows, match_allows, fragment_allows};
 ghost use Rattle.rules.specs.boxing.Boxed.{IsBox, IsBoxOf, set_on};
-ghost use Rattle.rules.specs.steps.Conditions.{IsWhole, Narrows, condition_allows};
+ghost use Rattle.rules.specs.steps.Conditions.{HasAllNumbers, Narrows, condition_allows};
 ghost use Rattle.rules.specs.steps.Views.{view_match, view_matches};
 
 use crate::boxing::condition::Condition;
 use crate::rule::content::Match;
-use crate::options::match_kind::Kind;
+use crate::options::match_kind::MatchKind;
 use crate::rule::Rule;
 use crate::options::setting::Setting;
 use crate::boxing::work::Work;
@@ -42,7 +42,7 @@ impl Model for Boxed {
 // Puts all numbers on each field.
 fn open(alloc: Global, spans: &mut [Spans]) -> Result<(), AllocError>
     requires { length spans.old ≡ FIELDS }
-    ensures { OnOk result ((k : ℕ) (s : SpanSet) → k < FIELDS → IsWhole k (slice_index_or spans.new k s)) }
+    ensures { OnOk result ((k : ℕ) (s : SpanSet) → k < FIELDS → HasAllNumbers k (slice_index_or spans.new k s)) }
 {
     for place in 0..FIELDS {
         spans[place] = Spans::whole(alloc, Field::ALL[place].top())?;
@@ -88,7 +88,7 @@ fn narrow_all(alloc: Global, spans: &mut [Spans], settings: &[Setting]) -> Resul
 }
 
 // Leaves the first fragments alone where the match asks for one.
-fn narrow_fragment(alloc: Global, spans: &mut [Spans], kind: Kind) -> Result<(), AllocError>
+fn narrow_fragment(alloc: Global, spans: &mut [Spans], kind: MatchKind) -> Result<(), AllocError>
     requires { IsBox spans.old }
     ensures boxed { IsBox spans.new }
     ensures narrows { OnOk result (Narrows (λ f x. fragment_allows f x kind) spans.old spans.new) }
@@ -140,9 +140,9 @@ impl Boxed {
         work.count();
         let mut spans: [Spans; FIELDS] = array::from_fn(|_| Spans::none(alloc, 0));
         open(alloc, &mut spans)?;
-        let draft = rule.draft();
-        narrow_all(alloc, &mut spans, draft.settings.as_slice())?;
-        narrow_matches(alloc, &mut spans, draft.matches.as_slice())?;
+        let content = rule.content();
+        narrow_all(alloc, &mut spans, content.settings.as_slice())?;
+        narrow_matches(alloc, &mut spans, content.matches.as_slice())?;
         Ok(Boxed { spans })
     }
 

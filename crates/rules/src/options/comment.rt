@@ -1,17 +1,18 @@
 // The text of a comment.
 ghost use Rattle.std.specs.Prelude.{◌≡◌, ◌≤◌, length, false, IfOk, Ok};
-ghost use Rattle.fields.specs.text.Printed.{as_text, spelling};
+ghost use Rattle.rules.specs.options.Settings.{text_within};
 ghost use Rattle.fields.specs.text.Tap.{has_failed, Puts};
-ghost use Rattle.fields.specs.values.FreeText.{text_of, quoted};
-ghost use Rattle.rules.specs.Sequence.{Gives, or_refused};
+ghost use Rattle.fields.specs.values.FreeText.{quoted};
+ghost use Rattle.rules.specs.Sequence.{Gives, RefusesFirst};
 
-use crate::reading::fault::{Refusal, RuleFault};
+use crate::options::value::text_within;
+use crate::reading::fault::RuleFault;
 use fields::{Tap, Text, WriteFailed};
 use std::alloc::{AllocError, Global};
 use std::io::Write;
 use std::marker::Model;
 
-/// A comment of at most 256 bytes, in memory of its own, so that other values stay small.
+// A comment of at most 256 bytes, in memory of its own, so that other values stay small.
 #[derive(Drop)]
 pub(crate) struct Comment {
     text: Box<Text<256>>,
@@ -40,27 +41,26 @@ impl PartialEq for Comment {
 }
 
 impl Comment {
-    /// The comment of these bytes.
+    // The comment of these bytes; it is refused before memory is taken.
     pub(crate) fn read(alloc: Global, bytes: &[u8]) -> Result<Comment, RuleFault>
-        ensures { Gives (λ x. x) result (or_refused Refusal.TextTooLong (text_of 256 bytes.now)) }
+        ensures gives { Gives (λ x. x) result (text_within 256 bytes.now) }
+        ensures refuses { RefusesFirst result (text_within 256 bytes.now) }
     {
-        match Text::read(bytes) {
-            None => Err(RuleFault::Refused(Refusal::TextTooLong)),
-            Some(text) => match Box::new(alloc, text) {
-                Ok(text) => Ok(Comment { text }),
-                Err(_) => Err(RuleFault::NoMemory),
-            },
+        let text = text_within(bytes)?;
+        match Box::new(alloc, text) {
+            Ok(text) => Ok(Comment { text }),
+            Err(_) => Err(RuleFault::NoMemory),
         }
     }
 
-    /// The bytes of the comment.
+    // The bytes of the comment.
     pub(crate) fn bytes(&self) -> &[u8]
         ensures { result.now ≡ self.now }
     {
         self.text.bytes()
     }
 
-    /// The same comment again.
+    // The same comment again.
     pub(crate) fn copy(&self, alloc: Global) -> Result<Comment, AllocError>
         ensures { IfOk result (λ copy. copy ≡ self.now) }
     {
@@ -68,7 +68,7 @@ impl Comment {
         Ok(Comment { text })
     }
 
-    /// Writes the comment as one word.
+    // Writes the comment as one word.
     pub(crate) fn put<W: Write>(&self, output: &mut Tap<W>) -> Result<(), WriteFailed>
         requires { has_failed output.old ≡ false }
         ensures { Puts W.contents output.old output.new result (quoted self.now) }

@@ -4,7 +4,7 @@ ghost use Rattle.rules.specs.options.Matches.{kind_of, same_kind};
 
 /// A match (iptables-extensions(8)).
 #[derive(Clone, Copy, Debug, PartialEq, Eq)]
-pub(crate) enum Kind {
+pub(crate) enum MatchKind {
     Tcp,
     Udp,
     Icmp,
@@ -18,48 +18,48 @@ pub(crate) enum Kind {
 // A match's name, the protocols of which it needs one (none: it needs no protocol), whether it needs an option, and whether it
 // asks for a first fragment.
 #[derive(Clone, Copy)]
-pub(crate) struct KindRow {
+pub(crate) struct MatchRow {
     pub(crate) name: &'static [u8],
     pub(crate) protocols: &'static [u8],
     pub(crate) needs_option: bool,
     pub(crate) asks_fragment: bool,
 }
 
-impl Kind {
-    ghost use Rattle.rules.specs.steps.MatchRows.{IsKindRow};
+impl MatchKind {
+    ghost use Rattle.rules.specs.steps.MatchRows.{IsMatchRow};
 
     // Each match.
-    pub(crate) const ALL: [Kind; 8] = [
-        Kind::Tcp,
-        Kind::Udp,
-        Kind::Icmp,
-        Kind::Multiport,
-        Kind::Iprange,
-        Kind::Conntrack,
-        Kind::State,
-        Kind::Comment,
+    pub(crate) const ALL: [MatchKind; 8] = [
+        MatchKind::Tcp,
+        MatchKind::Udp,
+        MatchKind::Icmp,
+        MatchKind::Multiport,
+        MatchKind::Iprange,
+        MatchKind::Conntrack,
+        MatchKind::State,
+        MatchKind::Comment,
     ];
 
     // Those that an option may start by itself.
-    pub(crate) const IMPLIED: [Kind; 3] = [Kind::Tcp, Kind::Udp, Kind::Icmp];
+    pub(crate) const IMPLIED: [MatchKind; 3] = [MatchKind::Tcp, MatchKind::Udp, MatchKind::Icmp];
 
     // The row of the match.
-    pub(crate) fn row(self) -> KindRow
-        ensures { IsKindRow result self }
+    pub(crate) fn row(self) -> MatchRow
+        ensures { IsMatchRow result self }
     {
         match self {
-            Kind::Tcp => KindRow::of(b"tcp", &[6], false, true),
-            Kind::Udp => KindRow::of(b"udp", &[17], false, true),
-            Kind::Icmp => KindRow::of(b"icmp", &[1], false, true),
-            Kind::Multiport => KindRow::of(b"multiport", &[6, 17, 136, 33, 132], true, true),
-            Kind::Iprange => KindRow::of(b"iprange", &[], true, false),
-            Kind::Conntrack => KindRow::of(b"conntrack", &[], true, false),
-            Kind::State => KindRow::of(b"state", &[], true, false),
-            Kind::Comment => KindRow::of(b"comment", &[], true, false),
+            MatchKind::Tcp => MatchRow::of(b"tcp", &[6], false, true),
+            MatchKind::Udp => MatchRow::of(b"udp", &[17], false, true),
+            MatchKind::Icmp => MatchRow::of(b"icmp", &[1], false, true),
+            MatchKind::Multiport => MatchRow::of(b"multiport", &[6, 17, 136, 33, 132], true, true),
+            MatchKind::Iprange => MatchRow::of(b"iprange", &[], true, false),
+            MatchKind::Conntrack => MatchRow::of(b"conntrack", &[], true, false),
+            MatchKind::State => MatchRow::of(b"state", &[], true, false),
+            MatchKind::Comment => MatchRow::of(b"comment", &[], true, false),
         }
     }
 
-    pub(crate) fn is(self, other: Kind) -> bool
+    pub(crate) fn is(self, other: MatchKind) -> bool
         ensures { result ≡ same_kind self other }
     {
         self as u8 == other as u8
@@ -67,26 +67,26 @@ impl Kind {
 
     // The match of a name.
     #[tactic(auto, unfolding(crate::specs::options::Matches::kind_of))]
-    pub(crate) fn read(name: &[u8]) -> Option<Kind>
+    pub(crate) fn read(name: &[u8]) -> Option<MatchKind>
         ensures { result ≡ kind_of name.now }
     {
-        Kind::ALL
+        MatchKind::ALL
             .iter()
             .copied()
             .find(|kind| kind.row().name == name)
     }
 }
 
-impl KindRow {
+impl MatchRow {
     fn of(
         name: &'static [u8],
         protocols: &'static [u8],
         needs_option: bool,
         asks_fragment: bool,
-    ) -> KindRow
+    ) -> MatchRow
         ensures { result ≡ record { name = name.entry; protocols = protocols.entry; needs_option = needs_option; asks_fragment = asks_fragment } }
     {
-        KindRow {
+        MatchRow {
             name,
             protocols,
             needs_option,

@@ -2,10 +2,10 @@
 ghost use Rattle.std.specs.Prelude.{◌≡◌, Option, Some, None};
 ghost use Rattle.std.specs.List.{list_any};
 ghost use Rattle.std.specs.Str.{bytes_eq};
-ghost use Rattle.rules.specs.steps.OptionNames.{shown_names};
+ghost use Rattle.rules.specs.steps.OptionNames.{names_now};
 ghost use Rattle.rules.specs.options.Options.{option_of, name_of, spells, is_one_of, is_match_of, kind_has};
 
-use crate::options::match_kind::Kind;
+use crate::options::match_kind::MatchKind;
 
 /// An option, whatever its spelling.
 #[derive(Clone, Copy)]
@@ -42,9 +42,9 @@ pub(crate) enum Opt {
 
 /// The matches that have an option.
 #[derive(Clone, Copy)]
-pub(crate) enum Kinds {
-    One(Kind),
-    Either(Kind, Kind),
+pub(crate) enum MatchKinds {
+    One(MatchKind),
+    Either(MatchKind, MatchKind),
 }
 
 /// The targets that have options.
@@ -66,7 +66,7 @@ pub(crate) enum Owner {
     /// It names a chain to go on with.
     Goto,
     /// A match.
-    Match(Kinds),
+    Match(MatchKinds),
     /// A target.
     Target(Extended),
 }
@@ -74,7 +74,7 @@ pub(crate) enum Owner {
 /// An option's spellings, of which the first is printed, how many values follow it, whether `!` may stand before it, what
 /// it belongs to, and its place among the options of its owner. Options of one place count as one.
 #[derive(Clone, Copy)]
-pub(crate) struct Row {
+pub(crate) struct OptionRow {
     pub(crate) names: &'static [&'static [u8]],
     pub(crate) values: usize,
     pub(crate) inverts: bool,
@@ -82,19 +82,19 @@ pub(crate) struct Row {
     pub(crate) slot: u8,
 }
 
-const PORTS: Owner = Owner::Match(Kinds::Either(Kind::Tcp, Kind::Udp));
+const PORTS: Owner = Owner::Match(MatchKinds::Either(MatchKind::Tcp, MatchKind::Udp));
 
-impl Row {
+impl OptionRow {
     fn of(
         names: &'static [&'static [u8]],
         values: usize,
         inverts: bool,
         owner: Owner,
         slot: u8,
-    ) -> Row
+    ) -> OptionRow
         ensures { result ≡ record { names = names.entry; values = values; inverts = inverts; owner = owner; slot = slot } }
     {
-        Row {
+        OptionRow {
             names,
             values,
             inverts,
@@ -105,7 +105,7 @@ impl Row {
 }
 
 impl Opt {
-    ghost use Rattle.rules.specs.steps.OptionRows.{IsRow};
+    ghost use Rattle.rules.specs.steps.OptionRows.{IsOptionRow};
 
     // Each option.
     pub(crate) const ALL: [Opt; 28] = [
@@ -140,92 +140,92 @@ impl Opt {
     ];
 
     // The row of the option.
-    pub(crate) fn row(self) -> Row
-        ensures { IsRow result self }
+    pub(crate) fn row(self) -> OptionRow
+        ensures { IsOptionRow result self }
     {
         match self {
-            Opt::Source => Row::of(&[b"-s", b"--source", b"--src"], 1, true, Owner::Rule, 0),
-            Opt::Destination => Row::of(
+            Opt::Source => OptionRow::of(&[b"-s", b"--source", b"--src"], 1, true, Owner::Rule, 0),
+            Opt::Destination => OptionRow::of(
                 &[b"-d", b"--destination", b"--dst"],
                 1,
                 true,
                 Owner::Rule,
                 1,
             ),
-            Opt::InInterface => Row::of(&[b"-i", b"--in-interface"], 1, true, Owner::Rule, 2),
-            Opt::OutInterface => Row::of(&[b"-o", b"--out-interface"], 1, true, Owner::Rule, 3),
-            Opt::Protocol => Row::of(&[b"-p", b"--protocol"], 1, true, Owner::Rule, 4),
-            Opt::Fragment => Row::of(&[b"-f", b"--fragment"], 0, true, Owner::Rule, 5),
-            Opt::Match => Row::of(&[b"-m", b"--match"], 1, false, Owner::Start, 0),
-            Opt::Jump => Row::of(&[b"-j", b"--jump"], 1, false, Owner::Jump, 0),
-            Opt::Goto => Row::of(&[b"-g", b"--goto"], 1, false, Owner::Goto, 0),
-            Opt::SourcePort => Row::of(&[b"--sport", b"--source-port"], 1, true, PORTS, 0),
-            Opt::DestinationPort => Row::of(
+            Opt::InInterface => OptionRow::of(&[b"-i", b"--in-interface"], 1, true, Owner::Rule, 2),
+            Opt::OutInterface => OptionRow::of(&[b"-o", b"--out-interface"], 1, true, Owner::Rule, 3),
+            Opt::Protocol => OptionRow::of(&[b"-p", b"--protocol"], 1, true, Owner::Rule, 4),
+            Opt::Fragment => OptionRow::of(&[b"-f", b"--fragment"], 0, true, Owner::Rule, 5),
+            Opt::Match => OptionRow::of(&[b"-m", b"--match"], 1, false, Owner::Start, 0),
+            Opt::Jump => OptionRow::of(&[b"-j", b"--jump"], 1, false, Owner::Jump, 0),
+            Opt::Goto => OptionRow::of(&[b"-g", b"--goto"], 1, false, Owner::Goto, 0),
+            Opt::SourcePort => OptionRow::of(&[b"--sport", b"--source-port"], 1, true, PORTS, 0),
+            Opt::DestinationPort => OptionRow::of(
                 &[b"--dport", b"--destination-port"],
                 1,
                 true,
                 PORTS,
                 1,
             ),
-            Opt::TcpFlags => Row::of(&[b"--tcp-flags"], 2, true, of(Kind::Tcp), 2),
-            Opt::Syn => Row::of(&[b"--syn"], 0, true, of(Kind::Tcp), 2),
-            Opt::IcmpType => Row::of(&[b"--icmp-type"], 1, true, of(Kind::Icmp), 0),
-            Opt::SourcePorts => Row::of(
+            Opt::TcpFlags => OptionRow::of(&[b"--tcp-flags"], 2, true, of(MatchKind::Tcp), 2),
+            Opt::Syn => OptionRow::of(&[b"--syn"], 0, true, of(MatchKind::Tcp), 2),
+            Opt::IcmpType => OptionRow::of(&[b"--icmp-type"], 1, true, of(MatchKind::Icmp), 0),
+            Opt::SourcePorts => OptionRow::of(
                 &[b"--sports", b"--source-ports"],
                 1,
                 true,
-                of(Kind::Multiport),
+                of(MatchKind::Multiport),
                 0,
             ),
-            Opt::DestinationPorts => Row::of(
+            Opt::DestinationPorts => OptionRow::of(
                 &[b"--dports", b"--destination-ports"],
                 1,
                 true,
-                of(Kind::Multiport),
+                of(MatchKind::Multiport),
                 0,
             ),
-            Opt::SourceRange => Row::of(&[b"--src-range"], 1, true, of(Kind::Iprange), 0),
-            Opt::DestinationRange => Row::of(&[b"--dst-range"], 1, true, of(Kind::Iprange), 1),
-            Opt::Ctstate => Row::of(&[b"--ctstate"], 1, true, of(Kind::Conntrack), 0),
-            Opt::State => Row::of(&[b"--state"], 1, true, of(Kind::State), 0),
-            Opt::Comment => Row::of(&[b"--comment"], 1, false, of(Kind::Comment), 0),
-            Opt::RejectWith => Row::of(
+            Opt::SourceRange => OptionRow::of(&[b"--src-range"], 1, true, of(MatchKind::Iprange), 0),
+            Opt::DestinationRange => OptionRow::of(&[b"--dst-range"], 1, true, of(MatchKind::Iprange), 1),
+            Opt::Ctstate => OptionRow::of(&[b"--ctstate"], 1, true, of(MatchKind::Conntrack), 0),
+            Opt::State => OptionRow::of(&[b"--state"], 1, true, of(MatchKind::State), 0),
+            Opt::Comment => OptionRow::of(&[b"--comment"], 1, false, of(MatchKind::Comment), 0),
+            Opt::RejectWith => OptionRow::of(
                 &[b"--reject-with"],
                 1,
                 false,
                 Owner::Target(Extended::Reject),
                 0,
             ),
-            Opt::LogPrefix => Row::of(
+            Opt::LogPrefix => OptionRow::of(
                 &[b"--log-prefix"],
                 1,
                 false,
                 Owner::Target(Extended::Log),
                 0,
             ),
-            Opt::LogLevel => Row::of(&[b"--log-level"], 1, false, Owner::Target(Extended::Log), 1),
-            Opt::LogTcpSequence => Row::of(
+            Opt::LogLevel => OptionRow::of(&[b"--log-level"], 1, false, Owner::Target(Extended::Log), 1),
+            Opt::LogTcpSequence => OptionRow::of(
                 &[b"--log-tcp-sequence"],
                 0,
                 false,
                 Owner::Target(Extended::Log),
                 2,
             ),
-            Opt::LogTcpOptions => Row::of(
+            Opt::LogTcpOptions => OptionRow::of(
                 &[b"--log-tcp-options"],
                 0,
                 false,
                 Owner::Target(Extended::Log),
                 3,
             ),
-            Opt::LogIpOptions => Row::of(
+            Opt::LogIpOptions => OptionRow::of(
                 &[b"--log-ip-options"],
                 0,
                 false,
                 Owner::Target(Extended::Log),
                 4,
             ),
-            Opt::LogUid => Row::of(&[b"--log-uid"], 0, false, Owner::Target(Extended::Log), 5),
+            Opt::LogUid => OptionRow::of(&[b"--log-uid"], 0, false, Owner::Target(Extended::Log), 5),
         }
     }
 
@@ -258,7 +258,7 @@ impl Opt {
 
 // Whether a word is one of these.
 fn is_among(names: &[&[u8]], word: &[u8]) -> bool
-    ensures { result ≡ list_any (bytes_eq word.now) (shown_names names.now) }
+    ensures { result ≡ list_any (bytes_eq word.now) (names_now names.now) }
 {
     for name in names {
         if word == *name {
@@ -269,24 +269,24 @@ fn is_among(names: &[&[u8]], word: &[u8]) -> bool
 }
 
 // Belongs to one match.
-fn of(kind: Kind) -> Owner
-    ensures { result ≡ Owner.Match (Kinds.One kind) }
+fn of(kind: MatchKind) -> Owner
+    ensures { result ≡ Owner.Match (MatchKinds.One kind) }
 {
-    Owner::Match(Kinds::One(kind))
+    Owner::Match(MatchKinds::One(kind))
 }
 
-impl Kinds {
-    fn has(self, kind: Kind) -> bool
+impl MatchKinds {
+    fn has(self, kind: MatchKind) -> bool
         ensures { result ≡ is_one_of self kind }
     {
         match self {
-            Kinds::One(one) => one.is(kind),
-            Kinds::Either(one, other) => one.is(kind) || other.is(kind),
+            MatchKinds::One(one) => one.is(kind),
+            MatchKinds::Either(one, other) => one.is(kind) || other.is(kind),
         }
     }
 }
 
-impl Kind {
+impl MatchKind {
     // Whether the match has the option.
     pub(crate) fn has(self, option: Opt) -> bool
         ensures { result ≡ kind_has self option }

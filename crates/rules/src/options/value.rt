@@ -1,8 +1,8 @@
 // The values of options.
 ghost use Rattle.std.specs.Prelude.{◌≡◌, ◌≤◌, Option, Some, None, List, length};
-ghost use Rattle.rules.specs.Sequence.{Gives, or_refused};
+ghost use Rattle.rules.specs.Sequence.{Gives, RefusesFirst, or_refused};
 ghost use Rattle.rules.specs.options.Options.{first_of};
-ghost use Rattle.rules.specs.options.Settings.{option_of_value, is_trivial, value_of, second_of, with_opposite};
+ghost use Rattle.rules.specs.options.Settings.{option_of_value, is_trivial, value_of, second_of, text_within, with_opposite};
 ghost use Rattle.fields.specs.steps.Cutting.{view_words};
 ghost use Rattle.fields.specs.values.Protocol.{protocol_of};
 
@@ -15,7 +15,7 @@ use fields::{
 };
 use std::alloc::Global;
 
-/// A value, of the option that it is named after.
+// A value, of the option that it is named after.
 #[derive(Drop)]
 pub(crate) enum Value {
     Source(Prefix),
@@ -45,6 +45,7 @@ pub(crate) enum Value {
 }
 
 impl Value {
+    // The option of the value.
     pub(crate) fn option(&self) -> Opt
         ensures { result ≡ option_of_value self.now }
     {
@@ -97,8 +98,10 @@ impl Value {
     }
 }
 
+// What was read, or a bad value.
 pub(crate) fn bad<T>(value: Option<T>) -> Result<T, RuleFault>
-    ensures { Gives (λ x. x) result (or_refused Refusal.BadValue value) }
+    ensures gives { Gives (λ x. x) result (or_refused Refusal.BadValue value) }
+    ensures refuses { RefusesFirst result (or_refused Refusal.BadValue value) }
 {
     match value {
         Some(value) => Ok(value),
@@ -106,13 +109,15 @@ pub(crate) fn bad<T>(value: Option<T>) -> Result<T, RuleFault>
     }
 }
 
-fn too_long<T>(value: Option<T>) -> Result<T, RuleFault>
-    ensures { Gives (λ x. x) result (or_refused Refusal.TextTooLong value) }
+// A text of at most `N` bytes; with more it is too long, whatever they are.
+pub(crate) fn text_within<const N: usize>(bytes: &[u8]) -> Result<Text<N>, RuleFault>
+    ensures gives { Gives (λ x. x) result (text_within N bytes.now) }
+    ensures refuses { RefusesFirst result (text_within N bytes.now) }
 {
-    match value {
-        Some(value) => Ok(value),
-        None => Err(RuleFault::Refused(Refusal::TextTooLong)),
+    if bytes.len() > N {
+        return Err(RuleFault::Refused(Refusal::TextTooLong));
     }
+    bad(Text::read(bytes))
 }
 
 // The protocol; all protocols have no opposite.
@@ -146,7 +151,7 @@ fn second_of(words: &[Vec<u8>]) -> &[u8]
     }
 }
 
-// The value that the words behind an option give it.
+// The value that the words after an option give it; it is refused before memory is taken.
 #[tactic(auto, unfolding(crate::specs::options::Settings::value_of))]
 pub(crate) fn value_of(
     alloc: Global,
@@ -154,7 +159,8 @@ pub(crate) fn value_of(
     inverted: bool,
     words: &[Vec<u8>],
 ) -> Result<Value, RuleFault>
-    ensures { Gives (λ x. x) result (value_of option inverted (view_words words.now)) }
+    ensures gives { Gives (λ x. x) result (value_of option inverted (view_words words.now)) }
+    ensures refuses { RefusesFirst result (value_of option inverted (view_words words.now)) }
 {
     let text = first_of(words);
     match option {
@@ -177,7 +183,7 @@ pub(crate) fn value_of(
         Opt::State => Ok(Value::State(bad(CtSet::read_state(text))?)),
         Opt::Comment => Ok(Value::Comment(Comment::read(alloc, text)?)),
         Opt::RejectWith => Ok(Value::RejectWith(bad(RejectType::read(text))?)),
-        Opt::LogPrefix => Ok(Value::LogPrefix(too_long(Text::read(text))?)),
+        Opt::LogPrefix => Ok(Value::LogPrefix(text_within(text)?)),
         Opt::LogLevel => Ok(Value::LogLevel(bad(LogLevel::read(text))?)),
         Opt::LogTcpSequence => Ok(Value::LogTcpSequence),
         Opt::LogTcpOptions => Ok(Value::LogTcpOptions),

@@ -1,25 +1,25 @@
-// What is no condition taken out of a rule, and what is meant where nothing is said put in.
+// The form in which a rule is kept: without what is no condition, and with what is meant where nothing is said.
 ghost use Rattle.std.specs.Prelude.{◌≡◌, ◌≤◌, Option, Some, None, Ok, List, filter, map, IfOk};
 ghost use Rattle.rules.specs.Sequence.{Gives};
 ghost use Rattle.rules.specs.options.Settings.{is_condition};
-ghost use Rattle.rules.specs.rule.Rules.{match_default, action_default, or_default, completed_match, completed};
-ghost use Rattle.rules.specs.steps.Views.{view_match, view_matches, view_draft};
+ghost use Rattle.rules.specs.rule.Rules.{match_default, action_default, or_default, normal_match, normal_form};
+ghost use Rattle.rules.specs.steps.Views.{view_match, view_matches, view_content};
 
 use crate::rule::action::Action;
-use crate::rule::content::{Draft, Match};
+use crate::rule::content::{Content, Match};
 use crate::reading::fault::RuleFault;
-use crate::options::match_kind::Kind;
+use crate::options::match_kind::MatchKind;
 use crate::options::setting::Setting;
 use crate::options::value::Value;
 use fields::{IcmpType, RejectType};
 use std::alloc::AllocError;
 
 // What a match asks where its option isn't given.
-fn match_default(kind: Kind) -> Option<Value>
+fn match_default(kind: MatchKind) -> Option<Value>
     ensures { result ≡ match_default kind }
 {
     match kind {
-        Kind::Icmp => Some(Value::IcmpType(IcmpType::any())),
+        MatchKind::Icmp => Some(Value::IcmpType(IcmpType::any())),
         _ => None,
     }
 }
@@ -34,6 +34,7 @@ fn action_default(action: &Option<Action>) -> Option<Value>
     }
 }
 
+// Puts in what is meant where nothing is said.
 fn add_default(settings: &mut Vec<Setting>, value: Value) -> Result<(), AllocError>
     ensures { IfOk result (λ _. settings.new.items ≡ or_default (Some value) settings.old.items) }
 {
@@ -46,13 +47,15 @@ fn add_default(settings: &mut Vec<Setting>, value: Value) -> Result<(), AllocErr
     Ok(())
 }
 
+// Takes out what is no condition.
 fn keep_conditions(settings: &mut Vec<Setting>)
     ensures { settings.new.items ≡ filter is_condition settings.old.items }
 {
     settings.retain(|setting| setting.is_condition());
 }
 
-fn complete(settings: &mut Vec<Setting>, default: Option<Value>) -> Result<(), AllocError>
+// Brings options to the form in which they are kept.
+fn normalize_options(settings: &mut Vec<Setting>, default: Option<Value>) -> Result<(), AllocError>
     ensures { IfOk result (λ _. settings.new.items ≡ or_default default (filter is_condition settings.old.items)) }
 {
     keep_conditions(settings);
@@ -62,37 +65,40 @@ fn complete(settings: &mut Vec<Setting>, default: Option<Value>) -> Result<(), A
     }
 }
 
-fn complete_match(one: &mut Match) -> Result<(), AllocError>
-    ensures { IfOk result (λ _. view_match one.new ≡ completed_match (view_match one.old)) }
+// Brings a match to that form.
+fn normalize_match(one: &mut Match) -> Result<(), AllocError>
+    ensures { IfOk result (λ _. view_match one.new ≡ normal_match (view_match one.old)) }
 {
     let default = match_default(one.kind);
-    complete(&mut one.settings, default)
+    normalize_options(&mut one.settings, default)
 }
 
-fn complete_matches(matches: &mut [Match]) -> Result<(), AllocError>
-    ensures { IfOk result (λ _. view_matches matches.new ≡ map completed_match (view_matches matches.old)) }
+// Brings each match to that form.
+fn normalize_matches(matches: &mut [Match]) -> Result<(), AllocError>
+    ensures { IfOk result (λ _. view_matches matches.new ≡ map normal_match (view_matches matches.old)) }
 {
     for one in matches.iter_mut() {
-        complete_match(one)?;
+        normalize_match(one)?;
     }
     Ok(())
 }
 
-fn complete_parts(draft: &mut Draft) -> Result<(), AllocError>
-    ensures { IfOk result (λ _. view_draft draft.new ≡ completed (view_draft draft.old)) }
+// Brings a rule to that form.
+fn normalize(content: &mut Content) -> Result<(), AllocError>
+    ensures { IfOk result (λ _. view_content content.new ≡ normal_form (view_content content.old)) }
 {
-    complete(&mut draft.settings, None)?;
-    complete_matches(draft.matches.as_mut_slice())?;
-    let default = action_default(&draft.action);
-    complete(&mut draft.extras, default)
+    normalize_options(&mut content.settings, None)?;
+    normalize_matches(content.matches.as_mut_slice())?;
+    let default = action_default(&content.action);
+    normalize_options(&mut content.target_options, default)
 }
 
-// The rule as it is kept.
-pub(crate) fn completed(mut draft: Draft) -> Result<Draft, RuleFault>
-    ensures { Gives view_draft result (Ok (completed (view_draft draft))) }
+// The rule in that form.
+pub(crate) fn normalized(mut content: Content) -> Result<Content, RuleFault>
+    ensures { Gives view_content result (Ok (normal_form (view_content content))) }
 {
-    match complete_parts(&mut draft) {
-        Ok(()) => return Ok(draft),
+    match normalize(&mut content) {
+        Ok(()) => return Ok(content),
         Err(_) => return Err(RuleFault::NoMemory),
     }
 }

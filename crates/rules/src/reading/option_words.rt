@@ -1,54 +1,58 @@
-// A part of a rule's words: an option with its values.
+// An option as words give it: an optional `!`, a spelling of the option, its values.
 ghost use Rattle.std.specs.Prelude.{◌≡◌, ◌≤◌, ◌<◌, ◌+◌, ◌-◌, Option, Some, None, List, length, IfOk};
 ghost use Rattle.fields.specs.steps.Cutting.{view_words};
-ghost use Rattle.rules.specs.reading.Steps.{with_values, inverted_part, behind_bang, plain_part, part_at};
-ghost use Rattle.rules.specs.steps.Views.{PartGives};
+ghost use Rattle.rules.specs.reading.OptionWords.{with_values, inverted_words, after_bang, plain_words, option_words_at};
+ghost use Rattle.rules.specs.steps.Views.{OptionWordsGive};
 
 use crate::reading::fault::{Refusal, RuleFault};
 use crate::options::option::Opt;
 
+// An option with the words of its values, which are lent, and the place of the option's word.
 #[derive(Drop)]
-pub(crate) struct Part<'a> {
+pub(crate) struct OptionWords<'a> {
     pub(crate) inverted: bool,
     pub(crate) option: Opt,
     pub(crate) values: &'a [Vec<u8>],
     pub(crate) place: usize,
 }
 
+// The answer that refuses.
 fn refused<T>(refusal: Refusal) -> Result<T, RuleFault>
     ensures { result ≡ Err (RuleFault.Refused refusal) }
 {
     Err(RuleFault::Refused(refusal))
 }
 
+// An option takes the words of its values, whatever they look like.
 fn with_values<'a>(
     inverted: bool,
     option: Opt,
     place: usize,
     words: &'a [Vec<u8>],
-) -> Result<(Part<'a>, &'a [Vec<u8>]), RuleFault>
-    ensures gives { PartGives result (with_values inverted option place (view_words words.now)) }
+) -> Result<(OptionWords<'a>, &'a [Vec<u8>]), RuleFault>
+    ensures gives { OptionWordsGive result (with_values inverted option place (view_words words.now)) }
     ensures shorter { IfOk result (λ r. length r.1.now ≤ length words.now) }
 {
     let count = option.row().values;
     if words.len() < count {
         return refused(Refusal::ValueMissing);
     }
-    let part = Part {
+    let given = OptionWords {
         inverted,
         option,
         values: &words[..count],
         place,
     };
-    Ok((part, &words[count..]))
+    Ok((given, &words[count..]))
 }
 
-fn inverted_part<'a>(
+// An option after `!`, where it may be inverted.
+fn inverted_words<'a>(
     option: Option<Opt>,
     place: usize,
     words: &'a [Vec<u8>],
-) -> Result<(Part<'a>, &'a [Vec<u8>]), RuleFault>
-    ensures gives { PartGives result (inverted_part option place (view_words words.now)) }
+) -> Result<(OptionWords<'a>, &'a [Vec<u8>]), RuleFault>
+    ensures gives { OptionWordsGive result (inverted_words option place (view_words words.now)) }
     ensures shorter { IfOk result (λ r. length r.1.now ≤ length words.now) }
 {
     let option = match option {
@@ -61,25 +65,27 @@ fn inverted_part<'a>(
     with_values(true, option, place, words)
 }
 
-fn behind_bang<'a>(
+// What stands after `!`.
+fn after_bang<'a>(
     place: usize,
     words: &'a [Vec<u8>],
-) -> Result<(Part<'a>, &'a [Vec<u8>]), RuleFault>
-    ensures gives { PartGives result (behind_bang place (view_words words.now)) }
+) -> Result<(OptionWords<'a>, &'a [Vec<u8>]), RuleFault>
+    ensures gives { OptionWordsGive result (after_bang place (view_words words.now)) }
     ensures shorter { IfOk result (λ r. length r.1.now ≤ length words.now) }
 {
     match words {
         [] => return refused(Refusal::ValueMissing),
-        [word, rest @ ..] => return inverted_part(Opt::read(word.as_slice()), place, rest),
+        [word, rest @ ..] => return inverted_words(Opt::read(word.as_slice()), place, rest),
     }
 }
 
-fn plain_part<'a>(
+// An option without `!`.
+fn plain_words<'a>(
     option: Option<Opt>,
     place: usize,
     words: &'a [Vec<u8>],
-) -> Result<(Part<'a>, &'a [Vec<u8>]), RuleFault>
-    ensures gives { PartGives result (plain_part option place (view_words words.now)) }
+) -> Result<(OptionWords<'a>, &'a [Vec<u8>]), RuleFault>
+    ensures gives { OptionWordsGive result (plain_words option place (view_words words.now)) }
     ensures shorter { IfOk result (λ r. length r.1.now ≤ length words.now) }
 {
     match option {
@@ -88,23 +94,23 @@ fn plain_part<'a>(
     }
 }
 
-// The part at the front of the words, and the words behind it.
-#[tactic(auto, unfolding(crate::specs::reading::Steps::part_at))]
-pub(crate) fn part_at<'a>(
+// The option at the front of the words, and the words after it; `end` is the place after the last word of the line.
+#[tactic(auto, unfolding(crate::specs::reading::OptionWords::option_words_at))]
+pub(crate) fn option_words_at<'a>(
     end: usize,
     words: &'a [Vec<u8>],
-) -> Result<(Part<'a>, &'a [Vec<u8>]), RuleFault>
+) -> Result<(OptionWords<'a>, &'a [Vec<u8>]), RuleFault>
     requires { length words.now ≤ end }
-    ensures gives { PartGives result (part_at end (view_words words.now)) }
+    ensures gives { OptionWordsGive result (option_words_at end (view_words words.now)) }
     ensures shorter { IfOk result (λ r. length r.1.now < length words.now) }
 {
     match words {
         [] => return refused(Refusal::ValueMissing),
         [word, rest @ ..] => {
             if word.as_slice() == b"!".as_slice() {
-                return behind_bang(end - rest.len(), rest);
+                return after_bang(end - rest.len(), rest);
             }
-            return plain_part(Opt::read(word.as_slice()), end - words.len(), rest);
+            return plain_words(Opt::read(word.as_slice()), end - words.len(), rest);
         }
     }
 }

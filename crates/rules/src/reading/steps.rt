@@ -1,32 +1,34 @@
-// A rule as its parts so far make it.
+// A rule as the options read so far make it.
 ghost use Rattle.std.specs.Prelude.{◌≡◌, ◌==◌, ◌||◌, ◌≤◌, ◌<◌, ◌+◌, Option, Some, None, Ok, List, length, IfSome, IfOk, vec_len};
 ghost use Rattle.std.specs.List.{list_any};
 ghost use Rattle.rules.specs.rule.Actions.{action_has};
-ghost use Rattle.rules.specs.Sequence.{Gives, or_refused};
+ghost use Rattle.rules.specs.Sequence.{Gives, RefusesFirst, or_refused};
 ghost use Rattle.rules.specs.options.Matches.{kind_of};
 ghost use Rattle.rules.specs.steps.Places.{rank};
-ghost use Rattle.rules.specs.rule.Rules.{is_given, placed};
 ghost use Rattle.rules.specs.options.Settings.{has_protocol};
-ghost use Rattle.rules.specs.reading.Steps.{added, started, last_with, is_met, is_met_for, implied, is_implied_option, match_for, added_at, has_goto, has_jump, jumped, gone, match_step, step};
-ghost use Rattle.rules.specs.steps.Views.{view_matches, view_draft, view_part};
+ghost use Rattle.rules.specs.reading.Steps.{with_option, with_match, last_with, implied_match, is_implied_option, match_for, with_option_at, has_goto, has_jump, with_jump, with_goto, match_step, step, is_given, insert_by_place};
+ghost use Rattle.rules.specs.rule.Needs.{is_met, is_met_for};
+ghost use Rattle.rules.specs.steps.Views.{view_matches, view_content, view_option_words};
 
 use crate::rule::action::{Action, action_has};
-use crate::rule::content::{Draft, Match};
+use crate::rule::content::{Content, Match};
 use crate::reading::fault::{Refusal, RuleFault};
-use crate::options::match_kind::Kind;
+use crate::options::match_kind::MatchKind;
 use crate::options::option::{Opt, Owner};
-use crate::reading::option_words::Part;
+use crate::reading::option_words::OptionWords;
 use crate::options::setting::{Setting, has_protocol};
 use crate::options::value::{bad, first_of, value_of};
 use fields::Name;
 use std::alloc::Global;
 
+// Whether an option of this place was given.
 fn is_given(settings: &[Setting], slot: u8) -> bool
     ensures { result ≡ is_given slot settings.now }
 {
     settings.iter().any(|s| s.value.option().row().slot == slot)
 }
 
+// How many options stand before the first one of a later place.
 fn rank(settings: &[Setting], slot: u8) -> usize
     ensures value { result ≡ rank slot settings.now }
     ensures within { result ≤ length settings.now }
@@ -40,9 +42,9 @@ fn rank(settings: &[Setting], slot: u8) -> usize
 }
 
 // Puts an option where it belongs among the others.
-#[tactic(auto, using(crate::proofs::laws::reading::PlaceLaws::placed_is))]
+#[tactic(auto, using(crate::proofs::laws::reading::PlaceLaws::inserted_by_place))]
 fn place(settings: &mut Vec<Setting>, slot: u8, setting: Setting) -> Result<(), RuleFault>
-    ensures { Gives (λ _. settings.new.items) result (Ok (placed slot setting settings.old.items)) }
+    ensures { Gives (λ _. settings.new.items) result (Ok (insert_by_place slot setting settings.old.items)) }
 {
     let at = rank(settings.as_slice(), slot);
     match settings.insert(at, setting) {
@@ -51,30 +53,34 @@ fn place(settings: &mut Vec<Setting>, slot: u8, setting: Setting) -> Result<(), 
     }
 }
 
-#[tactic(auto, unfolding(crate::specs::reading::Steps::added))]
-fn add(alloc: Global, settings: &mut Vec<Setting>, part: &Part) -> Result<(), RuleFault>
-    ensures { Gives (λ _. settings.new.items) result (added settings.old.items (view_part part.now)) }
+// One more option, where none of its place was given.
+#[tactic(auto, unfolding(crate::specs::reading::Steps::with_option))]
+fn add(alloc: Global, settings: &mut Vec<Setting>, given: &OptionWords) -> Result<(), RuleFault>
+    ensures gives { Gives (λ _. settings.new.items) result (with_option settings.old.items (view_option_words given.now)) }
+    ensures refuses { RefusesFirst result (with_option settings.old.items (view_option_words given.now)) }
 {
-    let slot = part.option.row().slot;
+    let slot = given.option.row().slot;
     if is_given(settings.as_slice(), slot) {
         return Err(RuleFault::Refused(Refusal::RepeatedOption));
     }
-    let value = value_of(alloc, part.option, part.inverted, part.values)?;
-    let inverted = part.inverted;
+    let value = value_of(alloc, given.option, given.inverted, given.values)?;
+    let inverted = given.inverted;
     place(settings, slot, Setting { inverted, value })
 }
 
-#[tactic(auto, unfolding(crate::specs::reading::Steps::started))]
-fn start(alloc: Global, mut draft: Draft, kind: Kind) -> Result<Draft, RuleFault>
-    ensures gives { Gives view_draft result (started (view_draft draft) kind) }
-    ensures longer { IfOk result (λ d. vec_len d.matches ≡ vec_len draft.matches + 1) }
+// The rule with one more match, where it has fewer than 16.
+#[tactic(auto, unfolding(crate::specs::reading::Steps::with_match))]
+fn start(alloc: Global, mut content: Content, kind: MatchKind) -> Result<Content, RuleFault>
+    ensures gives { Gives view_content result (with_match (view_content content) kind) }
+    ensures refuses { RefusesFirst result (with_match (view_content content) kind) }
+    ensures longer { IfOk result (λ d. vec_len d.matches ≡ vec_len content.matches + 1) }
 {
-    if draft.matches.len() >= 16 {
+    if content.matches.len() >= 16 {
         return Err(RuleFault::Refused(Refusal::TooManyMatches));
     }
     let settings = Vec::new(alloc);
-    match draft.matches.push(Match { kind, settings }) {
-        Ok(()) => Ok(draft),
+    match content.matches.push(Match { kind, settings }) {
+        Ok(()) => Ok(content),
         Err(_) => Err(RuleFault::NoMemory),
     }
 }
@@ -108,69 +114,72 @@ fn is_met(protocols: &[u8], settings: &[Setting]) -> bool
 }
 
 // Whether the rule has a protocol that a match needs.
-pub(crate) fn is_met_for(kind: Kind, settings: &[Setting]) -> bool
+pub(crate) fn is_met_for(kind: MatchKind, settings: &[Setting]) -> bool
     ensures { result ≡ is_met_for kind settings.now }
 {
     is_met(kind.row().protocols, settings)
 }
 
 // The match that an option starts by itself.
-fn implied(settings: &[Setting], option: Opt) -> Option<Kind>
-    ensures { result ≡ implied settings.now option }
+fn implied_match(settings: &[Setting], option: Opt) -> Option<MatchKind>
+    ensures { result ≡ implied_match settings.now option }
 {
-    Kind::IMPLIED
+    MatchKind::IMPLIED
         .iter()
         .copied()
         .find(|kind| is_met_for(*kind, settings) && kind.has(option))
 }
 
+// Whether an option may start a match by itself.
 fn is_implied_option(option: Opt) -> bool
     ensures { result ≡ is_implied_option option }
 {
-    Kind::IMPLIED.iter().any(|kind| kind.has(option))
+    MatchKind::IMPLIED.iter().any(|kind| kind.has(option))
 }
 
-// The rule with the match that a part belongs to, and that match's place.
+// The rule with the match that an option belongs to, and that match's place.
 #[tactic(auto, unfolding(crate::specs::reading::Steps::match_for))]
-fn match_for(alloc: Global, draft: Draft, part: &Part) -> Result<(Draft, usize), RuleFault>
-    ensures gives { Gives (λ r. (view_draft r.0, r.1)) result (match_for (view_draft draft) (view_part part.now)) }
+fn match_for(alloc: Global, content: Content, given: &OptionWords) -> Result<(Content, usize), RuleFault>
+    ensures gives { Gives (λ r. (view_content r.0, r.1)) result (match_for (view_content content) (view_option_words given.now)) }
     ensures within { IfOk result (λ r. r.1 < vec_len r.0.matches) }
 {
-    if let Some(i) = last_with(draft.matches.as_slice(), part.option) {
-        return Ok((draft, i));
+    if let Some(i) = last_with(content.matches.as_slice(), given.option) {
+        return Ok((content, i));
     }
-    match implied(draft.settings.as_slice(), part.option) {
+    match implied_match(content.settings.as_slice(), given.option) {
         Some(kind) => {
-            let i = draft.matches.len();
-            let draft = start(alloc, draft, kind)?;
-            Ok((draft, i))
+            let i = content.matches.len();
+            let content = start(alloc, content, kind)?;
+            Ok((content, i))
         }
         None => {
-            if is_implied_option(part.option) {
+            if is_implied_option(given.option) {
                 Err(RuleFault::Refused(Refusal::ProtocolNeeded))
             } else {
-                Err(RuleFault::Refused(Refusal::UnknownOption(part.place)))
+                Err(RuleFault::Refused(Refusal::UnknownOption(given.place)))
             }
         }
     }
 }
 
 // One more option of the match at a place.
-#[tactic(auto, unfolding(crate::specs::reading::Steps::added_at))]
-fn add_at(alloc: Global, matches: &mut Vec<Match>, i: usize, part: &Part) -> Result<(), RuleFault>
+#[tactic(auto, unfolding(crate::specs::reading::Steps::with_option_at))]
+fn add_at(alloc: Global, matches: &mut Vec<Match>, i: usize, given: &OptionWords) -> Result<(), RuleFault>
     requires { i < vec_len matches.old }
-    ensures { Gives (λ _. view_matches matches.new.items) result (added_at (view_matches matches.old.items) i (view_part part.now)) }
+    ensures { Gives (λ _. view_matches matches.new.items) result (with_option_at (view_matches matches.old.items) i (view_option_words given.now)) }
 {
     let one = &mut matches[i];
-    add(alloc, &mut one.settings, part)
+    add(alloc, &mut one.settings, given)
 }
 
+// Whether `-g` was given.
 fn has_goto(action: &Option<Action>) -> bool
     ensures { result ≡ has_goto action.now }
 {
     matches!(action, Some(Action::Goto(_)))
 }
 
+// Whether `-j` was given.
 fn has_jump(action: &Option<Action>) -> bool
     ensures { result ≡ has_jump action.now }
 {
@@ -180,78 +189,80 @@ fn has_jump(action: &Option<Action>) -> bool
     }
 }
 
-#[tactic(auto, unfolding(crate::specs::reading::Steps::jumped))]
-fn jump(mut draft: Draft, text: &[u8]) -> Result<Draft, RuleFault>
-    ensures { Gives view_draft result (jumped (view_draft draft) text.now) }
+// The rule with the target that `-j` names, where none was given.
+#[tactic(auto, unfolding(crate::specs::reading::Steps::with_jump))]
+fn jump(mut content: Content, text: &[u8]) -> Result<Content, RuleFault>
+    ensures { Gives view_content result (with_jump (view_content content) text.now) }
 {
-    if has_goto(&draft.action) {
+    if has_goto(&content.action) {
         return Err(RuleFault::Refused(Refusal::JumpAndGoto));
     }
-    if has_jump(&draft.action) {
+    if has_jump(&content.action) {
         return Err(RuleFault::Refused(Refusal::RepeatedOption));
     }
     let action = bad(Action::read(text))?;
-    draft.action = Some(action);
-    Ok(draft)
+    content.action = Some(action);
+    Ok(content)
 }
 
-#[tactic(auto, unfolding(crate::specs::reading::Steps::gone))]
-fn go(mut draft: Draft, text: &[u8]) -> Result<Draft, RuleFault>
-    ensures { Gives view_draft result (gone (view_draft draft) text.now) }
+// The rule with the chain that `-g` names, where no target was given.
+#[tactic(auto, unfolding(crate::specs::reading::Steps::with_goto))]
+fn go(mut content: Content, text: &[u8]) -> Result<Content, RuleFault>
+    ensures { Gives view_content result (with_goto (view_content content) text.now) }
 {
-    if has_jump(&draft.action) {
+    if has_jump(&content.action) {
         return Err(RuleFault::Refused(Refusal::JumpAndGoto));
     }
-    if has_goto(&draft.action) {
+    if has_goto(&content.action) {
         return Err(RuleFault::Refused(Refusal::RepeatedOption));
     }
     let name = bad(Name::read(text))?;
-    draft.action = Some(Action::Goto(name));
-    Ok(draft)
+    content.action = Some(Action::Goto(name));
+    Ok(content)
 }
 
 // The match that a name starts.
-fn named_match(name: &[u8]) -> Result<Kind, RuleFault>
+fn named_match(name: &[u8]) -> Result<MatchKind, RuleFault>
     ensures { Gives (λ k. k) result (or_refused Refusal.UnknownMatch (kind_of name.now)) }
 {
-    match Kind::read(name) {
+    match MatchKind::read(name) {
         Some(kind) => Ok(kind),
         None => Err(RuleFault::Refused(Refusal::UnknownMatch)),
     }
 }
 
 // An option of a match.
-fn add_to_match(alloc: Global, draft: Draft, part: &Part) -> Result<Draft, RuleFault>
-    ensures { Gives view_draft result (match_step (view_draft draft) (view_part part.now)) }
+fn add_to_match(alloc: Global, content: Content, given: &OptionWords) -> Result<Content, RuleFault>
+    ensures { Gives view_content result (match_step (view_content content) (view_option_words given.now)) }
 {
-    let (mut draft, i) = match_for(alloc, draft, part)?;
-    add_at(alloc, &mut draft.matches, i, part)?;
-    Ok(draft)
+    let (mut content, i) = match_for(alloc, content, given)?;
+    add_at(alloc, &mut content.matches, i, given)?;
+    Ok(content)
 }
 
-// The rule so far with a part more.
+// The rule so far with one more option.
 #[tactic(auto, unfolding(crate::specs::reading::Steps::step))]
-pub(crate) fn step(alloc: Global, mut draft: Draft, part: &Part) -> Result<Draft, RuleFault>
-    ensures { Gives view_draft result (step (view_draft draft) (view_part part.now)) }
+pub(crate) fn step(alloc: Global, mut content: Content, given: &OptionWords) -> Result<Content, RuleFault>
+    ensures { Gives view_content result (step (view_content content) (view_option_words given.now)) }
 {
-    match part.option.row().owner {
+    match given.option.row().owner {
         Owner::Rule => {
-            add(alloc, &mut draft.settings, part)?;
-            Ok(draft)
+            add(alloc, &mut content.settings, given)?;
+            Ok(content)
         }
         Owner::Start => {
-            let kind = named_match(first_of(part.values))?;
-            start(alloc, draft, kind)
+            let kind = named_match(first_of(given.values))?;
+            start(alloc, content, kind)
         }
-        Owner::Jump => jump(draft, first_of(part.values)),
-        Owner::Goto => go(draft, first_of(part.values)),
-        Owner::Match(_) => add_to_match(alloc, draft, part),
+        Owner::Jump => jump(content, first_of(given.values)),
+        Owner::Goto => go(content, first_of(given.values)),
+        Owner::Match(_) => add_to_match(alloc, content, given),
         Owner::Target(_) => {
-            if !action_has(&draft.action, part.option) {
+            if !action_has(&content.action, given.option) {
                 return Err(RuleFault::Refused(Refusal::OtherTarget));
             }
-            add(alloc, &mut draft.extras, part)?;
-            Ok(draft)
+            add(alloc, &mut content.target_options, given)?;
+            Ok(content)
         }
     }
 }

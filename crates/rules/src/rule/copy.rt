@@ -1,9 +1,9 @@
 // Copies of a rule's parts.
 ghost use Rattle.std.specs.Prelude.{◌≡◌, Option, Some, None, IfOk};
-ghost use Rattle.rules.specs.steps.Views.{view_match, view_matches, view_draft};
+ghost use Rattle.rules.specs.steps.Views.{view_match, view_matches, view_content};
 
 use crate::rule::action::Action;
-use crate::rule::content::{Draft, Match};
+use crate::rule::content::{Content, Match};
 use crate::options::setting::Setting;
 use crate::options::value::Value;
 use std::alloc::{AllocError, Global};
@@ -92,17 +92,17 @@ fn copy_action(action: &Option<Action>) -> Option<Action>
     }
 }
 
-pub(crate) fn copy_draft(alloc: Global, draft: &Draft) -> Result<Draft, AllocError>
-    ensures { IfOk result (λ copy. view_draft copy ≡ view_draft draft.now) }
+pub(crate) fn copy_content(alloc: Global, content: &Content) -> Result<Content, AllocError>
+    ensures { IfOk result (λ copy. view_content copy ≡ view_content content.now) }
 {
-    let settings = copy_settings(alloc, draft.settings.as_slice())?;
-    let matches = copy_matches(alloc, draft.matches.as_slice())?;
-    let action = copy_action(&draft.action);
-    let extras = copy_settings(alloc, draft.extras.as_slice())?;
-    Ok(Draft {
+    let settings = copy_settings(alloc, content.settings.as_slice())?;
+    let matches = copy_matches(alloc, content.matches.as_slice())?;
+    let action = copy_action(&content.action);
+    let target_options = copy_settings(alloc, content.target_options.as_slice())?;
+    Ok(Content {
         settings,
         matches,
         action,
-        extras,
+        target_options,
     })
 }

@@ -1,9 +1,9 @@
 // Whether parts of rules are equal.
 ghost use Rattle.std.specs.Prelude.{◌≡◌, ◌==◌, ◌&&◌, ◌↔◌, IsTrue, Option, Some, None};
-ghost use Rattle.rules.specs.steps.Views.{view_match, view_matches, view_draft};
+ghost use Rattle.rules.specs.steps.Views.{view_match, view_matches, view_content};
 
 use crate::rule::action::Action;
-use crate::rule::content::{Draft, Match};
+use crate::rule::content::{Content, Match};
 use crate::options::setting::Setting;
 use crate::options::value::Value;
 use fields::{PortList, PortRange};
@@ -183,11 +183,11 @@ fn same_matches(a: &[Match], b: &[Match]) -> bool
     true
 }
 
-pub(crate) fn same_draft(a: &Draft, b: &Draft) -> bool
-    ensures { IsTrue result ↔ (view_draft a.now ≡ view_draft b.now) }
+pub(crate) fn same_content(a: &Content, b: &Content) -> bool
+    ensures { IsTrue result ↔ (view_content a.now ≡ view_content b.now) }
 {
     same_settings(a.settings.as_slice(), b.settings.as_slice())
         && same_matches(a.matches.as_slice(), b.matches.as_slice())
         && same_action(&a.action, &b.action)
-        && same_settings(a.extras.as_slice(), b.extras.as_slice())
+        && same_settings(a.target_options.as_slice(), b.target_options.as_slice())
 }

@@ -18,12 +18,12 @@ use Rattle.fields.specs.numbers.Spans.{SpanSet, has}
 use Rattle.rules.specs.declared.boxing.condition.Condition.{Condition}
 use Rattle.rules.specs.declared.rule.content.Match as drafted
 use Rattle.rules.specs.steps.Views.{view_match, view_matches}
-use Rattle.rules.specs.declared.options.match_kind.Kind.{Kind}
+use Rattle.rules.specs.declared.options.match_kind.MatchKind.{MatchKind}
 use Rattle.rules.specs.declared.options.setting.Setting.{Setting}
 use Rattle.rules.specs.rule.Allows.{is_on, same_field, setting_holds, setting_allows, fragment_allows, match_allows, allows}
 use Rattle.rules.specs.boxing.Boxed.{IsBox, set_on, AreSetsOf, IsBoxOf}
-use Rattle.rules.specs.steps.Conditions.{Asks, IsWhole, Narrows, condition_allows}
-use Rattle.rules.specs.options.Matches.{kind_row}
+use Rattle.rules.specs.steps.Conditions.{Asks, HasAllNumbers, Narrows, condition_allows}
+use Rattle.rules.specs.options.Matches.{match_row}
 use Rattle.rules.specs.rule.Rules.{Match, Rule}
 use Rattle.rules.proofs.laws.boxing.BoxLaws.{index-lt, here_is, top_at, box_long}
 
@@ -129,12 +129,12 @@ fragment_alike a true t e is same = same ∙ ap (λ c. not (c && true) || e) (sy
 fragment_alike a false t e is same = ap (λ c. not (c && false) || e) (sym is)
 
 -- a match that asks for a first fragment
-pub narrows_fragment : {E : Type 0} (k : Kind) (first : SpanSet) (old new : List SpanSet) (r : Result (Unit {0}) E) → (kind_row k).asks_fragment ≡ true
+pub narrows_fragment : {E : Type 0} (k : MatchKind) (first : SpanSet) (old new : List SpanSet) (r : Result (Unit {0}) E) → (match_row k).asks_fragment ≡ true
     → ((x : ℕ) → has first.intervals x ≡ (leb 0 x && leb x 0))
     → OnOk r (Narrows (λ f x. condition_allows f x (record { field = field.Fragment; set = first })) old new) → OnOk r (Narrows (λ f x. fragment_allows f x k) old new)
 narrows_fragment k first old new r is members n =
     on_ok_weaker r (narrows_alike (λ f x. condition_allows f x (record { field = field.Fragment; set = first })) (λ f x. fragment_allows f x k) old new
-    (λ f x le. fragment_alike (kind_row k).asks_fragment (same_field f field.Fragment) (has first.intervals x) (eqb x 0) is (members x ∙ zero_alone x))) n
+    (λ f x le. fragment_alike (match_row k).asks_fragment (same_field f field.Fragment) (has first.intervals x) (eqb x 0) is (members x ∙ zero_alone x))) n
 
 -- a match: a first fragment where it asks for one, and its options
 pub narrows_match : {E : Type 0} (m : drafted.Match) (settings : List Setting) (a b c : List SpanSet) (r : Result (Unit {0}) E) → settings ≡ m.settings.items
@@ -149,21 +149,21 @@ narrows_viewed ms a b n =
 
 -- ---- all numbers at first
 
-pub whole_next : (spans : List SpanSet) (k : ℕ) (v : SpanSet) → length spans ≡ FIELDS → ((j : ℕ) (s : SpanSet) → j < k → IsWhole j (get_or spans j s)) → k < FIELDS → IsWhole k v
-    → (j : ℕ) (s : SpanSet) → j < k + 1 → IsWhole j (get_or (set spans k v) j s)
+pub whole_next : (spans : List SpanSet) (k : ℕ) (v : SpanSet) → length spans ≡ FIELDS → ((j : ℕ) (s : SpanSet) → j < k → HasAllNumbers j (get_or spans j s)) → k < FIELDS → HasAllNumbers k v
+    → (j : ℕ) (s : SpanSet) → j < k + 1 → HasAllNumbers j (get_or (set spans k v) j s)
 whole_next spans k v long below lt is j s less =
     elim (cases_eq j k) [
       | inl e ↦ (
-          let P : ℕ → Type 0 = λ i. IsWhole i (get_or (set spans k v) i s) in
-          let Q : SpanSet → Type 0 = λ t. IsWhole k t in
+          let P : ℕ → Type 0 = λ i. HasAllNumbers i (get_or (set spans k v) i s) in
+          let Q : SpanSet → Type 0 = λ t. HasAllNumbers k t in
           subst P (sym e) (subst Q (sym (get_or-set_same spans k v s (omega arith))) is))
       | inr ne ↦ (
-          let R : SpanSet → Type 0 = λ t. IsWhole j t in
+          let R : SpanSet → Type 0 = λ t. HasAllNumbers j t in
           let other : j ≢ k = ne in
           subst R (sym (get_or-set_other spans k j v s other)) (below j s (omega arith)))
     ]
 
-module _ (spans : List SpanSet) (long : length spans ≡ FIELDS) (whole : (k : ℕ) (s : SpanSet) → k < FIELDS → IsWhole k (get_or spans k s)) where
+module _ (spans : List SpanSet) (long : length spans ≡ FIELDS) (whole : (k : ℕ) (s : SpanSet) → k < FIELDS → HasAllNumbers k (get_or spans k s)) where
   pub box_of_whole : IsBox spans
   box_of_whole =
       let same : length (map (λ (s : SpanSet). s.top) spans) ≡ FIELDS = length-map spans (λ (s : SpanSet). s.top) ∙ long in
@@ -175,7 +175,7 @@ module _ (spans : List SpanSet) (long : length spans ≡ FIELDS) (whole : (k : �
 
   pub sets_of_whole : AreSetsOf (λ _ _. true) spans
   sets_of_whole f x le =
-      let w : IsWhole (index f) (get_or spans (index f) (record { top = 0; intervals = [] })) = whole (index f) (record { top = 0; intervals = [] }) (index-lt f) in
+      let w : HasAllNumbers (index f) (get_or spans (index f) (record { top = 0; intervals = [] })) = whole (index f) (record { top = 0; intervals = [] }) (index-lt f) in
       w.members x ∙ le-leb x (get_or spans (index f) (record { top = 0; intervals = [] })).top (omega (arith, w.top, top_at f))
 
 -- the box of a rule

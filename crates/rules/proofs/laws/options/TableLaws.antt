@@ -11,9 +11,9 @@ use Rattle.rules.specs.options.Matches.{kind_of, kind_name}
 use Rattle.rules.specs.options.Options.{option_of, name_of, value_count}
 use Rattle.rules.specs.options.Settings.{option_of_value}
 use Rattle.rules.specs.printing.Printing.{shown_value}
-use Rattle.rules.specs.declared.options.match_kind.Kind.{Kind}
-use Rattle.rules.specs.declared.options.match_kind.Kind.TheVariants as kind
-use Rattle.rules.specs.declared.options.match_kind.TheConstants.Kind as kinds
+use Rattle.rules.specs.declared.options.match_kind.MatchKind.{MatchKind}
+use Rattle.rules.specs.declared.options.match_kind.MatchKind.TheVariants as kind
+use Rattle.rules.specs.declared.options.match_kind.TheConstants.MatchKind as kinds
 use Rattle.rules.specs.declared.options.option.Opt.{Opt}
 use Rattle.rules.specs.declared.options.option.Opt.TheVariants as opt
 use Rattle.rules.specs.declared.options.option.TheConstants.Opt as options
@@ -111,7 +111,7 @@ value_count-is value.LogTcpOptions = refl
 value_count-is value.LogIpOptions = refl
 value_count-is value.LogUid = refl
 
-pub kind_of-kind_name : (k : Kind) → kind_of (kind_name k) ≡ Some k
+pub kind_of-kind_name : (k : MatchKind) → kind_of (kind_name k) ≡ Some k
 unfolding kind_of
 kind_of-kind_name kind.Tcp = refl
 kind_of-kind_name kind.Udp = refl
@@ -162,7 +162,7 @@ each_option test all opt.LogIpOptions = at test options.ALL 26 opt.Source (lit< 
 each_option test all opt.LogUid = at test options.ALL 27 opt.Source (lit< tt) all
 
 -- and along the table of matches
-pub each_kind : (test : Kind → Bool) → list_all test kinds.ALL ≡ true → (k : Kind) → test k ≡ true
+pub each_kind : (test : MatchKind → Bool) → list_all test kinds.ALL ≡ true → (k : MatchKind) → test k ≡ true
 each_kind test all kind.Tcp = at test kinds.ALL 0 kind.Tcp (lit< tt) all
 each_kind test all kind.Udp = at test kinds.ALL 1 kind.Tcp (lit< tt) all
 each_kind test all kind.Icmp = at test kinds.ALL 2 kind.Tcp (lit< tt) all

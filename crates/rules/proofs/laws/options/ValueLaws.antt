@@ -1,7 +1,7 @@
 -- A value that was read is good: its text gives it back.
-use Rattle.std.proofs.Common.{◌≡◌, ℕ, ◌+◌, ◌*◌, ◌<◌, ◌≤◌, ◌==◌, Bool, true, false, cond, ◌&&◌, List, [], ◌∷◌, length, Option, None, Some, refl, sym, ap, subst, ◌∙◌, arith, append-nil, length-append}
+use Rattle.std.proofs.Common.{◌≡◌, ℕ, ◌+◌, ◌*◌, ◌<◌, ◌≤◌, ◌==◌, Bool, true, false, cond, ◌&&◌, List, [], ◌∷◌, length, Option, None, Some, refl, sym, ap, subst, ◌∙◌, arith, append-nil, length-append, le-ltb}
 use Prim.Native.Nat.{zero, suc}
-use Rattle.std.specs.Prelude.{Result, Ok}
+use Rattle.std.specs.Prelude.{Result, Ok, Err, nat_lt}
 use Rattle.fields.specs.Sequence as options
 use Rattle.fields.specs.values.ConnectionState.{ctstate_of, state_of, states_text}
 use Rattle.fields.specs.values.FlagTest.{flag_test_of}
@@ -34,7 +34,7 @@ use Rattle.fields.proofs.laws.values.TcpFlagsLaws as flags
 use Rattle.fields.proofs.laws.values.TcpFlagsLaws.{known}
 use Rattle.rules.specs.Sequence.{◌>>=◌, or_refused}
 use Rattle.rules.specs.options.Options.{first_of, may_be_inverted, owner, slot}
-use Rattle.rules.specs.options.Settings.{option_of_value, read_as, text_as, with_opposite, value_of}
+use Rattle.rules.specs.options.Settings.{option_of_value, read_as, text_as, text_within, with_opposite, value_of}
 use Rattle.rules.specs.printing.Printing.{one, shown_value}
 use Rattle.rules.specs.declared.reading.fault.Refusal.{Refusal}
 use Rattle.rules.specs.declared.reading.fault.Refusal.TheVariants as refusal
@@ -85,6 +85,18 @@ text-spelled text = spelled-more (as_text text) [] (λ e. absurd (cc)) none-spel
 
 text-short : (most : ℕ) (text : List ℕ) → length text ≤ most → length (spaced_all (as_text text ∷ [])) ≤ 2 * most + 3
 text-short most text few = let short = quoted-short text in let whole = ap length (append-nil (spaced (as_text text))) in omega (arith, whole)
+
+-- a text that was read, and one that reads
+text-given : (most : ℕ) (make : List ℕ → Value) (bytes : List ℕ) (v : Value) → text_as make (text_within most bytes) ≡ Ok v → (x : List ℕ) × (text_of most bytes ≡ Some x) × (make x ≡ v)
+text-given most make bytes v e = go (nat_lt most (length bytes)) e
+  where
+    go : (b : Bool) → text_as make (cond b (Err refusal.TextTooLong) (or_refused refusal.BadValue (text_of most bytes))) ≡ Ok v → (x : List ℕ) × (text_of most bytes ≡ Some x) × (make x ≡ v)
+    go true h = absurd (cc)
+    go false h = given refusal.BadValue make (text_of most bytes) v h
+
+text-within : (most : ℕ) (text : List ℕ) → length text ≤ most → text_of most text ≡ Some text → text_within most text ≡ Ok text
+text-within most text few read =
+    ap (λ b. cond b (Err refusal.TextTooLong) (or_refused refusal.BadValue (text_of most text))) (le-ltb most (length text) few) ∙ ap (or_refused refusal.BadValue) read
 
 -- what is read with an opposite was read
 opposed : (inverted : Bool) (q : Option ℕ) (n : ℕ) → with_opposite inverted q ≡ Some n → (q ≡ Some n) × (with_opposite inverted (Some n) ≡ Some n)
@@ -209,13 +221,13 @@ value_of-good opt.State inverted words v e =
     let word = states-word x are in
     subst (IsGood opt.State inverted) same (record { place = refl; owned = refl; bang = λ e. refl; text = ap (read_as value.State) (state_reads_back x are plain_set); spelled = one-spelled 60 (states_text x) word; short = one-short 60 (states_text x) word })
 value_of-good opt.Comment inverted words v e =
-    let (x, is, same) = given refusal.TextTooLong value.Comment (text_of 256 _) v e in
+    let (x, is, same) = text-given 256 value.Comment (first_of words) v e in
     let (few, read) = text-valid 256 _ x is in
-    subst (IsGood opt.Comment inverted) same (record { place = refl; owned = refl; bang = λ e. e; text = ap (text_as value.Comment) read; spelled = text-spelled x; short = text-short 256 x few })
+    subst (IsGood opt.Comment inverted) same (record { place = refl; owned = refl; bang = λ e. e; text = ap (text_as value.Comment) (text-within 256 x few read); spelled = text-spelled x; short = text-short 256 x few })
 value_of-good opt.LogPrefix inverted words v e =
-    let (x, is, same) = given refusal.TextTooLong value.LogPrefix (text_of 29 _) v e in
+    let (x, is, same) = text-given 29 value.LogPrefix (first_of words) v e in
     let (few, read) = text-valid 29 _ x is in
-    subst (IsGood opt.LogPrefix inverted) same (record { place = refl; owned = refl; bang = λ e. e; text = ap (text_as value.LogPrefix) read; spelled = text-spelled x; short = text-short 29 x few })
+    subst (IsGood opt.LogPrefix inverted) same (record { place = refl; owned = refl; bang = λ e. e; text = ap (text_as value.LogPrefix) (text-within 29 x few read); spelled = text-spelled x; short = text-short 29 x few })
 value_of-good opt.RejectWith inverted words v e =
     let (x, is, same) = given refusal.BadValue value.RejectWith (reject_of (first_of words)) v e in
     let word = reject-word x in

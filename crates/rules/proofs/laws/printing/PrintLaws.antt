@@ -58,16 +58,16 @@ matches-text (m ∷ ms) =
     ∙ ap (λ l. match_text (views.view_match m) ++ l) (matches-text ms)
 
 -- the text of a rule, part by part
-pub rule_text-parts : (r : Rule) (settings : List Setting) (ms : List code.Match) (extras : List Setting) → settings ≡ r.settings → views.view_matches ms ≡ r.matches → extras ≡ r.extras
-    → rule_text r ≡ flat_map setting_text settings ++ (flat_map (λ m. match_text (views.view_match m)) ms ++ (action_text r.action ++ flat_map setting_text extras))
-rule_text-parts r settings ms extras is-settings is-matches is-extras =
+pub rule_text-parts : (r : Rule) (settings : List Setting) (ms : List code.Match) (target_options : List Setting) → settings ≡ r.settings → views.view_matches ms ≡ r.matches → target_options ≡ r.target_options
+    → rule_text r ≡ flat_map setting_text settings ++ (flat_map (λ m. match_text (views.view_match m)) ms ++ (action_text r.action ++ flat_map setting_text target_options))
+rule_text-parts r settings ms target_options is-settings is-matches is-target_options =
     let a = shown_settings r.settings in
     let b = flat_map shown_match r.matches in
     let c = shown_action r.action in
-    let d = shown_settings r.extras in
+    let d = shown_settings r.target_options in
     let first = settings-text r.settings ∙ ap (flat_map setting_text) (sym is-settings) in
     let second = ap (λ ns. spaced_all (flat_map shown_match ns)) (sym is-matches) ∙ matches-text ms in
-    let last = settings-text r.extras ∙ ap (flat_map setting_text) (sym is-extras) in
+    let last = settings-text r.target_options ∙ ap (flat_map setting_text) (sym is-target_options) in
     spaced_all-append a (b ++ (c ++ d))
     ∙ ap (λ l. spaced_all a ++ l) (spaced_all-append b (c ++ d) ∙ ap (λ l. spaced_all b ++ l) (spaced_all-append c d))
     ∙ ap (λ l. l ++ (spaced_all b ++ (spaced_all c ++ spaced_all d))) first

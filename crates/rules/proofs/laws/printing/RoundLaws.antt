@@ -13,8 +13,10 @@ use Rattle.rules.specs.rule.Actions.{action_of, jump_to, is_action_of}
 use Rattle.fields.specs.values.Name as chain
 use Rattle.rules.specs.rule.Rules.{Match, Rule, empty_rule}
 use Rattle.rules.specs.printing.Printing.{shown_value, shown_settings, shown_match, shown_action, shown_rule}
-use Rattle.rules.specs.reading.Steps.{Part, added, started, jumped, gone, step, owned_step, with_settings, with_matches, with_action, with_extras, last_with, match_for, found_for, added_at, no_match, has_goto, has_jump, unmet, whole, finished, rule_of}
-use Rattle.rules.proofs.laws.reading.Readable.{ReadsBack, Each, OfRule, OfMatch, OfAction, ActionBack, IsMatch, HasParts, IsReadable}
+use Rattle.rules.specs.reading.Steps.{with_option, with_match, with_jump, with_goto, step, owned_step, with_settings, with_matches, with_action, with_target_options, last_with, match_for, at_match_or_new, with_option_at, no_match, has_goto, has_jump, with_needs_met, unless_unmet, rule_of}
+use Rattle.rules.specs.reading.OptionWords.{OptionWords}
+use Rattle.rules.specs.rule.Needs.{unmet}
+use Rattle.rules.proofs.laws.reading.Readable.{ReadsBack, Each, OfRule, OfMatch, OfAction, ActionBack, IsMatch, IsLegal, IsReadable}
 use Rattle.rules.specs.declared.reading.fault.Refusal.{Refusal}
 use Rattle.rules.specs.declared.reading.fault.Refusal.TheVariants as refusal
 use Rattle.rules.specs.declared.options.option.Opt.{Opt}
@@ -22,8 +24,8 @@ use Rattle.rules.specs.declared.options.option.Opt.TheVariants as opt
 use Rattle.rules.specs.declared.options.option.Owner.TheVariants as owned
 use Rattle.rules.specs.declared.options.option.Owner.{Owner}
 use Rattle.rules.specs.declared.options.option.Extended.{Extended}
-use Rattle.rules.specs.declared.options.option.Kinds.{Kinds}
-use Rattle.rules.specs.declared.options.match_kind.Kind.{Kind}
+use Rattle.rules.specs.declared.options.option.MatchKinds.{MatchKinds}
+use Rattle.rules.specs.declared.options.match_kind.MatchKind.{MatchKind}
 use Rattle.rules.specs.declared.options.setting.Setting.{Setting}
 use Rattle.rules.specs.declared.rule.action.Action.{Action}
 use Rattle.rules.specs.declared.rule.action.Action.TheVariants as action
@@ -31,9 +33,9 @@ use Rattle.std.specs.Str.{bytes_eq}
 use Rattle.std.proofs.lemmas.Bool.{or_parts, not-true}
 use Rattle.rules.proofs.laws.options.WordForms.{name-form}
 use Rattle.rules.proofs.laws.options.TableLaws.{plain, kind_of-kind_name}
-use Rattle.rules.proofs.laws.reading.OptionWordsLaws.{the_part, part_at-part_words, Continues, continues-nothing, continues-then, continues-part}
+use Rattle.rules.proofs.laws.reading.OptionWordsLaws.{the_option_words, option_words_at-words_of_option, Continues, continues-nothing, continues-then, continues-option}
 use Rattle.rules.proofs.laws.reading.StepLaws.{last_with-end}
-use Rattle.rules.proofs.laws.reading.GroupLaws.{Below, added-end, settings-read}
+use Rattle.rules.proofs.laws.reading.GroupLaws.{Below, with_option-end, settings-read}
 
 false-true : false ≡ true → ⊥
 false-true e = cc
@@ -50,7 +52,7 @@ extended-of (Some action.Accept) (owned.Match ks) h = absurd (false-true h)
 extended-of g w h = absurd (false-true h)
 
 -- and of a match, matches
-matches-of : (w : Owner) (k : Kind) → is_match_of w k ≡ true → (ks : Kinds) × (w ≡ owned.Match ks)
+matches-of : (w : Owner) (k : MatchKind) → is_match_of w k ≡ true → (ks : MatchKinds) × (w ≡ owned.Match ks)
 matches-of (owned.Match ks) k h = (ks, refl)
 matches-of owned.Rule k h = absurd (false-true h)
 matches-of owned.Start k h = absurd (false-true h)
@@ -59,49 +61,49 @@ matches-of owned.Goto k h = absurd (false-true h)
 matches-of (owned.Target t) k h = absurd (false-true h)
 
 -- the part of a setting
-abbrev of-setting : Setting → ℕ → Part
-of-setting s place = the_part s.inverted (option_of_value s.value) (plain (shown_value s.value)) place
+abbrev of-setting : Setting → ℕ → OptionWords
+of-setting s place = the_option_words s.inverted (option_of_value s.value) (plain (shown_value s.value)) place
 
 takes-own : (r : Rule) (ss : List Setting) (s : Setting) (place : ℕ) → owner (option_of_value s.value) ≡ owned.Rule → Below (slot_of s) ss → ReadsBack s
     → step (with_settings r ss) (of-setting s place) ≡ Ok (with_settings r (ss ++ s ∷ []))
 unfolding step
 takes-own r ss s place owns below back =
-    ap (λ w. owned_step w (with_settings r ss) (of-setting s place)) owns ∙ ap (λ q. q >>= λ l. Ok (with_settings r l)) (added-end ss s place below back)
+    ap (λ w. owned_step w (with_settings r ss) (of-setting s place)) owns ∙ ap (λ q. q >>= λ l. Ok (with_settings r l)) (with_option-end ss s place below back)
 
-takes-extra : (r : Rule) (ss : List Setting) (s : Setting) (place : ℕ) → OfAction r.action (owner (option_of_value s.value)) → Below (slot_of s) ss → ReadsBack s
-    → step (with_extras r ss) (of-setting s place) ≡ Ok (with_extras r (ss ++ s ∷ []))
+takes-target-option : (r : Rule) (ss : List Setting) (s : Setting) (place : ℕ) → OfAction r.action (owner (option_of_value s.value)) → Below (slot_of s) ss → ReadsBack s
+    → step (with_target_options r ss) (of-setting s place) ≡ Ok (with_target_options r (ss ++ s ∷ []))
 unfolding step
-takes-extra r ss s place owns below back =
+takes-target-option r ss s place owns below back =
     let p = of-setting s place in
     let (t, is) = extended-of r.action (owner (option_of_value s.value)) owns in
-    ap (λ w. owned_step w (with_extras r ss) p) is ∙ ap (λ b. cond b (added ss p >>= λ l. Ok (with_extras r l)) (Err refusal.OtherTarget)) owns
-    ∙ ap (λ q. q >>= λ l. Ok (with_extras r l)) (added-end ss s place below back)
+    ap (λ w. owned_step w (with_target_options r ss) p) is ∙ ap (λ b. cond b (with_option ss p >>= λ l. Ok (with_target_options r l)) (Err refusal.OtherTarget)) owns
+    ∙ ap (λ q. q >>= λ l. Ok (with_target_options r l)) (with_option-end ss s place below back)
 
 -- the last match, with these options
-abbrev at-end : List Match → Kind → List Setting → List Match
+abbrev at-end : List Match → MatchKind → List Setting → List Match
 at-end ms k ss = ms ++ record { kind = k; settings = ss } ∷ []
 
-takes-match : (r : Rule) (ms : List Match) (k : Kind) (ss : List Setting) (s : Setting) (place : ℕ)
+takes-match : (r : Rule) (ms : List Match) (k : MatchKind) (ss : List Setting) (s : Setting) (place : ℕ)
     → is_match_of (owner (option_of_value s.value)) k ≡ true → Below (slot_of s) ss → ReadsBack s
     → step (with_matches r (at-end ms k ss)) (of-setting s place) ≡ Ok (with_matches r (at-end ms k (ss ++ s ∷ [])))
-unfolding step match_for added_at
+unfolding step match_for with_option_at
 takes-match r ms k ss s place owns below back =
     let p = of-setting s place in
     let R = with_matches r (at-end ms k ss) in
     let m : Match = record { kind = k; settings = ss } in
-    let next : Rule × ℕ → Result Rule Refusal = λ x. added_at x.0.matches x.1 p >>= λ l. Ok (with_matches x.0 l) in
+    let next : Rule × ℕ → Result Rule Refusal = λ x. with_option_at x.0.matches x.1 p >>= λ l. Ok (with_matches x.0 l) in
     let (ks, is) = matches-of (owner (option_of_value s.value)) k owns in
     let found = last_with-end p.option ms m ∙ ap (λ b. cond b (Some (length ms)) (last_with p.option ms)) owns in
-    let put : Match → Result (List Match) Refusal = λ y. added y.settings p >>= λ l. Ok (set (at-end ms k ss) (length ms) (record { kind = y.kind; settings = l })) in
+    let put : Match → Result (List Match) Refusal = λ y. with_option y.settings p >>= λ l. Ok (set (at-end ms k ss) (length ms) (record { kind = y.kind; settings = l })) in
     ap (λ w. owned_step w R p) is
-    ∙ ap (λ o. found_for R p o >>= next) found
+    ∙ ap (λ o. at_match_or_new R p o >>= next) found
     ∙ ap (λ y. put y >>= λ l. Ok (with_matches R l)) (get_or-append_seam ms m [] no_match)
-    ∙ ap (λ q. (q >>= λ l. Ok (set (at-end ms k ss) (length ms) (record { kind = k; settings = l }))) >>= λ l. Ok (with_matches R l)) (added-end ss s place below back)
+    ∙ ap (λ q. (q >>= λ l. Ok (set (at-end ms k ss) (length ms) (record { kind = k; settings = l }))) >>= λ l. Ok (with_matches R l)) (with_option-end ss s place below back)
     ∙ ap (λ l. Ok (with_matches R l)) (set-append_seam ms m [] (record { kind = k; settings = ss ++ s ∷ [] }))
 
 -- the rule with this target, or as it is
 abbrev with_given : Rule → Option Action → Rule
-with_given r t = record { settings = r.settings; matches = r.matches; action = t; extras = r.extras }
+with_given r t = record { settings = r.settings; matches = r.matches; action = t; target_options = r.target_options }
 
 -- `-j` and `-g`, by the target that was given before
 abbrev jumps : Rule → Option Action → Option Action → Result Rule Refusal
@@ -135,15 +137,15 @@ jump-back name back =
 
 module _ (end : ℕ) where
   -- the words that start a match
-  starts : (r : Rule) (ms : List Match) (k : Kind) (rest : List (List ℕ)) → length ms < 16
+  starts : (r : Rule) (ms : List Match) (k : MatchKind) (rest : List (List ℕ)) → length ms < 16
       → Continues end (with_matches r ms) (codes "-m" ∷ (kind_name k ∷ rest)) (with_matches r (at-end ms k [])) rest
-  unfolding step started
+  unfolding step with_match
   starts r ms k rest room =
-      let (place, read) = part_at-part_words end false opt.Match (kind_name k ∷ []) rest refl (λ e. absurd (false-true e)) in
-      let p = the_part false opt.Match (kind_name k ∷ []) place in
+      let (place, read) = option_words_at-words_of_option end false opt.Match (kind_name k ∷ []) rest refl (λ e. absurd (false-true e)) in
+      let p = the_option_words false opt.Match (kind_name k ∷ []) place in
       let fits = lt-leb 16 (length ms) room in
-      continues-part end (with_matches r ms) (with_matches r (at-end ms k [])) (codes "-m") (kind_name k ∷ rest) rest p read
-      (ap (λ o. or_refused refusal.UnknownMatch o >>= λ j. started (with_matches r ms) j) (kind_of-kind_name k)
+      continues-option end (with_matches r ms) (with_matches r (at-end ms k [])) (codes "-m") (kind_name k ∷ rest) rest p read
+      (ap (λ o. or_refused refusal.UnknownMatch o >>= λ j. with_match (with_matches r ms) j) (kind_of-kind_name k)
       ∙ ap (λ b. cond b (Err refusal.TooManyMatches) (Ok (with_matches r (at-end ms k [])))) fits) (omega arith)
 
   matches-read : (r : Rule) (before ms : List Match) (rest : List (List ℕ)) → length before + length ms ≤ 16 → Each IsMatch ms
@@ -156,24 +158,24 @@ module _ (end : ℕ) where
       let words : plain (flat_map shown_match (m ∷ ms)) ++ rest ≡ codes "-m" ∷ (kind_name m.kind ∷ (own ++ tail)) =
       ap (λ l. l ++ rest) (map-append (λ (w : Shown). w.word) (shown_match m) (flat_map shown_match ms))
       ∙ append_assoc (codes "-m" ∷ (kind_name m.kind ∷ own)) (plain (flat_map shown_match ms)) rest in
-      let started = starts r before m.kind (own ++ tail) (omega arith) in
+      let begun = starts r before m.kind (own ++ tail) (omega arith) in
       let inside = settings-read end (OfMatch m) (λ ss. with_matches r (at-end before m.kind ss)) (takes-match r before m.kind) m.settings tail are.0 in
       let later = matches-read r (before ++ m ∷ []) ms rest (omega (arith, length-append before (m ∷ []))) are.1 in
-      let all = continues-then end (with_matches r before) (with_matches r (at-end before m.kind [])) (with_matches r ((before ++ m ∷ []) ++ ms)) (codes "-m" ∷ (kind_name m.kind ∷ (own ++ tail))) (own ++ tail) rest started
+      let all = continues-then end (with_matches r before) (with_matches r (at-end before m.kind [])) (with_matches r ((before ++ m ∷ []) ++ ms)) (codes "-m" ∷ (kind_name m.kind ∷ (own ++ tail))) (own ++ tail) rest begun
       (continues-then end (with_matches r (at-end before m.kind [])) (with_matches r (before ++ m ∷ [])) (with_matches r ((before ++ m ∷ []) ++ ms)) (own ++ tail) tail rest inside later) in
       subst (λ l. Continues end (with_matches r before) l (with_matches r (before ++ (m ∷ ms))) rest) (sym words)
       (subst (λ l. Continues end (with_matches r before) (codes "-m" ∷ (kind_name m.kind ∷ (own ++ tail))) (with_matches r l) rest) (append_assoc before (m ∷ []) ms) all)
 
   -- the words of a target
-  names : (o : Opt) (word : List ℕ) (r s : Rule) (rest : List (List ℕ)) → value_count o ≡ 1 → ((place : ℕ) → step r (the_part false o (word ∷ []) place) ≡ Ok s)
+  names : (o : Opt) (word : List ℕ) (r s : Rule) (rest : List (List ℕ)) → value_count o ≡ 1 → ((place : ℕ) → step r (the_option_words false o (word ∷ []) place) ≡ Ok s)
       → Continues end r (name_of o ∷ (word ∷ rest)) s rest
   names o word r s rest one stepped =
-      let (place, read) = part_at-part_words end false o (word ∷ []) rest one (λ e. absurd (false-true e)) in
-      continues-part end r s (name_of o) (word ∷ rest) rest (the_part false o (word ∷ []) place) read (stepped place) (omega arith)
+      let (place, read) = option_words_at-words_of_option end false o (word ∷ []) rest one (λ e. absurd (false-true e)) in
+      continues-option end r s (name_of o) (word ∷ rest) rest (the_option_words false o (word ∷ []) place) read (stepped place) (omega arith)
 
   action-read : (r : Rule) (t : Option Action) (rest : List (List ℕ)) → r.action ≡ None → ActionBack t
       → Continues end r (plain (shown_action t) ++ rest) (with_given r t) rest
-  unfolding step jumped gone action_of
+  unfolding step with_jump with_goto action_of
   action-read r None rest none back = subst (λ t. Continues end r rest (with_given r t) rest) none (continues-nothing end r rest)
   action-read r (Some action.Accept) rest none back =
       names opt.Jump (codes "ACCEPT") r (with_action r action.Accept) rest refl (λ place. ap (jumps r (Some action.Accept)) none)
@@ -193,30 +195,30 @@ module _ (end : ℕ) where
       (λ place. ap (goes r (chain.name_of name)) none ∙ ap (λ o. or_refused refusal.BadValue o >>= λ n. Ok (with_action r (action.Goto n))) back)
 
   words-of-rule : (r : Rule)
-      → plain (shown_rule r) ≡ plain (shown_settings r.settings) ++ (plain (flat_map shown_match r.matches) ++ (plain (shown_action r.action) ++ (plain (shown_settings r.extras) ++ [])))
+      → plain (shown_rule r) ≡ plain (shown_settings r.settings) ++ (plain (flat_map shown_match r.matches) ++ (plain (shown_action r.action) ++ (plain (shown_settings r.target_options) ++ [])))
   words-of-rule r =
       let word = λ (w : Shown). w.word in
       let a = shown_settings r.settings in
       let b = flat_map shown_match r.matches in
       let c = shown_action r.action in
-      let d = shown_settings r.extras in
+      let d = shown_settings r.target_options in
       map-append word a (b ++ (c ++ d)) ∙ ap (λ l. plain a ++ l) (map-append word b (c ++ d) ∙ ap (λ l. plain b ++ l) (map-append word c d ∙ ap (λ l. plain c ++ l) (sym (append-nil (plain d)))))
 
   -- all words of a rule
-  rule-words : (r : Rule) → HasParts r → Continues end empty_rule (plain (shown_rule r)) r []
+  rule-words : (r : Rule) → IsLegal r → Continues end empty_rule (plain (shown_rule r)) r []
   rule-words r has =
       let few = has.few in
-      let d = plain (shown_settings r.extras) ++ [] in
+      let d = plain (shown_settings r.target_options) ++ [] in
       let c = plain (shown_action r.action) ++ d in
       let b = plain (flat_map shown_match r.matches) ++ c in
       let one = with_settings empty_rule r.settings in
       let two = with_matches one r.matches in
       let three = with_given two r.action in
-      let four = with_extras three r.extras in
+      let four = with_target_options three r.target_options in
       let first = settings-read end OfRule (with_settings empty_rule) (takes-own empty_rule) r.settings b has.settings in
       let second = matches-read one [] r.matches c (omega arith) has.matches in
       let third = action-read two r.action d refl has.action in
-      let fourth = settings-read end (OfAction r.action) (with_extras three) (takes-extra three) r.extras [] has.extras in
+      let fourth = settings-read end (OfAction r.action) (with_target_options three) (takes-target-option three) r.target_options [] has.target_options in
       let all = continues-then end empty_rule one four (plain (shown_settings r.settings) ++ b) b [] first
       (continues-then end one two four b c [] second (continues-then end two three four c d [] third fourth)) in
       subst (λ l. Continues end empty_rule l r []) (sym (words-of-rule r)) all
@@ -227,4 +229,4 @@ module _ (end : ℕ) where
   rule_of-shown_rule r readable =
       let ws = plain (shown_rule r) in
       let (m, within, read) = rule-words r readable.parts (length ws) (omega arith) in
-      ap (λ q. q >>= whole) read ∙ ap (λ s. finished s (unmet s)) readable.conditions ∙ ap (finished r) readable.met
+      ap (λ q. q >>= with_needs_met) read ∙ ap (λ s. unless_unmet s (unmet s)) readable.conditions ∙ ap (unless_unmet r) readable.met

@@ -8,7 +8,9 @@ use Rattle.rules.specs.printing.RoundTrip.{ReadsItself, TextReadsBack, HasShortL
 use Rattle.rules.specs.reading.Steps.{rule_of}
 use Rattle.rules.specs.declared.reading.fault.Refusal.{Refusal}
 use Rattle.rules.proofs.laws.reading.Readable.{IsReadable}
+use Rattle.rules.proofs.laws.reading.OrderLaws.{readable-of}
 use Rattle.rules.proofs.laws.reading.ReadableLaws.{read-readable}
+use Rattle.rules.specs.rule.Readable as public
 use Rattle.rules.proofs.laws.printing.RoundLaws.{rule_of-shown_rule}
 use Rattle.rules.proofs.laws.options.TableLaws.{plain}
 use Rattle.rules.proofs.laws.printing.TextLaws.{words-of-text, rule-short}
@@ -19,6 +21,13 @@ read_reads end words r e = rule_of-shown_rule 0 r (read-readable end words r e)
 
 pub readable : (r : Rule) → ReadsItself r → IsReadable r
 readable r is = read-readable 0 (plain (shown_rule r)) r is
+
+-- every rule is readable, so its options stand in the order of a listing
+pub is_readable : (r : Rule) → ReadsItself r → public.IsReadable r
+is_readable r is = readable-of r (readable r is)
+
+pub is_in_order : (r : Rule) → ReadsItself r → public.IsInOrder r
+is_in_order r is = (is_readable r is).ordered
 
 pub text_reads_back : (r : Rule) → ReadsItself r → TextReadsBack r
 text_reads_back r is = (plain (shown_rule r), words-of-text r (readable r is).parts, λ end. rule_of-shown_rule end r (readable r is))
@@ -45,3 +54,6 @@ is_only_one r is other (words, cut, reads) same =
 -- rules that were read are equal where their texts are
 pub same_text : (r s : Rule) → ReadsItself r → ReadsItself s → rule_text r ≡ rule_text s → r ≡ s
 same_text r s first second same = is_only_one s second r (text_reads_back r first) same
+
+-- what the text of a rule is
+pub ruleset listing_laws = (text_reads_back, is_only_one, line_is_short)

@@ -18,14 +18,14 @@ use Rattle.rules.specs.rule.Rules.{Match, Rule}
 use Rattle.rules.specs.printing.Printing.{one, shown_value, shown_bang, shown_setting, shown_settings, shown_match, shown_action, shown_rule, rule_text}
 use Rattle.rules.specs.declared.rule.action.Action.{Action}
 use Rattle.rules.specs.declared.rule.action.Action.TheVariants as action
-use Rattle.rules.specs.declared.options.match_kind.Kind.{Kind}
-use Rattle.rules.specs.declared.options.match_kind.Kind.TheVariants as kind
+use Rattle.rules.specs.declared.options.match_kind.MatchKind.{MatchKind}
+use Rattle.rules.specs.declared.options.match_kind.MatchKind.TheVariants as kind
 use Rattle.rules.specs.declared.options.option.Opt.{Opt}
 use Rattle.rules.specs.declared.options.option.Owner.{Owner}
 use Rattle.rules.specs.declared.options.option.Owner.TheVariants as owned
 use Rattle.rules.specs.declared.options.option.TheConstants.Opt as options
 use Rattle.rules.specs.declared.options.setting.Setting.{Setting}
-use Rattle.rules.proofs.laws.reading.Readable.{value_room, ReadsBack, Each, Rises, IsGroup, OfRule, OfMatch, OfAction, ActionBack, IsMatch, HasParts}
+use Rattle.rules.proofs.laws.reading.Readable.{value_room, ReadsBack, Each, Rises, IsGroup, OfRule, OfMatch, OfAction, ActionBack, IsMatch, IsLegal}
 use Rattle.rules.proofs.laws.options.TableLaws.{plain, each_option, each_kind}
 use Rattle.rules.proofs.laws.options.WordForms.{name-word}
 
@@ -51,7 +51,7 @@ bare-from text is =
 name-bare : (o : Opt) → IsBareWord (name_of o)
 name-bare o = bare-from (name_of o) (each_option (λ o. is_bare_word (name_of o)) refl o)
 
-kind-bare : (k : Kind) → IsBareWord (kind_name k)
+kind-bare : (k : MatchKind) → IsBareWord (kind_name k)
 kind-bare k = bare-from (kind_name k) (each_kind (λ k. is_bare_word (kind_name k)) refl k)
 
 setting-spelled : (s : Setting) → ReadsBack s → AreSpelled (shown_setting s)
@@ -87,13 +87,13 @@ action-spelled (Some (action.Jump name)) back = two-words (codes "-j") name (bar
 action-spelled (Some (action.Goto name)) back = two-words (codes "-g") name (bare-from (codes "-g") refl) (name-word name back).bare
 
 -- the words of a readable rule are spelled
-pub rule-spelled : (r : Rule) → HasParts r → AreSpelled (shown_rule r)
+pub rule-spelled : (r : Rule) → IsLegal r → AreSpelled (shown_rule r)
 rule-spelled r has =
-    words-more (shown_settings r.settings) (flat_map shown_match r.matches ++ (shown_action r.action ++ shown_settings r.extras)) (settings-spelled r.settings has.settings.back)
-    (words-more (flat_map shown_match r.matches) (shown_action r.action ++ shown_settings r.extras) (matches-spelled r.matches has.matches)
-    (words-more (shown_action r.action) (shown_settings r.extras) (action-spelled r.action has.action) (settings-spelled r.extras has.extras.back)))
+    words-more (shown_settings r.settings) (flat_map shown_match r.matches ++ (shown_action r.action ++ shown_settings r.target_options)) (settings-spelled r.settings has.settings.back)
+    (words-more (flat_map shown_match r.matches) (shown_action r.action ++ shown_settings r.target_options) (matches-spelled r.matches has.matches)
+    (words-more (shown_action r.action) (shown_settings r.target_options) (action-spelled r.action has.action) (settings-spelled r.target_options has.target_options.back)))
 
-pub words-of-text : (r : Rule) → HasParts r → words_of (rule_text r) ≡ Some (plain (shown_rule r))
+pub words-of-text : (r : Rule) → IsLegal r → words_of (rule_text r) ≡ Some (plain (shown_rule r))
 words-of-text r has = words_of-spaced_all (shown_rule r) (rule-spelled r has)
 
 -- how many bytes an option has at most, with `!`, its name and its values
@@ -201,7 +201,7 @@ unfolding rest
 own-size ss is = group-size rule_limits 0 ss is.rises is.back (fits-all OfRule rule_limits own-room ss is.own)
 
 -- a match
-abbrev kind_limits : Kind → List ℕ
+abbrev kind_limits : MatchKind → List ℕ
 kind_limits kind.Tcp = 22 ∷ 22 ∷ 62 ∷ []
 kind_limits kind.Udp = 22 ∷ 22 ∷ []
 kind_limits kind.Icmp = 22 ∷ []
@@ -211,11 +211,11 @@ kind_limits kind.Conntrack = 73 ∷ []
 kind_limits kind.State = 71 ∷ []
 kind_limits kind.Comment = 525 ∷ []
 
-match-room : (k : Kind) (o : Opt) → kind_has k o ≡ true → setting_room o ≤ get_or (kind_limits k) (slot o) 0
+match-room : (k : MatchKind) (o : Opt) → kind_has k o ≡ true → setting_room o ≤ get_or (kind_limits k) (slot o) 0
 match-room k o e =
     allowed (kind_has k o) (setting_room o) (get_or (kind_limits k) (slot o) 0) (each_option (λ o. not (kind_has k o) || nat_le (setting_room o) (get_or (kind_limits k) (slot o) 0)) (each_kind (λ k. list_all (λ o. not (kind_has k o) || nat_le (setting_room o) (get_or (kind_limits k) (slot o) 0)) options.ALL) refl k) o) e
 
-kind-room : (k : Kind) → 3 + (length (kind_name k) + 1 + rest 0 (kind_limits k)) ≤ 536
+kind-room : (k : MatchKind) → 3 + (length (kind_name k) + 1 + rest 0 (kind_limits k)) ≤ 536
 unfolding rest
 kind-room k = leb-true _ 536 (each_kind (λ k. nat_le (3 + (length (kind_name k) + 1 + rest 0 (kind_limits k))) 536) refl k)
 
@@ -242,15 +242,15 @@ action_limits (Some action.Reject) = 37 ∷ []
 action_limits (Some action.Log) = 74 ∷ 14 ∷ 19 ∷ 18 ∷ 17 ∷ 10 ∷ []
 action_limits g = []
 
-extra-room : (g : Option Action) (o : Opt) → is_action_of g (owner o) ≡ true → setting_room o ≤ get_or (action_limits g) (slot o) 0
-extra-room None o e = false-true e
-extra-room (Some action.Accept) o e = allowed (is_action_of (Some action.Accept) (owner o)) (setting_room o) (get_or (action_limits (Some action.Accept)) (slot o) 0) (each_option (λ o. not (is_action_of (Some action.Accept) (owner o)) || nat_le (setting_room o) (get_or (action_limits (Some action.Accept)) (slot o) 0)) refl o) e
-extra-room (Some action.Drop) o e = allowed (is_action_of (Some action.Drop) (owner o)) (setting_room o) (get_or (action_limits (Some action.Drop)) (slot o) 0) (each_option (λ o. not (is_action_of (Some action.Drop) (owner o)) || nat_le (setting_room o) (get_or (action_limits (Some action.Drop)) (slot o) 0)) refl o) e
-extra-room (Some action.Return) o e = allowed (is_action_of (Some action.Return) (owner o)) (setting_room o) (get_or (action_limits (Some action.Return)) (slot o) 0) (each_option (λ o. not (is_action_of (Some action.Return) (owner o)) || nat_le (setting_room o) (get_or (action_limits (Some action.Return)) (slot o) 0)) refl o) e
-extra-room (Some action.Reject) o e = allowed (is_action_of (Some action.Reject) (owner o)) (setting_room o) (get_or (action_limits (Some action.Reject)) (slot o) 0) (each_option (λ o. not (is_action_of (Some action.Reject) (owner o)) || nat_le (setting_room o) (get_or (action_limits (Some action.Reject)) (slot o) 0)) refl o) e
-extra-room (Some action.Log) o e = allowed (is_action_of (Some action.Log) (owner o)) (setting_room o) (get_or (action_limits (Some action.Log)) (slot o) 0) (each_option (λ o. not (is_action_of (Some action.Log) (owner o)) || nat_le (setting_room o) (get_or (action_limits (Some action.Log)) (slot o) 0)) refl o) e
-extra-room (Some (action.Jump n)) o e = allowed (is_action_of (Some (action.Jump n)) (owner o)) (setting_room o) (get_or (action_limits (Some (action.Jump n))) (slot o) 0) (each_option (λ o. not (is_action_of (Some (action.Jump n)) (owner o)) || nat_le (setting_room o) (get_or (action_limits (Some (action.Jump n))) (slot o) 0)) refl o) e
-extra-room (Some (action.Goto n)) o e = allowed (is_action_of (Some (action.Goto n)) (owner o)) (setting_room o) (get_or (action_limits (Some (action.Goto n))) (slot o) 0) (each_option (λ o. not (is_action_of (Some (action.Goto n)) (owner o)) || nat_le (setting_room o) (get_or (action_limits (Some (action.Goto n))) (slot o) 0)) refl o) e
+target-room : (g : Option Action) (o : Opt) → is_action_of g (owner o) ≡ true → setting_room o ≤ get_or (action_limits g) (slot o) 0
+target-room None o e = false-true e
+target-room (Some action.Accept) o e = allowed (is_action_of (Some action.Accept) (owner o)) (setting_room o) (get_or (action_limits (Some action.Accept)) (slot o) 0) (each_option (λ o. not (is_action_of (Some action.Accept) (owner o)) || nat_le (setting_room o) (get_or (action_limits (Some action.Accept)) (slot o) 0)) refl o) e
+target-room (Some action.Drop) o e = allowed (is_action_of (Some action.Drop) (owner o)) (setting_room o) (get_or (action_limits (Some action.Drop)) (slot o) 0) (each_option (λ o. not (is_action_of (Some action.Drop) (owner o)) || nat_le (setting_room o) (get_or (action_limits (Some action.Drop)) (slot o) 0)) refl o) e
+target-room (Some action.Return) o e = allowed (is_action_of (Some action.Return) (owner o)) (setting_room o) (get_or (action_limits (Some action.Return)) (slot o) 0) (each_option (λ o. not (is_action_of (Some action.Return) (owner o)) || nat_le (setting_room o) (get_or (action_limits (Some action.Return)) (slot o) 0)) refl o) e
+target-room (Some action.Reject) o e = allowed (is_action_of (Some action.Reject) (owner o)) (setting_room o) (get_or (action_limits (Some action.Reject)) (slot o) 0) (each_option (λ o. not (is_action_of (Some action.Reject) (owner o)) || nat_le (setting_room o) (get_or (action_limits (Some action.Reject)) (slot o) 0)) refl o) e
+target-room (Some action.Log) o e = allowed (is_action_of (Some action.Log) (owner o)) (setting_room o) (get_or (action_limits (Some action.Log)) (slot o) 0) (each_option (λ o. not (is_action_of (Some action.Log) (owner o)) || nat_le (setting_room o) (get_or (action_limits (Some action.Log)) (slot o) 0)) refl o) e
+target-room (Some (action.Jump n)) o e = allowed (is_action_of (Some (action.Jump n)) (owner o)) (setting_room o) (get_or (action_limits (Some (action.Jump n))) (slot o) 0) (each_option (λ o. not (is_action_of (Some (action.Jump n)) (owner o)) || nat_le (setting_room o) (get_or (action_limits (Some (action.Jump n))) (slot o) 0)) refl o) e
+target-room (Some (action.Goto n)) o e = allowed (is_action_of (Some (action.Goto n)) (owner o)) (setting_room o) (get_or (action_limits (Some (action.Goto n))) (slot o) 0) (each_option (λ o. not (is_action_of (Some (action.Goto n)) (owner o)) || nat_le (setting_room o) (get_or (action_limits (Some (action.Goto n))) (slot o) 0)) refl o) e
 
 action-size : (g : Option Action) → ActionBack g → size (shown_action g) + rest 0 (action_limits g) ≤ 159
 unfolding size rest
@@ -272,19 +272,19 @@ action-size (Some (action.Goto name)) back =
     omega (arith, short, whole, word)
 
 -- the text of a readable rule has at most 110 + 16 * 536 + 159 bytes
-pub rule-short : (r : Rule) → HasParts r → length (rule_text r) ≤ 8845
+pub rule-short : (r : Rule) → IsLegal r → length (rule_text r) ≤ 8845
 unfolding size
 rule-short r has =
     let a = shown_settings r.settings in
     let b = flat_map shown_match r.matches in
     let c = shown_action r.action in
-    let d = shown_settings r.extras in
+    let d = shown_settings r.target_options in
     let own = own-size r.settings has.settings in
     let few = has.few in
     let matches = matches-size r.matches has.matches in
     let target = action-size r.action has.action in
-    let extras = group-size (action_limits r.action) 0 r.extras has.extras.rises has.extras.back (fits-all (OfAction r.action) (action_limits r.action) (extra-room r.action) r.extras has.extras.own) in
+    let target_options = group-size (action_limits r.action) 0 r.target_options has.target_options.rises has.target_options.back (fits-all (OfAction r.action) (action_limits r.action) (target-room r.action) r.target_options has.target_options.own) in
     let one = size-append a (b ++ (c ++ d)) in
     let two = size-append b (c ++ d) in
     let three = size-append c d in
-    omega (arith, own, few, matches, target, extras, one, two, three)
+    omega (arith, own, few, matches, target, target_options, one, two, three)

@@ -7,9 +7,10 @@ use Rattle.fields.specs.text.Printed.{Shown, bare}
 use Rattle.rules.specs.Sequence.{◌>>=◌}
 use Rattle.rules.specs.options.Options.{name_of, owner, slot}
 use Rattle.rules.specs.options.Settings.{option_of_value, slot_of, value_of}
-use Rattle.rules.specs.rule.Rules.{Rule, is_given, placed}
+use Rattle.rules.specs.rule.Rules.{Rule}
 use Rattle.rules.specs.printing.Printing.{shown_value, shown_bang, shown_setting, shown_settings}
-use Rattle.rules.specs.reading.Steps.{part_at, added, step}
+use Rattle.rules.specs.reading.Steps.{with_option, step, is_given, insert_by_place}
+use Rattle.rules.specs.reading.OptionWords.{option_words_at}
 use Rattle.rules.specs.declared.reading.fault.Refusal.{Refusal}
 use Rattle.rules.specs.declared.reading.fault.Refusal.TheVariants as refusal
 use Rattle.rules.specs.declared.options.option.Opt.{Opt}
@@ -17,15 +18,15 @@ use Rattle.rules.specs.declared.options.option.Owner.{Owner}
 use Rattle.rules.specs.declared.options.setting.Setting.{Setting}
 use Rattle.rules.specs.declared.options.value.Value.{Value}
 use Rattle.rules.proofs.laws.options.TableLaws.{plain, value_count-is}
-use Rattle.rules.proofs.laws.reading.OptionWordsLaws.{the_part, part_words, part_at-part_words, Continues, continues-nothing, continues-then, continues-part}
+use Rattle.rules.proofs.laws.reading.OptionWordsLaws.{the_option_words, words_of_option, option_words_at-words_of_option, Continues, continues-nothing, continues-then, continues-option}
 use Rattle.rules.proofs.laws.reading.Readable.{ReadsBack, Each, Rises, IsGroup}
 
-plain-bang : (b : Bool) (o : Opt) (vs : List Shown) → plain (shown_bang b ++ (bare (name_of o) ∷ vs)) ≡ part_words b o (plain vs)
+plain-bang : (b : Bool) (o : Opt) (vs : List Shown) → plain (shown_bang b ++ (bare (name_of o) ∷ vs)) ≡ words_of_option b o (plain vs)
 plain-bang true o vs = refl
 plain-bang false o vs = refl
 
 -- a setting is printed as a part
-pub plain-setting : (s : Setting) → plain (shown_setting s) ≡ part_words s.inverted (option_of_value s.value) (plain (shown_value s.value))
+pub plain-setting : (s : Setting) → plain (shown_setting s) ≡ words_of_option s.inverted (option_of_value s.value) (plain (shown_value s.value))
 plain-setting s = plain-bang s.inverted (option_of_value s.value) (shown_value s.value)
 
 -- all stand before a place
@@ -45,38 +46,38 @@ none-given : (n : ℕ) (ss : List Setting) → Below n ss → is_given n ss ≡ 
 none-given n [] below = refl
 none-given n (s ∷ ss) below = ap (λ b. b || is_given n ss) (ne_eqb (slot_of s) n (λ e. let h = below.0 in omega (arith, e, h))) ∙ none-given n ss below.1
 
-placed-end : (n : ℕ) (s : Setting) (ss : List Setting) → Below n ss → placed n s ss ≡ ss ++ s ∷ []
-placed-end n s [] below = refl
-placed-end n s (t ∷ ts) below =
+insert_by_place-end : (n : ℕ) (s : Setting) (ss : List Setting) → Below n ss → insert_by_place n s ss ≡ ss ++ s ∷ []
+insert_by_place-end n s [] below = refl
+insert_by_place-end n s (t ∷ ts) below =
     let h = below.0 in
-    ap (λ b. cond b (s ∷ t ∷ ts) (t ∷ placed n s ts)) (le-ltb n (slot_of t) (omega arith)) ∙ ap (λ l. t ∷ l) (placed-end n s ts below.1)
+    ap (λ b. cond b (s ∷ t ∷ ts) (t ∷ insert_by_place n s ts)) (le-ltb n (slot_of t) (omega arith)) ∙ ap (λ l. t ∷ l) (insert_by_place-end n s ts below.1)
 
 -- a setting whose place is behind all others is put at the end
-pub added-end : (ss : List Setting) (s : Setting) (place : ℕ) → Below (slot_of s) ss → ReadsBack s
-    → added ss (the_part s.inverted (option_of_value s.value) (plain (shown_value s.value)) place) ≡ Ok (ss ++ s ∷ [])
-unfolding added
-added-end ss s place below back =
-    let p = the_part s.inverted (option_of_value s.value) (plain (shown_value s.value)) place in
-    let put : Value → Result (List Setting) Refusal = λ v. Ok (placed (slot p.option) (record { inverted = s.inverted; value = v }) ss) in
+pub with_option-end : (ss : List Setting) (s : Setting) (place : ℕ) → Below (slot_of s) ss → ReadsBack s
+    → with_option ss (the_option_words s.inverted (option_of_value s.value) (plain (shown_value s.value)) place) ≡ Ok (ss ++ s ∷ [])
+unfolding with_option
+with_option-end ss s place below back =
+    let p = the_option_words s.inverted (option_of_value s.value) (plain (shown_value s.value)) place in
+    let put : Value → Result (List Setting) Refusal = λ v. Ok (insert_by_place (slot p.option) (record { inverted = s.inverted; value = v }) ss) in
     ap (λ b. cond b (Err refusal.RepeatedOption) (value_of p.option p.inverted p.values >>= put)) (none-given (slot_of s) ss below)
-    ∙ ap (λ r. r >>= put) back.text ∙ ap (λ l. Ok l) (placed-end (slot_of s) s ss below)
+    ∙ ap (λ r. r >>= put) back.text ∙ ap (λ l. Ok l) (insert_by_place-end (slot_of s) s ss below)
 
 -- what a group's options do, one behind another
 module _ (end : ℕ) (Owns : Owner → Type 0) (state : List Setting → Rule)
     (takes : (ss : List Setting) (s : Setting) (place : ℕ) → Owns (owner (option_of_value s.value)) → Below (slot_of s) ss → ReadsBack s
-    → step (state ss) (the_part s.inverted (option_of_value s.value) (plain (shown_value s.value)) place) ≡ Ok (state (ss ++ s ∷ []))) where
+    → step (state ss) (the_option_words s.inverted (option_of_value s.value) (plain (shown_value s.value)) place) ≡ Ok (state (ss ++ s ∷ []))) where
   one-setting : (ss : List Setting) (s : Setting) (rest : List (List ℕ)) → Owns (owner (option_of_value s.value)) → Below (slot_of s) ss → ReadsBack s
-      → Continues end (state ss) (part_words s.inverted (option_of_value s.value) (plain (shown_value s.value)) ++ rest) (state (ss ++ s ∷ [])) rest
+      → Continues end (state ss) (words_of_option s.inverted (option_of_value s.value) (plain (shown_value s.value)) ++ rest) (state (ss ++ s ∷ [])) rest
   one-setting ss s rest owns below back =
-      let (place, read) = part_at-part_words end s.inverted (option_of_value s.value) (plain (shown_value s.value)) rest (value_count-is s.value) back.bang in
+      let (place, read) = option_words_at-words_of_option end s.inverted (option_of_value s.value) (plain (shown_value s.value)) rest (value_count-is s.value) back.bang in
       continues-words s.inverted (option_of_value s.value) (plain (shown_value s.value)) rest (state ss) (state (ss ++ s ∷ [])) place read (takes ss s place owns below back)
     where
-      continues-words : (b : Bool) (o : Opt) (values rest : List (List ℕ)) (r s : Rule) (place : ℕ) → part_at end (part_words b o values ++ rest) ≡ Ok (the_part b o values place, rest)
-          → step r (the_part b o values place) ≡ Ok s → Continues end r (part_words b o values ++ rest) s rest
+      continues-words : (b : Bool) (o : Opt) (values rest : List (List ℕ)) (r s : Rule) (place : ℕ) → option_words_at end (words_of_option b o values ++ rest) ≡ Ok (the_option_words b o values place, rest)
+          → step r (the_option_words b o values place) ≡ Ok s → Continues end r (words_of_option b o values ++ rest) s rest
       continues-words true o values rest r s place read stepped =
-          continues-part end r s (codes "!") (name_of o ∷ (values ++ rest)) rest (the_part true o values place) read stepped (omega (arith, length-append values rest))
+          continues-option end r s (codes "!") (name_of o ∷ (values ++ rest)) rest (the_option_words true o values place) read stepped (omega (arith, length-append values rest))
       continues-words false o values rest r s place read stepped =
-          continues-part end r s (name_of o) (values ++ rest) rest (the_part false o values place) read stepped (omega (arith, length-append values rest))
+          continues-option end r s (name_of o) (values ++ rest) rest (the_option_words false o values place) read stepped (omega (arith, length-append values rest))
 
   settings-from : (n : ℕ) (before ss : List Setting) (rest : List (List ℕ)) → Below n before → Rises n ss → Each (λ s. Owns (owner (option_of_value s.value))) ss → Each ReadsBack ss
       → Continues end (state before) (plain (shown_settings ss) ++ rest) (state (before ++ ss)) rest
@@ -84,15 +85,15 @@ module _ (end : ℕ) (Owns : Owner → Type 0) (state : List Setting → Rule)
       subst (λ l. Continues end (state before) rest (state l) rest) (sym (append-nil before)) (continues-nothing end (state before) rest)
   settings-from n before (s ∷ ss) rest below rises own back =
       let here = rises.0 in
-      let words : plain (shown_settings (s ∷ ss)) ++ rest ≡ part_words s.inverted (option_of_value s.value) (plain (shown_value s.value)) ++ (plain (shown_settings ss) ++ rest) =
+      let words : plain (shown_settings (s ∷ ss)) ++ rest ≡ words_of_option s.inverted (option_of_value s.value) (plain (shown_value s.value)) ++ (plain (shown_settings ss) ++ rest) =
       ap (λ l. l ++ rest) (map-append (λ (w : Shown). w.word) (shown_setting s) (shown_settings ss) ∙ ap (λ l. l ++ plain (shown_settings ss)) (plain-setting s))
-      ∙ append_assoc (part_words s.inverted (option_of_value s.value) (plain (shown_value s.value))) (plain (shown_settings ss)) rest in
+      ∙ append_assoc (words_of_option s.inverted (option_of_value s.value) (plain (shown_value s.value))) (plain (shown_settings ss)) rest in
       let here-below = below-more n (slot_of s) before here below in
       let next-below = below-end (suc (slot_of s)) before s (below-more (slot_of s) (suc (slot_of s)) before (omega arith) here-below) (omega arith) in
       let after = continues-then end (state before) (state (before ++ s ∷ [])) (state ((before ++ s ∷ []) ++ ss)) _ (plain (shown_settings ss) ++ rest) rest
       (one-setting before s (plain (shown_settings ss) ++ rest) own.0 here-below back.0) (settings-from (suc (slot_of s)) (before ++ s ∷ []) ss rest next-below rises.1 own.1 back.1) in
       subst (λ l. Continues end (state before) l (state (before ++ s ∷ ss)) rest) (sym words)
-      (subst (λ l. Continues end (state before) (part_words s.inverted (option_of_value s.value) (plain (shown_value s.value)) ++ (plain (shown_settings ss) ++ rest)) (state l) rest) (append_assoc before (s ∷ []) ss) after)
+      (subst (λ l. Continues end (state before) (words_of_option s.inverted (option_of_value s.value) (plain (shown_value s.value)) ++ (plain (shown_settings ss) ++ rest)) (state l) rest) (append_assoc before (s ∷ []) ss) after)
 
   pub settings-read : (ss : List Setting) (rest : List (List ℕ)) → IsGroup Owns ss → Continues end (state []) (plain (shown_settings ss) ++ rest) (state ss) rest
   settings-read ss rest is = settings-from 0 [] ss rest tt is.rises is.own is.back

@@ -2,14 +2,14 @@
 use Rattle.std.proofs.Common.{◌≡◌, ℕ, ◌+◌, Bool, true, false, cond, List, [], ◌∷◌, refl, ap, ◌∙◌, ltb, add-one}
 use Rattle.std.specs.Prelude.{insert}
 use Rattle.rules.specs.options.Settings.{slot_of}
-use Rattle.rules.specs.rule.Rules.{placed}
+use Rattle.rules.specs.reading.Steps.{insert_by_place}
 use Rattle.rules.specs.steps.Places.{rank}
 use Rattle.rules.specs.declared.options.setting.Setting.{Setting}
 
-pub placed_is : (n : ℕ) (s : Setting) (ss : List Setting) → insert ss (rank n ss) s ≡ placed n s ss
-placed_is n s [] = refl
-placed_is n s (t ∷ ts) = go (ltb n (slot_of t)) (placed_is n s ts)
+pub inserted_by_place : (n : ℕ) (s : Setting) (ss : List Setting) → insert ss (rank n ss) s ≡ insert_by_place n s ss
+inserted_by_place n s [] = refl
+inserted_by_place n s (t ∷ ts) = go (ltb n (slot_of t)) (inserted_by_place n s ts)
   where
-    go : (b : Bool) → insert ts (rank n ts) s ≡ placed n s ts → insert (t ∷ ts) (cond b 0 (rank n ts + 1)) s ≡ cond b (s ∷ t ∷ ts) (t ∷ placed n s ts)
+    go : (b : Bool) → insert ts (rank n ts) s ≡ insert_by_place n s ts → insert (t ∷ ts) (cond b 0 (rank n ts + 1)) s ≡ cond b (s ∷ t ∷ ts) (t ∷ insert_by_place n s ts)
     go true h = refl
     go false h = ap (λ k. insert (t ∷ ts) k s) (add-one (rank n ts)) ∙ ap (λ l. t ∷ l) h

@@ -6,9 +6,9 @@ use Rattle.fields.specs.text.Printed.{Shown, AreSpelled, spaced_all}
 use Rattle.rules.specs.rule.Actions.{is_action_of}
 use Rattle.rules.specs.options.Options.{may_be_inverted, owner, is_match_of}
 use Rattle.rules.specs.options.Settings.{option_of_value, slot_of, value_of}
-use Rattle.rules.specs.rule.Rules.{Match, Rule, completed}
+use Rattle.rules.specs.rule.Rules.{Match, Rule, normal_form}
 use Rattle.rules.specs.printing.Printing.{shown_value}
-use Rattle.rules.specs.reading.Steps.{unmet}
+use Rattle.rules.specs.rule.Needs.{unmet}
 use Rattle.rules.specs.declared.rule.action.Action.{Action}
 use Rattle.rules.specs.declared.rule.action.Action.TheVariants as action
 use Rattle.rules.specs.declared.options.option.Opt.{Opt}
@@ -82,15 +82,15 @@ abbrev pub IsMatch : Match → Type 0
 IsMatch m = IsGroup (OfMatch m) m.settings
 
 -- The parts of a rule are legal beside one another.
-pub record HasParts (r : Rule) : Type 0 where
+pub record IsLegal (r : Rule) : Type 0 where
   pub settings : IsGroup OfRule r.settings
   pub few : length r.matches ≤ 16
   pub matches : Each IsMatch r.matches
   pub action : ActionBack r.action
-  pub extras : IsGroup (OfAction r.action) r.extras
+  pub target_options : IsGroup (OfAction r.action) r.target_options
 
 -- A rule whose text reads back.
 pub record IsReadable (r : Rule) : Type 0 where
-  pub parts : HasParts r
-  pub conditions : completed r ≡ r
+  pub parts : IsLegal r
+  pub conditions : normal_form r ≡ r
   pub met : unmet r ≡ None

@@ -11,14 +11,16 @@ use Rattle.fields.proofs.laws.values.RejectLaws.{reads_text}
 use Rattle.rules.specs.Sequence.{◌>>=◌}
 use Rattle.rules.specs.options.Options.{owner}
 use Rattle.rules.specs.options.Settings.{option_of_value, slot_of, read_as, value_of, is_trivial, is_condition}
-use Rattle.rules.specs.rule.Rules.{Match, Rule, empty_rule, match_default, action_default, or_default, completed_match, completed}
-use Rattle.rules.specs.reading.Rows.{IsRow}
-use Rattle.rules.specs.reading.Steps.{Part, steps_from, unmet, finished, whole, rule_of}
+use Rattle.rules.specs.rule.Rules.{Match, Rule, empty_rule, match_default, action_default, or_default, normal_match, normal_form}
+use Rattle.rules.specs.reading.Grammar.{AreOptions}
+use Rattle.rules.specs.reading.Steps.{steps_from, unless_unmet, with_needs_met, rule_of}
+use Rattle.rules.specs.reading.OptionWords.{OptionWords}
+use Rattle.rules.specs.rule.Needs.{unmet}
 use Rattle.rules.specs.declared.rule.action.Action.{Action}
 use Rattle.rules.specs.declared.rule.action.Action.TheVariants as action
 use Rattle.rules.specs.declared.reading.fault.Refusal.{Refusal}
-use Rattle.rules.specs.declared.options.match_kind.Kind.{Kind}
-use Rattle.rules.specs.declared.options.match_kind.Kind.TheVariants as kind
+use Rattle.rules.specs.declared.options.match_kind.MatchKind.{MatchKind}
+use Rattle.rules.specs.declared.options.match_kind.MatchKind.TheVariants as kind
 use Rattle.rules.specs.declared.options.option.Opt.{Opt}
 use Rattle.rules.specs.declared.options.option.Opt.TheVariants as opt
 use Rattle.rules.specs.options.Matches.{same_kind}
@@ -27,8 +29,8 @@ use Rattle.rules.specs.declared.options.setting.Setting.{Setting}
 use Rattle.rules.specs.declared.options.value.Value.{Value}
 use Rattle.rules.specs.declared.options.value.Value.TheVariants as value
 use Rattle.rules.proofs.laws.reading.KeepLaws.{rises-more, step-keeps, empty-parts}
-use Rattle.rules.proofs.laws.reading.Readable.{ReadsBack, Each, Rises, IsGroup, OfRule, OfMatch, OfAction, IsMatch, HasParts, IsReadable}
-use Rattle.rules.proofs.laws.reading.RowLaws.{steps-row}
+use Rattle.rules.proofs.laws.reading.Readable.{ReadsBack, Each, Rises, IsGroup, OfRule, OfMatch, OfAction, IsMatch, IsLegal, IsReadable}
+use Rattle.rules.proofs.laws.reading.GrammarLaws.{steps-row}
 use Rattle.rules.proofs.laws.options.ValueLaws.{IsGood, value_of-good}
 
 -- the conditions of a group
@@ -88,7 +90,7 @@ reject-fits =
     good-back opt.RejectWith (value.RejectWith reject.PortUnreachable)
     (value_of-good opt.RejectWith false (reject_text reject.PortUnreachable ∷ []) (value.RejectWith reject.PortUnreachable) (ap (read_as value.RejectWith) (reads_text (reject_text reject.PortUnreachable) reject.PortUnreachable refl)))
 
-match-fits : (k : Kind) (m : Match) → m.kind ≡ k → FitsDefault (OfMatch m) (match_default k)
+match-fits : (k : MatchKind) (m : Match) → m.kind ≡ k → FitsDefault (OfMatch m) (match_default k)
 match-fits kind.Tcp m is = tt
 match-fits kind.Udp m is = tt
 match-fits kind.Icmp m is = (icmp-fits, ap (λ k. same_kind kind.Icmp k) is, refl)
@@ -108,20 +110,20 @@ action-fits (Some action.Log) = tt
 action-fits (Some (action.Jump n)) = tt
 action-fits (Some (action.Goto n)) = tt
 
-completed-matches : (ms : List Match) → Each IsMatch ms → Each IsMatch (map completed_match ms)
-completed-matches [] each = tt
-completed-matches (m ∷ ms) each =
-    (settled-group (OfMatch m) (match_default m.kind) (filter is_condition m.settings) (match-fits m.kind m refl) (kept-group (OfMatch m) m.settings each.0), completed-matches ms each.1)
+normal_form-matches : (ms : List Match) → Each IsMatch ms → Each IsMatch (map normal_match ms)
+normal_form-matches [] each = tt
+normal_form-matches (m ∷ ms) each =
+    (settled-group (OfMatch m) (match_default m.kind) (filter is_condition m.settings) (match-fits m.kind m refl) (kept-group (OfMatch m) m.settings each.0), normal_form-matches ms each.1)
 
-completed-keeps : (r : Rule) → HasParts r → HasParts (completed r)
-completed-keeps r has =
+normal_form-keeps : (r : Rule) → IsLegal r → IsLegal (normal_form r)
+normal_form-keeps r has =
     let few = has.few in
     record {
       settings = kept-group OfRule r.settings has.settings;
-      few = omega (arith, few, length-map r.matches completed_match);
-      matches = completed-matches r.matches has.matches;
+      few = omega (arith, few, length-map r.matches normal_match);
+      matches = normal_form-matches r.matches has.matches;
       action = has.action;
-      extras = settled-group (OfAction r.action) (action_default r.action) (filter is_condition r.extras) (action-fits r.action) (kept-group (OfAction r.action) r.extras has.extras);
+      target_options = settled-group (OfAction r.action) (action_default r.action) (filter is_condition r.target_options) (action-fits r.action) (kept-group (OfAction r.action) r.target_options has.target_options);
     }
 
 -- what is complete stays as it is
@@ -145,32 +147,32 @@ settled-twice Owns (Some v) [] fits kept = ap (λ b. or_default (Some v) (cond (
 settled-twice Owns None (s ∷ ss) fits kept = kept
 settled-twice Owns (Some v) (s ∷ ss) fits kept = ap (or_default (Some v)) kept
 
-match-twice : (m : Match) → completed_match (completed_match m) ≡ completed_match m
+match-twice : (m : Match) → normal_match (normal_match m) ≡ normal_match m
 match-twice m =
     ap (λ l. with_kind m.kind l) (settled-twice (OfMatch m) (match_default m.kind) (filter is_condition m.settings) (match-fits m.kind m refl) (kept-twice m.settings))
   where
-    with_kind : Kind → List Setting → Match
+    with_kind : MatchKind → List Setting → Match
     with_kind k l = record { kind = k; settings = l }
 
-matches-twice : (ms : List Match) → map completed_match (map completed_match ms) ≡ map completed_match ms
+matches-twice : (ms : List Match) → map normal_match (map normal_match ms) ≡ map normal_match ms
 matches-twice [] = refl
-matches-twice (m ∷ ms) = ap (λ n. n ∷ map completed_match (map completed_match ms)) (match-twice m) ∙ ap (λ l. completed_match m ∷ l) (matches-twice ms)
+matches-twice (m ∷ ms) = ap (λ n. n ∷ map normal_match (map normal_match ms)) (match-twice m) ∙ ap (λ l. normal_match m ∷ l) (matches-twice ms)
 
 abbrev rule_with : List Setting → List Match → Option Action → List Setting → Rule
-rule_with a b g d = record { settings = a; matches = b; action = g; extras = d }
+rule_with a b g d = record { settings = a; matches = b; action = g; target_options = d }
 
-completed-twice : (r : Rule) → completed (completed r) ≡ completed r
-completed-twice r =
+normal_form-twice : (r : Rule) → normal_form (normal_form r) ≡ normal_form r
+normal_form-twice r =
     let a = filter is_condition r.settings in
-    let b = map completed_match r.matches in
-    let d = or_default (action_default r.action) (filter is_condition r.extras) in
-    ap (λ l. rule_with l (map completed_match b) r.action (or_default (action_default r.action) (filter is_condition d))) (kept-twice r.settings)
+    let b = map normal_match r.matches in
+    let d = or_default (action_default r.action) (filter is_condition r.target_options) in
+    ap (λ l. rule_with l (map normal_match b) r.action (or_default (action_default r.action) (filter is_condition d))) (kept-twice r.settings)
     ∙ ap (λ l. rule_with a l r.action (or_default (action_default r.action) (filter is_condition d))) (matches-twice r.matches)
-    ∙ ap (λ l. rule_with a b r.action l) (settled-twice (OfAction r.action) (action_default r.action) (filter is_condition r.extras) (action-fits r.action) (kept-twice r.extras))
+    ∙ ap (λ l. rule_with a b r.action l) (settled-twice (OfAction r.action) (action_default r.action) (filter is_condition r.target_options) (action-fits r.action) (kept-twice r.target_options))
 
 -- a row of legal parts
-row-keeps : (end : ℕ) (parts : List Part) (r s : Rule) (words rest : List (List ℕ)) → IsRow end r parts words s rest → HasParts r → HasParts s
-row-keeps end [] r s words rest row has = subst HasParts row.1 has
+row-keeps : (end : ℕ) (parts : List OptionWords) (r s : Rule) (words rest : List (List ℕ)) → AreOptions end r parts words s rest → IsLegal r → IsLegal s
+row-keeps end [] r s words rest row has = subst IsLegal row.1 has
 row-keeps end (p ∷ ps) r s words rest (behind, t, begins, stepped, row) has = row-keeps end ps t s behind rest row (step-keeps r t p begins.bang has stepped)
 
 -- a rule that words read as is readable
@@ -178,17 +180,17 @@ pub read-readable : (end : ℕ) (words : List (List ℕ)) (r : Rule) → rule_of
 unfolding rule_of
 read-readable end words r e = go (steps_from (length words) end empty_rule words) refl e
   where
-    ends : (d : Rule) → HasParts d → (o : Option Refusal) → unmet (completed d) ≡ o → finished (completed d) o ≡ Ok r → IsReadable r
+    ends : (d : Rule) → IsLegal d → (o : Option Refusal) → unmet (normal_form d) ≡ o → unless_unmet (normal_form d) o ≡ Ok r → IsReadable r
     ends d has (Some f) told h = absurd (cc)
     ends d has None met h =
-        let is : completed d ≡ r = same (completed d) h in
-        subst IsReadable is (record { parts = completed-keeps d has; conditions = completed-twice d; met = met })
+        let is : normal_form d ≡ r = same (normal_form d) h in
+        subst IsReadable is (record { parts = normal_form-keeps d has; conditions = normal_form-twice d; met = met })
       where
         same : (x : Rule) → ◌≡◌ {A = Result Rule Refusal} (Ok x) (Ok r) → x ≡ r
         same x h = cc
 
-    go : (q : Result Rule Refusal) → steps_from (length words) end empty_rule words ≡ q → (q >>= whole) ≡ Ok r → IsReadable r
+    go : (q : Result Rule Refusal) → steps_from (length words) end empty_rule words ≡ q → (q >>= with_needs_met) ≡ Ok r → IsReadable r
     go (Err f) read h = absurd (cc)
     go (Ok d) read h =
         let (parts, row) = steps-row (length words) end empty_rule d words read in
-        ends d (row-keeps end parts empty_rule d words [] row empty-parts) (unmet (completed d)) refl h
+        ends d (row-keeps end parts empty_rule d words [] row empty-parts) (unmet (normal_form d)) refl h

@@ -4,13 +4,13 @@ use Rattle.std.specs.List.{list_all, list_any}
 use Rattle.std.proofs.lemmas.Bool.{or_parts, and_from}
 use Rattle.fields.specs.declared.numbers.field.Field.{Field}
 use Rattle.fields.specs.declared.numbers.field.Field.TheVariants as field
-use Rattle.rules.specs.options.Matches.{kind_row}
+use Rattle.rules.specs.options.Matches.{match_row}
 use Rattle.rules.specs.options.Options.{owner, is_match_of}
 use Rattle.rules.specs.options.Settings.{option_of_value}
 use Rattle.rules.specs.rule.Rules.{Match, Rule}
 use Rattle.rules.specs.rule.Allows.{field_of, holds_of, same_field, is_on, asks, asks_on, setting_allows, fragment_allows, match_allows, allows}
 use Rattle.rules.specs.printing.RoundTrip.{ReadsItself}
-use Rattle.rules.specs.declared.options.match_kind.Kind.{Kind}
+use Rattle.rules.specs.declared.options.match_kind.MatchKind.{MatchKind}
 use Rattle.rules.specs.declared.options.setting.Setting.{Setting}
 use Rattle.rules.specs.declared.options.value.Value.{Value}
 use Rattle.rules.specs.declared.options.value.Value.TheVariants as value
@@ -21,7 +21,7 @@ false-true : {A : Type 0} → false ≡ true → A
 false-true h = absurd (cc)
 
 -- no option of a match asks on an interface
-none-asks : (v : Value) (k : Kind) → is_match_of (owner (option_of_value v)) k ≡ true → (is_on field.InIface (field_of v) ≡ false) × (is_on field.OutIface (field_of v) ≡ false)
+none-asks : (v : Value) (k : MatchKind) → is_match_of (owner (option_of_value v)) k ≡ true → (is_on field.InIface (field_of v) ≡ false) × (is_on field.OutIface (field_of v) ≡ false)
 none-asks (value.Source x) k h = false-true h
 none-asks (value.Destination x) k h = false-true h
 none-asks (value.InInterface x) k h = false-true h
@@ -38,7 +38,7 @@ none-asks value.LogUid k h = false-true h
 none-asks v k h = (refl, refl)
 
 -- nor does a match
-module _ (f : Field) (none : (v : Value) (k : Kind) → is_match_of (owner (option_of_value v)) k ≡ true → is_on f (field_of v) ≡ false) where
+module _ (f : Field) (none : (v : Value) (k : MatchKind) → is_match_of (owner (option_of_value v)) k ≡ true → is_on f (field_of v) ≡ false) where
   settings-ask : (m : Match) (ss : List Setting) → Each (λ s. OfMatch m (owner (option_of_value s.value))) ss → list_any (asks f) ss ≡ false
   settings-ask m [] own = refl
   settings-ask m (s ∷ ss) own = ap (λ b. b || list_any (asks f) ss) (none s.value m.kind own.0) ∙ settings-ask m ss own.1
@@ -68,8 +68,8 @@ module _ (f : Field) (n : ℕ) (other : same_field f field.Fragment ≡ false) w
       let (here, rest) = or_parts (asks f s) (list_any (asks f) ss) free in
       and_from _ _ (ap (λ b. cond b (cond s.inverted (not (holds_of s.value n)) (holds_of s.value n)) true) here) (settings-allow ss rest)
 
-  first-part : (k : Kind) → fragment_allows f n k ≡ true
-  first-part k = ap (λ b. not ((kind_row k).asks_fragment && b) || (n == 0)) other ∙ go (kind_row k).asks_fragment
+  first-part : (k : MatchKind) → fragment_allows f n k ≡ true
+  first-part k = ap (λ b. not ((match_row k).asks_fragment && b) || (n == 0)) other ∙ go (match_row k).asks_fragment
     where
       go : (b : Bool) → (not (b && false) || (n == 0)) ≡ true
       go true = refl

@@ -1,8 +1,8 @@
 -- A rule that names another chain is readable too.
 use Rattle.std.proofs.Common.{◌≡◌, ℕ, List, Option, None, Some, refl, ap, ◌∙◌}
 use Rattle.fields.specs.values.Name.{name_of}
-use Rattle.rules.specs.rule.Actions.{renamed_action, renamed}
-use Rattle.rules.specs.rule.Rules.{Rule, action_default, or_default, completed}
+use Rattle.rules.specs.rule.Actions.{action_with_chain_name, with_chain_name}
+use Rattle.rules.specs.rule.Rules.{Rule, action_default, or_default, normal_form}
 use Rattle.rules.specs.options.Settings.{is_condition}
 use Rattle.rules.specs.printing.RoundTrip.{ReadsItself}
 use Rattle.rules.specs.declared.rule.action.Action.{Action}
@@ -13,7 +13,7 @@ use Rattle.rules.proofs.laws.printing.RoundLaws.{rule_of-shown_rule}
 use Rattle.rules.proofs.laws.printing.RoundTripLaws.{readable}
 use Rattle.std.specs.Prelude.{filter}
 
-same-default : (name : List ℕ) (a : Option Action) → action_default (renamed_action name a) ≡ action_default a
+same-default : (name : List ℕ) (a : Option Action) → action_default (action_with_chain_name name a) ≡ action_default a
 same-default name None = refl
 same-default name (Some action.Accept) = refl
 same-default name (Some action.Drop) = refl
@@ -23,7 +23,7 @@ same-default name (Some action.Log) = refl
 same-default name (Some (action.Jump old)) = refl
 same-default name (Some (action.Goto old)) = refl
 
-named-back : (name : List ℕ) (a : Option Action) → name_of name ≡ Some name → ActionBack a → ActionBack (renamed_action name a)
+named-back : (name : List ℕ) (a : Option Action) → name_of name ≡ Some name → ActionBack a → ActionBack (action_with_chain_name name a)
 named-back name None is back = tt
 named-back name (Some action.Accept) is back = tt
 named-back name (Some action.Drop) is back = tt
@@ -33,30 +33,30 @@ named-back name (Some action.Log) is back = tt
 named-back name (Some (action.Jump old)) is back = is
 named-back name (Some (action.Goto old)) is back = is
 
-same-extras : (name : List ℕ) (a : Option Action) (ss : List Setting) → IsGroup (OfAction a) ss → IsGroup (OfAction (renamed_action name a)) ss
-same-extras name None ss is = is
-same-extras name (Some action.Accept) ss is = is
-same-extras name (Some action.Drop) ss is = is
-same-extras name (Some action.Return) ss is = is
-same-extras name (Some action.Reject) ss is = is
-same-extras name (Some action.Log) ss is = is
-same-extras name (Some (action.Jump old)) ss is = record { rises = is.rises; own = is.own; back = is.back }
-same-extras name (Some (action.Goto old)) ss is = record { rises = is.rises; own = is.own; back = is.back }
+same-target_options : (name : List ℕ) (a : Option Action) (ss : List Setting) → IsGroup (OfAction a) ss → IsGroup (OfAction (action_with_chain_name name a)) ss
+same-target_options name None ss is = is
+same-target_options name (Some action.Accept) ss is = is
+same-target_options name (Some action.Drop) ss is = is
+same-target_options name (Some action.Return) ss is = is
+same-target_options name (Some action.Reject) ss is = is
+same-target_options name (Some action.Log) ss is = is
+same-target_options name (Some (action.Jump old)) ss is = record { rises = is.rises; own = is.own; back = is.back }
+same-target_options name (Some (action.Goto old)) ss is = record { rises = is.rises; own = is.own; back = is.back }
 
-pub renamed_reads : (name : List ℕ) (r : Rule) → name_of name ≡ Some name → ReadsItself r → ReadsItself (renamed name r)
+pub renamed_reads : (name : List ℕ) (r : Rule) → name_of name ≡ Some name → ReadsItself r → ReadsItself (with_chain_name name r)
 renamed_reads name r is reads =
     let was = readable r reads in
-    rule_of-shown_rule 0 (renamed name r) (record {
+    rule_of-shown_rule 0 (with_chain_name name r) (record {
       parts = record {
         settings = was.parts.settings;
         few = was.parts.few;
         matches = was.parts.matches;
         action = named-back name r.action is was.parts.action;
-        extras = same-extras name r.action r.extras was.parts.extras;
+        target_options = same-target_options name r.action r.target_options was.parts.target_options;
       };
-      conditions = ap (λ d. with_extras (or_default d (filter is_condition r.extras))) (same-default name r.action) ∙ ap (renamed name) was.conditions;
+      conditions = ap (λ d. with_target_options (or_default d (filter is_condition r.target_options))) (same-default name r.action) ∙ ap (with_chain_name name) was.conditions;
       met = was.met;
     })
   where
-    with_extras : List Setting → Rule
-    with_extras ss = record { settings = (completed r).settings; matches = (completed r).matches; action = renamed_action name r.action; extras = ss }
+    with_target_options : List Setting → Rule
+    with_target_options ss = record { settings = (normal_form r).settings; matches = (normal_form r).matches; action = action_with_chain_name name r.action; target_options = ss }

@@ -1,5 +1,5 @@
 use Rattle.std.proofs.Common.{◌≡◌, drop}
-use Rattle.rules.specs.reading.Steps.{unmet_matches}
+use Rattle.rules.specs.rule.Needs.{unmet_matches}
 use Rattle.rules.specs.steps.Views.{view_matches}
 use Rattle.rules.proofs.reading.unmet_matches.Given as goal
 

@@ -2,10 +2,10 @@ use Rattle.std.proofs.Common.{ℕ, List, refl, inl, inr, ◌≡◌, ◌⊎◌}
 use Rattle.std.specs.Prelude.{Result, Ok, Err}
 use Rattle.rules.specs.rule.Rules.{Rule}
 use Rattle.rules.specs.reading.Steps.{rule_of}
-use Rattle.rules.specs.reading.Rows.{ReadsAs, HasFault}
+use Rattle.rules.specs.reading.Grammar.{ReadsAs, HasFault}
 use Rattle.rules.specs.declared.reading.fault.Refusal.{Refusal}
-use Rattle.rules.proofs.laws.reading.RowLaws.{rule_of-reads, reads-rule_of, rule_of-fault, fault-rule_of}
-use Rattle.rules.proofs.reading.by_rows.reading_is_by_rows.Goals as goal
+use Rattle.rules.proofs.laws.reading.GrammarLaws.{rule_of-reads, reads-rule_of, rule_of-fault, fault-rule_of}
+use Rattle.rules.proofs.reading.grammar.reading_is_by_grammar.Goals as goal
 
 outcome : (end : ℕ) (words : List (List ℕ)) (q : Result Rule Refusal) → rule_of end words ≡ q → ((r : Rule) × ReadsAs end words r) ⊎ ((e : Refusal) × HasFault end words e)
 outcome end words (Ok r) h = inl (r, rule_of-reads end words r h)

@@ -1,0 +1,56 @@
+-- What a rule needs: the protocol and the option of each match, and tcp for a reset (iptables-extensions(8)).
+use Rattle.std.specs.Prelude.{ℕ, ◌==◌, Bool, true, false, ◌||◌, ◌&&◌, not, List, [], ◌∷◌, length, Option, Some, None, if◌then◌else◌}
+use Rattle.std.specs.List.{list_any}
+use Rattle.fields.specs.declared.values.reject.RejectType.TheVariants as reject
+use Rattle.rules.specs.options.Matches.{match_row}
+use Rattle.rules.specs.options.Settings.{has_protocol}
+use Rattle.rules.specs.rule.Rules.{Match, Rule}
+use Rattle.rules.specs.declared.reading.fault.Refusal.{Refusal}
+use Rattle.rules.specs.declared.reading.fault.Refusal.TheVariants as refusal
+use Rattle.rules.specs.declared.options.match_kind.MatchKind.{MatchKind}
+use Rattle.rules.specs.declared.options.setting.Setting.{Setting}
+use Rattle.rules.specs.declared.options.value.Value.{Value}
+use Rattle.rules.specs.declared.options.value.Value.TheVariants as value
+
+-- one of the protocols is the rule's, or there are none
+abbrev pub is_met : List ℕ → List Setting → Bool
+is_met protocols settings = (length protocols == 0) || list_any (λ n. has_protocol n settings) protocols
+
+-- the rule has a protocol that the match needs
+abbrev pub is_met_for : MatchKind → List Setting → Bool
+is_met_for k settings = is_met (match_row k).protocols settings
+
+-- what a match lacks: its protocol, or else its option
+abbrev pub unmet_match : List Setting → Match → Option Refusal
+unmet_match settings m =
+    if not (is_met_for m.kind settings) then Some refusal.ProtocolNeeded
+    else if (match_row m.kind).needs_option && (length m.settings == 0) then Some refusal.MatchOptionMissing
+    else None
+
+-- the first of two refusals
+abbrev pub or_else : Option Refusal → Option Refusal → Option Refusal
+or_else (Some e) other = Some e
+or_else None other = other
+
+-- what the first match lacks that lacks something
+abbrev pub unmet_matches : List Setting → List Match → Option Refusal
+unmet_matches settings [] = None
+unmet_matches settings (m ∷ ms) = or_else (unmet_match settings m) (unmet_matches settings ms)
+
+-- the value asks for the reset of a connection
+abbrev pub is_reset_value : Value → Bool
+is_reset_value (value.RejectWith reject.TcpReset) = true
+is_reset_value v = false
+
+-- the option asks for it
+abbrev pub is_reset : Setting → Bool
+is_reset s = is_reset_value s.value
+
+-- a reset is of tcp (6) alone
+abbrev pub unmet_reset : List Setting → List Setting → Option Refusal
+unmet_reset settings target_options =
+    if list_any is_reset target_options && not (has_protocol 6 settings) then Some refusal.ProtocolNeeded else None
+
+-- what a rule lacks: a need of its matches, in their order, or else that of a reset
+abbrev pub unmet : Rule → Option Refusal
+unmet r = or_else (unmet_matches r.settings r.matches) (unmet_reset r.settings r.target_options)

@@ -1,0 +1,80 @@
+-- What every rule is once it was read, so that its text reads back as it (iptables-save(8)).
+use Rattle.std.specs.Prelude.{◌≡◌, ◌⊎◌, ℕ, ◌≤◌, true, List, [], ◌∷◌, ◌++◌, length, map, flat_map, Option, Some, None, Ok}
+use Rattle.std.specs.List.{All, Contains}
+use Rattle.fields.specs.text.Printed.{Shown}
+use Rattle.fields.specs.values.Name.{name_of}
+use Rattle.rules.specs.options.Options.{may_be_inverted}
+use Rattle.rules.specs.options.Settings.{option_of_value, value_of}
+use Rattle.rules.specs.printing.Printing.{shown_value}
+use Rattle.rules.specs.rule.Needs.{unmet}
+use Rattle.rules.specs.rule.Rules.{Match, Rule, normal_form}
+use Rattle.rules.specs.declared.rule.action.Action.{Action}
+use Rattle.rules.specs.declared.rule.action.Action.TheVariants as action
+use Rattle.rules.specs.declared.options.match_kind.MatchKind.{MatchKind}
+use Rattle.rules.specs.declared.options.match_kind.MatchKind.TheVariants as kind
+use Rattle.rules.specs.declared.options.option.Opt.{Opt}
+use Rattle.rules.specs.declared.options.option.Opt.TheVariants as opt
+use Rattle.rules.specs.declared.options.setting.Setting.{Setting}
+
+-- a place in a listing where this option alone may stand
+abbrev pub only : Opt → List Opt
+only o = o ∷ []
+
+-- the places of a rule's own options, in the order of a listing
+abbrev pub rule_places : List (List Opt)
+rule_places = only opt.Source ∷ only opt.Destination ∷ only opt.InInterface ∷ only opt.OutInterface ∷ only opt.Protocol ∷ only opt.Fragment ∷ []
+
+-- the places of a match's options; multiport has one place for both of its options
+abbrev pub match_places : MatchKind → List (List Opt)
+match_places kind.Tcp = only opt.SourcePort ∷ only opt.DestinationPort ∷ only opt.TcpFlags ∷ []
+match_places kind.Udp = only opt.SourcePort ∷ only opt.DestinationPort ∷ []
+match_places kind.Icmp = only opt.IcmpType ∷ []
+match_places kind.Multiport = (opt.SourcePorts ∷ opt.DestinationPorts ∷ []) ∷ []
+match_places kind.Iprange = only opt.SourceRange ∷ only opt.DestinationRange ∷ []
+match_places kind.Conntrack = only opt.Ctstate ∷ []
+match_places kind.State = only opt.State ∷ []
+match_places kind.Comment = only opt.Comment ∷ []
+
+-- the places of a target's options
+abbrev pub target_places : Option Action → List (List Opt)
+target_places (Some action.Reject) = only opt.RejectWith ∷ []
+target_places (Some action.Log) =
+    only opt.LogPrefix ∷ only opt.LogLevel ∷ only opt.LogTcpSequence ∷ only opt.LogTcpOptions ∷ only opt.LogIpOptions ∷ only opt.LogUid ∷ []
+target_places a = []
+
+-- the options stand at some of the places, in their order, and no two at one place
+abbrev pub AreInOrder : List (List Opt) → List Setting → Type 0
+AreInOrder places [] = Unit {0}
+AreInOrder [] (s ∷ ss) = ⊥
+AreInOrder (place ∷ places) (s ∷ ss) = (Contains place (option_of_value s.value) × AreInOrder places ss) ⊎ AreInOrder places (s ∷ ss)
+
+-- a rule's own options, each match's and the target's stand in the order of a listing, in whatever order they were given
+pub record IsInOrder (r : Rule) : Type 0 where
+  pub own : AreInOrder rule_places r.settings
+  pub matches : All (λ (m : Match). AreInOrder (match_places m.kind) m.settings) r.matches
+  pub target : AreInOrder (target_places r.action) r.target_options
+
+-- all options of a rule
+abbrev pub all_settings : Rule → List Setting
+all_settings r = r.settings ++ (flat_map (λ (m : Match). m.settings) r.matches ++ r.target_options)
+
+-- the words of an option's value give the value, and `!` stands only before an option that may be inverted
+pub record ValueReadsBack (s : Setting) : Type 0 where
+  pub value : value_of (option_of_value s.value) s.inverted (map (λ (w : Shown). w.word) (shown_value s.value)) ≡ Ok s.value
+  pub bang : s.inverted ≡ true → may_be_inverted (option_of_value s.value) ≡ true
+
+-- a chain that the action names has a chain's name
+abbrev pub NamesChain : Option Action → Type 0
+NamesChain (Some (action.Jump name)) = name_of name ≡ Some name
+NamesChain (Some (action.Goto name)) = name_of name ≡ Some name
+NamesChain a = Unit {0}
+
+-- A rule's options stand in order and their values read back, it has 16 matches at most, each option says something, what is
+-- meant where nothing is said stands there, and nothing that it needs is missing.
+pub record IsReadable (r : Rule) : Type 0 where
+  pub ordered : IsInOrder r
+  pub values : All ValueReadsBack (all_settings r)
+  pub few : length r.matches ≤ 16
+  pub chain : NamesChain r.action
+  pub normal : normal_form r ≡ r
+  pub met : unmet r ≡ None
