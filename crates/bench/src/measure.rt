@@ -1,6 +1,6 @@
 //! The run that measures.
 
-ghost use Rattle.classify.specs.Classifier.{IsPoint};
+ghost use Rattle.classify.specs.classifier.Classifier.{IsPoint};
 
 use crate::sample::{self, Rule};
 use crate::walk;

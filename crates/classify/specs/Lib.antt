@@ -1,11 +1,3 @@
-pub mod Bits
-pub mod Line
-pub mod Steps
-pub mod Shown
-pub mod Cuts
-pub mod Edits
-pub mod Fields
-pub mod Classifier
-pub mod Laws
-pub mod RuleLines
-pub mod Search
+pub mod classifier
+pub mod line
+pub mod steps

@@ -4,14 +4,17 @@ ghost use Rattle.std.specs.Prelude.{◌≡◌, ◌≢◌, ◌≤◌, ◌%◌, On
 ghost use Rattle.fields.specs.numbers.Spans.{SpanSet};
 ghost use Rattle.fields.specs.numbers.Field.{index};
 
-use crate::bit_row::MOST_BITS;
-use crate::line::{self, Line};
-use crate::{lines, search};
+use crate::bits::bit_row::MOST_BITS;
+use crate::line::owned::{self, OwnedLine};
+use crate::search;
 use fields::{FIELDS, Field};
 use rules::Boxed;
 use std::alloc::{AllocError, Global};
 use std::array;
 use std::marker::Model;
+
+pub(crate) mod lines;
+pub(crate) mod of_rules;
 
 /// The classifier of a list of boxes: on each field the line of their answers, and no more.
 ///
@@ -22,16 +25,16 @@ use std::marker::Model;
 #[derive(Drop)]
 pub struct Classifier {
     len: usize,
-    lines: [Line; FIELDS],
+    lines: [OwnedLine; FIELDS],
 }
 
 impl Model for Classifier {
     ghost use Rattle.std.specs.Prelude.{map};
-    ghost use Rattle.classify.specs.Classifier.{Classified};
+    ghost use Rattle.classify.specs.classifier.Classifier.{Classified};
 
     ghost Value = { Classified };
 
-    ghost use Rattle.classify.specs.Fields.{shown_line, IsKept};
+    ghost use Rattle.classify.specs.steps.Fields.{shown_line, IsKept};
 
     ghost view = { λ c. record { len = c.len; lines = map shown_line c.lines } };
 
@@ -39,9 +42,9 @@ impl Model for Classifier {
 }
 
 impl Classifier {
-    ghost use Rattle.classify.specs.Classifier.{IsClassifierOf, HasNoNewCut, line_on, IsPoint, next_match, allows_point};
-    ghost use Rattle.classify.specs.Search.{IsRow, AreRows};
-    ghost use Rattle.classify.specs.Fields.{shown_line};
+    ghost use Rattle.classify.specs.classifier.Classifier.{IsClassifierOf, HasNoNewCut, line_on, IsPoint, next_match, allows_point};
+    ghost use Rattle.classify.specs.steps.Common.{IsRow, AreRows};
+    ghost use Rattle.classify.specs.steps.Fields.{shown_line};
 
     /// The classifier of no box.
     ///
@@ -51,7 +54,7 @@ impl Classifier {
     pub fn new(alloc: Global) -> Result<Classifier, AllocError>
         ensures { IfOk result (λ classifier. IsClassifierOf [] classifier) }
     {
-        let mut lines: [Line; FIELDS] = array::from_fn(|_| Line::bare(alloc));
+        let mut lines: [OwnedLine; FIELDS] = array::from_fn(|_| OwnedLine::bare(alloc));
         lines::open_lines(&mut lines, alloc)?;
         Ok(Classifier { len: 0, lines })
     }
@@ -64,7 +67,7 @@ impl Classifier {
     pub fn copy(&self, alloc: Global) -> Result<Classifier, AllocError>
         ensures { IfOk result (λ classifier. classifier ≡ self.now) }
     {
-        let mut lines: [Line; FIELDS] = array::from_fn(|_| Line::bare(alloc));
+        let mut lines: [OwnedLine; FIELDS] = array::from_fn(|_| OwnedLine::bare(alloc));
         lines::copy_lines(&mut lines, &self.lines, alloc)?;
         Ok(Classifier {
             len: self.len,
@@ -80,7 +83,7 @@ impl Classifier {
     }
 
     /// The line of a field; it is lent.
-    pub fn line(&self, field: Field) -> &Line
+    pub fn line(&self, field: Field) -> &OwnedLine
         ensures { shown_line result.now ≡ line_on field self.now }
     {
         &self.lines[field.index()]
@@ -146,7 +149,7 @@ impl Classifier {
     {
         let _len = self.len;
         let line = &self.lines[place];
-        line::row_at(&line.pieces, x)
+        owned::row_at(&line.pieces, x)
     }
 
     /// The words of each field's row at a point; they are lent.

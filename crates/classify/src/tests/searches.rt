@@ -2,7 +2,7 @@
 
 ghost use Rattle.std.specs.Prelude.{◌≡◌, IsTrue, List};
 ghost use Rattle.fields.specs.numbers.Spans.{SpanSet};
-ghost use Rattle.classify.specs.Classifier.{IsPoint, IsClassifierOf, next_match, allows_point};
+ghost use Rattle.classify.specs.classifier.Classifier.{IsPoint, IsClassifierOf, next_match, allows_point};
 
 use super::*;
 use fields::{FIELDS, Field};

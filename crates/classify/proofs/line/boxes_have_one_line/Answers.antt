@@ -1,5 +1,5 @@
-use Rattle.classify.specs.Classifier.{allows}
-use Rattle.classify.proofs.LineLaws.{one_line}
+use Rattle.classify.specs.classifier.Classifier.{allows}
+use Rattle.classify.proofs.laws.line.LineLaws.{one_line}
 use Rattle.classify.proofs.line.boxes_have_one_line.Goals as goal
 
 pub returns : goal.returns

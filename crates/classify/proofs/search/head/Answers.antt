@@ -1,7 +1,7 @@
 use Rattle.std.proofs.Common.{arith, ◌*◌, ◌+◌, ◌/◌, ◌%◌, ◌^◌, ◌-◌, ℕ, bit_and}
 use Rattle.std.proofs.lemmas.Nat.{and_le_l}
-use Rattle.classify.specs.Search.{HaveAll}
-use Rattle.classify.proofs.SearchLaws.{word_found, word_empty, head_tells}
+use Rattle.classify.specs.steps.Common.{HaveAll}
+use Rattle.classify.proofs.laws.search.SearchLaws.{word_found, word_empty, head_tells}
 use Rattle.classify.proofs.search.head.Goals as goal
 
 pub returns-then-all-ne0 : goal.returns-then-all-ne0

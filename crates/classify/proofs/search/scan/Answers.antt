@@ -1,6 +1,6 @@
 use Rattle.std.proofs.Common.{arith, ◌<◌, ◌≤◌, ◌*◌, ◌+◌}
-use Rattle.classify.specs.Search.{HaveAll}
-use Rattle.classify.proofs.SearchLaws.{word_found, word_empty, whole_tells}
+use Rattle.classify.specs.steps.Common.{HaveAll}
+use Rattle.classify.proofs.laws.search.SearchLaws.{word_found, word_empty, whole_tells}
 use Rattle.classify.proofs.search.scan.Goals as goal
 
 pub returns-then-all-ne0 : goal.returns-then-all-ne0

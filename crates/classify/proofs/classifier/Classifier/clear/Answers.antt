@@ -1,9 +1,9 @@
 use Rattle.std.proofs.Common.{arith, length, ◌≡◌, ◌∙◌, rules}
 use Rattle.std.specs.Prelude.{slice_index}
 use Rattle.fields.specs.declared.numbers.field.TheConstants.{FIELDS}
-use Rattle.classify.specs.Fields.{tops}
-use Rattle.classify.proofs.LoopLaws.{zero_from_rising}
-use Rattle.classify.proofs.ClassifierLaws.{classifier_empty, kept_empty, line_sound}
+use Rattle.classify.specs.steps.Fields.{tops}
+use Rattle.classify.proofs.laws.line.LoopLaws.{zero_from_rising}
+use Rattle.classify.proofs.laws.classifier.ClassifierLaws.{classifier_empty, kept_empty, line_sound}
 use Rattle.classify.proofs.classifier.Classifier.clear.Goals as goal
 
 pub clear_lines-requires : goal.clear_lines-requires

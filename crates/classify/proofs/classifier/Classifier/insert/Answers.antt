@@ -1,9 +1,9 @@
 use Rattle.std.proofs.Common.{arith, ap, length, ◌+◌, List, ℕ, subst, ◌≡◌, ◌∙◌, sym, rules, Bool, ◌%◌}
 use Rattle.std.proofs.lemmas.Bool.{false≢true}
 use Rattle.fields.specs.declared.numbers.field.TheConstants.{FIELDS}
-use Rattle.classify.specs.Classifier.{Classified, IsClassifierOf, HasNoNewCut}
-use Rattle.classify.specs.Fields.{IsKept}
-use Rattle.classify.proofs.ClassifierLaws.{classifier_with, sound_lines, still_sound, same_shown, no_new_cuts, on_err_anyway}
+use Rattle.classify.specs.classifier.Classifier.{Classified, IsClassifierOf, HasNoNewCut}
+use Rattle.classify.specs.steps.Fields.{IsKept}
+use Rattle.classify.proofs.laws.classifier.ClassifierLaws.{classifier_with, sound_lines, still_sound, same_shown, no_new_cuts, on_err_anyway}
 use Rattle.classify.proofs.classifier.Classifier.insert.Goals as goal
 
 pub insert_lines-requires-clause-sound : goal.insert_lines-requires-clause-sound

@@ -1,6 +1,6 @@
 use Rattle.std.proofs.Common.{arith, length, ◌≡◌, ◌∙◌, rules}
 use Rattle.fields.specs.declared.numbers.field.TheConstants.{FIELDS}
-use Rattle.classify.proofs.ClassifierLaws.{classifier_empty, kept_empty}
+use Rattle.classify.proofs.laws.classifier.ClassifierLaws.{classifier_empty, kept_empty}
 use Rattle.classify.proofs.classifier.Classifier.new.Goals as goal
 
 pub invariant_of-result : goal.invariant_of-result

@@ -1,7 +1,7 @@
 use Rattle.std.proofs.Common.{arith, ◌≡◌, ap}
-use Rattle.classify.specs.Search.{AreWide}
-use Rattle.classify.specs.Classifier.{Classified}
-use Rattle.classify.proofs.NextLaws.{first_is_next}
+use Rattle.classify.specs.steps.Common.{AreWide}
+use Rattle.classify.specs.classifier.Classifier.{Classified}
+use Rattle.classify.proofs.laws.search.NextLaws.{first_is_next}
 use Rattle.classify.proofs.classifier.Classifier.next.Goals as goal
 
 pub returns : goal.returns

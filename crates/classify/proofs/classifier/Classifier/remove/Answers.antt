@@ -1,9 +1,9 @@
 use Rattle.std.proofs.Common.{arith, ap, length, ◌-◌, ◌<◌, ◌≡◌, ◌∙◌, sym, subst, rules}
 use Rattle.std.specs.Prelude.{slice_index}
 use Rattle.fields.specs.declared.numbers.field.TheConstants.{FIELDS}
-use Rattle.classify.specs.Classifier.{Classified, IsClassifierOf}
-use Rattle.classify.specs.Fields.{tops}
-use Rattle.classify.proofs.ClassifierLaws.{classifier_without, line_sound, still_kept}
+use Rattle.classify.specs.classifier.Classifier.{Classified, IsClassifierOf}
+use Rattle.classify.specs.steps.Fields.{tops}
+use Rattle.classify.proofs.laws.classifier.ClassifierLaws.{classifier_without, line_sound, still_kept}
 use Rattle.classify.proofs.classifier.Classifier.remove.Goals as goal
 
 pub remove_lines-requires : goal.remove_lines-requires

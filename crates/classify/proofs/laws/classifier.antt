@@ -1,0 +1,3 @@
+pub mod ClassifierLaws
+pub mod FieldLaws
+pub mod RuleLaws

@@ -1,0 +1,2 @@
+pub mod Classifier
+pub mod OfRules
