@@ -1,3 +1,4 @@
 pub mod classifier
 pub mod line
+pub mod search
 pub mod steps

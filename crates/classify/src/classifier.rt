@@ -3,6 +3,10 @@
 ghost use Rattle.std.specs.Prelude.{◌≡◌, ◌≢◌, ◌≤◌, ◌%◌, OnOk, OnErr, IsOk, IfOk, List, [], ◌<◌, insert, remove, slice_set};
 ghost use Rattle.fields.specs.numbers.Spans.{SpanSet};
 ghost use Rattle.fields.specs.numbers.Field.{index};
+ghost use Rattle.rules.specs.boxing.Boxed.{IsBoxOf};
+ghost use Rattle.rules.specs.rule.Allows.{matches};
+ghost use Rattle.rules.specs.rule.Rules.{Rule};
+ghost use Rattle.classify.specs.search.NextMatch.{next_match};
 
 use crate::bits::bit_row::MOST_BITS;
 use crate::line::owned::{self, OwnedLine};
@@ -42,7 +46,7 @@ impl Model for Classifier {
 }
 
 impl Classifier {
-    ghost use Rattle.classify.specs.classifier.Classifier.{IsClassifierOf, HasNoNewCut, line_on, IsPoint, next_match, allows_point};
+    ghost use Rattle.classify.specs.classifier.Classifier.{IsClassifierOf, IsClassifierOfRules, HasNoNewCut, line_on, IsPoint, box_matches};
     ghost use Rattle.classify.specs.steps.Common.{IsRow, AreRows};
     ghost use Rattle.classify.specs.steps.Fields.{shown_line};
 
@@ -52,7 +56,8 @@ impl Classifier {
     ///
     /// `AllocError` where memory was refused.
     pub fn new(alloc: Global) -> Result<Classifier, AllocError>
-        ensures { IfOk result (λ classifier. IsClassifierOf [] classifier) }
+        ensures boxes { IfOk result (λ classifier. IsClassifierOf [] classifier) }
+        ensures rules { IfOk result (λ classifier. IsClassifierOfRules [] classifier) }
     {
         let mut lines: [OwnedLine; FIELDS] = array::from_fn(|_| OwnedLine::bare(alloc));
         lines::open_lines(&mut lines, alloc)?;
@@ -98,6 +103,7 @@ impl Classifier {
     pub fn insert(&mut self, at: usize, boxed: Boxed) -> Result<(), AllocError>
         requires { at ≤ self.old.len }
         ensures ok { OnOk result ((boxes : List (List SpanSet)) → IsClassifierOf boxes self.old → IsClassifierOf (insert boxes at boxed) self.new) }
+        ensures rules { OnOk result ((rules : List Rule) (rule : Rule) → IsClassifierOfRules rules self.old → IsBoxOf rule boxed → IsClassifierOfRules (insert rules at rule) self.new) }
         ensures err { OnErr result (self.new ≡ self.old) }
         ensures there { self.old.len % 64 ≢ 0 → HasNoNewCut boxed self.old → IsOk result }
     {
@@ -118,6 +124,7 @@ impl Classifier {
     pub fn replace(&mut self, at: usize, boxed: Boxed) -> Result<(), AllocError>
         requires { at < self.old.len }
         ensures ok { OnOk result ((boxes : List (List SpanSet)) → IsClassifierOf boxes self.old → IsClassifierOf (slice_set boxes at boxed) self.new) }
+        ensures rules { OnOk result ((rules : List Rule) (rule : Rule) → IsClassifierOfRules rules self.old → IsBoxOf rule boxed → IsClassifierOfRules (slice_set rules at rule) self.new) }
         ensures err { OnErr result (self.new ≡ self.old) }
         ensures there { HasNoNewCut boxed self.old → IsOk result }
     {
@@ -128,7 +135,8 @@ impl Classifier {
     /// Takes a box out: the later ones move down by one. It takes no memory.
     pub fn remove(&mut self, at: usize)
         requires { at < self.old.len }
-        ensures { (boxes : List (List SpanSet)) → IsClassifierOf boxes self.old → IsClassifierOf (remove boxes at) self.new }
+        ensures boxes { (boxes : List (List SpanSet)) → IsClassifierOf boxes self.old → IsClassifierOf (remove boxes at) self.new }
+        ensures rules { (rules : List Rule) → IsClassifierOfRules rules self.old → IsClassifierOfRules (remove rules at) self.new }
     {
         lines::remove_lines(&mut self.lines, at);
         self.len -= 1;
@@ -136,7 +144,8 @@ impl Classifier {
 
     /// Takes every box out. It takes no memory.
     pub fn clear(&mut self)
-        ensures { IsClassifierOf [] self.new }
+        ensures boxes { IsClassifierOf [] self.new }
+        ensures rules { IsClassifierOfRules [] self.new }
     {
         lines::clear_lines(&mut self.lines);
         self.len = 0;
@@ -171,7 +180,8 @@ impl Classifier {
     /// each row for 64 boxes that it passes over.
     pub fn next(&self, point: &[u128; FIELDS], from: usize) -> Option<usize>
         requires { IsPoint point.now }
-        ensures { (boxes : List (List SpanSet)) → IsClassifierOf boxes self.now → result ≡ next_match (allows_point point.now) boxes from }
+        ensures boxes { (boxes : List (List SpanSet)) → IsClassifierOf boxes self.now → result ≡ next_match (box_matches point.now) boxes from }
+        ensures rules { (rules : List Rule) → IsClassifierOfRules rules self.now → result ≡ next_match (matches point.now) rules from }
     {
         let rows = self.rows(point);
         search::first_common(&rows, self.len.div_ceil(64), from)

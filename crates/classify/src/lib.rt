@@ -11,6 +11,9 @@ mod tests;
 
 pub use bits::bit_row::BitRow;
 pub use classifier::Classifier;
-pub use classifier::of_rules::boxes_stand_for_their_rules;
+pub use classifier::of_rules::{
+    boxes_stand_for_their_rules, rules_have_one_classifier, rules_have_the_computed_line,
+    targets_leave_the_classifier,
+};
 pub use line::boxes_have_one_line;
 pub use line::owned::{OwnedLine as Line, OwnedPiece as Piece};

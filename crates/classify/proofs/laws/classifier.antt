@@ -1,3 +1,4 @@
 pub mod ClassifierLaws
 pub mod FieldLaws
+pub mod MadeBoxes
 pub mod RuleLaws

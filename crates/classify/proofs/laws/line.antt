@@ -5,6 +5,7 @@ pub mod EndLaws
 pub mod JoinLaws
 pub mod KeepApartLaws
 pub mod LineLaws
+pub mod LineOfLaws
 pub mod LoopLaws
 pub mod PlaceLaws
 pub mod ShownLaws

@@ -1,13 +1,12 @@
--- The boxes of rules stand for the rules: what a classifier says of the boxes, it says of the rules.
-use Rattle.std.specs.Prelude.{◌≡◌, ℕ, List, [], ◌∷◌}
+-- Rules and their boxes, and the line of rules as a function.
+use Rattle.std.specs.Prelude.{◌≡◌, ℕ, Bool, List, [], ◌∷◌}
 use Rattle.fields.specs.declared.numbers.field.Field.{Field}
 use Rattle.fields.specs.numbers.Field.{top}
 use Rattle.fields.specs.numbers.Spans.{SpanSet}
-use Rattle.rules.specs.rule.Allows.{allows, matches}
 use Rattle.rules.specs.boxing.Boxed.{IsBoxOf}
+use Rattle.rules.specs.rule.Allows.{allows}
 use Rattle.rules.specs.rule.Rules.{Rule}
-use Rattle.classify.specs.line.Line.{IsLineOf}
-use Rattle.classify.specs.classifier.Classifier.{Classified, IsClassifierOf, IsPoint, line_on, allows_point, next_match}
+use Rattle.classify.specs.line.Line.{line_of}
 
 -- the boxes are those of the rules, in their order
 abbrev pub AreBoxesOf : List Rule → List (List SpanSet) → Type 0
@@ -15,10 +14,13 @@ AreBoxesOf [] [] = Unit {0}
 AreBoxesOf (rule ∷ rules) (box ∷ boxes) = IsBoxOf rule box × AreBoxesOf rules boxes
 AreBoxesOf rules boxes = ⊥
 
--- each line of the boxes' classifier is the line of the rules
-abbrev pub BoxesHaveTheRulesLines : Type 0
-BoxesHaveTheRulesLines = (rules : List Rule) (boxes : List (List SpanSet)) (c : Classified) → AreBoxesOf rules boxes → IsClassifierOf boxes c → (field : Field) → IsLineOf (λ rule x. allows rule field x) (top field) rules (line_on field c)
+-- the rules allow the same numbers, each as the one at its place
+abbrev pub AllowTheSame : List Rule → List Rule → Type 0
+AllowTheSame [] [] = Unit {0}
+AllowTheSame (rule ∷ rules) (other ∷ others) =
+    ((field : Field) (x : ℕ) → allows rule field x ≡ allows other field x) × AllowTheSame rules others
+AllowTheSame rules others = ⊥
 
--- the next box that allows a point is that of the next rule that allows it
-abbrev pub BoxesHaveTheRulesMatches : Type 0
-BoxesHaveTheRulesMatches = (rules : List Rule) (boxes : List (List SpanSet)) (point : List ℕ) (from : ℕ) → AreBoxesOf rules boxes → IsPoint point → next_match (allows_point point) boxes from ≡ next_match (matches point) rules from
+-- the line of the rules on a field: each cut up to the field's top, with the answers of the rules
+abbrev pub lines_of : List Rule → Field → List (ℕ × List Bool)
+lines_of rules field = line_of (λ rule x. allows rule field x) (top field) rules

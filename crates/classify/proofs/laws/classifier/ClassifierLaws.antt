@@ -3,14 +3,14 @@ use Rattle.std.proofs.Common.{◌≡◌, ℕ, zero, suc, ◌+◌, ◌-◌, ◌<�
 use Rattle.std.specs.List.{insert, remove, range_with_len}
 use Rattle.std.specs.Prelude.{slice_index, Result, Ok, Err, OnErr}
 use Rattle.std.proofs.Math.Dec.{leb}
-use Rattle.std.proofs.lemmas.List.{map-append, take-map, drop-map, get_or_default, get_or-map, map-set, length-set}
+use Rattle.std.proofs.lemmas.List.{map-append, take-map, drop-map, get_or_default, get_or-map, map-set, length-map, length-set}
 use Rattle.std.proofs.Math.ListN.{set}
 use Rattle.std.proofs.lemmas.List.Edits.{length-insert, length-remove}
 use Rattle.fields.specs.declared.numbers.field.TheConstants.{FIELDS}
 use Rattle.fields.specs.declared.numbers.field.TheConstants.Field.{ALL}
 use Rattle.fields.specs.declared.numbers.field.Field.{Field}
 use Rattle.fields.specs.declared.numbers.spans.Interval.{Interval}
-use Rattle.fields.specs.numbers.Field.{index, top}
+use Rattle.fields.specs.numbers.Field.{all_fields, index, top}
 use Rattle.fields.specs.numbers.Spans.{SpanSet, has}
 use Rattle.rules.specs.boxing.Boxed.{IsBox, set_on}
 use Rattle.rules.proofs.laws.boxing.BoxLaws.{index-lt, box_long}
@@ -21,10 +21,10 @@ use Rattle.classify.specs.steps.Cuts.{CutsStart}
 use Rattle.classify.specs.steps.Edits.{IsSound, EachRow}
 use Rattle.classify.specs.steps.Pieces.{piece_at, row_in}
 use Rattle.classify.specs.steps.Fields.{shown_line, tops, IsKept, most_boxes, LosesBox}
-use Rattle.classify.specs.classifier.Classifier.{allows, line_on, IsClassifierOf, HasNoNewCut}
+use Rattle.classify.specs.classifier.Classifier.{box_allows, line_on, IsClassifierOf, HasNoNewCut}
 use Rattle.classify.proofs.laws.line.ShownLaws.{row_in_first}
 use Rattle.classify.proofs.laws.line.BoxLaws.{empty_line, empty_sound}
-use Rattle.classify.proofs.laws.line.LineLaws.{AreSteps, line_from_steps, steps_from_line}
+use Rattle.classify.proofs.laws.line.LineLaws.{AreSteps, line_from_steps, steps_from_line, starts_from_contains}
 
 -- ---- fields and their places
 
@@ -55,22 +55,22 @@ box_tops spans h k s lt = box_laws.box_tops spans h k s lt
 
 -- ---- boxes on one field are their sets
 
-pub row_of_sets : (field : Field) (boxes : List (List SpanSet)) (x : ℕ) → row_at (λ box y. allows box field y) boxes x ≡ row_at has (map (set_on field) boxes) x
+pub row_of_sets : (field : Field) (boxes : List (List SpanSet)) (x : ℕ) → row_at (λ box y. box_allows box field y) boxes x ≡ row_at has (map (set_on field) boxes) x
 row_of_sets field [] x = refl
-row_of_sets field (b ∷ bs) x = ap (λ (r : List Bool). allows b field x ∷ r) (row_of_sets field bs x)
+row_of_sets field (b ∷ bs) x = ap (λ (r : List Bool). box_allows b field x ∷ r) (row_of_sets field bs x)
 
-rows_of_sets : (field : Field) (boxes : List (List SpanSet)) → row_at (λ box y. allows box field y) boxes ≡ row_at has (map (set_on field) boxes)
+rows_of_sets : (field : Field) (boxes : List (List SpanSet)) → row_at (λ box y. box_allows box field y) boxes ≡ row_at has (map (set_on field) boxes)
 rows_of_sets field boxes = λ i x. row_of_sets field boxes x i
 
-pub line_of_sets : (field : Field) (top : ℕ) (boxes : List (List SpanSet)) (line : List (ℕ × List Bool)) → IsLineOf (λ box y. allows box field y) top boxes line → IsLineOf has top (map (set_on field) boxes) line
+pub line_of_sets : (field : Field) (top : ℕ) (boxes : List (List SpanSet)) (line : List (ℕ × List Bool)) → IsLineOf (λ box y. box_allows box field y) top boxes line → IsLineOf has top (map (set_on field) boxes) line
 line_of_sets field top boxes line h =
     let P : (ℕ → List Bool) → Type 0 = λ f. AreSteps f top line in
-    line_from_steps has top (map (set_on field) boxes) line (subst P (rows_of_sets field boxes) (steps_from_line (λ box y. allows box field y) top boxes line h))
+    line_from_steps has top (map (set_on field) boxes) line (subst P (rows_of_sets field boxes) (steps_from_line (λ box y. box_allows box field y) top boxes line h))
 
-pub line_of_boxes : (field : Field) (top : ℕ) (boxes : List (List SpanSet)) (line : List (ℕ × List Bool)) → IsLineOf has top (map (set_on field) boxes) line → IsLineOf (λ box y. allows box field y) top boxes line
+pub line_of_boxes : (field : Field) (top : ℕ) (boxes : List (List SpanSet)) (line : List (ℕ × List Bool)) → IsLineOf has top (map (set_on field) boxes) line → IsLineOf (λ box y. box_allows box field y) top boxes line
 line_of_boxes field top boxes line h =
     let P : (ℕ → List Bool) → Type 0 = λ f. AreSteps f top line in
-    line_from_steps (λ box y. allows box field y) top boxes line (subst P (sym (rows_of_sets field boxes)) (steps_from_line has top (map (set_on field) boxes) line h))
+    line_from_steps (λ box y. box_allows box field y) top boxes line (subst P (sym (rows_of_sets field boxes)) (steps_from_line has top (map (set_on field) boxes) line h))
 
 pub sets-insert : (field : Field) (boxes : List (List SpanSet)) (at : ℕ) (b : List SpanSet) → map (set_on field) (insert boxes at b) ≡ insert (map (set_on field) boxes) at (set_on field b)
 sets-insert field boxes at b =
@@ -92,6 +92,9 @@ line_at (m ∷ ms) (suc k) lt = line_at ms k (omega arith)
 pub shown_at_place : (lines : List OwnedLine) (k : ℕ) (d : OwnedLine) → k < length lines → get_or (map shown_line lines) k [] ≡ shown_line (get_or lines k d)
 shown_at_place lines k d lt = let a = line_at lines k lt in a.1.0 ∙ ap shown_line (sym (a.1.1 d))
 
+fields_long : (lines : List OwnedLine) → length lines ≡ FIELDS → length (map shown_line lines) ≡ length all_fields
+fields_long lines n = length-map lines shown_line ∙ n
+
 -- what an edit of every line makes of the classifier, where it makes on each field the line of the boxes as they are then
 pub classifier_after : (old new : List OwnedLine) (boxes after : List (List SpanSet)) (len then : ℕ) → length old ≡ FIELDS → length new ≡ length old → then ≡ length after
     → ((field : Field) (l : OwnedLine) → IsLineOf has (slice_index tops (index field)) (map (set_on field) boxes) (shown_line (get_or old (index field) l))
@@ -101,6 +104,7 @@ pub classifier_after : (old new : List OwnedLine) (boxes after : List (List Span
 classifier_after old new boxes after len then n m size step h =
     record {
       len = size;
+      fields = fields_long new (m ∙ n);
       lines = λ field.
           (let lt : index field < length old = omega (arith, index-lt field) in
           let lt' : index field < length new = omega arith in
@@ -188,11 +192,12 @@ pub classifier_empty : (new : List OwnedLine) → length new ≡ FIELDS → ((k 
 classifier_empty new n h =
     record {
       len = refl;
+      fields = fields_long new n;
       lines = λ field.
           (let lt : index field < length new = omega (arith, index-lt field) in
           let a = line_at new (index field) lt in
-          let P : List (ℕ × List Bool) → Type 0 = λ line. IsLineOf (λ box x. allows box field x) (top field) [] line in
-          subst P (sym (shown_at_place new (index field) a.0 lt ∙ h (index field) a.0 lt)) (empty_line (λ box x. allows box field x) (top field)));
+          let P : List (ℕ × List Bool) → Type 0 = λ line. IsLineOf (λ box x. box_allows box field x) (top field) [] line in
+          subst P (sym (shown_at_place new (index field) a.0 lt ∙ h (index field) a.0 lt)) (empty_line (λ box x. box_allows box field x) (top field)));
     }
 
 pub kept_empty : (new : List OwnedLine) → length new ≡ FIELDS → ((k : ℕ) (l : OwnedLine) → k < length new → shown_line (get_or new k l) ≡ (0, []) ∷ []) → IsKept (record { len = 0; lines = map shown_line new })
@@ -238,7 +243,7 @@ no_new_cuts old spans box len n same whole h k s l lt =
     let P : ℕ → Type 0 = λ t. CutsStart t (set_on f.0 box) (line_on f.0 (record { len = len; lines = map shown_line old })) in
     let Q : List Interval → Type 0 = λ ss. CutsStart (get_or spans k s).top ss (line_on f.0 (record { len = len; lines = map shown_line old })) in
     let R : List (ℕ × List Bool) → Type 0 = λ line. CutsStart (get_or spans k s).top (get_or spans k s).intervals line in
-    subst R c (subst Q i (subst P e (h f.0)))
+    subst R c (subst Q i (subst P e (λ x le ne. starts_from_contains (suc x) (line_on f.0 (record { len = len; lines = map shown_line old })) (h f.0 x le ne))))
 
 rows_long : (n : ℕ) (d : ℕ × List Bool) (ps : List (ℕ × List Bool)) (x : ℕ) → length d.1 ≡ n → EachRow n ps → length (piece_at d ps x).1 ≡ n
 rows_long n d [] x h hs = h

@@ -1,9 +1,11 @@
 -- The line of a list of boxes is the steps of the row of their answers.
-use Rattle.std.proofs.Common.{◌≡◌, ◌≢◌, ◌⊎◌, inl, inr, ℕ, zero, suc, ◌+◌, ◌-◌, ◌<◌, ◌≤◌, Bool, true, false, List, [], ◌∷◌, length, get_or, refl, sym, ◌∙◌, ap, arith, subst, All, Any, Contains, add-one}
+use Rattle.std.proofs.Common.{◌≡◌, ◌≢◌, ◌⊎◌, inl, inr, ℕ, zero, suc, ◌+◌, ◌-◌, ◌<◌, ◌≤◌, Bool, true, false, cond, not, ◌||◌, List, [], ◌∷◌, length, get_or, refl, sym, ◌∙◌, ap, arith, subst, All, Any, Contains, add-one}
 use Rattle.std.specs.List.Sorted.{IsStrictlyIncreasing}
-use Rattle.std.proofs.lemmas.Bool.{false≢true, true≢false}
+use Rattle.std.proofs.lemmas.Bool.{false≢true, true≢false, ne_eqb}
 use Rattle.std.proofs.lemmas.List.Elements.{All-head, All-tail, All-cons, All-nil}
-use Rattle.classify.specs.line.Line.{row_at, IsCut, starts, IsLineOf}
+use Rattle.std.specs.Prelude.{◌==◌}
+use Rattle.std.proofs.lemmas.List.Folds.{Any-from_list_any, list_any-from_Any}
+use Rattle.classify.specs.line.Line.{row_at, some_differs, is_cut, starts, IsLineOf}
 use Rattle.classify.specs.steps.Pieces.{IsRisingFrom, StartsAt}
 use Rattle.classify.proofs.laws.line.StepLaws.{EachPiece, AreStepsOf, starts_within, step_over, one_list_of_steps, starts_above}
 
@@ -92,15 +94,53 @@ tell_rows allows boxes x = elim (cases_row allows boxes x (suc x)) [ inl same �
 below : (x : ℕ) → suc x - 1 ≡ x
 below x = omega arith
 
-cut_from_differs : {B : Type 0} (allows : B → ℕ → Bool) (boxes : List B) (x : ℕ) → row_at allows boxes x ≢ row_at allows boxes (suc x) → IsCut allows boxes (suc x)
-cut_from_differs {B} allows boxes x ne =
-    let P : ℕ → Type 0 = λ y. Any {X = B} (λ b. allows b y ≢ allows b (suc x)) boxes in
-    inr (subst P (sym (below x)) (any_from_differs allows boxes x (suc x) ne))
+-- exactly one of two answers is yes where they differ
+differ_test : (a b : Bool) → a ≢ b → cond a (not b) b ≡ true
+differ_test true true ne = absurd (ne refl)
+differ_test true false ne = refl
+differ_test false true ne = refl
+differ_test false false ne = absurd (ne refl)
 
-differs_from_cut : {B : Type 0} (allows : B → ℕ → Bool) (boxes : List B) (x : ℕ) → IsCut allows boxes (suc x) → row_at allows boxes x ≢ row_at allows boxes (suc x)
-differs_from_cut {B} allows boxes x c =
-    let P : ℕ → Type 0 = λ y. Any {X = B} (λ b. allows b y ≢ allows b (suc x)) boxes in
-    elim c [ inl e ↦ absurd (omega arith) | inr other ↦ differs_from_any allows boxes x (suc x) (subst P (below x) other) ]
+equal_test : (a : Bool) → cond a (not a) a ≡ false
+equal_test true = refl
+equal_test false = refl
+
+differ_from_test : (a b : Bool) → cond a (not b) b ≡ true → a ≢ b
+differ_from_test a b t e = true≢false (sym t ∙ ap (λ c. cond a (not c) c) (sym e) ∙ equal_test a)
+
+some_from_any : {B : Type 0} (allows : B → ℕ → Bool) (boxes : List B) (x y : ℕ) → Any (λ b. allows b x ≢ allows b y) boxes → some_differs allows boxes x y ≡ true
+some_from_any allows boxes x y h =
+    list_any-from_Any (λ b. cond (allows b x) (not (allows b y)) (allows b y)) boxes (h.0, h.1, h.2, h.3, differ_test (allows h.1 x) (allows h.1 y) h.4)
+
+any_from_some : {B : Type 0} (allows : B → ℕ → Bool) (boxes : List B) (x y : ℕ) → some_differs allows boxes x y ≡ true → Any (λ b. allows b x ≢ allows b y) boxes
+any_from_some allows boxes x y t =
+    let h = Any-from_list_any (λ b. cond (allows b x) (not (allows b y)) (allows b y)) boxes t in
+    (h.0, h.1, h.2, h.3, differ_from_test (allows h.1 x) (allows h.1 y) h.4)
+
+pub zero_is_cut : {B : Type 0} (allows : B → ℕ → Bool) (boxes : List B) → is_cut allows boxes 0 ≡ true
+zero_is_cut allows boxes = refl
+
+or_second : (a b : Bool) → b ≡ true → (a || b) ≡ true
+or_second true b t = refl
+or_second false b t = t
+
+or_rest : (a b : Bool) → a ≡ false → (a || b) ≡ true → b ≡ true
+or_rest true b f t = absurd (true≢false f)
+or_rest false b f t = t
+
+above_zero : (x : ℕ) → (suc x == 0) ≡ false
+above_zero x = let ne : suc x ≢ 0 = omega arith in ne_eqb (suc x) 0 ne
+
+-- above 0 a number is a cut where the rows differ
+pub cut_from_differs : {B : Type 0} (allows : B → ℕ → Bool) (boxes : List B) (x : ℕ) → row_at allows boxes x ≢ row_at allows boxes (suc x) → is_cut allows boxes (suc x) ≡ true
+cut_from_differs allows boxes x ne =
+    or_second (suc x == 0) (some_differs allows boxes (suc x - 1) (suc x))
+    (ap (λ y. some_differs allows boxes y (suc x)) (below x) ∙ some_from_any allows boxes x (suc x) (any_from_differs allows boxes x (suc x) ne))
+
+pub differs_from_cut : {B : Type 0} (allows : B → ℕ → Bool) (boxes : List B) (x : ℕ) → is_cut allows boxes (suc x) ≡ true → row_at allows boxes x ≢ row_at allows boxes (suc x)
+differs_from_cut allows boxes x t =
+    differs_from_any allows boxes x (suc x) (any_from_some allows boxes x (suc x)
+    (sym (ap (λ y. some_differs allows boxes y (suc x)) (below x)) ∙ or_rest (suc x == 0) (some_differs allows boxes (suc x - 1) (suc x)) (above_zero x) t))
 
 -- ---- the line is the steps of the rows, and the other way round
 
@@ -128,13 +168,13 @@ line_from_steps allows top boxes (d ∷ ps) h =
         (λ has. (
             let s : StartsAt x (d ∷ ps) = starts_from_contains x (d ∷ ps) has in
             elim s [
-              | inl e ↦ (let z : x ≡ 0 = e ∙ h.zero_first in (omega arith, inl z))
+              | inl e ↦ (let z : x ≡ 0 = e ∙ h.zero_first in (omega arith, ap (λ y. is_cut allows boxes y) z ∙ zero_is_cut allows boxes))
               | inr t ↦ (
                 starts_within top 0 x ps h.rising t,
-                step_over (λ y. StartsAt y ps → IsCut allows boxes y) (λ u. absurd (let lt : 0 < 0 = starts_above top 0 0 ps h.rising u in omega arith)) (λ y u. cut_from_differs allows boxes y (h.starts y u)) x t,
+                step_over (λ y. StartsAt y ps → is_cut allows boxes y ≡ true) (λ u. absurd (let lt : 0 < 0 = starts_above top 0 0 ps h.rising u in omega arith)) (λ y u. cut_from_differs allows boxes y (h.starts y u)) x t,
               )
             ])),
-        (λ cut. contains_from_starts x (d ∷ ps) (step_over (λ y. y ≤ top → IsCut allows boxes y → StartsAt y (d ∷ ps)) (λ _ _. inl (sym h.zero_first))
+        (λ cut. contains_from_starts x (d ∷ ps) (step_over (λ y. y ≤ top → is_cut allows boxes y ≡ true → StartsAt y (d ∷ ps)) (λ _ _. inl (sym h.zero_first))
             (λ y le c. inr (h.all y le (differs_from_cut allows boxes y c))) x cut.0 cut.1)),
       );
       rows = all_from_each (λ (p : Piece). p.1 ≡ row_at allows boxes p.0) (d ∷ ps) (h.first, h.rows);
@@ -142,13 +182,13 @@ line_from_steps allows top boxes (d ∷ ps) h =
 
 pub steps_from_line : {B : Type 0} (allows : B → ℕ → Bool) (top : ℕ) (boxes : List B) (line : List Piece) → IsLineOf allows top boxes line → AreSteps (row_at allows boxes) top line
 steps_from_line allows top boxes [] h =
-    let k : Contains (starts []) 0 = (h.cuts 0).1 (omega arith, inl refl) in
+    let k : Contains (starts []) 0 = (h.cuts 0).1 (omega arith, refl) in
     starts_from_contains 0 [] k
 steps_from_line allows top boxes (d ∷ ps) h =
     let r = each_from_all (λ (p : Piece). p.1 ≡ row_at allows boxes p.0) (d ∷ ps) h.rows in
     let within : (x : ℕ) → StartsAt x (d ∷ ps) → x ≤ top = λ x s. ((h.cuts x).0 (contains_from_starts x (d ∷ ps) s)).0 in
     let rising : IsRisingFrom top d.0 ps = rising_from_increasing top d.0 ps h.rising (λ x s. within x (inr s)) in
-    let k : StartsAt 0 (d ∷ ps) = starts_from_contains 0 (d ∷ ps) ((h.cuts 0).1 (omega arith, inl refl)) in
+    let k : StartsAt 0 (d ∷ ps) = starts_from_contains 0 (d ∷ ps) ((h.cuts 0).1 (omega arith, refl)) in
     let z : d.0 ≡ 0 = elim k [ inl e ↦ sym e | inr s ↦ absurd (let lt : d.0 < 0 = starts_above top d.0 0 ps rising s in omega arith) ] in
     let P : ℕ → Type 0 = λ a. IsRisingFrom top a ps in
     record {

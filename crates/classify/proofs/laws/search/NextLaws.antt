@@ -1,4 +1,4 @@
--- The first place that every row has is the next box that allows the point.
+-- The first place that every row has is the next box that box_allows the point.
 use Rattle.std.proofs.Common.{◌≡◌, ◌↔◌, inl, inr, ℕ, zero, suc, ◌+◌, ◌-◌, ◌*◌, ◌<◌, ◌≤◌, Bool, true, false, cond, not, List, [], ◌∷◌, length, drop, get_or, map, refl, sym, ◌∙◌, ap, arith, subst, lit<, Option, Some, None, Bor}
 use Rattle.std.specs.Prelude.{slice_index}
 use Rattle.std.specs.List.{list_all, position_or_len}
@@ -25,8 +25,9 @@ use Rattle.classify.specs.steps.Fields.{shown_line, tops, IsKept}
 use Rattle.classify.specs.steps.Common.{IsRow, AreRows, AreWide, HaveAll, IsFirst}
 use Rattle.rules.specs.boxing.Boxed.{set_on}
 use Rattle.rules.proofs.laws.boxing.BoxLaws.{index-lt, here_is}
-use Rattle.classify.specs.classifier.Classifier.{allows, line_on, Classified, IsClassifierOf, IsPoint, allows_point, next_match}
+use Rattle.classify.specs.classifier.Classifier.{box_allows, line_on, Classified, IsClassifierOf, IsPoint, box_matches}
 use Rattle.fields.specs.numbers.Field.{number_on}
+use Rattle.classify.specs.search.NextMatch.{next_match}
 use Rattle.classify.proofs.laws.line.BoxLaws.{says_from_line}
 use Rattle.classify.proofs.laws.bits.WordLaws.{length-all_bits}
 use Rattle.classify.proofs.laws.classifier.ClassifierLaws.{field_at, row_of_sets, line_of_sets, shown_at_place, row_long}
@@ -66,13 +67,13 @@ lent_more c point rows k row h lt r =
 
 -- a bit of a field's row is a box's answer
 row_answer : (c : Classified) (boxes : List (List SpanSet)) (point : List ℕ) (field : Field) (row : List ℕ) (p : ℕ) (b : List SpanSet) → IsClassifierOf boxes c → IsPoint point
-    → IsRow c (index field) (slice_index point (index field)) row → p < length boxes → get_or (all_bits row) p false ≡ allows (get_or boxes p b) field (number_on point field)
+    → IsRow c (index field) (slice_index point (index field)) row → p < length boxes → get_or (all_bits row) p false ≡ box_allows (get_or boxes p b) field (number_on point field)
 row_answer c boxes point field row p b h within r lt =
     let in' : p < c.len = omega (arith, h.len) in
     let x : ℕ = number_on point field in
-    let said : row_in (line_on field c) x ≡ row_at (λ box y. allows box field y) boxes x =
+    let said : row_in (line_on field c) x ≡ row_at (λ box y. box_allows box field y) boxes x =
     says_from_line (top field) (map (set_on field) boxes) (line_on field c) (line_of_sets field (top field) boxes (line_on field c) (h.lines field)) x (within field) ∙ sym (row_of_sets field boxes x) in
-    sym (get_or-take c.len (all_bits row) p false in') ∙ ap (λ (bs : List Bool). get_or bs p false) (r.bits ∙ said) ∙ get_or-map (λ box. allows box field x) boxes p b false lt
+    sym (get_or-take c.len (all_bits row) p false in') ∙ ap (λ (bs : List Bool). get_or bs p false) (r.bits ∙ said) ∙ get_or-map (λ box. box_allows box field x) boxes p b false lt
 
 every_passes : (test : Field → Bool) (fs : List Field) → ((field : Field) → test field ≡ true) → list_all test fs ≡ true
 every_passes test [] h = refl
@@ -86,10 +87,10 @@ passes_each test h field =
     ]
 
 have_to_allow : (c : Classified) (boxes : List (List SpanSet)) (point : List ℕ) (rows : List (Bor (List ℕ))) (p : ℕ) (b : List SpanSet) → IsClassifierOf boxes c → IsPoint point
-    → length rows ≡ FIELDS → ((j : ℕ) (d : Bor (List ℕ)) → j < FIELDS → IsRow c j (slice_index point j) (get_or rows j d).now) → p < length boxes → HaveAll rows p ↔ (allows_point point (get_or boxes p b) ≡ true)
+    → length rows ≡ FIELDS → ((j : ℕ) (d : Bor (List ℕ)) → j < FIELDS → IsRow c j (slice_index point j) (get_or rows j d).now) → p < length boxes → HaveAll rows p ↔ (box_matches point (get_or boxes p b) ≡ true)
 have_to_allow c boxes point rows p b h within n are lt =
     let none : Bor (List ℕ) = record { ref_ptr = (0, 0); now = [] } in
-    let test : Field → Bool = λ field. allows (get_or boxes p b) field (number_on point field) in (
+    let test : Field → Bool = λ field. box_allows (get_or boxes p b) field (number_on point field) in (
       λ every. every_passes test ALL (λ field.
           (let k : index field < length rows = omega (arith, index-lt field) in
           sym (row_answer c boxes point field (get_or rows (index field) none).now p b h within (are (index field) none (index-lt field)) lt) ∙ every (index field) none k)),
@@ -159,10 +160,10 @@ next_from_first test boxes from d (Some n) h =
     sym (ap (λ b. option_map (λ (k : ℕ). from + k) (cond b (Some (position_or_len test xs)) None)) f ∙ ap (λ k. Some (from + k)) e ∙ ap Some back)
 
 pub first_is_next : (c : Classified) (boxes : List (List SpanSet)) (point : List ℕ) (rows : List (Bor (List ℕ))) (words from : ℕ) (r : Option ℕ) → IsClassifierOf boxes c → IsPoint point
-    → length rows ≡ FIELDS → ((j : ℕ) (d : Bor (List ℕ)) → j < FIELDS → IsRow c j (slice_index point j) (get_or rows j d).now) → AreWide words rows → c.len ≤ 64 * words → IsFirst (HaveAll rows) from (64 * words) r → r ≡ next_match (allows_point point) boxes from
+    → length rows ≡ FIELDS → ((j : ℕ) (d : Bor (List ℕ)) → j < FIELDS → IsRow c j (slice_index point j) (get_or rows j d).now) → AreWide words rows → c.len ≤ 64 * words → IsFirst (HaveAll rows) from (64 * words) r → r ≡ next_match (box_matches point) boxes from
 first_is_next c boxes point rows words from None h within n are wide le first =
-    next_from_first (allows_point point) boxes from [] None (λ k ge lt t. first k ge (omega (arith, h.len)) ((have_to_allow c boxes point rows k [] h within n are lt).1 t))
+    next_from_first (box_matches point) boxes from [] None (λ k ge lt t. first k ge (omega (arith, h.len)) ((have_to_allow c boxes point rows k [] h within n are lt).1 t))
 first_is_next c boxes point rows words from (Some m) h within n are wide le first =
     let in' : m < length boxes = omega (arith, h.len, have_within c point rows words m n are wide first.1 first.2) in
-    next_from_first (allows_point point) boxes from [] (Some m)
+    next_from_first (box_matches point) boxes from [] (Some m)
     (first.0, in', (have_to_allow c boxes point rows m [] h within n are in').0 first.2, λ k ge lt t. first.3 k ge lt ((have_to_allow c boxes point rows k [] h within n are (omega arith)).1 t))
