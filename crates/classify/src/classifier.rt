@@ -10,6 +10,7 @@ ghost use Rattle.classify.specs.search.NextMatch.{next_match};
 
 use crate::bits::bit_row::MOST_BITS;
 use crate::line::owned::{self, OwnedLine};
+use crate::line::view::Line;
 use crate::search;
 use fields::{FIELDS, Field};
 use rules::Boxed;
@@ -88,10 +89,11 @@ impl Classifier {
     }
 
     /// The line of a field; it is lent.
-    pub fn line(&self, field: Field) -> &OwnedLine
-        ensures { shown_line result.now ≡ line_on field self.now }
+    pub fn line(&self, field: Field) -> Line<'_>
+        ensures { result ≡ line_on field self.now }
     {
-        &self.lines[field.index()]
+        let line = &self.lines[field.index()];
+        Line::of(line.pieces.as_slice())
     }
 
     /// Puts a box in at a place among the boxes, and spends it, also when it is refused.

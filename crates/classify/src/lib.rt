@@ -16,4 +16,5 @@ pub use classifier::of_rules::{
     targets_leave_the_classifier,
 };
 pub use line::boxes_have_one_line;
-pub use line::owned::{OwnedLine as Line, OwnedPiece as Piece};
+pub use line::owned::PIECE_BYTES;
+pub use line::view::{Line, Piece, Pieces, Row};

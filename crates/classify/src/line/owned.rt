@@ -1,4 +1,4 @@
-//! Lines of cuts: where the answers of a list of boxes change, and what they are from there on.
+//! A line as the classifier keeps it.
 
 ghost use Rattle.std.specs.Prelude.{◌≡◌, ◌<◌, ◌≤◌, ◌+◌, length, slice_index, take, IfOk, [], ◌∷◌};
 ghost use Rattle.classify.specs.steps.Packing.{all_bits, IsPacked};
@@ -8,21 +8,21 @@ ghost use Rattle.classify.specs.steps.Shown.{shown};
 
 use crate::bits::bit_row::BitRow;
 use std::alloc::{AllocError, Global};
+use std::mem::size_of;
 
-/// A piece of a line: from its start on, up to the next piece, each box answers as its bit says.
+/// How many bytes a piece takes beside the words of its row.
+pub const PIECE_BYTES: usize = size_of::<OwnedPiece>();
+
+// A piece: its first number, and the answer of each box, at the box's place.
 #[derive(Drop)]
-pub struct OwnedPiece {
-    /// The first number of the piece.
-    pub start: u128,
-    /// The answer of each box, at the box's place.
-    pub row: BitRow,
+pub(crate) struct OwnedPiece {
+    pub(crate) start: u128,
+    pub(crate) row: BitRow,
 }
 
-/// The line of a list of boxes on one field, from 0 to the field's top.
-///
-/// A piece takes 48 bytes and the words of its row.
+// The pieces of a line.
 #[derive(Drop)]
-pub struct OwnedLine {
+pub(crate) struct OwnedLine {
     pub(crate) pieces: Vec<OwnedPiece>,
 }
 
@@ -58,13 +58,6 @@ impl OwnedLine {
             })?;
         }
         Ok(OwnedLine { pieces })
-    }
-
-    /// The pieces in rising order; they are lent. The first starts at 0.
-    pub fn pieces(&self) -> &[OwnedPiece]
-        ensures { result.now ≡ self.now.pieces.items }
-    {
-        self.pieces.as_slice()
     }
 }
 

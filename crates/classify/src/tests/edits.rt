@@ -196,7 +196,7 @@ fn allows(draft: &Draft, field: Field, x: u64) -> bool {
 
 /// Compares a line with what the rules say of each number that is tried.
 fn agree(rt: &impl Abort, line: &Line, drafts: &[Draft], field: Field) {
-    let mut pieces = line.pieces().iter();
+    let mut pieces = line.pieces();
     for x in 0..numbers(field) {
         let before = x.saturating_sub(1);
         let changes = drafts.iter().any(|draft| allows(draft, field, before)
@@ -205,11 +205,12 @@ fn agree(rt: &impl Abort, line: &Line, drafts: &[Draft], field: Field) {
             match pieces.next() {
                 None => assert!(rt; false, "no piece starts at {x}"),
                 Some(piece) => {
-                    assert_eq!(rt; piece.start, u128::from(x));
-                    assert_eq!(rt; piece.row.len(), drafts.len());
+                    let row = piece.row();
+                    assert_eq!(rt; piece.start(), u128::from(x));
+                    assert_eq!(rt; row.len(), drafts.len());
                     for (place, draft) in drafts.iter().enumerate() {
-                        assert!(rt; place < piece.row.len());
-                        assert_eq!(rt; piece.row.get(place), allows(draft, field, x));
+                        assert!(rt; place < row.len());
+                        assert_eq!(rt; row.get(place), allows(draft, field, x));
                     }
                 }
             }
@@ -288,7 +289,7 @@ fn random_edits(rt: HostRuntime) -> Result<(), Fail> {
     for _ in 0..2000 {
         edit(&rt, alloc, &mut classifier, &mut drafts, &mut dice)?;
         let field = ASKED[dice.below(5) as usize];
-        agree(&rt, classifier.line(field), &drafts, field);
+        agree(&rt, &classifier.line(field), &drafts, field);
         same_search(&rt, &classifier, &drafts, &mut dice);
     }
     Ok(())

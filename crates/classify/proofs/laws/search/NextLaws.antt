@@ -1,5 +1,5 @@
 -- The first place that every row has is the next box that box_allows the point.
-use Rattle.std.proofs.Common.{◌≡◌, ◌↔◌, inl, inr, ℕ, zero, suc, ◌+◌, ◌-◌, ◌*◌, ◌<◌, ◌≤◌, Bool, true, false, cond, not, List, [], ◌∷◌, length, drop, get_or, map, refl, sym, ◌∙◌, ap, arith, subst, lit<, Option, Some, None, Bor}
+use Rattle.std.proofs.Common.{◌≡◌, ◌↔◌, inl, inr, ℕ, zero, suc, ◌+◌, ◌-◌, ◌*◌, ◌<◌, ◌≤◌, Bool, true, false, cond, not, List, [], ◌∷◌, length, drop, take, get_or, map, refl, sym, ◌∙◌, ap, arith, subst, lit<, Option, Some, None, Bor}
 use Rattle.std.specs.Prelude.{slice_index}
 use Rattle.std.specs.List.{list_all, position_or_len}
 use Rattle.std.specs.Option.{option_map}
@@ -8,7 +8,7 @@ use Rattle.std.proofs.lemmas.Bool.{cases_lt, cases_eq, cases_Bool, true≢false,
 use Rattle.std.proofs.lemmas.List.{get_or-drop, get_or-take, get_or-map, length-drop, length-set, get_or-set_same, get_or-set_other}
 use Rattle.std.proofs.Math.ListN.{set}
 use Rattle.std.proofs.lemmas.List.Folds.{list_all_at}
-use Rattle.std.proofs.lemmas.List.Elements.{All-get_or}
+use Rattle.std.proofs.lemmas.List.Elements.{All-cons, All-get_or, All-head, All-nil}
 use Rattle.fields.specs.declared.numbers.field.TheConstants.{FIELDS}
 use Rattle.fields.specs.declared.numbers.field.TheConstants.Field.{ALL}
 use Rattle.fields.specs.declared.numbers.field.Field.{Field}
@@ -167,3 +167,33 @@ first_is_next c boxes point rows words from (Some m) h within n are wide le firs
     let in' : m < length boxes = omega (arith, h.len, have_within c point rows words m n are wide first.1 first.2) in
     next_from_first (box_matches point) boxes from [] (Some m)
     (first.0, in', (have_to_allow c boxes point rows m [] h within n are in').0 first.2, λ k ge lt t. first.3 k ge lt ((have_to_allow c boxes point rows k [] h within n are (omega arith)).1 t))
+
+-- ---- the next set bit of one row
+
+one_has : (row : Bor (List ℕ)) (bits : List Bool) (p : ℕ) → take (length bits) (all_bits row.now) ≡ bits → p < length bits → get_or bits p false ≡ get_or (all_bits row.now) p false
+one_has row bits p e lt = sym (ap (λ (bs : List Bool). get_or bs p false) e) ∙ get_or-take (length bits) (all_bits row.now) p false lt
+
+have_one : (row : Bor (List ℕ)) (p : ℕ) → get_or (all_bits row.now) p false ≡ true → HaveAll (row ∷ []) p
+have_one row p t =
+    let P : Bor (List ℕ) → Type 0 = λ r. get_or (all_bits r.now) p false ≡ true in
+    All-cons P row [] t (All-nil P)
+
+one_is : (row : Bor (List ℕ)) (p : ℕ) → HaveAll (row ∷ []) p → get_or (all_bits row.now) p false ≡ true
+one_is row p h = All-head (λ (r : Bor (List ℕ)). get_or (all_bits r.now) p false ≡ true) row [] h
+
+one_within : (row : Bor (List ℕ)) (len p : ℕ) → IsPacked row.now len → p < 64 * length row.now → HaveAll (row ∷ []) p → p < len
+one_within row len p h lt have =
+    elim (cases_lt p len) [ inl in' ↦ in' | inr le ↦ absurd (true≢false (sym (one_is row p have) ∙ none_past row.now len p h le lt)) ]
+
+pub next_of_one : (row : Bor (List ℕ)) (bits : List Bool) (from : ℕ) (r : Option ℕ) → IsPacked row.now (length bits) → take (length bits) (all_bits row.now) ≡ bits
+    → IsFirst (HaveAll (row ∷ [])) from (64 * length row.now) r → r ≡ next_match (λ bit. bit) bits from
+next_of_one row bits from None h e first =
+    next_from_first (λ (bit : Bool). bit) bits from false None (λ k ge lt t. first k ge (omega (arith, h.covers)) (have_one row k (sym (one_has row bits k e lt) ∙ t)))
+next_of_one row bits from (Some m) h e first =
+    let in' : m < length bits = one_within row (length bits) m h first.1 first.2 in
+    next_from_first (λ (bit : Bool). bit) bits from false (Some m) (
+      first.0,
+      in',
+      one_has row bits m e in' ∙ one_is row m first.2,
+      λ k ge lt t. first.3 k ge lt (have_one row k (sym (one_has row bits k e (omega arith)) ∙ t)),
+    )
