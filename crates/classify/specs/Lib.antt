@@ -1,4 +1,11 @@
+pub mod bits
 pub mod classifier
 pub mod line
 pub mod search
 pub mod steps
+pub use Rattle.fields.specs.numbers.Field
+pub use Rattle.fields.specs.numbers.Spans
+pub use Rattle.rules.specs.boxing.Boxed
+pub use Rattle.rules.specs.rule.Actions
+pub use Rattle.rules.specs.rule.Allows
+pub use Rattle.rules.specs.rule.Rules

@@ -1,4 +1,4 @@
-pub mod Common
+pub mod CommonPlaces
 pub mod Cuts
 pub mod Edits
 pub mod Fields

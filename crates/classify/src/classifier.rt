@@ -48,7 +48,7 @@ impl Model for Classifier {
 
 impl Classifier {
     ghost use Rattle.classify.specs.classifier.Classifier.{IsClassifierOf, IsClassifierOfRules, HasNoNewCut, line_on, IsPoint, box_matches};
-    ghost use Rattle.classify.specs.steps.Common.{IsRow, AreRows};
+    ghost use Rattle.classify.specs.steps.CommonPlaces.{IsRow, AreRows};
     ghost use Rattle.classify.specs.steps.Fields.{shown_line};
 
     /// The classifier of no box.
@@ -96,7 +96,7 @@ impl Classifier {
         Line::of(line.pieces.as_slice())
     }
 
-    /// Puts a box in at a place among the boxes, and spends it, also when it is refused.
+    /// Puts a box in at a place among the boxes. It takes the box, also where memory is refused.
     ///
     /// # Errors
     ///
@@ -117,7 +117,7 @@ impl Classifier {
         Ok(())
     }
 
-    /// Puts a box in the place of another, and spends it, also when it is refused.
+    /// Puts a box in the place of another. It takes the box, also where memory is refused.
     ///
     /// # Errors
     ///

@@ -8,7 +8,7 @@ use Rattle.classify.specs.steps.Pieces.{StartsAt, row_in}
 abbrev pub CutsStart : ℕ → List Interval → List (ℕ × List Bool) → Type 0
 CutsStart top spans line = (x : ℕ) → suc x ≤ top → has spans x ≢ has spans (suc x) → StartsAt (suc x) line
 
--- a piece starts where the interval begins, and one behind its end
+-- a piece starts where the interval begins, and one after its end
 abbrev pub EndsStart : ℕ → List (ℕ × List Bool) → Interval → Type 0
 EndsStart top line s = StartsAt s.first line × (s.last < top → StartsAt (s.last + 1) line)
 

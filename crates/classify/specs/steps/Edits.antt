@@ -34,7 +34,7 @@ pub record IsUnsplitAt (P : ℕ → Type 0) (top : ℕ) (old new : List (ℕ × 
 abbrev pub IsNumber : ℕ → ℕ → Type 0
 IsNumber x y = y ≡ x
 
--- where an interval begins, and behind its end
+-- where an interval begins, and after its end
 abbrev pub IsEndOf : Interval → ℕ → Type 0
 IsEndOf s x = (x ≡ s.first) ⊎ (x ≡ s.last + 1)
 
@@ -57,12 +57,12 @@ pub record IsSound (top n : ℕ) (line : List (ℕ × List Bool)) : Type 0 where
 abbrev pub row_of : List (ℕ × List Bool) → ℕ → List Bool
 row_of line j = let none : ℕ × List Bool = (0, []) in let p : ℕ × List Bool = slice_index_or line j none in p.1
 
--- the piece behind the j-th joined to it if their rows are equal, where the two bits say that they may be
+-- the piece after the j-th joined to it if their rows are equal, where the two bits say that they may be
 abbrev pub IsJoined : Bool → Bool → ℕ → List (ℕ × List Bool) → List (ℕ × List Bool) → Type 0
 IsJoined bit above j old new =
     ((new ≡ old) × (suc j < length old → bit ≢ above → row_of old j ≢ row_of old (suc j))) ⊎ ((suc j < length old) × (row_of old j ≡ row_of old (suc j)) × (new ≡ remove old (suc j)))
 
 -- neighbours with one bit at the place still have two rows after the change
-abbrev pub Tells : (ℕ × List Bool → ℕ × List Bool) → ℕ → List (ℕ × List Bool) → Type 0
-Tells g at line =
+abbrev pub KeepsApart : (ℕ × List Bool → ℕ × List Bool) → ℕ → List (ℕ × List Bool) → Type 0
+KeepsApart g at line =
     (j : ℕ) → suc j < length line → slice_index_or (row_of line j) at false ≡ slice_index_or (row_of line (suc j)) at false → (g (slice_index_or line j (0, []))).1 ≢ (g (slice_index_or line (suc j) (0, []))).1

@@ -26,11 +26,12 @@ IsRising top (p ∷ ps) = (p.0 ≡ 0) × IsRisingFrom top 0 ps
 abbrev pub IsRisingLine : List (ℕ × List Bool) → Type 0
 IsRisingLine line = (top : ℕ) × IsRising top line
 
--- no two neighbours are equal, nor the first and `row`
+-- no two neighbours have equal rows, nor the first and `row`
 abbrev pub DifferFrom : List Bool → List (ℕ × List Bool) → Type 0
 DifferFrom row [] = Unit {0}
 DifferFrom row (p ∷ ps) = (row ≢ p.1) × DifferFrom p.1 ps
 
+-- no two neighbours have equal rows
 abbrev pub Differ : List (ℕ × List Bool) → Type 0
 Differ [] = Unit {0}
 Differ (p ∷ ps) = DifferFrom p.1 ps

@@ -2,8 +2,10 @@
 use Rattle.std.specs.Prelude.{ℕ, Bool, List, map}
 use Rattle.classify.specs.declared.line.owned.OwnedPiece.{OwnedPiece}
 
+-- where a piece starts, and its bits
 abbrev pub shown_piece : OwnedPiece → ℕ × List Bool
 shown_piece p = (p.start, p.row.bits)
 
+-- the same of each piece
 abbrev pub shown : List OwnedPiece → List (ℕ × List Bool)
 shown ps = map shown_piece ps

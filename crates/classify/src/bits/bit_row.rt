@@ -37,9 +37,10 @@ pub struct BitRow {
 impl Model for BitRow {
     ghost use Rattle.std.specs.Prelude.{take};
     ghost use Rattle.std.specs.Vec.{vec_capacity};
-    ghost use Rattle.classify.specs.steps.Packing.{Row, IsPacked, all_bits, room_of};
+    ghost use Rattle.classify.specs.bits.BitRow.{BitsAndRoom};
+    ghost use Rattle.classify.specs.steps.Packing.{IsPacked, all_bits, room_of};
 
-    ghost Value = { Row };
+    ghost Value = { BitsAndRoom };
 
     ghost view = { λ r. record { bits = take r.len (all_bits r.words.items); room = room_of (vec_capacity r.words) r.len } };
 

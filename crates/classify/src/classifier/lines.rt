@@ -1,13 +1,11 @@
 //! The lines of all fields: each step on every line in turn.
 
-ghost use Rattle.fields.specs.declared.numbers.spans.Interval.{Interval};
-ghost use Rattle.std.specs.Prelude.{◌≡◌, ◌≢◌, ◌<◌, ◌≤◌, ◌+◌, ◌%◌, ℕ, length, OnOk, OnErr, IsOk, All, List, insert, slice_set, slice_index_or, [], ◌∷◌};
-ghost use Rattle.fields.specs.numbers.Spans.{has};
-ghost use Rattle.classify.specs.steps.Cuts.{CutsStart, IsApart};
-ghost use Rattle.classify.specs.steps.Pieces.{IsRising, IsSplitOf, StartsAtZero};
-ghost use Rattle.classify.specs.line.Line.{IsLineOf};
-ghost use Rattle.classify.specs.steps.Edits.{IsMergeOf, IsSound, EachRow};
-ghost use Rattle.classify.specs.steps.Fields.{shown_line, EachField, IsReady, HasRoom, TakesIn, TakesOver, HasPlace, LosesBox};
+ghost use Rattle.std.specs.Prelude.{◌≡◌, ◌≢◌, ◌<◌, ◌≤◌, ◌+◌, ◌%◌, ℕ, length, OnOk, OnErr, IsOk, All};
+ghost use Rattle.classify.specs.steps.Pieces.{StartsAtZero};
+ghost use Rattle.classify.specs.steps.Edits.{EachRow};
+ghost use Rattle.classify.specs.steps.Fields.{shown_line, EachLine, EachEdit, ShowTheSame, AreEmpty, EachField, OnEach};
+ghost use Rattle.classify.specs.steps.Fields.{Rises, HasCuts, HasOnlyCuts, Stands, IsCutMore, IsJoinedUp, InsertsSet, ReplacesSet};
+ghost use Rattle.classify.specs.steps.Fields.{IsReady, HasRoom, TakesIn, TakesOver, HasPlace, LosesBox};
 
 use crate::line::edit;
 use crate::line::owned::OwnedLine;
@@ -16,7 +14,7 @@ use std::alloc::{AllocError, Global};
 
 /// Makes every line that of no box.
 pub(crate) fn open_lines(lines: &mut [OwnedLine], alloc: Global) -> Result<(), AllocError>
-    ensures { OnOk result ((k : ℕ) (l : OwnedLine) → k < length lines.old → shown_line (slice_index_or lines.new k l) ≡ (0, []) ∷ []) }
+    ensures { OnOk result (AreEmpty lines.old lines.new) }
 {
     for k in 0..lines.len() {
         lines[k] = OwnedLine::open(alloc)?;
@@ -31,7 +29,7 @@ pub(crate) fn copy_lines(
     alloc: Global,
 ) -> Result<(), AllocError>
     requires { length others.now ≡ length lines.old }
-    ensures { OnOk result ((k : ℕ) (l : OwnedLine) → k < length others.now → shown_line (slice_index_or lines.new k l) ≡ shown_line (slice_index_or others.now k l)) }
+    ensures { OnOk result (ShowTheSame others.now lines.new) }
 {
     for k in 0..lines.len() {
         lines[k] = others[k].copy(alloc)?;
@@ -42,10 +40,10 @@ pub(crate) fn copy_lines(
 /// Cuts every line wherever the box's answers change on its field.
 fn split_lines(lines: &mut [OwnedLine], spans: &[Spans]) -> Result<(), AllocError>
     requires as_long { length spans.now ≡ length lines.old }
-    requires rising { EachField (λ s l _. IsRising s.top (shown_line l)) spans.now lines.old lines.old }
-    ensures split { EachField (λ s l m. IsSplitOf s.top s.intervals (shown_line l) (shown_line m)) spans.now lines.old lines.new }
-    ensures cuts { OnOk result (EachField (λ s _ m. CutsStart s.top s.intervals (shown_line m)) spans.now lines.old lines.new) }
-    ensures there { EachField (λ s l _. CutsStart s.top s.intervals (shown_line l)) spans.now lines.old lines.old → IsOk result }
+    requires rising { OnEach Rises spans.now lines.old }
+    ensures split { EachField IsCutMore spans.now lines.old lines.new }
+    ensures cuts { OnOk result (EachField (λ s _ m. HasCuts s m) spans.now lines.old lines.new) }
+    ensures there { OnEach HasCuts spans.now lines.old → IsOk result }
 {
     for k in 0..lines.len() {
         let line = &mut lines[k];
@@ -56,9 +54,9 @@ fn split_lines(lines: &mut [OwnedLine], spans: &[Spans]) -> Result<(), AllocErro
 
 /// Takes the memory that one more bit in each row of every line needs.
 fn reserve_lines(lines: &mut [OwnedLine]) -> Result<(), AllocError>
-    ensures same { (k : ℕ) (l : OwnedLine) → k < length lines.old → shown_line (slice_index_or lines.new k l) ≡ shown_line (slice_index_or lines.old k l) }
-    ensures room { OnOk result ((k : ℕ) (l : OwnedLine) → k < length lines.old → All (λ p. 0 < p.row.room) (slice_index_or lines.new k l).pieces.items) }
-    ensures part { ((k : ℕ) (l : OwnedLine) → k < length lines.old → All (λ p. length p.row.bits % 64 ≢ 0) (slice_index_or lines.old k l).pieces.items) → IsOk result }
+    ensures same { ShowTheSame lines.old lines.new }
+    ensures room { OnOk result (EachEdit (λ _ m. All (λ p. 0 < p.row.room) m.pieces.items) lines.old lines.new) }
+    ensures part { EachLine (λ l. All (λ p. length p.row.bits % 64 ≢ 0) l.pieces.items) lines.old → IsOk result }
 {
     for k in 0..lines.len() {
         let line = &mut lines[k];
@@ -70,11 +68,11 @@ fn reserve_lines(lines: &mut [OwnedLine]) -> Result<(), AllocError>
 /// Takes all memory that a box needs, in every line: rows whose last word has a place left need none.
 fn prepare_lines(lines: &mut [OwnedLine], len: usize, spans: &[Spans]) -> Result<(), AllocError>
     requires as_long { length spans.now ≡ length lines.old }
-    requires rising { EachField (λ s l _. IsRising s.top (shown_line l)) spans.now lines.old lines.old }
-    requires rows { (k : ℕ) (l : OwnedLine) → k < length lines.old → EachRow len (shown_line (slice_index_or lines.old k l)) }
-    ensures split { EachField (λ s l m. IsSplitOf s.top s.intervals (shown_line l) (shown_line m)) spans.now lines.old lines.new }
+    requires rising { OnEach Rises spans.now lines.old }
+    requires rows { EachLine (λ l. EachRow len (shown_line l)) lines.old }
+    ensures split { EachField IsCutMore spans.now lines.old lines.new }
     ensures ready { OnOk result (EachField (λ s _ m. IsReady s m) spans.now lines.old lines.new) }
-    ensures there { EachField (λ s l _. HasRoom s l) spans.now lines.old lines.old → IsOk result }
+    ensures there { OnEach HasRoom spans.now lines.old → IsOk result }
 {
     split_lines(lines, spans)?;
     if len % 64 != 0 {
@@ -87,9 +85,9 @@ fn prepare_lines(lines: &mut [OwnedLine], len: usize, spans: &[Spans]) -> Result
 /// Takes the cuts wherever the box's answers change back, in every line, where the rows are equal.
 fn unsplit_lines(lines: &mut [OwnedLine], spans: &[Spans])
     requires as_long { length spans.now ≡ length lines.old }
-    requires rising { EachField (λ s l _. IsRising s.top (shown_line l)) spans.now lines.old lines.old }
-    requires apart { EachField (λ s l _. IsApart s.intervals (shown_line l)) spans.now lines.old lines.old }
-    ensures { EachField (λ s l m. IsMergeOf s.top (shown_line l) (shown_line m)) spans.now lines.old lines.new }
+    requires rising { OnEach Rises spans.now lines.old }
+    requires apart { OnEach HasOnlyCuts spans.now lines.old }
+    ensures { EachField IsJoinedUp spans.now lines.old lines.new }
 {
     for k in 0..lines.len() {
         let line = &mut lines[k];
@@ -100,11 +98,11 @@ fn unsplit_lines(lines: &mut [OwnedLine], spans: &[Spans])
 /// Puts a box in, in every line, for which all memory is taken.
 fn commit_lines(lines: &mut [OwnedLine], at: usize, spans: &[Spans])
     requires as_long { length spans.now ≡ length lines.old }
-    requires rising { EachField (λ s l _. IsRising s.top (shown_line l)) spans.now lines.old lines.old }
-    requires ready { EachField (λ s l _. IsReady s l) spans.now lines.old lines.old }
-    requires apart { EachField (λ s l _. IsApart s.intervals (shown_line l)) spans.now lines.old lines.old }
-    requires place { (k : ℕ) (l : OwnedLine) → k < length lines.old → All (λ p. at ≤ length p.row.bits) (slice_index_or lines.old k l).pieces.items }
-    ensures { EachField (λ s l m. TakesIn at s l m) spans.now lines.old lines.new }
+    requires rising { OnEach Rises spans.now lines.old }
+    requires ready { OnEach IsReady spans.now lines.old }
+    requires apart { OnEach HasOnlyCuts spans.now lines.old }
+    requires place { EachLine (λ l. All (λ p. at ≤ length p.row.bits) l.pieces.items) lines.old }
+    ensures { EachField (TakesIn at) spans.now lines.old lines.new }
 {
     for k in 0..lines.len() {
         let line = &mut lines[k];
@@ -121,11 +119,11 @@ pub(crate) fn insert_lines(
 ) -> Result<(), AllocError>
     requires as_long { length spans.now ≡ length lines.old }
     requires place { at ≤ len }
-    requires sound { EachField (λ s l _. IsSound s.top len (shown_line l)) spans.now lines.old lines.old }
-    ensures ok { OnOk result (EachField (λ s l m. (sets : List (List Interval)) → IsLineOf has s.top sets (shown_line l) → IsLineOf has s.top (insert sets at s.intervals) (shown_line m)) spans.now lines.old lines.new) }
-    ensures sound { OnOk result (EachField (λ s _ m. IsSound s.top (len + 1) (shown_line m)) spans.now lines.old lines.new) }
-    ensures there { len % 64 ≢ 0 → EachField (λ s l _. CutsStart s.top s.intervals (shown_line l)) spans.now lines.old lines.old → IsOk result }
-    ensures err { OnErr result ((k : ℕ) (l : OwnedLine) → k < length lines.old → shown_line (slice_index_or lines.new k l) ≡ shown_line (slice_index_or lines.old k l)) }
+    requires sound { OnEach (Stands len) spans.now lines.old }
+    ensures ok { OnOk result (EachField (InsertsSet at) spans.now lines.old lines.new) }
+    ensures sound { OnOk result (EachField (λ s _ m. Stands (len + 1) s m) spans.now lines.old lines.new) }
+    ensures there { len % 64 ≢ 0 → OnEach HasCuts spans.now lines.old → IsOk result }
+    ensures err { OnErr result (ShowTheSame lines.old lines.new) }
 {
     match prepare_lines(lines, len, spans) {
         Ok(()) => {
@@ -142,11 +140,11 @@ pub(crate) fn insert_lines(
 /// Puts a box in the place of another, in every line, where all cuts are there.
 fn settle_lines(lines: &mut [OwnedLine], at: usize, spans: &[Spans])
     requires as_long { length spans.now ≡ length lines.old }
-    requires rising { EachField (λ s l _. IsRising s.top (shown_line l)) spans.now lines.old lines.old }
-    requires cuts { EachField (λ s l _. CutsStart s.top s.intervals (shown_line l)) spans.now lines.old lines.old }
-    requires apart { EachField (λ s l _. IsApart s.intervals (shown_line l)) spans.now lines.old lines.old }
-    requires place { (n : ℕ) × (at < n) × ((k : ℕ) (l : OwnedLine) → k < length lines.old → EachRow n (shown_line (slice_index_or lines.old k l))) }
-    ensures { EachField (λ s l m. TakesOver at s l m) spans.now lines.old lines.new }
+    requires rising { OnEach Rises spans.now lines.old }
+    requires cuts { OnEach HasCuts spans.now lines.old }
+    requires apart { OnEach HasOnlyCuts spans.now lines.old }
+    requires place { (n : ℕ) × (at < n) × EachLine (λ l. EachRow n (shown_line l)) lines.old }
+    ensures { EachField (TakesOver at) spans.now lines.old lines.new }
 {
     for k in 0..lines.len() {
         let line = &mut lines[k];
@@ -163,11 +161,11 @@ pub(crate) fn replace_lines(
 ) -> Result<(), AllocError>
     requires as_long { length spans.now ≡ length lines.old }
     requires place { at < len }
-    requires sound { EachField (λ s l _. IsSound s.top len (shown_line l)) spans.now lines.old lines.old }
-    ensures ok { OnOk result (EachField (λ s l m. (sets : List (List Interval)) → IsLineOf has s.top sets (shown_line l) → IsLineOf has s.top (slice_set sets at s.intervals) (shown_line m)) spans.now lines.old lines.new) }
-    ensures sound { OnOk result (EachField (λ s _ m. IsSound s.top len (shown_line m)) spans.now lines.old lines.new) }
-    ensures there { EachField (λ s l _. CutsStart s.top s.intervals (shown_line l)) spans.now lines.old lines.old → IsOk result }
-    ensures err { OnErr result ((k : ℕ) (l : OwnedLine) → k < length lines.old → shown_line (slice_index_or lines.new k l) ≡ shown_line (slice_index_or lines.old k l)) }
+    requires sound { OnEach (Stands len) spans.now lines.old }
+    ensures ok { OnOk result (EachField (ReplacesSet at) spans.now lines.old lines.new) }
+    ensures sound { OnOk result (EachField (λ s _ m. Stands len s m) spans.now lines.old lines.new) }
+    ensures there { OnEach HasCuts spans.now lines.old → IsOk result }
+    ensures err { OnErr result (ShowTheSame lines.old lines.new) }
 {
     match split_lines(lines, spans) {
         Ok(()) => {
@@ -183,8 +181,8 @@ pub(crate) fn replace_lines(
 
 /// Takes a box out, in every line.
 pub(crate) fn remove_lines(lines: &mut [OwnedLine], at: usize)
-    requires { (k : ℕ) (l : OwnedLine) → k < length lines.old → HasPlace at (slice_index_or lines.old k l) }
-    ensures { (k : ℕ) (l : OwnedLine) → k < length lines.old → LosesBox at (slice_index_or lines.old k l) (slice_index_or lines.new k l) }
+    requires { EachLine (HasPlace at) lines.old }
+    ensures { EachEdit (LosesBox at) lines.old lines.new }
 {
     for k in 0..lines.len() {
         let line = &mut lines[k];
@@ -194,8 +192,8 @@ pub(crate) fn remove_lines(lines: &mut [OwnedLine], at: usize)
 
 /// Takes every box out, in every line.
 pub(crate) fn clear_lines(lines: &mut [OwnedLine])
-    requires { (k : ℕ) (l : OwnedLine) → k < length lines.old → StartsAtZero (shown_line (slice_index_or lines.old k l)) }
-    ensures { (k : ℕ) (l : OwnedLine) → k < length lines.old → shown_line (slice_index_or lines.new k l) ≡ (0, []) ∷ [] }
+    requires { EachLine (λ l. StartsAtZero (shown_line l)) lines.old }
+    ensures { AreEmpty lines.old lines.new }
 {
     for k in 0..lines.len() {
         let line = &mut lines[k];

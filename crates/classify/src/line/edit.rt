@@ -8,7 +8,7 @@ ghost use Rattle.classify.specs.steps.Pieces.{IsRising, IsRisingLine, IsSplitOf,
 ghost use Rattle.classify.specs.steps.Shown.{shown};
 ghost use Rattle.fields.specs.numbers.Spans.{has};
 ghost use Rattle.classify.specs.steps.Cuts.{CutsStart, EndsStart, ChangesAt, IsApart};
-ghost use Rattle.classify.specs.steps.Edits.{with_answer, with_written, without_answer, IsMergeOf, IsUnsplitAt, IsNumber, IsEndOf, IsJoined, Tells, Says, EachRow, IsSound, row_of};
+ghost use Rattle.classify.specs.steps.Edits.{with_answer, with_written, without_answer, IsMergeOf, IsUnsplitAt, IsNumber, IsEndOf, IsJoined, KeepsApart, Says, EachRow, IsSound, row_of};
 
 use crate::line::owned::{OwnedPiece, place_of};
 use fields::{Interval, Spans};
@@ -30,7 +30,7 @@ fn split(pieces: &mut Vec<OwnedPiece>, x: u128) -> Result<(), AllocError>
     Ok(())
 }
 
-/// Cuts a line where an interval begins, and behind its end.
+/// Cuts a line where an interval begins, and after its end.
 fn split_interval(
     pieces: &mut Vec<OwnedPiece>,
     top: u128,
@@ -82,7 +82,7 @@ fn unsplit(pieces: &mut Vec<OwnedPiece>, x: u128)
     }
 }
 
-/// Takes the cuts where an interval begins, and behind its end, back where the rows are equal.
+/// Takes the cuts where an interval begins, and after its end, back where the rows are equal.
 fn unsplit_interval(pieces: &mut Vec<OwnedPiece>, top: u128, interval: Interval)
     requires { IsRising top (shown pieces.old.items) }
     ensures { IsUnsplitAt (IsEndOf interval) top (shown pieces.old.items) (shown pieces.new.items) }
@@ -159,7 +159,7 @@ fn take_out(pieces: &mut Vec<OwnedPiece>, k: usize, at: usize) -> bool
     bit
 }
 
-/// Joins the piece behind another to it if their rows are equal. It compares them only where the bits that
+/// Joins the piece after another to it if their rows are equal. It compares them only where the bits that
 /// stood in them differed: else they are apart as before.
 fn join(pieces: &mut Vec<OwnedPiece>, k: usize, bit: bool, above: bool)
     requires { k < length pieces.old.items }
@@ -180,7 +180,7 @@ fn join(pieces: &mut Vec<OwnedPiece>, k: usize, bit: bool, above: bool)
 fn set_answers(pieces: &mut Vec<OwnedPiece>, at: usize, spans: &Spans)
     requires zero { StartsAtZero (shown pieces.old.items) }
     requires place { (j : ℕ) → j < length pieces.old.items → at < length (row_of (shown pieces.old.items) j) }
-    requires tells { Tells (with_written at spans.now.intervals) at (shown pieces.old.items) }
+    requires keeps_apart { KeepsApart (with_written at spans.now.intervals) at (shown pieces.old.items) }
     ensures { (top : ℕ) → IsRising top (map (with_written at spans.now.intervals) (shown pieces.old.items)) → IsMergeOf top (map (with_written at spans.now.intervals) (shown pieces.old.items)) (shown pieces.new.items) }
 {
     let mut above = false;
@@ -197,7 +197,7 @@ fn set_answers(pieces: &mut Vec<OwnedPiece>, at: usize, spans: &Spans)
 fn remove_answers(pieces: &mut Vec<OwnedPiece>, at: usize)
     requires zero { StartsAtZero (shown pieces.old.items) }
     requires place { (j : ℕ) → j < length pieces.old.items → at < length (row_of (shown pieces.old.items) j) }
-    requires tells { Tells (without_answer at) at (shown pieces.old.items) }
+    requires keeps_apart { KeepsApart (without_answer at) at (shown pieces.old.items) }
     ensures { (top : ℕ) → IsRising top (map (without_answer at) (shown pieces.old.items)) → IsMergeOf top (map (without_answer at) (shown pieces.old.items)) (shown pieces.new.items) }
 {
     let mut above = false;

@@ -194,7 +194,7 @@ pub popped_bits : (ws us vs : List ℕ) (m len at : ℕ) → IsRemoved ws us len
 popped_bits ws us vs m len at h full n is =
     ap (λ (zs : List ℕ). take (len - 1) (all_bits zs)) (is ∙ ap (λ k. take (k - 1) us) (sym (h.as_long ∙ n))) ∙ remove_word_bits ws us len at h.packed h.within h.bits h.as_long full
 
--- ---- a 0 behind the last bit, which is there already
+-- ---- a 0 after the last bit, which is there already
 
 pub zero_packed : (ws : List ℕ) (len : ℕ) → IsPacked ws len → len % 64 ≢ 0 → IsPacked ws (len + 1)
 zero_packed ws len h part = record {

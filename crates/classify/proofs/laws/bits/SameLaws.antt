@@ -10,8 +10,8 @@ use Rattle.classify.proofs.laws.bits.WordLaws.{length-all_bits}
 use Rattle.classify.proofs.laws.bits.RowLaws.{front_len}
 
 -- a word by its bits
-bit_tells : (v w : ℕ) → nat_eq (v % 2) 1 ≡ nat_eq (w % 2) 1 → v % 2 ≡ w % 2
-bit_tells v w e =
+low_bit_decides : (v w : ℕ) → nat_eq (v % 2) 1 ≡ nat_eq (w % 2) 1 → v % 2 ≡ w % 2
+low_bit_decides v w e =
     elim (cases_Bool (nat_eq (v % 2) 1)) [
       | inl t ↦ (eqb-true (v % 2) 1 t ∙ sym (eqb-true (w % 2) 1 (sym e ∙ t)))
       | inr f ↦ (
@@ -30,7 +30,7 @@ same_word (suc n) v w a b e =
     let P : ℕ → Type 0 = λ k. v < 2 ^ k in
     let Q : ℕ → Type 0 = λ k. w < 2 ^ k in
     let half : v / 2 ≡ w / 2 = same_word n (v / 2) (w / 2) (shr_below v n 1 (subst P next a)) (shr_below w n 1 (subst Q next b)) tail in
-    let low : v % 2 ≡ w % 2 = bit_tells v w head in
+    let low : v % 2 ≡ w % 2 = low_bit_decides v w head in
     omega arith
 
 same_bits_at : (vs ws : List ℕ) (k : ℕ) → all_bits vs ≡ all_bits ws → k < length vs → k < length ws → word_bits 64 (get_or vs k 0) ≡ word_bits 64 (get_or ws k 0)

@@ -14,7 +14,7 @@ use Rattle.classify.specs.steps.Cuts.{CutsStart}
 use Rattle.classify.specs.steps.Pieces.{piece_at, row_in, IsRising, Differ, StartsAt, StartsAtZero, IsSplitOf, SayTheSame}
 use Rattle.classify.specs.steps.Edits.{IsMergeOf, with_answer, with_written, without_answer, Says, EachRow, IsSound}
 use Rattle.classify.proofs.laws.line.StepLaws.{EachPiece, AreStepsOf, steps_from, says_from_steps, one_list_of_steps, piece_at_each, rows_from, before_all}
-use Rattle.classify.proofs.laws.line.LineLaws.{AreSteps, line_from_steps, steps_from_line, tell_rows}
+use Rattle.classify.proofs.laws.line.LineLaws.{AreSteps, line_from_steps, steps_from_line, cases_rows}
 use Rattle.classify.proofs.laws.line.EditLaws.{rows_say, rows_rising, same_over_piece}
 use Rattle.classify.proofs.laws.line.ShownLaws.{row_in_first}
 
@@ -35,7 +35,7 @@ pub says_from_line : (top : ℕ) (sets : Sets) (line : List Cut) → IsLineOf ha
 says_from_line top sets [] h x le = absurd (steps_from_line has top sets [] h)
 says_from_line top sets (d ∷ ps) h x le =
     let s : AreStepsOf (row_at has sets) top d ps = steps_from_line has top sets (d ∷ ps) h in
-    row_in_first d ps x s.zero_first ∙ says_from_steps (row_at has sets) top d ps (tell_rows has sets) s x le
+    row_in_first d ps x s.zero_first ∙ says_from_steps (row_at has sets) top d ps (cases_rows has sets) s x le
 
 pub rising_from_line : (top : ℕ) (sets : Sets) (line : List Cut) → IsLineOf has top sets line → IsRising top line
 rising_from_line top sets [] h = steps_from_line has top sets [] h

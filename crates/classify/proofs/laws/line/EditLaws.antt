@@ -21,7 +21,7 @@ weaker_rising : (top a b : ℕ) (ps : List Piece) → a ≤ b → IsRisingFrom t
 weaker_rising top a b [] le h = tt
 weaker_rising top a b (p ∷ ps) le h = (omega (arith, h.0), h.1, h.2)
 
--- ---- a piece put in behind the i-th of d ∷ ps, with its row
+-- ---- a piece put in after the i-th of d ∷ ps, with its row
 
 pub record Splits (top : ℕ) (d e : Piece) (ps : List Piece) (i : ℕ) (q : Piece) : Type 0 where
   pub place : i ≤ length ps

@@ -6,7 +6,7 @@ use Rattle.std.proofs.lemmas.List.{length-map, length-set, get_or-set_same, get_
 use Rattle.std.proofs.lemmas.List.Edits.{get_or-remove_below, length-remove}
 use Rattle.std.proofs.lemmas.Bool.{cases_lt}
 use Rattle.classify.specs.steps.Pieces.{StartsAtZero, IsRising}
-use Rattle.classify.specs.steps.Edits.{IsMergeOf, IsJoined, Tells}
+use Rattle.classify.specs.steps.Edits.{IsMergeOf, IsJoined, KeepsApart}
 use Rattle.classify.proofs.laws.line.LineLaws.{cases_same}
 use Rattle.classify.proofs.laws.line.LoopLaws.{Merging, merging_first, merging_skip, merging_drop, merging_done, no_cut}
 
@@ -69,7 +69,7 @@ pub record Working (g : Cut → Cut) (at : ℕ) (old now : List Cut) (k : ℕ) (
   pub start : length old ≤ k → now ≡ old
   pub prefix : take k now ≡ take k old
   pub head : k < length old → get_or now k no_cut ≡ g (get_or old k no_cut)
-  pub told : k < length old → above ≡ get_or (get_or old k no_cut).1 at false
+  pub bit_above : k < length old → above ≡ get_or (get_or old k no_cut).1 at false
   pub merging : k < length old → Merging (map g old) (changed g now k) k
 
 pub working_first : (g : Cut → Cut) (at : ℕ) (line : List Cut) (k : ℕ) (above : Bool) → k ≡ length line → Working g at line line k above
@@ -79,7 +79,7 @@ working_first g at line k above e = record {
   start = λ _. refl;
   prefix = refl;
   head = λ lt. absurd (omega arith);
-  told = λ lt. absurd (omega arith);
+  bit_above = λ lt. absurd (omega arith);
   merging = λ lt. absurd (omega arith);
 }
 
@@ -93,9 +93,9 @@ zero_kept : (g : Cut → Cut) (line : List Cut) → ((p : Cut) → (g p).0 ≡ p
 zero_kept g [] starts h = h
 zero_kept g (p ∷ ps) starts h = starts p ∙ h
 
-pub working_next : (g : Cut → Cut) (at : ℕ) (old now new final : List Cut) (j : ℕ) (above bit : Bool) → ((p : Cut) → (g p).0 ≡ p.0) → StartsAtZero old → Tells g at old → Working g at old now (suc j) above
+pub working_next : (g : Cut → Cut) (at : ℕ) (old now new final : List Cut) (j : ℕ) (above bit : Bool) → ((p : Cut) → (g p).0 ≡ p.0) → StartsAtZero old → KeepsApart g at old → Working g at old now (suc j) above
     → new ≡ set now j (g (get_or now j no_cut)) → bit ≡ get_or (get_or now j no_cut).1 at false → IsJoined bit above j new final → Working g at old final j bit
-working_next g at old now new final j above bit starts origin tells h made tested joined =
+working_next g at old now new final j above bit starts origin keeps_apart h made tested joined =
     let in' : j < length now = omega (arith, h.place) in
     let in_old : j < length old = omega (arith, h.fits) in
     let was : get_or now j no_cut ≡ get_or old j no_cut = working_read g at old now j above h in
@@ -119,7 +119,7 @@ working_next g at old now new final j above bit starts origin tells h made teste
                 (let rows' : (g (get_or old j no_cut)).1 ≡ (get_or now (suc j) no_cut).1 =
                 ap (λ (c : Cut). c.1) (sym (changed_at g now j no_cut in' ∙ ap g was)) ∙ rows ∙ ap (λ (c : Cut). c.1) (changed_next g now j no_cut in') in
                 elim (cases_same bit above) [
-                  | inl e ↦ tells j lt (sym bit_is ∙ e ∙ h.told lt) (rows' ∙ ap (λ (c : Cut). c.1) (h.head lt))
+                  | inl e ↦ keeps_apart j lt (sym bit_is ∙ e ∙ h.bit_above lt) (rows' ∙ ap (λ (c : Cut). c.1) (h.head lt))
                   | inr apart ↦ (
                       let more : suc j < length new = omega (arith, long, room old now g h lt) in
                       kept.1 more apart (ap (λ (c : Cut). c.1) own ∙ rows' ∙ sym (ap (λ (c : Cut). c.1) next)))
@@ -138,7 +138,7 @@ working_next g at old now new final j above bit starts origin tells h made teste
             start = λ ge. absurd (omega arith);
             prefix = front;
             head = λ _. own;
-            told = λ _. bit_is;
+            bit_above = λ _. bit_is;
             merging = λ _. merged;
           }))
       | inr gone ↦ (
@@ -158,7 +158,7 @@ working_next g at old now new final j above bit starts origin tells h made teste
             start = λ ge. absurd (omega arith);
             prefix = take-remove new j ∙ front;
             head = λ _. get_or-remove_below new (suc j) no_cut j below more ∙ own;
-            told = λ _. bit_is;
+            bit_above = λ _. bit_is;
             merging = λ _. merged;
           }))
     ]
@@ -184,12 +184,12 @@ working_done g at (p ∷ ps) now k above origin h e top r =
     merging_done (map g (p ∷ ps)) now 0 (w.merging some) refl top r
 
 -- the same for the loop's counter, which is one above the place
-pub working_step : (g : Cut → Cut) (at : ℕ) (old now new final : List Cut) (k : ℕ) (above bit : Bool) → ((p : Cut) → (g p).0 ≡ p.0) → StartsAtZero old → Tells g at old → Working g at old now k above → 0 < k
+pub working_step : (g : Cut → Cut) (at : ℕ) (old now new final : List Cut) (k : ℕ) (above bit : Bool) → ((p : Cut) → (g p).0 ≡ p.0) → StartsAtZero old → KeepsApart g at old → Working g at old now k above → 0 < k
     → new ≡ set now (k - 1) (g (get_or now (k - 1) no_cut)) → bit ≡ get_or (get_or now (k - 1) no_cut).1 at false → IsJoined bit above (k - 1) new final → Working g at old final (k - 1) bit
-working_step g at old now new final k above bit starts origin tells h some made tested joined =
+working_step g at old now new final k above bit starts origin keeps_apart h some made tested joined =
     let e : k ≡ suc (k - 1) = omega arith in
     let P : ℕ → Type 0 = λ n. Working g at old now n above in
-    working_next g at old now new final (k - 1) above bit starts origin tells (subst P e h) made tested joined
+    working_next g at old now new final (k - 1) above bit starts origin keeps_apart (subst P e h) made tested joined
 
 pub working_place : (g : Cut → Cut) (at : ℕ) (old now : List Cut) (k : ℕ) (above : Bool) → Working g at old now k above → 0 < k → ((j : ℕ) → j < length old → at < length (get_or old j no_cut).1) → at < length (get_or now (k - 1) no_cut).1
 working_place g at old now k above h some each =

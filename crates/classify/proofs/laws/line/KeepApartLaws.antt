@@ -8,7 +8,7 @@ use Rattle.fields.specs.numbers.Spans.{has}
 use Rattle.classify.specs.line.Line.{starts}
 use Rattle.classify.specs.steps.Cuts.{CutsStart, IsApart}
 use Rattle.classify.specs.steps.Pieces.{piece_at, IsRisingFrom, IsRising, DifferFrom, Differ, StartsAt}
-use Rattle.classify.specs.steps.Edits.{with_written, without_answer, EachRow, Tells}
+use Rattle.classify.specs.steps.Edits.{with_written, without_answer, EachRow, KeepsApart}
 use Rattle.classify.proofs.laws.line.EditLaws.{same_over_piece}
 use Rattle.classify.proofs.laws.line.ShownLaws.{row_in_first, here_at, start_in, starts_here}
 use Rattle.classify.proofs.laws.line.ApartLaws.{cuts_behind}
@@ -77,8 +77,8 @@ set_tells (x ∷ xs) (y ∷ ys) (suc at) a b lt n e r =
 
 -- ---- a box taken out
 
-pub tells_without : (n at : ℕ) (line : List Cut) → Differ line → EachRow n line → at < n → Tells (without_answer at) at line
-tells_without n at line differ rows lt j more bits same =
+pub apart_without : (n at : ℕ) (line : List Cut) → Differ line → EachRow n line → at < n → KeepsApart (without_answer at) at line
+apart_without n at line differ rows lt j more bits same =
     let a : length (get_or line j none).1 ≡ n = long_at n line j rows (omega arith) in
     let b : length (get_or line (suc j) none).1 ≡ n = long_at n line (suc j) rows more in
     differ_at line j differ more (remove_tells (get_or line j none).1 (get_or line (suc j) none).1 at (omega arith) (a ∙ sym b) bits same)
@@ -114,8 +114,8 @@ neighbours_apart top s (d ∷ ps) j r c apart lt =
       | inr ne ↦ inr (λ same. ne (sym over ∙ ap (λ (o : Cut). has s o.0) here ∙ same ∙ ap (has s) (sym e)))
     ]
 
-pub tells_written : (top n at : ℕ) (s : List Interval) (line : List Cut) → IsRising top line → CutsStart top s line → IsApart s line → EachRow n line → at < n → Tells (with_written at s) at line
-tells_written top n at s line r c apart rows lt j more bits same =
+pub apart_written : (top n at : ℕ) (s : List Interval) (line : List Cut) → IsRising top line → CutsStart top s line → IsApart s line → EachRow n line → at < n → KeepsApart (with_written at s) at line
+apart_written top n at s line r c apart rows lt j more bits same =
     let a : length (get_or line j none).1 ≡ n = long_at n line j rows (omega arith) in
     let b : length (get_or line (suc j) none).1 ≡ n = long_at n line (suc j) rows more in
     let both = set_tells (get_or line j none).1 (get_or line (suc j) none).1 at (has s (get_or line j none).0) (has s (get_or line (suc j) none).0) (omega arith) (a ∙ sym b) bits same in

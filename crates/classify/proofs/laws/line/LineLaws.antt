@@ -53,7 +53,7 @@ increasing_from_rising top a (p ∷ ps) h (suc k) lt =
     let P : ℕ → Type 0 = λ y. get_or (p.0 ∷ starts ps) k 0 < y in
     subst P (ap (λ j. get_or (p.0 ∷ starts ps) j 0) e ∙ sym (next-get a (p.0 ∷ starts ps) (suc k))) s
 
--- ---- some box tells two numbers apart exactly where their rows differ
+-- ---- some box allows exactly one of two numbers where their rows differ, and nowhere else
 
 pub cases_same : (a b : Bool) → (a ≡ b) ⊎ (a ≢ b)
 cases_same true true = inl refl
@@ -72,24 +72,24 @@ cases_row allows (b ∷ bs) x y =
       ]
     ]
 
-told_apart : {B : Type 0} (allows : B → ℕ → Bool) (boxes : List B) (x y : ℕ) (k : ℕ) (b : B) → k < length boxes → get_or boxes k b ≡ b → allows b x ≢ allows b y
+rows_apart : {B : Type 0} (allows : B → ℕ → Bool) (boxes : List B) (x y : ℕ) (k : ℕ) (b : B) → k < length boxes → get_or boxes k b ≡ b → allows b x ≢ allows b y
     → row_at allows boxes x ≢ row_at allows boxes y
-told_apart allows [] x y k b lt is ne same = absurd (omega arith)
-told_apart allows (c ∷ cs) x y zero b lt is ne same =
+rows_apart allows [] x y k b lt is ne same = absurd (omega arith)
+rows_apart allows (c ∷ cs) x y zero b lt is ne same =
     let e : allows c x ≡ allows c y = cc in
     ne (sym (ap (λ d. allows d x) is) ∙ e ∙ ap (λ d. allows d y) is)
-told_apart allows (c ∷ cs) x y (suc k) b lt is ne same =
+rows_apart allows (c ∷ cs) x y (suc k) b lt is ne same =
     let e : row_at allows cs x ≡ row_at allows cs y = cc in
-    told_apart allows cs x y k b (omega arith) is ne e
+    rows_apart allows cs x y k b (omega arith) is ne e
 
 pub differs_from_any : {B : Type 0} (allows : B → ℕ → Bool) (boxes : List B) (x y : ℕ) → Any (λ b. allows b x ≢ allows b y) boxes → row_at allows boxes x ≢ row_at allows boxes y
-differs_from_any allows boxes x y h = told_apart allows boxes x y h.0 h.1 h.2 h.3 h.4
+differs_from_any allows boxes x y h = rows_apart allows boxes x y h.0 h.1 h.2 h.3 h.4
 
 pub any_from_differs : {B : Type 0} (allows : B → ℕ → Bool) (boxes : List B) (x y : ℕ) → row_at allows boxes x ≢ row_at allows boxes y → Any (λ b. allows b x ≢ allows b y) boxes
 any_from_differs allows boxes x y ne = elim (cases_row allows boxes x y) [ inl same ↦ absurd (ne same) | inr other ↦ other ]
 
-pub tell_rows : {B : Type 0} (allows : B → ℕ → Bool) (boxes : List B) (x : ℕ) → (row_at allows boxes x ≡ row_at allows boxes (suc x)) ⊎ (row_at allows boxes x ≢ row_at allows boxes (suc x))
-tell_rows allows boxes x = elim (cases_row allows boxes x (suc x)) [ inl same ↦ inl same | inr other ↦ inr (differs_from_any allows boxes x (suc x) other) ]
+pub cases_rows : {B : Type 0} (allows : B → ℕ → Bool) (boxes : List B) (x : ℕ) → (row_at allows boxes x ≡ row_at allows boxes (suc x)) ⊎ (row_at allows boxes x ≢ row_at allows boxes (suc x))
+cases_rows allows boxes x = elim (cases_row allows boxes x (suc x)) [ inl same ↦ inl same | inr other ↦ inr (differs_from_any allows boxes x (suc x) other) ]
 
 below : (x : ℕ) → suc x - 1 ≡ x
 below x = omega arith

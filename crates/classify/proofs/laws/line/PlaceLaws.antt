@@ -32,7 +32,7 @@ rise_all top (p ∷ ps) (suc i) (suc j) d h le lt = rise_at top 0 ps i j d h.1 (
 pub starts_rise : (top : ℕ) (ps : List OwnedPiece) → IsRising top (shown ps) → IsNonDecreasingBy (λ (p : OwnedPiece). p.start) ps
 starts_rise top ps h = λ i j d le lt. rise_all top ps i j d h le lt
 
--- what the partition point of the starts tells
+-- what the partition point of the starts says
 pub record IsPlaced (ps : List OwnedPiece) (x i : ℕ) : Type 0 where
   pub some : 0 < i
   pub within : i - 1 < length ps

@@ -143,21 +143,21 @@ steps_from f top d ps z h n same =
       rows = rows_from f top 0 d ps h le0 (λ x _ le. same x le);
     }
 
--- the steps of f say what f says, where one can tell whether f changes
+-- the steps of f say what f says, where f either changes or not
 pub says_from_steps : (f : ℕ → List Bool) (top : ℕ) (d : Piece) (ps : List Piece) → ((x : ℕ) → (f x ≡ f (suc x)) ⊎ (f x ≢ f (suc x))) → AreStepsOf f top d ps
     → (x : ℕ) → x ≤ top → (piece_at d ps x).1 ≡ f x
-says_from_steps f top d ps tell h zero le =
+says_from_steps f top d ps cases h zero le =
     let le0 : 0 ≤ 0 = omega arith in
     ap (λ (q : Piece). q.1) (before_all top 0 d ps 0 h.rising le0) ∙ h.first ∙ ap f h.zero_first
-says_from_steps f top d ps tell h (suc x) le =
+says_from_steps f top d ps cases h (suc x) le =
     let P : ℕ → Type 0 = λ a. IsRisingFrom top a ps in
     let h0 : IsRisingFrom top d.0 ps = subst P (sym h.zero_first) h.rising in
-    let before : (piece_at d ps x).1 ≡ f x = says_from_steps f top d ps tell h x (omega arith) in
+    let before : (piece_at d ps x).1 ≡ f x = says_from_steps f top d ps cases h x (omega arith) in
     elim (cases_starts (suc x) ps) [
       | inl s ↦ (piece_at_each (λ p. p.1 ≡ f p.0) d ps (suc x) h.first h.rows ∙ ap f (piece_at_start top d ps (suc x) h0 s))
       | inr m ↦ (
           let kept : (piece_at d ps (suc x)).1 ≡ f x = ap (λ (q : Piece). q.1) (nothing_changes d ps x m) ∙ before in
-          elim (tell x) [ inl e ↦ kept ∙ e | inr ne ↦ absurd (m (h.all x le ne)) ])
+          elim (cases x) [ inl e ↦ kept ∙ e | inr ne ↦ absurd (m (h.all x le ne)) ])
     ]
 
 -- f has one list of steps

@@ -98,7 +98,7 @@ unsplit_first items now x i same lt high z =
 pub record Sides (items now : List OwnedPiece) (x i : ℕ) (p q : OwnedPiece) : Type 0 where
   pub at : IsIn items now x i p
   pub start : p.start ≡ x
-  pub behind : 0 < i
+  pub later : 0 < i
   pub before : q ≡ get_or items (i - 1) q
 
 -- as the code finds them: o is the piece at i too
@@ -106,14 +106,14 @@ pub sides : (items now : List OwnedPiece) (x i : ℕ) (o p q : OwnedPiece) → I
 sides items now x i o p q h g low high ne before =
     let P : List OwnedPiece → Type 0 = λ ps. slice_index (starts (shown ps)) i ≤ x in
     let low' : slice_index (starts (shown items)) i ≤ x = subst P h.same low in
-    record { at = g; start = omega (arith, start_is items now x i o h, start_is items now x i p g); behind = omega arith; before = before }
+    record { at = g; start = omega (arith, start_is items now x i o h, start_is items now x i p g); later = omega arith; before = before }
 
 sides_rows : (items now : List OwnedPiece) (x i : ℕ) (p q : OwnedPiece) → Sides items now x i p q → (top : ℕ) → IsRising top (shown items)
     → (y : ℕ) → suc y ≡ x → (row_in (shown items) y ≡ q.row.bits) × (row_in (shown items) (suc y) ≡ p.row.bits)
 sides_rows items now x i p q h top r y e =
     let lt : i < length items = omega (arith, h.at.within, ap length h.at.same) in
-    let back : suc (i - 1) ≡ i = omega (arith, h.behind) in
-    let next : i - 1 + 1 ≡ i = omega (arith, h.behind) in
+    let back : suc (i - 1) ≡ i = omega (arith, h.later) in
+    let next : i - 1 + 1 ≡ i = omega (arith, h.later) in
     let st : slice_index (starts (shown items)) i ≡ x = start_is items now x i p h.at ∙ h.start in
     let P : ℕ → Type 0 = λ k. slice_index (starts (shown items)) (i - 1) < slice_index (starts (shown items)) k in
     let less : slice_index (starts (shown items)) (i - 1) < slice_index (starts (shown items)) i = subst P back (rise top (shown items) (i - 1) r (omega (arith, length-shown items))) in
@@ -131,7 +131,7 @@ pub unsplit_gone : (items now new : List OwnedPiece) (x i : ℕ) (p q : OwnedPie
 unsplit_gone items now new x i p q h equal is top r =
     let lt : i < length items = omega (arith, h.at.within, ap length h.at.same) in
     let j : ℕ = i - 1 in
-    let back : i ≡ suc j = omega (arith, h.behind) in
+    let back : i ≡ suc j = omega (arith, h.later) in
     let lt' : suc j < length (shown items) = omega (arith, length-shown items) in
     let st : slice_index (starts (shown items)) (suc j) ≡ x = ap (λ k. slice_index (starts (shown items)) k) (sym back) ∙ start_is items now x i p h.at ∙ h.start in
     let left : (get_or (shown items) j no_cut).1 ≡ q.row.bits = ap (λ (c : Cut). c.1) (shown_at items j q no_cut (omega arith)) ∙ ap (λ (o : OwnedPiece). o.row.bits) (sym h.before) in

@@ -22,7 +22,7 @@ use Rattle.classify.specs.steps.Shown.{shown}
 use Rattle.classify.specs.steps.Pieces.{row_in, IsRising}
 use Rattle.classify.specs.steps.Edits.{IsSound}
 use Rattle.classify.specs.steps.Fields.{shown_line, tops, IsKept}
-use Rattle.classify.specs.steps.Common.{IsRow, AreRows, AreWide, HaveAll, IsFirst}
+use Rattle.classify.specs.steps.CommonPlaces.{IsRow, AreRows, AreWide, HaveAll, IsFirst}
 use Rattle.rules.specs.boxing.Boxed.{set_on}
 use Rattle.rules.proofs.laws.boxing.BoxLaws.{index-lt, here_is}
 use Rattle.classify.specs.classifier.Classifier.{box_allows, line_on, Classified, IsClassifierOf, IsPoint, box_matches}

@@ -1,6 +1,6 @@
 use Rattle.std.proofs.Common.{arith, subst, List, Bor, ℕ, ◌≤◌, length}
 use Rattle.std.proofs.lemmas.List.{take_all}
-use Rattle.classify.specs.steps.Common.{IsAndAt}
+use Rattle.classify.specs.steps.CommonPlaces.{IsAndAt}
 use Rattle.classify.proofs.laws.search.SearchLaws.{and_first, and_more}
 use Rattle.classify.proofs.search.and_at.Goals as goal
 

@@ -1,5 +1,5 @@
 use Rattle.std.proofs.Common.{arith, ◌*◌, ◌+◌, ◌/◌}
-use Rattle.classify.specs.steps.Common.{HaveAll}
+use Rattle.classify.specs.steps.CommonPlaces.{HaveAll}
 use Rattle.classify.proofs.laws.search.SearchLaws.{first_later}
 use Rattle.classify.proofs.search.first_common.Goals as goal
 

@@ -17,7 +17,7 @@ take_out-bit-requires-clause-place c =
 
 pub loop-k-preserved : goal.loop-k-preserved
 loop-k-preserved c =
-    working_step (without_answer c.args.at) c.args.at (shown c.args.pieces.now.items) (shown c.loop-k.pieces.items) (shown c.take_out-bit.new.pieces.items) (shown c.join.new.pieces.items) c.loop-k.k c.loop-k.above c.take_out-bit.result (λ p. refl) c.requires.zero c.requires.tells
+    working_step (without_answer c.args.at) c.args.at (shown c.args.pieces.now.items) (shown c.loop-k.pieces.items) (shown c.take_out-bit.new.pieces.items) (shown c.join.new.pieces.items) c.loop-k.k c.loop-k.above c.take_out-bit.result (λ p. refl) c.requires.zero c.requires.keeps_apart
     c.loop-k.invariant c.loop-k-test.true c.take_out-bit.ensures.row c.take_out-bit.ensures.bit c.join.ensures
 
 pub returns : goal.returns

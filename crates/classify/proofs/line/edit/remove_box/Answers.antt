@@ -4,7 +4,7 @@ use Rattle.classify.specs.steps.Pieces.{IsRising}
 use Rattle.classify.proofs.laws.line.BoxLaws.{without_say, without_rising, line_from_merge, says_from_line, rising_from_line, shorter, sound_from_merge}
 use Rattle.classify.proofs.laws.line.LoopLaws.{zero_from_rising}
 use Rattle.classify.proofs.laws.line.ShownLaws.{length-shown}
-use Rattle.classify.proofs.laws.line.KeepApartLaws.{long_at, tells_without}
+use Rattle.classify.proofs.laws.line.KeepApartLaws.{long_at, apart_without}
 use Rattle.classify.proofs.line.edit.remove_box.Goals as goal
 
 pub remove_answers-requires : goal.remove_answers-requires
@@ -13,7 +13,7 @@ remove_answers-requires c =
     record {
       zero = zero_from_rising c.requires.0 (shown c.args.pieces.now.items) s.rising;
       place = λ j lt. omega (arith, c.requires.2, long_at c.requires.1 (shown c.args.pieces.now.items) j s.rows (omega (arith, length-shown c.args.pieces.now.items)));
-      tells = tells_without c.requires.1 c.args.at (shown c.args.pieces.now.items) s.differ s.rows c.requires.2;
+      keeps_apart = apart_without c.requires.1 c.args.at (shown c.args.pieces.now.items) s.differ s.rows c.requires.2;
     }
 
 pub returns-clause-sound : goal.returns-clause-sound

@@ -4,7 +4,7 @@ use Rattle.classify.proofs.laws.line.BoxLaws.{written_say, written_rising, line_
 use Rattle.classify.specs.steps.Shown.{shown}
 use Rattle.classify.proofs.laws.line.LoopLaws.{zero_from_rising}
 use Rattle.classify.proofs.laws.line.ShownLaws.{length-shown}
-use Rattle.classify.proofs.laws.line.KeepApartLaws.{long_at, tells_written}
+use Rattle.classify.proofs.laws.line.KeepApartLaws.{long_at, apart_written}
 use Rattle.classify.proofs.line.edit.replace_box.Goals as goal
 
 pub set_answers-requires : goal.set_answers-requires
@@ -13,7 +13,7 @@ set_answers-requires c =
     record {
       zero = zero_from_rising top (shown c.args.pieces.now.items) c.requires.rising;
       place = λ j lt. omega (arith, c.requires.place.1, long_at c.requires.place.0 (shown c.args.pieces.now.items) j c.requires.place.2 (omega (arith, length-shown c.args.pieces.now.items)));
-      tells = tells_written top c.requires.place.0 c.args.at c.args.spans.now.intervals (shown c.args.pieces.now.items) c.requires.rising c.requires.cuts c.requires.apart c.requires.place.2 c.requires.place.1;
+      keeps_apart = apart_written top c.requires.place.0 c.args.at c.args.spans.now.intervals (shown c.args.pieces.now.items) c.requires.rising c.requires.cuts c.requires.apart c.requires.place.2 c.requires.place.1;
     }
 
 pub returns-clause-sound : goal.returns-clause-sound

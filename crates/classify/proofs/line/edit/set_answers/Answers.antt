@@ -17,7 +17,7 @@ write_in-bit-requires-clause-place c =
 
 pub loop-k-preserved : goal.loop-k-preserved
 loop-k-preserved c =
-    working_step (with_written c.args.at c.args.spans.now.intervals) c.args.at (shown c.args.pieces.now.items) (shown c.loop-k.pieces.items) (shown c.write_in-bit.new.pieces.items) (shown c.join.new.pieces.items) c.loop-k.k c.loop-k.above c.write_in-bit.result (λ p. refl) c.requires.zero c.requires.tells
+    working_step (with_written c.args.at c.args.spans.now.intervals) c.args.at (shown c.args.pieces.now.items) (shown c.loop-k.pieces.items) (shown c.write_in-bit.new.pieces.items) (shown c.join.new.pieces.items) c.loop-k.k c.loop-k.above c.write_in-bit.result (λ p. refl) c.requires.zero c.requires.keeps_apart
     c.loop-k.invariant c.loop-k-test.true c.write_in-bit.ensures.row c.write_in-bit.ensures.bit c.join.ensures
 
 pub returns : goal.returns

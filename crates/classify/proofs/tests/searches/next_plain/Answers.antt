@@ -1,5 +1,5 @@
 use Rattle.std.proofs.Common.{arith}
-use Rattle.classify.specs.steps.Common.{AreWide}
+use Rattle.classify.specs.steps.CommonPlaces.{AreWide}
 use Rattle.classify.proofs.laws.search.NextLaws.{first_is_next}
 use Rattle.classify.proofs.tests.searches.next_plain.Goals as goal
 
