@@ -1,15 +1,14 @@
 //! The run that measures.
 
-ghost use Rattle.classify.specs.Classifier.{IsPoint};
+ghost use Rattle.classify.specs.classifier.Classifier.{IsPoint};
 
 use crate::sample::{self, Rule};
 use crate::walk;
 use anyhow::Result;
-use classify::{Classifier, Piece};
+use classify::{Classifier, PIECE_BYTES};
 use fields::{FIELDS, Field};
 use rules::Boxed;
 use std::alloc::Global;
-use std::mem::size_of;
 use std::rt::Clock;
 use std::time::Instant;
 
@@ -139,11 +138,11 @@ fn print_memory(rt: &impl Print, classifier: &Classifier) -> Result<()> {
     for field in Field::ALL {
         for piece in classifier.line(field).pieces() {
             pieces = pieces.saturating_add(1);
-            words = words.saturating_add(piece.row.len().div_ceil(64));
+            words = words.saturating_add(piece.row().len().div_ceil(64));
         }
     }
     let row_bytes = words.saturating_mul(8);
-    let piece_bytes = pieces.saturating_mul(size_of::<Piece>());
+    let piece_bytes = pieces.saturating_mul(PIECE_BYTES);
     println!(rt; "  rows: {words} words, {row_bytes} bytes; {pieces} pieces, {piece_bytes} bytes")?;
     Ok(())
 }

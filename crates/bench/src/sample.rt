@@ -1,7 +1,7 @@
 //! Rules that no two packets share: each has prefixes and ports of its own.
 
 ghost use Rattle.std.specs.Prelude.{◌<◌};
-ghost use Rattle.classify.specs.Classifier.{IsPoint};
+ghost use Rattle.classify.specs.classifier.Classifier.{IsPoint};
 
 use anyhow::Result;
 use classify::Classifier;

@@ -3,15 +3,23 @@
 ghost use Rattle.std.specs.Prelude.{◌≡◌, ◌≢◌, ◌≤◌, ◌%◌, OnOk, OnErr, IsOk, IfOk, List, [], ◌<◌, insert, remove, slice_set};
 ghost use Rattle.fields.specs.numbers.Spans.{SpanSet};
 ghost use Rattle.fields.specs.numbers.Field.{index};
+ghost use Rattle.rules.specs.boxing.Boxed.{IsBoxOf};
+ghost use Rattle.rules.specs.rule.Allows.{matches};
+ghost use Rattle.rules.specs.rule.Rules.{Rule};
+ghost use Rattle.classify.specs.search.NextMatch.{next_match};
 
-use crate::bit_row::MOST_BITS;
-use crate::line::{self, Line};
-use crate::{lines, search};
+use crate::bits::bit_row::MOST_BITS;
+use crate::line::owned::{self, OwnedLine};
+use crate::line::view::Line;
+use crate::search;
 use fields::{FIELDS, Field};
 use rules::Boxed;
 use std::alloc::{AllocError, Global};
 use std::array;
 use std::marker::Model;
+
+pub(crate) mod lines;
+pub(crate) mod of_rules;
 
 /// The classifier of a list of boxes: on each field the line of their answers, and no more.
 ///
@@ -22,16 +30,16 @@ use std::marker::Model;
 #[derive(Drop)]
 pub struct Classifier {
     len: usize,
-    lines: [Line; FIELDS],
+    lines: [OwnedLine; FIELDS],
 }
 
 impl Model for Classifier {
     ghost use Rattle.std.specs.Prelude.{map};
-    ghost use Rattle.classify.specs.Classifier.{Classified};
+    ghost use Rattle.classify.specs.classifier.Classifier.{Classified};
 
     ghost Value = { Classified };
 
-    ghost use Rattle.classify.specs.Fields.{shown_line, IsKept};
+    ghost use Rattle.classify.specs.steps.Fields.{shown_line, IsKept};
 
     ghost view = { λ c. record { len = c.len; lines = map shown_line c.lines } };
 
@@ -39,9 +47,9 @@ impl Model for Classifier {
 }
 
 impl Classifier {
-    ghost use Rattle.classify.specs.Classifier.{IsClassifierOf, HasNoNewCut, line_on, IsPoint, next_match, allows_point};
-    ghost use Rattle.classify.specs.Search.{IsRow, AreRows};
-    ghost use Rattle.classify.specs.Fields.{shown_line};
+    ghost use Rattle.classify.specs.classifier.Classifier.{IsClassifierOf, IsClassifierOfRules, HasNoNewCut, line_on, IsPoint, box_matches};
+    ghost use Rattle.classify.specs.steps.CommonPlaces.{IsRow, AreRows};
+    ghost use Rattle.classify.specs.steps.Fields.{shown_line};
 
     /// The classifier of no box.
     ///
@@ -49,9 +57,10 @@ impl Classifier {
     ///
     /// `AllocError` where memory was refused.
     pub fn new(alloc: Global) -> Result<Classifier, AllocError>
-        ensures { IfOk result (λ classifier. IsClassifierOf [] classifier) }
+        ensures boxes { IfOk result (λ classifier. IsClassifierOf [] classifier) }
+        ensures rules { IfOk result (λ classifier. IsClassifierOfRules [] classifier) }
     {
-        let mut lines: [Line; FIELDS] = array::from_fn(|_| Line::bare(alloc));
+        let mut lines: [OwnedLine; FIELDS] = array::from_fn(|_| OwnedLine::bare(alloc));
         lines::open_lines(&mut lines, alloc)?;
         Ok(Classifier { len: 0, lines })
     }
@@ -64,7 +73,7 @@ impl Classifier {
     pub fn copy(&self, alloc: Global) -> Result<Classifier, AllocError>
         ensures { IfOk result (λ classifier. classifier ≡ self.now) }
     {
-        let mut lines: [Line; FIELDS] = array::from_fn(|_| Line::bare(alloc));
+        let mut lines: [OwnedLine; FIELDS] = array::from_fn(|_| OwnedLine::bare(alloc));
         lines::copy_lines(&mut lines, &self.lines, alloc)?;
         Ok(Classifier {
             len: self.len,
@@ -80,13 +89,14 @@ impl Classifier {
     }
 
     /// The line of a field; it is lent.
-    pub fn line(&self, field: Field) -> &Line
-        ensures { shown_line result.now ≡ line_on field self.now }
+    pub fn line(&self, field: Field) -> Line<'_>
+        ensures { result ≡ line_on field self.now }
     {
-        &self.lines[field.index()]
+        let line = &self.lines[field.index()];
+        Line::of(line.pieces.as_slice())
     }
 
-    /// Puts a box in at a place among the boxes, and spends it, also when it is refused.
+    /// Puts a box in at a place among the boxes. It takes the box, also where memory is refused.
     ///
     /// # Errors
     ///
@@ -95,6 +105,7 @@ impl Classifier {
     pub fn insert(&mut self, at: usize, boxed: Boxed) -> Result<(), AllocError>
         requires { at ≤ self.old.len }
         ensures ok { OnOk result ((boxes : List (List SpanSet)) → IsClassifierOf boxes self.old → IsClassifierOf (insert boxes at boxed) self.new) }
+        ensures rules { OnOk result ((rules : List Rule) (rule : Rule) → IsClassifierOfRules rules self.old → IsBoxOf rule boxed → IsClassifierOfRules (insert rules at rule) self.new) }
         ensures err { OnErr result (self.new ≡ self.old) }
         ensures there { self.old.len % 64 ≢ 0 → HasNoNewCut boxed self.old → IsOk result }
     {
@@ -106,7 +117,7 @@ impl Classifier {
         Ok(())
     }
 
-    /// Puts a box in the place of another, and spends it, also when it is refused.
+    /// Puts a box in the place of another. It takes the box, also where memory is refused.
     ///
     /// # Errors
     ///
@@ -115,6 +126,7 @@ impl Classifier {
     pub fn replace(&mut self, at: usize, boxed: Boxed) -> Result<(), AllocError>
         requires { at < self.old.len }
         ensures ok { OnOk result ((boxes : List (List SpanSet)) → IsClassifierOf boxes self.old → IsClassifierOf (slice_set boxes at boxed) self.new) }
+        ensures rules { OnOk result ((rules : List Rule) (rule : Rule) → IsClassifierOfRules rules self.old → IsBoxOf rule boxed → IsClassifierOfRules (slice_set rules at rule) self.new) }
         ensures err { OnErr result (self.new ≡ self.old) }
         ensures there { HasNoNewCut boxed self.old → IsOk result }
     {
@@ -125,7 +137,8 @@ impl Classifier {
     /// Takes a box out: the later ones move down by one. It takes no memory.
     pub fn remove(&mut self, at: usize)
         requires { at < self.old.len }
-        ensures { (boxes : List (List SpanSet)) → IsClassifierOf boxes self.old → IsClassifierOf (remove boxes at) self.new }
+        ensures boxes { (boxes : List (List SpanSet)) → IsClassifierOf boxes self.old → IsClassifierOf (remove boxes at) self.new }
+        ensures rules { (rules : List Rule) → IsClassifierOfRules rules self.old → IsClassifierOfRules (remove rules at) self.new }
     {
         lines::remove_lines(&mut self.lines, at);
         self.len -= 1;
@@ -133,7 +146,8 @@ impl Classifier {
 
     /// Takes every box out. It takes no memory.
     pub fn clear(&mut self)
-        ensures { IsClassifierOf [] self.new }
+        ensures boxes { IsClassifierOf [] self.new }
+        ensures rules { IsClassifierOfRules [] self.new }
     {
         lines::clear_lines(&mut self.lines);
         self.len = 0;
@@ -146,7 +160,7 @@ impl Classifier {
     {
         let _len = self.len;
         let line = &self.lines[place];
-        line::row_at(&line.pieces, x)
+        owned::row_at(&line.pieces, x)
     }
 
     /// The words of each field's row at a point; they are lent.
@@ -168,7 +182,8 @@ impl Classifier {
     /// each row for 64 boxes that it passes over.
     pub fn next(&self, point: &[u128; FIELDS], from: usize) -> Option<usize>
         requires { IsPoint point.now }
-        ensures { (boxes : List (List SpanSet)) → IsClassifierOf boxes self.now → result ≡ next_match (allows_point point.now) boxes from }
+        ensures boxes { (boxes : List (List SpanSet)) → IsClassifierOf boxes self.now → result ≡ next_match (box_matches point.now) boxes from }
+        ensures rules { (rules : List Rule) → IsClassifierOfRules rules self.now → result ≡ next_match (matches point.now) rules from }
     {
         let rows = self.rows(point);
         search::first_common(&rows, self.len.div_ceil(64), from)

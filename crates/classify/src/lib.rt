@@ -2,17 +2,19 @@
 //! and the search for the next box that allows a point.
 #![tactic(auto)]
 
-mod bit_row;
+mod bits;
 mod classifier;
-mod edit;
 mod line;
-mod lines;
-mod rule_lines;
 mod search;
 #[cfg(test)]
 mod tests;
 
-pub use bit_row::BitRow;
+pub use bits::bit_row::BitRow;
 pub use classifier::Classifier;
-pub use line::{Line, Piece, boxes_have_one_line};
-pub use rule_lines::boxes_stand_for_their_rules;
+pub use classifier::of_rules::{
+    boxes_stand_for_their_rules, rules_have_one_classifier, rules_have_the_computed_line,
+    targets_leave_the_classifier,
+};
+pub use line::boxes_have_one_line;
+pub use line::owned::PIECE_BYTES;
+pub use line::view::{Line, Piece, Pieces, Row};

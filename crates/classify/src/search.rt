@@ -1,7 +1,7 @@
 //! The search for the first place that every row has: rows and-ed word by word.
 
 ghost use Rattle.std.specs.Prelude.{◌≡◌, ◌<◌, ◌≤◌, ◌+◌, ◌*◌, ◌/◌, ◌^◌, ℕ};
-ghost use Rattle.classify.specs.Search.{IsAndAt, AreAndsAt, AreWide, HaveAll, Nowhere, IsFirst};
+ghost use Rattle.classify.specs.steps.CommonPlaces.{IsAndAt, AreAndsAt, AreWide, HaveAll, Nowhere, IsFirst};
 
 use std::simd::prelude::*;
 

@@ -1,8 +1,7 @@
 //! Classifiers: the lines of a list of boxes.
-use crate::bits::has_bits;
 use crate::boxes::box_of;
 use crate::case::{Refusals, Trouble, again, expect, expect_kept};
-use classify::{Classifier, Line};
+use classify::{Classifier, Line, Row};
 use fields::Field;
 use std::alloc::Global;
 
@@ -10,7 +9,7 @@ use std::alloc::Global;
 type Cut<'a> = (u128, &'a [usize]);
 
 /// The line of a field.
-type Row<'a> = (Field, &'a [Cut<'a>]);
+type Expected<'a> = (Field, &'a [Cut<'a>]);
 
 const FIRST: &[u8] = b"-s 10.1.2.3/8 -j ACCEPT";
 
@@ -19,20 +18,20 @@ const SECOND: &[u8] = b"-p tcp --dport 22 -j DROP";
 const ANY: &[u8] = b"-j LOG";
 
 /// The lines of the first box alone.
-const OF_FIRST: [Row<'static>; 1] = [(
+const OF_FIRST: [Expected<'static>; 1] = [(
     Field::Source,
     &[(0, &[]), (167_772_160, &[0]), (184_549_376, &[])],
 )];
 
 /// The lines of the second box alone.
-const OF_SECOND: [Row<'static>; 3] = [
+const OF_SECOND: [Expected<'static>; 3] = [
     (Field::Protocol, &[(0, &[]), (6, &[0]), (7, &[])]),
     (Field::Fragment, &[(0, &[0]), (1, &[])]),
     (Field::DestinationPort, &[(0, &[]), (22, &[0]), (23, &[])]),
 ];
 
 /// The lines of the two boxes.
-const OF_BOTH: [Row<'static>; 4] = [
+const OF_BOTH: [Expected<'static>; 4] = [
     (
         Field::Source,
         &[(0, &[1]), (167_772_160, &[0, 1]), (184_549_376, &[1])],
@@ -46,7 +45,7 @@ const OF_BOTH: [Row<'static>; 4] = [
 ];
 
 /// The lines of a box without conditions before the two.
-const OF_ANY_AND_BOTH: [Row<'static>; 4] = [
+const OF_ANY_AND_BOTH: [Expected<'static>; 4] = [
     (
         Field::Source,
         &[
@@ -66,14 +65,27 @@ const OF_ANY_AND_BOTH: [Row<'static>; 4] = [
     ),
 ];
 
-fn is_line(line: &Line, boxes: usize, cuts: &[Cut]) -> bool {
-    let pieces = line.pieces();
-    if pieces.len() != cuts.len() {
+/// Whether the row has so many boxes, and those at the places alone allow its numbers.
+fn is_row(row: &Row, boxes: usize, set: &[usize]) -> bool {
+    if row.len() != boxes {
         return false;
     }
-    for place in 0..pieces.len() {
+    for place in 0..row.len() {
+        if row.get(place) != set.contains(&place) {
+            return false;
+        }
+    }
+    true
+}
+
+fn is_line(line: &Line, boxes: usize, cuts: &[Cut]) -> bool {
+    if line.len() != cuts.len() {
+        return false;
+    }
+    for place in 0..cuts.len() {
         let (start, set) = cuts[place];
-        if pieces[place].start != start || !has_bits(&pieces[place].row, boxes, set) {
+        let piece = line.piece(place);
+        if piece.start() != start || !is_row(&piece.row(), boxes, set) {
             return false;
         }
     }
@@ -81,7 +93,7 @@ fn is_line(line: &Line, boxes: usize, cuts: &[Cut]) -> bool {
 }
 
 /// Whether there are so many boxes, with these lines on these fields and one piece that all allow on the others.
-fn is_of(classifier: &Classifier, boxes: usize, rows: &[Row]) -> bool {
+fn is_of(classifier: &Classifier, boxes: usize, rows: &[Expected]) -> bool {
     let all = [0, 1, 2];
     if classifier.len() != boxes || boxes > all.len() {
         return false;
@@ -89,8 +101,8 @@ fn is_of(classifier: &Classifier, boxes: usize, rows: &[Row]) -> bool {
     for field in Field::ALL {
         let line = classifier.line(field);
         let is_row = match rows.iter().find(|row| row.0 == field) {
-            Some(row) => is_line(line, boxes, row.1),
-            None => is_line(line, boxes, &[(0, &all[..boxes])]),
+            Some(row) => is_line(&line, boxes, row.1),
+            None => is_line(&line, boxes, &[(0, &all[..boxes])]),
         };
         if !is_row {
             return false;
@@ -106,7 +118,7 @@ fn put(
     classifier: &mut Classifier,
     place: usize,
     line: &[u8],
-    rows: &[Row],
+    rows: &[Expected],
 ) -> Result<(), Trouble> {
     let boxes = classifier.len();
     for _ in 0..2 {
@@ -152,9 +164,9 @@ pub fn copy(alloc: Global, refusals: &mut Refusals) -> Result<(), Trouble> {
     expect(is_of(&copy, 2, &OF_BOTH) && is_of(&classifier, 2, &OF_BOTH))
 }
 
-/// `Classifier::insert`, of boxes that bring new cuts, behind another box and before it.
+/// `Classifier::insert`, of boxes that bring new cuts, after another box and before it.
 pub fn insert(alloc: Global, refusals: &mut Refusals) -> Result<(), Trouble> {
-    let _behind = of_both(alloc, refusals)?;
+    let _after = of_both(alloc, refusals)?;
     let mut classifier = none(alloc, refusals)?;
     put(alloc, refusals, &mut classifier, 0, SECOND, &[])?;
     put(alloc, refusals, &mut classifier, 0, FIRST, &OF_SECOND)?;
@@ -198,7 +210,7 @@ pub fn needless(alloc: Global, refusals: &mut Refusals) -> Result<(), Trouble> {
     if classifier.len() != 2 || classifier.replace(1, put_over).is_err() {
         return Err(Trouble::Needless);
     }
-    let rows: [Row; 1] = [(
+    let rows: [Expected; 1] = [(
         Field::Source,
         &[(0, &[1]), (167_772_160, &[0, 1]), (184_549_376, &[1])],
     )];

@@ -1,4 +1,4 @@
-//! Edits drawn by lot, against what the rules say of each number.
+//! Edits drawn at random, against what the rules say of each number.
 
 ghost use Rattle.std.specs.Prelude.{◌<◌};
 
@@ -40,7 +40,7 @@ const ASKED: [Field; 5] = [
     Field::ConnectionState,
 ];
 
-/// How many numbers of a field are tried: all, or all up to the last that a rule tells from the next.
+/// How many numbers of a field are tried: all, or all up to the last at which a rule's answer changes.
 fn numbers(field: Field) -> u64
     ensures { 0 < result }
 {
@@ -109,7 +109,7 @@ fn write_inverted(text: &mut String, meant: bool) -> Result<(), AllocError> {
     text.push_str(if meant { " " } else { " ! " })
 }
 
-/// Writes the names of the bits that are set, parted by commas.
+/// Writes the names of the bits that are set, separated by commas.
 fn write_names(text: &mut String, names: &[&str], bits: u8) -> Result<(), AllocError> {
     let mut before = ' ';
     for (place, name) in names.iter().enumerate() {
@@ -196,7 +196,7 @@ fn allows(draft: &Draft, field: Field, x: u64) -> bool {
 
 /// Compares a line with what the rules say of each number that is tried.
 fn agree(rt: &impl Abort, line: &Line, drafts: &[Draft], field: Field) {
-    let mut pieces = line.pieces().iter();
+    let mut pieces = line.pieces();
     for x in 0..numbers(field) {
         let before = x.saturating_sub(1);
         let changes = drafts.iter().any(|draft| allows(draft, field, before)
@@ -205,11 +205,12 @@ fn agree(rt: &impl Abort, line: &Line, drafts: &[Draft], field: Field) {
             match pieces.next() {
                 None => assert!(rt; false, "no piece starts at {x}"),
                 Some(piece) => {
-                    assert_eq!(rt; piece.start, u128::from(x));
-                    assert_eq!(rt; piece.row.len(), drafts.len());
+                    let row = piece.row();
+                    assert_eq!(rt; piece.start(), u128::from(x));
+                    assert_eq!(rt; row.len(), drafts.len());
                     for (place, draft) in drafts.iter().enumerate() {
-                        assert!(rt; place < piece.row.len());
-                        assert_eq!(rt; piece.row.get(place), allows(draft, field, x));
+                        assert!(rt; place < row.len());
+                        assert_eq!(rt; row.get(place), allows(draft, field, x));
                     }
                 }
             }
@@ -228,7 +229,7 @@ fn first_of(drafts: &[Draft], drawn: &[u64; 5], from: usize) -> Option<usize> {
     None
 }
 
-/// Searches for a point drawn by lot, and compares the answer with what the rules say.
+/// Searches for a point drawn at random, and compares the answer with what the rules say.
 fn same_search(rt: &impl Abort, classifier: &Classifier, drafts: &[Draft], dice: &mut Dice) {
     let mut drawn = [0; 5];
     let mut point = [0; FIELDS];
@@ -243,7 +244,7 @@ fn same_search(rt: &impl Abort, classifier: &Classifier, drafts: &[Draft], dice:
     );
 }
 
-/// One edit, drawn by lot, of a classifier and of the drafts of its rules.
+/// One edit, drawn at random, of a classifier and of the drafts of its rules.
 fn edit(
     rt: &impl Abort,
     alloc: Global,
@@ -288,7 +289,7 @@ fn random_edits(rt: HostRuntime) -> Result<(), Fail> {
     for _ in 0..2000 {
         edit(&rt, alloc, &mut classifier, &mut drafts, &mut dice)?;
         let field = ASKED[dice.below(5) as usize];
-        agree(&rt, classifier.line(field), &drafts, field);
+        agree(&rt, &classifier.line(field), &drafts, field);
         same_search(&rt, &classifier, &drafts, &mut dice);
     }
     Ok(())

@@ -5,22 +5,26 @@ use fields::Field;
 use std::alloc::AllocError;
 use std::fmt::Write;
 
-/// What `lines` prints of a line behind its field's name.
+/// What `lines` prints of a line after its field's name.
 fn text_of(alloc: Global, line: &Line, field: Field) -> Result<String, AllocError> {
     let mut text = String::new(alloc);
     for piece in line.pieces() {
         if field == Field::InIface || field == Field::OutIface {
-            write!(text, " {:032x}:", piece.start)?;
+            write!(text, " {:032x}:", piece.start())?;
         } else {
-            write!(text, " {}:", piece.start)?;
+            write!(text, " {}:", piece.start())?;
         }
+        let row = piece.row();
         let mut before = '{';
-        for place in 0..piece.row.len() {
-            if piece.row.get(place) {
-                text.push(before)?;
-                write!(text, "{}", place.saturating_add(1))?;
-                before = ',';
-            }
+        let mut from = 0;
+        for _ in 0..row.len() {
+            let Some(place) = row.next_set(from) else {
+                break;
+            };
+            from = place.saturating_add(1);
+            text.push(before)?;
+            write!(text, "{from}")?;
+            before = ',';
         }
         text.push_str(if before == '{' { "{}" } else { "}" })?;
     }
@@ -47,7 +51,7 @@ fn expect(
     others: &str,
 ) -> Result<(), AllocError> {
     for field in Field::ALL {
-        let text = text_of(alloc, classifier.line(field), field)?;
+        let text = text_of(alloc, &classifier.line(field), field)?;
         let zero = if field == Field::InIface || field == Field::OutIface {
             "00000000000000000000000000000000"
         } else {

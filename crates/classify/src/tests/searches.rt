@@ -2,7 +2,7 @@
 
 ghost use Rattle.std.specs.Prelude.{◌≡◌, IsTrue, List};
 ghost use Rattle.fields.specs.numbers.Spans.{SpanSet};
-ghost use Rattle.classify.specs.Classifier.{IsPoint, IsClassifierOf, next_match, allows_point};
+ghost use Rattle.classify.specs.classifier.Classifier.{IsPoint, IsClassifierOf, box_matches};
 
 use super::*;
 use fields::{FIELDS, Field};
@@ -21,7 +21,7 @@ fn is_point(point: &[u128; FIELDS]) -> bool
 /// The next match, by the plain search: the oracle of the one with lanes.
 fn next_plain(classifier: &Classifier, point: &[u128; FIELDS], from: usize) -> Option<usize>
     requires { IsPoint point.now }
-    ensures { (boxes : List (List SpanSet)) → IsClassifierOf boxes classifier.now → result ≡ next_match (allows_point point.now) boxes from }
+    ensures { (boxes : List (List SpanSet)) → IsClassifierOf boxes classifier.now → result ≡ next_match (box_matches point.now) boxes from }
 {
     let rows = classifier.rows(point);
     search::first_common_plain(&rows, classifier.len().div_ceil(64), from)

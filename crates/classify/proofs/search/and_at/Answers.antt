@@ -1,7 +1,7 @@
 use Rattle.std.proofs.Common.{arith, subst, List, Bor, ℕ, ◌≤◌, length}
 use Rattle.std.proofs.lemmas.List.{take_all}
-use Rattle.classify.specs.Search.{IsAndAt}
-use Rattle.classify.proofs.SearchLaws.{and_first, and_more}
+use Rattle.classify.specs.steps.CommonPlaces.{IsAndAt}
+use Rattle.classify.proofs.laws.search.SearchLaws.{and_first, and_more}
 use Rattle.classify.proofs.search.and_at.Goals as goal
 
 pub loop-row-init : goal.loop-row-init

@@ -1,5 +1,5 @@
 use Rattle.std.proofs.Common.{take}
-use Rattle.classify.specs.Search.{IsAndAt}
+use Rattle.classify.specs.steps.CommonPlaces.{IsAndAt}
 use Rattle.classify.proofs.search.and_at.Given as goal
 
 abbrev pub invariant-loop-row : goal.invariant-loop-row

@@ -1,4 +1,4 @@
-use Rattle.classify.proofs.SearchLaws.{four_first, four_more}
+use Rattle.classify.proofs.laws.search.SearchLaws.{four_first, four_more}
 use Rattle.classify.proofs.search.and_four.Goals as goal
 
 pub loop-row-init : goal.loop-row-init

@@ -1,5 +1,5 @@
 use Rattle.std.proofs.Common.{take}
-use Rattle.classify.specs.Search.{AreAndsAt}
+use Rattle.classify.specs.steps.CommonPlaces.{AreAndsAt}
 use Rattle.classify.proofs.search.and_four.Given as goal
 
 abbrev pub invariant-loop-row : goal.invariant-loop-row

@@ -1,6 +1,6 @@
 use Rattle.std.proofs.Common.{arith, ◌*◌, ◌+◌, ◌/◌}
-use Rattle.classify.specs.Search.{HaveAll}
-use Rattle.classify.proofs.SearchLaws.{first_later}
+use Rattle.classify.specs.steps.CommonPlaces.{HaveAll}
+use Rattle.classify.proofs.laws.search.SearchLaws.{first_later}
 use Rattle.classify.proofs.search.first_common.Goals as goal
 
 pub returns-in-Some : goal.returns-in-Some

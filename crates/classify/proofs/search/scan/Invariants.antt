@@ -1,5 +1,5 @@
 use Rattle.std.proofs.Common.{◌*◌}
-use Rattle.classify.specs.Search.{Nowhere, HaveAll}
+use Rattle.classify.specs.steps.CommonPlaces.{Nowhere, HaveAll}
 use Rattle.classify.proofs.search.scan.Given as goal
 
 abbrev pub invariant-loop-place : goal.invariant-loop-place

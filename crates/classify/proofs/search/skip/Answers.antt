@@ -1,5 +1,5 @@
 use Rattle.std.proofs.Common.{arith, ◌≤◌, ◌*◌}
-use Rattle.classify.proofs.SearchLaws.{four_passed}
+use Rattle.classify.proofs.laws.search.SearchLaws.{four_passed}
 use Rattle.classify.proofs.search.skip.Goals as goal
 
 pub loop-place-preserved : goal.loop-place-preserved

@@ -1,9 +1,10 @@
 use Rattle.std.proofs.Common.{arith, length, ◌≡◌, ◌∙◌, rules}
 use Rattle.std.specs.Prelude.{slice_index}
 use Rattle.fields.specs.declared.numbers.field.TheConstants.{FIELDS}
-use Rattle.classify.specs.Fields.{tops}
-use Rattle.classify.proofs.LoopLaws.{zero_from_rising}
-use Rattle.classify.proofs.ClassifierLaws.{classifier_empty, kept_empty, line_sound}
+use Rattle.classify.specs.steps.Fields.{tops}
+use Rattle.classify.proofs.laws.line.LoopLaws.{zero_from_rising}
+use Rattle.classify.proofs.laws.classifier.ClassifierLaws.{classifier_empty, kept_empty, line_sound}
+use Rattle.classify.proofs.laws.classifier.RuleLaws.{no_rules}
 use Rattle.classify.proofs.classifier.Classifier.clear.Goals as goal
 
 pub clear_lines-requires : goal.clear_lines-requires
@@ -16,7 +17,10 @@ invariant_of-self c =
     let n : length c.clear_lines.new.lines ≡ FIELDS = c.clear_lines.auto.lines ∙ search rules in
     kept_empty c.clear_lines.new.lines n (λ k l lt. c.clear_lines.ensures k l (omega (arith, c.clear_lines.auto.lines)))
 
-pub returns : goal.returns
-returns c =
+pub returns-clause-boxes : goal.returns-clause-boxes
+returns-clause-boxes c =
     let n : length c.clear_lines.new.lines ≡ FIELDS = c.clear_lines.auto.lines ∙ search rules in
     classifier_empty c.clear_lines.new.lines n (λ k l lt. c.clear_lines.ensures k l (omega (arith, c.clear_lines.auto.lines)))
+
+pub returns-clause-rules : goal.returns-clause-rules
+returns-clause-rules c = no_rules _ (returns-clause-boxes c)

@@ -1,7 +1,7 @@
 use Rattle.std.proofs.Common.{ap, length, ◌≡◌, ◌∙◌, sym, subst, rules, List, ℕ, Bool}
 use Rattle.fields.specs.declared.numbers.field.TheConstants.{FIELDS}
-use Rattle.classify.specs.Fields.{IsKept}
-use Rattle.classify.proofs.ClassifierLaws.{same_shown}
+use Rattle.classify.specs.steps.Fields.{IsKept}
+use Rattle.classify.proofs.laws.classifier.ClassifierLaws.{same_shown}
 use Rattle.classify.proofs.classifier.Classifier.copy.Goals as goal
 
 pub invariant_of-result : goal.invariant_of-result

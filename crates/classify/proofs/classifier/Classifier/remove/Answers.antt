@@ -1,9 +1,10 @@
 use Rattle.std.proofs.Common.{arith, ap, length, ◌-◌, ◌<◌, ◌≡◌, ◌∙◌, sym, subst, rules}
 use Rattle.std.specs.Prelude.{slice_index}
 use Rattle.fields.specs.declared.numbers.field.TheConstants.{FIELDS}
-use Rattle.classify.specs.Classifier.{Classified, IsClassifierOf}
-use Rattle.classify.specs.Fields.{tops}
-use Rattle.classify.proofs.ClassifierLaws.{classifier_without, line_sound, still_kept}
+use Rattle.classify.specs.classifier.Classifier.{Classified, IsClassifierOf}
+use Rattle.classify.specs.steps.Fields.{tops}
+use Rattle.classify.proofs.laws.classifier.ClassifierLaws.{classifier_without, line_sound, still_kept}
+use Rattle.classify.proofs.laws.classifier.RuleLaws.{rules_removed}
 use Rattle.classify.proofs.classifier.Classifier.remove.Goals as goal
 
 pub remove_lines-requires : goal.remove_lines-requires
@@ -18,9 +19,12 @@ invariant_of-self c =
     still_kept c.remove_lines.new.lines (c.self.inside.len - 1) (m ∙ n) (omega (arith, c.self.invariant.few))
     (λ k l lt. let lt' : k < length c.self.inside.lines = omega arith in (c.remove_lines.ensures k l lt').sound (slice_index tops k) c.self.inside.len (omega (arith, c.requires, ap (λ (k : Classified). k.len) c.self.view_is)) (line_sound c.self.inside.lines c.self.inside.len n c.self.invariant k l lt'))
 
-pub returns : goal.returns
-returns c boxes h =
+pub returns-clause-boxes : goal.returns-clause-boxes
+returns-clause-boxes c boxes h =
     let n : length c.self.inside.lines ≡ FIELDS = search rules in
     let m : length c.remove_lines.new.lines ≡ length c.self.inside.lines = c.remove_lines.auto.lines in
     let P : Classified → Type 0 = λ k. IsClassifierOf boxes k in
     classifier_without c.self.inside.lines c.remove_lines.new.lines boxes c.self.inside.len c.args.at n m (omega (arith, c.requires, ap (λ (k : Classified). k.len) c.self.view_is)) c.remove_lines.ensures (subst P (sym c.self.view_is) h)
+
+pub returns-clause-rules : goal.returns-clause-rules
+returns-clause-rules c rules h = rules_removed rules c.args.at c.args.self.now _ (returns-clause-boxes c) h

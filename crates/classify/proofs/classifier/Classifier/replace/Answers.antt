@@ -1,9 +1,10 @@
 use Rattle.std.proofs.Common.{arith, ap, length, List, ℕ, subst, ◌≡◌, ◌∙◌, sym, rules, Bool}
 use Rattle.std.proofs.lemmas.Bool.{false≢true}
 use Rattle.fields.specs.declared.numbers.field.TheConstants.{FIELDS}
-use Rattle.classify.specs.Classifier.{Classified, IsClassifierOf, HasNoNewCut}
-use Rattle.classify.specs.Fields.{IsKept}
-use Rattle.classify.proofs.ClassifierLaws.{classifier_written, sound_lines, still_sound, same_shown, no_new_cuts, on_err_anyway}
+use Rattle.classify.specs.classifier.Classifier.{Classified, IsClassifierOf, HasNoNewCut}
+use Rattle.classify.specs.steps.Fields.{IsKept}
+use Rattle.classify.proofs.laws.classifier.ClassifierLaws.{classifier_written, sound_lines, still_sound, same_shown, no_new_cuts, on_err_anyway}
+use Rattle.classify.proofs.laws.classifier.RuleLaws.{rules_replaced}
 use Rattle.classify.proofs.classifier.Classifier.replace.Goals as goal
 
 pub replace_lines-requires-clause-sound : goal.replace_lines-requires-clause-sound
@@ -25,6 +26,9 @@ returns-clause-ok c boxes h =
     let P : Classified → Type 0 = λ k. IsClassifierOf boxes k in
     classifier_written c.self.inside.lines c.replace_lines.new.lines c.spans.result.now c.args.boxed boxes c.self.inside.len c.args.at n m c.spans.ensures.value c.spans.ensures.whole
     c.in_ok-replace_lines.ensures.ok (subst P (sym c.self.view_is) h)
+
+pub returns-clause-rules : goal.returns-clause-rules
+returns-clause-rules c rules rule h is = rules_replaced rules c.args.at rule c.args.boxed c.args.self.now _ (returns-clause-ok c) h is
 
 pub invariant_of-self : goal.invariant_of-self
 invariant_of-self c =

@@ -1,10 +1,10 @@
 use Rattle.std.proofs.Common.{◌≡◌, ap, get_or, List, [], ℕ, subst, ◌∙◌, sym, rules, Bool, take}
 use Rattle.std.specs.Prelude.{slice_index}
-use Rattle.classify.specs.Bits.{IsPacked, all_bits}
-use Rattle.classify.specs.Fields.{tops}
-use Rattle.classify.specs.Steps.{row_in}
-use Rattle.classify.specs.Classifier.{Classified}
-use Rattle.classify.proofs.NextLaws.{field_row}
+use Rattle.classify.specs.steps.Packing.{IsPacked, all_bits}
+use Rattle.classify.specs.steps.Fields.{tops}
+use Rattle.classify.specs.steps.Pieces.{row_in}
+use Rattle.classify.specs.classifier.Classifier.{Classified}
+use Rattle.classify.proofs.laws.search.NextLaws.{field_row}
 use Rattle.classify.proofs.classifier.Classifier.row.Goals as goal
 
 pub row_at-requires : goal.row_at-requires

@@ -1,5 +1,5 @@
 use Rattle.std.proofs.Common.{arith}
-use Rattle.classify.proofs.NextLaws.{lent_more}
+use Rattle.classify.proofs.laws.search.NextLaws.{lent_more}
 use Rattle.classify.proofs.classifier.Classifier.rows.Goals as goal
 
 pub loop-place-preserved : goal.loop-place-preserved

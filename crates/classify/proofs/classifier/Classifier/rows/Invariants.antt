@@ -1,4 +1,4 @@
-use Rattle.classify.specs.Search.{AreRows}
+use Rattle.classify.specs.steps.CommonPlaces.{AreRows}
 use Rattle.classify.proofs.classifier.Classifier.rows.Given as goal
 
 abbrev pub invariant-loop-place : goal.invariant-loop-place

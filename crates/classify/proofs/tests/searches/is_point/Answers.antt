@@ -4,7 +4,7 @@ use Rattle.fields.specs.declared.numbers.field.Field.TheVariants.{Source}
 use Rattle.fields.specs.declared.numbers.field.TheConstants.{FIELDS}
 use Rattle.fields.specs.numbers.Field.{number_on}
 use Rattle.rules.proofs.laws.boxing.BoxLaws.{index-lt}
-use Rattle.classify.proofs.ClassifierLaws.{top_at, tops_at}
+use Rattle.classify.proofs.laws.classifier.ClassifierLaws.{top_at, tops_at}
 use Rattle.classify.proofs.tests.searches.is_point.Goals as goal
 
 pub loop-place-preserved : goal.loop-place-preserved

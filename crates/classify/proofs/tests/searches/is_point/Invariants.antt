@@ -1,6 +1,6 @@
 use Rattle.std.proofs.Common.{ℕ, ◌<◌, ◌≤◌}
 use Rattle.std.specs.Prelude.{slice_index}
-use Rattle.classify.specs.Fields.{tops}
+use Rattle.classify.specs.steps.Fields.{tops}
 use Rattle.classify.proofs.tests.searches.is_point.Given as goal
 
 abbrev pub invariant-loop-place : goal.invariant-loop-place

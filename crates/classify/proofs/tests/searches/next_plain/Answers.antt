@@ -1,6 +1,6 @@
 use Rattle.std.proofs.Common.{arith}
-use Rattle.classify.specs.Search.{AreWide}
-use Rattle.classify.proofs.NextLaws.{first_is_next}
+use Rattle.classify.specs.steps.CommonPlaces.{AreWide}
+use Rattle.classify.proofs.laws.search.NextLaws.{first_is_next}
 use Rattle.classify.proofs.tests.searches.next_plain.Goals as goal
 
 pub returns : goal.returns

@@ -1,0 +1,64 @@
+use Rattle.std.proofs.Common.{arith, length, ◌<◌, [], ◌∙◌}
+use Rattle.std.proofs.lemmas.Bool.{false≢true}
+use Rattle.fields.specs.numbers.Spans.{SpanSet}
+use Rattle.classify.proofs.laws.line.BoxLaws.{says_from_line, long_after, same_after_merge}
+use Rattle.classify.proofs.laws.line.ApartLaws.{apart_after}
+use Rattle.classify.proofs.classifier.lines.replace_lines.Goals as goal
+
+abbrev no_set : SpanSet
+no_set = record { top = 0; intervals = [] }
+
+pub split_lines-requires-clause-rising : goal.split_lines-requires-clause-rising
+split_lines-requires-clause-rising c k s l lt = (c.requires.sound k s l lt).rising
+
+pub settle_lines-requires-clause-rising : goal.settle_lines-requires-clause-rising
+settle_lines-requires-clause-rising c k s l lt = (c.split_lines.ensures.split k s l (omega (arith, c.split_lines.auto.lines))).rising
+
+pub settle_lines-requires-clause-place : goal.settle_lines-requires-clause-place
+settle_lines-requires-clause-place c = (
+  c.args.len,
+  c.requires.place,
+  λ k l lt.
+      (let lt' : k < length c.args.lines.now = omega (arith, c.split_lines.auto.lines) in
+      let sound = c.requires.sound k no_set l lt' in
+      let split = c.split_lines.ensures.split k no_set l lt' in
+      long_after c.args.len _ _ _ sound.rising split.rising split.same sound.rows),
+)
+
+pub settle_lines-requires-clause-apart : goal.settle_lines-requires-clause-apart
+settle_lines-requires-clause-apart c k s l lt =
+    let lt' : k < length c.args.lines.now = omega (arith, c.split_lines.auto.lines) in
+    let sound = c.requires.sound k s l lt' in
+    apart_after _ _ _ _ sound.rising sound.differ (c.split_lines.ensures.split k s l lt')
+
+pub unsplit_lines-requires-clause-rising : goal.unsplit_lines-requires-clause-rising
+unsplit_lines-requires-clause-rising c k s l lt = (c.split_lines.ensures.split k s l (omega (arith, c.split_lines.auto.lines))).rising
+
+pub unsplit_lines-requires-clause-apart : goal.unsplit_lines-requires-clause-apart
+unsplit_lines-requires-clause-apart c k s l lt =
+    let lt' : k < length c.args.lines.now = omega (arith, c.split_lines.auto.lines) in
+    let sound = c.requires.sound k s l lt' in
+    apart_after _ _ _ _ sound.rising sound.differ (c.split_lines.ensures.split k s l lt')
+
+pub returns-in-Ok-clause-ok : goal.returns-in-Ok-clause-ok
+returns-in-Ok-clause-ok c k s l lt sets line =
+    let lt' : k < length c.split_lines.new.lines = omega (arith, c.split_lines.auto.lines) in
+    let split = c.split_lines.ensures.split k s l lt in
+    (c.settle_lines.ensures k s l lt').line sets (λ x le. split.same x ∙ says_from_line _ sets _ line x le)
+
+pub returns-in-Ok-clause-sound : goal.returns-in-Ok-clause-sound
+returns-in-Ok-clause-sound c k s l lt =
+    let lt' : k < length c.split_lines.new.lines = omega (arith, c.split_lines.auto.lines) in
+    let sound = c.requires.sound k s l lt in
+    let split = c.split_lines.ensures.split k s l lt in
+    (c.settle_lines.ensures k s l lt').sound c.args.len c.requires.place (long_after c.args.len _ _ _ sound.rising split.rising split.same sound.rows)
+
+pub returns-in-Err-clause-err : goal.returns-in-Err-clause-err
+returns-in-Err-clause-err c k l lt =
+    let lt' : k < length c.split_lines.new.lines = omega (arith, c.split_lines.auto.lines) in
+    let sound = c.requires.sound k no_set l lt in
+    let split = c.split_lines.ensures.split k no_set l lt in
+    same_after_merge _ _ _ _ _ sound.rising sound.differ split (c.unsplit_lines.ensures k no_set l lt')
+
+pub returns-in-Err-clause-there : goal.returns-in-Err-clause-there
+returns-in-Err-clause-there c cuts = absurd (false≢true (c.in-Err.ensures.there cuts))

@@ -1,6 +1,0 @@
-use Rattle.classify.specs.Edits.{with_answer}
-use Rattle.classify.proofs.LoopLaws.{Mapped}
-use Rattle.classify.proofs.edit.put_answers.Given as goal
-
-abbrev pub invariant-loop-i : goal.invariant-loop-i
-invariant-loop-i l = Mapped (with_answer l.at l.spans.intervals) l.fn.pieces.items l.pieces.items l.i

@@ -1,0 +1,4 @@
+pub mod bits
+pub mod classifier
+pub mod line
+pub mod search

@@ -1,0 +1,5 @@
+pub mod BitLaws
+pub mod GetLaws
+pub mod RowLaws
+pub mod SameLaws
+pub mod WordLaws

@@ -1,0 +1,216 @@
+-- Laws of words that hold so many bits.
+use Rattle.std.proofs.Common.{◌≡◌, ◌≢◌, ℕ, zero, suc, ◌+◌, ◌-◌, ◌*◌, ◌%◌, ◌^◌, ◌<◌, ◌≤◌, Bool, false, List, [], ◌∷◌, ◌++◌, length, take, drop, refl, sym, ◌∙◌, ap, arith, append_assoc, length-append, subst, All, drop-drop, length-drop, get_or}
+use Rattle.std.specs.List.{insert, remove}
+use Rattle.std.proofs.lemmas.List.{take-append-drop, length-take-le, take_at, drop_at, drop-append-le, take-append-le, drop_all, take_more, get_or-drop}
+use Rattle.std.proofs.lemmas.List.Edits.{insert-append_left, remove-append_left, length-insert, length-remove, insert_end}
+use Rattle.std.proofs.lemmas.List.Elements.{All-append, All-take, All-same, All-cons, All-nil, All-drop, All-get_or}
+use Rattle.classify.specs.steps.Packing.{word_bits, all_bits, IsPacked, IsOpen}
+use Rattle.classify.proofs.laws.bits.WordLaws.{all_bits-append, all_bits-one, all_bits-cut, length-all_bits}
+
+abbrev Off : Bool → Type 0
+Off b = b ≡ false
+
+-- a bit put in before the end of a beginning
+insert_in_front : (xs : List Bool) (n at : ℕ) (b : Bool) → n ≤ length xs → at ≤ n → insert xs at b ≡ insert (take n xs) at b ++ drop n xs
+insert_in_front xs n at b le in' =
+    let e : length (take n xs) ≡ n = length-take-le n xs le in
+    ap (λ (ys : List Bool). insert ys at b) (sym (take-append-drop n xs)) ∙ insert-append_left (take n xs) (drop n xs) at b (omega arith)
+
+remove_in_front : (xs : List Bool) (n at : ℕ) → n ≤ length xs → at < n → remove xs at ≡ remove (take n xs) at ++ drop n xs
+remove_in_front xs n at le in' =
+    let e : length (take n xs) ≡ n = length-take-le n xs le in
+    ap (λ (ys : List Bool). remove ys at) (sym (take-append-drop n xs)) ∙ remove-append_left (take n xs) (drop n xs) at (omega arith)
+
+zeros : (n : ℕ) → All Off (word_bits n 0)
+unfolding word_bits
+zeros zero = All-nil Off
+zeros (suc n) = All-cons Off false (word_bits n 0) refl (zeros n)
+
+pub open_new : (ws : List ℕ) (len : ℕ) → IsPacked ws len → len % 64 ≡ 0 → length ws + 1 < 2 ^ 58 → IsOpen ws (ws ++ 0 ∷ []) len
+open_new ws len h full small =
+    let n : length (ws ++ 0 ∷ []) ≡ length ws + 1 = length-append ws (0 ∷ []) in
+    let even : len ≡ 64 * length ws = omega (arith, h.covers, h.tight) in
+    let bits : all_bits (ws ++ 0 ∷ []) ≡ all_bits ws ++ word_bits 64 0 = all_bits-append ws (0 ∷ []) ∙ ap (λ (bs : List Bool). all_bits ws ++ bs) (all_bits-one 0) in
+    let size : length (all_bits ws) ≡ len = length-all_bits ws ∙ sym even in
+    record {
+      more = omega arith;
+      tight = omega arith;
+      few = omega arith;
+      padded = All-same Off (drop len (all_bits (ws ++ 0 ∷ []))) (word_bits 64 0) (ap (λ (bs : List Bool). drop len bs) bits ∙ drop_at (all_bits ws) (word_bits 64 0) len size) (zeros 64);
+      same = ap (λ (bs : List Bool). take len bs) bits ∙ take-append-le len (all_bits ws) (word_bits 64 0) (omega arith);
+    }
+
+pub open_same : (ws : List ℕ) (len : ℕ) → IsPacked ws len → len % 64 ≢ 0 → IsOpen ws ws len
+open_same ws len h part = record { more = omega (arith, h.covers, h.tight); tight = omega (arith, h.covers, h.tight); few = h.few; padded = h.padded; same = refl }
+
+-- the whole after a bit came in
+put_whole : (old ws us : List ℕ) (len at : ℕ) (b c : Bool) → IsOpen old ws len → at ≤ len → all_bits us ++ c ∷ [] ≡ insert (all_bits ws) at b
+    → all_bits us ++ c ∷ [] ≡ insert (take len (all_bits old)) at b ++ drop len (all_bits ws)
+put_whole old ws us len at b c h in' e =
+    let size : length (all_bits ws) ≡ 64 * length ws = length-all_bits ws in
+    let le : len ≤ length (all_bits ws) = omega (arith, h.more) in
+    e ∙ insert_in_front (all_bits ws) len at b le in' ∙ ap (λ (bs : List Bool). insert bs at b ++ drop len (all_bits ws)) h.same
+
+front_length : (old ws : List ℕ) (len at : ℕ) (b : Bool) → IsOpen old ws len → at ≤ len → length (insert (take len (all_bits old)) at b) ≡ len + 1
+front_length old ws len at b h in' =
+    let size : length (all_bits ws) ≡ 64 * length ws = length-all_bits ws in
+    let le : len ≤ length (all_bits ws) = omega (arith, h.more) in
+    let e : length (take len (all_bits old)) ≡ len = sym (ap length h.same) ∙ length-take-le len (all_bits ws) le in
+    let in'' : at ≤ length (take len (all_bits old)) = omega arith in
+    length-insert (take len (all_bits old)) at b in'' ∙ ap (λ k. k + 1) e
+
+pub put_bits : (old ws us : List ℕ) (len at : ℕ) (b c : Bool) → IsOpen old ws len → at ≤ len → all_bits us ++ c ∷ [] ≡ insert (all_bits ws) at b → length us ≡ length ws
+    → take (len + 1) (all_bits us) ≡ insert (take len (all_bits old)) at b
+put_bits old ws us len at b c h in' e n =
+    let size : length (all_bits us) ≡ 64 * length us = length-all_bits us in
+    let le : len + 1 ≤ length (all_bits us) = omega (arith, h.more) in
+    sym (take-append-le (len + 1) (all_bits us) (c ∷ []) le) ∙ ap (λ (bs : List Bool). take (len + 1) bs) (put_whole old ws us len at b c h in' e)
+    ∙ take_at (insert (take len (all_bits old)) at b) (drop len (all_bits ws)) (len + 1) (front_length old ws len at b h in')
+
+pub put_packed : (old ws us : List ℕ) (len at : ℕ) (b c : Bool) → IsOpen old ws len → at ≤ len → all_bits us ++ c ∷ [] ≡ insert (all_bits ws) at b → length us ≡ length ws
+    → IsPacked us (len + 1)
+put_packed old ws us len at b c h in' e n =
+    let size : length (all_bits us) ≡ 64 * length us = length-all_bits us in
+    let le : len + 1 ≤ length (all_bits us) = omega (arith, h.more) in
+    let rest : drop (len + 1) (all_bits us) ++ c ∷ [] ≡ drop len (all_bits ws) =
+    sym (drop-append-le (len + 1) (all_bits us) (c ∷ []) le) ∙ ap (λ (bs : List Bool). drop (len + 1) bs) (put_whole old ws us len at b c h in' e)
+    ∙ drop_at (insert (take len (all_bits old)) at b) (drop len (all_bits ws)) (len + 1) (front_length old ws len at b h in') in
+    let k : ℕ = length (drop (len + 1) (all_bits us)) in
+    let part : drop (len + 1) (all_bits us) ≡ take k (drop len (all_bits ws)) =
+    sym (take_at (drop (len + 1) (all_bits us)) (c ∷ []) k refl) ∙ ap (λ (bs : List Bool). take k bs) rest in
+    record {
+      covers = omega (arith, h.more);
+      tight = omega (arith, h.tight);
+      few = omega (arith, h.few);
+      padded = All-same Off (drop (len + 1) (all_bits us)) (take k (drop len (all_bits ws))) part (All-take Off k (drop len (all_bits ws)) h.padded);
+    }
+
+-- after a bit left
+remove_whole : (ws us : List ℕ) (len at : ℕ) → IsPacked ws len → at < len → all_bits us ≡ remove (all_bits ws) at ++ false ∷ []
+    → all_bits us ≡ remove (take len (all_bits ws)) at ++ (drop len (all_bits ws) ++ false ∷ [])
+remove_whole ws us len at h in' e =
+    let size : length (all_bits ws) ≡ 64 * length ws = length-all_bits ws in
+    let le : len ≤ length (all_bits ws) = omega (arith, h.covers) in
+    e ∙ ap (λ (bs : List Bool). bs ++ false ∷ []) (remove_in_front (all_bits ws) len at le in')
+    ∙ append_assoc (remove (take len (all_bits ws)) at) (drop len (all_bits ws)) (false ∷ [])
+
+removed_length : (ws : List ℕ) (len at : ℕ) → IsPacked ws len → at < len → length (remove (take len (all_bits ws)) at) ≡ len - 1
+removed_length ws len at h in' =
+    let size : length (all_bits ws) ≡ 64 * length ws = length-all_bits ws in
+    let le : len ≤ length (all_bits ws) = omega (arith, h.covers) in
+    let e : length (take len (all_bits ws)) ≡ len = length-take-le len (all_bits ws) le in
+    let in'' : at < length (take len (all_bits ws)) = omega arith in
+    omega (arith, length-remove (take len (all_bits ws)) at in'')
+
+pub remove_bits : (ws us : List ℕ) (len at : ℕ) → IsPacked ws len → at < len → all_bits us ≡ remove (all_bits ws) at ++ false ∷ []
+    → take (len - 1) (all_bits us) ≡ remove (take len (all_bits ws)) at
+remove_bits ws us len at h in' e =
+    ap (λ (bs : List Bool). take (len - 1) bs) (remove_whole ws us len at h in' e)
+    ∙ take_at (remove (take len (all_bits ws)) at) (drop len (all_bits ws) ++ false ∷ []) (len - 1) (removed_length ws len at h in')
+
+pub remove_packed : (ws us : List ℕ) (len at : ℕ) → IsPacked ws len → at < len → all_bits us ≡ remove (all_bits ws) at ++ false ∷ [] → length us ≡ length ws
+    → (len - 1) % 64 ≢ 0 → IsPacked us (len - 1)
+remove_packed ws us len at h in' e n part =
+    let rest : drop (len - 1) (all_bits us) ≡ drop len (all_bits ws) ++ false ∷ [] =
+    ap (λ (bs : List Bool). drop (len - 1) bs) (remove_whole ws us len at h in' e)
+    ∙ drop_at (remove (take len (all_bits ws)) at) (drop len (all_bits ws) ++ false ∷ []) (len - 1) (removed_length ws len at h in') in
+    record {
+      covers = omega (arith, h.covers);
+      tight = omega (arith, h.covers, h.tight);
+      few = omega (arith, h.few);
+      padded = All-same Off (drop (len - 1) (all_bits us)) (drop len (all_bits ws) ++ false ∷ []) rest (All-append Off (drop len (all_bits ws)) (false ∷ []) h.padded (All-cons Off false [] refl (All-nil Off)));
+    }
+
+-- the last word is no longer needed
+pub remove_word : (ws us : List ℕ) (len at : ℕ) → IsPacked ws len → at < len → length us ≡ length ws → (len - 1) % 64 ≡ 0
+    → IsPacked (take (length us - 1) us) (len - 1)
+remove_word ws us len at h in' n full =
+    let even : len - 1 ≡ 64 * (length us - 1) = omega (arith, h.covers, h.tight) in
+    let short : length us - 1 ≤ length us = omega arith in
+    let m : length (take (length us - 1) us) ≡ length us - 1 = length-take-le (length us - 1) us short in
+    let size : length (all_bits (take (length us - 1) us)) ≡ len - 1 = length-all_bits (take (length us - 1) us) ∙ ap (λ k. 64 * k) m ∙ sym even in
+    record {
+      covers = omega arith;
+      tight = omega arith;
+      few = omega (arith, h.few);
+      padded = All-same Off (drop (len - 1) (all_bits (take (length us - 1) us))) [] (drop_all (len - 1) (all_bits (take (length us - 1) us)) (omega arith)) (All-nil Off);
+    }
+
+pub remove_word_bits : (ws us : List ℕ) (len at : ℕ) → IsPacked ws len → at < len → all_bits us ≡ remove (all_bits ws) at ++ false ∷ [] → length us ≡ length ws → (len - 1) % 64 ≡ 0
+    → take (len - 1) (all_bits (take (length us - 1) us)) ≡ remove (take len (all_bits ws)) at
+remove_word_bits ws us len at h in' e n full =
+    let even : len - 1 ≡ 64 * (length us - 1) = omega (arith, h.covers, h.tight) in
+    let short : length us - 1 ≤ length us = omega arith in
+    let m : length (take (length us - 1) us) ≡ length us - 1 = length-take-le (length us - 1) us short in
+    let size : length (all_bits (take (length us - 1) us)) ≡ len - 1 = length-all_bits (take (length us - 1) us) ∙ ap (λ k. 64 * k) m ∙ sym even in
+    sym (ap (λ (bs : List Bool). take (len - 1) bs) (all_bits-cut us (length us - 1))
+    ∙ take-append-le (len - 1) (all_bits (take (length us - 1) us)) (all_bits (drop (length us - 1) us)) (omega arith))
+    ∙ remove_bits ws us len at h in' e
+
+-- ---- the same over a vector, which a call writes as a slice
+
+whole_write : (n : ℕ) (us ws : List ℕ) → length us ≡ n → take n (us ++ drop (length us) ws) ≡ us
+whole_write n us ws e = take_at us (drop (length us) ws) n e
+
+pub front_len : (ws : List ℕ) (len : ℕ) → IsPacked ws len → length (take len (all_bits ws)) ≡ len
+front_len ws len h =
+    let size : length (all_bits ws) ≡ 64 * length ws = length-all_bits ws in
+    length-take-le len (all_bits ws) (omega (arith, h.covers))
+
+pub put_packed_vec : (old ws now us : List ℕ) (n len at : ℕ) (b c : Bool) → now ≡ ws → length now ≡ n → length us ≡ length now → IsOpen old ws len → at ≤ len
+    → all_bits us ++ c ∷ [] ≡ insert (all_bits now) at b → IsPacked (take n (us ++ drop (length us) ws)) (len + 1)
+put_packed_vec old ws now us n len at b c is size same h in' e =
+    let P : List ℕ → Type 0 = λ vs. IsPacked vs (len + 1) in
+    subst P (sym (whole_write n us ws (same ∙ size)))
+    (put_packed old ws us len at b c h in' (e ∙ ap (λ (vs : List ℕ). insert (all_bits vs) at b) is) (same ∙ ap length is))
+
+pub put_bits_vec : (old ws now us : List ℕ) (n len at : ℕ) (b c : Bool) → now ≡ ws → length now ≡ n → length us ≡ length now → IsOpen old ws len → at ≤ len
+    → all_bits us ++ c ∷ [] ≡ insert (all_bits now) at b → take (len + 1) (all_bits (take n (us ++ drop (length us) ws))) ≡ insert (take len (all_bits old)) at b
+put_bits_vec old ws now us n len at b c is size same h in' e =
+    ap (λ (vs : List ℕ). take (len + 1) (all_bits vs)) (whole_write n us ws (same ∙ size))
+    ∙ put_bits old ws us len at b c h in' (e ∙ ap (λ (vs : List ℕ). insert (all_bits vs) at b) is) (same ∙ ap length is)
+
+-- what a removal leaves in the vector, before the last word may go
+pub record IsRemoved (ws us : List ℕ) (len at : ℕ) : Type 0 where
+  pub packed : IsPacked ws len
+  pub within : at < len
+  pub bits : all_bits us ≡ remove (all_bits ws) at ++ false ∷ []
+  pub as_long : length us ≡ length ws
+
+pub removed_vec : (ws now us : List ℕ) (n len at : ℕ) → now ≡ ws → length now ≡ n → length us ≡ length now → IsPacked ws len → at < len
+    → all_bits us ≡ remove (all_bits now) at ++ false ∷ [] → IsRemoved ws (take n (us ++ drop (length us) ws)) len at
+removed_vec ws now us n len at is size same h in' e =
+    let P : List ℕ → Type 0 = λ vs. IsRemoved ws vs len at in
+    subst P (sym (whole_write n us ws (same ∙ size)))
+    (record { packed = h; within = in'; bits = e ∙ ap (λ (vs : List ℕ). remove (all_bits vs) at ++ false ∷ []) is; as_long = same ∙ ap length is })
+
+pub popped_packed : (ws us vs : List ℕ) (m len at : ℕ) → IsRemoved ws us len at → (len - 1) % 64 ≡ 0 → length ws ≡ m → vs ≡ take (m - 1) us → IsPacked vs (len - 1)
+popped_packed ws us vs m len at h full n is =
+    let P : List ℕ → Type 0 = λ zs. IsPacked zs (len - 1) in
+    subst P (sym (is ∙ ap (λ k. take (k - 1) us) (sym (h.as_long ∙ n)))) (remove_word ws us len at h.packed h.within h.as_long full)
+
+pub popped_bits : (ws us vs : List ℕ) (m len at : ℕ) → IsRemoved ws us len at → (len - 1) % 64 ≡ 0 → length ws ≡ m → vs ≡ take (m - 1) us
+    → take (len - 1) (all_bits vs) ≡ remove (take len (all_bits ws)) at
+popped_bits ws us vs m len at h full n is =
+    ap (λ (zs : List ℕ). take (len - 1) (all_bits zs)) (is ∙ ap (λ k. take (k - 1) us) (sym (h.as_long ∙ n))) ∙ remove_word_bits ws us len at h.packed h.within h.bits h.as_long full
+
+-- ---- a 0 after the last bit, which is there already
+
+pub zero_packed : (ws : List ℕ) (len : ℕ) → IsPacked ws len → len % 64 ≢ 0 → IsPacked ws (len + 1)
+zero_packed ws len h part = record {
+  covers = omega (arith, h.covers, h.tight);
+  tight = omega (arith, h.tight);
+  few = h.few;
+  padded = All-same Off (drop (len + 1) (all_bits ws)) (drop 1 (drop len (all_bits ws))) (sym (drop-drop 1 len (all_bits ws))) (All-drop Off 1 (drop len (all_bits ws)) h.padded);
+}
+
+pub zero_bits : (ws : List ℕ) (len at : ℕ) (b : Bool) → IsPacked ws len → len % 64 ≢ 0 → at ≡ len → b ≡ false → take (len + 1) (all_bits ws) ≡ insert (take len (all_bits ws)) at b
+zero_bits ws len at b h part is off =
+    let size : length (all_bits ws) ≡ 64 * length ws = length-all_bits ws in
+    let lt : len < length (all_bits ws) = omega (arith, h.covers, h.tight) in
+    let rest : 0 < length (drop len (all_bits ws)) = omega (arith, length-drop len (all_bits ws)) in
+    let z : len + 0 ≡ len = omega arith in
+    let zero_there : get_or (all_bits ws) len false ≡ false =
+    sym (ap (λ k. get_or (all_bits ws) k false) z) ∙ sym (get_or-drop len (all_bits ws) 0 false) ∙ All-get_or Off (drop len (all_bits ws)) 0 false rest h.padded in
+    take_more (all_bits ws) len false lt ∙ ap (λ c. take len (all_bits ws) ++ c ∷ []) (zero_there ∙ sym off) ∙ sym (insert_end (take len (all_bits ws)) b)
+    ∙ ap (λ k. insert (take len (all_bits ws)) k b) (front_len ws len h ∙ sym is)

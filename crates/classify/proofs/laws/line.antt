@@ -1,0 +1,13 @@
+pub mod ApartLaws
+pub mod BoxLaws
+pub mod EditLaws
+pub mod EndLaws
+pub mod JoinLaws
+pub mod KeepApartLaws
+pub mod LineLaws
+pub mod LineOfLaws
+pub mod LoopLaws
+pub mod PlaceLaws
+pub mod ShownLaws
+pub mod StepLaws
+pub mod UnsplitLaws

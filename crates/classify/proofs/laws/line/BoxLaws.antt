@@ -1,0 +1,192 @@
+-- A box put in or taken out leaves the line of the boxes as they are then.
+use Rattle.fields.specs.declared.numbers.spans.Interval.{Interval}
+use Rattle.std.proofs.Common.{◌≡◌, ◌≢◌, inl, inr, ℕ, suc, ◌+◌, ◌-◌, ◌<◌, ◌≤◌, Bool, List, [], ◌∷◌, ◌++◌, length, take, drop, refl, sym, ◌∙◌, ap, arith, subst, map, All}
+use Rattle.std.specs.List.{insert, remove}
+use Rattle.std.proofs.Math.ListN.{set}
+use Rattle.std.proofs.lemmas.List.{map-append, take-map, drop-map, map-set, length-set}
+use Rattle.std.proofs.lemmas.List.Edits.{length-insert, length-remove}
+use Rattle.std.proofs.lemmas.List.Elements.{All-head, All-tail, All-cons, All-nil}
+use Rattle.classify.specs.declared.line.owned.OwnedPiece.{OwnedPiece}
+use Rattle.classify.specs.steps.Shown.{shown}
+use Rattle.classify.specs.line.Line.{row_at, IsLineOf}
+use Rattle.fields.specs.numbers.Spans.{has}
+use Rattle.classify.specs.steps.Cuts.{CutsStart}
+use Rattle.classify.specs.steps.Pieces.{piece_at, row_in, IsRising, Differ, StartsAt, StartsAtZero, IsSplitOf, SayTheSame}
+use Rattle.classify.specs.steps.Edits.{IsMergeOf, with_answer, with_written, without_answer, Says, EachRow, IsSound}
+use Rattle.classify.proofs.laws.line.StepLaws.{EachPiece, AreStepsOf, steps_from, says_from_steps, one_list_of_steps, piece_at_each, rows_from, before_all}
+use Rattle.classify.proofs.laws.line.LineLaws.{AreSteps, line_from_steps, steps_from_line, cases_rows}
+use Rattle.classify.proofs.laws.line.EditLaws.{rows_say, rows_rising, same_over_piece}
+use Rattle.classify.proofs.laws.line.ShownLaws.{row_in_first}
+
+abbrev pub Cut : Type 0
+Cut = ℕ × List Bool
+
+abbrev Sets : Type 0
+Sets = List (List Interval)
+
+-- ---- a line that rises and differs is the steps of what it says
+
+pub steps_of_line : (f : ℕ → List Bool) (top : ℕ) (line : List Cut) → IsRising top line → Differ line → ((x : ℕ) → x ≤ top → row_in line x ≡ f x) → AreSteps f top line
+steps_of_line f top [] r n says = r
+steps_of_line f top (d ∷ ps) r n says = steps_from f top d ps r.0 r.1 n (λ x le. sym (row_in_first d ps x r.0) ∙ says x le)
+
+-- what a line of boxes says
+pub says_from_line : (top : ℕ) (sets : Sets) (line : List Cut) → IsLineOf has top sets line → Says top sets line
+says_from_line top sets [] h x le = absurd (steps_from_line has top sets [] h)
+says_from_line top sets (d ∷ ps) h x le =
+    let s : AreStepsOf (row_at has sets) top d ps = steps_from_line has top sets (d ∷ ps) h in
+    row_in_first d ps x s.zero_first ∙ says_from_steps (row_at has sets) top d ps (cases_rows has sets) s x le
+
+pub rising_from_line : (top : ℕ) (sets : Sets) (line : List Cut) → IsLineOf has top sets line → IsRising top line
+rising_from_line top sets [] h = steps_from_line has top sets [] h
+rising_from_line top sets (d ∷ ps) h = let s : AreStepsOf (row_at has sets) top d ps = steps_from_line has top sets (d ∷ ps) h in (s.zero_first, s.rising)
+
+pub line_from_merge : (top : ℕ) (sets : Sets) (old new : List Cut) → IsMergeOf top old new → Says top sets old → IsLineOf has top sets new
+line_from_merge top sets old new h says =
+    line_from_steps has top sets new (steps_of_line (row_at has sets) top new h.rising h.differ (λ x le. h.same x ∙ says x le))
+
+-- a line cut and joined again is the line that it was
+pub same_after_merge : (top : ℕ) (spans : List Interval) (old now new : List Cut) → IsRising top old → Differ old → IsSplitOf top spans old now → IsMergeOf top now new → new ≡ old
+same_after_merge top spans [] now new r n s m = absurd r
+same_after_merge top spans (d ∷ ps) now [] r n s m = absurd m.rising
+same_after_merge top spans (d ∷ ps) now (e ∷ qs) r n s m =
+    let f : ℕ → List Bool = row_in (d ∷ ps) in
+    one_list_of_steps f top e d qs ps
+    (steps_of_line f top (e ∷ qs) m.rising m.differ (λ x le. m.same x ∙ s.same x))
+    (steps_of_line f top (d ∷ ps) r n (λ x le. refl))
+
+-- ---- a box put in
+
+row-insert : (sets : Sets) (at : ℕ) (s : List Interval) (x : ℕ) → row_at has (insert sets at s) x ≡ insert (row_at has sets x) at (has s x)
+row-insert sets at s x =
+    map-append (λ t. has t x) (take at sets) (s ∷ drop at sets)
+    ∙ ap (λ (bs : List Bool). bs ++ has s x ∷ map (λ t. has t x) (drop at sets)) (sym (take-map (λ t. has t x) at sets))
+    ∙ ap (λ (bs : List Bool). take at (row_at has sets x) ++ has s x ∷ bs) (sym (drop-map (λ t. has t x) at sets))
+
+row-remove : (sets : Sets) (at : ℕ) (x : ℕ) → row_at has (remove sets at) x ≡ remove (row_at has sets x) at
+row-remove sets at x =
+    map-append (λ t. has t x) (take at sets) (drop (suc at) sets)
+    ∙ ap (λ (bs : List Bool). bs ++ map (λ t. has t x) (drop (suc at) sets)) (sym (take-map (λ t. has t x) at sets))
+    ∙ ap (λ (bs : List Bool). take at (row_at has sets x) ++ bs) (sym (drop-map (λ t. has t x) (suc at) sets))
+
+cuts_below : (top : ℕ) (s : List Interval) (d : Cut) (ps : List Cut) → d.0 ≡ 0 → CutsStart top s (d ∷ ps) → (x : ℕ) → suc x ≤ top → has s x ≢ has s (suc x) → StartsAt (suc x) ps
+cuts_below top s d ps z c x le ne = elim (c x le ne) [ inl e ↦ absurd (let q : suc x ≡ 0 = e ∙ z in omega arith) | inr t ↦ t ]
+
+pub answers_say : (top at : ℕ) (s : List Interval) (sets : Sets) (line : List Cut) → IsRising top line → CutsStart top s line → Says top sets line
+    → Says top (insert sets at s) (map (with_answer at s) line)
+answers_say top at s sets [] r c says x le = absurd r
+answers_say top at s sets (d ∷ ps) r c says x le =
+    let g : Cut → List Bool = λ p. insert p.1 at (has s p.0) in
+    let alike : has s (piece_at d ps x).0 ≡ has s x = same_over_piece (has s) top d ps r.0 r.1 (cuts_below top s d ps r.0 c) x le in
+    row_in_first (with_answer at s d) (map (with_answer at s) ps) x r.0
+    ∙ ap (λ (p : Cut). p.1) (rows_say g d ps x)
+    ∙ ap (λ (b : Bool). insert (piece_at d ps x).1 at b) alike
+    ∙ ap (λ (bs : List Bool). insert bs at (has s x)) (sym (row_in_first d ps x r.0) ∙ says x le)
+    ∙ sym (row-insert sets at s x)
+
+pub answers_rising : (top at : ℕ) (s : List Interval) (line : List Cut) → IsRising top line → IsRising top (map (with_answer at s) line)
+answers_rising top at s [] r = r
+answers_rising top at s (d ∷ ps) r = (r.0, rows_rising top 0 (λ p. insert p.1 at (has s p.0)) ps r.1)
+
+-- ---- a box in the place of another
+
+pub written_say : (top at : ℕ) (s : List Interval) (sets : Sets) (line : List Cut) → IsRising top line → CutsStart top s line → Says top sets line
+    → Says top (set sets at s) (map (with_written at s) line)
+written_say top at s sets [] r c says x le = absurd r
+written_say top at s sets (d ∷ ps) r c says x le =
+    let g : Cut → List Bool = λ p. set p.1 at (has s p.0) in
+    let alike : has s (piece_at d ps x).0 ≡ has s x = same_over_piece (has s) top d ps r.0 r.1 (cuts_below top s d ps r.0 c) x le in
+    row_in_first (with_written at s d) (map (with_written at s) ps) x r.0
+    ∙ ap (λ (p : Cut). p.1) (rows_say g d ps x)
+    ∙ ap (λ (b : Bool). set (piece_at d ps x).1 at b) alike
+    ∙ ap (λ (bs : List Bool). set bs at (has s x)) (sym (row_in_first d ps x r.0) ∙ says x le)
+    ∙ sym (map-set (λ t. has t x) sets at s)
+
+pub written_rising : (top at : ℕ) (s : List Interval) (line : List Cut) → IsRising top line → IsRising top (map (with_written at s) line)
+written_rising top at s [] r = r
+written_rising top at s (d ∷ ps) r = (r.0, rows_rising top 0 (λ p. set p.1 at (has s p.0)) ps r.1)
+
+pub as_long : (n at : ℕ) (s : List Interval) (line : List Cut) → EachRow n line → EachRow n (map (with_written at s) line)
+as_long n at s [] h = tt
+as_long n at s (p ∷ ps) h = (length-set p.1 at (has s p.0) ∙ h.0, as_long n at s ps h.1)
+
+-- ---- a box taken out
+
+pub without_say : (top at : ℕ) (sets : Sets) (line : List Cut) → IsRising top line → Says top sets line → Says top (remove sets at) (map (without_answer at) line)
+without_say top at sets [] r says x le = absurd r
+without_say top at sets (d ∷ ps) r says x le =
+    row_in_first (without_answer at d) (map (without_answer at) ps) x r.0
+    ∙ ap (λ (p : Cut). p.1) (rows_say (λ p. remove p.1 at) d ps x)
+    ∙ ap (λ (bs : List Bool). remove bs at) (sym (row_in_first d ps x r.0) ∙ says x le)
+    ∙ sym (row-remove sets at x)
+
+pub without_rising : (top at : ℕ) (line : List Cut) → IsRising top line → IsRising top (map (without_answer at) line)
+without_rising top at [] r = r
+without_rising top at (d ∷ ps) r = (r.0, rows_rising top 0 (λ p. remove p.1 at) ps r.1)
+
+pub without_zero : (at : ℕ) (line : List Cut) → StartsAtZero line → StartsAtZero (map (without_answer at) line)
+without_zero at [] h = h
+without_zero at (d ∷ ps) h = h
+
+-- ---- rows after a split are rows from before it
+
+weaker : (P : List Bool → Type 0) (f : ℕ → List Bool) (ps : List Cut) → ((x : ℕ) → P (f x)) → EachPiece (λ p. p.1 ≡ f p.0) ps → EachPiece (λ p. P p.1) ps
+weaker P f [] h e = tt
+weaker P f (p ∷ ps) h e = (subst P (sym e.0) (h p.0), weaker P f ps h e.1)
+
+pub rows_kept : (P : List Bool → Type 0) (top : ℕ) (old now : List Cut) → IsRising top old → IsRising top now → SayTheSame old now → EachPiece (λ p. P p.1) old → EachPiece (λ p. P p.1) now
+rows_kept P top [] now r t s h = absurd r
+rows_kept P top (d ∷ ps) [] r t s h = absurd t
+rows_kept P top (d ∷ ps) (e ∷ qs) r t s h =
+    let old_has : (x : ℕ) → P (row_in (d ∷ ps) x) = λ x. subst P (sym (row_in_first d ps x r.0)) (piece_at_each (λ p. P p.1) d ps x h.0 h.1) in
+    let same : (x : ℕ) → (piece_at e qs x).1 ≡ row_in (d ∷ ps) x = λ x. sym (row_in_first e qs x t.0) ∙ s x in
+    let first : e.1 ≡ row_in (d ∷ ps) 0 = sym (ap (λ (p : Cut). p.1) (before_all top 0 e qs 0 t.1 (omega arith))) ∙ same 0 in
+    let le0 : 0 ≤ top = omega arith in
+    (subst P (sym first) (old_has 0), weaker P (row_in (d ∷ ps)) qs old_has (rows_from (row_in (d ∷ ps)) top 0 e qs t.1 le0 (λ x _ _. same x)))
+
+each_shown : (P : List Bool → Type 0) (ps : List OwnedPiece) → All (λ (p : OwnedPiece). P p.row.bits) ps → EachPiece (λ p. P p.1) (shown ps)
+each_shown P [] h = tt
+each_shown P (p ∷ ps) h = (All-head (λ (q : OwnedPiece). P q.row.bits) p ps h, each_shown P ps (All-tail (λ (q : OwnedPiece). P q.row.bits) p ps h))
+
+all_shown : (P : List Bool → Type 0) (ps : List OwnedPiece) → EachPiece (λ p. P p.1) (shown ps) → All (λ (p : OwnedPiece). P p.row.bits) ps
+all_shown P [] h = All-nil (λ (q : OwnedPiece). P q.row.bits)
+all_shown P (p ∷ ps) h = All-cons (λ (q : OwnedPiece). P q.row.bits) p ps h.0 (all_shown P ps h.1)
+
+pub all_rows_kept : (P : List Bool → Type 0) (top : ℕ) (spans : List Interval) (old now : List OwnedPiece) → IsRising top (shown old) → IsSplitOf top spans (shown old) (shown now) → All (λ (p : OwnedPiece). P p.row.bits) old → All (λ (p : OwnedPiece). P p.row.bits) now
+all_rows_kept P top spans old now r s h = all_shown P now (rows_kept P top (shown old) (shown now) r s.rising s.same (each_shown P old h))
+
+-- ---- how long the rows are
+
+each_from_rows : (n : ℕ) (line : List Cut) → EachRow n line → EachPiece (λ p. length p.1 ≡ n) line
+each_from_rows n [] h = tt
+each_from_rows n (p ∷ ps) h = (h.0, each_from_rows n ps h.1)
+
+rows_from_each : (n : ℕ) (line : List Cut) → EachPiece (λ p. length p.1 ≡ n) line → EachRow n line
+rows_from_each n [] h = tt
+rows_from_each n (p ∷ ps) h = (h.0, rows_from_each n ps h.1)
+
+pub long_after : (n top : ℕ) (old now : List Cut) → IsRising top old → IsRising top now → SayTheSame old now → EachRow n old → EachRow n now
+long_after n top old now r t s h = rows_from_each n now (rows_kept (λ bs. length bs ≡ n) top old now r t s (each_from_rows n old h))
+
+pub longer : (n at : ℕ) (s : List Interval) (line : List Cut) → at ≤ n → EachRow n line → EachRow (n + 1) (map (with_answer at s) line)
+longer n at s [] le h = tt
+longer n at s (p ∷ ps) le h = (let in' : at ≤ length p.1 = omega (arith, h.0) in omega (arith, length-insert p.1 at (has s p.0) in', h.0), longer n at s ps le h.1)
+
+pub shorter : (n at : ℕ) (line : List Cut) → at < n → EachRow n line → EachRow (n - 1) (map (without_answer at) line)
+shorter n at [] le h = tt
+shorter n at (p ∷ ps) le h = (let in' : at < length p.1 = omega (arith, h.0) in omega (arith, length-remove p.1 at in', h.0), shorter n at ps le h.1)
+
+pub sound_from_merge : (n top : ℕ) (old new : List Cut) → IsRising top old → EachRow n old → IsMergeOf top old new → IsSound top n new
+sound_from_merge n top old new r h m = record { rising = m.rising; differ = m.differ; rows = long_after n top old new r m.rising m.same h }
+
+-- the places of a box in each row
+pub places_from_rows : (n : ℕ) (ps : List OwnedPiece) → EachRow n (shown ps) → All (λ (p : OwnedPiece). length p.row.bits ≡ n) ps
+places_from_rows n ps h = all_shown (λ bs. length bs ≡ n) ps (each_from_rows n (shown ps) h)
+
+-- ---- no box at all
+
+pub empty_line : {B : Type 0} (allows : B → ℕ → Bool) (top : ℕ) → IsLineOf allows top [] ((0, []) ∷ [])
+empty_line allows top = line_from_steps allows top [] ((0, []) ∷ []) (steps_of_line (row_at allows []) top ((0, []) ∷ []) (refl, tt) tt (λ x le. row_in_first (0, []) [] x refl))
+
+pub empty_sound : (top : ℕ) → IsSound top 0 ((0, []) ∷ [])
+empty_sound top = record { rising = (refl, tt); differ = tt; rows = (refl, tt) }

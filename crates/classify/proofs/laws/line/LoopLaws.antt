@@ -1,0 +1,240 @@
+-- The loops over the pieces of a line.
+use Rattle.fields.specs.declared.numbers.spans.Interval.{Interval}
+use Rattle.std.proofs.Common.{◌≡◌, ◌≢◌, ◌⊎◌, ◌%◌, inl, inr, ℕ, zero, suc, ◌+◌, ◌-◌, ◌<◌, ◌≤◌, ◌&&◌, ◌||◌, Bool, List, [], ◌∷◌, ◌++◌, length, take, drop, get_or, refl, sym, ◌∙◌, ap, arith, subst, map, All}
+use Rattle.std.proofs.Math.ListN.{set}
+use Rattle.std.proofs.Math.Dec.{leb}
+use Rattle.std.specs.List.{remove}
+use Rattle.std.proofs.lemmas.List.{length-set, drop-set-lt, get_or-drop, get_or-set_same, get_or-set_other, map-set, take_all, drop_all, append-nil, set-get_or, drop_more, drop_at, length-take-le}
+use Rattle.std.proofs.lemmas.List.Edits.{map_over_more, get_or-remove_below, length-remove}
+use Rattle.std.proofs.lemmas.List.Elements.{All-weaker, All-more, All-nil}
+use Rattle.std.proofs.lemmas.Grind.{drop_more_same}
+use Rattle.std.proofs.lemmas.Bool.{le-leb, lt-leb, cases_lt, cases_eq}
+use Rattle.classify.specs.declared.line.owned.OwnedPiece.{OwnedPiece}
+use Rattle.classify.specs.steps.Shown.{shown, shown_piece}
+use Rattle.fields.specs.numbers.Spans.{has, in_span, AreSpansFrom}
+use Rattle.classify.specs.steps.Cuts.{CutsStart, EndsStart}
+use Rattle.classify.specs.steps.Pieces.{IsRisingFrom, IsRising, DifferFrom, Differ, StartsAt, StartsAtZero, IsSplitOf, SayTheSame}
+use Rattle.classify.specs.steps.Edits.{IsMergeOf, IsEndOf}
+use Rattle.classify.proofs.laws.line.ShownLaws.{shown_at, length-shown, row_in_first}
+use Rattle.classify.proofs.laws.line.EditLaws.{merge_rising, merge_says}
+
+abbrev pub Cut : Type 0
+Cut = ℕ × List Bool
+
+-- ---- each row changed, as far as place i
+
+pub record Mapped (g : Cut → Cut) (ps us : List OwnedPiece) (i : ℕ) : Type 0 where
+  pub as_long : length us ≡ length ps
+  pub done : shown us ≡ map g (take i (shown ps)) ++ drop i (shown ps)
+  pub rest : drop i us ≡ drop i ps
+
+pub mapped_first : (g : Cut → Cut) (ps : List OwnedPiece) → Mapped g ps ps 0
+mapped_first g ps = record { as_long = refl; done = refl; rest = refl }
+
+pub mapped_read : (g : Cut → Cut) (ps us : List OwnedPiece) (i : ℕ) (p : OwnedPiece) → Mapped g ps us i → p ≡ get_or us i p → p ≡ get_or ps i p
+mapped_read g ps us i p h e =
+    let z : i + 0 ≡ i = omega arith in
+    e ∙ sym (get_or-drop i us 0 p ∙ ap (λ k. get_or us k p) z) ∙ ap (λ (vs : List OwnedPiece). get_or vs 0 p) h.rest ∙ get_or-drop i ps 0 p ∙ ap (λ k. get_or ps k p) z
+
+pub mapped_more : (g : Cut → Cut) (ps us : List OwnedPiece) (i : ℕ) (p q : OwnedPiece) → Mapped g ps us i → i < length us → p ≡ get_or us i p → shown_piece q ≡ g (shown_piece p) → Mapped g ps (set us i q) (i + 1)
+mapped_more g ps us i p q h lt e is =
+    let lt' : i < length (shown ps) = omega (arith, h.as_long, length-shown ps) in
+    let read : shown_piece p ≡ get_or (shown us) i (shown_piece p) = sym (shown_at us i p (shown_piece p) lt ∙ ap shown_piece (sym e)) in
+    let past : i < i + 1 = omega arith in
+    record {
+      as_long = length-set us i q ∙ h.as_long;
+      done = map-set shown_piece us i q ∙ ap (λ c. set (shown us) i c) is ∙ map_over_more g (shown ps) (shown us) i (shown_piece p) lt' h.done read;
+      rest = drop-set-lt (i + 1) us i q past ∙ drop_more_same us ps i h.rest;
+    }
+
+pub mapped_all : (g : Cut → Cut) (ps us : List OwnedPiece) (i : ℕ) → Mapped g ps us i → length us ≤ i → shown us ≡ map g (shown ps)
+mapped_all g ps us i h le =
+    let le' : length (shown ps) ≤ i = omega (arith, h.as_long, length-shown ps) in
+    h.done ∙ ap (λ (cs : List Cut). map g (take i (shown ps)) ++ cs) (drop_all i (shown ps) le') ∙ append-nil (map g (take i (shown ps))) ∙ ap (λ (cs : List Cut). map g cs) (take_all i (shown ps) le')
+
+-- ---- each row with room, as far as place i
+
+pub record Reserved (ps us : List OwnedPiece) (i : ℕ) : Type 0 where
+  pub as_long : length us ≡ length ps
+  pub same : shown us ≡ shown ps
+  pub ready : (k : ℕ) (d : OwnedPiece) → k < i → 0 < (get_or us k d).row.room
+
+pub reserved_first : (ps : List OwnedPiece) → Reserved ps ps 0
+reserved_first ps = record { as_long = refl; same = refl; ready = λ k d lt. absurd (omega arith) }
+
+pub reserved_kept : (ps us : List OwnedPiece) (i : ℕ) (p q : OwnedPiece) → Reserved ps us i → i < length us → p ≡ get_or us i p → shown_piece q ≡ shown_piece p → shown (set us i q) ≡ shown ps
+reserved_kept ps us i p q h lt e is =
+    let read : shown_piece p ≡ get_or (shown us) i (shown_piece p) = sym (shown_at us i p (shown_piece p) lt ∙ ap shown_piece (sym e)) in
+    map-set shown_piece us i q ∙ ap (λ c. set (shown us) i c) (is ∙ read) ∙ set-get_or (shown us) i (shown_piece p) ∙ h.same
+
+pub reserved_more : (ps us : List OwnedPiece) (i : ℕ) (p q : OwnedPiece) → Reserved ps us i → i < length us → p ≡ get_or us i p → shown_piece q ≡ shown_piece p → 0 < q.row.room → Reserved ps (set us i q) (i + 1)
+reserved_more ps us i p q h lt e is room =
+    record {
+      as_long = length-set us i q ∙ h.as_long;
+      same = reserved_kept ps us i p q h lt e is;
+      ready = λ k d below.
+          elim (cases_eq k i) [
+            | inl at ↦ (let P : OwnedPiece → Type 0 = λ r. 0 < r.row.room in
+                subst P (sym (ap (λ j. get_or (set us i q) j d) at ∙ get_or-set_same us i q d lt)) room)
+            | inr ne ↦ (let P : OwnedPiece → Type 0 = λ r. 0 < r.row.room in subst P (sym (get_or-set_other us i k q d ne)) (h.ready k d (omega arith)))
+          ];
+    }
+
+pub reserved_bits : (ps us : List OwnedPiece) (i : ℕ) (p : OwnedPiece) → Reserved ps us i → i < length us → p ≡ get_or us i p → p.row.bits ≡ (get_or ps i p).row.bits
+reserved_bits ps us i p h lt e =
+    let lt' : i < length ps = omega (arith, h.as_long) in
+    ap (λ (q : OwnedPiece). q.row.bits) e
+    ∙ ap (λ (c : Cut). c.1) (sym (shown_at us i p (shown_piece p) lt) ∙ ap (λ (cs : List Cut). get_or cs i (shown_piece p)) h.same ∙ shown_at ps i p (shown_piece p) lt')
+
+-- ---- a line cut at the ends of the spans, as far as the i-th
+
+-- what a test of one interval says of two neighbours
+span_cases : (s : Interval) (x : ℕ) → (in_span x s ≡ in_span (suc x) s) ⊎ ((suc x ≡ s.first) ⊎ (x ≡ s.last))
+span_cases s x =
+    elim (cases_eq (suc x) s.first) [
+      | inl a ↦ inr (inl a)
+      | inr na ↦ elim (cases_eq x s.last) [
+        | inl b ↦ inr (inr b)
+        | inr nb ↦ (
+            let low : leb s.first x ≡ leb s.first (suc x) = elim (cases_lt x s.first) [
+              | inl lt ↦ (let lt' : suc x < s.first = omega arith in lt-leb s.first x lt ∙ sym (lt-leb s.first (suc x) lt'))
+              | inr ge ↦ (let ge' : s.first ≤ suc x = omega arith in le-leb s.first x ge ∙ sym (le-leb s.first (suc x) ge'))
+            ] in
+            let high : leb x s.last ≡ leb (suc x) s.last = elim (cases_lt x s.last) [
+              | inl lt ↦ (let le : x ≤ s.last = omega arith in le-leb x s.last le ∙ sym (le-leb (suc x) s.last lt))
+              | inr ge ↦ (let gt : s.last < x = omega arith in let gt' : s.last < suc x = omega arith in lt-leb x s.last gt ∙ sym (lt-leb (suc x) s.last gt'))
+            ] in
+            inl (ap (λ b. b && leb x s.last) low ∙ ap (λ b. leb s.first (suc x) && b) high))
+      ]
+    ]
+
+-- where a set changes, one of its intervals begins, or has ended
+pub change_is_end : (spans : List Interval) (d : Interval) (x : ℕ) → has spans x ≢ has spans (suc x) → (i : ℕ) × (i < length spans) × IsEndOf (get_or spans i d) (suc x)
+change_is_end [] d x ne = absurd (ne refl)
+change_is_end (s ∷ ss) d x ne =
+    elim (span_cases s x) [
+      | inl same ↦ (
+          let r = change_is_end ss d x (λ e. ne (ap (λ b. b || has ss x) same ∙ ap (λ b. in_span (suc x) s || b) e)) in
+          (suc r.0, omega (arith, r.1), r.2))
+      | inr end ↦ elim end [
+        | inl a ↦ (0, omega arith, inl a)
+        | inr b ↦ (0, omega arith, inr (omega arith))
+      ]
+    ]
+
+pub cuts_from_ends : (top : ℕ) (line : List Cut) (spans : List Interval) → All (EndsStart top line) spans → CutsStart top spans line
+cuts_from_ends top line spans h x le ne =
+    let none : Interval = record { first = 0; last = 0 } in
+    let P : ℕ → Type 0 = λ y. StartsAt y line in
+    let r = change_is_end spans none x ne in
+    let here : EndsStart top line (get_or spans r.0 none) = h r.0 none r.1 in
+    elim r.2 [ inl a ↦ subst P (sym a) here.0 | inr b ↦ subst P (sym b) (here.1 (omega arith)) ]
+
+pub spans_within : (top low : ℕ) (spans : List Interval) (i : ℕ) (d : Interval) → AreSpansFrom top low spans → i < length spans → ((get_or spans i d).first ≤ top) × ((get_or spans i d).last ≤ top)
+spans_within top low [] i d h lt = absurd (omega arith)
+spans_within top low (s ∷ ss) zero d h lt = (omega (arith, h.1, h.2), h.2)
+spans_within top low (s ∷ ss) (suc i) d h lt = spans_within top (s.last + 2) ss i d h.3 (omega arith)
+
+pub zero_from_rising : (top : ℕ) (line : List Cut) → IsRising top line → StartsAtZero line
+zero_from_rising top [] h = h
+zero_from_rising top (p ∷ ps) h = h.0
+
+pub split_twice : (top : ℕ) (spans : List Interval) (a b c : List Cut) → IsSplitOf top spans a b → IsSplitOf top spans b c → IsSplitOf top spans a c
+split_twice top spans a b c g h = record { rising = h.rising; same = λ x. h.same x ∙ g.same x; keeps = λ x s. h.keeps x (g.keeps x s); only = λ x s. elim (h.only x s) [ inl t ↦ g.only x t | inr ne ↦ inr ne ] }
+
+pub ends_kept : (top : ℕ) (a b : List Cut) (spans own : List Interval) → IsSplitOf top own a b → All (EndsStart top a) spans → All (EndsStart top b) spans
+ends_kept top a b spans own h all = All-weaker (EndsStart top a) (EndsStart top b) (λ s e. (h.keeps s.first e.0, λ lt. h.keeps (s.last + 1) (e.1 lt))) spans all
+
+pub record Split (top : ℕ) (spans : List Interval) (old now : List Cut) (i : ℕ) : Type 0 where
+  pub split : IsSplitOf top spans old now
+  pub ends : All (EndsStart top now) (take i spans)
+
+pub split_first : (top : ℕ) (spans : List Interval) (old : List Cut) → IsRising top old → Split top spans old old 0
+split_first top spans old r = record { split = record { rising = r; same = λ x. refl; keeps = λ x s. s; only = λ x s. inl s }; ends = All-nil (EndsStart top old) }
+
+pub split_next : (top : ℕ) (spans : List Interval) (old now new : List Cut) (i : ℕ) (d : Interval) → Split top spans old now i → IsSplitOf top spans now new → i < length spans
+    → EndsStart top new (get_or spans i d) → Split top spans old new (i + 1)
+split_next top spans old now new i d h g lt end =
+    record {
+      split = split_twice top spans old now new h.split g;
+      ends = All-more (EndsStart top new) spans i d lt (ends_kept top now new (take i spans) spans g h.ends) end;
+    }
+
+pub split_done_all : (top : ℕ) (spans own : List Interval) (old now : List Cut) (i : ℕ) → Split top spans old now i → length spans ≤ i → spans ≡ own → CutsStart top own now
+split_done_all top spans own old now i h le e =
+    let P : List Interval → Type 0 = λ ss. All (EndsStart top now) ss in
+    cuts_from_ends top now own (subst P (take_all i spans le ∙ e) h.ends)
+
+-- ---- equal neighbours joined, from the last down to the j-th
+
+abbrev pub no_cut : Cut
+no_cut = (0, [])
+
+pub record Merging (old now : List Cut) (j : ℕ) : Type 0 where
+  pub place : j < length now
+  pub rising : (top : ℕ) → IsRising top old → IsRising top now
+  pub same : (top : ℕ) → IsRising top old → SayTheSame old now
+  pub differ : DifferFrom (get_or now j no_cut).1 (drop (suc j) now)
+
+pub merging_first : (line : List Cut) (j : ℕ) → StartsAtZero line → j ≡ length line - 1 → Merging line line j
+merging_first [] j h e = absurd h
+merging_first (d ∷ ps) j h e =
+    let P : List Cut → Type 0 = λ cs. DifferFrom (get_or (d ∷ ps) j no_cut).1 cs in
+    record {
+      place = omega arith;
+      rising = λ top r. r;
+      same = λ top r x. refl;
+      differ = subst P (sym (drop_all (suc j) (d ∷ ps) (omega arith))) tt;
+    }
+
+pub merging_skip : (old now : List Cut) (j : ℕ) → Merging old now (suc j) → (get_or now j no_cut).1 ≢ (get_or now (suc j) no_cut).1 → Merging old now j
+merging_skip old now j h ne =
+    let lt : suc j < length now = h.place in
+    let next : suc j + 1 ≡ suc (suc j) = omega arith in
+    let P : List Cut → Type 0 = λ cs. DifferFrom (get_or now j no_cut).1 cs in
+    record {
+      place = omega arith;
+      rising = h.rising;
+      same = h.same;
+      differ = subst P (sym (drop_more now (suc j) no_cut lt ∙ ap (λ k. get_or now (suc j) no_cut ∷ drop k now) next)) (ne, h.differ);
+    }
+
+pub merge_line_rising : (top : ℕ) (line : List Cut) (j : ℕ) → IsRising top line → IsRising top (remove line (suc j))
+merge_line_rising top [] j r = absurd r
+merge_line_rising top (d ∷ ps) j r = (r.0, merge_rising top 0 ps j r.1)
+
+pub merge_line_says : (top : ℕ) (line : List Cut) (j : ℕ) → IsRising top line → suc j < length line → (get_or line j no_cut).1 ≡ (get_or line (suc j) no_cut).1 → SayTheSame line (remove line (suc j))
+merge_line_says top [] j r lt e x = absurd r
+merge_line_says top (d ∷ ps) j r lt e x =
+    let P : ℕ → Type 0 = λ a. IsRisingFrom top a ps in
+    row_in_first d (remove ps j) x r.0 ∙ merge_says top d no_cut ps j (omega arith) e (subst P (sym r.0) r.1) x ∙ sym (row_in_first d ps x r.0)
+
+pub merging_drop : (old now : List Cut) (j : ℕ) → Merging old now (suc j) → (get_or now j no_cut).1 ≡ (get_or now (suc j) no_cut).1 → Merging old (remove now (suc j)) j
+merging_drop old now j h e =
+    let lt : suc j < length now = h.place in
+    let below : j < suc j = omega arith in
+    let size : length (take (suc j) now) ≡ suc j = length-take-le (suc j) now (omega arith) in
+    let rest : drop (suc j) (remove now (suc j)) ≡ drop (suc (suc j)) now = drop_at (take (suc j) now) (drop (suc (suc j)) now) (suc j) size in
+    let row : (get_or (remove now (suc j)) j no_cut).1 ≡ (get_or now (suc j) no_cut).1 = ap (λ (c : Cut). c.1) (get_or-remove_below now (suc j) no_cut j below lt) ∙ e in
+    let P : List Cut → Type 0 = λ cs. DifferFrom (get_or now (suc j) no_cut).1 cs in
+    let Q : List Bool → Type 0 = λ r. DifferFrom r (drop (suc j) (remove now (suc j))) in
+    record {
+      place = omega (arith, length-remove now (suc j) lt);
+      rising = λ top r. merge_line_rising top now j (h.rising top r);
+      same = λ top r x. merge_line_says top now j (h.rising top r) lt e x ∙ h.same top r x;
+      differ = subst Q (sym row) (subst P (sym rest) h.differ);
+    }
+
+merged_differ : (line : List Cut) → DifferFrom (get_or line 0 no_cut).1 (drop 1 line) → Differ line
+merged_differ [] h = tt
+merged_differ (d ∷ ps) h = h
+
+pub merging_done : (old now : List Cut) (j : ℕ) → Merging old now j → j ≡ 0 → (top : ℕ) → IsRising top old → IsMergeOf top old now
+merging_done old now j h z top r =
+    let P : ℕ → Type 0 = λ k. DifferFrom (get_or now k no_cut).1 (drop (suc k) now) in
+    record { rising = h.rising top r; same = h.same top r; differ = merged_differ now (subst P z h.differ) }
+
+pub reserved_part : (ps us : List OwnedPiece) (i : ℕ) (p : OwnedPiece) → Reserved ps us i → i < length us → p ≡ get_or us i p → All (λ (q : OwnedPiece). length q.row.bits % 64 ≢ 0) ps → length p.row.bits % 64 ≢ 0
+reserved_part ps us i p h lt e part =
+    let P : List Bool → Type 0 = λ bs. length bs % 64 ≢ 0 in
+    subst P (sym (reserved_bits ps us i p h lt e)) (part i p (omega (arith, h.as_long)))

@@ -1,0 +1,196 @@
+-- The search for the first place that every row has.
+use Rattle.std.proofs.Common.{◌≡◌, ◌≢◌, ◌↔◌, inl, inr, ℕ, zero, suc, ◌+◌, ◌-◌, ◌*◌, ◌/◌, ◌%◌, ◌^◌, ◌<◌, ◌≤◌, true, false, List, [], ◌∷◌, length, take, get_or, refl, sym, ◌∙◌, ap, arith, subst, min, All, Option, Some, None, Bor}
+use Rattle.std.specs.Prelude.{slice_index, bit_and, bit_or, nat_eq, replicate}
+use Rattle.std.specs.Int.{bit_at, w64}
+use Rattle.std.proofs.lemmas.List.{get_or-take, length-take-le}
+use Rattle.std.proofs.lemmas.List.Elements.{All-nil, All-more}
+use Rattle.std.proofs.lemmas.Nat.{shr-shr, pow_pos, le_or_l, le_or_r}
+use Rattle.std.proofs.lemmas.Simd.{length-zip2, get_or-zip2, length-chunk, get_or-chunk, length-replicate, get_or-replicate}
+use lib.Lanes.{zip2, chunk, fold_l}
+use Rattle.std.proofs.lemmas.Nat.Bits.{bit_at_and, bit_at_ones, bit_at-lt, bit_at-zero, bit_at-trailing_zeros, bit_at_cat_low, bit_at_cat_high, ones_shl, and_high_mask}
+use Rattle.std.proofs.lemmas.Bool.{cases_lt, eqb-true, eq-eqb}
+use lib.Count.{count_trailing_zeros}
+use Rattle.classify.specs.steps.Packing.{all_bits}
+use Rattle.classify.specs.steps.CommonPlaces.{IsAndAt, AreAndsAt, AreWide, HaveAll, Nowhere, IsFirst}
+use Rattle.classify.proofs.laws.bits.GetLaws.{all_bit_at}
+
+abbrev Words : Type 0
+Words = Bor (List ℕ)
+
+-- ---- the and of the rows so far
+
+pub and_first : (place : ℕ) → IsAndAt (2 ^ 64 - 1) [] place
+and_first place = record { each = λ i lt. (λ _. All-nil (λ (row : Words). bit_at (slice_index row.now place) i ≡ 1), λ _. bit_at_ones 64 i lt) }
+
+both_bits : (a b : ℕ) → a < 2 → b < 2 → min a b ≡ 1 → (a ≡ 1) × (b ≡ 1)
+both_bits a b la lb e = (omega arith, omega arith)
+
+pub and_more : (rows : List Words) (k all place : ℕ) (d : Words) → k < length rows → IsAndAt all (take k rows) place → IsAndAt (bit_and all (slice_index (get_or rows k d).now place)) (take (k + 1) rows) place
+and_more rows k all place d lt h =
+    record {
+      each = λ i in'.
+          (let P : Words → Type 0 = λ row. bit_at (slice_index row.now place) i ≡ 1 in
+          let w : ℕ = slice_index (get_or rows k d).now place in
+          let e : bit_at (bit_and all w) i ≡ min (bit_at all i) (bit_at w i) = bit_at_and all w i in (
+            λ one. (let b = both_bits (bit_at all i) (bit_at w i) (bit_at-lt all i) (bit_at-lt w i) (sym e ∙ one) in All-more P rows k d lt ((h.each i in').0 b.0) b.1),
+            λ every.
+                (let past : k < k + 1 = omega arith in
+                let long : length (take (k + 1) rows) ≡ k + 1 = length-take-le (k + 1) rows (omega arith) in
+                let short : length (take k rows) ≡ k = length-take-le k rows (omega arith) in
+                let last : P (get_or rows k d) = subst P (get_or-take (k + 1) rows k d past) (every k d (omega arith)) in
+                let front : All P (take k rows) =
+                λ j f below.
+                (let j1 : j < k + 1 = omega arith in
+                let j0 : j < k = omega arith in
+                subst P (get_or-take (k + 1) rows j f j1 ∙ sym (get_or-take k rows j f j0)) (every j f (omega arith))) in
+                let a : bit_at all i ≡ 1 = (h.each i in').1 front in
+                e ∙ omega arith),
+          ));
+    }
+
+-- ---- the bits of the and are the places that every row has
+
+row_has : (ws : List ℕ) (place i words : ℕ) → length ws ≡ words → place < words → i < 64 → (bit_at (get_or ws place 0) i ≡ 1) ↔ (get_or (all_bits ws) (64 * place + i) false ≡ true)
+row_has ws place i words n lt in' =
+    let e : get_or (all_bits ws) (64 * place + i) false ≡ nat_eq (bit_at (get_or ws place 0) i) 1 = all_bit_at ws place i (omega arith) in' in
+    (λ one. e ∙ eq-eqb (bit_at (get_or ws place 0) i) 1 one, λ on. eqb-true (bit_at (get_or ws place 0) i) 1 (sym e ∙ on))
+
+pub bits_mark : (rows : List Words) (words place word i : ℕ) → AreWide words rows → place < words → IsAndAt word rows place → i < 64 → (bit_at word i ≡ 1) ↔ HaveAll rows (64 * place + i)
+bits_mark rows words place word i wide lt h in' = (
+  λ one k d below. (row_has (get_or rows k d).now place i words (wide k d below) lt in').0 ((h.each i in').0 one k d below),
+  λ every. (h.each i in').1 (λ k d below. (row_has (get_or rows k d).now place i words (wide k d below) lt in').1 (every k d below)),
+)
+
+-- ---- the first bit of a word
+
+abbrev pub MarksPlaces : (ℕ → Type 0) → ℕ → ℕ → ℕ → Type 0
+MarksPlaces P from base word = (i : ℕ) → i < 64 → (bit_at word i ≡ 1) ↔ ((from ≤ base + i) × P (base + i))
+
+not_one : (a : ℕ) → a ≡ 0 → a ≡ 1 → ⊥
+not_one a z o = absurd (omega arith)
+
+pub word_found : (P : ℕ → Type 0) (from to base word : ℕ) → MarksPlaces P from base word → word ≢ 0 → word < 2 ^ 64 → Nowhere P from base → base + 64 ≤ to → IsFirst P from to (Some (base + count_trailing_zeros 64 word))
+word_found P from to base word marks ne fits before room =
+    let n : ℕ = count_trailing_zeros 64 word in
+    let positive : 0 < word = omega arith in
+    let t = bit_at-trailing_zeros w64 word positive fits in
+    let here = (marks n t.0).0 t.1 in (
+      here.0,
+      (let in' : n < 64 = t.0 in omega arith),
+      here.1,
+      λ k ge below p.
+          elim (cases_lt k base) [
+            | inl lt ↦ before k ge lt p
+            | inr le ↦ (
+                let e : base + (k - base) ≡ k = omega arith in
+                let in' : n < 64 = t.0 in
+                let small : k - base < n = omega arith in
+                let i64 : k - base < 64 = omega arith in
+                let Q : ℕ → Type 0 = λ j. (from ≤ j) × P j in
+                not_one (bit_at word (k - base)) (t.2 (k - base) small) ((marks (k - base) i64).1 (subst Q (sym e) (ge, p))))
+          ],
+    )
+
+pub word_empty : (P : ℕ → Type 0) (from base word next : ℕ) → MarksPlaces P from base word → word ≡ 0 → Nowhere P from base → next ≡ base + 64 → Nowhere P from next
+word_empty P from base word next marks z before is k ge below p =
+    elim (cases_lt k base) [
+      | inl lt ↦ before k ge lt p
+      | inr le ↦ (
+          let e : base + (k - base) ≡ k = omega arith in
+          let i64 : k - base < 64 = omega arith in
+          let Q : ℕ → Type 0 = λ j. (from ≤ j) × P j in
+          not_one (bit_at word (k - base)) (ap (λ v. bit_at v (k - base)) z ∙ bit_at-zero (k - base)) ((marks (k - base) i64).1 (subst Q (sym e) (ge, p))))
+    ]
+
+pub first_later : (P : ℕ → Type 0) (from mid to : ℕ) (r : Option ℕ) → from ≤ mid → Nowhere P from mid → IsFirst P mid to r → IsFirst P from to r
+first_later P from mid to None le before h =
+    λ k ge below p. elim (cases_lt k mid) [ inl lt ↦ before k ge lt p | inr ge' ↦ h k ge' below p ]
+first_later P from mid to (Some n) le before h =
+    (omega (arith, h.0), h.1, h.2, λ k ge below p. elim (cases_lt k mid) [ inl lt ↦ before k ge lt p | inr ge' ↦ h.3 k ge' below p ])
+
+-- ---- words of the rows
+
+-- a whole word at or after `from`
+pub whole_marks : (rows : List Words) (from words place word : ℕ) → AreWide words rows → place < words → IsAndAt word rows place → from ≤ 64 * place → MarksPlaces (HaveAll rows) from (64 * place) word
+whole_marks rows from words place word wide lt h le i in' =
+    let b = bits_mark rows words place word i wide lt h in' in
+    (λ one. (omega arith, b.0 one), λ both. b.1 both.1)
+
+-- ---- four words at once
+
+pub four_first : (place : ℕ) → AreAndsAt (replicate 4 (2 ^ 64 - 1)) [] place
+four_first place = record {
+  long = length-replicate 4 (2 ^ 64 - 1);
+  each = λ j lt. (let P : ℕ → Type 0 = λ v. IsAndAt v [] (place + j) in subst P (sym (get_or-replicate 4 j (2 ^ 64 - 1) 0 lt)) (and_first (place + j)));
+}
+
+pub four_more : (rows : List Words) (k words place : ℕ) (all : List ℕ) (d : Words) → k < length rows → AreWide words rows → place + 4 ≤ words → AreAndsAt all (take k rows) place
+    → AreAndsAt (zip2 bit_and all (chunk place 4 (get_or rows k d).now)) (take (k + 1) rows) place
+four_more rows k words place all d lt wide room h =
+    let row : List ℕ = (get_or rows k d).now in
+    let long : length row ≡ words = wide k d lt in
+    let room' : place + 4 ≤ length row = omega arith in
+    let four : length (chunk place 4 row) ≡ 4 = length-chunk place 4 row room' in
+    record {
+      long = length-zip2 bit_and all (chunk place 4 row) (h.long ∙ sym four) ∙ h.long;
+      each = λ j in'.
+          (let a : j < length all = omega (arith, h.long) in
+          let b : j < length (chunk place 4 row) = omega arith in
+          let e : get_or (zip2 bit_and all (chunk place 4 row)) j 0 ≡ bit_and (get_or all j 0) (get_or row (place + j) 0) =
+          get_or-zip2 bit_and all (chunk place 4 row) j 0 0 0 a b ∙ ap (λ v. bit_and (get_or all j 0) v) (get_or-chunk place 4 row j 0 in') in
+          let P : ℕ → Type 0 = λ v. IsAndAt v (take (k + 1) rows) (place + j) in
+          subst P (sym e) (and_more rows k (get_or all j 0) (place + j) d lt (h.each j in')));
+    }
+
+zeros : (x : ℕ) (xs : List ℕ) → x ≡ 0 → ((j : ℕ) → get_or xs j 0 ≡ 0) → (j : ℕ) → get_or (x ∷ xs) j 0 ≡ 0
+zeros x xs e h zero = e
+zeros x xs e h (suc j) = h j
+
+or_zero : (a : ℕ) (xs : List ℕ) → fold_l bit_or a xs ≡ 0 → (a ≡ 0) × ((j : ℕ) → get_or xs j 0 ≡ 0)
+or_zero a [] e = (e, λ j. refl)
+or_zero a (x ∷ xs) e =
+    let r = or_zero (bit_or a x) xs e in
+    (omega (arith, le_or_l a x, r.0), zeros x xs (omega (arith, le_or_r a x, r.0)) r.1)
+
+four_empty : (rows : List Words) (from words place : ℕ) (lanes : List ℕ) → AreWide words rows → place + 4 ≤ words → AreAndsAt lanes rows place → ((j : ℕ) → get_or lanes j 0 ≡ 0) → from ≤ 64 * place
+    → Nowhere (HaveAll rows) from (64 * place) → (j : ℕ) → j ≤ 4 → Nowhere (HaveAll rows) from (64 * (place + j))
+four_empty rows from words place lanes wide room h z le before zero in' =
+    let e : place ≡ place + 0 = omega arith in
+    let P : ℕ → Type 0 = λ k. Nowhere (HaveAll rows) from (64 * k) in
+    subst P e before
+four_empty rows from words place lanes wide room h z le before (suc j) in' =
+    word_empty (HaveAll rows) from (64 * (place + j)) (get_or lanes j 0) (64 * (place + suc j))
+    (whole_marks rows from words (place + j) (get_or lanes j 0) wide (omega arith) (h.each j (omega arith)) (omega arith)) (z j)
+    (four_empty rows from words place lanes wide room h z le before j (omega arith)) (omega arith)
+
+pub four_passed : (rows : List Words) (from words place : ℕ) (lanes : List ℕ) → AreWide words rows → place + 4 ≤ words → AreAndsAt lanes rows place → fold_l bit_or 0 lanes ≡ 0 → from ≤ 64 * place
+    → Nowhere (HaveAll rows) from (64 * place) → Nowhere (HaveAll rows) from (64 * (place + 4))
+four_passed rows from words place lanes wide room h z le before = four_empty rows from words place lanes wide room h (or_zero 0 lanes z).1 le before 4 (omega arith)
+
+-- the word of `from`, without the bits before it
+head_is : (word r : ℕ) → r < 64 → word < 2 ^ 64 → bit_and word ((2 ^ 64 - 1) * 2 ^ r % 2 ^ 64) ≡ word / 2 ^ r * 2 ^ r
+head_is word r lt fits =
+    let le : r ≤ 64 = omega arith in
+    ap (λ m. bit_and word m) (ones_shl 64 r le) ∙ and_high_mask 64 r le word fits
+
+head_low : (a r i : ℕ) → i < r → bit_at (a * 2 ^ r) i ≡ 0
+head_low a r i lt = let z : a * 2 ^ r + 0 ≡ a * 2 ^ r = omega arith in ap (λ v. bit_at v i) (sym z) ∙ bit_at_cat_low a r 0 i lt ∙ bit_at-zero i
+
+head_high : (word r i : ℕ) → r ≤ i → bit_at (word / 2 ^ r * 2 ^ r) i ≡ bit_at word i
+head_high word r i le =
+    let z : word / 2 ^ r * 2 ^ r + 0 ≡ word / 2 ^ r * 2 ^ r = omega arith in
+    let e : r + (i - r) ≡ i = omega arith in
+    ap (λ v. bit_at v i) (sym z) ∙ bit_at_cat_high (word / 2 ^ r) r 0 i (pow_pos r) le ∙ ap (λ v. v % 2) (shr-shr word r (i - r) ∙ ap (λ k. word / 2 ^ k) e)
+
+pub head_marks : (rows : List Words) (from words word : ℕ) → AreWide words rows → from / 64 < words → word < 2 ^ 64 → IsAndAt word rows (from / 64)
+    → MarksPlaces (HaveAll rows) from (64 * (from / 64)) (bit_and word ((2 ^ 64 - 1) * 2 ^ (from % 64) % 2 ^ 64))
+head_marks rows from words word wide lt fits h i in' =
+    let b = bits_mark rows words (from / 64) word i wide lt h in' in
+    let r64 : from % 64 < 64 = omega arith in
+    let e = ap (λ v. bit_at v i) (head_is word (from % 64) r64 fits) in (
+      λ one. elim (cases_lt i (from % 64)) [
+        | inl low ↦ absurd (not_one (bit_at (word / 2 ^ (from % 64) * 2 ^ (from % 64)) i) (head_low (word / 2 ^ (from % 64)) (from % 64) i low) (sym e ∙ one))
+        | inr high ↦ (omega arith, b.0 (sym (head_high word (from % 64) i high) ∙ sym e ∙ one))
+      ],
+      λ both. (let high : from % 64 ≤ i = omega (arith, both.0) in e ∙ head_high word (from % 64) i high ∙ b.1 both.1),
+    )

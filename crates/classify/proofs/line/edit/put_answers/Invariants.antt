@@ -1,0 +1,6 @@
+use Rattle.classify.specs.steps.Edits.{with_answer}
+use Rattle.classify.proofs.laws.line.LoopLaws.{Mapped}
+use Rattle.classify.proofs.line.edit.put_answers.Given as goal
+
+abbrev pub invariant-loop-i : goal.invariant-loop-i
+invariant-loop-i l = Mapped (with_answer l.at l.spans.intervals) l.fn.pieces.items l.pieces.items l.i

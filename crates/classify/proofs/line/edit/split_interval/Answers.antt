@@ -1,0 +1,41 @@
+use Rattle.std.proofs.Common.{arith, ◌+◌}
+use Rattle.std.proofs.lemmas.Bool.{false≢true}
+use Rattle.classify.proofs.laws.line.ApartLaws.{begins_at, begins_there}
+use Rattle.classify.proofs.laws.line.LoopLaws.{split_twice}
+use Rattle.classify.proofs.line.edit.split_interval.Goals as goal
+
+pub returns-in_err-split-clause-split : goal.returns-in_err-split-clause-split
+returns-in_err-split-clause-split c spans a b = c.split.ensures.split c.args.top spans c.requires.begins a c.requires.rising
+
+pub split-requires-then-interval-top : goal.split-requires-then-interval-top
+split-requires-then-interval-top c = (c.args.top, (c.split.ensures.split c.args.top (begins_at c.args.interval.first) c.requires.begins (begins_there c.args.interval.first) c.requires.rising).rising)
+
+pub returns-in_err-split-2-clause-split : goal.returns-in_err-split-2-clause-split
+returns-in_err-split-2-clause-split c spans a b =
+    let g = c.split.ensures.split c.args.top spans c.requires.begins a c.requires.rising in
+    split_twice _ _ _ _ _ g (c.split-then-interval-top.ensures.split c.args.top spans (omega arith) b g.rising)
+
+pub returns-then-interval-top-clause-split : goal.returns-then-interval-top-clause-split
+returns-then-interval-top-clause-split c spans a b =
+    let g = c.split.ensures.split c.args.top spans c.requires.begins a c.requires.rising in
+    split_twice _ _ _ _ _ g (c.split-then-interval-top.ensures.split c.args.top spans (omega arith) b g.rising)
+
+pub returns-then-interval-top-clause-ok : goal.returns-then-interval-top-clause-ok
+returns-then-interval-top-clause-ok c =
+    let g = c.split.ensures.split c.args.top (begins_at c.args.interval.first) c.requires.begins (begins_there c.args.interval.first) c.requires.rising in
+    let h = c.split-then-interval-top.ensures.split c.args.top (begins_at (c.args.interval.last + 1)) (omega arith) (begins_there (c.args.interval.last + 1)) g.rising in
+    (h.keeps c.args.interval.first c.in_ok-split.ensures.ok, λ _. c.in_ok-split-2.ensures.ok)
+
+pub returns-clause-split : goal.returns-clause-split
+returns-clause-split c spans a b = c.split.ensures.split c.args.top spans c.requires.begins a c.requires.rising
+
+pub returns-in_err-split-clause-there : goal.returns-in_err-split-clause-there
+returns-in_err-split-clause-there c e = absurd (false≢true (c.in_err-split.ensures.there c.args.top c.requires.rising e.0))
+
+pub returns-in_err-split-2-clause-there : goal.returns-in_err-split-2-clause-there
+returns-in_err-split-2-clause-there c e =
+    let g = c.split.ensures.split c.args.top (begins_at c.args.interval.first) c.requires.begins (begins_there c.args.interval.first) c.requires.rising in
+    absurd (false≢true (c.in_err-split-2.ensures.there c.args.top g.rising (g.keeps (c.args.interval.last + 1) (e.1 c.if-interval-top.true))))
+
+pub split-requires : goal.split-requires
+split-requires c = (c.args.top, c.requires.rising)

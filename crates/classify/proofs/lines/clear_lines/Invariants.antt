@@ -1,7 +1,0 @@
-use Rattle.std.proofs.Common.{◌≡◌, ◌∷◌, []}
-use Rattle.classify.specs.Fields.{shown_line}
-use Rattle.classify.proofs.FieldLaws.{Edited}
-use Rattle.classify.proofs.lines.clear_lines.Given as goal
-
-abbrev pub invariant-loop-k : goal.invariant-loop-k
-invariant-loop-k l = Edited (λ _ p q. shown_line q ≡ (0, []) ∷ []) l.fn.lines l.lines l.k

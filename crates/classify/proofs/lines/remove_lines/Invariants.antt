@@ -1,6 +1,0 @@
-use Rattle.classify.specs.Fields.{LosesBox}
-use Rattle.classify.proofs.FieldLaws.{Edited}
-use Rattle.classify.proofs.lines.remove_lines.Given as goal
-
-abbrev pub invariant-loop-k : goal.invariant-loop-k
-invariant-loop-k l = Edited (λ _ p q. LosesBox l.at p q) l.fn.lines l.lines l.k

@@ -1,8 +1,0 @@
-use Rattle.std.proofs.Common.{◌≡◌, ◌<◌, All}
-use Rattle.classify.specs.declared.line.Piece.{Piece}
-use Rattle.classify.specs.Fields.{shown_line}
-use Rattle.classify.proofs.FieldLaws.{Edited}
-use Rattle.classify.proofs.lines.reserve_lines.Given as goal
-
-abbrev pub invariant-loop-k : goal.invariant-loop-k
-invariant-loop-k l = Edited (λ _ p q. (shown_line q ≡ shown_line p) × All (λ (r : Piece). 0 < r.row.room) q.pieces.items) l.fn.lines l.lines l.k

@@ -1,0 +1,3 @@
+pub mod Classifier
+pub mod Laws
+pub mod OfRules

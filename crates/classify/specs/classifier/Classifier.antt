@@ -1,0 +1,51 @@
+-- The classifier of a list of boxes or of rules.
+use Rattle.std.specs.Prelude.{◌≡◌, ◌≢◌, ℕ, suc, ◌≤◌, Bool, List, [], Contains, length, slice_index_or}
+use Rattle.std.specs.List.{list_all}
+use Rattle.fields.specs.declared.numbers.field.Field.{Field}
+use Rattle.fields.specs.numbers.Field.{all_fields, index, number_on, top}
+use Rattle.fields.specs.numbers.Spans.{SpanSet, has}
+use Rattle.rules.specs.boxing.Boxed.{set_on}
+use Rattle.rules.specs.rule.Allows.{allows}
+use Rattle.rules.specs.rule.Rules.{Rule}
+use Rattle.classify.specs.line.Line.{IsLineOf, starts}
+
+-- whether a box allows a number on a field
+abbrev pub box_allows : List SpanSet → Field → ℕ → Bool
+box_allows box field x = has (set_on field box) x
+
+-- whether a box allows each of some numbers, one a field in the order of the fields
+abbrev pub box_matches : List ℕ → List SpanSet → Bool
+box_matches numbers box = list_all (λ field. box_allows box field (number_on numbers field)) all_fields
+
+-- what a classifier shows: how many boxes it has, and the line of each field, in the order of the fields
+pub record Classified : Type 0 where
+  pub len : ℕ
+  pub lines : List (List (ℕ × List Bool))
+
+-- the line of a field
+abbrev pub line_on : Field → Classified → List (ℕ × List Bool)
+line_on field c = slice_index_or c.lines (index field) []
+
+-- the classifier of some things, of which each allows some numbers on each field: it counts them, and has their line on each field
+pub record IsClassifierBy {B : Type 0} (allows : B → Field → ℕ → Bool) (things : List B) (c : Classified) : Type 0 where
+  pub len : c.len ≡ length things
+  pub fields : length c.lines ≡ length all_fields
+  pub lines : (field : Field) → IsLineOf (λ b x. allows b field x) (top field) things (line_on field c)
+
+-- the classifier of the boxes, in their order
+abbrev pub IsClassifierOf : List (List SpanSet) → Classified → Type 0
+IsClassifierOf boxes c = IsClassifierBy box_allows boxes c
+
+-- the classifier of the rules, in their order
+abbrev pub IsClassifierOfRules : List Rule → Classified → Type 0
+IsClassifierOfRules rules c = IsClassifierBy allows rules c
+
+-- each number at which the box's answers change is already the start of a piece
+abbrev pub HasNoNewCut : List SpanSet → Classified → Type 0
+HasNoNewCut box c =
+    (field : Field) (x : ℕ) → suc x ≤ top field → box_allows box field x ≢ box_allows box field (suc x)
+    → Contains (starts (line_on field c)) (suc x)
+
+-- each number is within its field's top
+abbrev pub IsPoint : List ℕ → Type 0
+IsPoint point = (field : Field) → number_on point field ≤ top field

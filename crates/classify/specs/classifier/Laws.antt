@@ -1,0 +1,53 @@
+-- What holds of the classifier of rules, whatever the code.
+use Rattle.std.specs.Prelude.{◌≡◌, ◌↔◌, ℕ, Bool, List, map, Some, slice_get, slice_set, if◌then◌else◌}
+use Rattle.fields.specs.declared.numbers.field.Field.{Field}
+use Rattle.fields.specs.numbers.Field.{top}
+use Rattle.fields.specs.numbers.Spans.{SpanSet}
+use Rattle.rules.specs.boxing.Boxed.{IsBox, IsBoxOf}
+use Rattle.rules.specs.rule.Actions.{renamed}
+use Rattle.rules.specs.rule.Allows.{allows, matches}
+use Rattle.rules.specs.rule.Rules.{Rule}
+use Rattle.classify.specs.line.Line.{IsLineOf}
+use Rattle.classify.specs.classifier.Classifier.{Classified, IsClassifierOf, IsClassifierOfRules, IsPoint, box_matches}
+use Rattle.classify.specs.classifier.OfRules.{AreBoxesOf, AllowTheSame, lines_of}
+use Rattle.classify.specs.search.NextMatch.{next_match}
+
+-- each rule has a box
+abbrev pub EachRuleHasABox : Type 0
+EachRuleHasABox = (rule : Rule) → (box : List SpanSet) × IsBox box × IsBoxOf rule box
+
+-- the classifier of rules' boxes is that of the rules, and the other way round
+abbrev pub BoxesHaveTheRulesClassifier : Type 0
+BoxesHaveTheRulesClassifier =
+    (rules : List Rule) (boxes : List (List SpanSet)) (c : Classified) → AreBoxesOf rules boxes → IsClassifierOf boxes c ↔ IsClassifierOfRules rules c
+
+-- the next box that allows a point is that of the next rule that allows it
+abbrev pub BoxesHaveTheRulesMatches : Type 0
+BoxesHaveTheRulesMatches =
+    (rules : List Rule) (boxes : List (List SpanSet)) (point : List ℕ) (from : ℕ) → AreBoxesOf rules boxes → IsPoint point
+    → next_match (box_matches point) boxes from ≡ next_match (matches point) rules from
+
+-- rules have one classifier: two of the same rules are equal
+abbrev pub RulesHaveOneClassifier : Type 0
+RulesHaveOneClassifier = (rules : List Rule) (c d : Classified) → IsClassifierOfRules rules c → IsClassifierOfRules rules d → c ≡ d
+
+-- the line of rules on a field is the one that the function computes
+abbrev pub RulesHaveTheComputedLine : Type 0
+RulesHaveTheComputedLine =
+    (rules : List Rule) (field : Field) (line : List (ℕ × List Bool)) → IsLineOf (λ rule x. allows rule field x) (top field) rules line
+    ↔ (line ≡ lines_of rules field)
+
+-- rules that allow the same numbers have the same classifier
+abbrev pub SameNumbersSameClassifier : Type 0
+SameNumbersSameClassifier = (rules others : List Rule) (c : Classified) → AllowTheSame rules others → IsClassifierOfRules rules c → IsClassifierOfRules others c
+
+-- a renamed target, of one rule or of all that pass a test, leaves the classifier as it is
+abbrev pub RenamedOneSameClassifier : Type 0
+RenamedOneSameClassifier =
+    (rules : List Rule) (at : ℕ) (rule : Rule) (name : List ℕ) (c : Classified) → slice_get rules at ≡ Some rule → IsClassifierOfRules rules c
+    → IsClassifierOfRules (slice_set rules at (renamed name rule)) c
+
+abbrev pub RenamedManySameClassifier : Type 0
+RenamedManySameClassifier =
+    (rules : List Rule) (test : Rule → Bool) (name : List ℕ) (c : Classified) → IsClassifierOfRules rules c
+    → IsClassifierOfRules (map (λ rule. if test rule then renamed name rule else rule) rules) c

@@ -1,0 +1,43 @@
+-- Places that several rows of bits have, and the first of them.
+use Rattle.std.specs.Prelude.{◌≡◌, ℕ, ◌+◌, ◌<◌, ◌≤◌, ◌↔◌, List, length, slice_index, slice_index_or, [], take, Option, MatchOption, All, false, true}
+use Rattle.std.specs.Borrow.{Bor}
+use Rattle.std.specs.Int.{bit_at}
+use Rattle.fields.specs.declared.numbers.field.TheConstants.{FIELDS}
+use Rattle.classify.specs.steps.Packing.{all_bits, IsPacked}
+use Rattle.classify.specs.steps.Pieces.{row_in}
+use Rattle.classify.specs.classifier.Classifier.{Classified}
+
+-- the bits of a word are those that the words at a place of all rows have
+pub record IsAndAt (word : ℕ) (rows : List (Bor (List ℕ))) (place : ℕ) : Type 0 where
+  pub each : (i : ℕ) → i < 64 → (bit_at word i ≡ 1) ↔ All (λ (row : Bor (List ℕ)). bit_at (slice_index row.now place) i ≡ 1) rows
+
+-- the same of four words from a place on
+pub record AreAndsAt (lanes : List ℕ) (rows : List (Bor (List ℕ))) (place : ℕ) : Type 0 where
+  pub long : length lanes ≡ 4
+  pub each : (j : ℕ) → j < 4 → IsAndAt (slice_index lanes j) rows (place + j)
+
+-- each row has so many words
+abbrev pub AreWide : ℕ → List (Bor (List ℕ)) → Type 0
+AreWide words rows = All (λ (row : Bor (List ℕ)). length row.now ≡ words) rows
+
+-- each row has the bit at a place
+abbrev pub HaveAll : List (Bor (List ℕ)) → ℕ → Type 0
+HaveAll rows place = All (λ (row : Bor (List ℕ)). slice_index_or (all_bits row.now) place false ≡ true) rows
+
+-- P holds nowhere from one place up to another
+abbrev pub Nowhere : (ℕ → Type 0) → ℕ → ℕ → Type 0
+Nowhere P from to = (k : ℕ) → from ≤ k → k < to → P k → ⊥
+
+-- the first place, from one up to another, at which P holds
+abbrev pub IsFirst : (ℕ → Type 0) → ℕ → ℕ → Option ℕ → Type 0
+IsFirst P from to first = MatchOption first (Nowhere P from to) (λ n. (from ≤ n) × (n < to) × P n × Nowhere P from n)
+
+-- the words of the row of a field's line at a number
+pub record IsRow (c : Classified) (place x : ℕ) (row : List ℕ) : Type 0 where
+  pub packed : IsPacked row c.len
+  pub bits : take c.len (all_bits row) ≡ row_in (slice_index_or c.lines place []) x
+
+-- a row for each field, as far as a place, at the point's number
+pub record AreRows (c : Classified) (point : List ℕ) (rows : List (Bor (List ℕ))) (upto : ℕ) : Type 0 where
+  pub long : length rows ≡ FIELDS
+  pub are : (j : ℕ) (d : Bor (List ℕ)) → j < upto → IsRow c j (slice_index point j) (slice_index_or rows j d).now

@@ -1,0 +1,68 @@
+-- What the steps of an edit leave of a line.
+use Rattle.fields.specs.declared.numbers.spans.Interval.{Interval}
+use Rattle.std.specs.Prelude.{◌≡◌, ℕ, ◌+◌, ◌≤◌, Bool, List, [], ◌∷◌, length, insert, remove, slice_set, slice_index_or, ◌≢◌, ◌⊎◌, ◌<◌, suc, false}
+use Rattle.fields.specs.numbers.Spans.{has}
+use Rattle.classify.specs.line.Line.{row_at}
+use Rattle.classify.specs.steps.Pieces.{IsRising, StartsAt, SayTheSame, Differ, row_in}
+
+-- a new box's answer put into a piece's row
+abbrev pub with_answer : ℕ → List Interval → ℕ × List Bool → ℕ × List Bool
+with_answer at spans p = (p.0, insert p.1 at (has spans p.0))
+
+-- a box's answer written into it
+abbrev pub with_written : ℕ → List Interval → ℕ × List Bool → ℕ × List Bool
+with_written at spans p = (p.0, slice_set p.1 at (has spans p.0))
+
+-- a box's answer taken out of it
+abbrev pub without_answer : ℕ → ℕ × List Bool → ℕ × List Bool
+without_answer at p = (p.0, remove p.1 at)
+
+-- new says what old says, and no two neighbours are equal
+pub record IsMergeOf (top : ℕ) (old new : List (ℕ × List Bool)) : Type 0 where
+  pub rising : IsRising top new
+  pub same : SayTheSame old new
+  pub differ : Differ new
+
+-- new says what old says with no more pieces, and at the numbers of P it has one only where the row changes
+pub record IsUnsplitAt (P : ℕ → Type 0) (top : ℕ) (old new : List (ℕ × List Bool)) : Type 0 where
+  pub rising : IsRising top new
+  pub same : SayTheSame old new
+  pub only : (x : ℕ) → StartsAt x new → StartsAt x old
+  pub apart : (y : ℕ) → P (suc y) → StartsAt (suc y) new → row_in old y ≢ row_in old (suc y)
+
+-- one number alone
+abbrev pub IsNumber : ℕ → ℕ → Type 0
+IsNumber x y = y ≡ x
+
+-- where an interval begins, and after its end
+abbrev pub IsEndOf : Interval → ℕ → Type 0
+IsEndOf s x = (x ≡ s.first) ⊎ (x ≡ s.last + 1)
+
+-- the line says of each number up to the top which sets have it
+abbrev pub Says : ℕ → List (List Interval) → List (ℕ × List Bool) → Type 0
+Says top sets line = (x : ℕ) → x ≤ top → row_in line x ≡ row_at has sets x
+
+-- each row has so many bits
+abbrev pub EachRow : ℕ → List (ℕ × List Bool) → Type 0
+EachRow n [] = Unit {0}
+EachRow n (p ∷ ps) = (length p.1 ≡ n) × EachRow n ps
+
+-- a line as it stands between edits: its pieces rise from 0, no two neighbours are equal, and each row has so many bits
+pub record IsSound (top n : ℕ) (line : List (ℕ × List Bool)) : Type 0 where
+  pub rising : IsRising top line
+  pub differ : Differ line
+  pub rows : EachRow n line
+
+-- the row of a piece
+abbrev pub row_of : List (ℕ × List Bool) → ℕ → List Bool
+row_of line j = let none : ℕ × List Bool = (0, []) in let p : ℕ × List Bool = slice_index_or line j none in p.1
+
+-- the piece after the j-th joined to it if their rows are equal, where the two bits say that they may be
+abbrev pub IsJoined : Bool → Bool → ℕ → List (ℕ × List Bool) → List (ℕ × List Bool) → Type 0
+IsJoined bit above j old new =
+    ((new ≡ old) × (suc j < length old → bit ≢ above → row_of old j ≢ row_of old (suc j))) ⊎ ((suc j < length old) × (row_of old j ≡ row_of old (suc j)) × (new ≡ remove old (suc j)))
+
+-- neighbours with one bit at the place still have two rows after the change
+abbrev pub KeepsApart : (ℕ × List Bool → ℕ × List Bool) → ℕ → List (ℕ × List Bool) → Type 0
+KeepsApart g at line =
+    (j : ℕ) → suc j < length line → slice_index_or (row_of line j) at false ≡ slice_index_or (row_of line (suc j)) at false → (g (slice_index_or line j (0, []))).1 ≢ (g (slice_index_or line (suc j) (0, []))).1

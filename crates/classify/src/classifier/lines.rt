@@ -1,0 +1,202 @@
+//! The lines of all fields: each step on every line in turn.
+
+ghost use Rattle.std.specs.Prelude.{◌≡◌, ◌≢◌, ◌<◌, ◌≤◌, ◌+◌, ◌%◌, ℕ, length, OnOk, OnErr, IsOk, All};
+ghost use Rattle.classify.specs.steps.Pieces.{StartsAtZero};
+ghost use Rattle.classify.specs.steps.Edits.{EachRow};
+ghost use Rattle.classify.specs.steps.Fields.{shown_line, EachLine, EachEdit, ShowTheSame, AreEmpty, EachField, OnEach};
+ghost use Rattle.classify.specs.steps.Fields.{Rises, HasCuts, HasOnlyCuts, Stands, IsCutMore, IsJoinedUp, InsertsSet, ReplacesSet};
+ghost use Rattle.classify.specs.steps.Fields.{IsReady, HasRoom, TakesIn, TakesOver, HasPlace, LosesBox};
+
+use crate::line::edit;
+use crate::line::owned::OwnedLine;
+use fields::Spans;
+use std::alloc::{AllocError, Global};
+
+/// Makes every line that of no box.
+pub(crate) fn open_lines(lines: &mut [OwnedLine], alloc: Global) -> Result<(), AllocError>
+    ensures { OnOk result (AreEmpty lines.old lines.new) }
+{
+    for k in 0..lines.len() {
+        lines[k] = OwnedLine::open(alloc)?;
+    }
+    Ok(())
+}
+
+/// Makes every line a copy of its field's line among others.
+pub(crate) fn copy_lines(
+    lines: &mut [OwnedLine],
+    others: &[OwnedLine],
+    alloc: Global,
+) -> Result<(), AllocError>
+    requires { length others.now ≡ length lines.old }
+    ensures { OnOk result (ShowTheSame others.now lines.new) }
+{
+    for k in 0..lines.len() {
+        lines[k] = others[k].copy(alloc)?;
+    }
+    Ok(())
+}
+
+/// Cuts every line wherever the box's answers change on its field.
+fn split_lines(lines: &mut [OwnedLine], spans: &[Spans]) -> Result<(), AllocError>
+    requires as_long { length spans.now ≡ length lines.old }
+    requires rising { OnEach Rises spans.now lines.old }
+    ensures split { EachField IsCutMore spans.now lines.old lines.new }
+    ensures cuts { OnOk result (EachField (λ s _ m. HasCuts s m) spans.now lines.old lines.new) }
+    ensures there { OnEach HasCuts spans.now lines.old → IsOk result }
+{
+    for k in 0..lines.len() {
+        let line = &mut lines[k];
+        edit::split_all(&mut line.pieces, &spans[k])?;
+    }
+    Ok(())
+}
+
+/// Takes the memory that one more bit in each row of every line needs.
+fn reserve_lines(lines: &mut [OwnedLine]) -> Result<(), AllocError>
+    ensures same { ShowTheSame lines.old lines.new }
+    ensures room { OnOk result (EachEdit (λ _ m. All (λ p. 0 < p.row.room) m.pieces.items) lines.old lines.new) }
+    ensures part { EachLine (λ l. All (λ p. length p.row.bits % 64 ≢ 0) l.pieces.items) lines.old → IsOk result }
+{
+    for k in 0..lines.len() {
+        let line = &mut lines[k];
+        edit::reserve_rows(&mut line.pieces)?;
+    }
+    Ok(())
+}
+
+/// Takes all memory that a box needs, in every line: rows whose last word has a place left need none.
+fn prepare_lines(lines: &mut [OwnedLine], len: usize, spans: &[Spans]) -> Result<(), AllocError>
+    requires as_long { length spans.now ≡ length lines.old }
+    requires rising { OnEach Rises spans.now lines.old }
+    requires rows { EachLine (λ l. EachRow len (shown_line l)) lines.old }
+    ensures split { EachField IsCutMore spans.now lines.old lines.new }
+    ensures ready { OnOk result (EachField (λ s _ m. IsReady s m) spans.now lines.old lines.new) }
+    ensures there { OnEach HasRoom spans.now lines.old → IsOk result }
+{
+    split_lines(lines, spans)?;
+    if len % 64 != 0 {
+        return Ok(());
+    }
+    reserve_lines(lines)?;
+    Ok(())
+}
+
+/// Takes the cuts wherever the box's answers change back, in every line, where the rows are equal.
+fn unsplit_lines(lines: &mut [OwnedLine], spans: &[Spans])
+    requires as_long { length spans.now ≡ length lines.old }
+    requires rising { OnEach Rises spans.now lines.old }
+    requires apart { OnEach HasOnlyCuts spans.now lines.old }
+    ensures { EachField IsJoinedUp spans.now lines.old lines.new }
+{
+    for k in 0..lines.len() {
+        let line = &mut lines[k];
+        edit::unsplit_all(&mut line.pieces, &spans[k]);
+    }
+}
+
+/// Puts a box in, in every line, for which all memory is taken.
+fn commit_lines(lines: &mut [OwnedLine], at: usize, spans: &[Spans])
+    requires as_long { length spans.now ≡ length lines.old }
+    requires rising { OnEach Rises spans.now lines.old }
+    requires ready { OnEach IsReady spans.now lines.old }
+    requires apart { OnEach HasOnlyCuts spans.now lines.old }
+    requires place { EachLine (λ l. All (λ p. at ≤ length p.row.bits) l.pieces.items) lines.old }
+    ensures { EachField (TakesIn at) spans.now lines.old lines.new }
+{
+    for k in 0..lines.len() {
+        let line = &mut lines[k];
+        edit::commit(&mut line.pieces, at, &spans[k]);
+    }
+}
+
+/// Puts a box in at a place among the boxes, in every line. Without the memory all lines stay as they were.
+pub(crate) fn insert_lines(
+    lines: &mut [OwnedLine],
+    len: usize,
+    at: usize,
+    spans: &[Spans],
+) -> Result<(), AllocError>
+    requires as_long { length spans.now ≡ length lines.old }
+    requires place { at ≤ len }
+    requires sound { OnEach (Stands len) spans.now lines.old }
+    ensures ok { OnOk result (EachField (InsertsSet at) spans.now lines.old lines.new) }
+    ensures sound { OnOk result (EachField (λ s _ m. Stands (len + 1) s m) spans.now lines.old lines.new) }
+    ensures there { len % 64 ≢ 0 → OnEach HasCuts spans.now lines.old → IsOk result }
+    ensures err { OnErr result (ShowTheSame lines.old lines.new) }
+{
+    match prepare_lines(lines, len, spans) {
+        Ok(()) => {
+            commit_lines(lines, at, spans);
+            Ok(())
+        }
+        Err(refused) => {
+            unsplit_lines(lines, spans);
+            Err(refused)
+        }
+    }
+}
+
+/// Puts a box in the place of another, in every line, where all cuts are there.
+fn settle_lines(lines: &mut [OwnedLine], at: usize, spans: &[Spans])
+    requires as_long { length spans.now ≡ length lines.old }
+    requires rising { OnEach Rises spans.now lines.old }
+    requires cuts { OnEach HasCuts spans.now lines.old }
+    requires apart { OnEach HasOnlyCuts spans.now lines.old }
+    requires place { (n : ℕ) × (at < n) × EachLine (λ l. EachRow n (shown_line l)) lines.old }
+    ensures { EachField (TakesOver at) spans.now lines.old lines.new }
+{
+    for k in 0..lines.len() {
+        let line = &mut lines[k];
+        edit::replace_box(&mut line.pieces, at, &spans[k]);
+    }
+}
+
+/// Puts a box in the place of another, in every line. Without the memory all lines stay as they were.
+pub(crate) fn replace_lines(
+    lines: &mut [OwnedLine],
+    len: usize,
+    at: usize,
+    spans: &[Spans],
+) -> Result<(), AllocError>
+    requires as_long { length spans.now ≡ length lines.old }
+    requires place { at < len }
+    requires sound { OnEach (Stands len) spans.now lines.old }
+    ensures ok { OnOk result (EachField (ReplacesSet at) spans.now lines.old lines.new) }
+    ensures sound { OnOk result (EachField (λ s _ m. Stands len s m) spans.now lines.old lines.new) }
+    ensures there { OnEach HasCuts spans.now lines.old → IsOk result }
+    ensures err { OnErr result (ShowTheSame lines.old lines.new) }
+{
+    match split_lines(lines, spans) {
+        Ok(()) => {
+            settle_lines(lines, at, spans);
+            Ok(())
+        }
+        Err(refused) => {
+            unsplit_lines(lines, spans);
+            Err(refused)
+        }
+    }
+}
+
+/// Takes a box out, in every line.
+pub(crate) fn remove_lines(lines: &mut [OwnedLine], at: usize)
+    requires { EachLine (HasPlace at) lines.old }
+    ensures { EachEdit (LosesBox at) lines.old lines.new }
+{
+    for k in 0..lines.len() {
+        let line = &mut lines[k];
+        edit::remove_box(&mut line.pieces, at);
+    }
+}
+
+/// Takes every box out, in every line.
+pub(crate) fn clear_lines(lines: &mut [OwnedLine])
+    requires { EachLine (λ l. StartsAtZero (shown_line l)) lines.old }
+    ensures { AreEmpty lines.old lines.new }
+{
+    for k in 0..lines.len() {
+        let line = &mut lines[k];
+        edit::clear(&mut line.pieces);
+    }
+}

@@ -1,0 +1,31 @@
+//! Laws of the classifier of rules: the contract of each is the law, and it does nothing.
+
+ghost use Rattle.classify.specs.classifier.Laws.{EachRuleHasABox, BoxesHaveTheRulesClassifier, BoxesHaveTheRulesMatches, RulesHaveOneClassifier};
+ghost use Rattle.classify.specs.classifier.Laws.{RulesHaveTheComputedLine, SameNumbersSameClassifier, RenamedOneSameClassifier, RenamedManySameClassifier};
+
+/// The law that the classifier of rules' boxes is that of the rules themselves, and the next box that allows
+/// a point that of the next rule that allows it; and that each rule has a box.
+pub fn boxes_stand_for_their_rules()
+    ensures each { EachRuleHasABox }
+    ensures classifier { BoxesHaveTheRulesClassifier }
+    ensures matches { BoxesHaveTheRulesMatches }
+{}
+
+/// The law that rules have one classifier: two classifiers of the same rules are equal, as many boxes and
+/// the same line on each field.
+pub fn rules_have_one_classifier()
+    ensures { RulesHaveOneClassifier }
+{}
+
+/// The law that the line of rules on a field is the one that `lines_of` computes, and no other.
+pub fn rules_have_the_computed_line()
+    ensures { RulesHaveTheComputedLine }
+{}
+
+/// The law that the classifier asks of rules only what they allow: rules that allow the same numbers have
+/// the same classifier, and a renamed target leaves it as it is.
+pub fn targets_leave_the_classifier()
+    ensures same { SameNumbersSameClassifier }
+    ensures renamed_one { RenamedOneSameClassifier }
+    ensures renamed_many { RenamedManySameClassifier }
+{}
