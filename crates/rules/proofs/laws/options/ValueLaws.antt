@@ -12,7 +12,8 @@ use Rattle.fields.specs.values.LogLevel.{log_level_of, log_level_text}
 use Rattle.fields.specs.values.PortList.{port_list_of, port_list_text}
 use Rattle.fields.specs.values.PortRange.{port_range_of, ports_text}
 use Rattle.fields.specs.values.Prefix.{prefix_of, prefix_text}
-use Rattle.fields.specs.text.Printed.{Shown, bare, as_text, spaced, spaced_all, IsBareWord, AreSpelled}
+use Rattle.fields.specs.text.OneLine.{IsOneLine}
+use Rattle.fields.specs.text.Printed.{Shown, bare, as_text, spaced, spaced_all, IsBareWord, IsPrintable, ArePrintable}
 use Rattle.fields.specs.values.Protocol.{protocol_of, protocol_text}
 use Rattle.fields.specs.values.RejectType.{reject_of, reject_text}
 use Rattle.fields.specs.values.TcpFlags.{tcp_flags_of, tcp_flags_text}
@@ -52,7 +53,7 @@ pub record IsGood (o : Opt) (inverted : Bool) (v : Value) : Type 0 where
   pub owned : owner (option_of_value v) ≡ owner o
   pub bang : may_be_inverted o ≡ true → may_be_inverted (option_of_value v) ≡ true
   pub text : value_of (option_of_value v) inverted (plain (shown_value v)) ≡ Ok v
-  pub spelled : AreSpelled (shown_value v)
+  pub spelled : ArePrintable (shown_value v)
   pub short : length (spaced_all (shown_value v)) ≤ value_room (option_of_value v)
 
 -- what was read, where something was
@@ -67,21 +68,21 @@ same-value : (w v : Value) → ◌≡◌ {A = Result Value Refusal} (Ok w) (Ok v
 same-value w v h = cc
 
 -- lines of one and of two words
-none-spelled : AreSpelled []
+none-spelled : ArePrintable []
 none-spelled k d within = absurd (omega arith)
 
-spelled-more : (w : Shown) (ws : List Shown) → (w.text ≡ false → IsBareWord w.word) → AreSpelled ws → AreSpelled (w ∷ ws)
+spelled-more : (w : Shown) (ws : List Shown) → IsPrintable w → ArePrintable ws → ArePrintable (w ∷ ws)
 spelled-more w ws is are zero d within = is
 spelled-more w ws is are (suc k) d within = are k d (omega arith)
 
-one-spelled : (most : ℕ) (text : List ℕ) → IsWord most text → AreSpelled (one text)
-one-spelled most text is = spelled-more (bare text) [] (λ e. is.bare) none-spelled
+one-spelled : (most : ℕ) (text : List ℕ) → IsWord most text → ArePrintable (one text)
+one-spelled most text is = spelled-more (bare text) [] is.bare none-spelled
 
 one-short : (most : ℕ) (text : List ℕ) → IsWord most text → length (spaced_all (one text)) ≤ most + 1
 one-short most text is = let short = is.short in let whole = ap length (append-nil (spaced (bare text))) in omega (arith, whole)
 
-text-spelled : (text : List ℕ) → AreSpelled (as_text text ∷ [])
-text-spelled text = spelled-more (as_text text) [] (λ e. absurd (cc)) none-spelled
+text-spelled : (text : List ℕ) → IsOneLine text → ArePrintable (as_text text ∷ [])
+text-spelled text one = spelled-more (as_text text) [] one none-spelled
 
 text-short : (most : ℕ) (text : List ℕ) → length text ≤ most → length (spaced_all (as_text text ∷ [])) ≤ 2 * most + 3
 text-short most text few = let short = quoted-short text in let whole = ap length (append-nil (spaced (as_text text))) in omega (arith, whole)
@@ -132,7 +133,7 @@ good-flags o inverted a b v at own e =
       owned = own;
       bang = λ e. refl;
       text = ap (read_as value.TcpFlags) (test-back x mask comp);
-      spelled = spelled-more (bare (tcp_flags_text x.mask)) (one (tcp_flags_text x.comp)) (λ e. m.bare) (one-spelled 23 (tcp_flags_text x.comp) c);
+      spelled = spelled-more (bare (tcp_flags_text x.mask)) (one (tcp_flags_text x.comp)) m.bare (one-spelled 23 (tcp_flags_text x.comp) c);
       short = omega (arith, whole, last);
     })
   where
@@ -222,12 +223,12 @@ value_of-good opt.State inverted words v e =
     subst (IsGood opt.State inverted) same (record { place = refl; owned = refl; bang = λ e. refl; text = ap (read_as value.State) (state_reads_back x are plain_set); spelled = one-spelled 60 (states_text x) word; short = one-short 60 (states_text x) word })
 value_of-good opt.Comment inverted words v e =
     let (x, is, same) = text-given 256 value.Comment (first_of words) v e in
-    let (few, read) = text-valid 256 _ x is in
-    subst (IsGood opt.Comment inverted) same (record { place = refl; owned = refl; bang = λ e. e; text = ap (text_as value.Comment) (text-within 256 x few read); spelled = text-spelled x; short = text-short 256 x few })
+    let (few, read, one) = text-valid 256 _ x is in
+    subst (IsGood opt.Comment inverted) same (record { place = refl; owned = refl; bang = λ e. e; text = ap (text_as value.Comment) (text-within 256 x few read); spelled = text-spelled x one; short = text-short 256 x few })
 value_of-good opt.LogPrefix inverted words v e =
     let (x, is, same) = text-given 29 value.LogPrefix (first_of words) v e in
-    let (few, read) = text-valid 29 _ x is in
-    subst (IsGood opt.LogPrefix inverted) same (record { place = refl; owned = refl; bang = λ e. e; text = ap (text_as value.LogPrefix) (text-within 29 x few read); spelled = text-spelled x; short = text-short 29 x few })
+    let (few, read, one) = text-valid 29 _ x is in
+    subst (IsGood opt.LogPrefix inverted) same (record { place = refl; owned = refl; bang = λ e. e; text = ap (text_as value.LogPrefix) (text-within 29 x few read); spelled = text-spelled x one; short = text-short 29 x few })
 value_of-good opt.RejectWith inverted words v e =
     let (x, is, same) = given refusal.BadValue value.RejectWith (reject_of (first_of words)) v e in
     let word = reject-word x in

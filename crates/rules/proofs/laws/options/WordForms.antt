@@ -24,6 +24,8 @@ use Rattle.fields.specs.text.Number.{number_to}
 use Rattle.fields.specs.values.PortList.{IsPortList, port_count, port_list_text}
 use Rattle.fields.specs.values.PortRange.{Ports, ArePorts, ports_between, port_of, port_or, range_parted, port_range_of, ports_text}
 use Rattle.fields.specs.values.Prefix.{Network, IsNetwork, IsPrefixText, alone, with_length, with_mask, block_size, network, address_of, prefix_of, address_text, prefix_text}
+use Rattle.fields.specs.text.OneLine.{IsOneLine, is_one_line}
+use Rattle.fields.proofs.laws.text.OneLineLaws.{one_line_is}
 use Rattle.fields.specs.text.Printed.{IsBareWord}
 use Rattle.fields.specs.values.Protocol.{protocols, number_in, protocol_number, protocol_name, one_protocol_of, protocol_of, named_or_decimal, protocol_text}
 use Rattle.fields.specs.values.RejectType.{reject_text}
@@ -334,15 +336,16 @@ level-word level.Info = digit 6 (omega arith)
 level-word level.Debug = digit 7 (omega arith)
 
 -- texts
-pub text-valid : (most : ℕ) (text x : List ℕ) → text_of most text ≡ Some x → (length x ≤ most) × (text_of most x ≡ Some x)
+pub text-valid : (most : ℕ) (text x : List ℕ) → text_of most text ≡ Some x → (length x ≤ most) × (text_of most x ≡ Some x) × IsOneLine x
 unfolding text_of
-text-valid most text x e = go (nat_le (length text) most) refl e
+text-valid most text x e = go (nat_le (length text) most && is_one_line text) refl e
   where
-    go : (t : Bool) → nat_le (length text) most ≡ t → cond t (Some text) None ≡ Some x → (length x ≤ most) × (text_of most x ≡ Some x)
+    go : (t : Bool) → (nat_le (length text) most && is_one_line text) ≡ t → cond t (Some text) None ≡ Some x → (length x ≤ most) × (text_of most x ≡ Some x) × IsOneLine x
+    go false off h = absurd (cc)
     go true on h =
         let same = same_some text x h in
-        subst (λ y. (length y ≤ most) × (text_of most y ≡ Some y)) same (leb-true (length text) most on, ap (λ t. cond t (Some text) None) on)
-    go false off h = absurd (cc)
+        let (few, one) = and_parts (nat_le (length text) most) (is_one_line text) on in
+        subst (λ y. (length y ≤ most) × (text_of most y ≡ Some y) × IsOneLine y) same (leb-true (length text) most few, ap (λ t. cond t (Some text) None) on, one_line_is text one)
 
 escaped-short : (text : List ℕ) → length (flat_map escaped text) ≤ 2 * length text
 escaped-short [] = omega arith

@@ -7,7 +7,7 @@ use Rattle.std.proofs.lemmas.Bool.{and_parts, leb-true, ltb-true}
 use Rattle.std.proofs.lemmas.Grind.{flat_map-append}
 use Rattle.std.proofs.lemmas.List.Elements.{All-append}
 use Rattle.fields.specs.text.Words.{is_bare, words_of}
-use Rattle.fields.specs.text.Printed.{Shown, bare, spaced, spaced_all, IsBareWord, AreSpelled}
+use Rattle.fields.specs.text.Printed.{Shown, bare, spaced, spaced_all, IsBareWord, IsPrintable, ArePrintable}
 use Rattle.fields.proofs.laws.values.BareLaws.{some-bytes, is_bare_word}
 use Rattle.fields.proofs.laws.text.PrintedLaws.{words_of-spaced_all}
 use Rattle.rules.specs.options.Matches.{kind_name}
@@ -33,15 +33,15 @@ false-true : {A : Type 0} → false ≡ true → A
 false-true h = absurd (cc)
 
 -- words that are spelled
-no-words : AreSpelled []
+no-words : ArePrintable []
 no-words k d within = absurd (omega arith)
 
-word-more : (w : Shown) (ws : List Shown) → (w.text ≡ false → IsBareWord w.word) → AreSpelled ws → AreSpelled (w ∷ ws)
+word-more : (w : Shown) (ws : List Shown) → IsPrintable w → ArePrintable ws → ArePrintable (w ∷ ws)
 word-more w ws is are zero d within = is
 word-more w ws is are (suc k) d within = are k d (omega arith)
 
-words-more : (xs ys : List Shown) → AreSpelled xs → AreSpelled ys → AreSpelled (xs ++ ys)
-words-more xs ys a b = All-append (λ (w : Shown). w.text ≡ false → IsBareWord w.word) xs ys a b
+words-more : (xs ys : List Shown) → ArePrintable xs → ArePrintable ys → ArePrintable (xs ++ ys)
+words-more xs ys a b = All-append IsPrintable xs ys a b
 
 bare-from : (text : List ℕ) → is_bare_word text ≡ true → IsBareWord text
 bare-from text is =
@@ -54,29 +54,29 @@ name-bare o = bare-from (name_of o) (each_option (λ o. is_bare_word (name_of o)
 kind-bare : (k : MatchKind) → IsBareWord (kind_name k)
 kind-bare k = bare-from (kind_name k) (each_kind (λ k. is_bare_word (kind_name k)) refl k)
 
-setting-spelled : (s : Setting) → ReadsBack s → AreSpelled (shown_setting s)
+setting-spelled : (s : Setting) → ReadsBack s → ArePrintable (shown_setting s)
 setting-spelled s back = words-more (shown_bang s.inverted) (bare (name_of (option_of_value s.value)) ∷ shown_value s.value) (bang s.inverted)
-    (word-more (bare (name_of (option_of_value s.value))) (shown_value s.value) (λ e. name-bare (option_of_value s.value)) back.spelled)
+    (word-more (bare (name_of (option_of_value s.value))) (shown_value s.value) (name-bare (option_of_value s.value)) back.spelled)
   where
-    bang : (b : Bool) → AreSpelled (shown_bang b)
-    bang true = word-more (bare (codes "!")) [] (λ e. bare-from (codes "!") refl) no-words
+    bang : (b : Bool) → ArePrintable (shown_bang b)
+    bang true = word-more (bare (codes "!")) [] (bare-from (codes "!") refl) no-words
     bang false = no-words
 
-settings-spelled : (ss : List Setting) → Each ReadsBack ss → AreSpelled (shown_settings ss)
+settings-spelled : (ss : List Setting) → Each ReadsBack ss → ArePrintable (shown_settings ss)
 settings-spelled [] back = no-words
 settings-spelled (s ∷ ss) back = words-more (shown_setting s) (shown_settings ss) (setting-spelled s back.0) (settings-spelled ss back.1)
 
-matches-spelled : (ms : List Match) → Each IsMatch ms → AreSpelled (flat_map shown_match ms)
+matches-spelled : (ms : List Match) → Each IsMatch ms → ArePrintable (flat_map shown_match ms)
 matches-spelled [] are = no-words
 matches-spelled (m ∷ ms) are =
     words-more (shown_match m) (flat_map shown_match ms)
-    (word-more (bare (codes "-m")) (bare (kind_name m.kind) ∷ shown_settings m.settings) (λ e. bare-from (codes "-m") refl) (word-more (bare (kind_name m.kind)) (shown_settings m.settings) (λ e. kind-bare m.kind) (settings-spelled m.settings are.0.back)))
+    (word-more (bare (codes "-m")) (bare (kind_name m.kind) ∷ shown_settings m.settings) (bare-from (codes "-m") refl) (word-more (bare (kind_name m.kind)) (shown_settings m.settings) (kind-bare m.kind) (settings-spelled m.settings are.0.back)))
     (matches-spelled ms are.1)
 
-two-words : (a b : List ℕ) → IsBareWord a → IsBareWord b → AreSpelled (bare a ∷ one b)
-two-words a b is are = word-more (bare a) (one b) (λ e. is) (word-more (bare b) [] (λ e. are) no-words)
+two-words : (a b : List ℕ) → IsBareWord a → IsBareWord b → ArePrintable (bare a ∷ one b)
+two-words a b is are = word-more (bare a) (one b) is (word-more (bare b) [] are no-words)
 
-action-spelled : (g : Option Action) → ActionBack g → AreSpelled (shown_action g)
+action-spelled : (g : Option Action) → ActionBack g → ArePrintable (shown_action g)
 action-spelled None back = no-words
 action-spelled (Some action.Accept) back = two-words (codes "-j") (codes "ACCEPT") (bare-from (codes "-j") refl) (bare-from (codes "ACCEPT") refl)
 action-spelled (Some action.Drop) back = two-words (codes "-j") (codes "DROP") (bare-from (codes "-j") refl) (bare-from (codes "DROP") refl)
@@ -87,7 +87,7 @@ action-spelled (Some (action.Jump name)) back = two-words (codes "-j") name (bar
 action-spelled (Some (action.Goto name)) back = two-words (codes "-g") name (bare-from (codes "-g") refl) (name-word name back).bare
 
 -- the words of a readable rule are spelled
-pub rule-spelled : (r : Rule) → IsLegal r → AreSpelled (shown_rule r)
+pub rule-spelled : (r : Rule) → IsLegal r → ArePrintable (shown_rule r)
 rule-spelled r has =
     words-more (shown_settings r.settings) (flat_map shown_match r.matches ++ (shown_action r.action ++ shown_settings r.target_options)) (settings-spelled r.settings has.settings.back)
     (words-more (flat_map shown_match r.matches) (shown_action r.action ++ shown_settings r.target_options) (matches-spelled r.matches has.matches)

@@ -2,7 +2,7 @@
 use Prim.Native.Nat.{suc}
 use Rattle.std.specs.Prelude.{◌≡◌, ℕ, ◌≤◌, true, List, [], ◌∷◌, length, map, Option, Some, None, Ok}
 use Rattle.fields.specs.values.Name.{name_of}
-use Rattle.fields.specs.text.Printed.{Shown, AreSpelled, spaced_all}
+use Rattle.fields.specs.text.Printed.{Shown, ArePrintable, spaced_all}
 use Rattle.rules.specs.rule.Actions.{is_action_of}
 use Rattle.rules.specs.options.Options.{may_be_inverted, owner, is_match_of}
 use Rattle.rules.specs.options.Settings.{option_of_value, slot_of, value_of}
@@ -44,7 +44,7 @@ value_room o = 0
 pub record ReadsBack (s : Setting) : Type 0 where
   pub text : value_of (option_of_value s.value) s.inverted (map (λ (w : Shown). w.word) (shown_value s.value)) ≡ Ok s.value
   pub bang : s.inverted ≡ true → may_be_inverted (option_of_value s.value) ≡ true
-  pub spelled : AreSpelled (shown_value s.value)
+  pub spelled : ArePrintable (shown_value s.value)
   pub short : length (spaced_all (shown_value s.value)) ≤ value_room (option_of_value s.value)
 
 -- each has the property
