@@ -1,6 +1,7 @@
 //! How a rule is written.
 ghost use Rattle.std.specs.Prelude.{◌≡◌, ◌∷◌, [], ◌++◌, false, nat_lt, flat_map};
 ghost use Rattle.fields.specs.text.Printed.{spaced, bare, spaced_all};
+ghost use Rattle.fields.specs.text.OneLine.{IsOneLine};
 ghost use Rattle.fields.specs.text.Tap.{has_failed, Puts};
 ghost use Rattle.rules.specs.options.Options.{name_of};
 ghost use Rattle.rules.specs.options.Settings.{option_of_value};
@@ -194,6 +195,7 @@ pub fn write_rule<W: Write>(rule: &Rule, output: &mut Tap<W>) -> Result<(), Writ
     ensures readable { IsReadable rule.now }
     ensures reads_back { TextReadsBack rule.now }
     ensures only { IsOnlyOne rule.now }
+    ensures one_line { IsOneLine (rule_text rule.now) }
     ensures short { HasShortLine rule.now }
 {
     let content = rule.content();

@@ -1,7 +1,9 @@
 -- Every rule that was read has a text that reads back.
 use Rattle.std.proofs.Common.{◌≡◌, ℕ, List, ◌++◌, length, Option, Some, refl, sym, ap, ◌∙◌, arith, length-append}
 use Rattle.std.specs.Prelude.{Result, Ok, codes}
+use Rattle.fields.specs.text.OneLine.{IsOneLine}
 use Rattle.fields.specs.text.Words.{words_of}
+use Rattle.fields.proofs.laws.text.OneLineLaws.{found_line}
 use Rattle.rules.specs.rule.Rules.{Rule}
 use Rattle.rules.specs.printing.Printing.{shown_rule, rule_text}
 use Rattle.rules.specs.printing.RoundTrip.{ReadsItself, TextReadsBack, HasShortLine, IsOnlyOne}
@@ -55,5 +57,9 @@ is_only_one r is other (words, cut, reads) same =
 pub same_text : (r s : Rule) → ReadsItself r → ReadsItself s → rule_text r ≡ rule_text s → r ≡ s
 same_text r s first second same = is_only_one s second r (text_reads_back r first) same
 
+-- the text of a rule has no newline
+pub text_in_line : (r : Rule) → ReadsItself r → IsOneLine (rule_text r)
+text_in_line r is = found_line (plain (shown_rule r)) (rule_text r) (words-of-text r (readable r is).parts)
+
 -- what the text of a rule is
-pub ruleset listing_laws = (text_reads_back, is_only_one, line_is_short)
+pub ruleset listing_laws = (text_reads_back, is_only_one, line_is_short, text_in_line)
