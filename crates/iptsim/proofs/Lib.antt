@@ -1,4 +1,4 @@
-pub mod Reached
+pub mod LinesRead
 pub mod WalkLaws
 pub mod ServeLaws
 pub mod HeadlineLaws

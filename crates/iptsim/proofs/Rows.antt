@@ -22,19 +22,19 @@ lists_nothing : listing empty_table ≡ codes "*filter\n:INPUT ACCEPT [0:0]\n:FO
 lists_nothing = refl
 
 -- a rule that is appended and listed, its bits past the length cleared
-lists_one : (session empty_table (codes "iptables -A INPUT -s 10.1.2.3/8 -j ACCEPT\niptables-save\n") []).told
+lists_one : (session empty_table (codes "iptables -A INPUT -s 10.1.2.3/8 -j ACCEPT\niptables-save\n") []).replies
     ≡ codes "*filter\n:INPUT ACCEPT [0:0]\n:FORWARD ACCEPT [0:0]\n:OUTPUT ACCEPT [0:0]\n-A INPUT -s 10.0.0.0/8 -j ACCEPT\nCOMMIT\n"
 unfolding digits request_on request_of command_of prefix_of length_of address_of number_to number_of
 lists_one = refl
 
 -- packets, by the first rule that matches, and by the policy
-asks : (session empty_table (codes "iptables -A INPUT -s 10.1.2.3/8 -j ACCEPT\niptables -A INPUT -j DROP\npacket INPUT src=10.9.9.9 dst=2.2.2.2 proto=47\npacket INPUT src=11.0.0.1 dst=2.2.2.2 proto=47\npacket OUTPUT src=11.0.0.1 dst=2.2.2.2 proto=47") []).told
+asks : (session empty_table (codes "iptables -A INPUT -s 10.1.2.3/8 -j ACCEPT\niptables -A INPUT -j DROP\npacket INPUT src=10.9.9.9 dst=2.2.2.2 proto=47\npacket INPUT src=11.0.0.1 dst=2.2.2.2 proto=47\npacket OUTPUT src=11.0.0.1 dst=2.2.2.2 proto=47") []).replies
     ≡ codes "INPUT 1\nverdict ACCEPT by rule\nINPUT 2\nverdict DROP by rule\nverdict ACCEPT by policy\n"
 unfolding digits request_on request_of command_of prefix_of length_of address_of one_protocol_of protocol_number number_to number_of walk_within
 asks = refl
 
 -- the status is that of the first fault, and a marked line changes nothing
-faults : (session empty_table (codes "iptables -Z\niptables-save \"\niptables -A INPUT -j DROP\niptables-save x") (false ∷ false ∷ true ∷ [])).told
+faults : (session empty_table (codes "iptables -Z\niptables-save \"\niptables -A INPUT -j DROP\niptables-save x") (false ∷ false ∷ true ∷ [])).replies
     ≡ codes "line 1: S1 unknown line\nline 2: R5 bad quoting\nline 3: M0 no memory\nline 4: C3 wrong number of words\n"
 unfolding digits request_on request_of command_of prefix_of length_of address_of number_to number_of
 faults = refl

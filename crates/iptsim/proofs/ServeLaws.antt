@@ -4,7 +4,7 @@ use Rattle.fields.specs.text.Words.{words_of}
 use Rattle.iptsim.specs.Table.{Filter, Command}
 use Rattle.iptsim.specs.Request.{Request, Nothing, Edit, is_quiet, read_words, request_on}
 use Rattle.iptsim.specs.Session.{fails, serve, turn}
-use Rattle.iptsim.specs.Held.{ReadsRequest, IsServed, turn_of}
+use Rattle.iptsim.specs.Views.{ReadsRequest, IsServed, turn_of}
 use Rattle.iptsim.specs.declared.request.Request.{Request as Read}
 use Rattle.iptsim.specs.declared.serve.Answer.{Answer}
 use Rattle.iptsim.specs.declared.fault.Fault.{Fault}

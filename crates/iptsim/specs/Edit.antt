@@ -11,7 +11,7 @@ Appends old rule new (Ok _) = (length old.rules < 8192) × (new ≡ appended old
 Appends old rule new (Err fault.ChainFull) = (8192 ≤ length old.rules) × (new ≡ old)
 Appends old rule new (Err fault.NoMemory) = (length old.rules < 8192) × (new ≡ old)
 
--- the table: the step of the command, or its refusal, which changes nothing; want of memory is told last
+-- the table: the step of the command, or its refusal, which changes nothing; out of memory is reported last
 abbrev pub Edits : Command → Filter → Filter → Result (Unit {0}) TableFault → Type 0
 Edits command old new (Ok _) = step command old ≡ Ok new
 Edits command old new (Err fault.ChainFull) = (step command old ≡ Err fault.ChainFull) × (new ≡ old)

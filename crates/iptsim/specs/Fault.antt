@@ -17,7 +17,7 @@ fault_text fault.BadQuoting = codes "R5 bad quoting"
 fault_text fault.LineTooLong = codes "R6 line too long"
 fault_text fault.NoMemory = codes "M0 no memory"
 
--- 2 for what can't be read, 1 for what the table or a restore refuses, 4 for want of memory
+-- 2 for what can't be read, 1 for what the table or a restore refuses, 4 for out of memory
 abbrev pub fault_status : Fault → ℕ
 fault_status fault.ChainFull = 1
 fault_status fault.BadQuoting = 1
@@ -25,6 +25,6 @@ fault_status fault.LineTooLong = 1
 fault_status fault.NoMemory = 4
 fault_status _ = 2
 
--- the line that tells a fault of line n
+-- the line that reports a fault of line n
 abbrev pub fault_line : ℕ → Fault → List ℕ
 fault_line n f = codes "line " ++ (decimal n ++ (codes ": " ++ (fault_text f ++ 10 ∷ [])))

@@ -8,5 +8,5 @@ pub mod Session
 pub mod Headline
 pub mod Edit
 pub mod Outcome
-pub mod Held
+pub mod Views
 pub mod Run

@@ -1,4 +1,4 @@
--- What a line asks: its kind by its first word, and then the reading of the words behind it.
+-- What a line asks: its kind by its first word, and then the reading of the words after it.
 use Rattle.std.specs.Prelude.{ℕ, Bool, ◌&&◌, ◌==◌, nat_lt, not, List, [], length, drop, slice_get, unwrap_or, false, Option, Some, None, Result, Ok, Err, true, codes, find, if◌then◌else◌}
 use Rattle.std.specs.Str.{bytes_eq}
 use Rattle.fields.specs.declared.packet.hook.Hook.TheVariants as hook

@@ -56,7 +56,7 @@ pub record State : Type 0 where
   pub table : Filter
   pub number : ℕ
   pub status : ℕ
-  pub told : List ℕ
+  pub replies : List ℕ
 
 abbrev pub reply_text : ℕ → Reply → List ℕ
 reply_text n (Says text) = text
@@ -72,13 +72,13 @@ step s line = let t = turn s.table line.text line.refused in record {
   table = t.table;
   number = s.number + 1;
   status = status_after s.status t.reply;
-  told = s.told ++ reply_text (s.number + 1) t.reply;
+  replies = s.replies ++ reply_text (s.number + 1) t.reply;
 }
 
 abbrev pub start : Filter → State
-start t = record { table = t; number = 0; status = 0; told = [] }
+start t = record { table = t; number = 0; status = 0; replies = [] }
 
--- the end of the input tells nothing
+-- nothing is written at the end of the input
 abbrev pub finish : State → State
 finish s = s
 

@@ -21,7 +21,7 @@ pub record Entry : Type 0 where
   pub chain : List ℕ
   pub number : ℕ
 
--- a rule that matched: its place, its target, and what is left behind it
+-- a rule that matched: its place, its target, and what is left after it
 pub record Hit : Type 0 where
   pub entry : Entry
   pub target : Target
@@ -55,7 +55,7 @@ pub data Next : Type 0 where
   Ends : Verdict → Next
   GoesOn : List Rest → Next
 
--- the rests are those behind the match, the present chain's first
+-- the rests are those after the match, the present chain's first
 abbrev pub after_match : List Named → Target → List Rest → Next
 after_match chains target.Accept rests = Ends verdict.Accept
 after_match chains target.Drop rests = Ends verdict.Drop

@@ -45,7 +45,7 @@ impl ProgramFault {
     }
 }
 
-// Whether the words behind the program's name are `session` alone.
+// Whether the words after the program's name are `session` alone.
 fn is_session<R: Env + Alloc>(rt: &R) -> io::Result<bool> {
     let mut words = env::args(rt)?;
     let _name = words.next();

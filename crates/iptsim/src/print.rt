@@ -7,7 +7,7 @@ ghost use Rattle.iptsim.specs.Rule.{source_text};
 ghost use Rattle.iptsim.specs.Table.{named, chain_of, chains_of};
 ghost use Rattle.iptsim.specs.Listing.{chain_line, rule_line, rule_lines, verdict_line, verdict_text, listing};
 ghost use Rattle.iptsim.specs.Fault.{fault_line};
-ghost use Rattle.iptsim.specs.Held.{trail_text, cause, outcome_text};
+ghost use Rattle.iptsim.specs.Views.{trail_text, cause, outcome_text};
 
 use crate::fault::Fault;
 use crate::rule::Rule;
@@ -157,7 +157,7 @@ pub fn put_outcome<W: Write>(
     put_verdict(output, outcome)
 }
 
-/// Writes the line that tells a fault of a line, whose number is counted from 1. It takes no memory.
+/// Writes the line that reports a fault of a line, whose number is counted from 1. It takes no memory.
 pub fn put_fault<W: Write>(
     output: &mut Tap<W>,
     number: u64,

@@ -3,7 +3,7 @@ ghost use Rattle.std.specs.Prelude.{◌≡◌, ◌<◌, ◌≤◌, ℕ, List, le
 ghost use Rattle.fields.specs.text.Line.{IsHeld};
 ghost use Rattle.fields.specs.packet.Packet.{packet_of};
 ghost use Rattle.iptsim.specs.Request.{is_quiet, target_of, word_at, has_word, with_target, with_source, command_of, packet_fault, asked, request_of, request_on};
-ghost use Rattle.iptsim.specs.Held.{request_view, request_view_of, ReadsRequest};
+ghost use Rattle.iptsim.specs.Views.{request_view, request_view_of, ReadsRequest};
 
 use crate::fault::Fault;
 use crate::rule::{Rule, Target};
@@ -76,7 +76,7 @@ fn with_source(address: Option<Prefix>, target: Option<Target>) -> Result<Reques
     }
 }
 
-// The words behind `iptables`.
+// The words after `iptables`.
 #[tactic(auto, unfolding(crate::specs::Request::command_of))]
 fn command_of(words: &Words) -> Result<Request, Fault>
     ensures { request_view_of result ≡ command_of words.now }
@@ -104,7 +104,7 @@ fn packet_fault(fault: PacketFault) -> Fault
     }
 }
 
-// The words behind `packet`.
+// The words after `packet`.
 fn packet_of(words: &Words) -> Result<Request, Fault>
     requires { 1 ≤ length words.now }
     ensures { request_view_of result ≡ asked (packet_of (drop 1 words.now)) }

@@ -2,7 +2,7 @@
 ghost use Rattle.std.specs.Prelude.{◌≡◌, ◌≤◌, ℕ, List, Bool, length};
 ghost use Rattle.fields.specs.text.Line.{IsHeld};
 ghost use Rattle.iptsim.specs.Session.{turn, table_fault};
-ghost use Rattle.iptsim.specs.Held.{IsServed, turn_of};
+ghost use Rattle.iptsim.specs.Views.{IsServed, turn_of};
 
 use crate::chain::TableFault;
 use crate::fault::Fault;

@@ -3,7 +3,7 @@ ghost use Rattle.std.specs.Prelude.{◌≡◌, ◌+◌, ◌^◌, ◌<◌, ◌≤
 ghost use Rattle.fields.specs.text.Tap.{has_failed, known, Puts};
 ghost use Rattle.fields.specs.text.Line.{IsHeld, EndsAt};
 ghost use Rattle.iptsim.specs.Session.{status_after, reply_text, step, start, finish, session};
-ghost use Rattle.iptsim.specs.Held.{reply_of};
+ghost use Rattle.iptsim.specs.Views.{reply_of};
 
 use crate::fault::Fault;
 use crate::print::{put_fault, put_listing, put_outcome};

@@ -2,7 +2,7 @@ use Rattle.std.proofs.Common.{Ok, refl, rules, arith}
 use Rattle.fields.proofs.laws.text.PutLaws.{wrote-nothing}
 use Rattle.fields.proofs.laws.text.PartLaws.{EndsAt-later}
 use Rattle.iptsim.specs.Session.{step, start, finish}
-use Rattle.iptsim.proofs.Reached.{reached-nothing, reached-more, runs-read_failed, passed-nothing, passed-last, runs-ended, runs-write_failed, runs-last_failed, whole-of}
+use Rattle.iptsim.proofs.LinesRead.{reached-nothing, reached-more, runs-read_failed, passed-nothing, passed-last, runs-ended, runs-write_failed, runs-last_failed, whole-of}
 use Rattle.iptsim.proofs.session.Session.run.Goals as goal
 
 pub lines-init : goal.lines-init

@@ -2,7 +2,7 @@ use Rattle.std.proofs.Common.{◌≡◌, ◌+◌, ◌≤◌, false}
 use Rattle.fields.specs.text.Tap.{has_failed, turns_left}
 use Rattle.iptsim.specs.Session.{step, start}
 use Rattle.iptsim.specs.Run.{table_of}
-use Rattle.iptsim.proofs.Reached.{Reached}
+use Rattle.iptsim.proofs.LinesRead.{Reached}
 use Rattle.iptsim.proofs.session.Session.run.Given as goal
 
 abbrev pub invariant-lines : goal.invariant-lines

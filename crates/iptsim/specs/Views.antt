@@ -52,7 +52,7 @@ reply_of t (Err f) = Fails f
 abbrev pub turn_of : Filter → Result Answer Fault → Turn
 turn_of t r = record { table = t; reply = reply_of t r }
 
--- what the definition says of a request is what came of it, or an edit was refused for want of memory
+-- what the definition says of a request is what came of it, or an edit was refused memory
 abbrev pub IsServed : Filter → Request → Filter → Result Answer Fault → Type 0
 IsServed old r new answer =
     (serve old (Ok (request_view r)) ≡ turn_of new answer)

@@ -29,30 +29,30 @@ marked-back (l ∷ ls) = ap (λ rest. l ∷ rest) (marked-back ls)
 
 -- the state with these parts
 abbrev pub at : Filter → ℕ → ℕ → List ℕ → State
-at table number status told = record { table = table; number = number; status = status; told = told }
+at table number status replies = record { table = table; number = number; status = status; replies = replies }
 
 -- Lines were read whole and served, from the state from, each by one.
 pub record Reached {R W : Type 0} (remaining : R → Option (List ℕ)) (contents : W → Option (List ℕ)) (one : State → Line → State) (from : State)
     (input : Tap R) (output : Tap W) (table : Filter) (number status : ℕ) (input' : Tap R) (output' : Tap W) : Type 0 where
   pub bytes : List ℕ
   pub lines : List Line
-  pub told : List ℕ
+  pub replies : List ℕ
   pub taken : Consumes (known remaining input) (known remaining input') bytes
   pub whole : (rest : List ℕ) → lines_of (bytes ++ rest) ≡ texts lines ++ lines_of rest
   pub ended : (rest : List ℕ) → ended_lines (bytes ++ rest) ≡ texts lines ++ ended_lines rest
-  pub state : fold one from lines ≡ at table number status told
-  pub wrote : Wrote contents output output' told
+  pub state : fold one from lines ≡ at table number status replies
+  pub wrote : Wrote contents output output' replies
 
 -- All lines that were read were served.
 pub record Passed {R W : Type 0} (remaining : R → Option (List ℕ)) (contents : W → Option (List ℕ)) (one : State → Line → State) (from : State)
     (input : Tap R) (output : Tap W) (table : Filter) (number status : ℕ) (input' : Tap R) (output' : Tap W) : Type 0 where
   pub bytes : List ℕ
   pub lines : List Line
-  pub told : List ℕ
+  pub replies : List ℕ
   pub taken : Consumes (known remaining input) (known remaining input') bytes
   pub whole : lines_of bytes ≡ texts lines
-  pub state : fold one from lines ≡ at table number status told
-  pub wrote : Wrote contents output output' told
+  pub state : fold one from lines ≡ at table number status replies
+  pub wrote : Wrote contents output output' replies
 
 -- one line more
 abbrev more : List Line → List ℕ → Bool → List Line
@@ -81,8 +81,8 @@ module _ (read : List ℕ → List (List ℕ)) where
       ∙ sym (append_assoc (texts lines) (text ∷ []) (read rest)) ∙ ap (λ ls. ls ++ read rest) (sym (texts-more lines text refused))
 
 -- a beginning of what one text adds to another
-cut-in : (told reply whole part : List ℕ) → whole ≡ told ++ reply → IsBeginning part reply → IsBeginning (told ++ part) whole
-cut-in told reply whole part is begins = (begins.0, is ∙ ap (λ r. told ++ r) begins.1 ∙ sym (append_assoc told part begins.0))
+cut-in : (replies reply whole part : List ℕ) → whole ≡ replies ++ reply → IsBeginning part reply → IsBeginning (replies ++ part) whole
+cut-in replies reply whole part is begins = (begins.0, is ∙ ap (λ r. replies ++ r) begins.1 ∙ sym (append_assoc replies part begins.0))
 
 -- lines with their own marks
 marked-of : (found : List (List ℕ)) (lines : List Line) → found ≡ texts lines → marked found (marks_of lines) ≡ lines
@@ -94,15 +94,15 @@ module _ (one : State → Line → State) (from : State) where
 
   module _ (close : State → State) where
     ran-read_failed : (bytes : List ℕ) (lines : List Line) (s : State) → ended_lines bytes ≡ texts lines → fold one from lines ≡ s
-        → Ran one from close bytes (Err faults.ReadFailed) s.told s.table
+        → Ran one from close bytes (Err faults.ReadFailed) s.replies s.table
     ran-read_failed bytes lines s is state =
         let e = play-of (ended_lines bytes) lines is ∙ state in
-        (marks_of lines, (ap (λ (x : State). x.told) (sym e), ap (λ (x : State). x.table) (sym e)))
+        (marks_of lines, (ap (λ (x : State). x.replies) (sym e), ap (λ (x : State). x.table) (sym e)))
 
     ran-write_failed : (bytes : List ℕ) (lines : List Line) (text : List ℕ) (refused : Bool) (s s' : State) (reply part : List ℕ)
         → lines_of bytes ≡ texts (more lines text refused) → fold one from lines ≡ s → fold one from (more lines text refused) ≡ s'
-        → s'.told ≡ s.told ++ reply → IsBeginning part reply → Ran one from close bytes (Err faults.WriteFailed) (s.told ++ part) s'.table
-    ran-write_failed bytes lines text refused s s' reply part is state state' told begins =
+        → s'.replies ≡ s.replies ++ reply → IsBeginning part reply → Ran one from close bytes (Err faults.WriteFailed) (s.replies ++ part) s'.table
+    ran-write_failed bytes lines text refused s s' reply part is state state' replies begins =
         let l : Line = record { text = text; refused = refused } in
         let all = more lines text refused in
         let e = play-of (lines_of bytes) all is ∙ state' in (
@@ -111,19 +111,19 @@ module _ (one : State → Line → State) (from : State) where
             lines,
             l,
             marked-of (lines_of bytes) all is,
-            (part, ap (λ (x : State). x.told ++ part) (sym state)),
-            cut-in s.told reply _ part (ap (λ (x : State). x.told) e ∙ told) begins,
+            (part, ap (λ (x : State). x.replies ++ part) (sym state)),
+            cut-in s.replies reply _ part (ap (λ (x : State). x.replies) e ∙ replies) begins,
           ),
           ap (λ (x : State). x.table) (sym e),
         )
 
     ran-end_failed : (bytes : List ℕ) (lines : List Line) (s : State) (reply part : List ℕ)
-        → lines_of bytes ≡ texts lines → fold one from lines ≡ s → (close s).told ≡ s.told ++ reply → IsBeginning part reply
-        → Ran one from close bytes (Err faults.WriteFailed) (s.told ++ part) s.table
+        → lines_of bytes ≡ texts lines → fold one from lines ≡ s → (close s).replies ≡ s.replies ++ reply → IsBeginning part reply
+        → Ran one from close bytes (Err faults.WriteFailed) (s.replies ++ part) s.table
     ran-end_failed bytes lines s reply part is state closed begins =
         let e = play-of (lines_of bytes) lines is ∙ state in (
           marks_of lines,
-          inr ((part, ap (λ (x : State). x.told ++ part) (sym e)), cut-in s.told reply _ part (ap (λ (x : State). (close x).told) e ∙ closed) begins),
+          inr ((part, ap (λ (x : State). x.replies ++ part) (sym e)), cut-in s.replies reply _ part (ap (λ (x : State). (close x).replies) e ∙ closed) begins),
           ap (λ (x : State). x.table) (sym e),
         )
 
@@ -132,7 +132,7 @@ module _ {R W : Type 0} {remaining : R → Option (List ℕ)} {contents : W → 
   pub reached-nothing : (input : Tap R) (output : Tap W) (table : Filter) → from ≡ at table 0 0 [] → Wrote contents output output []
       → Reached remaining contents one from input output table 0 0 input output
   reached-nothing input output table begins wrote =
-      record { bytes = []; lines = []; told = []; taken = Consumes-nil (known remaining input); whole = λ rest. refl; ended = λ rest. refl; state = begins; wrote = wrote }
+      record { bytes = []; lines = []; replies = []; taken = Consumes-nil (known remaining input); whole = λ rest. refl; ended = λ rest. refl; state = begins; wrote = wrote }
 
   -- what was reached may be the end
   pub passed-so_far : {input : Tap R} {output : Tap W} {table : Filter} {number status : ℕ} {input' : Tap R} {output' : Tap W}
@@ -140,40 +140,40 @@ module _ {R W : Type 0} {remaining : R → Option (List ℕ)} {contents : W → 
   passed-so_far r = record {
     bytes = r.bytes;
     lines = r.lines;
-    told = r.told;
+    replies = r.replies;
     taken = r.taken;
     whole = ap lines_of (sym (append-nil r.bytes)) ∙ r.whole [] ∙ append-nil (texts r.lines);
     state = r.state;
     wrote = r.wrote;
   }
 
-  -- the end was told, or the writer failed there
+  -- the end was replies, or the writer failed there
   pub runs-passed : {input : Tap R} {output : Tap W} {table : Filter} {number status : ℕ} {input' : Tap R} {output' : Tap W} (close : State → State)
       → Passed remaining contents one from input output table number status input' output' → (answer : ℕ) (reply : List ℕ)
-      → ((told : List ℕ) → close (at table number status told) ≡ at table number answer (told ++ reply)) → (output'' : Tap W) (r : Result ℕ RunFault)
+      → ((replies : List ℕ) → close (at table number status replies) ≡ at table number answer (replies ++ reply)) → (output'' : Tap W) (r : Result ℕ RunFault)
       → Finishes contents answer reply output' output'' r → Runs remaining contents one from close input output r table input' output''
   runs-passed {output = output} {table = table} {output' = output'} close p answer reply closed output'' (Ok given) (is, wrote) =
-      let e = ap close (play-of one from (lines_of p.bytes) p.lines p.whole ∙ p.state) ∙ closed p.told in (
+      let e = ap close (play-of one from (lines_of p.bytes) p.lines p.whole ∙ p.state) ∙ closed p.replies in (
         p.bytes,
-        p.told ++ reply,
+        p.replies ++ reply,
         p.taken,
-        Appends-trans (known contents output) (known contents output') (known contents output'') p.told reply p.wrote.appends wrote.appends,
-        (marks_of p.lines, (ap (λ (x : State). x.told) (sym e), is ∙ ap (λ (x : State). x.status) (sym e), ap (λ (x : State). x.table) (sym e))),
+        Appends-trans (known contents output) (known contents output') (known contents output'') p.replies reply p.wrote.appends wrote.appends,
+        (marks_of p.lines, (ap (λ (x : State). x.replies) (sym e), is ∙ ap (λ (x : State). x.status) (sym e), ap (λ (x : State). x.table) (sym e))),
       )
   runs-passed {output = output} {table = table} {output' = output'} close p answer reply closed output'' (Err e) (is, stopped) = (
     p.bytes,
-    p.told ++ stopped.part,
+    p.replies ++ stopped.part,
     p.taken,
-    Appends-trans (known contents output) (known contents output') (known contents output'') p.told stopped.part p.wrote.appends stopped.appends,
-    subst (λ (f : RunFault). Ran one from close p.bytes (Err f) (p.told ++ stopped.part) table) (sym is)
-        (ran-end_failed one from close p.bytes p.lines _ reply stopped.part p.whole p.state (ap (λ (x : State). x.told) (closed p.told)) stopped.begins),
+    Appends-trans (known contents output) (known contents output') (known contents output'') p.replies stopped.part p.wrote.appends stopped.appends,
+    subst (λ (f : RunFault). Ran one from close p.bytes (Err f) (p.replies ++ stopped.part) table) (sym is)
+        (ran-end_failed one from close p.bytes p.lines _ reply stopped.part p.whole p.state (ap (λ (x : State). x.replies) (closed p.replies)) stopped.begins),
   )
 
   -- the end tells nothing
   pub runs-ended : {input : Tap R} {output : Tap W} {table : Filter} {number status : ℕ} {input' : Tap R} {output' : Tap W}
       → Passed remaining contents one from input output table number status input' output' → Runs remaining contents one from (λ s. s) input output (Ok status) table input' output'
   runs-ended {table = table} {number = number} {status = status} {output' = output'} p =
-      runs-passed (λ s. s) p status [] (λ told. ap (at table number status) (sym (append-nil told))) output' (Ok status) (refl, wrote-nothing p.wrote.fresh)
+      runs-passed (λ s. s) p status [] (λ replies. ap (at table number status) (sym (append-nil replies))) output' (Ok status) (refl, wrote-nothing p.wrote.fresh)
 
   module _ {input : Tap R} {output : Tap W} {table : Filter} {number status : ℕ} {input' : Tap R} {output' : Tap W}
       (r : Reached remaining contents one from input output table number status input' output') (input'' : Tap R) (text : List ℕ) (lone : IsOneLine text) where
@@ -183,7 +183,7 @@ module _ {R W : Type 0} {remaining : R → Option (List ℕ)} {contents : W → 
     runs-read_failed close taken =
         let is = r.ended text ∙ ap (λ ls. texts r.lines ++ ls) (ended_lines-part text lone) ∙ append-nil (texts r.lines) in (
           r.bytes ++ text,
-          r.told,
+          r.replies,
           Consumes-trans (known remaining input) (known remaining input') (known remaining input'') r.bytes text r.taken taken,
           r.wrote.appends,
           ran-read_failed one from close (r.bytes ++ text) r.lines _ is r.state,
@@ -195,7 +195,7 @@ module _ {R W : Type 0} {remaining : R → Option (List ℕ)} {contents : W → 
     passed-nothing taken = record {
       bytes = r.bytes ++ [];
       lines = r.lines;
-      told = r.told;
+      replies = r.replies;
       taken = Consumes-trans (known remaining input) (known remaining input') (known remaining input'') r.bytes [] r.taken taken;
       whole = r.whole [] ∙ append-nil (texts r.lines);
       state = r.state;
@@ -210,11 +210,11 @@ module _ {R W : Type 0} {remaining : R → Option (List ℕ)} {contents : W → 
       reached-more taken wrote = record {
         bytes = r.bytes ++ (text ++ 10 ∷ []);
         lines = more r.lines text refused;
-        told = r.told ++ reply;
+        replies = r.replies ++ reply;
         taken = Consumes-trans (known remaining input) (known remaining input') (known remaining input'') r.bytes (text ++ 10 ∷ []) r.taken taken;
         whole = λ rest. next-line lines_of r.bytes (text ++ 10 ∷ []) text r.lines refused r.whole rest (lines_of-ended text rest lone);
         ended = λ rest. next-line ended_lines r.bytes (text ++ 10 ∷ []) text r.lines refused r.ended rest (ended_lines-ended text rest lone);
-        state = after-more one from r.lines text refused _ _ r.state (served r.told);
+        state = after-more one from r.lines text refused _ _ r.state (served r.replies);
         wrote = wrote-then r.wrote wrote;
       }
 
@@ -224,21 +224,21 @@ module _ {R W : Type 0} {remaining : R → Option (List ℕ)} {contents : W → 
       passed-last some taken wrote = record {
         bytes = r.bytes ++ text;
         lines = more r.lines text refused;
-        told = r.told ++ reply;
+        replies = r.replies ++ reply;
         taken = Consumes-trans (known remaining input) (known remaining input') (known remaining input'') r.bytes text r.taken taken;
         whole = r.whole text ∙ ap (λ ls. texts r.lines ++ ls) (lines_of-last text lone some) ∙ sym (texts-more r.lines text refused);
-        state = after-more one from r.lines text refused _ _ r.state (served r.told);
+        state = after-more one from r.lines text refused _ _ r.state (served r.replies);
         wrote = wrote-then r.wrote wrote;
       }
 
       stopped-at : (close : State → State) (piece : List ℕ) → lines_of (r.bytes ++ piece) ≡ texts (more r.lines text refused) → Consumes (known remaining input') (known remaining input'') piece
           → Stopped contents output' output'' reply → Runs remaining contents one from close input output (Err faults.WriteFailed) table' input'' output''
       stopped-at close piece is taken stopped =
-          let next = after-more one from r.lines text refused _ _ r.state (served r.told) in (
+          let next = after-more one from r.lines text refused _ _ r.state (served r.replies) in (
             r.bytes ++ piece,
-            r.told ++ stopped.part,
+            r.replies ++ stopped.part,
             Consumes-trans (known remaining input) (known remaining input') (known remaining input'') r.bytes piece r.taken taken,
-            Appends-trans (known contents output) (known contents output') (known contents output'') r.told stopped.part r.wrote.appends stopped.appends,
+            Appends-trans (known contents output) (known contents output') (known contents output'') r.replies stopped.part r.wrote.appends stopped.appends,
             ran-write_failed one from close (r.bytes ++ piece) r.lines text refused _ _ reply stopped.part is r.state next refl stopped.begins,
           )
 
@@ -263,19 +263,19 @@ pub whole-of : {R W : Type 0} (remaining : R → Option (List ℕ)) (contents : 
     → Runs remaining contents one from close input output r new input' output' → EndsAt (known remaining input) (known remaining input')
     → IfOk r (λ status. Whole remaining contents (λ bytes marks. close (play one from (lines_of bytes) marks)) input output status new output')
 whole-of remaining contents one from close input output (Err e) new input' output' runs ended = tt
-whole-of remaining contents one from close input output (Ok status) new input' output' (bytes, written, taken, wrote, (marks, (told, is, table))) ended =
+whole-of remaining contents one from close input output (Ok status) new input' output' (bytes, written, taken, wrote, (marks, (replies, is, table))) ended =
     go (known remaining input) (known remaining input') taken ended
   where
     said : List ℕ → List Bool → State
     said xs ms = close (play one from (lines_of xs) ms)
 
     go : (a b : Option (List ℕ)) → Consumes a b bytes → EndsAt a b → IfSome a (λ xs.
-        (ms : List Bool) × (Appends (known contents output) (known contents output') (close (play one from (lines_of xs) ms)).told
+        (ms : List Bool) × (Appends (known contents output) (known contents output') (close (play one from (lines_of xs) ms)).replies
         × (status ≡ (close (play one from (lines_of xs) ms)).status) × (new ≡ (close (play one from (lines_of xs) ms)).table)))
     go None b t e = tt
     go (Some xs) None t e = absurd t
     go (Some xs) (Some ys) t e =
         let all : bytes ≡ xs = sym (t ∙ ap (λ l. bytes ++ l) e ∙ append-nil bytes) in
-        subst (λ (l : List ℕ). (ms : List Bool) × (Appends (known contents output) (known contents output') (close (play one from (lines_of l) ms)).told
+        subst (λ (l : List ℕ). (ms : List Bool) × (Appends (known contents output) (known contents output') (close (play one from (lines_of l) ms)).replies
         × (status ≡ (close (play one from (lines_of l) ms)).status) × (new ≡ (close (play one from (lines_of l) ms)).table))) all
-        (marks, (subst (Appends (known contents output) (known contents output')) told wrote, is, table))
+        (marks, (subst (Appends (known contents output) (known contents output')) replies wrote, is, table))
