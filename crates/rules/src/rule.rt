@@ -8,13 +8,11 @@ ghost use Rattle.rules.specs.rule.Allows.{asks};
 pub(crate) mod action;
 pub(crate) mod content;
 pub(crate) mod copy;
-pub(crate) mod equality;
 pub(crate) mod target;
 
 use crate::rule::action::Action;
 use crate::rule::copy::copy_content;
-use crate::rule::content::{Content, Match};
-use crate::rule::equality::same_content;
+use crate::rule::content::{Content, Match, same_content};
 use crate::options::setting::Setting;
 use crate::rule::target::Target;
 use crate::options::value::Value;
