@@ -23,13 +23,15 @@ fn on(field: Field, set: Spans) -> Result<Option<Condition>, AllocError>
 
 // The number of further fragments, which are all but the first.
 fn further_fragments(alloc: Global) -> Result<Spans, AllocError>
-    ensures { IfOk result (λ set. Asks (field_of Value.Fragment) (holds_of Value.Fragment) (Some (record { field = Field.Fragment; set = set }))) }
+    ensures { IfOk result (λ set. let one : Condition = record { field = Field.Fragment; set = set } in
+        Asks (field_of Value.Fragment) (holds_of Value.Fragment) (Some one)) }
 {
     Spans::one(alloc, Field::Fragment.top(), 1, 1)
 }
 
 impl Value {
-    // The numbers of which the value holds, on the field of which it speaks; a text, or what a target does, speaks of none.
+    // The numbers of which the value holds, on the field of which it speaks; a text, or what a target does, speaks of
+    // none.
     fn condition(&self, alloc: Global) -> Result<Option<Condition>, AllocError>
         ensures { IfOk result (λ asked. Asks (field_of self.now) (holds_of self.now) asked) }
     {
