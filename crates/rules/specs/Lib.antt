@@ -5,3 +5,6 @@ pub mod printing
 pub mod reading
 pub mod rule
 pub mod steps
+pub use Rattle.fields.specs.numbers
+pub use Rattle.fields.specs.text
+pub use Rattle.fields.specs.values

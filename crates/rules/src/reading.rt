@@ -142,14 +142,16 @@ fn words_from(words: &Words, from: usize) -> &[Vec<u8>]
     words.after(from.min(words.len()))
 }
 
-/// The rule that the words from a place on read as (iptables(8), iptables-extensions(8)). From beyond the last word on there are no
-/// words, and they read as the rule that asks and does nothing.
+/// The rule that the words from a place on read as (iptables(8), iptables-extensions(8)). From beyond the last word on
+/// there are no words, and they read as the rule that asks and does nothing.
 ///
-/// It takes memory for the rule's matches and options and for its comments, as `Rule` says, and time linear in the words.
+/// It takes memory for the rule's matches and options and for its comments, as `Rule` says, and time linear in the
+/// words and their bytes.
 ///
 /// # Errors
 ///
-/// `RuleFault::Refused` with the first fault of the words, P1 to P12, and `RuleFault::NoMemory`, P0, where memory was refused.
+/// `RuleFault::Refused` with the first fault of the words, P1 to P12, and `RuleFault::NoMemory`, P0, where memory was
+/// refused.
 pub fn read_rule(alloc: Global, words: &Words, from: usize) -> Result<Rule, RuleFault>
     ensures reads { Gives (λ r. r) result (rule_of (length words.now) (drop from words.now)) }
     ensures readable { IfOk result IsReadable }

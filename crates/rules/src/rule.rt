@@ -8,13 +8,11 @@ ghost use Rattle.rules.specs.rule.Allows.{asks};
 pub(crate) mod action;
 pub(crate) mod content;
 pub(crate) mod copy;
-pub(crate) mod equality;
 pub(crate) mod target;
 
 use crate::rule::action::Action;
 use crate::rule::copy::copy_content;
-use crate::rule::content::{Content, Match};
-use crate::rule::equality::same_content;
+use crate::rule::content::{Content, Match, same_content};
 use crate::options::setting::Setting;
 use crate::rule::target::Target;
 use crate::options::value::Value;
@@ -25,9 +23,9 @@ use std::mem::size_of;
 
 /// A rule: what it asks of a packet, and what becomes of the packets that it matches.
 ///
-/// Every rule was read from words, or is a copy or a renamed one of such a rule, and its text reads back as it. A rule has
-/// 128 bytes and, in memory of their own, its options with 88 bytes each and its matches with 32 bytes each beside their
-/// options. Only a comment has further memory, of at most 272 bytes.
+/// Every rule was read from words, or is a copy or a renamed one of such a rule, and its text reads back as it. A rule
+/// has 128 bytes and, in memory of their own, its options with 88 bytes each and its matches with 32 bytes each beside
+/// their options. Only a comment has further memory, of at most 272 bytes.
 #[derive(Drop)]
 pub struct Rule {
     content: Content,
@@ -40,11 +38,11 @@ const _: () = prove!(size_of::<Match>() == 32);
 const _: () = prove!(size_of::<Setting>() == 88);
 
 impl Model for Rule {
-    ghost use Rattle.rules.specs.rule.Rules.{Rule as Shown};
+    ghost use Rattle.rules.specs.rule.Rules.{Rule as Specified};
     ghost use Rattle.rules.specs.steps.Views.{view_content};
     ghost use Rattle.rules.specs.printing.RoundTrip.{ReadsItself};
 
-    ghost Value = { Shown };
+    ghost Value = { Specified };
 
     ghost view = { λ r. view_content r.content };
 
@@ -87,6 +85,7 @@ fn reject_in(target_options: &[Setting]) -> RejectType
     RejectType::default()
 }
 
+// The action as a target, with the type of REJECT.
 fn target_with(action: &Action, target_options: &[Setting]) -> Target
     ensures { result ≡ target_with action.now target_options.now }
 {
@@ -112,24 +111,28 @@ fn rename(action: &mut Option<Action>, name: &Name)
     }
 }
 
+// Whether the option asks for an incoming interface.
 fn is_in(setting: &Setting) -> bool
     ensures { result ≡ asks Field.InIface setting.now }
 {
     matches!(setting.value, Value::InInterface(_))
 }
 
+// Whether the option asks for an outgoing interface.
 fn is_out(setting: &Setting) -> bool
     ensures { result ≡ asks Field.OutIface setting.now }
 {
     matches!(setting.value, Value::OutInterface(_))
 }
 
+// Whether one of the options does.
 fn asks_in(settings: &[Setting]) -> bool
     ensures { result ≡ list_any (asks Field.InIface) settings.now }
 {
     settings.iter().any(is_in)
 }
 
+// Whether one of the options does.
 fn asks_out(settings: &[Setting]) -> bool
     ensures { result ≡ list_any (asks Field.OutIface) settings.now }
 {
@@ -145,6 +148,7 @@ impl Rule {
     ghost use Rattle.rules.specs.printing.RoundTrip.{ReadsItself};
     ghost use Rattle.rules.specs.steps.Views.{view_content};
 
+    // The rule of what was read.
     pub(crate) fn of(content: Content) -> Rule
         requires { ReadsItself (view_content content) }
         ensures { result ≡ view_content content }
@@ -152,6 +156,7 @@ impl Rule {
         Rule { content }
     }
 
+    // What the rule holds; it is lent.
     pub(crate) fn content(&self) -> &Content
         ensures value { view_content result.now ≡ self.now }
         ensures kept { ReadsItself self.now }
@@ -159,7 +164,11 @@ impl Rule {
         &self.content
     }
 
-    /// An equal rule, or none where memory was refused.
+    /// An equal rule. It takes as much memory as the rule has.
+    ///
+    /// # Errors
+    ///
+    /// `AllocError` where memory was refused.
     pub fn copy(&self, alloc: Global) -> Result<Rule, AllocError>
         ensures { IfOk result (λ copy. copy ≡ self.now) }
     {
@@ -176,8 +185,8 @@ impl Rule {
         same_content(self.content(), other.content())
     }
 
-    /// What becomes of the packets that the rule matches: `None` where it says nothing, so that the walk goes on. It takes no
-    /// memory.
+    /// What becomes of the packets that the rule matches: `None` where it says nothing, so that the walk goes on. It
+    /// takes no memory.
     pub fn target(&self) -> Option<Target>
         ensures { result ≡ target_of self.now }
     {
@@ -196,8 +205,8 @@ impl Rule {
         rename(&mut self.content.action, name);
     }
 
-    /// Whether the rule has a condition on the incoming interface (`-i`; no condition is `-i +`). Without one it allows every
-    /// interface.
+    /// Whether the rule has a condition on the incoming interface (`-i`; no condition is `-i +`). Without one it allows
+    /// every interface.
     #[tactic(auto, using(crate::proofs::laws::rule::AskLaws::in_is_own, crate::proofs::laws::rule::AskLaws::in_free))]
     pub fn on_in(&self) -> bool
         ensures value { result ≡ asks_on Field.InIface self.now }
@@ -206,8 +215,8 @@ impl Rule {
         asks_in(self.content.settings.as_slice())
     }
 
-    /// Whether the rule has a condition on the outgoing interface (`-o`; no condition is `-o +`). Without one it allows every
-    /// interface.
+    /// Whether the rule has a condition on the outgoing interface (`-o`; no condition is `-o +`). Without one it allows
+    /// every interface.
     #[tactic(auto, using(crate::proofs::laws::rule::AskLaws::out_is_own, crate::proofs::laws::rule::AskLaws::out_free))]
     pub fn on_out(&self) -> bool
         ensures value { result ≡ asks_on Field.OutIface self.now }

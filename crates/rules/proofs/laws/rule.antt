@@ -1,3 +1,3 @@
 pub mod AskLaws
+pub mod EqualityLaws
 pub mod RenameLaws
-pub mod SameLaws

@@ -13,7 +13,9 @@ IsBox spans = map (λ (s : SpanSet). s.top) spans ≡ map top all_fields
 
 -- a box's set on a field
 abbrev pub set_on : Field → List SpanSet → List Interval
-set_on field box = let empty : SpanSet = record { top = 0; intervals = [] } in let own : SpanSet = slice_index_or box (index field) empty in own.intervals
+set_on field box =
+    let empty : SpanSet = record { top = 0; intervals = [] } in
+    let own : SpanSet = slice_index_or box (index field) empty in own.intervals
 
 -- on each field the set has, of the numbers up to the top, just those that pass the test
 abbrev pub AreSetsOf : (Field → ℕ → Bool) → List SpanSet → Type 0

@@ -24,7 +24,8 @@ pub record BeginsWith (end : ℕ) (words : List (List ℕ)) (p : OptionWords) (r
 abbrev pub AreOptions : ℕ → Rule → List OptionWords → List (List ℕ) → Rule → List (List ℕ) → Type 0
 AreOptions end from [] words to rest = (words ≡ rest) × (from ≡ to)
 AreOptions end from (p ∷ ps) words to rest =
-    (after : List (List ℕ)) × (with_it : Rule) × BeginsWith end words p after × (step from p ≡ Ok with_it) × AreOptions end with_it ps after to rest
+    (after : List (List ℕ)) × (with_it : Rule) × BeginsWith end words p after × (step from p ≡ Ok with_it)
+        × AreOptions end with_it ps after to rest
 
 -- the words read as a rule: they are legal options, and after the last of them the needs hold
 abbrev pub ReadsAs : ℕ → List (List ℕ) → Rule → Type 0
@@ -32,15 +33,20 @@ ReadsAs end words r = (options : List OptionWords) × (d : Rule) × AreOptions e
 
 -- The words don't begin with a legal option: they don't spell one with its values, or it isn't legal beside those before it.
 abbrev pub IsRefused : ℕ → Rule → List (List ℕ) → Refusal → Type 0
-IsRefused end d words e = (option_words_at end words ≡ Err e) ⊎ ((p : OptionWords) × (rest : List (List ℕ)) × BeginsWith end words p rest × (step d p ≡ Err e))
+IsRefused end d words e =
+    (option_words_at end words ≡ Err e)
+    ⊎ ((p : OptionWords) × (rest : List (List ℕ)) × BeginsWith end words p rest × (step d p ≡ Err e))
 
 -- the words begin with legal options, and what follows doesn't begin with one
 abbrev pub IsRefusedWithin : ℕ → List (List ℕ) → Refusal → Type 0
-IsRefusedWithin end words e = (options : List OptionWords) × (d : Rule) × (w : List ℕ) × (rest : List (List ℕ)) × AreOptions end empty_rule options words d (w ∷ rest) × IsRefused end d (w ∷ rest) e
+IsRefusedWithin end words e =
+    (options : List OptionWords) × (d : Rule) × (w : List ℕ) × (rest : List (List ℕ))
+        × AreOptions end empty_rule options words d (w ∷ rest) × IsRefused end d (w ∷ rest) e
 
 -- all options of the words are legal, and a need doesn't hold after the last of them
 abbrev pub IsRefusedAtEnd : ℕ → List (List ℕ) → Refusal → Type 0
-IsRefusedAtEnd end words e = (options : List OptionWords) × (d : Rule) × AreOptions end empty_rule options words d [] × (with_needs_met d ≡ Err e)
+IsRefusedAtEnd end words e =
+    (options : List OptionWords) × (d : Rule) × AreOptions end empty_rule options words d [] × (with_needs_met d ≡ Err e)
 
 -- The words have a fault: that of the first option which isn't legal or, where all are, what the rule lacks after the last word.
 abbrev pub HasFault : ℕ → List (List ℕ) → Refusal → Type 0

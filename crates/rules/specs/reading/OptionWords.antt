@@ -1,5 +1,6 @@
 -- An option as words give it: an optional `!`, a spelling of the option, its values.
-use Rattle.std.specs.Prelude.{ℕ, ◌-◌, Bool, true, false, nat_lt, List, [], ◌∷◌, length, take, drop, Option, Some, None, Result, Ok, Err, codes, if◌then◌else◌}
+use Rattle.std.specs.Prelude.{ℕ, ◌-◌, Bool, true, false, nat_lt, List, [], ◌∷◌, length, take, drop, codes, if◌then◌else◌}
+use Rattle.std.specs.Prelude.{Option, Some, None, Result, Ok, Err}
 use Rattle.std.specs.Str.{bytes_eq}
 use Rattle.rules.specs.options.Options.{option_of, value_count, may_be_inverted}
 use Rattle.rules.specs.declared.reading.fault.Refusal.{Refusal}

@@ -1,7 +1,7 @@
 -- How words are read as a rule: option by option, each legal beside those before it.
 use Prim.Native.Nat.{zero, suc}
-use Rattle.std.specs.Prelude.{ℕ, ◌+◌, ◌==◌, Bool, true, false, ◌||◌, ◌&&◌, nat_lt, nat_le, List, [], ◌∷◌, ◌++◌, length, slice_set, find, Option, Some, None}
-use Rattle.std.specs.Prelude.{Result, Ok, Err, if◌then◌else◌}
+use Rattle.std.specs.Prelude.{ℕ, ◌+◌, ◌==◌, Bool, true, false, ◌&&◌, nat_lt, nat_le, List, [], ◌∷◌, ◌++◌, length, slice_set, find}
+use Rattle.std.specs.Prelude.{Option, Some, None, Result, Ok, Err, if◌then◌else◌}
 use Rattle.std.specs.List.{slice_index_or, list_any}
 use Rattle.fields.specs.values.Name.{name_of}
 use Rattle.rules.specs.Sequence.{◌>>=◌, or_refused}
@@ -36,7 +36,9 @@ insert_by_place slot s (t ∷ ts) = if nat_lt slot (slot_of t) then s ∷ t ∷ 
 unfoldable pub with_option : List Setting → OptionWords → Result (List Setting) Refusal
 with_option settings p =
     if is_given (slot p.option) settings then Err refusal.RepeatedOption
-    else value_of p.option p.inverted p.values >>= λ v. Ok (insert_by_place (slot p.option) (record { inverted = p.inverted; value = v }) settings)
+    else
+        value_of p.option p.inverted p.values
+        >>= λ v. Ok (insert_by_place (slot p.option) (record { inverted = p.inverted; value = v }) settings)
 
 -- the rule with these options of its own
 abbrev pub with_settings : Rule → List Setting → Rule
@@ -52,7 +54,7 @@ with_action r t = record { settings = r.settings; matches = r.matches; action = 
 
 -- the rule with these options of its target
 abbrev pub with_target_options : Rule → List Setting → Rule
-with_target_options r target_options = record { settings = r.settings; matches = r.matches; action = r.action; target_options = target_options }
+with_target_options r options = record { settings = r.settings; matches = r.matches; action = r.action; target_options = options }
 
 -- the rule with one more match, where it has fewer than 16
 unfoldable pub with_match : Rule → MatchKind → Result Rule Refusal
@@ -139,7 +141,8 @@ owned_step owned.Jump r p = with_jump r (first_of p.values)
 owned_step owned.Goto r p = with_goto r (first_of p.values)
 owned_step (owned.Match ks) r p = match_step r p
 owned_step (owned.Target t) r p =
-    if action_has r.action p.option then (with_option r.target_options p >>= λ ss. Ok (with_target_options r ss)) else Err refusal.OtherTarget
+    if action_has r.action p.option then (with_option r.target_options p >>= λ ss. Ok (with_target_options r ss))
+    else Err refusal.OtherTarget
 
 -- the rule so far with one more option, or why that option isn't legal beside those before it
 unfoldable pub step : Rule → OptionWords → Result Rule Refusal

@@ -22,7 +22,8 @@ only o = o ∷ []
 
 -- the places of a rule's own options, in the order of a listing
 abbrev pub rule_places : List (List Opt)
-rule_places = only opt.Source ∷ only opt.Destination ∷ only opt.InInterface ∷ only opt.OutInterface ∷ only opt.Protocol ∷ only opt.Fragment ∷ []
+rule_places =
+    only opt.Source ∷ only opt.Destination ∷ only opt.InInterface ∷ only opt.OutInterface ∷ only opt.Protocol ∷ only opt.Fragment ∷ []
 
 -- the places of a match's options; multiport has one place for both of its options
 abbrev pub match_places : MatchKind → List (List Opt)

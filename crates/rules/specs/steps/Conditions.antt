@@ -10,7 +10,8 @@ use Rattle.rules.specs.boxing.Boxed.{AreSetsOf}
 -- a condition on the field, if there is one, has just the numbers that pass the test
 abbrev pub Asks : Option Field → (ℕ → Bool) → Option Condition → Type 0
 Asks field passes None = field ≡ None
-Asks field passes (Some c) = (field ≡ Some c.field) × (c.set.top ≡ top c.field) × ((x : ℕ) → x ≤ top c.field → has c.set.intervals x ≡ passes x)
+Asks field passes (Some c) =
+    (field ≡ Some c.field) × (c.set.top ≡ top c.field) × ((x : ℕ) → x ≤ top c.field → has c.set.intervals x ≡ passes x)
 
 -- whether a condition allows a number of a field
 abbrev pub condition_allows : Field → ℕ → Condition → Bool

@@ -22,7 +22,9 @@ view_matches ms = map view_match ms
 
 -- what a rule holds as the definitions have it
 abbrev pub view_content : Content → rules.Rule
-view_content c = record { settings = c.settings.items; matches = view_matches c.matches.items; action = c.action; target_options = c.target_options.items }
+view_content c =
+    let matches = view_matches c.matches.items in
+    record { settings = c.settings.items; matches = matches; action = c.action; target_options = c.target_options.items }
 
 -- an option with the words of its values as the definitions have it
 abbrev pub view_option_words : OptionWords → words.OptionWords

@@ -124,11 +124,11 @@ fn narrow_matches(alloc: Global, spans: &mut [Spans], matches: &[Match]) -> Resu
 }
 
 impl Boxed {
-    /// The box of a rule: on each field exactly the numbers that the rule allows there. It counts as one in `work`, also when
-    /// memory is refused.
+    /// The box of a rule: on each field exactly the numbers that the rule allows there. It counts as one in `work`,
+    /// also when memory is refused.
     ///
-    /// It costs a small allocation for each field and some for each condition. A condition costs time linear in the intervals of
-    /// its set, at most 32, and of the box's on its field; a list of ports makes its set port by port.
+    /// It costs a small allocation for each field and some for each condition. A condition costs time linear in the
+    /// intervals of its set, at most 32, and of the box's on its field; a list of ports makes its set port by port.
     ///
     /// # Errors
     ///

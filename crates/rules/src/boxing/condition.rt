@@ -21,8 +21,17 @@ fn on(field: Field, set: Spans) -> Result<Option<Condition>, AllocError>
     Ok(Some(Condition { field, set }))
 }
 
+// The number of further fragments, which are all but the first.
+fn further_fragments(alloc: Global) -> Result<Spans, AllocError>
+    ensures { IfOk result (λ set. let one : Condition = record { field = Field.Fragment; set = set } in
+        Asks (field_of Value.Fragment) (holds_of Value.Fragment) (Some one)) }
+{
+    Spans::one(alloc, Field::Fragment.top(), 1, 1)
+}
+
 impl Value {
-    // The numbers of which the value holds, on the field of which it speaks; a text, or what a target does, speaks of none.
+    // The numbers of which the value holds, on the field of which it speaks; a text, or what a target does, speaks of
+    // none.
     fn condition(&self, alloc: Global) -> Result<Option<Condition>, AllocError>
         ensures { IfOk result (λ asked. Asks (field_of self.now) (holds_of self.now) asked) }
     {
@@ -32,7 +41,7 @@ impl Value {
             Value::InInterface(pattern) => on(Field::InIface, pattern.allowed(alloc)?),
             Value::OutInterface(pattern) => on(Field::OutIface, pattern.allowed(alloc)?),
             Value::Protocol(protocol) => on(Field::Protocol, protocol.allowed(alloc)?),
-            Value::Fragment => on(Field::Fragment, Spans::one(alloc, 1, 1, 1)?),
+            Value::Fragment => on(Field::Fragment, further_fragments(alloc)?),
             Value::SourcePort(ports) => on(Field::SourcePort, ports.allowed(alloc)?),
             Value::DestinationPort(ports) => on(Field::DestinationPort, ports.allowed(alloc)?),
             Value::TcpFlags(test) => on(Field::TcpFlags, test.allowed(alloc)?),

@@ -2,7 +2,7 @@
 ghost use Rattle.std.specs.Prelude.{◌≡◌, Option, Some, None};
 ghost use Rattle.rules.specs.options.Matches.{kind_of, same_kind};
 
-/// A match (iptables-extensions(8)).
+// A match (iptables-extensions(8)).
 #[derive(Clone, Copy, Debug, PartialEq, Eq)]
 pub(crate) enum MatchKind {
     Tcp,
@@ -15,8 +15,8 @@ pub(crate) enum MatchKind {
     Comment,
 }
 
-// A match's name, the protocols of which it needs one (none: it needs no protocol), whether it needs an option, and whether it
-// asks for a first fragment.
+// A match's name, the protocols of which it needs one (none: it needs no protocol), whether it needs an option, and
+// whether it asks for a first fragment.
 #[derive(Clone, Copy)]
 pub(crate) struct MatchRow {
     pub(crate) name: &'static [u8],
@@ -59,6 +59,7 @@ impl MatchKind {
         }
     }
 
+    // Whether two matches are one.
     pub(crate) fn is(self, other: MatchKind) -> bool
         ensures { result ≡ same_kind self other }
     {
@@ -78,13 +79,15 @@ impl MatchKind {
 }
 
 impl MatchRow {
+    // A row of these.
     fn of(
         name: &'static [u8],
         protocols: &'static [u8],
         needs_option: bool,
         asks_fragment: bool,
     ) -> MatchRow
-        ensures { result ≡ record { name = name.entry; protocols = protocols.entry; needs_option = needs_option; asks_fragment = asks_fragment } }
+        ensures { result ≡ record { name = name.entry; protocols = protocols.entry;
+            needs_option = needs_option; asks_fragment = asks_fragment } }
     {
         MatchRow {
             name,

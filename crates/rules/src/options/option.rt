@@ -7,7 +7,7 @@ ghost use Rattle.rules.specs.options.Options.{option_of, name_of, spells, is_one
 
 use crate::options::match_kind::MatchKind;
 
-/// An option, whatever its spelling.
+// An option, whatever its spelling.
 #[derive(Clone, Copy)]
 pub(crate) enum Opt {
     Source,
@@ -40,39 +40,39 @@ pub(crate) enum Opt {
     LogUid,
 }
 
-/// The matches that have an option.
+// The matches that have an option.
 #[derive(Clone, Copy)]
 pub(crate) enum MatchKinds {
     One(MatchKind),
     Either(MatchKind, MatchKind),
 }
 
-/// The targets that have options.
+// The targets that have options.
 #[derive(Clone, Copy)]
 pub(crate) enum Extended {
     Reject,
     Log,
 }
 
-/// What an option belongs to.
+// What an option belongs to.
 #[derive(Clone, Copy)]
 pub(crate) enum Owner {
-    /// The rule itself.
+    // The rule itself.
     Rule,
-    /// It starts a match.
+    // It starts a match.
     Start,
-    /// It names a target.
+    // It names a target.
     Jump,
-    /// It names a chain to go on with.
+    // It names a chain to go on with.
     Goto,
-    /// A match.
+    // A match.
     Match(MatchKinds),
-    /// A target.
+    // A target.
     Target(Extended),
 }
 
-/// An option's spellings, of which the first is printed, how many values follow it, whether `!` may stand before it, what
-/// it belongs to, and its place among the options of its owner. Options of one place count as one.
+// An option's spellings, of which the first is printed, how many values follow it, whether `!` may stand before it,
+// what it belongs to, and its place among the options of its owner. Options of one place count as one.
 #[derive(Clone, Copy)]
 pub(crate) struct OptionRow {
     pub(crate) names: &'static [&'static [u8]],
@@ -82,9 +82,11 @@ pub(crate) struct OptionRow {
     pub(crate) slot: u8,
 }
 
+// What belongs to tcp and to udp.
 const PORTS: Owner = Owner::Match(MatchKinds::Either(MatchKind::Tcp, MatchKind::Udp));
 
 impl OptionRow {
+    // A row of these.
     fn of(
         names: &'static [&'static [u8]],
         values: usize,
@@ -229,6 +231,7 @@ impl Opt {
         }
     }
 
+    // The spelling that is printed.
     pub(crate) fn name(self) -> &'static [u8]
         ensures { result.now ≡ name_of self }
     {
@@ -238,6 +241,7 @@ impl Opt {
         }
     }
 
+    // Whether a word spells the option.
     fn is_spelled(self, word: &[u8]) -> bool
         ensures { result ≡ spells word.now self }
     {
@@ -276,6 +280,7 @@ fn of(kind: MatchKind) -> Owner
 }
 
 impl MatchKinds {
+    // Whether the match is one of these.
     fn has(self, kind: MatchKind) -> bool
         ensures { result ≡ is_one_of self kind }
     {

@@ -5,8 +5,8 @@ ghost use Rattle.rules.specs.options.Settings.{is_protocol, has_protocol, is_con
 
 use crate::options::value::Value;
 
-/// A value, or the opposite of it.
-#[derive(Drop)]
+// A value, or the opposite of it.
+#[derive(PartialEq, Drop)]
 pub(crate) struct Setting {
     pub(crate) inverted: bool,
     pub(crate) value: Value,

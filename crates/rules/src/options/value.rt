@@ -16,7 +16,7 @@ use fields::{
 use std::alloc::Global;
 
 // A value, of the option that it is named after.
-#[derive(Drop)]
+#[derive(PartialEq, Drop)]
 pub(crate) enum Value {
     Source(Prefix),
     Destination(Prefix),
@@ -83,13 +83,9 @@ impl Value {
     {
         match self {
             Value::Source(prefix) | Value::Destination(prefix) => prefix.length() == 0,
-            Value::InInterface(pattern) | Value::OutInterface(pattern) => {
-                pattern.bytes() == b"+".as_slice()
-            }
-            Value::Protocol(protocol) => protocol.number() == 0,
-            Value::SourcePort(ports) | Value::DestinationPort(ports) => {
-                ports.first() == 0 && ports.last() == 65535
-            }
+            Value::InInterface(pattern) | Value::OutInterface(pattern) => pattern.is_any(),
+            Value::Protocol(protocol) => protocol.is_all(),
+            Value::SourcePort(ports) | Value::DestinationPort(ports) => ports.is_all(),
             Value::TcpFlags(test) => test.asks_nothing(),
             Value::LogPrefix(text) => text.bytes().is_empty(),
             Value::LogLevel(level) => level.number() == 4,

@@ -6,7 +6,9 @@ ghost use Rattle.rules.specs.Sequence.{Gives, RefusesFirst, or_refused};
 ghost use Rattle.rules.specs.options.Matches.{kind_of};
 ghost use Rattle.rules.specs.steps.Places.{rank};
 ghost use Rattle.rules.specs.options.Settings.{has_protocol};
-ghost use Rattle.rules.specs.reading.Steps.{with_option, with_match, last_with, implied_match, is_implied_option, match_for, with_option_at, has_goto, has_jump, with_jump, with_goto, match_step, step, is_given, insert_by_place};
+ghost use Rattle.rules.specs.reading.Steps.{is_given, insert_by_place, with_option, with_match, last_with, implied_match};
+ghost use Rattle.rules.specs.reading.Steps.{is_implied_option, match_for, with_option_at, has_goto, has_jump, with_jump};
+ghost use Rattle.rules.specs.reading.Steps.{with_goto, match_step, step};
 ghost use Rattle.rules.specs.rule.Needs.{is_met, is_met_for};
 ghost use Rattle.rules.specs.steps.Views.{view_matches, view_content, view_option_words};
 
@@ -166,7 +168,8 @@ fn match_for(alloc: Global, content: Content, given: &OptionWords) -> Result<(Co
 #[tactic(auto, unfolding(crate::specs::reading::Steps::with_option_at))]
 fn add_at(alloc: Global, matches: &mut Vec<Match>, i: usize, given: &OptionWords) -> Result<(), RuleFault>
     requires { i < vec_len matches.old }
-    ensures { Gives (λ _. view_matches matches.new.items) result (with_option_at (view_matches matches.old.items) i (view_option_words given.now)) }
+    ensures { Gives (λ _. view_matches matches.new.items) result
+        (with_option_at (view_matches matches.old.items) i (view_option_words given.now)) }
 {
     let one = &mut matches[i];
     add(alloc, &mut one.settings, given)

@@ -1,4 +1,4 @@
-// Copies of a rule's parts.
+// Copies of what a rule holds.
 ghost use Rattle.std.specs.Prelude.{◌≡◌, Option, Some, None, IfOk};
 ghost use Rattle.rules.specs.steps.Views.{view_match, view_matches, view_content};
 
@@ -8,6 +8,7 @@ use crate::options::setting::Setting;
 use crate::options::value::Value;
 use std::alloc::{AllocError, Global};
 
+// A value again.
 fn copy_value(alloc: Global, value: &Value) -> Result<Value, AllocError>
     ensures { IfOk result (λ copy. copy ≡ value.now) }
 {
@@ -39,6 +40,7 @@ fn copy_value(alloc: Global, value: &Value) -> Result<Value, AllocError>
     }
 }
 
+// An option again.
 fn copy_setting(alloc: Global, setting: &Setting) -> Result<Setting, AllocError>
     ensures { IfOk result (λ copy. copy ≡ setting.now) }
 {
@@ -47,6 +49,7 @@ fn copy_setting(alloc: Global, setting: &Setting) -> Result<Setting, AllocError>
     Ok(Setting { inverted, value })
 }
 
+// Options again.
 fn copy_settings(alloc: Global, settings: &[Setting]) -> Result<Vec<Setting>, AllocError>
     ensures { IfOk result (λ copy. copy.items ≡ settings.now) }
 {
@@ -58,6 +61,7 @@ fn copy_settings(alloc: Global, settings: &[Setting]) -> Result<Vec<Setting>, Al
     Ok(copies)
 }
 
+// A match again.
 fn copy_match(alloc: Global, one: &Match) -> Result<Match, AllocError>
     ensures { IfOk result (λ copy. view_match copy ≡ view_match one.now) }
 {
@@ -66,6 +70,7 @@ fn copy_match(alloc: Global, one: &Match) -> Result<Match, AllocError>
     Ok(Match { kind, settings })
 }
 
+// Matches again.
 fn copy_matches(alloc: Global, matches: &[Match]) -> Result<Vec<Match>, AllocError>
     ensures { IfOk result (λ copy. view_matches copy.items ≡ view_matches matches.now) }
 {
@@ -77,6 +82,7 @@ fn copy_matches(alloc: Global, matches: &[Match]) -> Result<Vec<Match>, AllocErr
     Ok(copies)
 }
 
+// An action again.
 fn copy_action(action: &Option<Action>) -> Option<Action>
     ensures { result ≡ action.now }
 {
@@ -92,6 +98,7 @@ fn copy_action(action: &Option<Action>) -> Option<Action>
     }
 }
 
+// What a rule holds again.
 pub(crate) fn copy_content(alloc: Global, content: &Content) -> Result<Content, AllocError>
     ensures { IfOk result (λ copy. view_content copy ≡ view_content content.now) }
 {

@@ -8,7 +8,7 @@ pub enum Target {
     Accept,
     /// The packet is dropped.
     Drop,
-    /// The walk goes on behind the rule that jumped to this chain.
+    /// The walk goes on after the rule that jumped to this chain.
     Return,
     /// The packet is dropped, and answered in this way.
     Reject(RejectType),

@@ -81,9 +81,6 @@ narrows_alike p q old new same n before sets f x le = n before sets f x le ∙ a
 pub narrows_both : (p q : Test) (a b c : List SpanSet) → Narrows p a b → Narrows q b c → Narrows (λ f x. p f x && q f x) a c
 narrows_both p q a b c n m before sets f x le = m (λ g y. before g y && p g y) (n before sets) f x le ∙ and-assoc (before f x) (p f x) (q f x)
 
-pub narrows_by_none : (spans : List SpanSet) → Narrows (λ _ _. true) spans spans
-narrows_by_none spans before sets f x le = sets f x le ∙ and-true (before f x)
-
 -- each thing's test after those of the ones before it
 module _ {A : Type 0} (tests : Field → ℕ → A → Bool) (xs : List A) where
   pub narrows_next : (i : ℕ) (y : A) (a b c : List SpanSet) → i < length xs → y ≡ get_or xs i y → Narrows (λ f x. list_all (tests f x) (take i xs)) a b → Narrows (λ f x. tests f x y) b c

@@ -7,16 +7,14 @@ use Rattle.std.specs.List.{list_all}
 use Rattle.std.specs.Str.{bytes_eq}
 use Rattle.std.proofs.lemmas.Bool.{and_parts}
 use Rattle.fields.specs.text.Printed.{Shown}
-use Rattle.rules.specs.options.Matches.{kind_of, kind_name}
-use Rattle.rules.specs.options.Options.{option_of, name_of, value_count}
+use Rattle.rules.specs.options.Matches.{all_kinds, kind_of, kind_name}
+use Rattle.rules.specs.options.Options.{all_options, option_of, name_of, value_count}
 use Rattle.rules.specs.options.Settings.{option_of_value}
 use Rattle.rules.specs.printing.Printing.{shown_value}
 use Rattle.rules.specs.declared.options.match_kind.MatchKind.{MatchKind}
 use Rattle.rules.specs.declared.options.match_kind.MatchKind.TheVariants as kind
-use Rattle.rules.specs.declared.options.match_kind.TheConstants.MatchKind as kinds
 use Rattle.rules.specs.declared.options.option.Opt.{Opt}
 use Rattle.rules.specs.declared.options.option.Opt.TheVariants as opt
-use Rattle.rules.specs.declared.options.option.TheConstants.Opt as options
 use Rattle.rules.specs.declared.options.value.Value.{Value}
 use Rattle.rules.specs.declared.options.value.Value.TheVariants as value
 
@@ -131,43 +129,43 @@ at test (x ∷ xs) n d within all = go n within (and_parts (test x) (list_all te
     go (suc m) within first rest = rest m (omega arith)
 
 -- what is tested along the table of options holds of each
-pub each_option : (test : Opt → Bool) → list_all test options.ALL ≡ true → (o : Opt) → test o ≡ true
-each_option test all opt.Source = at test options.ALL 0 opt.Source (lit< tt) all
-each_option test all opt.Destination = at test options.ALL 1 opt.Source (lit< tt) all
-each_option test all opt.InInterface = at test options.ALL 2 opt.Source (lit< tt) all
-each_option test all opt.OutInterface = at test options.ALL 3 opt.Source (lit< tt) all
-each_option test all opt.Protocol = at test options.ALL 4 opt.Source (lit< tt) all
-each_option test all opt.Fragment = at test options.ALL 5 opt.Source (lit< tt) all
-each_option test all opt.Match = at test options.ALL 6 opt.Source (lit< tt) all
-each_option test all opt.Jump = at test options.ALL 7 opt.Source (lit< tt) all
-each_option test all opt.Goto = at test options.ALL 8 opt.Source (lit< tt) all
-each_option test all opt.SourcePort = at test options.ALL 9 opt.Source (lit< tt) all
-each_option test all opt.DestinationPort = at test options.ALL 10 opt.Source (lit< tt) all
-each_option test all opt.TcpFlags = at test options.ALL 11 opt.Source (lit< tt) all
-each_option test all opt.Syn = at test options.ALL 12 opt.Source (lit< tt) all
-each_option test all opt.IcmpType = at test options.ALL 13 opt.Source (lit< tt) all
-each_option test all opt.SourcePorts = at test options.ALL 14 opt.Source (lit< tt) all
-each_option test all opt.DestinationPorts = at test options.ALL 15 opt.Source (lit< tt) all
-each_option test all opt.SourceRange = at test options.ALL 16 opt.Source (lit< tt) all
-each_option test all opt.DestinationRange = at test options.ALL 17 opt.Source (lit< tt) all
-each_option test all opt.Ctstate = at test options.ALL 18 opt.Source (lit< tt) all
-each_option test all opt.State = at test options.ALL 19 opt.Source (lit< tt) all
-each_option test all opt.Comment = at test options.ALL 20 opt.Source (lit< tt) all
-each_option test all opt.RejectWith = at test options.ALL 21 opt.Source (lit< tt) all
-each_option test all opt.LogPrefix = at test options.ALL 22 opt.Source (lit< tt) all
-each_option test all opt.LogLevel = at test options.ALL 23 opt.Source (lit< tt) all
-each_option test all opt.LogTcpSequence = at test options.ALL 24 opt.Source (lit< tt) all
-each_option test all opt.LogTcpOptions = at test options.ALL 25 opt.Source (lit< tt) all
-each_option test all opt.LogIpOptions = at test options.ALL 26 opt.Source (lit< tt) all
-each_option test all opt.LogUid = at test options.ALL 27 opt.Source (lit< tt) all
+pub each_option : (test : Opt → Bool) → list_all test all_options ≡ true → (o : Opt) → test o ≡ true
+each_option test all opt.Source = at test all_options 0 opt.Source (lit< tt) all
+each_option test all opt.Destination = at test all_options 1 opt.Source (lit< tt) all
+each_option test all opt.InInterface = at test all_options 2 opt.Source (lit< tt) all
+each_option test all opt.OutInterface = at test all_options 3 opt.Source (lit< tt) all
+each_option test all opt.Protocol = at test all_options 4 opt.Source (lit< tt) all
+each_option test all opt.Fragment = at test all_options 5 opt.Source (lit< tt) all
+each_option test all opt.Match = at test all_options 6 opt.Source (lit< tt) all
+each_option test all opt.Jump = at test all_options 7 opt.Source (lit< tt) all
+each_option test all opt.Goto = at test all_options 8 opt.Source (lit< tt) all
+each_option test all opt.SourcePort = at test all_options 9 opt.Source (lit< tt) all
+each_option test all opt.DestinationPort = at test all_options 10 opt.Source (lit< tt) all
+each_option test all opt.TcpFlags = at test all_options 11 opt.Source (lit< tt) all
+each_option test all opt.Syn = at test all_options 12 opt.Source (lit< tt) all
+each_option test all opt.IcmpType = at test all_options 13 opt.Source (lit< tt) all
+each_option test all opt.SourcePorts = at test all_options 14 opt.Source (lit< tt) all
+each_option test all opt.DestinationPorts = at test all_options 15 opt.Source (lit< tt) all
+each_option test all opt.SourceRange = at test all_options 16 opt.Source (lit< tt) all
+each_option test all opt.DestinationRange = at test all_options 17 opt.Source (lit< tt) all
+each_option test all opt.Ctstate = at test all_options 18 opt.Source (lit< tt) all
+each_option test all opt.State = at test all_options 19 opt.Source (lit< tt) all
+each_option test all opt.Comment = at test all_options 20 opt.Source (lit< tt) all
+each_option test all opt.RejectWith = at test all_options 21 opt.Source (lit< tt) all
+each_option test all opt.LogPrefix = at test all_options 22 opt.Source (lit< tt) all
+each_option test all opt.LogLevel = at test all_options 23 opt.Source (lit< tt) all
+each_option test all opt.LogTcpSequence = at test all_options 24 opt.Source (lit< tt) all
+each_option test all opt.LogTcpOptions = at test all_options 25 opt.Source (lit< tt) all
+each_option test all opt.LogIpOptions = at test all_options 26 opt.Source (lit< tt) all
+each_option test all opt.LogUid = at test all_options 27 opt.Source (lit< tt) all
 
 -- and along the table of matches
-pub each_kind : (test : MatchKind → Bool) → list_all test kinds.ALL ≡ true → (k : MatchKind) → test k ≡ true
-each_kind test all kind.Tcp = at test kinds.ALL 0 kind.Tcp (lit< tt) all
-each_kind test all kind.Udp = at test kinds.ALL 1 kind.Tcp (lit< tt) all
-each_kind test all kind.Icmp = at test kinds.ALL 2 kind.Tcp (lit< tt) all
-each_kind test all kind.Multiport = at test kinds.ALL 3 kind.Tcp (lit< tt) all
-each_kind test all kind.Iprange = at test kinds.ALL 4 kind.Tcp (lit< tt) all
-each_kind test all kind.Conntrack = at test kinds.ALL 5 kind.Tcp (lit< tt) all
-each_kind test all kind.State = at test kinds.ALL 6 kind.Tcp (lit< tt) all
-each_kind test all kind.Comment = at test kinds.ALL 7 kind.Tcp (lit< tt) all
+pub each_kind : (test : MatchKind → Bool) → list_all test all_kinds ≡ true → (k : MatchKind) → test k ≡ true
+each_kind test all kind.Tcp = at test all_kinds 0 kind.Tcp (lit< tt) all
+each_kind test all kind.Udp = at test all_kinds 1 kind.Tcp (lit< tt) all
+each_kind test all kind.Icmp = at test all_kinds 2 kind.Tcp (lit< tt) all
+each_kind test all kind.Multiport = at test all_kinds 3 kind.Tcp (lit< tt) all
+each_kind test all kind.Iprange = at test all_kinds 4 kind.Tcp (lit< tt) all
+each_kind test all kind.Conntrack = at test all_kinds 5 kind.Tcp (lit< tt) all
+each_kind test all kind.State = at test all_kinds 6 kind.Tcp (lit< tt) all
+each_kind test all kind.Comment = at test all_kinds 7 kind.Tcp (lit< tt) all

@@ -19,7 +19,7 @@ use Rattle.rules.specs.declared.options.value.Value.TheVariants as value
 pub spaced_all-append : (xs ys : List Shown) → spaced_all (xs ++ ys) ≡ spaced_all xs ++ spaced_all ys
 spaced_all-append xs ys = flat_map-append spaced xs ys
 
--- a value behind its blank
+-- a value after its blank
 pub value-written : (v : Value) → has_words v ≡ true → spaced_all (shown_value v) ≡ 32 ∷ value_text v
 value-written (value.TcpFlags x) h = ap (λ l. 32 ∷ (tcp_flags_text x.mask ++ l)) (append-nil (32 ∷ tcp_flags_text x.comp))
 value-written value.Fragment h = absurd (cc)
@@ -28,14 +28,6 @@ value-written value.LogTcpOptions h = absurd (cc)
 value-written value.LogIpOptions h = absurd (cc)
 value-written value.LogUid h = absurd (cc)
 value-written v h = append-nil (32 ∷ value_text v)
-
-pub no-value-written : (v : Value) → has_words v ≡ false → spaced_all (shown_value v) ≡ []
-no-value-written value.Fragment h = refl
-no-value-written value.LogTcpSequence h = refl
-no-value-written value.LogTcpOptions h = refl
-no-value-written value.LogIpOptions h = refl
-no-value-written value.LogUid h = refl
-no-value-written v h = absurd (cc)
 
 pub setting-parts : (s : Setting) → setting_text s ≡ spaced_all (shown_bang s.inverted) ++ (spaced (bare (name_of (option_of_value s.value))) ++ spaced_all (shown_value s.value))
 setting-parts s = spaced_all-append (shown_bang s.inverted) (bare (name_of (option_of_value s.value)) ∷ shown_value s.value)

@@ -5,13 +5,15 @@ use Rattle.std.specs.Prelude.{codes, nat_lt, nat_le}
 use Rattle.std.specs.List.{list_all}
 use Rattle.std.proofs.lemmas.Bool.{and_parts, leb-true, ltb-true}
 use Rattle.std.proofs.lemmas.Grind.{flat_map-append}
-use Rattle.std.proofs.lemmas.List.Elements.{All-append}
+use Rattle.std.specs.List.{All}
+use Rattle.std.specs.Prelude.{◌≢◌}
+use Rattle.std.proofs.lemmas.List.Elements.{All-append, All-nil}
 use Rattle.fields.specs.text.Words.{is_bare, words_of}
-use Rattle.fields.specs.text.Printed.{Shown, bare, spaced, spaced_all, IsBareWord, IsPrintable, ArePrintable}
+use Rattle.fields.specs.text.Printed.{Shown, bare, spelling, spaced, spaced_all, IsBareWord, IsPrintable, ArePrintable}
 use Rattle.fields.proofs.laws.values.BareLaws.{some-bytes, is_bare_word}
 use Rattle.fields.proofs.laws.text.PrintedLaws.{words_of-spaced_all}
 use Rattle.rules.specs.options.Matches.{kind_name}
-use Rattle.rules.specs.options.Options.{name_of, may_be_inverted, owner, slot, kind_has}
+use Rattle.rules.specs.options.Options.{all_options, name_of, may_be_inverted, owner, slot, kind_has}
 use Rattle.rules.specs.options.Settings.{option_of_value, slot_of}
 use Rattle.rules.specs.rule.Actions.{is_action_of}
 use Rattle.rules.specs.rule.Rules.{Match, Rule}
@@ -23,7 +25,6 @@ use Rattle.rules.specs.declared.options.match_kind.MatchKind.TheVariants as kind
 use Rattle.rules.specs.declared.options.option.Opt.{Opt}
 use Rattle.rules.specs.declared.options.option.Owner.{Owner}
 use Rattle.rules.specs.declared.options.option.Owner.TheVariants as owned
-use Rattle.rules.specs.declared.options.option.TheConstants.Opt as options
 use Rattle.rules.specs.declared.options.setting.Setting.{Setting}
 use Rattle.rules.proofs.laws.reading.Readable.{value_room, ReadsBack, Each, Rises, IsGroup, OfRule, OfMatch, OfAction, ActionBack, IsMatch, IsLegal}
 use Rattle.rules.proofs.laws.options.TableLaws.{plain, each_option, each_kind}
@@ -95,6 +96,21 @@ rule-spelled r has =
 
 pub words-of-text : (r : Rule) → IsLegal r → words_of (rule_text r) ≡ Some (plain (shown_rule r))
 words-of-text r has = words_of-spaced_all (shown_rule r) (rule-spelled r has)
+
+-- a text of words has no newline (10) where none of its words is spelled with one
+no-newline : (words : List Shown) → All (λ w. All (λ b. b ≢ 10) (spelling w)) words → All (λ b. b ≢ 10) (spaced_all words)
+no-newline [] each = All-nil (λ b. b ≢ 10)
+no-newline (w ∷ ws) each =
+    All-append (λ b. b ≢ 10) (spaced w) (spaced_all ws) (after-blank (spelling w) (each 0 w (omega arith)))
+    (no-newline ws (λ k d within. each (suc k) d (omega arith)))
+  where
+    after-blank : (bytes : List ℕ) → All (λ b. b ≢ 10) bytes → All (λ b. b ≢ 10) (32 ∷ bytes)
+    after-blank bytes all zero d within = λ e. absurd (omega arith)
+    after-blank bytes all (suc k) d within = all k d (omega arith)
+
+-- so a rule's text has none where its words are spelled with none
+pub rule-one-line : (r : Rule) → All (λ w. All (λ b. b ≢ 10) (spelling w)) (shown_rule r) → All (λ b. b ≢ 10) (rule_text r)
+rule-one-line r each = no-newline (shown_rule r) each
 
 -- how many bytes an option has at most, with `!`, its name and its values
 abbrev bang_room : Bool → ℕ
@@ -213,7 +229,7 @@ kind_limits kind.Comment = 525 ∷ []
 
 match-room : (k : MatchKind) (o : Opt) → kind_has k o ≡ true → setting_room o ≤ get_or (kind_limits k) (slot o) 0
 match-room k o e =
-    allowed (kind_has k o) (setting_room o) (get_or (kind_limits k) (slot o) 0) (each_option (λ o. not (kind_has k o) || nat_le (setting_room o) (get_or (kind_limits k) (slot o) 0)) (each_kind (λ k. list_all (λ o. not (kind_has k o) || nat_le (setting_room o) (get_or (kind_limits k) (slot o) 0)) options.ALL) refl k) o) e
+    allowed (kind_has k o) (setting_room o) (get_or (kind_limits k) (slot o) 0) (each_option (λ o. not (kind_has k o) || nat_le (setting_room o) (get_or (kind_limits k) (slot o) 0)) (each_kind (λ k. list_all (λ o. not (kind_has k o) || nat_le (setting_room o) (get_or (kind_limits k) (slot o) 0)) all_options) refl k) o) e
 
 kind-room : (k : MatchKind) → 3 + (length (kind_name k) + 1 + rest 0 (kind_limits k)) ≤ 536
 unfolding rest

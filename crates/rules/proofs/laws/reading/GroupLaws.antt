@@ -1,4 +1,4 @@
--- Laws of groups: options that rise in their places are read one behind another.
+-- Laws of groups: options that rise in their places are read one after another.
 use Prim.Native.Nat.{suc}
 use Rattle.std.proofs.Common.{◌≡◌, ℕ, ◌<◌, ◌≤◌, Bool, true, false, cond, List, [], ◌∷◌, ◌++◌, refl, sym, ap, subst, ◌∙◌, arith, le-ltb, ne_eqb, append_assoc, append-nil}
 use Rattle.std.specs.Prelude.{Result, Ok, Err, codes, ◌||◌}
@@ -52,7 +52,7 @@ insert_by_place-end n s (t ∷ ts) below =
     let h = below.0 in
     ap (λ b. cond b (s ∷ t ∷ ts) (t ∷ insert_by_place n s ts)) (le-ltb n (slot_of t) (omega arith)) ∙ ap (λ l. t ∷ l) (insert_by_place-end n s ts below.1)
 
--- a setting whose place is behind all others is put at the end
+-- a setting whose place is after all others is put at the end
 pub with_option-end : (ss : List Setting) (s : Setting) (place : ℕ) → Below (slot_of s) ss → ReadsBack s
     → with_option ss (the_option_words s.inverted (option_of_value s.value) (plain (shown_value s.value)) place) ≡ Ok (ss ++ s ∷ [])
 unfolding with_option
@@ -62,7 +62,7 @@ with_option-end ss s place below back =
     ap (λ b. cond b (Err refusal.RepeatedOption) (value_of p.option p.inverted p.values >>= put)) (none-given (slot_of s) ss below)
     ∙ ap (λ r. r >>= put) back.text ∙ ap (λ l. Ok l) (insert_by_place-end (slot_of s) s ss below)
 
--- what a group's options do, one behind another
+-- what a group's options do, one after another
 module _ (end : ℕ) (Owns : Owner → Type 0) (state : List Setting → Rule)
     (takes : (ss : List Setting) (s : Setting) (place : ℕ) → Owns (owner (option_of_value s.value)) → Below (slot_of s) ss → ReadsBack s
     → step (state ss) (the_option_words s.inverted (option_of_value s.value) (plain (shown_value s.value)) place) ≡ Ok (state (ss ++ s ∷ []))) where

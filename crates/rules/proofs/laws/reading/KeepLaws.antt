@@ -8,7 +8,7 @@ use Rattle.std.proofs.Math.ListN.{length-set}
 use Rattle.fields.specs.values.Name.{name_of}
 use Rattle.fields.proofs.laws.ListLaws.{find-passes}
 use Rattle.rules.specs.Sequence.{◌>>=◌, or_refused}
-use Rattle.rules.specs.options.Matches.{kind_of}
+use Rattle.rules.specs.options.Matches.{implied_kinds, kind_of}
 use Rattle.rules.specs.options.Options.{first_of, may_be_inverted, owner, slot, kind_has}
 use Rattle.rules.specs.options.Settings.{option_of_value, slot_of, value_of}
 use Rattle.rules.specs.rule.Actions.{action_of, jump_to, is_action_of}
@@ -21,7 +21,6 @@ use Rattle.rules.specs.declared.rule.action.Action.TheVariants as action
 use Rattle.rules.specs.declared.reading.fault.Refusal.{Refusal}
 use Rattle.rules.specs.declared.reading.fault.Refusal.TheVariants as refusal
 use Rattle.rules.specs.declared.options.match_kind.MatchKind.{MatchKind}
-use Rattle.rules.specs.declared.options.match_kind.TheConstants.MatchKind.{IMPLIED}
 use Rattle.rules.specs.declared.options.option.Opt.{Opt}
 use Rattle.rules.specs.declared.options.option.Owner.{Owner}
 use Rattle.rules.specs.declared.options.option.Owner.TheVariants as owned
@@ -160,7 +159,7 @@ last_with-has o (m ∷ ms) i d e = go (last_with o ms) (λ j f. last_with-has o 
 
 -- a match that an option starts has it
 implied_match-has : (ss : List Setting) (o : Opt) (k : MatchKind) → implied_match ss o ≡ Some k → kind_has k o ≡ true
-implied_match-has ss o k e = (and_parts (is_met_for k ss) (kind_has k o) (find-passes (λ k. is_met_for k ss && kind_has k o) (λ k. true) IMPLIED k e refl).0).1
+implied_match-has ss o k e = (and_parts (is_met_for k ss) (kind_has k o) (find-passes (λ k. is_met_for k ss && kind_has k o) (λ k. true) implied_kinds k e refl).0).1
 
 -- the last item
 at-end : (ms : List Match) (m d : Match) → get_or (ms ++ m ∷ []) (length ms) d ≡ m
