@@ -40,6 +40,14 @@ IsClassifierOf boxes c = IsClassifierBy box_allows boxes c
 abbrev pub IsClassifierOfRules : List Rule → Classified → Type 0
 IsClassifierOfRules rules c = IsClassifierBy allows rules c
 
+-- of whatever boxes the old one is the classifier, the new one is that of the edited boxes
+abbrev pub EditsBoxes : (List (List SpanSet) → List (List SpanSet)) → Classified → Classified → Type 0
+EditsBoxes edit old new = (boxes : List (List SpanSet)) → IsClassifierOf boxes old → IsClassifierOf (edit boxes) new
+
+-- the same of rules
+abbrev pub EditsRules : (List Rule → List Rule) → Classified → Classified → Type 0
+EditsRules edit old new = (rules : List Rule) → IsClassifierOfRules rules old → IsClassifierOfRules (edit rules) new
+
 -- each number at which the box's answers change is already the start of a piece
 abbrev pub HasNoNewCut : List SpanSet → Classified → Type 0
 HasNoNewCut box c =
