@@ -49,6 +49,7 @@ impl Model for Classifier {
 
 impl Classifier {
     ghost use Rattle.classify.specs.classifier.Classifier.{IsClassifierOf, IsClassifierOfRules, EditsBoxes, EditsRules};
+    ghost use Rattle.classify.specs.classifier.OfRules.{lines_of};
     ghost use Rattle.classify.specs.classifier.Classifier.{HasNoNewCut, line_on, IsPoint, box_matches};
     ghost use Rattle.classify.specs.steps.CommonPlaces.{IsRow, AreRows};
     ghost use Rattle.classify.specs.steps.Fields.{shown_line};
@@ -92,7 +93,8 @@ impl Classifier {
 
     /// The line of a field; it is lent.
     pub fn line(&self, field: Field) -> Line<'_>
-        ensures { result ≡ line_on field self.now }
+        ensures line { result ≡ line_on field self.now }
+        ensures rules { (rules : List Rule) → IsClassifierOfRules rules self.now → result ≡ lines_of rules field }
     {
         let line = &self.lines[field.index()];
         Line::of(line.pieces.as_slice())
