@@ -1,6 +1,7 @@
 //! The classifier: the lines of all fields.
 
-ghost use Rattle.std.specs.Prelude.{◌≡◌, ◌≢◌, ◌≤◌, ◌%◌, OnOk, OnErr, IsOk, IfOk, List, [], ◌<◌, insert, remove, slice_set};
+ghost use Rattle.std.specs.Prelude.{◌≡◌, ◌≢◌, ◌≤◌, ◌%◌, OnOk, OnErr, IsOk, IfOk, List, [], ◌<◌, insert, remove};
+ghost use Rattle.std.specs.Prelude.{slice_set};
 ghost use Rattle.fields.specs.numbers.Spans.{SpanSet};
 ghost use Rattle.fields.specs.numbers.Field.{index};
 ghost use Rattle.rules.specs.boxing.Boxed.{IsBoxOf};
@@ -47,7 +48,9 @@ impl Model for Classifier {
 }
 
 impl Classifier {
-    ghost use Rattle.classify.specs.classifier.Classifier.{IsClassifierOf, IsClassifierOfRules, HasNoNewCut, line_on, IsPoint, box_matches};
+    ghost use Rattle.classify.specs.classifier.Classifier.{IsClassifierOf, IsClassifierOfRules, EditsBoxes, EditsRules};
+    ghost use Rattle.classify.specs.classifier.OfRules.{lines_of};
+    ghost use Rattle.classify.specs.classifier.Classifier.{HasNoNewCut, line_on, IsPoint, box_matches};
     ghost use Rattle.classify.specs.steps.CommonPlaces.{IsRow, AreRows};
     ghost use Rattle.classify.specs.steps.Fields.{shown_line};
 
@@ -90,7 +93,8 @@ impl Classifier {
 
     /// The line of a field; it is lent.
     pub fn line(&self, field: Field) -> Line<'_>
-        ensures { result ≡ line_on field self.now }
+        ensures line { result ≡ line_on field self.now }
+        ensures rules { (rules : List Rule) → IsClassifierOfRules rules self.now → result ≡ lines_of rules field }
     {
         let line = &self.lines[field.index()];
         Line::of(line.pieces.as_slice())
@@ -104,8 +108,9 @@ impl Classifier {
     /// boxes is no multiple of 64 and the box brings no new cut.
     pub fn insert(&mut self, at: usize, boxed: Boxed) -> Result<(), AllocError>
         requires { at ≤ self.old.len }
-        ensures ok { OnOk result ((boxes : List (List SpanSet)) → IsClassifierOf boxes self.old → IsClassifierOf (insert boxes at boxed) self.new) }
-        ensures rules { OnOk result ((rules : List Rule) (rule : Rule) → IsClassifierOfRules rules self.old → IsBoxOf rule boxed → IsClassifierOfRules (insert rules at rule) self.new) }
+        ensures boxes { OnOk result (EditsBoxes (λ boxes. insert boxes at boxed) self.old self.new) }
+        ensures rules { OnOk result ((rule : Rule) → IsBoxOf rule boxed
+            → EditsRules (λ rules. insert rules at rule) self.old self.new) }
         ensures err { OnErr result (self.new ≡ self.old) }
         ensures there { self.old.len % 64 ≢ 0 → HasNoNewCut boxed self.old → IsOk result }
     {
@@ -125,8 +130,9 @@ impl Classifier {
     /// afterwards are among those before.
     pub fn replace(&mut self, at: usize, boxed: Boxed) -> Result<(), AllocError>
         requires { at < self.old.len }
-        ensures ok { OnOk result ((boxes : List (List SpanSet)) → IsClassifierOf boxes self.old → IsClassifierOf (slice_set boxes at boxed) self.new) }
-        ensures rules { OnOk result ((rules : List Rule) (rule : Rule) → IsClassifierOfRules rules self.old → IsBoxOf rule boxed → IsClassifierOfRules (slice_set rules at rule) self.new) }
+        ensures boxes { OnOk result (EditsBoxes (λ boxes. slice_set boxes at boxed) self.old self.new) }
+        ensures rules { OnOk result ((rule : Rule) → IsBoxOf rule boxed
+            → EditsRules (λ rules. slice_set rules at rule) self.old self.new) }
         ensures err { OnErr result (self.new ≡ self.old) }
         ensures there { HasNoNewCut boxed self.old → IsOk result }
     {
@@ -137,8 +143,8 @@ impl Classifier {
     /// Takes a box out: the later ones move down by one. It takes no memory.
     pub fn remove(&mut self, at: usize)
         requires { at < self.old.len }
-        ensures boxes { (boxes : List (List SpanSet)) → IsClassifierOf boxes self.old → IsClassifierOf (remove boxes at) self.new }
-        ensures rules { (rules : List Rule) → IsClassifierOfRules rules self.old → IsClassifierOfRules (remove rules at) self.new }
+        ensures boxes { EditsBoxes (λ boxes. remove boxes at) self.old self.new }
+        ensures rules { EditsRules (λ rules. remove rules at) self.old self.new }
     {
         lines::remove_lines(&mut self.lines, at);
         self.len -= 1;
@@ -153,7 +159,7 @@ impl Classifier {
         self.len = 0;
     }
 
-    /// The words of the row of a field's line at a number; they are lent.
+    // The words of the row of a field's line at a number; they are lent.
     fn row(&self, place: usize, x: u128) -> &[u64]
         requires { place < FIELDS }
         ensures { IsRow self.now place x result.now }
@@ -163,7 +169,7 @@ impl Classifier {
         owned::row_at(&line.pieces, x)
     }
 
-    /// The words of each field's row at a point; they are lent.
+    // The words of each field's row at a point; they are lent.
     pub(crate) fn rows(&self, point: &[u128; FIELDS]) -> [&[u64]; FIELDS]
         ensures { AreRows self.now point.now result FIELDS }
     {
@@ -182,8 +188,10 @@ impl Classifier {
     /// each row for 64 boxes that it passes over.
     pub fn next(&self, point: &[u128; FIELDS], from: usize) -> Option<usize>
         requires { IsPoint point.now }
-        ensures boxes { (boxes : List (List SpanSet)) → IsClassifierOf boxes self.now → result ≡ next_match (box_matches point.now) boxes from }
-        ensures rules { (rules : List Rule) → IsClassifierOfRules rules self.now → result ≡ next_match (matches point.now) rules from }
+        ensures boxes { (boxes : List (List SpanSet)) → IsClassifierOf boxes self.now
+            → result ≡ next_match (box_matches point.now) boxes from }
+        ensures rules { (rules : List Rule) → IsClassifierOfRules rules self.now
+            → result ≡ next_match (matches point.now) rules from }
     {
         let rows = self.rows(point);
         search::first_common(&rows, self.len.div_ceil(64), from)

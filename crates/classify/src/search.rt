@@ -5,7 +5,7 @@ ghost use Rattle.classify.specs.steps.CommonPlaces.{IsAndAt, AreAndsAt, AreWide,
 
 use std::simd::prelude::*;
 
-/// The words at a place of every row, and-ed.
+// The words at a place of every row, and-ed.
 fn and_at(rows: &[&[u64]], place: usize) -> u64
     requires { (words : ℕ) × AreWide words rows.now × (place < words) }
     ensures { IsAndAt result rows.now place }
@@ -18,7 +18,7 @@ fn and_at(rows: &[&[u64]], place: usize) -> u64
     all
 }
 
-/// The words at four places of every row, and-ed in lanes.
+// The words at four places of every row, and-ed in lanes.
 fn and_four(rows: &[&[u64]], place: usize) -> u64x4
     requires { (words : ℕ) × AreWide words rows.now × (place + 4 ≤ words) }
     ensures { AreAndsAt result rows.now place }
@@ -31,8 +31,8 @@ fn and_four(rows: &[&[u64]], place: usize) -> u64x4
     all
 }
 
-/// Passes over words that no such place is in, four at a time, and stops before four that one is in, or
-/// where fewer than four are left.
+// Passes over words that no such place is in, four at a time, and stops before four that one is in, or
+// where fewer than four are left.
 fn skip(rows: &[&[u64]], start: usize, words: usize) -> usize
     requires wide { AreWide words rows.now }
     requires few { words < 2 ^ 58 }
@@ -48,7 +48,7 @@ fn skip(rows: &[&[u64]], start: usize, words: usize) -> usize
     place
 }
 
-/// The first place that every row has, from a word on.
+// The first place that every row has, from a word on.
 fn scan(rows: &[&[u64]], start: usize, words: usize) -> Option<usize>
     requires wide { AreWide words rows.now }
     requires few { words < 2 ^ 58 }
@@ -63,7 +63,7 @@ fn scan(rows: &[&[u64]], start: usize, words: usize) -> Option<usize>
     None
 }
 
-/// The first place at or after `from` that every row has and that is in the word of `from`.
+// The first place at or after `from` that every row has and that is in the word of `from`.
 fn head(rows: &[&[u64]], from: usize) -> Option<usize>
     requires { (words : ℕ) × AreWide words rows.now × (from / 64 < words) × (words < 2 ^ 58) }
     ensures { IsFirst (HaveAll rows.now) from (64 * (from / 64 + 1)) result }
@@ -76,7 +76,7 @@ fn head(rows: &[&[u64]], from: usize) -> Option<usize>
     None
 }
 
-/// The first place at or after `from` that every row has.
+// The first place at or after `from` that every row has.
 pub(crate) fn first_common(rows: &[&[u64]], words: usize, from: usize) -> Option<usize>
     requires wide { AreWide words rows.now }
     requires few { words < 2 ^ 58 }
@@ -94,7 +94,7 @@ pub(crate) fn first_common(rows: &[&[u64]], words: usize, from: usize) -> Option
     }
 }
 
-/// The same, with no lanes.
+// The same, with no lanes.
 #[cfg(test)]
 pub(crate) fn first_common_plain(rows: &[&[u64]], words: usize, from: usize) -> Option<usize>
     requires wide { AreWide words rows.now }

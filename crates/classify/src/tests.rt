@@ -10,14 +10,14 @@ use std::alloc::Global;
 use std::process::Abort;
 use std::test::Fail;
 
-/// The box of a rule's text.
+// The box of a rule's text.
 fn boxed(alloc: Global, text: &str) -> Result<Boxed, Fail> {
     let words = Words::split(alloc, text.as_bytes())?;
     let rule = read_rule(alloc, &words, 0)?;
     Ok(Boxed::of(alloc, &rule, &mut Work::new())?)
 }
 
-/// Puts the box of a rule's text in last.
+// Puts the box of a rule's text in last.
 fn append(
     rt: &impl Abort,
     alloc: Global,

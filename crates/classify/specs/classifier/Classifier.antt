@@ -1,5 +1,5 @@
 -- The classifier of a list of boxes or of rules.
-use Rattle.std.specs.Prelude.{◌≡◌, ◌≢◌, ℕ, suc, ◌≤◌, Bool, List, [], Contains, length, slice_index_or}
+use Rattle.std.specs.Prelude.{◌≡◌, ◌≢◌, ℕ, suc, ◌≤◌, Bool, IsTrue, List, [], length, slice_index_or}
 use Rattle.std.specs.List.{list_all}
 use Rattle.fields.specs.declared.numbers.field.Field.{Field}
 use Rattle.fields.specs.numbers.Field.{all_fields, index, number_on, top}
@@ -7,7 +7,7 @@ use Rattle.fields.specs.numbers.Spans.{SpanSet, has}
 use Rattle.rules.specs.boxing.Boxed.{set_on}
 use Rattle.rules.specs.rule.Allows.{allows}
 use Rattle.rules.specs.rule.Rules.{Rule}
-use Rattle.classify.specs.line.Line.{IsLineOf, starts}
+use Rattle.classify.specs.line.Line.{IsLineOf, starts_at}
 
 -- whether a box allows a number on a field
 abbrev pub box_allows : List SpanSet → Field → ℕ → Bool
@@ -40,11 +40,19 @@ IsClassifierOf boxes c = IsClassifierBy box_allows boxes c
 abbrev pub IsClassifierOfRules : List Rule → Classified → Type 0
 IsClassifierOfRules rules c = IsClassifierBy allows rules c
 
+-- of whatever boxes the old one is the classifier, the new one is that of the edited boxes
+abbrev pub EditsBoxes : (List (List SpanSet) → List (List SpanSet)) → Classified → Classified → Type 0
+EditsBoxes edit old new = (boxes : List (List SpanSet)) → IsClassifierOf boxes old → IsClassifierOf (edit boxes) new
+
+-- the same of rules
+abbrev pub EditsRules : (List Rule → List Rule) → Classified → Classified → Type 0
+EditsRules edit old new = (rules : List Rule) → IsClassifierOfRules rules old → IsClassifierOfRules (edit rules) new
+
 -- each number at which the box's answers change is already the start of a piece
 abbrev pub HasNoNewCut : List SpanSet → Classified → Type 0
 HasNoNewCut box c =
     (field : Field) (x : ℕ) → suc x ≤ top field → box_allows box field x ≢ box_allows box field (suc x)
-    → Contains (starts (line_on field c)) (suc x)
+    → IsTrue (starts_at (line_on field c) (suc x))
 
 -- each number is within its field's top
 abbrev pub IsPoint : List ℕ → Type 0

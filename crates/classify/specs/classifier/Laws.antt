@@ -19,7 +19,8 @@ EachRuleHasABox = (rule : Rule) → (box : List SpanSet) × IsBox box × IsBoxOf
 -- the classifier of rules' boxes is that of the rules, and the other way round
 abbrev pub BoxesHaveTheRulesClassifier : Type 0
 BoxesHaveTheRulesClassifier =
-    (rules : List Rule) (boxes : List (List SpanSet)) (c : Classified) → AreBoxesOf rules boxes → IsClassifierOf boxes c ↔ IsClassifierOfRules rules c
+    (rules : List Rule) (boxes : List (List SpanSet)) (c : Classified) → AreBoxesOf rules boxes
+    → IsClassifierOf boxes c ↔ IsClassifierOfRules rules c
 
 -- the next box that allows a point is that of the next rule that allows it
 abbrev pub BoxesHaveTheRulesMatches : Type 0
@@ -39,12 +40,14 @@ RulesHaveTheComputedLine =
 
 -- rules that allow the same numbers have the same classifier
 abbrev pub SameNumbersSameClassifier : Type 0
-SameNumbersSameClassifier = (rules others : List Rule) (c : Classified) → AllowTheSame rules others → IsClassifierOfRules rules c → IsClassifierOfRules others c
+SameNumbersSameClassifier = (rules others : List Rule) (c : Classified) → AllowTheSame rules others → IsClassifierOfRules rules c
+    → IsClassifierOfRules others c
 
 -- a renamed target, of one rule or of all that pass a test, leaves the classifier as it is
 abbrev pub RenamedOneSameClassifier : Type 0
 RenamedOneSameClassifier =
-    (rules : List Rule) (at : ℕ) (rule : Rule) (name : List ℕ) (c : Classified) → slice_get rules at ≡ Some rule → IsClassifierOfRules rules c
+    (rules : List Rule) (at : ℕ) (rule : Rule) (name : List ℕ) (c : Classified) → slice_get rules at ≡ Some rule
+    → IsClassifierOfRules rules c
     → IsClassifierOfRules (slice_set rules at (renamed name rule)) c
 
 abbrev pub RenamedManySameClassifier : Type 0

@@ -1,5 +1,6 @@
 -- Places that several rows of bits have, and the first of them.
-use Rattle.std.specs.Prelude.{◌≡◌, ℕ, ◌+◌, ◌<◌, ◌≤◌, ◌↔◌, List, length, slice_index, slice_index_or, [], take, Option, MatchOption, All, false, true}
+use Rattle.std.specs.Prelude.{◌≡◌, ℕ, ◌+◌, ◌<◌, ◌≤◌, ◌↔◌, List, length, slice_index, slice_index_or, [], take, Option, MatchOption, All}
+use Rattle.std.specs.Prelude.{false, true}
 use Rattle.std.specs.Borrow.{Bor}
 use Rattle.std.specs.Int.{bit_at}
 use Rattle.fields.specs.declared.numbers.field.TheConstants.{FIELDS}

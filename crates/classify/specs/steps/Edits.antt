@@ -1,6 +1,7 @@
 -- What the steps of an edit leave of a line.
 use Rattle.fields.specs.declared.numbers.spans.Interval.{Interval}
-use Rattle.std.specs.Prelude.{◌≡◌, ℕ, ◌+◌, ◌≤◌, Bool, List, [], ◌∷◌, length, insert, remove, slice_set, slice_index_or, ◌≢◌, ◌⊎◌, ◌<◌, suc, false}
+use Rattle.std.specs.Prelude.{◌≡◌, ℕ, ◌+◌, ◌≤◌, Bool, List, [], ◌∷◌, length, insert, remove, slice_set, slice_index_or, ◌≢◌, ◌⊎◌, ◌<◌, suc}
+use Rattle.std.specs.Prelude.{false}
 use Rattle.fields.specs.numbers.Spans.{has}
 use Rattle.classify.specs.line.Line.{row_at}
 use Rattle.classify.specs.steps.Pieces.{IsRising, StartsAt, SayTheSame, Differ, row_in}
@@ -60,9 +61,11 @@ row_of line j = let none : ℕ × List Bool = (0, []) in let p : ℕ × List Boo
 -- the piece after the j-th joined to it if their rows are equal, where the two bits say that they may be
 abbrev pub IsJoined : Bool → Bool → ℕ → List (ℕ × List Bool) → List (ℕ × List Bool) → Type 0
 IsJoined bit above j old new =
-    ((new ≡ old) × (suc j < length old → bit ≢ above → row_of old j ≢ row_of old (suc j))) ⊎ ((suc j < length old) × (row_of old j ≡ row_of old (suc j)) × (new ≡ remove old (suc j)))
+    ((new ≡ old) × (suc j < length old → bit ≢ above → row_of old j ≢ row_of old (suc j))) ⊎ ((suc j < length old)
+    × (row_of old j ≡ row_of old (suc j)) × (new ≡ remove old (suc j)))
 
 -- neighbours with one bit at the place still have two rows after the change
 abbrev pub KeepsApart : (ℕ × List Bool → ℕ × List Bool) → ℕ → List (ℕ × List Bool) → Type 0
 KeepsApart g at line =
-    (j : ℕ) → suc j < length line → slice_index_or (row_of line j) at false ≡ slice_index_or (row_of line (suc j)) at false → (g (slice_index_or line j (0, []))).1 ≢ (g (slice_index_or line (suc j) (0, []))).1
+    (j : ℕ) → suc j < length line → slice_index_or (row_of line j) at false ≡ slice_index_or (row_of line (suc j)) at false
+    → (g (slice_index_or line j (0, []))).1 ≢ (g (slice_index_or line (suc j) (0, []))).1

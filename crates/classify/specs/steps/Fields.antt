@@ -1,5 +1,6 @@
 -- The lines of all fields at once, each at its field's place.
-use Rattle.std.specs.Prelude.{◌≡◌, ◌≢◌, ◌%◌, ℕ, ◌+◌, ◌*◌, ◌^◌, ◌-◌, ◌≤◌, ◌<◌, Bool, List, [], ◌∷◌, map, length, All, slice_index, slice_index_or, slice_set, insert, remove}
+use Rattle.std.specs.Prelude.{◌≡◌, ◌≢◌, ◌%◌, ℕ, ◌+◌, ◌*◌, ◌^◌, ◌-◌, ◌≤◌, ◌<◌, Bool, List, [], ◌∷◌, map, length, All, slice_index}
+use Rattle.std.specs.Prelude.{slice_index_or, slice_set, insert, remove}
 use Rattle.fields.specs.declared.numbers.field.TheConstants.{FIELDS}
 use Rattle.fields.specs.declared.numbers.spans.Interval.{Interval}
 use Rattle.fields.specs.numbers.Field.{all_fields, top}
@@ -88,7 +89,8 @@ InsertsSet at s l m =
 -- the set put in the place of another: the line of any sets becomes that of the sets with it
 abbrev pub ReplacesSet : ℕ → SpanSet → OwnedLine → OwnedLine → Type 0
 ReplacesSet at s l m =
-    (sets : List (List Interval)) → IsLineOf has s.top sets (shown_line l) → IsLineOf has s.top (slice_set sets at s.intervals) (shown_line m)
+    (sets : List (List Interval)) → IsLineOf has s.top sets (shown_line l)
+    → IsLineOf has s.top (slice_set sets at s.intervals) (shown_line m)
 
 -- all memory for a set's answers is taken, and the line is cut where they change
 pub record IsReady (s : SpanSet) (l : OwnedLine) : Type 0 where
@@ -97,7 +99,8 @@ pub record IsReady (s : SpanSet) (l : OwnedLine) : Type 0 where
 
 -- a box's set put in at a place: the line of any sets becomes that of the sets with it, and the rows are longer by one bit
 pub record TakesIn (at : ℕ) (s : SpanSet) (old new : OwnedLine) : Type 0 where
-  pub line : (n : ℕ) (sets : List (List Interval)) → at ≤ n → EachRow n (shown_line old) → Says s.top sets (shown_line old) → IsLineOf has s.top (insert sets at s.intervals) (shown_line new)
+  pub line : (n : ℕ) (sets : List (List Interval)) → at ≤ n → EachRow n (shown_line old) → Says s.top sets (shown_line old)
+      → IsLineOf has s.top (insert sets at s.intervals) (shown_line new)
   pub sound : (n : ℕ) → at ≤ n → EachRow n (shown_line old) → IsSound s.top (n + 1) (shown_line new)
 
 -- nothing need grow for the set's answers: pieces start where they change, and no row's last word is full
@@ -107,7 +110,8 @@ pub record HasRoom (s : SpanSet) (l : OwnedLine) : Type 0 where
 
 -- a box's set put in the place of another: the line of any sets becomes that of the sets with it, and the rows stay as long
 pub record TakesOver (at : ℕ) (s : SpanSet) (old new : OwnedLine) : Type 0 where
-  pub line : (sets : List (List Interval)) → Says s.top sets (shown_line old) → IsLineOf has s.top (slice_set sets at s.intervals) (shown_line new)
+  pub line : (sets : List (List Interval)) → Says s.top sets (shown_line old)
+      → IsLineOf has s.top (slice_set sets at s.intervals) (shown_line new)
   pub sound : (n : ℕ) → at < n → EachRow n (shown_line old) → IsSound s.top n (shown_line new)
 
 -- a line as it stands between edits, up to some top, that has a bit at a place in each row
@@ -116,5 +120,6 @@ HasPlace at l = (top : ℕ) × (n : ℕ) × (at < n) × IsSound top n (shown_lin
 
 -- a box taken out: the line of any sets becomes that of the others, and the rows are shorter by one bit
 pub record LosesBox (at : ℕ) (old new : OwnedLine) : Type 0 where
-  pub line : (top : ℕ) (sets : List (List Interval)) → IsLineOf has top sets (shown_line old) → IsLineOf has top (remove sets at) (shown_line new)
+  pub line : (top : ℕ) (sets : List (List Interval)) → IsLineOf has top sets (shown_line old)
+      → IsLineOf has top (remove sets at) (shown_line new)
   pub sound : (top n : ℕ) → at < n → IsSound top n (shown_line old) → IsSound top (n - 1) (shown_line new)

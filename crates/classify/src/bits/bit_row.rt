@@ -1,6 +1,7 @@
 //! A row of bits, packed 64 to a word.
 
-ghost use Rattle.std.specs.Prelude.{◌≡◌, ◌≢◌, ◌++◌, ◌∷◌, [], ◌<◌, ◌≤◌, ◌*◌, ◌%◌, length, false, insert, remove, take, slice_set, slice_index_or, OnOk, OnErr, IsOk, IfOk, IsTrue, ◌↔◌};
+ghost use Rattle.std.specs.Prelude.{◌≡◌, ◌≢◌, ◌++◌, ◌∷◌, [], ◌<◌, ◌≤◌, ◌*◌, ◌%◌, length, false, insert, remove, take};
+ghost use Rattle.std.specs.Prelude.{slice_set, slice_index_or, OnOk, OnErr, IsOk, IfOk, IsTrue, ◌↔◌};
 ghost use Rattle.std.specs.Vec.{vec_capacity};
 ghost use Rattle.classify.specs.steps.Packing.{all_bits, IsPacked, IsOpen, TakesBit, room_of};
 
@@ -8,13 +9,13 @@ use crate::bits::words::{set_bit, shift_in, shift_out};
 use std::alloc::{AllocError, Global};
 use std::marker::Model;
 
-/// The most words of a row, so that its length is a `usize`.
+// The most words of a row, so that its length is a `usize`.
 const MOST_WORDS: usize = (1 << 58) - 1;
 
-/// The most bits of a row.
+// The most bits of a row.
 pub(crate) const MOST_BITS: usize = 64 * MOST_WORDS;
 
-/// Adds a word of zeros where the words are full.
+// Adds a word of zeros where the words are full.
 fn open_word(words: &mut Vec<u64>, len: usize)
     requires packed { IsPacked words.old.items len }
     requires room { 0 < room_of (vec_capacity words.old) len }
@@ -42,7 +43,10 @@ impl Model for BitRow {
 
     ghost Value = { BitsAndRoom };
 
-    ghost view = { λ r. record { bits = take r.len (all_bits r.words.items); room = room_of (vec_capacity r.words) r.len } };
+    ghost view = { λ r. record {
+      bits = take r.len (all_bits r.words.items);
+      room = room_of (vec_capacity r.words) r.len;
+    } };
 
     ghost invariant = { λ r. IsPacked r.words.items r.len };
 }
@@ -74,7 +78,7 @@ impl BitRow {
         (self.words[at / 64] >> (at % 64)) % 2 == 1
     }
 
-    /// Writes the bit at a place.
+    // Writes the bit at a place.
     pub(crate) fn set(&mut self, at: usize, bit: bool)
         requires { at < length self.old.bits }
         ensures { self.new.bits ≡ slice_set self.old.bits at bit }
@@ -84,7 +88,7 @@ impl BitRow {
         self.words[at / 64] = set_bit(word, (at % 64) as u32, bit);
     }
 
-    /// Takes every bit out.
+    // Takes every bit out.
     pub(crate) fn clear(&mut self)
         ensures { self.new.bits ≡ [] }
     {
@@ -92,7 +96,7 @@ impl BitRow {
         self.len = 0;
     }
 
-    /// Takes the memory that one more bit needs.
+    // Takes the memory that one more bit needs.
     pub(crate) fn reserve(&mut self) -> Result<(), AllocError>
         ensures same { self.new.bits ≡ self.old.bits }
         ensures ok { OnOk result (0 < self.new.room) }
@@ -108,7 +112,7 @@ impl BitRow {
         Ok(())
     }
 
-    /// Puts a bit in at a place, where there is room: the later ones move up by one.
+    // Puts a bit in at a place, where there is room: the later ones move up by one.
     pub(crate) fn put(&mut self, at: usize, bit: bool)
         requires place { at ≤ length self.old.bits }
         requires room { TakesBit self.old }
@@ -149,7 +153,7 @@ impl BitRow {
         }
     }
 
-    /// An equal row.
+    // An equal row.
     pub(crate) fn copy(&self, alloc: Global) -> Result<BitRow, AllocError>
         ensures { IfOk result (λ row. row.bits ≡ self.now.bits) }
     {
@@ -159,7 +163,7 @@ impl BitRow {
         })
     }
 
-    /// Whether the bits of both are equal.
+    // Whether the bits of both are equal.
     pub(crate) fn same(&self, other: &BitRow) -> bool
         ensures { IsTrue result ↔ (self.now.bits ≡ other.now.bits) }
     {
@@ -176,7 +180,7 @@ impl BitRow {
         true
     }
 
-    /// The words, lent: bit p stands in word p / 64 at p % 64, and no bit past the length is set.
+    // The words, lent: bit p stands in word p / 64 at p % 64, and no bit past the length is set.
     pub(crate) fn words(&self) -> &[u64]
         ensures packed { IsPacked result.now (length self.now.bits) }
         ensures bits { take (length self.now.bits) (all_bits result.now) ≡ self.now.bits }

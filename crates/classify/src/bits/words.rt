@@ -3,7 +3,7 @@
 ghost use Rattle.std.specs.Prelude.{◌≡◌, ◌++◌, ◌∷◌, [], ◌<◌, ◌≤◌, ◌*◌, length, false, insert, remove, slice_set};
 ghost use Rattle.classify.specs.steps.Packing.{word_bits, all_bits, low_bit, top_bit};
 
-/// Puts a bit into a word: the later bits move up, and the highest falls out.
+// Puts a bit into a word: the later bits move up, and the highest falls out.
 fn insert_bit(word: u64, offset: u32, bit: bool) -> u64
     requires { offset < 64 }
     ensures { word_bits 64 result ++ top_bit word ∷ [] ≡ insert (word_bits 64 word) offset bit }
@@ -13,7 +13,7 @@ fn insert_bit(word: u64, offset: u32, bit: bool) -> u64
     (high << offset) | low
 }
 
-/// Takes a bit out of a word: the later bits move down, and `top` comes in as the highest.
+// Takes a bit out of a word: the later bits move down, and `top` comes in as the highest.
 fn remove_bit(word: u64, offset: u32, top: bool) -> u64
     requires { offset < 64 }
     ensures { word_bits 64 result ≡ remove (word_bits 64 word) offset ++ top ∷ [] }
@@ -23,7 +23,7 @@ fn remove_bit(word: u64, offset: u32, top: bool) -> u64
     (u64::from(top) << 63) | ((high << offset) | low)
 }
 
-/// Writes a bit of a word.
+// Writes a bit of a word.
 pub(crate) fn set_bit(word: u64, offset: u32, bit: bool) -> u64
     requires { offset < 64 }
     ensures { word_bits 64 result ≡ slice_set (word_bits 64 word) offset bit }
@@ -31,21 +31,21 @@ pub(crate) fn set_bit(word: u64, offset: u32, bit: bool) -> u64
     insert_bit(remove_bit(word, offset, false), offset, bit)
 }
 
-/// Moves the bits of a word up by one: the highest bit of the word below comes in first.
+// Moves the bits of a word up by one: the highest bit of the word below comes in first.
 fn shift_up(word: u64, below: u64) -> u64
     ensures { word_bits 64 result ++ top_bit word ∷ [] ≡ top_bit below ∷ word_bits 64 word }
 {
     (word << 1) | (below >> 63)
 }
 
-/// Moves the bits of a word down by one: the lowest bit of the word above comes in last.
+// Moves the bits of a word down by one: the lowest bit of the word above comes in last.
 fn shift_down(word: u64, above: u64) -> u64
     ensures { word_bits 64 result ≡ remove (word_bits 64 word) 0 ++ low_bit above ∷ [] }
 {
     (above << 63) | (word >> 1)
 }
 
-/// Puts a bit in at a place: the later bits move up, from word to word, and the last falls out.
+// Puts a bit in at a place: the later bits move up, from word to word, and the last falls out.
 pub(crate) fn shift_in(words: &mut [u64], at: usize, bit: bool) -> bool
     requires { at ≤ 64 * length words.old }
     ensures { all_bits words.new ++ result ∷ [] ≡ insert (all_bits words.old) at bit }
@@ -64,7 +64,7 @@ pub(crate) fn shift_in(words: &mut [u64], at: usize, bit: bool) -> bool
     below >> 63 == 1
 }
 
-/// Takes the bit at a place out: the later bits move down, from word to word, and a 0 comes in last.
+// Takes the bit at a place out: the later bits move down, from word to word, and a 0 comes in last.
 pub(crate) fn shift_out(words: &mut [u64], at: usize)
     requires { at < 64 * length words.old }
     ensures { all_bits words.new ≡ remove (all_bits words.old) at ++ false ∷ [] }

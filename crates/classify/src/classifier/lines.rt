@@ -4,7 +4,8 @@ ghost use Rattle.std.specs.Prelude.{◌≡◌, ◌≢◌, ◌<◌, ◌≤◌, �
 ghost use Rattle.classify.specs.steps.Pieces.{StartsAtZero};
 ghost use Rattle.classify.specs.steps.Edits.{EachRow};
 ghost use Rattle.classify.specs.steps.Fields.{shown_line, EachLine, EachEdit, ShowTheSame, AreEmpty, EachField, OnEach};
-ghost use Rattle.classify.specs.steps.Fields.{Rises, HasCuts, HasOnlyCuts, Stands, IsCutMore, IsJoinedUp, InsertsSet, ReplacesSet};
+ghost use Rattle.classify.specs.steps.Fields.{Rises, HasCuts, HasOnlyCuts, Stands, IsCutMore, IsJoinedUp, InsertsSet};
+ghost use Rattle.classify.specs.steps.Fields.{ReplacesSet};
 ghost use Rattle.classify.specs.steps.Fields.{IsReady, HasRoom, TakesIn, TakesOver, HasPlace, LosesBox};
 
 use crate::line::edit;
@@ -12,7 +13,7 @@ use crate::line::owned::OwnedLine;
 use fields::Spans;
 use std::alloc::{AllocError, Global};
 
-/// Makes every line that of no box.
+// Makes every line that of no box.
 pub(crate) fn open_lines(lines: &mut [OwnedLine], alloc: Global) -> Result<(), AllocError>
     ensures { OnOk result (AreEmpty lines.old lines.new) }
 {
@@ -22,7 +23,7 @@ pub(crate) fn open_lines(lines: &mut [OwnedLine], alloc: Global) -> Result<(), A
     Ok(())
 }
 
-/// Makes every line a copy of its field's line among others.
+// Makes every line a copy of its field's line among others.
 pub(crate) fn copy_lines(
     lines: &mut [OwnedLine],
     others: &[OwnedLine],
@@ -37,7 +38,7 @@ pub(crate) fn copy_lines(
     Ok(())
 }
 
-/// Cuts every line wherever the box's answers change on its field.
+// Cuts every line wherever the box's answers change on its field.
 fn split_lines(lines: &mut [OwnedLine], spans: &[Spans]) -> Result<(), AllocError>
     requires as_long { length spans.now ≡ length lines.old }
     requires rising { OnEach Rises spans.now lines.old }
@@ -52,7 +53,7 @@ fn split_lines(lines: &mut [OwnedLine], spans: &[Spans]) -> Result<(), AllocErro
     Ok(())
 }
 
-/// Takes the memory that one more bit in each row of every line needs.
+// Takes the memory that one more bit in each row of every line needs.
 fn reserve_lines(lines: &mut [OwnedLine]) -> Result<(), AllocError>
     ensures same { ShowTheSame lines.old lines.new }
     ensures room { OnOk result (EachEdit (λ _ m. All (λ p. 0 < p.row.room) m.pieces.items) lines.old lines.new) }
@@ -65,7 +66,7 @@ fn reserve_lines(lines: &mut [OwnedLine]) -> Result<(), AllocError>
     Ok(())
 }
 
-/// Takes all memory that a box needs, in every line: rows whose last word has a place left need none.
+// Takes all memory that a box needs, in every line: rows whose last word has a place left need none.
 fn prepare_lines(lines: &mut [OwnedLine], len: usize, spans: &[Spans]) -> Result<(), AllocError>
     requires as_long { length spans.now ≡ length lines.old }
     requires rising { OnEach Rises spans.now lines.old }
@@ -82,7 +83,7 @@ fn prepare_lines(lines: &mut [OwnedLine], len: usize, spans: &[Spans]) -> Result
     Ok(())
 }
 
-/// Takes the cuts wherever the box's answers change back, in every line, where the rows are equal.
+// Takes the cuts wherever the box's answers change back, in every line, where the rows are equal.
 fn unsplit_lines(lines: &mut [OwnedLine], spans: &[Spans])
     requires as_long { length spans.now ≡ length lines.old }
     requires rising { OnEach Rises spans.now lines.old }
@@ -95,7 +96,7 @@ fn unsplit_lines(lines: &mut [OwnedLine], spans: &[Spans])
     }
 }
 
-/// Puts a box in, in every line, for which all memory is taken.
+// Puts a box in, in every line, for which all memory is taken.
 fn commit_lines(lines: &mut [OwnedLine], at: usize, spans: &[Spans])
     requires as_long { length spans.now ≡ length lines.old }
     requires rising { OnEach Rises spans.now lines.old }
@@ -110,7 +111,7 @@ fn commit_lines(lines: &mut [OwnedLine], at: usize, spans: &[Spans])
     }
 }
 
-/// Puts a box in at a place among the boxes, in every line. Without the memory all lines stay as they were.
+// Puts a box in at a place among the boxes, in every line. Without the memory all lines stay as they were.
 pub(crate) fn insert_lines(
     lines: &mut [OwnedLine],
     len: usize,
@@ -137,7 +138,7 @@ pub(crate) fn insert_lines(
     }
 }
 
-/// Puts a box in the place of another, in every line, where all cuts are there.
+// Puts a box in the place of another, in every line, where all cuts are there.
 fn settle_lines(lines: &mut [OwnedLine], at: usize, spans: &[Spans])
     requires as_long { length spans.now ≡ length lines.old }
     requires rising { OnEach Rises spans.now lines.old }
@@ -152,7 +153,7 @@ fn settle_lines(lines: &mut [OwnedLine], at: usize, spans: &[Spans])
     }
 }
 
-/// Puts a box in the place of another, in every line. Without the memory all lines stay as they were.
+// Puts a box in the place of another, in every line. Without the memory all lines stay as they were.
 pub(crate) fn replace_lines(
     lines: &mut [OwnedLine],
     len: usize,
@@ -179,7 +180,7 @@ pub(crate) fn replace_lines(
     }
 }
 
-/// Takes a box out, in every line.
+// Takes a box out, in every line.
 pub(crate) fn remove_lines(lines: &mut [OwnedLine], at: usize)
     requires { EachLine (HasPlace at) lines.old }
     ensures { EachEdit (LosesBox at) lines.old lines.new }
@@ -190,7 +191,7 @@ pub(crate) fn remove_lines(lines: &mut [OwnedLine], at: usize)
     }
 }
 
-/// Takes every box out, in every line.
+// Takes every box out, in every line.
 pub(crate) fn clear_lines(lines: &mut [OwnedLine])
     requires { EachLine (λ l. StartsAtZero (shown_line l)) lines.old }
     ensures { AreEmpty lines.old lines.new }

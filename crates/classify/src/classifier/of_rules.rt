@@ -1,7 +1,9 @@
 //! Laws of the classifier of rules: the contract of each is the law, and it does nothing.
 
-ghost use Rattle.classify.specs.classifier.Laws.{EachRuleHasABox, BoxesHaveTheRulesClassifier, BoxesHaveTheRulesMatches, RulesHaveOneClassifier};
-ghost use Rattle.classify.specs.classifier.Laws.{RulesHaveTheComputedLine, SameNumbersSameClassifier, RenamedOneSameClassifier, RenamedManySameClassifier};
+ghost use Rattle.classify.specs.classifier.Laws.{EachRuleHasABox, BoxesHaveTheRulesClassifier};
+ghost use Rattle.classify.specs.classifier.Laws.{BoxesHaveTheRulesMatches, RulesHaveOneClassifier};
+ghost use Rattle.classify.specs.classifier.Laws.{RulesHaveTheComputedLine, SameNumbersSameClassifier};
+ghost use Rattle.classify.specs.classifier.Laws.{RenamedOneSameClassifier, RenamedManySameClassifier};
 
 /// The law that the classifier of rules' boxes is that of the rules themselves, and the next box that allows
 /// a point that of the next rule that allows it; and that each rule has a box.

@@ -1,25 +1,30 @@
 //! The steps of an edit on one line: all memory first, then what cannot fail.
 
 ghost use Rattle.fields.specs.declared.numbers.spans.Interval.{Interval};
-ghost use Rattle.std.specs.Prelude.{◌≡◌, ◌≢◌, ◌<◌, ◌≤◌, ◌+◌, ◌-◌, ◌%◌, ℕ, length, OnOk, IsOk, All, List, map, insert, remove, slice_set, slice_index_or, false, [], ◌∷◌};
+ghost use Rattle.std.specs.Prelude.{◌≡◌, ◌≢◌, ◌<◌, ◌≤◌, ◌+◌, ◌-◌, ◌%◌, ℕ, length, OnOk, IsOk, All, List, map, insert};
+ghost use Rattle.std.specs.Prelude.{remove, slice_set, slice_index_or, false, [], ◌∷◌};
 ghost use Rattle.classify.specs.steps.Packing.{TakesBit};
 ghost use Rattle.classify.specs.line.Line.{IsLineOf};
 ghost use Rattle.classify.specs.steps.Pieces.{IsRising, IsRisingLine, IsSplitOf, StartsAt, StartsAtZero};
 ghost use Rattle.classify.specs.steps.Shown.{shown};
 ghost use Rattle.fields.specs.numbers.Spans.{has};
 ghost use Rattle.classify.specs.steps.Cuts.{CutsStart, EndsStart, ChangesAt, IsApart};
-ghost use Rattle.classify.specs.steps.Edits.{with_answer, with_written, without_answer, IsMergeOf, IsUnsplitAt, IsNumber, IsEndOf, IsJoined, KeepsApart, Says, EachRow, IsSound, row_of};
+ghost use Rattle.classify.specs.steps.Edits.{with_answer, with_written, without_answer, IsMergeOf, IsUnsplitAt};
+ghost use Rattle.classify.specs.steps.Edits.{IsNumber, IsEndOf, IsJoined, KeepsApart, Says, EachRow, IsSound, row_of};
 
 use crate::line::owned::{OwnedPiece, place_of};
 use fields::{Interval, Spans};
 use std::alloc::AllocError;
 
-/// Cuts the piece that x is in, so that a piece starts at x: both halves have its row.
+// Cuts the piece that x is in, so that a piece starts at x: both halves have its row.
 fn split(pieces: &mut Vec<OwnedPiece>, x: u128) -> Result<(), AllocError>
     requires { IsRisingLine (shown pieces.old.items) }
-    ensures split { (top : ℕ) (spans : List Interval) → x ≤ top → ChangesAt spans x → IsRising top (shown pieces.old.items) → IsSplitOf top spans (shown pieces.old.items) (shown pieces.new.items) }
+    ensures split { (top : ℕ) (spans : List Interval) → x ≤ top → ChangesAt spans x
+        → IsRising top (shown pieces.old.items)
+        → IsSplitOf top spans (shown pieces.old.items) (shown pieces.new.items) }
     ensures ok { OnOk result (StartsAt x (shown pieces.new.items)) }
-    ensures there { (top : ℕ) → IsRising top (shown pieces.old.items) → StartsAt x (shown pieces.old.items) → IsOk result }
+    ensures there { (top : ℕ) → IsRising top (shown pieces.old.items) → StartsAt x (shown pieces.old.items)
+        → IsOk result }
 {
     let place = place_of(pieces, x);
     if pieces[place].start < x {
@@ -30,7 +35,7 @@ fn split(pieces: &mut Vec<OwnedPiece>, x: u128) -> Result<(), AllocError>
     Ok(())
 }
 
-/// Cuts a line where an interval begins, and after its end.
+// Cuts a line where an interval begins, and after its end.
 fn split_interval(
     pieces: &mut Vec<OwnedPiece>,
     top: u128,
@@ -39,7 +44,8 @@ fn split_interval(
     requires rising { IsRising top (shown pieces.old.items) }
     requires begins { interval.first ≤ top }
     requires ends { interval.last ≤ top }
-    ensures split { (spans : List Interval) → ChangesAt spans interval.first → ChangesAt spans (interval.last + 1) → IsSplitOf top spans (shown pieces.old.items) (shown pieces.new.items) }
+    ensures split { (spans : List Interval) → ChangesAt spans interval.first → ChangesAt spans (interval.last + 1)
+        → IsSplitOf top spans (shown pieces.old.items) (shown pieces.new.items) }
     ensures ok { OnOk result (EndsStart top (shown pieces.new.items) interval) }
     ensures there { EndsStart top (shown pieces.old.items) interval → IsOk result }
 {
@@ -51,7 +57,7 @@ fn split_interval(
     Ok(())
 }
 
-/// Cuts a line wherever a set begins or ends. It says what it said.
+// Cuts a line wherever a set begins or ends. It says what it said.
 pub(crate) fn split_all(pieces: &mut Vec<OwnedPiece>, spans: &Spans) -> Result<(), AllocError>
     requires { IsRising spans.now.top (shown pieces.old.items) }
     ensures split { IsSplitOf spans.now.top spans.now.intervals (shown pieces.old.items) (shown pieces.new.items) }
@@ -65,10 +71,11 @@ pub(crate) fn split_all(pieces: &mut Vec<OwnedPiece>, spans: &Spans) -> Result<(
     Ok(())
 }
 
-/// Takes the cut at x back where the rows on its two sides are equal.
+// Takes the cut at x back where the rows on its two sides are equal.
 fn unsplit(pieces: &mut Vec<OwnedPiece>, x: u128)
     requires { IsRisingLine (shown pieces.old.items) }
-    ensures { (top : ℕ) → IsRising top (shown pieces.old.items) → IsUnsplitAt (IsNumber x) top (shown pieces.old.items) (shown pieces.new.items) }
+    ensures { (top : ℕ) → IsRising top (shown pieces.old.items)
+        → IsUnsplitAt (IsNumber x) top (shown pieces.old.items) (shown pieces.new.items) }
 {
     let place = place_of(pieces, x);
     if place == 0 {
@@ -82,7 +89,7 @@ fn unsplit(pieces: &mut Vec<OwnedPiece>, x: u128)
     }
 }
 
-/// Takes the cuts where an interval begins, and after its end, back where the rows are equal.
+// Takes the cuts where an interval begins, and after its end, back where the rows are equal.
 fn unsplit_interval(pieces: &mut Vec<OwnedPiece>, top: u128, interval: Interval)
     requires { IsRising top (shown pieces.old.items) }
     ensures { IsUnsplitAt (IsEndOf interval) top (shown pieces.old.items) (shown pieces.new.items) }
@@ -93,8 +100,8 @@ fn unsplit_interval(pieces: &mut Vec<OwnedPiece>, top: u128, interval: Interval)
     }
 }
 
-/// Takes the cuts wherever a set begins or ends back where the rows are equal. Elsewhere no neighbours are
-/// compared: there the rows differ.
+// Takes the cuts wherever a set begins or ends back where the rows are equal. Elsewhere no neighbours are
+// compared: there the rows differ.
 pub(crate) fn unsplit_all(pieces: &mut Vec<OwnedPiece>, spans: &Spans)
     requires rising { IsRising spans.now.top (shown pieces.old.items) }
     requires apart { IsApart spans.now.intervals (shown pieces.old.items) }
@@ -106,7 +113,7 @@ pub(crate) fn unsplit_all(pieces: &mut Vec<OwnedPiece>, spans: &Spans)
     }
 }
 
-/// Takes the memory that one more bit in each row needs.
+// Takes the memory that one more bit in each row needs.
 pub(crate) fn reserve_rows(pieces: &mut Vec<OwnedPiece>) -> Result<(), AllocError>
     ensures same { shown pieces.new.items ≡ shown pieces.old.items }
     ensures ok { OnOk result (All (λ p. 0 < p.row.room) pieces.new.items) }
@@ -119,7 +126,7 @@ pub(crate) fn reserve_rows(pieces: &mut Vec<OwnedPiece>) -> Result<(), AllocErro
     Ok(())
 }
 
-/// Puts a box's answers into the rows of a line that is cut wherever they change.
+// Puts a box's answers into the rows of a line that is cut wherever they change.
 fn put_answers(pieces: &mut Vec<OwnedPiece>, at: usize, spans: &Spans)
     requires place { All (λ p. at ≤ length p.row.bits) pieces.old.items }
     requires room { All (λ p. TakesBit p.row) pieces.old.items }
@@ -132,11 +139,12 @@ fn put_answers(pieces: &mut Vec<OwnedPiece>, at: usize, spans: &Spans)
     }
 }
 
-/// Writes a box's answer into a piece's row, and answers with what stood there.
+// Writes a box's answer into a piece's row, and answers with what stood there.
 fn write_in(pieces: &mut Vec<OwnedPiece>, k: usize, at: usize, spans: &Spans) -> bool
     requires within { k < length pieces.old.items }
     requires place { at < length (row_of (shown pieces.old.items) k) }
-    ensures row { shown pieces.new.items ≡ slice_set (shown pieces.old.items) k (with_written at spans.now.intervals (slice_index_or (shown pieces.old.items) k (0, []))) }
+    ensures row { shown pieces.new.items
+        ≡ slice_set (shown pieces.old.items) k (with_written at spans.now.intervals (slice_index_or (shown pieces.old.items) k (0, []))) }
     ensures bit { result ≡ slice_index_or (row_of (shown pieces.old.items) k) at false }
 {
     let piece = &mut pieces[k];
@@ -146,11 +154,12 @@ fn write_in(pieces: &mut Vec<OwnedPiece>, k: usize, at: usize, spans: &Spans) ->
     bit
 }
 
-/// Takes a box's answer out of a piece's row, and answers with it.
+// Takes a box's answer out of a piece's row, and answers with it.
 fn take_out(pieces: &mut Vec<OwnedPiece>, k: usize, at: usize) -> bool
     requires within { k < length pieces.old.items }
     requires place { at < length (row_of (shown pieces.old.items) k) }
-    ensures row { shown pieces.new.items ≡ slice_set (shown pieces.old.items) k (without_answer at (slice_index_or (shown pieces.old.items) k (0, []))) }
+    ensures row { shown pieces.new.items
+        ≡ slice_set (shown pieces.old.items) k (without_answer at (slice_index_or (shown pieces.old.items) k (0, []))) }
     ensures bit { result ≡ slice_index_or (row_of (shown pieces.old.items) k) at false }
 {
     let piece = &mut pieces[k];
@@ -159,8 +168,8 @@ fn take_out(pieces: &mut Vec<OwnedPiece>, k: usize, at: usize) -> bool
     bit
 }
 
-/// Joins the piece after another to it if their rows are equal. It compares them only where the bits that
-/// stood in them differed: else they are apart as before.
+// Joins the piece after another to it if their rows are equal. It compares them only where the bits that
+// stood in them differed: else they are apart as before.
 fn join(pieces: &mut Vec<OwnedPiece>, k: usize, bit: bool, above: bool)
     requires { k < length pieces.old.items }
     ensures { IsJoined bit above k (shown pieces.old.items) (shown pieces.new.items) }
@@ -176,12 +185,13 @@ fn join(pieces: &mut Vec<OwnedPiece>, k: usize, bit: bool, above: bool)
     }
 }
 
-/// Writes a box's answers over another's, and joins the pieces that only the other's kept apart.
+// Writes a box's answers over another's, and joins the pieces that only the other's kept apart.
 fn set_answers(pieces: &mut Vec<OwnedPiece>, at: usize, spans: &Spans)
     requires zero { StartsAtZero (shown pieces.old.items) }
     requires place { (j : ℕ) → j < length pieces.old.items → at < length (row_of (shown pieces.old.items) j) }
     requires keeps_apart { KeepsApart (with_written at spans.now.intervals) at (shown pieces.old.items) }
-    ensures { (top : ℕ) → IsRising top (map (with_written at spans.now.intervals) (shown pieces.old.items)) → IsMergeOf top (map (with_written at spans.now.intervals) (shown pieces.old.items)) (shown pieces.new.items) }
+    ensures { (top : ℕ) → IsRising top (map (with_written at spans.now.intervals) (shown pieces.old.items))
+        → IsMergeOf top (map (with_written at spans.now.intervals) (shown pieces.old.items)) (shown pieces.new.items) }
 {
     let mut above = false;
     let mut k = pieces.len();
@@ -193,12 +203,13 @@ fn set_answers(pieces: &mut Vec<OwnedPiece>, at: usize, spans: &Spans)
     }
 }
 
-/// Takes a box's answers out, and joins the pieces that only these kept apart.
+// Takes a box's answers out, and joins the pieces that only these kept apart.
 fn remove_answers(pieces: &mut Vec<OwnedPiece>, at: usize)
     requires zero { StartsAtZero (shown pieces.old.items) }
     requires place { (j : ℕ) → j < length pieces.old.items → at < length (row_of (shown pieces.old.items) j) }
     requires keeps_apart { KeepsApart (without_answer at) at (shown pieces.old.items) }
-    ensures { (top : ℕ) → IsRising top (map (without_answer at) (shown pieces.old.items)) → IsMergeOf top (map (without_answer at) (shown pieces.old.items)) (shown pieces.new.items) }
+    ensures { (top : ℕ) → IsRising top (map (without_answer at) (shown pieces.old.items))
+        → IsMergeOf top (map (without_answer at) (shown pieces.old.items)) (shown pieces.new.items) }
 {
     let mut above = false;
     let mut k = pieces.len();
@@ -210,41 +221,48 @@ fn remove_answers(pieces: &mut Vec<OwnedPiece>, at: usize)
     }
 }
 
-/// Puts a box's answers in, for which all memory is taken. No cut goes: at each one the rows still differ.
+// Puts a box's answers in, for which all memory is taken. No cut goes: at each one the rows still differ.
 pub(crate) fn commit(pieces: &mut Vec<OwnedPiece>, at: usize, spans: &Spans)
     requires rising { IsRising spans.now.top (shown pieces.old.items) }
     requires cuts { CutsStart spans.now.top spans.now.intervals (shown pieces.old.items) }
     requires apart { IsApart spans.now.intervals (shown pieces.old.items) }
     requires place { All (λ p. at ≤ length p.row.bits) pieces.old.items }
     requires room { All (λ p. TakesBit p.row) pieces.old.items }
-    ensures sound { (n : ℕ) → at ≤ n → EachRow n (shown pieces.old.items) → IsSound spans.now.top (n + 1) (shown pieces.new.items) }
-    ensures line { (n : ℕ) (sets : List (List Interval)) → at ≤ n → EachRow n (shown pieces.old.items) → Says spans.now.top sets (shown pieces.old.items) → IsLineOf has spans.now.top (insert sets at spans.now.intervals) (shown pieces.new.items) }
+    ensures sound { (n : ℕ) → at ≤ n → EachRow n (shown pieces.old.items)
+        → IsSound spans.now.top (n + 1) (shown pieces.new.items) }
+    ensures line { (n : ℕ) (sets : List (List Interval)) → at ≤ n → EachRow n (shown pieces.old.items)
+        → Says spans.now.top sets (shown pieces.old.items)
+        → IsLineOf has spans.now.top (insert sets at spans.now.intervals) (shown pieces.new.items) }
 {
     put_answers(pieces, at, spans);
 }
 
-/// Takes a box out.
+// Takes a box out.
 pub(crate) fn remove_box(pieces: &mut Vec<OwnedPiece>, at: usize)
     requires { (top : ℕ) × (n : ℕ) × (at < n) × IsSound top n (shown pieces.old.items) }
-    ensures sound { (top n : ℕ) → at < n → IsSound top n (shown pieces.old.items) → IsSound top (n - 1) (shown pieces.new.items) }
-    ensures line { (top : ℕ) (sets : List (List Interval)) → IsLineOf has top sets (shown pieces.old.items) → IsLineOf has top (remove sets at) (shown pieces.new.items) }
+    ensures sound { (top n : ℕ) → at < n → IsSound top n (shown pieces.old.items)
+        → IsSound top (n - 1) (shown pieces.new.items) }
+    ensures line { (top : ℕ) (sets : List (List Interval)) → IsLineOf has top sets (shown pieces.old.items)
+        → IsLineOf has top (remove sets at) (shown pieces.new.items) }
 {
     remove_answers(pieces, at);
 }
 
-/// Puts a box in the place of another, where the line is cut wherever its answers change.
+// Puts a box in the place of another, where the line is cut wherever its answers change.
 pub(crate) fn replace_box(pieces: &mut Vec<OwnedPiece>, at: usize, spans: &Spans)
     requires rising { IsRising spans.now.top (shown pieces.old.items) }
     requires cuts { CutsStart spans.now.top spans.now.intervals (shown pieces.old.items) }
     requires apart { IsApart spans.now.intervals (shown pieces.old.items) }
     requires place { (n : ℕ) × (at < n) × EachRow n (shown pieces.old.items) }
-    ensures sound { (n : ℕ) → at < n → EachRow n (shown pieces.old.items) → IsSound spans.now.top n (shown pieces.new.items) }
-    ensures line { (sets : List (List Interval)) → Says spans.now.top sets (shown pieces.old.items) → IsLineOf has spans.now.top (slice_set sets at spans.now.intervals) (shown pieces.new.items) }
+    ensures sound { (n : ℕ) → at < n → EachRow n (shown pieces.old.items)
+        → IsSound spans.now.top n (shown pieces.new.items) }
+    ensures line { (sets : List (List Interval)) → Says spans.now.top sets (shown pieces.old.items)
+        → IsLineOf has spans.now.top (slice_set sets at spans.now.intervals) (shown pieces.new.items) }
 {
     set_answers(pieces, at, spans);
 }
 
-/// Takes every box out: one piece without a bit is left.
+// Takes every box out: one piece without a bit is left.
 pub(crate) fn clear(pieces: &mut Vec<OwnedPiece>)
     requires { StartsAtZero (shown pieces.old.items) }
     ensures { shown pieces.new.items ≡ (0, []) ∷ [] }

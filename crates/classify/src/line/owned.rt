@@ -27,14 +27,14 @@ pub(crate) struct OwnedLine {
 }
 
 impl OwnedLine {
-    /// A line without a piece, which no classifier keeps: the place for one.
+    // A line without a piece, which no classifier keeps: the place for one.
     pub(crate) fn bare(alloc: Global) -> OwnedLine {
         OwnedLine {
             pieces: Vec::new(alloc),
         }
     }
 
-    /// The line of no box: one piece without a bit.
+    // The line of no box: one piece without a bit.
     pub(crate) fn open(alloc: Global) -> Result<OwnedLine, AllocError>
         ensures { IfOk result (λ line. shown line.pieces.items ≡ (0, []) ∷ []) }
     {
@@ -46,7 +46,7 @@ impl OwnedLine {
         Ok(OwnedLine { pieces })
     }
 
-    /// An equal line.
+    // An equal line.
     pub(crate) fn copy(&self, alloc: Global) -> Result<OwnedLine, AllocError>
         ensures { IfOk result (λ line. shown line.pieces.items ≡ shown self.now.pieces.items) }
     {
@@ -61,7 +61,7 @@ impl OwnedLine {
     }
 }
 
-/// The place of the piece that a number is in: a binary search.
+// The place of the piece that a number is in: a binary search.
 pub(crate) fn place_of(pieces: &[OwnedPiece], x: u128) -> usize
     requires { IsRisingLine (shown pieces.now) }
     ensures within { result < length pieces.now }
@@ -71,7 +71,7 @@ pub(crate) fn place_of(pieces: &[OwnedPiece], x: u128) -> usize
     pieces.partition_point(|piece| piece.start <= x) - 1
 }
 
-/// The words of the row of the piece that a number is in; they are lent.
+// The words of the row of the piece that a number is in; they are lent.
 pub(crate) fn row_at(pieces: &[OwnedPiece], x: u128) -> &[u64]
     requires { IsRisingLine (shown pieces.now) }
     ensures packed { IsPacked result.now (length (row_in (shown pieces.now) x)) }

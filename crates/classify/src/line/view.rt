@@ -102,7 +102,7 @@ impl<'a> Model for Line<'a> {
 impl<'a> Line<'a> {
     ghost use Rattle.classify.specs.steps.Shown.{shown};
 
-    /// The line of these pieces.
+    // The line of these pieces.
     pub(crate) fn of(pieces: &'a [OwnedPiece]) -> Line<'a>
         ensures { result ≡ shown pieces.now }
     {

@@ -8,7 +8,7 @@ use fields::{FIELDS, Field};
 use std::alloc::AllocError;
 use std::fmt::Write;
 
-/// Numbers that look random, and are always the same.
+// Numbers that look random, and are always the same.
 #[derive(Drop)]
 struct Dice {
     state: u64,
@@ -31,7 +31,7 @@ impl Dice {
     }
 }
 
-/// The fields that the rules ask.
+// The fields that the rules ask.
 const ASKED: [Field; 5] = [
     Field::Protocol,
     Field::Fragment,
@@ -40,7 +40,7 @@ const ASKED: [Field; 5] = [
     Field::ConnectionState,
 ];
 
-/// How many numbers of a field are tried: all, or all up to the last at which a rule's answer changes.
+// How many numbers of a field are tried: all, or all up to the last at which a rule's answer changes.
 fn numbers(field: Field) -> u64
     ensures { 0 < result }
 {
@@ -51,18 +51,18 @@ const FLAGS: [&str; 6] = ["FIN", "SYN", "RST", "PSH", "ACK", "URG"];
 
 const STATES: [&str; 5] = ["INVALID", "UNTRACKED", "NEW", "RELATED", "ESTABLISHED"];
 
-/// What a rule says.
+// What a rule says.
 #[derive(Clone, Copy)]
 struct Draft {
-    /// A protocol, and whether it is meant or all others.
+    // A protocol, and whether it is meant or all others.
     protocol: Option<(u8, bool)>,
-    /// Whether second and further fragments are meant, or the first ones.
+    // Whether second and further fragments are meant, or the first ones.
     fragment: Option<bool>,
-    /// Which flags are looked at, and which of these are set.
+    // Which flags are looked at, and which of these are set.
     flags: Option<(u8, u8)>,
-    /// A type, and a code.
+    // A type, and a code.
     icmp: Option<(u8, Option<u8>)>,
-    /// One bit for each state, and whether these are meant or all others.
+    // One bit for each state, and whether these are meant or all others.
     states: Option<(u8, bool)>,
 }
 
@@ -109,7 +109,7 @@ fn write_inverted(text: &mut String, meant: bool) -> Result<(), AllocError> {
     text.push_str(if meant { " " } else { " ! " })
 }
 
-/// Writes the names of the bits that are set, separated by commas.
+// Writes the names of the bits that are set, separated by commas.
 fn write_names(text: &mut String, names: &[&str], bits: u8) -> Result<(), AllocError> {
     let mut before = ' ';
     for (place, name) in names.iter().enumerate() {
@@ -155,7 +155,7 @@ fn text_of(alloc: Global, draft: &Draft) -> Result<String, AllocError> {
     Ok(text)
 }
 
-/// The bit of a connection's state: four numbers for each of the last three states, one for the others.
+// The bit of a connection's state: four numbers for each of the last three states, one for the others.
 fn state_bit(x: u64) -> u8 {
     match x {
         0 => 1,
@@ -166,7 +166,7 @@ fn state_bit(x: u64) -> u8 {
     }
 }
 
-/// Whether the rule allows a number on a field.
+// Whether the rule allows a number on a field.
 fn allows(draft: &Draft, field: Field, x: u64) -> bool {
     match field {
         Field::Protocol => match draft.protocol {
@@ -194,7 +194,7 @@ fn allows(draft: &Draft, field: Field, x: u64) -> bool {
     }
 }
 
-/// Compares a line with what the rules say of each number that is tried.
+// Compares a line with what the rules say of each number that is tried.
 fn agree(rt: &impl Abort, line: &Line, drafts: &[Draft], field: Field) {
     let mut pieces = line.pieces();
     for x in 0..numbers(field) {
@@ -219,7 +219,7 @@ fn agree(rt: &impl Abort, line: &Line, drafts: &[Draft], field: Field) {
     assert!(rt; pieces.next().is_none());
 }
 
-/// The first rule from a place on that allows the number of each field.
+// The first rule from a place on that allows the number of each field.
 fn first_of(drafts: &[Draft], drawn: &[u64; 5], from: usize) -> Option<usize> {
     for (place, draft) in drafts.iter().enumerate() {
         if place >= from && (0..5usize).all(|k| allows(draft, ASKED[k], drawn[k])) {
@@ -229,7 +229,7 @@ fn first_of(drafts: &[Draft], drawn: &[u64; 5], from: usize) -> Option<usize> {
     None
 }
 
-/// Searches for a point drawn at random, and compares the answer with what the rules say.
+// Searches for a point drawn at random, and compares the answer with what the rules say.
 fn same_search(rt: &impl Abort, classifier: &Classifier, drafts: &[Draft], dice: &mut Dice) {
     let mut drawn = [0; 5];
     let mut point = [0; FIELDS];
@@ -244,7 +244,7 @@ fn same_search(rt: &impl Abort, classifier: &Classifier, drafts: &[Draft], dice:
     );
 }
 
-/// One edit, drawn at random, of a classifier and of the drafts of its rules.
+// One edit, drawn at random, of a classifier and of the drafts of its rules.
 fn edit(
     rt: &impl Abort,
     alloc: Global,

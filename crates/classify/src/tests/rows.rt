@@ -5,7 +5,7 @@ use fields::Field;
 use std::alloc::AllocError;
 use std::fmt::Write;
 
-/// What `lines` prints of a line after its field's name.
+// What `lines` prints of a line after its field's name.
 fn text_of(alloc: Global, line: &Line, field: Field) -> Result<String, AllocError> {
     let mut text = String::new(alloc);
     for piece in line.pieces() {
@@ -31,7 +31,7 @@ fn text_of(alloc: Global, line: &Line, field: Field) -> Result<String, AllocErro
     Ok(text)
 }
 
-/// Compares a text with its field's among some, and with another where it has none.
+// Compares a text with its field's among some, and with another where it has none.
 fn expect_row(rt: &impl Abort, text: &str, field: Field, rows: &[(Field, &str)], other: &str) {
     for (of, row) in rows {
         if *of == field {
@@ -42,7 +42,7 @@ fn expect_row(rt: &impl Abort, text: &str, field: Field, rows: &[(Field, &str)],
     assert_eq!(rt; text, other);
 }
 
-/// Compares every line with its row's text, and those that have none with one piece of such places.
+// Compares every line with its row's text, and those that have none with one piece of such places.
 fn expect(
     rt: &impl Abort,
     alloc: Global,
@@ -63,7 +63,7 @@ fn expect(
     Ok(())
 }
 
-/// A classifier of two rules.
+// A classifier of two rules.
 fn two_rules(rt: &impl Abort, alloc: Global) -> Result<Classifier, Fail> {
     let mut classifier = Classifier::new(alloc)?;
     append(rt, alloc, &mut classifier, "-s 10.1.2.3/8 -j ACCEPT")?;
@@ -146,7 +146,7 @@ fn a_cut_stays_while_a_rule_needs_it(rt: HostRuntime) -> Result<(), Fail> {
     Ok(())
 }
 
-/// Compares the lines of one rule.
+// Compares the lines of one rule.
 fn expect_rule(
     rt: &impl Abort,
     alloc: Global,

@@ -18,16 +18,17 @@ fn is_point(point: &[u128; FIELDS]) -> bool
     true
 }
 
-/// The next match, by the plain search: the oracle of the one with lanes.
+// The next match, by the plain search: the oracle of the one with lanes.
 fn next_plain(classifier: &Classifier, point: &[u128; FIELDS], from: usize) -> Option<usize>
     requires { IsPoint point.now }
-    ensures { (boxes : List (List SpanSet)) → IsClassifierOf boxes classifier.now → result ≡ next_match (box_matches point.now) boxes from }
+    ensures { (boxes : List (List SpanSet)) → IsClassifierOf boxes classifier.now
+        → result ≡ next_match (box_matches point.now) boxes from }
 {
     let rows = classifier.rows(point);
     search::first_common_plain(&rows, classifier.len().div_ceil(64), from)
 }
 
-/// Asks for the next match with lanes, and compares it with the plain search.
+// Asks for the next match with lanes, and compares it with the plain search.
 pub(super) fn next_of(
     rt: &impl Abort,
     classifier: &Classifier,
@@ -40,7 +41,7 @@ pub(super) fn next_of(
     found
 }
 
-/// Searches with the only match at the last place, and with none.
+// Searches with the only match at the last place, and with none.
 fn search_in(rt: &impl Abort, alloc: Global, count: usize) -> Result<(), Fail> {
     let mut point = [0; FIELDS];
     point[Field::Source.index()] = 184549377;

@@ -40,9 +40,6 @@ open_new ws len h full small =
       same = ap (λ (bs : List Bool). take len bs) bits ∙ take-append-le len (all_bits ws) (word_bits 64 0) (omega arith);
     }
 
-pub open_same : (ws : List ℕ) (len : ℕ) → IsPacked ws len → len % 64 ≢ 0 → IsOpen ws ws len
-open_same ws len h part = record { more = omega (arith, h.covers, h.tight); tight = omega (arith, h.covers, h.tight); few = h.few; padded = h.padded; same = refl }
-
 -- the whole after a bit came in
 put_whole : (old ws us : List ℕ) (len at : ℕ) (b c : Bool) → IsOpen old ws len → at ≤ len → all_bits us ++ c ∷ [] ≡ insert (all_bits ws) at b
     → all_bits us ++ c ∷ [] ≡ insert (take len (all_bits old)) at b ++ drop len (all_bits ws)

@@ -64,8 +64,3 @@ same_words_at vs ws len k v w g h e lt rv rw' a b =
     let ev : v ≡ get_or vs k 0 = get_or_read vs k v lt rv 0 in
     let ew : w ≡ get_or ws k 0 = get_or_read ws k w lt' rw' 0 in
     same_word 64 v w a b (ap (word_bits 64) ev ∙ same_bits_at vs ws k (same_whole vs ws len g h e) lt lt' ∙ sym (ap (word_bits 64) ew))
-
-pub same_bits : (vs ws : List ℕ) (len k : ℕ) → IsPacked vs len → IsPacked ws len → length vs ≤ k → take k vs ≡ take k ws → take len (all_bits vs) ≡ take len (all_bits ws)
-same_bits vs ws len k g h le e =
-    let le' : length ws ≤ k = omega (arith, same_size vs ws len g h) in
-    ap (λ (us : List ℕ). take len (all_bits us)) (sym (take_all k vs le) ∙ e ∙ take_all k ws le')

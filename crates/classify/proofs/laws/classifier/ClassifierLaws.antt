@@ -24,7 +24,7 @@ use Rattle.classify.specs.steps.Fields.{shown_line, tops, IsKept, most_boxes, Lo
 use Rattle.classify.specs.classifier.Classifier.{box_allows, line_on, IsClassifierOf, HasNoNewCut}
 use Rattle.classify.proofs.laws.line.ShownLaws.{row_in_first}
 use Rattle.classify.proofs.laws.line.BoxLaws.{empty_line, empty_sound}
-use Rattle.classify.proofs.laws.line.LineLaws.{AreSteps, line_from_steps, steps_from_line, starts_from_contains}
+use Rattle.classify.proofs.laws.line.LineLaws.{AreSteps, line_from_steps, steps_from_line, starts_from_test}
 
 -- ---- fields and their places
 
@@ -243,7 +243,7 @@ no_new_cuts old spans box len n same whole h k s l lt =
     let P : ℕ → Type 0 = λ t. CutsStart t (set_on f.0 box) (line_on f.0 (record { len = len; lines = map shown_line old })) in
     let Q : List Interval → Type 0 = λ ss. CutsStart (get_or spans k s).top ss (line_on f.0 (record { len = len; lines = map shown_line old })) in
     let R : List (ℕ × List Bool) → Type 0 = λ line. CutsStart (get_or spans k s).top (get_or spans k s).intervals line in
-    subst R c (subst Q i (subst P e (λ x le ne. starts_from_contains (suc x) (line_on f.0 (record { len = len; lines = map shown_line old })) (h f.0 x le ne))))
+    subst R c (subst Q i (subst P e (λ x le ne. starts_from_test (suc x) (line_on f.0 (record { len = len; lines = map shown_line old })) (h f.0 x le ne))))
 
 rows_long : (n : ℕ) (d : ℕ × List Bool) (ps : List (ℕ × List Bool)) (x : ℕ) → length d.1 ≡ n → EachRow n ps → length (piece_at d ps x).1 ≡ n
 rows_long n d [] x h hs = h

@@ -11,9 +11,6 @@ pub record Edited (R : ℕ → OwnedLine → OwnedLine → Type 0) (old now : Li
   pub done : (j : ℕ) (l : OwnedLine) → j < k → R j (get_or old j l) (get_or now j l)
   pub rest : (j : ℕ) (l : OwnedLine) → k ≤ j → get_or now j l ≡ get_or old j l
 
-pub edited_first : (R : ℕ → OwnedLine → OwnedLine → Type 0) (old : List OwnedLine) → Edited R old old 0
-edited_first R old = record { as_long = refl; done = λ j l lt. absurd (omega arith); rest = λ j l le. refl }
-
 -- the line at k as it was before
 pub edited_read : (R : ℕ → OwnedLine → OwnedLine → Type 0) (old now : List OwnedLine) (k : ℕ) (p : OwnedLine) → Edited R old now k → p ≡ get_or now k p → p ≡ get_or old k p
 edited_read R old now k p h e = e ∙ h.rest k p (omega arith)

@@ -223,3 +223,6 @@ computed_line rs field line = (
   λ h. is_line_of (λ r x. allows r field x) (top field) rs line h,
   λ e. (let P : Cuts → Type 0 = λ l. IsLine rs field l in subst P (sym e) (line_of_is_line (λ r x. allows r field x) (top field) rs)),
 )
+
+pub rules_line : (rs : List Rule) (field : Field) (c : Classified) → IsClassifierOfRules rs c → line_on field c ≡ lines_of rs field
+rules_line rs field c h = (computed_line rs field (line_on field c)).0 (h.lines field)

@@ -124,10 +124,6 @@ pub without_rising : (top at : ℕ) (line : List Cut) → IsRising top line → 
 without_rising top at [] r = r
 without_rising top at (d ∷ ps) r = (r.0, rows_rising top 0 (λ p. remove p.1 at) ps r.1)
 
-pub without_zero : (at : ℕ) (line : List Cut) → StartsAtZero line → StartsAtZero (map (without_answer at) line)
-without_zero at [] h = h
-without_zero at (d ∷ ps) h = h
-
 -- ---- rows after a split are rows from before it
 
 weaker : (P : List Bool → Type 0) (f : ℕ → List Bool) (ps : List Cut) → ((x : ℕ) → P (f x)) → EachPiece (λ p. p.1 ≡ f p.0) ps → EachPiece (λ p. P p.1) ps

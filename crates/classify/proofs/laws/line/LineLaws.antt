@@ -1,11 +1,11 @@
 -- The line of a list of boxes is the steps of the row of their answers.
-use Rattle.std.proofs.Common.{◌≡◌, ◌≢◌, ◌⊎◌, inl, inr, ℕ, zero, suc, ◌+◌, ◌-◌, ◌<◌, ◌≤◌, Bool, true, false, cond, not, ◌||◌, List, [], ◌∷◌, length, get_or, refl, sym, ◌∙◌, ap, arith, subst, All, Any, Contains, add-one}
+use Rattle.std.proofs.Common.{◌≡◌, ◌≢◌, ◌⊎◌, inl, inr, ℕ, zero, suc, ◌+◌, ◌-◌, ◌<◌, ◌≤◌, Bool, true, false, cond, not, ◌&&◌, ◌||◌, eqb, leb, List, [], ◌∷◌, length, get_or, refl, sym, ◌∙◌, ap, arith, subst, All, Any, add-one}
 use Rattle.std.specs.List.Sorted.{IsStrictlyIncreasing}
-use Rattle.std.proofs.lemmas.Bool.{false≢true, true≢false, ne_eqb}
+use Rattle.std.proofs.lemmas.Bool.{cases_Bool, false≢true, true≢false, ne_eqb, eq-eqb, eqb-true, le-leb, leb-true}
 use Rattle.std.proofs.lemmas.List.Elements.{All-head, All-tail, All-cons, All-nil}
 use Rattle.std.specs.Prelude.{◌==◌}
 use Rattle.std.proofs.lemmas.List.Folds.{Any-from_list_any, list_any-from_Any}
-use Rattle.classify.specs.line.Line.{row_at, some_differs, is_cut, starts, IsLineOf}
+use Rattle.classify.specs.line.Line.{row_at, some_differs, is_cut, starts, starts_at, IsLineOf}
 use Rattle.classify.specs.steps.Pieces.{IsRisingFrom, StartsAt}
 use Rattle.classify.proofs.laws.line.StepLaws.{EachPiece, AreStepsOf, starts_within, step_over, one_list_of_steps, starts_above}
 
@@ -14,21 +14,60 @@ Piece = ℕ × List Bool
 
 -- ---- the words of the definition, by recursion
 
-starts_at : (x : ℕ) (ps : List Piece) (k : ℕ) → k < length (starts ps) → get_or (starts ps) k x ≡ x → StartsAt x ps
-starts_at x [] k lt e = absurd (omega arith)
-starts_at x (p ∷ ps) zero lt e = inl (sym e)
-starts_at x (p ∷ ps) (suc k) lt e = inr (starts_at x ps k (omega arith) e)
+or_second : (a b : Bool) → b ≡ true → (a || b) ≡ true
+or_second true b t = refl
+or_second false b t = t
 
-pub starts_from_contains : (x : ℕ) (ps : List Piece) → Contains (starts ps) x → StartsAt x ps
-starts_from_contains x ps h = starts_at x ps h.0 h.1 h.2
+or_rest : (a b : Bool) → a ≡ false → (a || b) ≡ true → b ≡ true
+or_rest true b f t = absurd (true≢false f)
+or_rest false b f t = t
 
-pub contains_from_starts : (x : ℕ) (ps : List Piece) → StartsAt x ps → Contains (starts ps) x
-contains_from_starts x [] s = absurd s
-contains_from_starts x (p ∷ ps) s =
-    elim s [
-      | inl e ↦ (0, omega arith, sym e)
-      | inr t ↦ (let h : Contains (starts ps) x = contains_from_starts x ps t in (suc h.0, omega (arith, h.1), h.2))
+and_first_true : (a b : Bool) → (a && b) ≡ true → a ≡ true
+and_first_true true b t = refl
+and_first_true false b t = t
+
+and_second_true : (a b : Bool) → (a && b) ≡ true → b ≡ true
+and_second_true true b t = t
+and_second_true false b t = absurd (true≢false (sym t))
+
+pub starts_from_test : (x : ℕ) (ps : List Piece) → starts_at ps x ≡ true → StartsAt x ps
+starts_from_test x [] t = absurd (true≢false (sym t))
+starts_from_test x (p ∷ ps) t =
+    elim (cases_Bool (eqb p.0 x)) [
+      | inl here ↦ inl (sym (eqb-true p.0 x here))
+      | inr other ↦ inr (starts_from_test x ps (or_rest (eqb p.0 x) (starts_at ps x) other t))
     ]
+
+pub test_from_starts : (x : ℕ) (ps : List Piece) → StartsAt x ps → starts_at ps x ≡ true
+test_from_starts x [] s = absurd s
+test_from_starts x (p ∷ ps) s =
+    elim s [
+      | inl e ↦ ap (λ b. b || starts_at ps x) (eq-eqb p.0 x (sym e))
+      | inr t ↦ or_second (eqb p.0 x) (starts_at ps x) (test_from_starts x ps t)
+    ]
+
+-- the cuts of the definition, as two implications
+pub cut_started : {B : Type 0} (allows : B → ℕ → Bool) (top : ℕ) (boxes : List B) (line : List Piece) (x : ℕ) → IsLineOf allows top boxes line → StartsAt x line → (x ≤ top) × (is_cut allows boxes x ≡ true)
+cut_started allows top boxes line x h s =
+    let both : (leb x top && is_cut allows boxes x) ≡ true = sym (h.cuts x) ∙ test_from_starts x line s in
+    (leb-true x top (and_first_true (leb x top) (is_cut allows boxes x) both), and_second_true (leb x top) (is_cut allows boxes x) both)
+
+pub start_of_cut : {B : Type 0} (allows : B → ℕ → Bool) (top : ℕ) (boxes : List B) (line : List Piece) (x : ℕ) → IsLineOf allows top boxes line → x ≤ top → is_cut allows boxes x ≡ true → StartsAt x line
+start_of_cut allows top boxes line x h le cut =
+    starts_from_test x line (h.cuts x ∙ ap (λ b. b && is_cut allows boxes x) (le-leb x top le) ∙ cut)
+
+-- two tests that hold together are equal
+same_tests : (a b : Bool) → (a ≡ true → b ≡ true) → (b ≡ true → a ≡ true) → a ≡ b
+same_tests true b f g = sym (f refl)
+same_tests false true f g = g refl
+same_tests false false f g = refl
+
+cuts_from : {B : Type 0} (allows : B → ℕ → Bool) (top : ℕ) (boxes : List B) (line : List Piece) (x : ℕ) → (StartsAt x line → (x ≤ top) × (is_cut allows boxes x ≡ true))
+    → (x ≤ top → is_cut allows boxes x ≡ true → StartsAt x line) → starts_at line x ≡ (leb x top && is_cut allows boxes x)
+cuts_from allows top boxes line x f g =
+    same_tests (starts_at line x) (leb x top && is_cut allows boxes x)
+    (λ t. (let c = f (starts_from_test x line t) in ap (λ b. b && is_cut allows boxes x) (le-leb x top c.0) ∙ c.1))
+    (λ t. test_from_starts x line (g (leb-true x top (and_first_true (leb x top) (is_cut allows boxes x) t)) (and_second_true (leb x top) (is_cut allows boxes x) t)))
 
 next-get : (a : ℕ) (xs : List ℕ) (k : ℕ) → get_or (a ∷ xs) (k + 1) 0 ≡ get_or xs k 0
 next-get a xs k = ap (λ j. get_or (a ∷ xs) j 0) (add-one k)
@@ -120,14 +159,6 @@ any_from_some allows boxes x y t =
 pub zero_is_cut : {B : Type 0} (allows : B → ℕ → Bool) (boxes : List B) → is_cut allows boxes 0 ≡ true
 zero_is_cut allows boxes = refl
 
-or_second : (a b : Bool) → b ≡ true → (a || b) ≡ true
-or_second true b t = refl
-or_second false b t = t
-
-or_rest : (a b : Bool) → a ≡ false → (a || b) ≡ true → b ≡ true
-or_rest true b f t = absurd (true≢false f)
-or_rest false b f t = t
-
 above_zero : (x : ℕ) → (suc x == 0) ≡ false
 above_zero x = let ne : suc x ≢ 0 = omega arith in ne_eqb (suc x) 0 ne
 
@@ -164,38 +195,35 @@ line_from_steps allows top boxes (d ∷ ps) h =
     let f : ℕ → List Bool = row_at allows boxes in
     record {
       rising = subst P (sym h.zero_first) (increasing_from_rising top 0 ps h.rising);
-      cuts = λ x. (
-        (λ has. (
-            let s : StartsAt x (d ∷ ps) = starts_from_contains x (d ∷ ps) has in
-            elim s [
-              | inl e ↦ (let z : x ≡ 0 = e ∙ h.zero_first in (omega arith, ap (λ y. is_cut allows boxes y) z ∙ zero_is_cut allows boxes))
-              | inr t ↦ (
-                starts_within top 0 x ps h.rising t,
-                step_over (λ y. StartsAt y ps → is_cut allows boxes y ≡ true) (λ u. absurd (let lt : 0 < 0 = starts_above top 0 0 ps h.rising u in omega arith)) (λ y u. cut_from_differs allows boxes y (h.starts y u)) x t,
-              )
-            ])),
-        (λ cut. contains_from_starts x (d ∷ ps) (step_over (λ y. y ≤ top → is_cut allows boxes y ≡ true → StartsAt y (d ∷ ps)) (λ _ _. inl (sym h.zero_first))
-            (λ y le c. inr (h.all y le (differs_from_cut allows boxes y c))) x cut.0 cut.1)),
-      );
+      cuts = λ x. cuts_from allows top boxes (d ∷ ps) x
+          (λ s.
+          elim s [
+            | inl e ↦ (let z : x ≡ 0 = e ∙ h.zero_first in (omega arith, ap (λ y. is_cut allows boxes y) z ∙ zero_is_cut allows boxes))
+            | inr t ↦ (
+              starts_within top 0 x ps h.rising t,
+              step_over (λ y. StartsAt y ps → is_cut allows boxes y ≡ true) (λ u. absurd (let lt : 0 < 0 = starts_above top 0 0 ps h.rising u in omega arith)) (λ y u. cut_from_differs allows boxes y (h.starts y u)) x t,
+            )
+          ])
+          (λ le cut. step_over (λ y. y ≤ top → is_cut allows boxes y ≡ true → StartsAt y (d ∷ ps)) (λ _ _. inl (sym h.zero_first))
+          (λ y le c. inr (h.all y le (differs_from_cut allows boxes y c))) x le cut);
       rows = all_from_each (λ (p : Piece). p.1 ≡ row_at allows boxes p.0) (d ∷ ps) (h.first, h.rows);
     }
 
 pub steps_from_line : {B : Type 0} (allows : B → ℕ → Bool) (top : ℕ) (boxes : List B) (line : List Piece) → IsLineOf allows top boxes line → AreSteps (row_at allows boxes) top line
 steps_from_line allows top boxes [] h =
-    let k : Contains (starts []) 0 = (h.cuts 0).1 (omega arith, refl) in
-    starts_from_contains 0 [] k
+    start_of_cut allows top boxes [] 0 h (omega arith) refl
 steps_from_line allows top boxes (d ∷ ps) h =
     let r = each_from_all (λ (p : Piece). p.1 ≡ row_at allows boxes p.0) (d ∷ ps) h.rows in
-    let within : (x : ℕ) → StartsAt x (d ∷ ps) → x ≤ top = λ x s. ((h.cuts x).0 (contains_from_starts x (d ∷ ps) s)).0 in
+    let within : (x : ℕ) → StartsAt x (d ∷ ps) → x ≤ top = λ x s. (cut_started allows top boxes (d ∷ ps) x h s).0 in
     let rising : IsRisingFrom top d.0 ps = rising_from_increasing top d.0 ps h.rising (λ x s. within x (inr s)) in
-    let k : StartsAt 0 (d ∷ ps) = starts_from_contains 0 (d ∷ ps) ((h.cuts 0).1 (omega arith, refl)) in
+    let k : StartsAt 0 (d ∷ ps) = start_of_cut allows top boxes (d ∷ ps) 0 h (omega arith) refl in
     let z : d.0 ≡ 0 = elim k [ inl e ↦ sym e | inr s ↦ absurd (let lt : d.0 < 0 = starts_above top d.0 0 ps rising s in omega arith) ] in
     let P : ℕ → Type 0 = λ a. IsRisingFrom top a ps in
     record {
       zero_first = z;
       rising = subst P z rising;
-      starts = λ x s. differs_from_cut allows boxes x ((h.cuts (suc x)).0 (contains_from_starts (suc x) (d ∷ ps) (inr s))).1;
-      all = λ x le ne. elim (starts_from_contains (suc x) (d ∷ ps) ((h.cuts (suc x)).1 (le, cut_from_differs allows boxes x ne))) [
+      starts = λ x s. differs_from_cut allows boxes x (cut_started allows top boxes (d ∷ ps) (suc x) h (inr s)).1;
+      all = λ x le ne. elim (start_of_cut allows top boxes (d ∷ ps) (suc x) h le (cut_from_differs allows boxes x ne)) [
         | inl e ↦ absurd (let q : suc x ≡ 0 = e ∙ z in omega arith)
         | inr s ↦ s
       ];

@@ -59,9 +59,6 @@ pub record Reserved (ps us : List OwnedPiece) (i : ℕ) : Type 0 where
   pub same : shown us ≡ shown ps
   pub ready : (k : ℕ) (d : OwnedPiece) → k < i → 0 < (get_or us k d).row.room
 
-pub reserved_first : (ps : List OwnedPiece) → Reserved ps ps 0
-reserved_first ps = record { as_long = refl; same = refl; ready = λ k d lt. absurd (omega arith) }
-
 pub reserved_kept : (ps us : List OwnedPiece) (i : ℕ) (p q : OwnedPiece) → Reserved ps us i → i < length us → p ≡ get_or us i p → shown_piece q ≡ shown_piece p → shown (set us i q) ≡ shown ps
 reserved_kept ps us i p q h lt e is =
     let read : shown_piece p ≡ get_or (shown us) i (shown_piece p) = sym (shown_at us i p (shown_piece p) lt ∙ ap shown_piece (sym e)) in

@@ -39,10 +39,6 @@ shown-remove [] (suc i) = refl
 shown-remove (p ∷ ps) zero = refl
 shown-remove (p ∷ ps) (suc i) = ap (λ xs. shown_piece p ∷ xs) (shown-remove ps i)
 
-pub zero_start : (ps : List OwnedPiece) → StartsAtZero (shown ps) → (0 < length ps) × (slice_index (starts (shown ps)) 0 ≡ 0)
-zero_start [] h = absurd h
-zero_start (p ∷ ps) h = (omega arith, h)
-
 -- a first piece at 0 is at or before each number
 pub row_in_first : (d : ℕ × List Bool) (ps : List (ℕ × List Bool)) (x : ℕ) → d.0 ≡ 0 → row_in (d ∷ ps) x ≡ (piece_at d ps x).1
 row_in_first d ps x z = ap (λ (b : Bool). (piece_at (cond b d (0, [])) ps x).1) (le-leb d.0 x (omega arith))
@@ -51,9 +47,6 @@ pub start_in : (line : List (ℕ × List Bool)) (i : ℕ) (e : ℕ × List Bool)
 start_in [] i e lt = absurd (omega arith)
 start_in (p ∷ ps) zero e lt = refl
 start_in (p ∷ ps) (suc i) e lt = start_in ps i e (omega arith)
-
-length-starts : (line : List (ℕ × List Bool)) → length (starts line) ≡ length line
-length-starts line = length-map line (λ p. p.0)
 
 splits_at : (top : ℕ) (d : ℕ × List Bool) (ps : List (ℕ × List Bool)) (i : ℕ) (q e : ℕ × List Bool) → i < length (d ∷ ps) → slice_index (starts (d ∷ ps)) i < q.0
     → (i + 1 < length (d ∷ ps) → q.0 < slice_index (starts (d ∷ ps)) (i + 1)) → q.1 ≡ (get_or (d ∷ ps) i e).1 → q.0 ≤ top → Splits top d e ps i q

@@ -97,10 +97,6 @@ step_over P z s (suc x) = s x
 
 -- ---- a function of the numbers up to the top, and its steps
 
--- a step of f: 0, or where f changes
-abbrev pub IsStep : (ℕ → List Bool) → ℕ → Type 0
-IsStep f x = (x ≡ 0) ⊎ (f (x - 1) ≢ f x)
-
 -- pieces above a are those of f
 pub record AreStepsOf (f : ℕ → List Bool) (top : ℕ) (d : Piece) (ps : List Piece) : Type 0 where
   pub zero_first : d.0 ≡ 0

@@ -165,9 +165,6 @@ no_span = record { first = 0; last = 0 }
 abbrev pub IsEndBelow : List Interval → ℕ → ℕ → Type 0
 IsEndBelow spans i x = (k : ℕ) × (k < i) × IsEndOf (get_or spans k no_span) x
 
-pub unsplit_start : (spans : List Interval) (top : ℕ) (line : List Cut) → IsRising top line → IsUnsplitAt (IsEndBelow spans 0) top line line
-unsplit_start spans top line r = nothing_unsplit (IsEndBelow spans 0) top line r (λ y e s. absurd (omega (arith, e.1)))
-
 pub unsplit_more : (spans : List Interval) (top i : ℕ) (a b c : List Cut) → IsUnsplitAt (IsEndBelow spans i) top a b → IsUnsplitAt (IsEndOf (get_or spans i no_span)) top b c → IsUnsplitAt (IsEndBelow spans (i + 1)) top a c
 unsplit_more spans top i a b c g h =
     unsplit_twice (IsEndBelow spans i) (IsEndOf (get_or spans i no_span)) top a b c g h (IsEndBelow spans (i + 1))

@@ -19,8 +19,8 @@ invariant_of-self-2 c =
     still_sound c.insert_lines.new.lines c.spans.result.now c.args.boxed (c.self.inside.len + 1) (m ∙ n) c.spans.ensures.value c.spans.ensures.whole (omega arith)
     (λ k s l lt. c.in_ok-insert_lines.ensures.sound k s l (omega arith))
 
-pub returns-clause-ok : goal.returns-clause-ok
-returns-clause-ok c boxes h =
+pub returns-clause-boxes : goal.returns-clause-boxes
+returns-clause-boxes c boxes h =
     let n : length c.self.inside.lines ≡ FIELDS = search rules in
     let m : length c.insert_lines.new.lines ≡ length c.self.inside.lines = c.insert_lines.auto.lines in
     let P : Classified → Type 0 = λ k. IsClassifierOf boxes k in
@@ -28,7 +28,7 @@ returns-clause-ok c boxes h =
     (omega (arith, c.requires, ap (λ (k : Classified). k.len) c.self.view_is)) c.in_ok-insert_lines.ensures.ok (subst P (sym c.self.view_is) h)
 
 pub returns-clause-rules : goal.returns-clause-rules
-returns-clause-rules c rules rule h is = rules_inserted rules c.args.at rule c.args.boxed c.args.self.now _ (returns-clause-ok c) h is
+returns-clause-rules c rule is rules h = rules_inserted rules c.args.at rule c.args.boxed c.args.self.now _ (returns-clause-boxes c) h is
 
 pub invariant_of-self : goal.invariant_of-self
 invariant_of-self c =

@@ -19,8 +19,8 @@ invariant_of-self-2 c =
     still_sound c.replace_lines.new.lines c.spans.result.now c.args.boxed c.self.inside.len (m ∙ n) c.spans.ensures.value c.spans.ensures.whole c.self.invariant.few
     (λ k s l lt. c.in_ok-replace_lines.ensures.sound k s l (omega arith))
 
-pub returns-clause-ok : goal.returns-clause-ok
-returns-clause-ok c boxes h =
+pub returns-clause-boxes : goal.returns-clause-boxes
+returns-clause-boxes c boxes h =
     let n : length c.self.inside.lines ≡ FIELDS = search rules in
     let m : length c.replace_lines.new.lines ≡ length c.self.inside.lines = c.replace_lines.auto.lines in
     let P : Classified → Type 0 = λ k. IsClassifierOf boxes k in
@@ -28,7 +28,7 @@ returns-clause-ok c boxes h =
     c.in_ok-replace_lines.ensures.ok (subst P (sym c.self.view_is) h)
 
 pub returns-clause-rules : goal.returns-clause-rules
-returns-clause-rules c rules rule h is = rules_replaced rules c.args.at rule c.args.boxed c.args.self.now _ (returns-clause-ok c) h is
+returns-clause-rules c rule is rules h = rules_replaced rules c.args.at rule c.args.boxed c.args.self.now _ (returns-clause-boxes c) h is
 
 pub invariant_of-self : goal.invariant_of-self
 invariant_of-self c =
