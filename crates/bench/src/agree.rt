@@ -29,8 +29,21 @@ fn print_agreement(
         }
     }
     let count = boxes.len();
-    println!(rt; "{count} rules, each put {way}: {agreeing} of {asked} searches agree")?;
+    println!(rt; "{count} rules, {way}: {agreeing} of {asked} searches agree")?;
     Ok(())
+}
+
+/// Plants a wrong order, first in the classifier and then in the boxes that are walked: the searches that find a rule have to
+/// disagree, which shows that a wrong answer is reported.
+fn run_planted<R: Print + AllocGlobal>(rt: &R) -> Result<()> {
+    let alloc = rt.alloc();
+    let count = 2;
+    let boxes = sample::boxes(alloc, count)?;
+    let turned = sample::turned(alloc, count)?;
+    let classifier = sample::appended(alloc, sample::boxes(alloc, count)?)?;
+    let turned_classifier = sample::appended(alloc, sample::turned(alloc, count)?)?;
+    print_agreement(rt, "put in the wrong order", &turned_classifier, &boxes)?;
+    print_agreement(rt, "walked in the wrong order", &classifier, &turned)
 }
 
 /// Prints for a few numbers of rules how many of the searches agree.
@@ -39,9 +52,9 @@ pub(crate) fn run<R: Print + AllocGlobal>(rt: &R) -> Result<()> {
     for count in [2usize, 64, 65, 260] {
         let boxes = sample::boxes(alloc, count)?;
         let appended = sample::appended(alloc, sample::boxes(alloc, count)?)?;
-        print_agreement(rt, "last", &appended, &boxes)?;
+        print_agreement(rt, "each put last", &appended, &boxes)?;
         let put_first = sample::put_first(alloc, sample::boxes(alloc, count)?)?;
-        print_agreement(rt, "first", &put_first, &boxes)?;
+        print_agreement(rt, "each put first", &put_first, &boxes)?;
     }
-    Ok(())
+    run_planted(rt)
 }

@@ -100,6 +100,17 @@ pub(crate) fn boxes(alloc: Global, count: usize) -> Result<Vec<Boxed>> {
     Ok(boxes)
 }
 
+/// The boxes of so many rules, the last first.
+pub(crate) fn turned(alloc: Global, count: usize) -> Result<Vec<Boxed>> {
+    let mut work = Work::new();
+    let mut boxes = Vec::with_capacity(alloc, count)?;
+    for place in (0..count).rev() {
+        let boxed = boxed(alloc, Rule::of(place), &mut work)?;
+        boxes.push(boxed).map_err(AllocError::from)?;
+    }
+    Ok(boxes)
+}
+
 /// The classifier of boxes, each put in last.
 pub(crate) fn appended(alloc: Global, boxes: Vec<Boxed>) -> Result<Classifier> {
     let mut classifier = Classifier::new(alloc)?;

@@ -1,5 +1,5 @@
 //! Rows of bits.
-use crate::case::{Refusals, Trouble, again, expect, expect_kept};
+use crate::case::{Refusals, Trouble, again, expect, expect_given, expect_kept};
 use classify::BitRow;
 use std::alloc::Global;
 
@@ -23,9 +23,7 @@ pub fn insert(alloc: Global, refusals: &mut Refusals) -> Result<(), Trouble> {
     expect(has_bits(&row, 1, &[0]))?;
     for _ in 1..64 {
         // There is room for these.
-        if row.insert(row.len(), false).is_err() {
-            return Err(Trouble::Needless);
-        }
+        expect_given(row.insert(row.len(), false))?;
     }
     expect(has_bits(&row, 64, &[0]))?;
     again!(refusals, row.insert(0, false), has_bits(&row, 64, &[0]));

@@ -50,6 +50,14 @@ pub fn expect(is_expected: bool) -> Result<(), Trouble> {
     }
 }
 
+/// What a call comes to that has to succeed without any memory: `Needless` where it was refused.
+pub fn expect_given<E: Drop>(answer: Result<(), E>) -> Result<(), Trouble> {
+    match answer {
+        Ok(()) => Ok(()),
+        Err(_) => Err(Trouble::Needless),
+    }
+}
+
 /// What a refusal comes to: `Changed` where what the call was given isn't as before.
 pub fn expect_kept(is_kept: bool) -> Result<(), Trouble> {
     if is_kept {

@@ -1,6 +1,6 @@
 //! Classifiers: the lines of a list of boxes.
 use crate::boxes::box_of;
-use crate::case::{Refusals, Trouble, again, expect, expect_kept};
+use crate::case::{Refusals, Trouble, again, expect, expect_given, expect_kept};
 use classify::{Classifier, Line, Row};
 use fields::Field;
 use std::alloc::Global;
@@ -199,17 +199,19 @@ pub fn replace(alloc: Global, refusals: &mut Refusals) -> Result<(), Trouble> {
 pub fn needless(alloc: Global, refusals: &mut Refusals) -> Result<(), Trouble> {
     let mut classifier = of_both(alloc, refusals)?;
     let (put_in, put_over) = (box_of(alloc, refusals, ANY)?, box_of(alloc, refusals, ANY)?);
-    if classifier.len() != 2 || classifier.insert(0, put_in).is_err() {
-        return Err(Trouble::Needless);
+    if classifier.len() != 2 {
+        return Err(Trouble::OtherAnswer);
     }
+    expect_given(classifier.insert(0, put_in))?;
     expect(is_of(&classifier, 3, &OF_ANY_AND_BOTH))?;
     if classifier.len() != 3 {
         return Err(Trouble::OtherAnswer);
     }
     classifier.remove(0);
-    if classifier.len() != 2 || classifier.replace(1, put_over).is_err() {
-        return Err(Trouble::Needless);
+    if classifier.len() != 2 {
+        return Err(Trouble::OtherAnswer);
     }
+    expect_given(classifier.replace(1, put_over))?;
     let rows: [Expected; 1] = [(
         Field::Source,
         &[(0, &[1]), (167_772_160, &[0, 1]), (184_549_376, &[1])],

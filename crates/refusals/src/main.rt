@@ -10,6 +10,7 @@ mod bits;
 mod boxes;
 mod case;
 mod classifiers;
+mod planted;
 mod rulings;
 mod sets;
 mod values;
@@ -78,11 +79,29 @@ fn run<R: Print + AllocGlobal>(rt: &R, refusals: &mut Refusals) {
     );
 }
 
+/// Prints how the planted cases ended, each by the trouble that it is made to be.
+fn run_planted<R: Print + AllocGlobal>(rt: &R) {
+    tell(
+        rt,
+        "planted: a wrong answer",
+        planted::wrong_answer(rt.alloc()),
+    );
+    tell(rt, "planted: a changed value", planted::changed_value());
+    tell(rt, "planted: refused again", planted::refused_again());
+    tell(
+        rt,
+        "planted: refused with room",
+        planted::refused_with_room(),
+    );
+    tell(rt, "planted: refused once", planted::refused_once());
+}
+
 fn main(rt: HostRuntime) -> ExitCode {
     if let Ok(mut input) = BufReader::new(rt.alloc(), rt.reader()) {
         take_first(rt.alloc(), &mut input);
     }
     let mut refusals = Refusals::new();
     run(&rt, &mut refusals);
+    run_planted(&rt);
     ExitCode::from(if refusals.any() { 4 } else { 0 })
 }

@@ -4,7 +4,7 @@ use Rattle.fields.specs.declared.numbers.field.Field.{Field}
 use Rattle.fields.specs.numbers.Field.{top}
 use Rattle.fields.specs.numbers.Spans.{SpanSet}
 use Rattle.rules.specs.boxing.Boxed.{IsBox, IsBoxOf}
-use Rattle.rules.specs.rule.Actions.{renamed}
+use Rattle.rules.specs.rule.Actions.{with_chain_name}
 use Rattle.rules.specs.rule.Allows.{allows, matches}
 use Rattle.rules.specs.rule.Rules.{Rule}
 use Rattle.classify.specs.line.Line.{IsLineOf}
@@ -48,9 +48,9 @@ abbrev pub RenamedOneSameClassifier : Type 0
 RenamedOneSameClassifier =
     (rules : List Rule) (at : ℕ) (rule : Rule) (name : List ℕ) (c : Classified) → slice_get rules at ≡ Some rule
     → IsClassifierOfRules rules c
-    → IsClassifierOfRules (slice_set rules at (renamed name rule)) c
+    → IsClassifierOfRules (slice_set rules at (with_chain_name name rule)) c
 
 abbrev pub RenamedManySameClassifier : Type 0
 RenamedManySameClassifier =
     (rules : List Rule) (test : Rule → Bool) (name : List ℕ) (c : Classified) → IsClassifierOfRules rules c
-    → IsClassifierOfRules (map (λ rule. if test rule then renamed name rule else rule) rules) c
+    → IsClassifierOfRules (map (λ rule. if test rule then with_chain_name name rule else rule) rules) c

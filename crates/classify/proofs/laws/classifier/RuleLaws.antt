@@ -9,7 +9,7 @@ use Rattle.std.proofs.lemmas.List.{drop-map, length-map, get_or_default, same_li
 use Rattle.fields.specs.declared.numbers.field.Field.{Field}
 use Rattle.fields.specs.numbers.Field.{all_fields, index, number_on, top}
 use Rattle.fields.specs.numbers.Spans.{SpanSet}
-use Rattle.rules.specs.rule.Actions.{renamed}
+use Rattle.rules.specs.rule.Actions.{with_chain_name}
 use Rattle.rules.specs.rule.Allows.{allows, matches}
 use Rattle.rules.specs.boxing.Boxed.{IsBoxOf}
 use Rattle.rules.specs.rule.Rules.{Rule}
@@ -168,7 +168,7 @@ same_numbers rs os c same h =
     let one : HaveOneRow allows allows rs os = record { size = allow_as_many rs os same; rows = λ field x le. allow_answers rs os same field x } in
     classifier_alike allows allows rs os c one h
 
-renamed_allows : (name : List ℕ) (r : Rule) (field : Field) (x : ℕ) → allows r field x ≡ allows (renamed name r) field x
+renamed_allows : (name : List ℕ) (r : Rule) (field : Field) (x : ℕ) → allows r field x ≡ allows (with_chain_name name r) field x
 unfolding allows
 renamed_allows name r field x = refl
 
@@ -176,7 +176,7 @@ allow_themselves : (rs : List Rule) → AllowTheSame rs rs
 allow_themselves [] = tt
 allow_themselves (r ∷ rs) = (λ field x. refl, allow_themselves rs)
 
-renamed_one : (rs : List Rule) (at : ℕ) (r : Rule) (name : List ℕ) → slice_get rs at ≡ Some r → AllowTheSame rs (set rs at (renamed name r))
+renamed_one : (rs : List Rule) (at : ℕ) (r : Rule) (name : List ℕ) → slice_get rs at ≡ Some r → AllowTheSame rs (set rs at (with_chain_name name r))
 renamed_one [] at r name is = tt
 renamed_one (q ∷ rs) zero r name is =
     let e : q ≡ r = cc in
@@ -184,18 +184,18 @@ renamed_one (q ∷ rs) zero r name is =
 renamed_one (q ∷ rs) (suc at) r name is = (λ field x. refl, renamed_one rs at r name is)
 
 pub renamed_at : RenamedOneSameClassifier
-renamed_at rs at r name c is h = same_numbers rs (set rs at (renamed name r)) c (renamed_one rs at r name is) h
+renamed_at rs at r name c is h = same_numbers rs (set rs at (with_chain_name name r)) c (renamed_one rs at r name is) h
 
-renamed_or_not : (b : Bool) (name : List ℕ) (r : Rule) (field : Field) (x : ℕ) → allows r field x ≡ allows (cond b (renamed name r) r) field x
+renamed_or_not : (b : Bool) (name : List ℕ) (r : Rule) (field : Field) (x : ℕ) → allows r field x ≡ allows (cond b (with_chain_name name r) r) field x
 renamed_or_not true name r field x = renamed_allows name r field x
 renamed_or_not false name r field x = refl
 
-renamed_many : (rs : List Rule) (test : Rule → Bool) (name : List ℕ) → AllowTheSame rs (map (λ r. cond (test r) (renamed name r) r) rs)
+renamed_many : (rs : List Rule) (test : Rule → Bool) (name : List ℕ) → AllowTheSame rs (map (λ r. cond (test r) (with_chain_name name r) r) rs)
 renamed_many [] test name = tt
 renamed_many (r ∷ rs) test name = (renamed_or_not (test r) name r, renamed_many rs test name)
 
 pub renamed_where : RenamedManySameClassifier
-renamed_where rs test name c h = same_numbers rs (map (λ r. cond (test r) (renamed name r) r) rs) c (renamed_many rs test name) h
+renamed_where rs test name c h = same_numbers rs (map (λ r. cond (test r) (with_chain_name name r) r) rs) c (renamed_many rs test name) h
 
 -- ---- one classifier, one line
 

@@ -1,0 +1,108 @@
+//! Rules and their boxes.
+use crate::compared::expecting;
+use crate::lent::words_of;
+use crate::trouble::{Trouble, expect, is_text};
+use fields::{FIELDS, Field, Name, RejectType, Tap};
+use rules::{Boxed, Rule, RuleFault, Target, Work, read_rule, write_rule};
+use std::alloc::Global;
+
+/// The rule that a line writes.
+fn rule_of(alloc: Global, line: &[u8]) -> Result<Rule, Trouble> {
+    let words = words_of(alloc, line)?;
+    match read_rule(alloc, &words, 0) {
+        Ok(rule) => Ok(rule),
+        Err(RuleFault::NoMemory) => Err(Trouble::NoMemory),
+        Err(RuleFault::Refused(_)) => Err(Trouble::OtherAnswer),
+    }
+}
+
+/// The box of the rule that a line writes.
+pub fn box_of(alloc: Global, line: &[u8]) -> Result<Boxed, Trouble> {
+    let rule = rule_of(alloc, line)?;
+    Ok(Boxed::of(alloc, &rule, &mut Work::new())?)
+}
+
+/// `Rule::target`, `on_in` and `on_out`.
+pub fn target(alloc: Global, times: u32) -> Result<(), Trouble> {
+    let reject = rule_of(alloc, b"-i eth+ -j REJECT")?;
+    let jump = rule_of(
+        alloc,
+        b"! -o lo -m comment --comment \"a b\" -g chain-of-more-than-16-bytes",
+    )?;
+    for _ in 0..times {
+        expect(reject.target() == Some(Target::Reject(RejectType::default())))?;
+        expect(reject.on_in() && !reject.on_out() && jump.on_out() && !jump.on_in())?;
+        match jump.target() {
+            Some(Target::Goto(name)) => expect(is_text(
+                name.bytes(),
+                b"chain-of-more-than-16-bytes",
+            ))?,
+            _ => return Err(Trouble::OtherAnswer),
+        }
+    }
+    Ok(())
+}
+
+/// Renames a rule's target, and looks at it.
+fn rename(rule: &mut Rule, text: &[u8]) -> Result<(), Trouble> {
+    let Some(name) = Name::read(text) else {
+        return Err(Trouble::OtherAnswer);
+    };
+    match rule.target() {
+        Some(Target::Jump(_)) => {}
+        _ => return Err(Trouble::OtherAnswer),
+    }
+    rule.rename_target(&name);
+    expect(rule.target() == Some(Target::Jump(name)))
+}
+
+/// `Rule::rename_target`.
+pub fn renaming(alloc: Global, times: u32) -> Result<(), Trouble> {
+    let mut rule = rule_of(alloc, b"-s 10.0.0.0/8 -j a")?;
+    for _ in 0..times {
+        rename(&mut rule, b"a-name-of-28-bytes-and-more.")?;
+        rename(&mut rule, b"a")?;
+    }
+    Ok(())
+}
+
+const LONG: &[u8] =
+    b"! -s 10.1.2.3/8 -p tcp -m state --state NEW -m multiport --dports 1,2:9 -m comment --comment \"a b\" \
+    -m tcp --sport 7 -j LOG --log-prefix \"x y\"";
+
+/// `Rule::equals`, and `==`.
+pub fn compared(alloc: Global, times: u32) -> Result<(), Trouble> {
+    let rule = rule_of(alloc, LONG)?;
+    let same = rule.copy(alloc)?;
+    let other = rule_of(alloc, b"! -s 10.1.2.3/8 -p tcp -m state --state NEW -j LOG")?;
+    for _ in 0..times {
+        expect(rule.equals(&same) && rule == same && !rule.equals(&other))?;
+    }
+    Ok(())
+}
+
+/// `write_rule`.
+pub fn written(alloc: Global, times: u32) -> Result<(), Trouble> {
+    let rule = rule_of(alloc, LONG)?;
+    let text =
+        b" ! -s 10.0.0.0/8 -p tcp -m state --state NEW -m multiport --dports 1,2:9 -m comment --comment \"a b\" \
+        -m tcp --sport 7 -j LOG --log-prefix \"x y\"";
+    for _ in 0..times {
+        let mut output = Tap::new(expecting(text));
+        expect(write_rule(&rule, &mut output).is_ok() && output.into_device().is_whole())?;
+    }
+    Ok(())
+}
+
+/// `Boxed::on` and `spans`, `Work::new` and `boxes`.
+pub fn boxed(alloc: Global, times: u32) -> Result<(), Trouble> {
+    let boxed = box_of(alloc, LONG)?;
+    for _ in 0..times {
+        let work = Work::new();
+        expect(work.boxes() == 0 && boxed.spans().len() == FIELDS)?;
+        expect(
+            boxed.on(Field::DestinationPort).has(9) && !boxed.on(Field::Source).has(167_772_161),
+        )?;
+    }
+    Ok(())
+}

@@ -1,0 +1,55 @@
+//! The program `fault_texts`: prints every fault that the public calls of `fields` and `rules` answer, with its text. What it
+//! has to print stands beside it, as the table of faults has it.
+#![tactic(auto)]
+
+use fields::{PacketFault, ReadFailed, WordFault, WriteFailed};
+use rules::{Refusal, RuleFault};
+use std::io;
+
+const REFUSALS: [Refusal; 12] = [
+    Refusal::UnknownOption(0),
+    Refusal::ValueMissing,
+    Refusal::BadValue,
+    Refusal::RepeatedOption,
+    Refusal::InversionNotAllowed,
+    Refusal::ProtocolNeeded,
+    Refusal::UnknownMatch,
+    Refusal::TooManyMatches,
+    Refusal::JumpAndGoto,
+    Refusal::TextTooLong,
+    Refusal::OtherTarget,
+    Refusal::MatchOptionMissing,
+];
+
+const PACKET_FAULTS: [PacketFault; 4] = [
+    PacketFault::UnknownKey,
+    PacketFault::KeyMissing,
+    PacketFault::BadValue,
+    PacketFault::NotCarried,
+];
+
+fn print_faults_of_rules(rt: &impl Print) -> io::Result<()> {
+    for refusal in REFUSALS {
+        println!(rt; "{refusal:?}: {refusal}")?;
+    }
+    for fault in [RuleFault::NoMemory, RuleFault::Refused(Refusal::BadValue)] {
+        println!(rt; "{fault:?}: {fault}")?;
+    }
+    Ok(())
+}
+
+fn print_faults_of_fields(rt: &impl Print) -> io::Result<()> {
+    for fault in [WordFault::Quoting, WordFault::NoMemory] {
+        println!(rt; "{fault:?}: {fault}")?;
+    }
+    for fault in PACKET_FAULTS {
+        println!(rt; "{fault:?}: {fault}")?;
+    }
+    println!(rt; "{ReadFailed:?}: {ReadFailed}")?;
+    println!(rt; "{WriteFailed:?}: {WriteFailed}")
+}
+
+fn main(rt: HostRuntime) -> io::Result<()> {
+    print_faults_of_rules(&rt)?;
+    print_faults_of_fields(&rt)
+}
