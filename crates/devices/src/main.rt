@@ -1,5 +1,5 @@
-//! The program `devices`: taps over readers and writers that count their calls and fail at one. It looks for what no contract
-//! says: how often a device is called, and that a tap fails only where a call of its device did.
+//! The program `devices`: taps over readers and writers that count their calls and fail at one. It looks for what no
+//! contract says: how often a device is called, and that a tap fails only where a call of its device did.
 #![tactic(auto)]
 
 mod device;

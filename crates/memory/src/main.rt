@@ -1,12 +1,12 @@
 //! The program `memory`: calls that take memory, and calls that promise to take none.
 //!
-//! With no input it makes each call that may answer out of memory, on large and odd input, and prints whether it succeeds and
-//! its answer is right.
+//! With no input it makes each call that may answer out of memory, on large and odd input, and prints whether it
+//! succeeds and its answer is right.
 //!
-//! With a case and a number as its input, as `prefix 1000`, it makes the calls of the case so often, all of which promise to
-//! take no memory. After the calls it takes memory and gives it back until that is refused once, and prints how often it got
-//! it. So where one allocation of the run is refused, a late one, this number says how often the run took memory before: the
-//! fewer are left, the more were made. With the input `cases` it prints the cases.
+//! With a case and a number as its input, as `prefix 1000`, it makes the calls of the case so often, all of which
+//! promise to take no memory. After the calls it takes memory and gives it back until that is refused once, and
+//! prints how often it got it. So where one allocation of the run is refused, a late one, this number says how often
+//! the run took memory before: the fewer are left, the more were made. With the input `cases` it prints the cases.
 #![tactic(auto)]
 
 ghost use Rattle.std.specs.Prelude.{◌≤◌};

@@ -152,9 +152,9 @@ pub fn copy(alloc: Global, refusals: &mut Refusals) -> Result<(), Trouble> {
     expect(is_of(&copy, 2, &OF_BOTH) && is_of(&classifier, 2, &OF_BOTH))
 }
 
-/// `Classifier::insert`, of boxes that bring new cuts, behind another box and before it.
+/// `Classifier::insert`, of boxes that bring new cuts, after another box and before it.
 pub fn insert(alloc: Global, refusals: &mut Refusals) -> Result<(), Trouble> {
-    let _behind = of_both(alloc, refusals)?;
+    let _after = of_both(alloc, refusals)?;
     let mut classifier = none(alloc, refusals)?;
     put(alloc, refusals, &mut classifier, 0, SECOND, &[])?;
     put(alloc, refusals, &mut classifier, 0, FIRST, &OF_SECOND)?;
@@ -181,9 +181,9 @@ pub fn replace(alloc: Global, refusals: &mut Refusals) -> Result<(), Trouble> {
 
 /// A box without conditions, made before, goes into a classifier of two boxes and takes the place of one.
 ///
-/// Neither call takes memory: the contracts of `insert` and `replace` (`there`) promise success, since there is room for a
-/// third bit in each word and no cut is new. Here each allocation of the run is refused in turn, and both have to succeed
-/// at the first call every time.
+/// Neither call takes memory: the contracts of `insert` and `replace` (`there`) promise success, since there is room
+/// for a third bit in each word and no cut is new. Here each allocation of the run is refused in turn, and both have
+/// to succeed at the first call every time.
 pub fn needless(alloc: Global, refusals: &mut Refusals) -> Result<(), Trouble> {
     let mut classifier = of_both(alloc, refusals)?;
     let (put_in, put_over) = (box_of(alloc, refusals, ANY)?, box_of(alloc, refusals, ANY)?);

@@ -12,7 +12,8 @@ use std::alloc::Global;
 /// How many boxes there are.
 const COUNT: u32 = 8192;
 
-/// A classifier, and the numbers of its rules in their order. No two rules have a number, and no two allow one address.
+/// A classifier, and the numbers of its rules in their order. No two rules have one number, and no two allow one
+/// address.
 #[derive(Drop)]
 struct Numbered {
     classifier: Classifier,
