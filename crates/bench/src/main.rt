@@ -13,7 +13,7 @@ use anyhow::Result;
 use std::env;
 use std::rt::Env;
 
-/// What the words behind the program's name ask for.
+/// What the words after the program's name ask for.
 enum Job {
     Agree,
     Measure(Vec<usize>),

@@ -1,5 +1,5 @@
-//! The program `fault_texts`: prints every fault that the public calls of `fields` and `rules` answer, with its text. What it
-//! has to print stands beside it, as the table of faults has it.
+//! The program `fault_texts`: prints every fault that the public calls of `fields` and `rules` answer, with its text.
+//! What it has to print stands beside it, as the table of faults has it.
 #![tactic(auto)]
 
 use fields::{PacketFault, ReadFailed, WordFault, WriteFailed};

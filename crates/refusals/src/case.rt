@@ -67,7 +67,8 @@ pub fn expect_kept(is_kept: bool) -> Result<(), Trouble> {
     }
 }
 
-/// The value of a call. Where memory was refused, what the call was given has to be as before, and the call is made again.
+/// The value of a call. Where memory was refused, what the call was given has to be as before, and the call is made
+/// again.
 macro_rules! again {
     ($refusals:expr, $call:expr, $is_kept:expr) => {
         match $call {

@@ -193,9 +193,9 @@ pub fn replace(alloc: Global, refusals: &mut Refusals) -> Result<(), Trouble> {
 
 /// A box without conditions, made before, goes into a classifier of two boxes and takes the place of one.
 ///
-/// Neither call takes memory: the contracts of `insert` and `replace` (`there`) promise success, since there is room for a
-/// third bit in each word and no cut is new. Here each allocation of the run is refused in turn, and both have to succeed
-/// at the first call every time.
+/// Neither call takes memory: the contracts of `insert` and `replace` (`there`) promise success, since there is room
+/// for a third bit in each word and no cut is new. Here each allocation of the run is refused in turn, and both have
+/// to succeed at the first call every time.
 pub fn needless(alloc: Global, refusals: &mut Refusals) -> Result<(), Trouble> {
     let mut classifier = of_both(alloc, refusals)?;
     let (put_in, put_over) = (box_of(alloc, refusals, ANY)?, box_of(alloc, refusals, ANY)?);

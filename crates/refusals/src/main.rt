@@ -1,9 +1,10 @@
-//! The program `refusals`: each call that takes memory, on small cases. Where a call answers want of memory, all that it was
-//! given has to be as before, and the same call made again has to give the expected answer.
+//! The program `refusals`: each call that takes memory, on small cases. Where a call answers out of memory, all that
+//! it was given has to be as before, and the same call made again has to give the expected answer.
 //!
-//! It is made for runs in which one allocation is refused. Each byte of standard input takes memory once before the first case,
-//! so that with the Nth allocation of the run refused, the length of the input says which one of the cases it is.
-//! What is printed is the same whether one was refused or not. The status is 0 where no call was refused, and 4 where one was.
+//! It is made for runs in which one allocation is refused. Each byte of standard input takes memory once before the
+//! first case, so that with the Nth allocation of the run refused, the length of the input says which one of the
+//! cases it is. What is printed is the same whether one was refused or not. The status is 0 where no call was
+//! refused, and 4 where one was.
 #![tactic(auto)]
 
 mod bits;

@@ -129,8 +129,8 @@ pub fn replace(alloc: Global, times: u32) -> Result<(), Trouble> {
 
 /// `Classifier::clear`, and `remove` that takes back the cuts of a box.
 ///
-/// After each call the next box is put in, which takes memory as often whatever the number of calls: all boxes are put
-/// in, and those that no call took out by `clear` are taken out by `remove`.
+/// After each call the next box is put in, which takes memory as often whatever the number of calls: all boxes are
+/// put in, and those that no call took out by `clear` are taken out by `remove`.
 pub fn clear(alloc: Global, times: u32) -> Result<(), Trouble> {
     let mut classifier = Classifier::new(alloc)?;
     let boxes = boxes_of(alloc, FIRST)?;

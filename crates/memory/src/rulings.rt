@@ -7,7 +7,7 @@ use rules::{Boxed, Rule, RuleFault, Target, Work, read_rule, write_rule};
 use std::alloc::Global;
 
 /// The rule that a line writes.
-fn rule_of(alloc: Global, line: &[u8]) -> Result<Rule, Trouble> {
+pub fn rule_of(alloc: Global, line: &[u8]) -> Result<Rule, Trouble> {
     let words = words_of(alloc, line)?;
     match read_rule(alloc, &words, 0) {
         Ok(rule) => Ok(rule),

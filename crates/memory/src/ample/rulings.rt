@@ -1,0 +1,133 @@
+//! Rules with 16 matches and each kind of target: read, copied, written and boxed.
+use crate::ample::sets::{Ends, has_just};
+use crate::compared::expecting;
+use crate::rulings::rule_of;
+use crate::trouble::{Trouble, expect};
+use fields::{Field, Tap};
+use rules::{Boxed, Rule, Work, write_rule};
+use std::alloc::Global;
+
+/// The conditions before the matches.
+const HEAD: &[u8] =
+    b" ! -s 255.255.255.255/32 ! -d 0.0.0.0/32 ! -i abcdefghijklmno ! -o abcdefghijklmn+ -p tcp";
+
+/// A match, and the numbers that it allows on a field.
+type Matched = (&'static [u8], Field, &'static [Ends]);
+
+const MATCHES: [Matched; 6] = [
+    (
+        b" -m multiport ! --dports 1,3,5,7,9,11,13,15,17,19,21,23,25,27,65535",
+        Field::DestinationPort,
+        &[
+            (0, 0),
+            (2, 2),
+            (4, 4),
+            (6, 6),
+            (8, 8),
+            (10, 10),
+            (12, 12),
+            (14, 14),
+            (16, 16),
+            (18, 18),
+            (20, 20),
+            (22, 22),
+            (24, 24),
+            (26, 26),
+            (28, 65534),
+        ],
+    ),
+    (
+        b" -m tcp ! --sport 1:65535 ! --dport 0 ! --tcp-flags FIN,SYN FIN",
+        Field::SourcePort,
+        &[(0, 0)],
+    ),
+    (
+        b" -m conntrack ! --ctstate INVALID,SNAT",
+        Field::ConnectionState,
+        &[(1, 2), (4, 4), (6, 6), (8, 8), (10, 10), (12, 12)],
+    ),
+    (
+        b" -m state --state INVALID,ESTABLISHED",
+        Field::ConnectionState,
+        &[(0, 0), (10, 13)],
+    ),
+    (
+        b" -m iprange ! --src-range 10.0.0.0-10.0.0.255 --dst-range 10.0.0.9-10.0.0.1",
+        Field::Destination,
+        &[],
+    ),
+    (
+        b" -m comment --comment \"a \\\"b\\\" \\'c\\' \\\\\"",
+        Field::Source,
+        &[(0, 4_294_967_294)],
+    ),
+];
+
+const TARGETS: [&[u8]; 8] = [
+    b"",
+    b" -j ACCEPT",
+    b" -j DROP",
+    b" -j RETURN",
+    b" -j REJECT --reject-with tcp-reset",
+    b" -j LOG --log-prefix \"\\\"abcdefghijklmnopqrstuvwxyz \\\\\" --log-level 7 --log-tcp-sequence --log-tcp-options \
+        --log-ip-options --log-uid",
+    b" -j abcdefghijklmnopqrstuvwxyz12",
+    b" -g abcdefghijklmnopqrstuvwxyz12",
+];
+
+/// The text of a rule with 16 equal matches.
+fn text_of(alloc: Global, matched: &[u8], target: &[u8]) -> Result<Vec<u8>, Trouble> {
+    let mut text = Vec::from_slice(alloc, HEAD)?;
+    for _ in 0..16 {
+        text.extend_from_slice(matched)?;
+    }
+    text.extend_from_slice(target)?;
+    Ok(text)
+}
+
+/// Whether a rule's text is this one.
+fn has_text(rule: &Rule, text: &[u8]) -> bool {
+    let mut output = Tap::new(expecting(text));
+    write_rule(rule, &mut output).is_ok() && output.into_device().is_whole()
+}
+
+/// Reads a rule, and copies, writes and boxes it.
+fn expect_rule(
+    alloc: Global,
+    text: &[u8],
+    field: Field,
+    intervals: &[Ends],
+) -> Result<(), Trouble> {
+    let rule = rule_of(alloc, text)?;
+    expect(has_text(&rule, text))?;
+    let copy = rule.copy(alloc)?;
+    expect(copy == rule && has_text(&copy, text))?;
+    let boxed = Boxed::of(alloc, &copy, &mut Work::new())?;
+    expect(has_just(boxed.on(field), intervals) && has_just(boxed.on(Field::Protocol), &[(6, 6)]))?;
+    expect(boxed.on(Field::InIface).intervals().len() == 2)
+}
+
+/// Rules with 16 matches of one kind.
+pub fn full(alloc: Global) -> Result<(), Trouble> {
+    for (matched, field, intervals) in MATCHES {
+        for target in TARGETS {
+            let text = text_of(alloc, matched, target)?;
+            expect_rule(alloc, &text, field, intervals)?;
+        }
+    }
+    Ok(())
+}
+
+/// The longest rules: 16 comments of 256 bytes, each of them after a backslash.
+pub fn longest(alloc: Global) -> Result<(), Trouble> {
+    let mut comment = Vec::from_slice(alloc, b" -m comment --comment \"")?;
+    for _ in 0..256 {
+        comment.extend_from_slice(b"\\\"")?;
+    }
+    comment.extend_from_slice(b"\"")?;
+    for target in TARGETS {
+        let text = text_of(alloc, &comment, target)?;
+        expect_rule(alloc, &text, Field::Destination, &[(1, 4_294_967_295)])?;
+    }
+    Ok(())
+}
