@@ -51,7 +51,7 @@ impl Classifier {
     ghost use Rattle.classify.specs.classifier.Classifier.{IsClassifierOf, IsClassifierOfRules, EditsBoxes, EditsRules};
     ghost use Rattle.classify.specs.classifier.OfRules.{lines_of};
     ghost use Rattle.classify.specs.classifier.Classifier.{HasNoNewCut, line_on, IsPoint, box_matches};
-    ghost use Rattle.classify.specs.steps.CommonPlaces.{IsRow, AreRows};
+    ghost use Rattle.classify.specs.steps.CommonPlaces.{IsRowAt, AreRowsAt};
     ghost use Rattle.classify.specs.steps.Fields.{shown_line};
 
     /// The classifier of no box.
@@ -162,7 +162,7 @@ impl Classifier {
     // The words of the row of a field's line at a number; they are lent.
     fn row(&self, place: usize, x: u128) -> &[u64]
         requires { place < FIELDS }
-        ensures { IsRow self.now place x result.now }
+        ensures { IsRowAt self.now place x result.now }
     {
         let _len = self.len;
         let line = &self.lines[place];
@@ -171,7 +171,7 @@ impl Classifier {
 
     // The words of each field's row at a point; they are lent.
     pub(crate) fn rows(&self, point: &[u128; FIELDS]) -> [&[u64]; FIELDS]
-        ensures { AreRows self.now point.now result FIELDS }
+        ensures { AreRowsAt self.now point.now result FIELDS }
     {
         let none: &[u64] = &[];
         let mut rows = [none; FIELDS];

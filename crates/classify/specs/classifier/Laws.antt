@@ -43,13 +43,14 @@ abbrev pub SameNumbersSameClassifier : Type 0
 SameNumbersSameClassifier = (rules others : List Rule) (c : Classified) → AllowTheSame rules others → IsClassifierOfRules rules c
     → IsClassifierOfRules others c
 
--- a renamed target, of one rule or of all that pass a test, leaves the classifier as it is
+-- a renamed target leaves the classifier as it is
 abbrev pub RenamedOneSameClassifier : Type 0
 RenamedOneSameClassifier =
     (rules : List Rule) (at : ℕ) (rule : Rule) (name : List ℕ) (c : Classified) → slice_get rules at ≡ Some rule
     → IsClassifierOfRules rules c
     → IsClassifierOfRules (slice_set rules at (with_chain_name name rule)) c
 
+-- renamed targets of all rules that pass a test leave it, too
 abbrev pub RenamedManySameClassifier : Type 0
 RenamedManySameClassifier =
     (rules : List Rule) (test : Rule → Bool) (name : List ℕ) (c : Classified) → IsClassifierOfRules rules c

@@ -34,11 +34,11 @@ abbrev pub IsFirst : (ℕ → Type 0) → ℕ → ℕ → Option ℕ → Type 0
 IsFirst P from to first = MatchOption first (Nowhere P from to) (λ n. (from ≤ n) × (n < to) × P n × Nowhere P from n)
 
 -- the words of the row of a field's line at a number
-pub record IsRow (c : Classified) (place x : ℕ) (row : List ℕ) : Type 0 where
+pub record IsRowAt (c : Classified) (place x : ℕ) (row : List ℕ) : Type 0 where
   pub packed : IsPacked row c.len
   pub bits : take c.len (all_bits row) ≡ row_in (slice_index_or c.lines place []) x
 
 -- a row for each field, as far as a place, at the point's number
-pub record AreRows (c : Classified) (point : List ℕ) (rows : List (Bor (List ℕ))) (upto : ℕ) : Type 0 where
+pub record AreRowsAt (c : Classified) (point : List ℕ) (rows : List (Bor (List ℕ))) (upto : ℕ) : Type 0 where
   pub long : length rows ≡ FIELDS
-  pub are : (j : ℕ) (d : Bor (List ℕ)) → j < upto → IsRow c j (slice_index point j) (slice_index_or rows j d).now
+  pub are : (j : ℕ) (d : Bor (List ℕ)) → j < upto → IsRowAt c j (slice_index point j) (slice_index_or rows j d).now

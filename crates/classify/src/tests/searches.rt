@@ -3,6 +3,7 @@
 ghost use Rattle.std.specs.Prelude.{◌≡◌, IsTrue, List};
 ghost use Rattle.fields.specs.numbers.Spans.{SpanSet};
 ghost use Rattle.classify.specs.classifier.Classifier.{IsPoint, IsClassifierOf, box_matches};
+ghost use Rattle.classify.specs.search.NextMatch.{next_match};
 
 use super::*;
 use fields::{FIELDS, Field};

@@ -22,7 +22,7 @@ use Rattle.classify.specs.steps.Shown.{shown}
 use Rattle.classify.specs.steps.Pieces.{row_in, IsRising}
 use Rattle.classify.specs.steps.Edits.{IsSound}
 use Rattle.classify.specs.steps.Fields.{shown_line, tops, IsKept}
-use Rattle.classify.specs.steps.CommonPlaces.{IsRow, AreRows, AreWide, HaveAll, IsFirst}
+use Rattle.classify.specs.steps.CommonPlaces.{IsRowAt, AreRowsAt, AreWide, HaveAll, IsFirst}
 use Rattle.rules.specs.boxing.Boxed.{set_on}
 use Rattle.rules.proofs.laws.boxing.BoxLaws.{index-lt, here_is}
 use Rattle.classify.specs.classifier.Classifier.{box_allows, line_on, Classified, IsClassifierOf, IsPoint, box_matches}
@@ -48,7 +48,7 @@ field_row lines len k x now d n h lt is =
 
 -- ---- all rows
 
-pub lent_more : (c : Classified) (point : List ℕ) (rows : List (Bor (List ℕ))) (k : ℕ) (row : Bor (List ℕ)) → AreRows c point rows k → k < FIELDS → IsRow c k (slice_index point k) row.now → AreRows c point (set rows k row) (k + 1)
+pub lent_more : (c : Classified) (point : List ℕ) (rows : List (Bor (List ℕ))) (k : ℕ) (row : Bor (List ℕ)) → AreRowsAt c point rows k → k < FIELDS → IsRowAt c k (slice_index point k) row.now → AreRowsAt c point (set rows k row) (k + 1)
 lent_more c point rows k row h lt r =
     let in' : k < length rows = omega (arith, h.long) in
     record {
@@ -56,18 +56,18 @@ lent_more c point rows k row h lt r =
       are = λ j d below.
           elim (cases_eq j k) [
             | inl at ↦ (
-                let P : ℕ → Type 0 = λ i. IsRow c i (slice_index point i) (get_or (set rows k row) i d).now in
-                let Q : Bor (List ℕ) → Type 0 = λ s. IsRow c k (slice_index point k) s.now in
+                let P : ℕ → Type 0 = λ i. IsRowAt c i (slice_index point i) (get_or (set rows k row) i d).now in
+                let Q : Bor (List ℕ) → Type 0 = λ s. IsRowAt c k (slice_index point k) s.now in
                 subst P (sym at) (subst Q (sym (get_or-set_same rows k row d in')) r))
             | inr ne ↦ (
-                let Q : Bor (List ℕ) → Type 0 = λ s. IsRow c j (slice_index point j) s.now in
+                let Q : Bor (List ℕ) → Type 0 = λ s. IsRowAt c j (slice_index point j) s.now in
                 subst Q (sym (get_or-set_other rows k j row d ne)) (h.are j d (omega arith)))
           ];
     }
 
 -- a bit of a field's row is a box's answer
 row_answer : (c : Classified) (boxes : List (List SpanSet)) (point : List ℕ) (field : Field) (row : List ℕ) (p : ℕ) (b : List SpanSet) → IsClassifierOf boxes c → IsPoint point
-    → IsRow c (index field) (slice_index point (index field)) row → p < length boxes → get_or (all_bits row) p false ≡ box_allows (get_or boxes p b) field (number_on point field)
+    → IsRowAt c (index field) (slice_index point (index field)) row → p < length boxes → get_or (all_bits row) p false ≡ box_allows (get_or boxes p b) field (number_on point field)
 row_answer c boxes point field row p b h within r lt =
     let in' : p < c.len = omega (arith, h.len) in
     let x : ℕ = number_on point field in
@@ -87,7 +87,7 @@ passes_each test h field =
     ]
 
 have_to_allow : (c : Classified) (boxes : List (List SpanSet)) (point : List ℕ) (rows : List (Bor (List ℕ))) (p : ℕ) (b : List SpanSet) → IsClassifierOf boxes c → IsPoint point
-    → length rows ≡ FIELDS → ((j : ℕ) (d : Bor (List ℕ)) → j < FIELDS → IsRow c j (slice_index point j) (get_or rows j d).now) → p < length boxes → HaveAll rows p ↔ (box_matches point (get_or boxes p b) ≡ true)
+    → length rows ≡ FIELDS → ((j : ℕ) (d : Bor (List ℕ)) → j < FIELDS → IsRowAt c j (slice_index point j) (get_or rows j d).now) → p < length boxes → HaveAll rows p ↔ (box_matches point (get_or boxes p b) ≡ true)
 have_to_allow c boxes point rows p b h within n are lt =
     let none : Bor (List ℕ) = record { ref_ptr = (0, 0); now = [] } in
     let test : Field → Bool = λ field. box_allows (get_or boxes p b) field (number_on point field) in (
@@ -108,7 +108,7 @@ none_past row len p h le lt =
     let e : len + (p - len) ≡ p = omega arith in
     sym (ap (λ j. get_or (all_bits row) j false) e) ∙ sym (get_or-drop len (all_bits row) (p - len) false) ∙ All-get_or (λ (b : Bool). b ≡ false) (drop len (all_bits row)) (p - len) false k h.padded
 
-have_within : (c : Classified) (point : List ℕ) (rows : List (Bor (List ℕ))) (words p : ℕ) → length rows ≡ FIELDS → ((j : ℕ) (d : Bor (List ℕ)) → j < FIELDS → IsRow c j (slice_index point j) (get_or rows j d).now) → AreWide words rows → p < 64 * words → HaveAll rows p → p < c.len
+have_within : (c : Classified) (point : List ℕ) (rows : List (Bor (List ℕ))) (words p : ℕ) → length rows ≡ FIELDS → ((j : ℕ) (d : Bor (List ℕ)) → j < FIELDS → IsRowAt c j (slice_index point j) (get_or rows j d).now) → AreWide words rows → p < 64 * words → HaveAll rows p → p < c.len
 have_within c point rows words p n are wide lt every =
     elim (cases_lt p c.len) [
       | inl in' ↦ in'
@@ -160,7 +160,7 @@ next_from_first test boxes from d (Some n) h =
     sym (ap (λ b. option_map (λ (k : ℕ). from + k) (cond b (Some (position_or_len test xs)) None)) f ∙ ap (λ k. Some (from + k)) e ∙ ap Some back)
 
 pub first_is_next : (c : Classified) (boxes : List (List SpanSet)) (point : List ℕ) (rows : List (Bor (List ℕ))) (words from : ℕ) (r : Option ℕ) → IsClassifierOf boxes c → IsPoint point
-    → length rows ≡ FIELDS → ((j : ℕ) (d : Bor (List ℕ)) → j < FIELDS → IsRow c j (slice_index point j) (get_or rows j d).now) → AreWide words rows → c.len ≤ 64 * words → IsFirst (HaveAll rows) from (64 * words) r → r ≡ next_match (box_matches point) boxes from
+    → length rows ≡ FIELDS → ((j : ℕ) (d : Bor (List ℕ)) → j < FIELDS → IsRowAt c j (slice_index point j) (get_or rows j d).now) → AreWide words rows → c.len ≤ 64 * words → IsFirst (HaveAll rows) from (64 * words) r → r ≡ next_match (box_matches point) boxes from
 first_is_next c boxes point rows words from None h within n are wide le first =
     next_from_first (box_matches point) boxes from [] None (λ k ge lt t. first k ge (omega (arith, h.len)) ((have_to_allow c boxes point rows k [] h within n are lt).1 t))
 first_is_next c boxes point rows words from (Some m) h within n are wide le first =
