@@ -11,12 +11,12 @@ ghost use Rattle.rules.specs.rule.Readable.{IsInOrder, IsReadable};
 ghost use Rattle.rules.specs.steps.Writing.{has_words, value_text, setting_text, start_text, match_text, action_text};
 ghost use Rattle.rules.specs.steps.Views.{view_match, view_content};
 
-use crate::rule::action::Action;
-use crate::rule::content::{Content, Match};
 use crate::options::match_kind::MatchKind;
-use crate::rule::Rule;
 use crate::options::setting::Setting;
 use crate::options::value::Value;
+use crate::rule::Rule;
+use crate::rule::action::Action;
+use crate::rule::content::{Content, Match};
 use fields::{Tap, WriteFailed};
 use std::io::Write;
 

@@ -10,20 +10,20 @@ ghost use Rattle.rules.specs.reading.Steps.{steps_from, unless_unmet, with_needs
 ghost use Rattle.rules.specs.rule.Needs.{is_met_for, unmet_match, or_else, unmet_matches, is_reset, unmet_reset, unmet};
 ghost use Rattle.rules.specs.steps.Views.{view_match, view_matches, view_content};
 
-pub(crate) mod grammar;
 pub(crate) mod fault;
+pub(crate) mod grammar;
 pub(crate) mod normal_form;
 pub(crate) mod option_words;
 pub(crate) mod steps;
 
-use crate::reading::normal_form::normalized;
-use crate::reading::steps::{is_met_for, step};
-use crate::rule::content::{Content, Match};
-use crate::reading::fault::{Refusal, RuleFault};
-use crate::reading::option_words::option_words_at;
-use crate::rule::Rule;
 use crate::options::setting::{Setting, has_protocol};
 use crate::options::value::Value;
+use crate::reading::fault::{Refusal, RuleFault};
+use crate::reading::normal_form::normalized;
+use crate::reading::option_words::option_words_at;
+use crate::reading::steps::{is_met_for, step};
+use crate::rule::Rule;
+use crate::rule::content::{Content, Match};
 use fields::{RejectType, Words};
 use std::alloc::Global;
 

@@ -10,12 +10,12 @@ pub(crate) mod content;
 pub(crate) mod copy;
 pub(crate) mod target;
 
-use crate::rule::action::Action;
-use crate::rule::copy::copy_content;
-use crate::rule::content::{Content, Match, same_content};
 use crate::options::setting::Setting;
-use crate::rule::target::Target;
 use crate::options::value::Value;
+use crate::rule::action::Action;
+use crate::rule::content::{Content, Match, same_content};
+use crate::rule::copy::copy_content;
+use crate::rule::target::Target;
 use fields::{Field, Name, RejectType};
 use std::alloc::{AllocError, Global};
 use std::marker::Model;

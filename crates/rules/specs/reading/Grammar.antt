@@ -25,7 +25,7 @@ abbrev pub AreOptions : ℕ → Rule → List OptionWords → List (List ℕ) �
 AreOptions end from [] words to rest = (words ≡ rest) × (from ≡ to)
 AreOptions end from (p ∷ ps) words to rest =
     (after : List (List ℕ)) × (with_it : Rule) × BeginsWith end words p after × (step from p ≡ Ok with_it)
-        × AreOptions end with_it ps after to rest
+    × AreOptions end with_it ps after to rest
 
 -- the words read as a rule: they are legal options, and after the last of them the needs hold
 abbrev pub ReadsAs : ℕ → List (List ℕ) → Rule → Type 0
@@ -41,7 +41,7 @@ IsRefused end d words e =
 abbrev pub IsRefusedWithin : ℕ → List (List ℕ) → Refusal → Type 0
 IsRefusedWithin end words e =
     (options : List OptionWords) × (d : Rule) × (w : List ℕ) × (rest : List (List ℕ))
-        × AreOptions end empty_rule options words d (w ∷ rest) × IsRefused end d (w ∷ rest) e
+    × AreOptions end empty_rule options words d (w ∷ rest) × IsRefused end d (w ∷ rest) e
 
 -- all options of the words are legal, and a need doesn't hold after the last of them
 abbrev pub IsRefusedAtEnd : ℕ → List (List ℕ) → Refusal → Type 0

@@ -37,8 +37,8 @@ unfoldable pub with_option : List Setting → OptionWords → Result (List Setti
 with_option settings p =
     if is_given (slot p.option) settings then Err refusal.RepeatedOption
     else
-        value_of p.option p.inverted p.values
-        >>= λ v. Ok (insert_by_place (slot p.option) (record { inverted = p.inverted; value = v }) settings)
+    value_of p.option p.inverted p.values
+    >>= λ v. Ok (insert_by_place (slot p.option) (record { inverted = p.inverted; value = v }) settings)
 
 -- the rule with these options of its own
 abbrev pub with_settings : Rule → List Setting → Rule

@@ -9,11 +9,11 @@ ghost use Rattle.rules.specs.steps.Conditions.{HasAllNumbers, Narrows, condition
 ghost use Rattle.rules.specs.steps.Views.{view_match, view_matches};
 
 use crate::boxing::condition::Condition;
-use crate::rule::content::Match;
-use crate::options::match_kind::MatchKind;
-use crate::rule::Rule;
-use crate::options::setting::Setting;
 use crate::boxing::work::Work;
+use crate::options::match_kind::MatchKind;
+use crate::options::setting::Setting;
+use crate::rule::Rule;
+use crate::rule::content::Match;
 use fields::{FIELDS, Field, Spans};
 use std::alloc::{AllocError, Global};
 use std::array;

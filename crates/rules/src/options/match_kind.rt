@@ -86,8 +86,12 @@ impl MatchRow {
         needs_option: bool,
         asks_fragment: bool,
     ) -> MatchRow
-        ensures { result ≡ record { name = name.entry; protocols = protocols.entry;
-            needs_option = needs_option; asks_fragment = asks_fragment } }
+        ensures { result ≡ record {
+          name = name.entry;
+          protocols = protocols.entry;
+          needs_option = needs_option;
+          asks_fragment = asks_fragment;
+        } }
     {
         MatchRow {
             name,

@@ -155,7 +155,13 @@ impl Opt {
                 1,
             ),
             Opt::InInterface => OptionRow::of(&[b"-i", b"--in-interface"], 1, true, Owner::Rule, 2),
-            Opt::OutInterface => OptionRow::of(&[b"-o", b"--out-interface"], 1, true, Owner::Rule, 3),
+            Opt::OutInterface => OptionRow::of(
+                &[b"-o", b"--out-interface"],
+                1,
+                true,
+                Owner::Rule,
+                3,
+            ),
             Opt::Protocol => OptionRow::of(&[b"-p", b"--protocol"], 1, true, Owner::Rule, 4),
             Opt::Fragment => OptionRow::of(&[b"-f", b"--fragment"], 0, true, Owner::Rule, 5),
             Opt::Match => OptionRow::of(&[b"-m", b"--match"], 1, false, Owner::Start, 0),
@@ -186,8 +192,20 @@ impl Opt {
                 of(MatchKind::Multiport),
                 0,
             ),
-            Opt::SourceRange => OptionRow::of(&[b"--src-range"], 1, true, of(MatchKind::Iprange), 0),
-            Opt::DestinationRange => OptionRow::of(&[b"--dst-range"], 1, true, of(MatchKind::Iprange), 1),
+            Opt::SourceRange => OptionRow::of(
+                &[b"--src-range"],
+                1,
+                true,
+                of(MatchKind::Iprange),
+                0,
+            ),
+            Opt::DestinationRange => OptionRow::of(
+                &[b"--dst-range"],
+                1,
+                true,
+                of(MatchKind::Iprange),
+                1,
+            ),
             Opt::Ctstate => OptionRow::of(&[b"--ctstate"], 1, true, of(MatchKind::Conntrack), 0),
             Opt::State => OptionRow::of(&[b"--state"], 1, true, of(MatchKind::State), 0),
             Opt::Comment => OptionRow::of(&[b"--comment"], 1, false, of(MatchKind::Comment), 0),
@@ -205,7 +223,13 @@ impl Opt {
                 Owner::Target(Extended::Log),
                 0,
             ),
-            Opt::LogLevel => OptionRow::of(&[b"--log-level"], 1, false, Owner::Target(Extended::Log), 1),
+            Opt::LogLevel => OptionRow::of(
+                &[b"--log-level"],
+                1,
+                false,
+                Owner::Target(Extended::Log),
+                1,
+            ),
             Opt::LogTcpSequence => OptionRow::of(
                 &[b"--log-tcp-sequence"],
                 0,
@@ -227,7 +251,13 @@ impl Opt {
                 Owner::Target(Extended::Log),
                 4,
             ),
-            Opt::LogUid => OptionRow::of(&[b"--log-uid"], 0, false, Owner::Target(Extended::Log), 5),
+            Opt::LogUid => OptionRow::of(
+                &[b"--log-uid"],
+                0,
+                false,
+                Owner::Target(Extended::Log),
+                5,
+            ),
         }
     }
 

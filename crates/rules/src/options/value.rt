@@ -7,8 +7,8 @@ ghost use Rattle.fields.specs.steps.Cutting.{view_words};
 ghost use Rattle.fields.specs.values.Protocol.{protocol_of};
 
 use crate::options::comment::Comment;
-use crate::reading::fault::{Refusal, RuleFault};
 use crate::options::option::Opt;
+use crate::reading::fault::{Refusal, RuleFault};
 use fields::{
     CtSet, FlagTest, IcmpType, IfPattern, IpRange, LogLevel, PortList, PortRange, Prefix, Protocol,
     RejectType, Text,

@@ -5,12 +5,12 @@ ghost use Rattle.rules.specs.options.Settings.{is_condition};
 ghost use Rattle.rules.specs.rule.Rules.{match_default, action_default, or_default, normal_match, normal_form};
 ghost use Rattle.rules.specs.steps.Views.{view_match, view_matches, view_content};
 
-use crate::rule::action::Action;
-use crate::rule::content::{Content, Match};
-use crate::reading::fault::RuleFault;
 use crate::options::match_kind::MatchKind;
 use crate::options::setting::Setting;
 use crate::options::value::Value;
+use crate::reading::fault::RuleFault;
+use crate::rule::action::Action;
+use crate::rule::content::{Content, Match};
 use fields::{IcmpType, RejectType};
 use std::alloc::AllocError;
 

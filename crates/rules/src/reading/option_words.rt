@@ -4,8 +4,8 @@ ghost use Rattle.fields.specs.steps.Cutting.{view_words};
 ghost use Rattle.rules.specs.reading.OptionWords.{with_values, inverted_words, after_bang, plain_words, option_words_at};
 ghost use Rattle.rules.specs.steps.Views.{OptionWordsGive};
 
-use crate::reading::fault::{Refusal, RuleFault};
 use crate::options::option::Opt;
+use crate::reading::fault::{Refusal, RuleFault};
 
 // An option with the words of its values, which are lent, and the place of the option's word.
 #[derive(Drop)]

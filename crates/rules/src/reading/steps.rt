@@ -12,14 +12,14 @@ ghost use Rattle.rules.specs.reading.Steps.{with_goto, match_step, step};
 ghost use Rattle.rules.specs.rule.Needs.{is_met, is_met_for};
 ghost use Rattle.rules.specs.steps.Views.{view_matches, view_content, view_option_words};
 
-use crate::rule::action::{Action, action_has};
-use crate::rule::content::{Content, Match};
-use crate::reading::fault::{Refusal, RuleFault};
 use crate::options::match_kind::MatchKind;
 use crate::options::option::{Opt, Owner};
-use crate::reading::option_words::OptionWords;
 use crate::options::setting::{Setting, has_protocol};
 use crate::options::value::{bad, first_of, value_of};
+use crate::reading::fault::{Refusal, RuleFault};
+use crate::reading::option_words::OptionWords;
+use crate::rule::action::{Action, action_has};
+use crate::rule::content::{Content, Match};
 use fields::Name;
 use std::alloc::Global;
 
@@ -141,7 +141,11 @@ fn is_implied_option(option: Opt) -> bool
 
 // The rule with the match that an option belongs to, and that match's place.
 #[tactic(auto, unfolding(crate::specs::reading::Steps::match_for))]
-fn match_for(alloc: Global, content: Content, given: &OptionWords) -> Result<(Content, usize), RuleFault>
+fn match_for(
+    alloc: Global,
+    content: Content,
+    given: &OptionWords,
+) -> Result<(Content, usize), RuleFault>
     ensures gives { Gives (λ r. (view_content r.0, r.1)) result (match_for (view_content content) (view_option_words given.now)) }
     ensures within { IfOk result (λ r. r.1 < vec_len r.0.matches) }
 {
@@ -166,7 +170,12 @@ fn match_for(alloc: Global, content: Content, given: &OptionWords) -> Result<(Co
 
 // One more option of the match at a place.
 #[tactic(auto, unfolding(crate::specs::reading::Steps::with_option_at))]
-fn add_at(alloc: Global, matches: &mut Vec<Match>, i: usize, given: &OptionWords) -> Result<(), RuleFault>
+fn add_at(
+    alloc: Global,
+    matches: &mut Vec<Match>,
+    i: usize,
+    given: &OptionWords,
+) -> Result<(), RuleFault>
     requires { i < vec_len matches.old }
     ensures { Gives (λ _. view_matches matches.new.items) result
         (with_option_at (view_matches matches.old.items) i (view_option_words given.now)) }
@@ -245,7 +254,11 @@ fn add_to_match(alloc: Global, content: Content, given: &OptionWords) -> Result<
 
 // The rule so far with one more option.
 #[tactic(auto, unfolding(crate::specs::reading::Steps::step))]
-pub(crate) fn step(alloc: Global, mut content: Content, given: &OptionWords) -> Result<Content, RuleFault>
+pub(crate) fn step(
+    alloc: Global,
+    mut content: Content,
+    given: &OptionWords,
+) -> Result<Content, RuleFault>
     ensures { Gives view_content result (step (view_content content) (view_option_words given.now)) }
 {
     match given.option.row().owner {

@@ -2,10 +2,10 @@
 ghost use Rattle.std.specs.Prelude.{◌≡◌, Option, Some, None, IfOk};
 ghost use Rattle.rules.specs.steps.Views.{view_match, view_matches, view_content};
 
-use crate::rule::action::Action;
-use crate::rule::content::{Content, Match};
 use crate::options::setting::Setting;
 use crate::options::value::Value;
+use crate::rule::action::Action;
+use crate::rule::content::{Content, Match};
 use std::alloc::{AllocError, Global};
 
 // A value again.
