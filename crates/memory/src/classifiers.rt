@@ -1,6 +1,6 @@
 //! Classifiers and their rows.
 
-ghost use Rattle.classify.specs.Classifier.{IsPoint};
+ghost use Rattle.classify.specs.classifier.Classifier.{IsPoint};
 
 use crate::rulings::box_of;
 use crate::trouble::{Trouble, expect};
@@ -45,7 +45,7 @@ fn point() -> [u128; FIELDS]
 
 /// How many pieces a line has.
 fn pieces_on(classifier: &Classifier, field: Field) -> usize {
-    classifier.line(field).pieces().len()
+    classifier.line(field).len()
 }
 
 /// `BitRow::insert` where there is room, `remove`, `get` and `len`.

@@ -35,6 +35,7 @@ pub fn packet(alloc: Global, times: u32) -> Result<(), Trouble> {
             return Err(Trouble::OtherAnswer);
         };
         expect(packet.hook() == Hook::Forward)?;
+        expect(packet.numbers()[7] == 22)?;
         expect(packet.point(Field::DestinationPort) == 22 && packet.point(Field::TcpFlags) == 18)?;
         match Packet::read(&bad, 0) {
             Ok(_) => return Err(Trouble::OtherAnswer),

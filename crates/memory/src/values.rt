@@ -4,7 +4,7 @@ use crate::trouble::{Trouble, expect, is_text};
 use fields::{
     CtSet, Field, FlagTest, Hook, IcmpType, IfPattern, IpRange, LogLevel, Name, PortList,
     PortRange, Prefix, Protocol, RejectType, Tap, TcpFlags, Text, read_address, read_number,
-    read_number_to, read_packet_icmp, read_packet_state,
+    read_number_to,
 };
 
 /// Reads a value, looks at it, and compares the text that it writes.
@@ -29,8 +29,6 @@ pub fn numbers(times: u32) -> Result<(), Trouble> {
         expect(
             read_address(b"10.0.0.1") == Some(167_772_161) && read_address(b"10.0.0").is_none(),
         )?;
-        expect(read_packet_state(b"related,DNAT") == Some(8))?;
-        expect(read_packet_icmp(b"8/0") == Some(2048))?;
     }
     Ok(())
 }
@@ -49,7 +47,7 @@ pub fn names(times: u32) -> Result<(), Trouble> {
 /// `Prefix`.
 pub fn prefix(times: u32) -> Result<(), Trouble> {
     read_and_write!(times, Prefix::read(b"10.1.2.3/255.0.0.0"), b"10.0.0.0/8", value =>
-        value.holds(184_549_375) && !value.holds(184_549_376) && value.octets() == [10, 0, 0, 0]
+        value.holds(184_549_375) && !value.holds(184_549_376)
             && value.address() == 167_772_160 && value.length() == 8 && value != Prefix::any());
     Ok(())
 }
@@ -59,21 +57,21 @@ pub fn interface(times: u32) -> Result<(), Trouble> {
     let eth0 = 0x6574_6830_0000_0000_0000_0000_0000_0000;
     read_and_write!(times, IfPattern::read(b"eth+"), b"eth+", value =>
         value.holds(eth0) && !value.holds(0) && !value.is_any() && value.copy() == value
-            && is_text(value.bytes(), b"eth+") && value.interval().0 < eth0);
+            && is_text(value.bytes(), b"eth+"));
     Ok(())
 }
 
 /// `IpRange`.
 pub fn ip_range(times: u32) -> Result<(), Trouble> {
     read_and_write!(times, IpRange::read(b"10.0.0.1"), b"10.0.0.1-10.0.0.1", value =>
-        value.holds(167_772_161) && !value.holds(167_772_160) && value.first() == value.last());
+        value.holds(167_772_161) && !value.holds(167_772_160));
     Ok(())
 }
 
 /// `Protocol`.
 pub fn protocol(times: u32) -> Result<(), Trouble> {
     read_and_write!(times, Protocol::read(b"136"), b"udplite", value =>
-        value.number() == 136 && !value.is_all() && !value.is_tcp());
+        value.number() == 136 && !value.is_all());
     Ok(())
 }
 
@@ -95,7 +93,7 @@ pub fn port_list(times: u32) -> Result<(), Trouble> {
 /// `TcpFlags`.
 pub fn tcp_flags(times: u32) -> Result<(), Trouble> {
     read_and_write!(times, TcpFlags::read(b"syn,Ack,SYN"), b"SYN,ACK", value =>
-        value.value() == 18 && value != TcpFlags::none());
+        value.value() == 18);
     Ok(())
 }
 
@@ -118,8 +116,7 @@ pub fn states(times: u32) -> Result<(), Trouble> {
 /// `IcmpType`.
 pub fn icmp_type(times: u32) -> Result<(), Trouble> {
     read_and_write!(times, IcmpType::read(b"port-unreachable"), b"3/3", value =>
-        value.holds(771) && !value.holds(772) && value.interval() == (771, 771)
-            && value != IcmpType::any());
+        value.holds(771) && !value.holds(772) && value != IcmpType::any());
     Ok(())
 }
 
@@ -127,14 +124,14 @@ pub fn icmp_type(times: u32) -> Result<(), Trouble> {
 pub fn reject_type(times: u32) -> Result<(), Trouble> {
     let text = b"icmp-admin-prohibited";
     read_and_write!(times, RejectType::read(text), text, value =>
-        is_text(value.text(), text) && value != RejectType::default());
+        value != RejectType::default());
     Ok(())
 }
 
 /// `LogLevel`.
 pub fn log_level(times: u32) -> Result<(), Trouble> {
     read_and_write!(times, LogLevel::read(b"debug"), b"7", value =>
-        value.number() == 7 && is_text(value.name(), b"debug") && value != LogLevel::default());
+        value.number() == 7 && value != LogLevel::default());
     Ok(())
 }
 

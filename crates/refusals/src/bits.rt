@@ -4,7 +4,7 @@ use classify::BitRow;
 use std::alloc::Global;
 
 /// Whether the row has so many bits, and those at the places alone are set.
-fn has_bits(row: &BitRow, len: usize, set: &[usize]) -> bool {
+pub fn has_bits(row: &BitRow, len: usize, set: &[usize]) -> bool {
     if row.len() != len {
         return false;
     }

@@ -1,6 +1,6 @@
 //! A classifier of 8,192 boxes, beside the plain list of their rules' numbers.
 
-ghost use Rattle.classify.specs.Classifier.{IsPoint};
+ghost use Rattle.classify.specs.classifier.Classifier.{IsPoint};
 
 use crate::rulings::box_of;
 use crate::trouble::{Trouble, expect};
@@ -96,7 +96,7 @@ impl Numbered {
 
 /// How many pieces a line has.
 fn pieces_on(classifier: &Classifier, field: Field) -> usize {
-    classifier.line(field).pieces().len()
+    classifier.line(field).len()
 }
 
 /// A classifier of all boxes, put in at the end and at the front in turn.
