@@ -135,13 +135,6 @@ fn rule_of(alloc: Global, end: usize, words: &[Vec<u8>]) -> Result<Content, Rule
     with_needs_met(content)
 }
 
-// The words from a place on; from beyond the last word on there are none.
-fn words_from(words: &Words, from: usize) -> &[Vec<u8>]
-    ensures { view_words result.now ≡ drop from words.now }
-{
-    words.after(from.min(words.len()))
-}
-
 /// The rule that the words from a place on read as (iptables(8), iptables-extensions(8)). From beyond the last word on
 /// there are no words, and they read as the rule that asks and does nothing.
 ///
@@ -156,6 +149,6 @@ pub fn read_rule(alloc: Global, words: &Words, from: usize) -> Result<Rule, Rule
     ensures reads { Gives (λ r. r) result (rule_of (length words.now) (drop from words.now)) }
     ensures readable { IfOk result IsReadable }
 {
-    let content = rule_of(alloc, words.len(), words_from(words, from))?;
+    let content = rule_of(alloc, words.len(), words.after(from))?;
     Ok(Rule::of(content))
 }
