@@ -144,6 +144,7 @@ impl Rule {
     ghost use Rattle.fields.specs.declared.numbers.field.Field.{Field};
     ghost use Rattle.rules.specs.rule.Actions.{target_of, with_chain_name, names_chain};
     ghost use Rattle.rules.specs.rule.Allows.{asks_on, allows};
+    ghost use Rattle.rules.specs.rule.Readable.{IsInOrder, IsReadable};
     ghost use Rattle.rules.specs.printing.Printing.{rule_text};
     ghost use Rattle.rules.specs.printing.RoundTrip.{ReadsItself};
     ghost use Rattle.rules.specs.steps.Views.{view_content};
@@ -160,6 +161,8 @@ impl Rule {
     pub(crate) fn content(&self) -> &Content
         ensures value { view_content result.now ≡ self.now }
         ensures kept { ReadsItself self.now }
+        ensures ordered { IsInOrder self.now }
+        ensures readable { IsReadable self.now }
     {
         &self.content
     }
