@@ -9,7 +9,7 @@ use fields::{FIELDS, Words};
 use rules::{Boxed, Work, read_rule};
 use std::alloc::{AllocError, Global};
 
-/// The most rules that are told apart.
+/// The most rules that differ from one another.
 pub(crate) const MOST_RULES: usize = 8192;
 
 /// What a rule asks: two prefixes of 24 bits and two ports. Rules at different places have different ones, and

@@ -132,7 +132,7 @@ fn refuses(rt: HostRuntime) -> Result<(), Fail> {
     Ok(())
 }
 
-// A line, and a part behind it as many times.
+// A line, and a part after it as many times.
 fn repeated(alloc: Global, line: &str, part: &str, count: usize) -> Result<String, Fail> {
     let mut whole = format!(in alloc; "{line}")?;
     for _ in 0..count {
