@@ -1,6 +1,6 @@
 //! The classifier: the lines of all fields.
 
-ghost use Rattle.std.specs.Prelude.{◌≡◌, ◌≢◌, ◌≤◌, ◌%◌, OnOk, OnErr, IsOk, IfOk, List, [], ◌<◌, insert, remove};
+ghost use Rattle.std.specs.Prelude.{◌≡◌, ◌≢◌, ◌≤◌, ◌+◌, ◌%◌, OnOk, OnErr, IsOk, IfOk, List, [], ◌<◌, insert, remove};
 ghost use Rattle.std.specs.Prelude.{slice_set};
 ghost use Rattle.fields.specs.numbers.Spans.{SpanSet};
 ghost use Rattle.fields.specs.numbers.Field.{index};
@@ -36,13 +36,16 @@ pub struct Classifier {
 
 impl Model for Classifier {
     ghost use Rattle.std.specs.Prelude.{map};
-    ghost use Rattle.classify.specs.classifier.Classifier.{Classified};
+    ghost use Rattle.classify.specs.classifier.Classifier.{ClassifiedAndRoom};
 
-    ghost Value = { Classified };
+    ghost Value = { ClassifiedAndRoom };
 
-    ghost use Rattle.classify.specs.steps.Fields.{shown_line, IsKept};
+    ghost use Rattle.classify.specs.steps.Fields.{shown_line, room_beside, IsKept};
 
-    ghost view = { λ c. record { len = c.len; lines = map shown_line c.lines } };
+    ghost view = { λ c. record {
+      shown = record { len = c.len; lines = map shown_line c.lines };
+      room = room_beside c.len c.lines;
+    } };
 
     ghost invariant = { λ c. IsKept (record { len = c.len; lines = map shown_line c.lines }) };
 }
@@ -60,8 +63,8 @@ impl Classifier {
     ///
     /// `AllocError` where memory was refused.
     pub fn new(alloc: Global) -> Result<Classifier, AllocError>
-        ensures boxes { IfOk result (λ classifier. IsClassifierOf [] classifier) }
-        ensures rules { IfOk result (λ classifier. IsClassifierOfRules [] classifier) }
+        ensures boxes { IfOk result (λ classifier. IsClassifierOf [] classifier.shown) }
+        ensures rules { IfOk result (λ classifier. IsClassifierOfRules [] classifier.shown) }
     {
         let mut lines: [OwnedLine; FIELDS] = array::from_fn(|_| OwnedLine::bare(alloc));
         lines::open_lines(&mut lines, alloc)?;
@@ -74,7 +77,7 @@ impl Classifier {
     ///
     /// `AllocError` where memory was refused.
     pub fn copy(&self, alloc: Global) -> Result<Classifier, AllocError>
-        ensures { IfOk result (λ classifier. classifier ≡ self.now) }
+        ensures { IfOk result (λ classifier. classifier.shown ≡ self.now.shown) }
     {
         let mut lines: [OwnedLine; FIELDS] = array::from_fn(|_| OwnedLine::bare(alloc));
         lines::copy_lines(&mut lines, &self.lines, alloc)?;
@@ -84,35 +87,40 @@ impl Classifier {
         })
     }
 
-    /// How many boxes there are.
+    /// How many boxes there are. Where that is no multiple of 64, there is room for one more.
     pub fn len(&self) -> usize
-        ensures { result ≡ self.now.len }
+        ensures len { result ≡ self.now.shown.len }
+        ensures room { result % 64 ≢ 0 → 0 < self.now.room }
     {
         self.len
     }
 
     /// The line of a field; it is lent.
     pub fn line(&self, field: Field) -> Line<'_>
-        ensures line { result ≡ line_on field self.now }
-        ensures rules { (rules : List Rule) → IsClassifierOfRules rules self.now → result ≡ lines_of rules field }
+        ensures line { result ≡ line_on field self.now.shown }
+        ensures rules { (rules : List Rule) → IsClassifierOfRules rules self.now.shown → result ≡ lines_of rules field }
     {
         let line = &self.lines[field.index()];
         Line::of(line.pieces.as_slice())
     }
 
-    /// Puts a box in at a place among the boxes. It takes the box, also where memory is refused.
+    /// Puts a box in at a place among the boxes. It takes the box, also where memory is refused. A box that
+    /// brings no new cut uses the room of one box.
     ///
     /// # Errors
     ///
-    /// `AllocError` where memory was refused: the classifier is unchanged. It succeeds where the number of
-    /// boxes is no multiple of 64 and the box brings no new cut.
+    /// `AllocError` where memory was refused: the boxes are as before, and no room is lost. It succeeds where
+    /// there is room and the box brings no new cut. There is room where the number of boxes is no multiple of
+    /// 64, and after `remove`.
     pub fn insert(&mut self, at: usize, boxed: Boxed) -> Result<(), AllocError>
-        requires { at ≤ self.old.len }
-        ensures boxes { OnOk result (EditsBoxes (λ boxes. insert boxes at boxed) self.old self.new) }
+        requires { at ≤ self.old.shown.len }
+        ensures boxes { OnOk result (EditsBoxes (λ boxes. insert boxes at boxed) self.old.shown self.new.shown) }
         ensures rules { OnOk result ((rule : Rule) → IsBoxOf rule boxed
-            → EditsRules (λ rules. insert rules at rule) self.old self.new) }
-        ensures err { OnErr result (self.new ≡ self.old) }
-        ensures there { self.old.len % 64 ≢ 0 → HasNoNewCut boxed self.old → IsOk result }
+            → EditsRules (λ rules. insert rules at rule) self.old.shown self.new.shown) }
+        ensures err { OnErr result (self.new.shown ≡ self.old.shown) }
+        ensures kept { OnErr result (self.old.room ≤ self.new.room) }
+        ensures there { 0 < self.old.room → HasNoNewCut boxed self.old.shown → IsOk result }
+        ensures room { OnOk result (HasNoNewCut boxed self.old.shown → self.old.room ≤ self.new.room + 1) }
     {
         if self.len >= MOST_BITS {
             return Err(AllocError);
@@ -122,38 +130,43 @@ impl Classifier {
         Ok(())
     }
 
-    /// Puts a box in the place of another. It takes the box, also where memory is refused.
+    /// Puts a box in the place of another. It takes the box, also where memory is refused. A box that brings
+    /// no new cut uses no room.
     ///
     /// # Errors
     ///
-    /// `AllocError` where memory was refused: the classifier is unchanged. It succeeds where the cuts
-    /// afterwards are among those before.
+    /// `AllocError` where memory was refused: the boxes are as before, and no room is lost. It succeeds where
+    /// the box brings no new cut.
     pub fn replace(&mut self, at: usize, boxed: Boxed) -> Result<(), AllocError>
-        requires { at < self.old.len }
-        ensures boxes { OnOk result (EditsBoxes (λ boxes. slice_set boxes at boxed) self.old self.new) }
+        requires { at < self.old.shown.len }
+        ensures boxes { OnOk result (EditsBoxes (λ boxes. slice_set boxes at boxed) self.old.shown self.new.shown) }
         ensures rules { OnOk result ((rule : Rule) → IsBoxOf rule boxed
-            → EditsRules (λ rules. slice_set rules at rule) self.old self.new) }
-        ensures err { OnErr result (self.new ≡ self.old) }
-        ensures there { HasNoNewCut boxed self.old → IsOk result }
+            → EditsRules (λ rules. slice_set rules at rule) self.old.shown self.new.shown) }
+        ensures err { OnErr result (self.new.shown ≡ self.old.shown) }
+        ensures kept { OnErr result (self.old.room ≤ self.new.room) }
+        ensures there { HasNoNewCut boxed self.old.shown → IsOk result }
+        ensures room { OnOk result (HasNoNewCut boxed self.old.shown → self.old.room ≤ self.new.room) }
     {
         lines::replace_lines(&mut self.lines, self.len, at, boxed.spans())?;
         Ok(())
     }
 
-    /// Takes a box out: the later ones move down by one. It takes no memory.
+    /// Takes a box out: the later ones move down by one. It takes no memory, and leaves room for one more box.
     pub fn remove(&mut self, at: usize)
-        requires { at < self.old.len }
-        ensures boxes { EditsBoxes (λ boxes. remove boxes at) self.old self.new }
-        ensures rules { EditsRules (λ rules. remove rules at) self.old self.new }
+        requires { at < self.old.shown.len }
+        ensures boxes { EditsBoxes (λ boxes. remove boxes at) self.old.shown self.new.shown }
+        ensures rules { EditsRules (λ rules. remove rules at) self.old.shown self.new.shown }
+        ensures room { self.old.room < self.new.room }
     {
         lines::remove_lines(&mut self.lines, at);
         self.len -= 1;
     }
 
-    /// Takes every box out. It takes no memory.
+    /// Takes every box out. It takes no memory, and leaves room for as many more boxes.
     pub fn clear(&mut self)
-        ensures boxes { IsClassifierOf [] self.new }
-        ensures rules { IsClassifierOfRules [] self.new }
+        ensures boxes { IsClassifierOf [] self.new.shown }
+        ensures rules { IsClassifierOfRules [] self.new.shown }
+        ensures room { self.old.room + self.old.shown.len ≤ self.new.room }
     {
         lines::clear_lines(&mut self.lines);
         self.len = 0;
@@ -162,7 +175,7 @@ impl Classifier {
     // The words of the row of a field's line at a number; they are lent.
     fn row(&self, place: usize, x: u128) -> &[u64]
         requires { place < FIELDS }
-        ensures { IsRowAt self.now place x result.now }
+        ensures { IsRowAt self.now.shown place x result.now }
     {
         let _len = self.len;
         let line = &self.lines[place];
@@ -171,7 +184,7 @@ impl Classifier {
 
     // The words of each field's row at a point; they are lent.
     pub(crate) fn rows(&self, point: &[u128; FIELDS]) -> [&[u64]; FIELDS]
-        ensures { AreRowsAt self.now point.now result FIELDS }
+        ensures { AreRowsAt self.now.shown point.now result FIELDS }
     {
         let none: &[u64] = &[];
         let mut rows = [none; FIELDS];
@@ -188,9 +201,9 @@ impl Classifier {
     /// each row for 64 boxes that it passes over.
     pub fn next(&self, point: &[u128; FIELDS], from: usize) -> Option<usize>
         requires { IsPoint point.now }
-        ensures boxes { (boxes : List (List SpanSet)) → IsClassifierOf boxes self.now
+        ensures boxes { (boxes : List (List SpanSet)) → IsClassifierOf boxes self.now.shown
             → result ≡ next_match (box_matches point.now) boxes from }
-        ensures rules { (rules : List Rule) → IsClassifierOfRules rules self.now
+        ensures rules { (rules : List Rule) → IsClassifierOfRules rules self.now.shown
             → result ≡ next_match (matches point.now) rules from }
     {
         let rows = self.rows(point);

@@ -6,8 +6,6 @@ mod bits;
 mod classifier;
 mod line;
 mod search;
-#[cfg(test)]
-mod tests;
 
 pub use bits::bit_row::BitRow;
 pub use classifier::Classifier;

@@ -93,19 +93,3 @@ pub(crate) fn first_common(rows: &[&[u64]], words: usize, from: usize) -> Option
         }
     }
 }
-
-// The same, with no lanes.
-#[cfg(test)]
-pub(crate) fn first_common_plain(rows: &[&[u64]], words: usize, from: usize) -> Option<usize>
-    requires wide { AreWide words rows.now }
-    requires few { words < 2 ^ 58 }
-    ensures { IsFirst (HaveAll rows.now) from (64 * words) result }
-{
-    if from / 64 >= words {
-        return None;
-    }
-    match head(rows, from) {
-        Some(place) => Some(place),
-        None => scan(rows, from / 64 + 1, words),
-    }
-}

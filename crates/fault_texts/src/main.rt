@@ -1,10 +1,11 @@
-//! The program `fault_texts`: prints every fault that the public calls of `fields` and `rules` answer, with its text.
-//! What it has to print stands beside it, as the table of faults has it.
+//! The program `fault_texts`: prints every fault that the public calls of `fields`, `rules` and `table` answer, with its
+//! text. What it has to print stands beside it, as the table of faults has it.
 #![tactic(auto)]
 
 use fields::{PacketFault, ReadFailed, WordFault, WriteFailed};
 use rules::{Refusal, RuleFault};
 use std::io;
+use table::TableFault;
 
 const REFUSALS: [Refusal; 12] = [
     Refusal::UnknownOption(0),
@@ -28,6 +29,26 @@ const PACKET_FAULTS: [PacketFault; 4] = [
     PacketFault::NotCarried,
 ];
 
+const TABLE_FAULTS: [TableFault; 17] = [
+    TableFault::NoSuchChain,
+    TableFault::ChainExists,
+    TableFault::BadChainName,
+    TableFault::NumberOutOfRange,
+    TableFault::NoSuchRule,
+    TableFault::ChainNotEmpty,
+    TableFault::ChainReferenced,
+    TableFault::BuiltInChain,
+    TableFault::NotBuiltInChain,
+    TableFault::Loop,
+    TableFault::TargetMissing,
+    TableFault::TargetBuiltIn,
+    TableFault::InterfaceNotAllowed,
+    TableFault::ChainFull,
+    TableFault::TooManyChains,
+    TableFault::BadPolicy,
+    TableFault::NoMemory,
+];
+
 fn print_faults_of_rules(rt: &impl Print) -> io::Result<()> {
     for refusal in REFUSALS {
         println!(rt; "{refusal:?}: {refusal}")?;
@@ -49,7 +70,15 @@ fn print_faults_of_fields(rt: &impl Print) -> io::Result<()> {
     println!(rt; "{WriteFailed:?}: {WriteFailed}")
 }
 
+fn print_faults_of_tables(rt: &impl Print) -> io::Result<()> {
+    for fault in TABLE_FAULTS {
+        println!(rt; "{fault:?}: {fault}")?;
+    }
+    Ok(())
+}
+
 fn main(rt: HostRuntime) -> io::Result<()> {
     print_faults_of_rules(&rt)?;
-    print_faults_of_fields(&rt)
+    print_faults_of_fields(&rt)?;
+    print_faults_of_tables(&rt)
 }

@@ -11,6 +11,7 @@ pub use numbers::field::{FIELDS, Field};
 pub use numbers::spans::{Interval, Spans, canonical_is_unique};
 pub use packet::hook::Hook;
 pub use packet::{Packet, PacketFault};
+pub use text::cut::cut_at;
 pub use text::line::{LineEnd, LineRead};
 pub use text::number::{read_number, read_number_to};
 pub use text::tap::{ReadFailed, Tap, WriteFailed};
@@ -29,6 +30,3 @@ pub use values::prefix::{Prefix, read_address};
 pub use values::protocol::Protocol;
 pub use values::reject::RejectType;
 pub use values::tcp_flags::TcpFlags;
-
-#[cfg(test)]
-mod tests;

@@ -1,6 +1,6 @@
 //! The cases: the calls that promise to take no memory.
 use crate::trouble::Trouble;
-use crate::{classifiers, lent, planted, rulings, taps, values};
+use crate::{classifiers, lent, planted, rulings, tables, taps, values};
 use std::alloc::Global;
 
 /// Which calls are made. Each case makes all calls of one kind of value, and compares their answers.
@@ -38,12 +38,20 @@ pub enum Case {
     Insert,
     Replace,
     Clear,
+    DeleteAt,
+    DeleteRule,
+    HasRule,
+    Flush,
+    FlushAll,
+    Policy,
+    Verdict,
+    TableViews,
     Planted,
 }
 
 impl Case {
     /// All cases.
-    pub const ALL: [Case; 33] = [
+    pub const ALL: [Case; 41] = [
         Case::Numbers,
         Case::Names,
         Case::Prefix,
@@ -76,6 +84,14 @@ impl Case {
         Case::Insert,
         Case::Replace,
         Case::Clear,
+        Case::DeleteAt,
+        Case::DeleteRule,
+        Case::HasRule,
+        Case::Flush,
+        Case::FlushAll,
+        Case::Policy,
+        Case::Verdict,
+        Case::TableViews,
         Case::Planted,
     ];
 
@@ -114,6 +130,14 @@ impl Case {
             Case::Insert => "insert",
             Case::Replace => "replace",
             Case::Clear => "clear",
+            Case::DeleteAt => "delete-at",
+            Case::DeleteRule => "delete-rule",
+            Case::HasRule => "has-rule",
+            Case::Flush => "flush",
+            Case::FlushAll => "flush-all",
+            Case::Policy => "set-policy",
+            Case::Verdict => "verdict",
+            Case::TableViews => "table-views",
             Case::Planted => "planted",
         }
     }
@@ -153,6 +177,14 @@ impl Case {
             Case::Insert => classifiers::insert(alloc, times),
             Case::Replace => classifiers::replace(alloc, times),
             Case::Clear => classifiers::clear(alloc, times),
+            Case::DeleteAt => tables::delete_at(alloc, times),
+            Case::DeleteRule => tables::delete_rule(alloc, times),
+            Case::HasRule => tables::has_rule(alloc, times),
+            Case::Flush => tables::flush(alloc, times),
+            Case::FlushAll => tables::flush_all(alloc, times),
+            Case::Policy => tables::set_policy(alloc, times),
+            Case::Verdict => tables::verdict(alloc, times),
+            Case::TableViews => tables::views(alloc, times),
             Case::Planted => planted::takes_memory(alloc, times),
         }
     }

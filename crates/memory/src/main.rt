@@ -18,6 +18,7 @@ mod compared;
 mod lent;
 mod planted;
 mod rulings;
+mod tables;
 mod taps;
 mod trouble;
 mod values;

@@ -191,14 +191,16 @@ pub fn replace(alloc: Global, refusals: &mut Refusals) -> Result<(), Trouble> {
     Err(Trouble::RefusedTwice)
 }
 
-/// A box without conditions, made before, goes into a classifier of two boxes and takes the place of one.
+/// A box without conditions, made before, goes into a classifier of two boxes, takes the place of one, and goes into
+/// the classifier after all were taken out.
 ///
-/// Neither call takes memory: the contracts of `insert` and `replace` (`there`) promise success, since there is room
-/// for a third bit in each word and no cut is new. Here each allocation of the run is refused in turn, and both have
-/// to succeed at the first call every time.
+/// No such call takes memory: the contracts of `insert` and `replace` (`there`) promise success, since there is room
+/// for a third bit in each word, and for the first where others were, and no cut is new. Here each allocation of the
+/// run is refused in turn, and each call has to succeed at once every time.
 pub fn needless(alloc: Global, refusals: &mut Refusals) -> Result<(), Trouble> {
     let mut classifier = of_both(alloc, refusals)?;
     let (put_in, put_over) = (box_of(alloc, refusals, ANY)?, box_of(alloc, refusals, ANY)?);
+    let put_back = box_of(alloc, refusals, ANY)?;
     if classifier.len() != 2 {
         return Err(Trouble::OtherAnswer);
     }
@@ -216,5 +218,8 @@ pub fn needless(alloc: Global, refusals: &mut Refusals) -> Result<(), Trouble> {
         Field::Source,
         &[(0, &[1]), (167_772_160, &[0, 1]), (184_549_376, &[1])],
     )];
-    expect(is_of(&classifier, 2, &rows))
+    expect(is_of(&classifier, 2, &rows))?;
+    classifier.clear();
+    expect_given(classifier.insert(0, put_back))?;
+    expect(is_of(&classifier, 1, &[]))
 }

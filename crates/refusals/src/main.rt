@@ -14,6 +14,7 @@ mod classifiers;
 mod planted;
 mod rulings;
 mod sets;
+mod tables;
 mod values;
 mod words;
 
@@ -78,6 +79,15 @@ fn run<R: Print + AllocGlobal>(rt: &R, refusals: &mut Refusals) {
         "boxes without a new cut",
         classifiers::needless(alloc, refusals),
     );
+    tell(rt, "no rule", tables::new(alloc, refusals));
+    tell(rt, "chains", tables::new_chain(alloc, refusals));
+    tell(rt, "rules put in", tables::put_in(alloc, refusals));
+    tell(
+        rt,
+        "rules put over others",
+        tables::put_over(alloc, refusals),
+    );
+    tell(rt, "trails", tables::trail(alloc, refusals));
 }
 
 /// Prints how the planted cases ended, each by the trouble that it is made to be.

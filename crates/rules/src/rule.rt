@@ -8,6 +8,7 @@ ghost use Rattle.rules.specs.rule.Allows.{asks};
 pub(crate) mod action;
 pub(crate) mod content;
 pub(crate) mod copy;
+pub(crate) mod renamed;
 pub(crate) mod target;
 
 use crate::options::setting::Setting;
@@ -146,7 +147,7 @@ impl Rule {
     ghost use Rattle.rules.specs.rule.Allows.{asks_on, allows};
     ghost use Rattle.rules.specs.rule.Readable.{IsInOrder, IsReadable};
     ghost use Rattle.rules.specs.printing.Printing.{rule_text};
-    ghost use Rattle.rules.specs.printing.RoundTrip.{ReadsItself};
+    ghost use Rattle.rules.specs.printing.RoundTrip.{ReadsItself, TextReadsBack};
     ghost use Rattle.rules.specs.steps.Views.{view_content};
 
     // The rule of what was read.
@@ -165,6 +166,15 @@ impl Rule {
         ensures readable { IsReadable self.now }
     {
         &self.content
+    }
+
+    /// The law that every rule is readable, and that its text reads back as it. It does nothing.
+    #[tactic(auto, using(crate::proofs::laws::printing::RoundTripLaws::listing_laws))]
+    pub fn reads_back(&self)
+        ensures readable { IsReadable self.now }
+        ensures text { TextReadsBack self.now }
+    {
+        let _content = self.content();
     }
 
     /// An equal rule. It takes as much memory as the rule has.

@@ -1,4 +1,4 @@
 pub mod ClassifierLaws
-pub mod FieldLaws
 pub mod MadeBoxes
+pub mod RoomLaws
 pub mod RuleLaws

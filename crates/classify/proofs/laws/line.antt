@@ -6,8 +6,10 @@ pub mod JoinLaws
 pub mod KeepApartLaws
 pub mod LineLaws
 pub mod LineOfLaws
+pub mod ListLoopLaws
 pub mod LoopLaws
 pub mod PlaceLaws
+pub mod RoomLaws
 pub mod ShownLaws
 pub mod StepLaws
 pub mod UnsplitLaws

@@ -22,6 +22,11 @@ pub record Classified : Type 0 where
   pub len : ℕ
   pub lines : List (List (ℕ × List Bool))
 
+-- the same, and how many boxes that bring no new cut go in before memory is needed
+pub record ClassifiedAndRoom : Type 0 where
+  pub shown : Classified
+  pub room : ℕ
+
 -- the line of a field
 abbrev pub line_on : Field → Classified → List (ℕ × List Bool)
 line_on field c = slice_index_or c.lines (index field) []

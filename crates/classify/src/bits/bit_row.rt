@@ -1,9 +1,10 @@
 //! A row of bits, packed 64 to a word.
 
-ghost use Rattle.std.specs.Prelude.{◌≡◌, ◌≢◌, ◌++◌, ◌∷◌, [], ◌<◌, ◌≤◌, ◌*◌, ◌%◌, length, false, insert, remove, take};
-ghost use Rattle.std.specs.Prelude.{slice_set, slice_index_or, OnOk, OnErr, IsOk, IfOk, IsTrue, ◌↔◌};
+ghost use Rattle.std.specs.Prelude.{◌≡◌, ◌≢◌, ◌++◌, ◌∷◌, [], ◌<◌, ◌≤◌, ◌+◌, ◌*◌, ◌%◌, length, false, insert, remove};
+ghost use Rattle.std.specs.Prelude.{take, slice_set, slice_index_or, OnOk, OnErr, IsOk, IfOk, IsTrue, ◌↔◌};
 ghost use Rattle.std.specs.Vec.{vec_capacity};
-ghost use Rattle.classify.specs.steps.Packing.{all_bits, IsPacked, IsOpen, TakesBit, room_of};
+ghost use Rattle.classify.specs.bits.BitRow.{row_room};
+ghost use Rattle.classify.specs.steps.Packing.{all_bits, IsPacked, IsOpen, room_of};
 
 use crate::bits::words::{set_bit, shift_in, shift_out};
 use std::alloc::{AllocError, Global};
@@ -19,7 +20,8 @@ pub(crate) const MOST_BITS: usize = 64 * MOST_WORDS;
 fn open_word(words: &mut Vec<u64>, len: usize)
     requires packed { IsPacked words.old.items len }
     requires room { 0 < room_of (vec_capacity words.old) len }
-    ensures { IsOpen words.old.items words.new.items len }
+    ensures open { IsOpen words.old.items words.new.items len }
+    ensures more { vec_capacity words.old ≤ vec_capacity words.new }
 {
     if len % 64 == 0 {
         let _ = words.push(0);
@@ -81,7 +83,8 @@ impl BitRow {
     // Writes the bit at a place.
     pub(crate) fn set(&mut self, at: usize, bit: bool)
         requires { at < length self.old.bits }
-        ensures { self.new.bits ≡ slice_set self.old.bits at bit }
+        ensures bits { self.new.bits ≡ slice_set self.old.bits at bit }
+        ensures room { self.new.room ≡ self.old.room }
     {
         let _len = self.len;
         let word = self.words[at / 64];
@@ -90,7 +93,8 @@ impl BitRow {
 
     // Takes every bit out.
     pub(crate) fn clear(&mut self)
-        ensures { self.new.bits ≡ [] }
+        ensures bits { self.new.bits ≡ [] }
+        ensures room { row_room self.old + length self.old.bits ≤ self.new.room }
     {
         self.words.clear();
         self.len = 0;
@@ -99,9 +103,9 @@ impl BitRow {
     // Takes the memory that one more bit needs.
     pub(crate) fn reserve(&mut self) -> Result<(), AllocError>
         ensures same { self.new.bits ≡ self.old.bits }
-        ensures ok { OnOk result (0 < self.new.room) }
-        ensures room { 0 < self.old.room → IsOk result }
-        ensures part { length self.old.bits % 64 ≢ 0 → IsOk result }
+        ensures more { self.old.room ≤ self.new.room }
+        ensures ok { OnOk result (0 < row_room self.new) }
+        ensures there { 0 < row_room self.old → IsOk result }
     {
         if self.len % 64 == 0 {
             if self.words.len() >= MOST_WORDS {
@@ -115,8 +119,9 @@ impl BitRow {
     // Puts a bit in at a place, where there is room: the later ones move up by one.
     pub(crate) fn put(&mut self, at: usize, bit: bool)
         requires place { at ≤ length self.old.bits }
-        requires room { TakesBit self.old }
-        ensures { self.new.bits ≡ insert self.old.bits at bit }
+        requires room { 0 < row_room self.old }
+        ensures bits { self.new.bits ≡ insert self.old.bits at bit }
+        ensures room { self.old.room ≤ self.new.room + 1 }
     {
         if at == self.len && !bit && self.len % 64 != 0 {
             // The bit after the last is 0 already.
@@ -141,10 +146,11 @@ impl BitRow {
         Ok(())
     }
 
-    /// Takes the bit at a place out: the later ones move down by one.
+    /// Takes the bit at a place out: the later ones move down by one. It leaves room for another bit.
     pub fn remove(&mut self, at: usize)
         requires { at < length self.old.bits }
-        ensures { self.new.bits ≡ remove self.old.bits at }
+        ensures bits { self.new.bits ≡ remove self.old.bits at }
+        ensures room { row_room self.old < self.new.room }
     {
         shift_out(&mut self.words, at);
         self.len -= 1;

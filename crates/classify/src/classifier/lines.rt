@@ -1,12 +1,14 @@
 //! The lines of all fields: each step on every line in turn.
 
-ghost use Rattle.std.specs.Prelude.{◌≡◌, ◌≢◌, ◌<◌, ◌≤◌, ◌+◌, ◌%◌, ℕ, length, OnOk, OnErr, IsOk, All};
+ghost use Rattle.std.specs.Prelude.{◌≡◌, ◌<◌, ◌≤◌, ◌+◌, ℕ, length, OnOk, OnErr, IsOk, All};
 ghost use Rattle.classify.specs.steps.Pieces.{StartsAtZero};
 ghost use Rattle.classify.specs.steps.Edits.{EachRow};
 ghost use Rattle.classify.specs.steps.Fields.{shown_line, EachLine, EachEdit, ShowTheSame, AreEmpty, EachField, OnEach};
 ghost use Rattle.classify.specs.steps.Fields.{Rises, HasCuts, HasOnlyCuts, Stands, IsCutMore, IsJoinedUp, InsertsSet};
-ghost use Rattle.classify.specs.steps.Fields.{ReplacesSet};
+ghost use Rattle.classify.specs.steps.Fields.{ReplacesSet, UsesRoom, FreesAll};
 ghost use Rattle.classify.specs.steps.Fields.{IsReady, HasRoom, TakesIn, TakesOver, HasPlace, LosesBox};
+ghost use Rattle.classify.specs.steps.Fields.{IsKeptWithCuts, KeepsRows, KeepsChangedRows, IsRoomier, KeepsRoom};
+ghost use Rattle.classify.specs.steps.Shown.{HaveRoomFor};
 
 use crate::line::edit;
 use crate::line::owned::OwnedLine;
@@ -45,6 +47,8 @@ fn split_lines(lines: &mut [OwnedLine], spans: &[Spans]) -> Result<(), AllocErro
     ensures split { EachField IsCutMore spans.now lines.old lines.new }
     ensures cuts { OnOk result (EachField (λ s _ m. HasCuts s m) spans.now lines.old lines.new) }
     ensures there { OnEach HasCuts spans.now lines.old → IsOk result }
+    ensures kept { EachField IsKeptWithCuts spans.now lines.old lines.new }
+    ensures rows { EachEdit KeepsRows lines.old lines.new }
 {
     for k in 0..lines.len() {
         let line = &mut lines[k];
@@ -55,9 +59,9 @@ fn split_lines(lines: &mut [OwnedLine], spans: &[Spans]) -> Result<(), AllocErro
 
 // Takes the memory that one more bit in each row of every line needs.
 fn reserve_lines(lines: &mut [OwnedLine]) -> Result<(), AllocError>
-    ensures same { ShowTheSame lines.old lines.new }
-    ensures room { OnOk result (EachEdit (λ _ m. All (λ p. 0 < p.row.room) m.pieces.items) lines.old lines.new) }
-    ensures part { EachLine (λ l. All (λ p. length p.row.bits % 64 ≢ 0) l.pieces.items) lines.old → IsOk result }
+    ensures more { EachEdit IsRoomier lines.old lines.new }
+    ensures room { OnOk result (EachEdit (λ _ m. HaveRoomFor 1 m.pieces.items) lines.old lines.new) }
+    ensures there { EachLine (λ l. HaveRoomFor 1 l.pieces.items) lines.old → IsOk result }
 {
     for k in 0..lines.len() {
         let line = &mut lines[k];
@@ -74,6 +78,8 @@ fn prepare_lines(lines: &mut [OwnedLine], len: usize, spans: &[Spans]) -> Result
     ensures split { EachField IsCutMore spans.now lines.old lines.new }
     ensures ready { OnOk result (EachField (λ s _ m. IsReady s m) spans.now lines.old lines.new) }
     ensures there { OnEach HasRoom spans.now lines.old → IsOk result }
+    ensures room { OnOk result (EachField (λ s l m. HasCuts s l → KeepsRoom l m) spans.now lines.old lines.new) }
+    ensures rows { EachEdit KeepsRows lines.old lines.new }
 {
     split_lines(lines, spans)?;
     if len % 64 != 0 {
@@ -88,7 +94,8 @@ fn unsplit_lines(lines: &mut [OwnedLine], spans: &[Spans])
     requires as_long { length spans.now ≡ length lines.old }
     requires rising { OnEach Rises spans.now lines.old }
     requires apart { OnEach HasOnlyCuts spans.now lines.old }
-    ensures { EachField IsJoinedUp spans.now lines.old lines.new }
+    ensures joined { EachField IsJoinedUp spans.now lines.old lines.new }
+    ensures rows { EachEdit KeepsChangedRows lines.old lines.new }
 {
     for k in 0..lines.len() {
         let line = &mut lines[k];
@@ -123,8 +130,10 @@ pub(crate) fn insert_lines(
     requires sound { OnEach (Stands len) spans.now lines.old }
     ensures ok { OnOk result (EachField (InsertsSet at) spans.now lines.old lines.new) }
     ensures sound { OnOk result (EachField (λ s _ m. Stands (len + 1) s m) spans.now lines.old lines.new) }
-    ensures there { len % 64 ≢ 0 → OnEach HasCuts spans.now lines.old → IsOk result }
+    ensures there { OnEach HasRoom spans.now lines.old → IsOk result }
+    ensures room { OnOk result (EachField (λ s l m. HasCuts s l → UsesRoom l m) spans.now lines.old lines.new) }
     ensures err { OnErr result (ShowTheSame lines.old lines.new) }
+    ensures back { OnErr result (EachEdit KeepsRoom lines.old lines.new) }
 {
     match prepare_lines(lines, len, spans) {
         Ok(()) => {
@@ -165,8 +174,10 @@ pub(crate) fn replace_lines(
     requires sound { OnEach (Stands len) spans.now lines.old }
     ensures ok { OnOk result (EachField (ReplacesSet at) spans.now lines.old lines.new) }
     ensures sound { OnOk result (EachField (λ s _ m. Stands len s m) spans.now lines.old lines.new) }
+    ensures room { OnOk result (EachField (λ s l m. HasCuts s l → KeepsRoom l m) spans.now lines.old lines.new) }
     ensures there { OnEach HasCuts spans.now lines.old → IsOk result }
     ensures err { OnErr result (ShowTheSame lines.old lines.new) }
+    ensures back { OnErr result (EachEdit KeepsRoom lines.old lines.new) }
 {
     match split_lines(lines, spans) {
         Ok(()) => {
@@ -194,7 +205,8 @@ pub(crate) fn remove_lines(lines: &mut [OwnedLine], at: usize)
 // Takes every box out, in every line.
 pub(crate) fn clear_lines(lines: &mut [OwnedLine])
     requires { EachLine (λ l. StartsAtZero (shown_line l)) lines.old }
-    ensures { AreEmpty lines.old lines.new }
+    ensures empty { AreEmpty lines.old lines.new }
+    ensures room { EachEdit FreesAll lines.old lines.new }
 {
     for k in 0..lines.len() {
         let line = &mut lines[k];

@@ -1,12 +1,12 @@
 //! The steps of an edit on one line: all memory first, then what cannot fail.
 
 ghost use Rattle.fields.specs.declared.numbers.spans.Interval.{Interval};
-ghost use Rattle.std.specs.Prelude.{◌≡◌, ◌≢◌, ◌<◌, ◌≤◌, ◌+◌, ◌-◌, ◌%◌, ℕ, length, OnOk, IsOk, All, List, map, insert};
+ghost use Rattle.std.specs.Prelude.{◌≡◌, ◌≢◌, ◌<◌, ◌≤◌, ◌+◌, ◌-◌, ℕ, length, OnOk, IsOk, All, List, map, insert};
 ghost use Rattle.std.specs.Prelude.{remove, slice_set, slice_index_or, false, [], ◌∷◌};
-ghost use Rattle.classify.specs.steps.Packing.{TakesBit};
 ghost use Rattle.classify.specs.line.Line.{IsLineOf};
 ghost use Rattle.classify.specs.steps.Pieces.{IsRising, IsRisingLine, IsSplitOf, StartsAt, StartsAtZero};
-ghost use Rattle.classify.specs.steps.Shown.{shown};
+ghost use Rattle.classify.specs.steps.Shown.{shown, HaveRoomFor, HaveMoreFrom, IsSameOrShorter};
+ghost use Rattle.classify.specs.steps.Shown.{KeepsPieces, KeepsChanges};
 ghost use Rattle.fields.specs.numbers.Spans.{has};
 ghost use Rattle.classify.specs.steps.Cuts.{CutsStart, EndsStart, ChangesAt, IsApart};
 ghost use Rattle.classify.specs.steps.Edits.{with_answer, with_written, without_answer, IsMergeOf, IsUnsplitAt};
@@ -25,6 +25,9 @@ fn split(pieces: &mut Vec<OwnedPiece>, x: u128) -> Result<(), AllocError>
     ensures ok { OnOk result (StartsAt x (shown pieces.new.items)) }
     ensures there { (top : ℕ) → IsRising top (shown pieces.old.items) → StartsAt x (shown pieces.old.items)
         → IsOk result }
+    ensures kept { (top : ℕ) → IsRising top (shown pieces.old.items) → StartsAt x (shown pieces.old.items)
+        → pieces.new.items ≡ pieces.old.items }
+    ensures rows { KeepsPieces pieces.old.items pieces.new.items }
 {
     let place = place_of(pieces, x);
     if pieces[place].start < x {
@@ -48,6 +51,8 @@ fn split_interval(
         → IsSplitOf top spans (shown pieces.old.items) (shown pieces.new.items) }
     ensures ok { OnOk result (EndsStart top (shown pieces.new.items) interval) }
     ensures there { EndsStart top (shown pieces.old.items) interval → IsOk result }
+    ensures kept { EndsStart top (shown pieces.old.items) interval → pieces.new.items ≡ pieces.old.items }
+    ensures rows { KeepsPieces pieces.old.items pieces.new.items }
 {
     split(pieces, interval.first)?;
     if interval.last < top {
@@ -57,12 +62,15 @@ fn split_interval(
     Ok(())
 }
 
-// Cuts a line wherever a set begins or ends. It says what it said.
+// Cuts a line wherever a set begins or ends. It says what it said. Where the cuts are there, each row keeps its room.
 pub(crate) fn split_all(pieces: &mut Vec<OwnedPiece>, spans: &Spans) -> Result<(), AllocError>
     requires { IsRising spans.now.top (shown pieces.old.items) }
     ensures split { IsSplitOf spans.now.top spans.now.intervals (shown pieces.old.items) (shown pieces.new.items) }
     ensures ok { OnOk result (CutsStart spans.now.top spans.now.intervals (shown pieces.new.items)) }
     ensures there { CutsStart spans.now.top spans.now.intervals (shown pieces.old.items) → IsOk result }
+    ensures kept { CutsStart spans.now.top spans.now.intervals (shown pieces.old.items)
+        → pieces.new.items ≡ pieces.old.items }
+    ensures rows { KeepsPieces pieces.old.items pieces.new.items }
 {
     let top = spans.top();
     for interval in spans.intervals() {
@@ -74,8 +82,9 @@ pub(crate) fn split_all(pieces: &mut Vec<OwnedPiece>, spans: &Spans) -> Result<(
 // Takes the cut at x back where the rows on its two sides are equal.
 fn unsplit(pieces: &mut Vec<OwnedPiece>, x: u128)
     requires { IsRisingLine (shown pieces.old.items) }
-    ensures { (top : ℕ) → IsRising top (shown pieces.old.items)
+    ensures unsplit { (top : ℕ) → IsRising top (shown pieces.old.items)
         → IsUnsplitAt (IsNumber x) top (shown pieces.old.items) (shown pieces.new.items) }
+    ensures rows { KeepsChanges pieces.old.items pieces.new.items }
 {
     let place = place_of(pieces, x);
     if place == 0 {
@@ -92,7 +101,8 @@ fn unsplit(pieces: &mut Vec<OwnedPiece>, x: u128)
 // Takes the cuts where an interval begins, and after its end, back where the rows are equal.
 fn unsplit_interval(pieces: &mut Vec<OwnedPiece>, top: u128, interval: Interval)
     requires { IsRising top (shown pieces.old.items) }
-    ensures { IsUnsplitAt (IsEndOf interval) top (shown pieces.old.items) (shown pieces.new.items) }
+    ensures unsplit { IsUnsplitAt (IsEndOf interval) top (shown pieces.old.items) (shown pieces.new.items) }
+    ensures rows { KeepsChanges pieces.old.items pieces.new.items }
 {
     unsplit(pieces, interval.first);
     if interval.last < top {
@@ -105,7 +115,8 @@ fn unsplit_interval(pieces: &mut Vec<OwnedPiece>, top: u128, interval: Interval)
 pub(crate) fn unsplit_all(pieces: &mut Vec<OwnedPiece>, spans: &Spans)
     requires rising { IsRising spans.now.top (shown pieces.old.items) }
     requires apart { IsApart spans.now.intervals (shown pieces.old.items) }
-    ensures { IsMergeOf spans.now.top (shown pieces.old.items) (shown pieces.new.items) }
+    ensures merge { IsMergeOf spans.now.top (shown pieces.old.items) (shown pieces.new.items) }
+    ensures rows { KeepsChanges pieces.old.items pieces.new.items }
 {
     let top = spans.top();
     for interval in spans.intervals() {
@@ -116,8 +127,10 @@ pub(crate) fn unsplit_all(pieces: &mut Vec<OwnedPiece>, spans: &Spans)
 // Takes the memory that one more bit in each row needs.
 pub(crate) fn reserve_rows(pieces: &mut Vec<OwnedPiece>) -> Result<(), AllocError>
     ensures same { shown pieces.new.items ≡ shown pieces.old.items }
-    ensures ok { OnOk result (All (λ p. 0 < p.row.room) pieces.new.items) }
-    ensures part { All (λ p. length p.row.bits % 64 ≢ 0) pieces.old.items → IsOk result }
+    ensures rows { KeepsPieces pieces.old.items pieces.new.items }
+    ensures more { (n : ℕ) → HaveRoomFor n pieces.old.items → HaveRoomFor n pieces.new.items }
+    ensures ok { OnOk result (HaveRoomFor 1 pieces.new.items) }
+    ensures there { HaveRoomFor 1 pieces.old.items → IsOk result }
 {
     for i in 0..pieces.len() {
         let piece = &mut pieces[i];
@@ -129,8 +142,9 @@ pub(crate) fn reserve_rows(pieces: &mut Vec<OwnedPiece>) -> Result<(), AllocErro
 // Puts a box's answers into the rows of a line that is cut wherever they change.
 fn put_answers(pieces: &mut Vec<OwnedPiece>, at: usize, spans: &Spans)
     requires place { All (λ p. at ≤ length p.row.bits) pieces.old.items }
-    requires room { All (λ p. TakesBit p.row) pieces.old.items }
-    ensures { shown pieces.new.items ≡ map (with_answer at spans.now.intervals) (shown pieces.old.items) }
+    requires room { HaveRoomFor 1 pieces.old.items }
+    ensures answers { shown pieces.new.items ≡ map (with_answer at spans.now.intervals) (shown pieces.old.items) }
+    ensures room { (n : ℕ) → HaveRoomFor (n + 1) pieces.old.items → HaveRoomFor n pieces.new.items }
 {
     for i in 0..pieces.len() {
         let piece = &mut pieces[i];
@@ -143,9 +157,10 @@ fn put_answers(pieces: &mut Vec<OwnedPiece>, at: usize, spans: &Spans)
 fn write_in(pieces: &mut Vec<OwnedPiece>, k: usize, at: usize, spans: &Spans) -> bool
     requires within { k < length pieces.old.items }
     requires place { at < length (row_of (shown pieces.old.items) k) }
-    ensures row { shown pieces.new.items
-        ≡ slice_set (shown pieces.old.items) k (with_written at spans.now.intervals (slice_index_or (shown pieces.old.items) k (0, []))) }
+    ensures row { shown pieces.new.items ≡ slice_set (shown pieces.old.items) k
+        (with_written at spans.now.intervals (slice_index_or (shown pieces.old.items) k (0, []))) }
     ensures bit { result ≡ slice_index_or (row_of (shown pieces.old.items) k) at false }
+    ensures room { (n : ℕ) → HaveRoomFor n pieces.old.items → HaveRoomFor n pieces.new.items }
 {
     let piece = &mut pieces[k];
     let bit = piece.row.get(at);
@@ -161,6 +176,7 @@ fn take_out(pieces: &mut Vec<OwnedPiece>, k: usize, at: usize) -> bool
     ensures row { shown pieces.new.items
         ≡ slice_set (shown pieces.old.items) k (without_answer at (slice_index_or (shown pieces.old.items) k (0, []))) }
     ensures bit { result ≡ slice_index_or (row_of (shown pieces.old.items) k) at false }
+    ensures room { (n : ℕ) → HaveMoreFrom n (k + 1) pieces.old.items → HaveMoreFrom n k pieces.new.items }
 {
     let piece = &mut pieces[k];
     let bit = piece.row.get(at);
@@ -172,7 +188,8 @@ fn take_out(pieces: &mut Vec<OwnedPiece>, k: usize, at: usize) -> bool
 // stood in them differed: else they are apart as before.
 fn join(pieces: &mut Vec<OwnedPiece>, k: usize, bit: bool, above: bool)
     requires { k < length pieces.old.items }
-    ensures { IsJoined bit above k (shown pieces.old.items) (shown pieces.new.items) }
+    ensures joined { IsJoined bit above k (shown pieces.old.items) (shown pieces.new.items) }
+    ensures rows { IsSameOrShorter k pieces.old.items pieces.new.items }
 {
     if bit == above {
         return;
@@ -190,8 +207,9 @@ fn set_answers(pieces: &mut Vec<OwnedPiece>, at: usize, spans: &Spans)
     requires zero { StartsAtZero (shown pieces.old.items) }
     requires place { (j : ℕ) → j < length pieces.old.items → at < length (row_of (shown pieces.old.items) j) }
     requires keeps_apart { KeepsApart (with_written at spans.now.intervals) at (shown pieces.old.items) }
-    ensures { (top : ℕ) → IsRising top (map (with_written at spans.now.intervals) (shown pieces.old.items))
+    ensures merge { (top : ℕ) → IsRising top (map (with_written at spans.now.intervals) (shown pieces.old.items))
         → IsMergeOf top (map (with_written at spans.now.intervals) (shown pieces.old.items)) (shown pieces.new.items) }
+    ensures room { (n : ℕ) → HaveRoomFor n pieces.old.items → HaveRoomFor n pieces.new.items }
 {
     let mut above = false;
     let mut k = pieces.len();
@@ -208,8 +226,9 @@ fn remove_answers(pieces: &mut Vec<OwnedPiece>, at: usize)
     requires zero { StartsAtZero (shown pieces.old.items) }
     requires place { (j : ℕ) → j < length pieces.old.items → at < length (row_of (shown pieces.old.items) j) }
     requires keeps_apart { KeepsApart (without_answer at) at (shown pieces.old.items) }
-    ensures { (top : ℕ) → IsRising top (map (without_answer at) (shown pieces.old.items))
+    ensures merge { (top : ℕ) → IsRising top (map (without_answer at) (shown pieces.old.items))
         → IsMergeOf top (map (without_answer at) (shown pieces.old.items)) (shown pieces.new.items) }
+    ensures room { (n : ℕ) → HaveRoomFor n pieces.old.items → HaveRoomFor (n + 1) pieces.new.items }
 {
     let mut above = false;
     let mut k = pieces.len();
@@ -227,12 +246,13 @@ pub(crate) fn commit(pieces: &mut Vec<OwnedPiece>, at: usize, spans: &Spans)
     requires cuts { CutsStart spans.now.top spans.now.intervals (shown pieces.old.items) }
     requires apart { IsApart spans.now.intervals (shown pieces.old.items) }
     requires place { All (λ p. at ≤ length p.row.bits) pieces.old.items }
-    requires room { All (λ p. TakesBit p.row) pieces.old.items }
+    requires room { HaveRoomFor 1 pieces.old.items }
     ensures sound { (n : ℕ) → at ≤ n → EachRow n (shown pieces.old.items)
         → IsSound spans.now.top (n + 1) (shown pieces.new.items) }
     ensures line { (n : ℕ) (sets : List (List Interval)) → at ≤ n → EachRow n (shown pieces.old.items)
         → Says spans.now.top sets (shown pieces.old.items)
         → IsLineOf has spans.now.top (insert sets at spans.now.intervals) (shown pieces.new.items) }
+    ensures room { (n : ℕ) → HaveRoomFor (n + 1) pieces.old.items → HaveRoomFor n pieces.new.items }
 {
     put_answers(pieces, at, spans);
 }
@@ -244,6 +264,7 @@ pub(crate) fn remove_box(pieces: &mut Vec<OwnedPiece>, at: usize)
         → IsSound top (n - 1) (shown pieces.new.items) }
     ensures line { (top : ℕ) (sets : List (List Interval)) → IsLineOf has top sets (shown pieces.old.items)
         → IsLineOf has top (remove sets at) (shown pieces.new.items) }
+    ensures room { (n : ℕ) → HaveRoomFor n pieces.old.items → HaveRoomFor (n + 1) pieces.new.items }
 {
     remove_answers(pieces, at);
 }
@@ -258,6 +279,7 @@ pub(crate) fn replace_box(pieces: &mut Vec<OwnedPiece>, at: usize, spans: &Spans
         → IsSound spans.now.top n (shown pieces.new.items) }
     ensures line { (sets : List (List Interval)) → Says spans.now.top sets (shown pieces.old.items)
         → IsLineOf has spans.now.top (slice_set sets at spans.now.intervals) (shown pieces.new.items) }
+    ensures room { (n : ℕ) → HaveRoomFor n pieces.old.items → HaveRoomFor n pieces.new.items }
 {
     set_answers(pieces, at, spans);
 }
@@ -265,7 +287,9 @@ pub(crate) fn replace_box(pieces: &mut Vec<OwnedPiece>, at: usize, spans: &Spans
 // Takes every box out: one piece without a bit is left.
 pub(crate) fn clear(pieces: &mut Vec<OwnedPiece>)
     requires { StartsAtZero (shown pieces.old.items) }
-    ensures { shown pieces.new.items ≡ (0, []) ∷ [] }
+    ensures empty { shown pieces.new.items ≡ (0, []) ∷ [] }
+    ensures room { (n len : ℕ) → EachRow len (shown pieces.old.items) → HaveRoomFor n pieces.old.items
+        → HaveRoomFor (n + len) pieces.new.items }
 {
     pieces.truncate(1);
     let first = &mut pieces[0];

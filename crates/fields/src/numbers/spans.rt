@@ -214,6 +214,3 @@ impl Spans {
 pub fn canonical_is_unique()
     ensures { CanonicalIsUnique }
 {}
-
-#[cfg(test)]
-mod tests;

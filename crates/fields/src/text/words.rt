@@ -219,6 +219,3 @@ impl Words {
         self.items[place].as_slice()
     }
 }
-
-#[cfg(test)]
-mod tests;

@@ -217,6 +217,3 @@ impl CtSet {
         Spans::of_test(alloc, STATE_TOP, |state| self.holds(state))
     }
 }
-
-#[cfg(test)]
-mod tests;

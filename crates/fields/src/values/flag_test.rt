@@ -80,6 +80,3 @@ impl FlagTest {
         Spans::of_test(alloc, FLAGS_TOP, |flags| self.holds(flags))
     }
 }
-
-#[cfg(test)]
-mod tests;

@@ -222,6 +222,3 @@ pub(crate) fn read_packet_icmp(text: &[u8]) -> Option<u16>
     let code = read_number_to(code, 255)?;
     Some((of_type * 256 + code) as u16)
 }
-
-#[cfg(test)]
-mod tests;

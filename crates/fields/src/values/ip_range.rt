@@ -98,6 +98,3 @@ impl IpRange {
         Spans::one(alloc, ADDRESS_TOP, first, last)
     }
 }
-
-#[cfg(test)]
-mod tests;

@@ -115,6 +115,3 @@ impl LogLevel {
         output.put(number.format(self.number()).as_bytes())
     }
 }
-
-#[cfg(test)]
-mod tests;

@@ -94,6 +94,3 @@ impl RejectType {
         output.put(self.text())
     }
 }
-
-#[cfg(test)]
-mod tests;

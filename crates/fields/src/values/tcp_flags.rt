@@ -134,6 +134,3 @@ impl TcpFlags {
         }
     }
 }
-
-#[cfg(test)]
-mod tests;

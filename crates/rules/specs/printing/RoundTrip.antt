@@ -1,7 +1,10 @@
 -- Rules and their texts: the text of a rule is read as the rule.
-use Rattle.std.specs.Prelude.{◌≡◌, ℕ, ◌≤◌, List, ◌++◌, length, map, Some, Ok, codes}
+use Rattle.std.specs.Prelude.{◌≡◌, ℕ, ◌≤◌, List, ◌++◌, length, map, Some, Ok, codes, IsTrue, ◌∷◌}
 use Rattle.fields.specs.text.Printed.{Shown}
+use Rattle.fields.specs.text.OneLine.{IsOneLine}
 use Rattle.fields.specs.text.Words.{words_of}
+use Rattle.fields.specs.values.Name.{is_name}
+use Rattle.rules.specs.rule.Actions.{with_chain_name}
 use Rattle.rules.specs.rule.Rules.{Rule}
 use Rattle.rules.specs.printing.Printing.{shown_rule, rule_text}
 use Rattle.rules.specs.reading.Steps.{rule_of}
@@ -21,3 +24,20 @@ HasShortLine r = (name : List ℕ) → length name ≤ 28 → length (codes "-A 
 -- no other rule has the text
 abbrev pub IsOnlyOne : Rule → Type 0
 IsOnlyOne r = (other : Rule) → TextReadsBack other → rule_text other ≡ rule_text r → other ≡ r
+
+-- a rule that reads back does so with another chain as its target, whatever the chain's name
+abbrev pub RenamedReadsBack : Type 0
+RenamedReadsBack = (r : Rule) (name : List ℕ) → IsTrue (is_name name) → TextReadsBack r → TextReadsBack (with_chain_name name r)
+
+-- the line `-A name`, with the text of a rule, as a listing has it: its words are `-A`, the name and words that read as the rule,
+-- wherever they stand; it has no newline and at most 8,876 bytes
+pub record IsListedLine (name : List ℕ) (r : Rule) : Type 0 where
+  pub words : List (List ℕ)
+  pub cut : words_of (codes "-A " ++ (name ++ rule_text r)) ≡ Some (codes "-A" ∷ name ∷ words)
+  pub read : (end : ℕ) → rule_of end words ≡ Ok r
+  pub one_line : IsOneLine (codes "-A " ++ (name ++ rule_text r))
+  pub short : length (codes "-A " ++ (name ++ rule_text r)) ≤ 8876
+
+-- the line of a rule whose text reads back reads back too, in a chain of any name
+abbrev pub LinesOfRulesReadBack : Type 0
+LinesOfRulesReadBack = (name : List ℕ) (r : Rule) → IsTrue (is_name name) → TextReadsBack r → IsListedLine name r

@@ -1,5 +1,5 @@
 -- What every rule is once it was read, so that its text reads back as it (iptables-save(8)).
-use Rattle.std.specs.Prelude.{◌≡◌, ◌⊎◌, ℕ, ◌≤◌, true, List, [], ◌∷◌, ◌++◌, length, map, flat_map, Option, Some, None, Ok}
+use Rattle.std.specs.Prelude.{◌≡◌, ◌⊎◌, ◌≤◌, true, List, [], ◌∷◌, ◌++◌, length, map, flat_map, Option, Some, None, Ok}
 use Rattle.std.specs.List.{All, Contains}
 use Rattle.fields.specs.text.Printed.{Shown}
 use Rattle.fields.specs.values.Name.{name_of}

@@ -4,7 +4,8 @@ use Rattle.std.specs.List.{insert, remove}
 use Rattle.std.proofs.lemmas.List.{take-append-drop, length-take-le, take_at, drop_at, drop-append-le, take-append-le, drop_all, take_more, get_or-drop}
 use Rattle.std.proofs.lemmas.List.Edits.{insert-append_left, remove-append_left, length-insert, length-remove, insert_end}
 use Rattle.std.proofs.lemmas.List.Elements.{All-append, All-take, All-same, All-cons, All-nil, All-drop, All-get_or}
-use Rattle.classify.specs.steps.Packing.{word_bits, all_bits, IsPacked, IsOpen}
+use Rattle.classify.specs.bits.BitRow.{BitsAndRoom, places_left, row_room}
+use Rattle.classify.specs.steps.Packing.{word_bits, all_bits, IsPacked, IsOpen, room_of}
 use Rattle.classify.proofs.laws.bits.WordLaws.{all_bits-append, all_bits-one, all_bits-cut, length-all_bits}
 
 abbrev Off : Bool → Type 0
@@ -211,3 +212,16 @@ zero_bits ws len at b h part is off =
     sym (ap (λ k. get_or (all_bits ws) k false) z) ∙ sym (get_or-drop len (all_bits ws) 0 false) ∙ All-get_or Off (drop len (all_bits ws)) 0 false rest h.padded in
     take_more (all_bits ws) len false lt ∙ ap (λ c. take len (all_bits ws) ++ c ∷ []) (zero_there ∙ sym off) ∙ sym (insert_end (take len (all_bits ws)) b)
     ∙ ap (λ k. insert (take len (all_bits ws)) k b) (front_len ws len h ∙ sym is)
+
+-- ---- how many bits more go in
+
+-- the places that the last word has left are among those of the room
+pub room_covers : (ws : List ℕ) (capacity len : ℕ) → IsPacked ws len → length ws ≤ capacity → places_left len ≤ room_of capacity len
+room_covers ws capacity len h le = omega (arith, h.covers, h.tight, h.few)
+
+-- a row that gives up a bit has room for one more
+pub freed_room : (r : BitsAndRoom) (ws : List ℕ) (capacity len : ℕ) → IsPacked ws len → length ws ≤ capacity → length r.bits ≡ len → room_of capacity len ≡ r.room → 0 < len → row_room r < room_of capacity (len - 1)
+freed_room r ws capacity len h le n same some =
+    let most : places_left len ≤ room_of capacity len = room_covers ws capacity len h le in
+    let left : places_left (length r.bits) ≡ places_left len = ap places_left n in
+    omega (arith, h.covers, h.few)

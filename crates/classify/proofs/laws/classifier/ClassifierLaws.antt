@@ -181,6 +181,7 @@ pub still_kept : (new : List OwnedLine) (len : ℕ) → length new ≡ FIELDS �
 still_kept new len n few h =
     record {
       few = few;
+      fields = fields_long new n;
       lines = λ k lt.
           (let lt' : k < length new = omega arith in
           let a = line_at new k lt' in

@@ -1,6 +1,6 @@
 -- For each rule there is a box: of each number up to a field's top that the rule allows, an interval of its own.
 use Rattle.std.proofs.Common.{◌≡◌, inl, inr, ℕ, zero, suc, ◌<◌, ◌≤◌, Bool, true, false, cond, ◌&&◌, ◌||◌, List, [], ◌∷◌, get_or, refl, sym, ◌∙◌, ap, arith, map, leb}
-use Rattle.std.proofs.lemmas.Bool.{cases_lt, cases_eq, cases_Bool, le-leb, lt-leb}
+use Rattle.std.proofs.lemmas.Bool.{cases_eq, le-leb, lt-leb}
 use Rattle.std.proofs.lemmas.List.{get_or-map}
 use Rattle.fields.specs.declared.numbers.field.Field.{Field}
 use Rattle.fields.specs.declared.numbers.spans.Interval.{Interval}
@@ -8,7 +8,7 @@ use Rattle.fields.specs.numbers.Field.{all_fields, index, top}
 use Rattle.fields.specs.numbers.Spans.{SpanSet, in_span, has}
 use Rattle.rules.specs.rule.Allows.{allows}
 use Rattle.rules.specs.rule.Rules.{Rule}
-use Rattle.rules.specs.boxing.Boxed.{IsBox, IsBoxOf, set_on}
+use Rattle.rules.specs.boxing.Boxed.{IsBox, IsBoxOf}
 use Rattle.rules.proofs.laws.boxing.BoxLaws.{index-lt, here_is}
 use Rattle.classify.specs.classifier.OfRules.{AreBoxesOf}
 use Rattle.classify.specs.classifier.Laws.{EachRuleHasABox}

@@ -1,13 +1,12 @@
 -- The classifier of rules: that of their boxes, one, and the same for rules that allow the same numbers.
-use Rattle.std.proofs.Common.{◌≡◌, ◌↔◌, inl, inr, ℕ, zero, suc, ◌+◌, ◌<◌, ◌≤◌, Bool, true, false, cond, ◌&&◌, ◌||◌, not, ltb, List, [], ◌∷◌, length, get_or, drop, refl, sym, ◌∙◌, ap, arith, map, subst, Option, Some, None}
+use Rattle.std.proofs.Common.{◌≡◌, ℕ, zero, suc, ◌+◌, ◌≤◌, Bool, true, false, cond, ◌&&◌, not, ltb, List, [], ◌∷◌, length, get_or, drop, refl, sym, ◌∙◌, ap, arith, map, subst, Option, Some, None}
 use Rattle.std.specs.Prelude.{slice_get}
 use Rattle.std.specs.List.{insert, remove, list_all, position, position_or_len}
 use Rattle.std.specs.Option.{option_map}
 use Rattle.std.proofs.Math.ListN.{set}
-use Rattle.std.proofs.lemmas.Bool.{cases_eq}
 use Rattle.std.proofs.lemmas.List.{drop-map, length-map, get_or_default, same_lists}
 use Rattle.fields.specs.declared.numbers.field.Field.{Field}
-use Rattle.fields.specs.numbers.Field.{all_fields, index, number_on, top}
+use Rattle.fields.specs.numbers.Field.{all_fields, number_on, top}
 use Rattle.fields.specs.numbers.Spans.{SpanSet}
 use Rattle.rules.specs.rule.Actions.{with_chain_name}
 use Rattle.rules.specs.rule.Allows.{allows, matches}

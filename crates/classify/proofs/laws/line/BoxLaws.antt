@@ -11,7 +11,7 @@ use Rattle.classify.specs.steps.Shown.{shown}
 use Rattle.classify.specs.line.Line.{row_at, IsLineOf}
 use Rattle.fields.specs.numbers.Spans.{has}
 use Rattle.classify.specs.steps.Cuts.{CutsStart}
-use Rattle.classify.specs.steps.Pieces.{piece_at, row_in, IsRising, Differ, StartsAt, StartsAtZero, IsSplitOf, SayTheSame}
+use Rattle.classify.specs.steps.Pieces.{piece_at, row_in, IsRising, Differ, StartsAt, IsSplitOf, SayTheSame}
 use Rattle.classify.specs.steps.Edits.{IsMergeOf, with_answer, with_written, without_answer, Says, EachRow, IsSound}
 use Rattle.classify.proofs.laws.line.StepLaws.{EachPiece, AreStepsOf, steps_from, says_from_steps, one_list_of_steps, piece_at_each, rows_from, before_all}
 use Rattle.classify.proofs.laws.line.LineLaws.{AreSteps, line_from_steps, steps_from_line, cases_rows}

@@ -1,11 +1,11 @@
 -- The line that is computed is the one line of the boxes.
-use Rattle.std.proofs.Common.{◌≡◌, ◌≢◌, ◌⊎◌, inl, inr, ℕ, zero, suc, ◌+◌, ◌<◌, ◌≤◌, Bool, true, false, cond, List, [], ◌∷◌, map, refl, sym, ◌∙◌, ap, arith, subst, add-one}
+use Rattle.std.proofs.Common.{◌≡◌, ◌⊎◌, inl, inr, ℕ, zero, suc, ◌+◌, ◌<◌, ◌≤◌, Bool, true, false, cond, List, ◌∷◌, map, refl, sym, ◌∙◌, ap, arith, subst, add-one}
 use Rattle.std.specs.List.{filter, range_with_len}
 use Rattle.std.proofs.lemmas.Bool.{cases_eq, true≢false}
 use Rattle.classify.specs.line.Line.{row_at, is_cut, IsLineOf, line_of}
 use Rattle.classify.specs.steps.Pieces.{IsRisingFrom, StartsAt}
 use Rattle.classify.proofs.laws.line.StepLaws.{EachPiece, AreStepsOf}
-use Rattle.classify.proofs.laws.line.LineLaws.{AreSteps, line_from_steps, one_line, zero_is_cut, cut_from_differs, differs_from_cut}
+use Rattle.classify.proofs.laws.line.LineLaws.{line_from_steps, one_line, cut_from_differs, differs_from_cut}
 
 abbrev Piece : Type 0
 Piece = ℕ × List Bool

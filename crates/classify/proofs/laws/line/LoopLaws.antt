@@ -1,21 +1,23 @@
 -- The loops over the pieces of a line.
 use Rattle.fields.specs.declared.numbers.spans.Interval.{Interval}
-use Rattle.std.proofs.Common.{◌≡◌, ◌≢◌, ◌⊎◌, ◌%◌, inl, inr, ℕ, zero, suc, ◌+◌, ◌-◌, ◌<◌, ◌≤◌, ◌&&◌, ◌||◌, Bool, List, [], ◌∷◌, ◌++◌, length, take, drop, get_or, refl, sym, ◌∙◌, ap, arith, subst, map, All}
+use Rattle.std.proofs.Common.{◌≡◌, ◌≢◌, ◌⊎◌, inl, inr, ℕ, zero, suc, ◌+◌, ◌-◌, ◌<◌, ◌≤◌, ◌&&◌, ◌||◌, Bool, List, [], ◌∷◌, ◌++◌, length, take, drop, get_or, refl, sym, ◌∙◌, ap, arith, subst, map, All}
 use Rattle.std.proofs.Math.ListN.{set}
 use Rattle.std.proofs.Math.Dec.{leb}
 use Rattle.std.specs.List.{remove}
-use Rattle.std.proofs.lemmas.List.{length-set, drop-set-lt, get_or-drop, get_or-set_same, get_or-set_other, map-set, take_all, drop_all, append-nil, set-get_or, drop_more, drop_at, length-take-le}
+use Rattle.std.proofs.lemmas.List.{length-set, drop-set-lt, get_or-drop, get_or-set_same, get_or-set_other, map-set, get_or_default, take_all, drop_all, append-nil, set-get_or, drop_more, drop_at, length-take-le}
 use Rattle.std.proofs.lemmas.List.Edits.{map_over_more, get_or-remove_below, length-remove}
 use Rattle.std.proofs.lemmas.List.Elements.{All-weaker, All-more, All-nil}
 use Rattle.std.proofs.lemmas.Grind.{drop_more_same}
 use Rattle.std.proofs.lemmas.Bool.{le-leb, lt-leb, cases_lt, cases_eq}
 use Rattle.classify.specs.declared.line.owned.OwnedPiece.{OwnedPiece}
-use Rattle.classify.specs.steps.Shown.{shown, shown_piece}
+use Rattle.classify.specs.bits.BitRow.{row_room}
+use Rattle.classify.specs.steps.Shown.{shown, shown_piece, HaveRoomFor}
 use Rattle.fields.specs.numbers.Spans.{has, in_span, AreSpansFrom}
 use Rattle.classify.specs.steps.Cuts.{CutsStart, EndsStart}
 use Rattle.classify.specs.steps.Pieces.{IsRisingFrom, IsRising, DifferFrom, Differ, StartsAt, StartsAtZero, IsSplitOf, SayTheSame}
 use Rattle.classify.specs.steps.Edits.{IsMergeOf, IsEndOf}
 use Rattle.classify.proofs.laws.line.ShownLaws.{shown_at, length-shown, row_in_first}
+use Rattle.classify.proofs.laws.line.EndLaws.{ends_from_cuts, starts_zero}
 use Rattle.classify.proofs.laws.line.EditLaws.{merge_rising, merge_says}
 
 abbrev pub Cut : Type 0
@@ -57,31 +59,50 @@ mapped_all g ps us i h le =
 pub record Reserved (ps us : List OwnedPiece) (i : ℕ) : Type 0 where
   pub as_long : length us ≡ length ps
   pub same : shown us ≡ shown ps
-  pub ready : (k : ℕ) (d : OwnedPiece) → k < i → 0 < (get_or us k d).row.room
+  pub more : (k : ℕ) (d : OwnedPiece) → k < length ps → row_room (get_or ps k d).row ≤ row_room (get_or us k d).row
+  pub ready : (k : ℕ) (d : OwnedPiece) → k < i → 0 < row_room (get_or us k d).row
 
 pub reserved_kept : (ps us : List OwnedPiece) (i : ℕ) (p q : OwnedPiece) → Reserved ps us i → i < length us → p ≡ get_or us i p → shown_piece q ≡ shown_piece p → shown (set us i q) ≡ shown ps
 reserved_kept ps us i p q h lt e is =
     let read : shown_piece p ≡ get_or (shown us) i (shown_piece p) = sym (shown_at us i p (shown_piece p) lt ∙ ap shown_piece (sym e)) in
     map-set shown_piece us i q ∙ ap (λ c. set (shown us) i c) (is ∙ read) ∙ set-get_or (shown us) i (shown_piece p) ∙ h.same
 
-pub reserved_more : (ps us : List OwnedPiece) (i : ℕ) (p q : OwnedPiece) → Reserved ps us i → i < length us → p ≡ get_or us i p → shown_piece q ≡ shown_piece p → 0 < q.row.room → Reserved ps (set us i q) (i + 1)
-reserved_more ps us i p q h lt e is room =
+pub reserved_room : (ps us : List OwnedPiece) (i : ℕ) (p q : OwnedPiece) → Reserved ps us i → i < length us → p ≡ get_or us i p → row_room p.row ≤ row_room q.row → (k : ℕ) (d : OwnedPiece) → k < length ps
+    → row_room (get_or ps k d).row ≤ row_room (get_or (set us i q) k d).row
+reserved_room ps us i p q h lt e le k d below =
+    let P : OwnedPiece → Type 0 = λ r. row_room (get_or ps k d).row ≤ row_room r.row in
+    let was : row_room (get_or ps k d).row ≤ row_room (get_or us k d).row = h.more k d below in
+    elim (cases_eq k i) [
+      | inl at ↦ (
+          let here : get_or us k d ≡ p = ap (λ j. get_or us j d) at ∙ get_or_default us i d p lt ∙ sym e in
+          let held : row_room (get_or ps k d).row ≤ row_room p.row = subst P here was in
+          let le' : row_room (get_or ps k d).row ≤ row_room q.row = omega arith in
+          subst P (sym (ap (λ j. get_or (set us i q) j d) at ∙ get_or-set_same us i q d lt)) le')
+      | inr ne ↦ subst P (sym (get_or-set_other us i k q d ne)) was
+    ]
+
+pub reserved_more : (ps us : List OwnedPiece) (i : ℕ) (p q : OwnedPiece) → Reserved ps us i → i < length us → p ≡ get_or us i p → shown_piece q ≡ shown_piece p → row_room p.row ≤ row_room q.row → 0 < row_room q.row
+    → Reserved ps (set us i q) (i + 1)
+reserved_more ps us i p q h lt e is le room =
     record {
       as_long = length-set us i q ∙ h.as_long;
       same = reserved_kept ps us i p q h lt e is;
+      more = reserved_room ps us i p q h lt e le;
       ready = λ k d below.
           elim (cases_eq k i) [
-            | inl at ↦ (let P : OwnedPiece → Type 0 = λ r. 0 < r.row.room in
+            | inl at ↦ (let P : OwnedPiece → Type 0 = λ r. 0 < row_room r.row in
                 subst P (sym (ap (λ j. get_or (set us i q) j d) at ∙ get_or-set_same us i q d lt)) room)
-            | inr ne ↦ (let P : OwnedPiece → Type 0 = λ r. 0 < r.row.room in subst P (sym (get_or-set_other us i k q d ne)) (h.ready k d (omega arith)))
+            | inr ne ↦ (let P : OwnedPiece → Type 0 = λ r. 0 < row_room r.row in subst P (sym (get_or-set_other us i k q d ne)) (h.ready k d (omega arith)))
           ];
     }
 
-pub reserved_bits : (ps us : List OwnedPiece) (i : ℕ) (p : OwnedPiece) → Reserved ps us i → i < length us → p ≡ get_or us i p → p.row.bits ≡ (get_or ps i p).row.bits
-reserved_bits ps us i p h lt e =
+pub reserved_there : (ps us : List OwnedPiece) (i : ℕ) (p : OwnedPiece) → Reserved ps us i → i < length us → p ≡ get_or us i p → HaveRoomFor 1 ps → 0 < row_room p.row
+reserved_there ps us i p h lt e room =
     let lt' : i < length ps = omega (arith, h.as_long) in
-    ap (λ (q : OwnedPiece). q.row.bits) e
-    ∙ ap (λ (c : Cut). c.1) (sym (shown_at us i p (shown_piece p) lt) ∙ ap (λ (cs : List Cut). get_or cs i (shown_piece p)) h.same ∙ shown_at ps i p (shown_piece p) lt')
+    let was : row_room (get_or ps i p).row ≤ row_room (get_or us i p).row = h.more i p lt' in
+    let P : OwnedPiece → Type 0 = λ q. row_room (get_or ps i p).row ≤ row_room q.row in
+    let now : row_room (get_or ps i p).row ≤ row_room p.row = subst P (sym e) was in
+    omega (arith, room i p lt')
 
 -- ---- a line cut at the ends of the spans, as far as the i-th
 
@@ -157,6 +178,14 @@ split_next top spans old now new i d h g lt end =
       ends = All-more (EndsStart top new) spans i d lt (ends_kept top now new (take i spans) spans g h.ends) end;
     }
 
+-- where the cuts were there before, the ends of each interval are there
+pub ends_there : (top : ℕ) (own items : List Interval) (old now : List Cut) (i : ℕ) (d : Interval) → items ≡ own → AreSpansFrom top 0 own → IsRising top old → CutsStart top own old → Split top items old now i → i < length items
+    → EndsStart top now (get_or items i d)
+ends_there top own items old now i d same canonical r cuts h lt =
+    let all = ends_from_cuts top 0 old own canonical (λ x _ le ne. cuts x le ne) (λ _. starts_zero top old r) in
+    let P : List Interval → Type 0 = λ ss. All (EndsStart top old) ss in
+    ends_kept top old now items items h.split (subst P (sym same) all) i d lt
+
 pub split_done_all : (top : ℕ) (spans own : List Interval) (old now : List Cut) (i : ℕ) → Split top spans old now i → length spans ≤ i → spans ≡ own → CutsStart top own now
 split_done_all top spans own old now i h le e =
     let P : List Interval → Type 0 = λ ss. All (EndsStart top now) ss in
@@ -230,8 +259,3 @@ pub merging_done : (old now : List Cut) (j : ℕ) → Merging old now j → j �
 merging_done old now j h z top r =
     let P : ℕ → Type 0 = λ k. DifferFrom (get_or now k no_cut).1 (drop (suc k) now) in
     record { rising = h.rising top r; same = h.same top r; differ = merged_differ now (subst P z h.differ) }
-
-pub reserved_part : (ps us : List OwnedPiece) (i : ℕ) (p : OwnedPiece) → Reserved ps us i → i < length us → p ≡ get_or us i p → All (λ (q : OwnedPiece). length q.row.bits % 64 ≢ 0) ps → length p.row.bits % 64 ≢ 0
-reserved_part ps us i p h lt e part =
-    let P : List Bool → Type 0 = λ bs. length bs % 64 ≢ 0 in
-    subst P (sym (reserved_bits ps us i p h lt e)) (part i p (omega (arith, h.as_long)))

@@ -7,7 +7,7 @@ use Rattle.std.specs.Prelude.{slice_index}
 use Rattle.std.proofs.lemmas.Bool.{le-leb, lt-leb}
 use Rattle.classify.specs.declared.line.owned.OwnedPiece.{OwnedPiece}
 use Rattle.classify.specs.line.Line.{starts}
-use Rattle.classify.specs.steps.Pieces.{piece_at, row_in, IsRisingFrom, IsRising, StartsAt, StartsAtZero, IsSplitOf}
+use Rattle.classify.specs.steps.Pieces.{piece_at, row_in, IsRisingFrom, IsRising, StartsAt, IsSplitOf}
 use Rattle.classify.specs.steps.Shown.{shown, shown_piece}
 use Rattle.classify.specs.steps.Cuts.{ChangesAt}
 use Rattle.fields.specs.declared.numbers.spans.Interval.{Interval}

@@ -108,7 +108,7 @@ sides items now x i o p q h g low high ne before =
     let low' : slice_index (starts (shown items)) i ≤ x = subst P h.same low in
     record { at = g; start = omega (arith, start_is items now x i o h, start_is items now x i p g); later = omega arith; before = before }
 
-sides_rows : (items now : List OwnedPiece) (x i : ℕ) (p q : OwnedPiece) → Sides items now x i p q → (top : ℕ) → IsRising top (shown items)
+pub sides_rows : (items now : List OwnedPiece) (x i : ℕ) (p q : OwnedPiece) → Sides items now x i p q → (top : ℕ) → IsRising top (shown items)
     → (y : ℕ) → suc y ≡ x → (row_in (shown items) y ≡ q.row.bits) × (row_in (shown items) (suc y) ≡ p.row.bits)
 sides_rows items now x i p q h top r y e =
     let lt : i < length items = omega (arith, h.at.within, ap length h.at.same) in
@@ -122,6 +122,16 @@ sides_rows items now x i p q h top r y e =
       row_of_piece top y items (i - 1) q r (omega arith) (omega arith) (λ _. subst Q (sym next) (omega arith)) h.before,
       row_of_piece top (suc y) items i p r lt (omega arith) (λ l. (let far : x < slice_index (starts (shown items)) (i + 1) = subst R h.at.same (h.at.high (omega (arith, ap length h.at.same))) in omega arith)) h.at.piece,
     )
+
+-- there is a piece before x, so x isn't 0
+pub sides_above : (items now : List OwnedPiece) (x i : ℕ) (p q : OwnedPiece) → Sides items now x i p q → (top : ℕ) → IsRising top (shown items) → 0 < x
+sides_above items now x i p q h top r =
+    let lt : i < length items = omega (arith, h.at.within, ap length h.at.same) in
+    let back : suc (i - 1) ≡ i = omega (arith, h.later) in
+    let st : slice_index (starts (shown items)) i ≡ x = start_is items now x i p h.at ∙ h.start in
+    let P : ℕ → Type 0 = λ k. slice_index (starts (shown items)) (i - 1) < slice_index (starts (shown items)) k in
+    let less : slice_index (starts (shown items)) (i - 1) < slice_index (starts (shown items)) i = subst P back (rise top (shown items) (i - 1) r (omega (arith, length-shown items))) in
+    omega arith
 
 pub unsplit_kept : (items now : List OwnedPiece) (x i : ℕ) (p q : OwnedPiece) → Sides items now x i p q → (p.row.bits ≡ q.row.bits → ⊥) → (top : ℕ) → IsRising top (shown items) → IsUnsplitAt (IsNumber x) top (shown items) (shown items)
 unsplit_kept items now x i p q h ne top r =

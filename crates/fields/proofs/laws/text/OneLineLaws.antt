@@ -1,13 +1,12 @@
 -- Words, and lines of them, have no newline.
-use Rattle.std.proofs.Common.{◌≡◌, ◌≢◌, ◌==◌, inl, inr, ℕ, zero, suc, ◌<◌, Bool, true, false, not, ◌&&◌, List, [], ◌∷◌, ◌++◌, length, get_or, Some, refl, sym, ap, subst, ◌∙◌, arith, eq-eqb}
-use Rattle.std.specs.Prelude.{All}
+use Rattle.std.proofs.Common.{◌≡◌, ◌≢◌, ◌==◌, inl, inr, ℕ, zero, suc, ◌<◌, Bool, true, false, not, List, [], ◌∷◌, ◌++◌, length, get_or, Some, refl, sym, ap, subst, ◌∙◌, arith, eq-eqb}
 use Rattle.std.specs.Global.{Vec}
 use Rattle.fields.specs.steps.Cutting.{view_words}
 use Rattle.std.specs.List.{list_all}
-use Rattle.std.proofs.lemmas.Bool.{and_parts, and_from}
+use Rattle.std.proofs.lemmas.Bool.{and_parts}
 use Rattle.std.proofs.lemmas.List.Elements.{All-append, All-nil}
 use Rattle.fields.specs.text.OneLine.{IsOneLine, is_one_line, AreOneLine}
-use Rattle.fields.specs.text.Words.{is_blank, AreBlanks, is_bare, IsQuotedByte, IsQuotedText, IsSpelling, AreWords, words_of}
+use Rattle.fields.specs.text.Words.{is_blank, is_bare, IsQuotedByte, IsQuotedText, IsSpelling, AreWords, words_of}
 use Rattle.fields.proofs.laws.text.WordLaws.{AreWords-words_of}
 
 -- one byte more

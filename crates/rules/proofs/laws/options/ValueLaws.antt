@@ -13,7 +13,7 @@ use Rattle.fields.specs.values.PortList.{port_list_of, port_list_text}
 use Rattle.fields.specs.values.PortRange.{port_range_of, ports_text}
 use Rattle.fields.specs.values.Prefix.{prefix_of, prefix_text}
 use Rattle.fields.specs.text.OneLine.{IsOneLine}
-use Rattle.fields.specs.text.Printed.{Shown, bare, as_text, spaced, spaced_all, IsBareWord, IsPrintable, ArePrintable}
+use Rattle.fields.specs.text.Printed.{Shown, bare, as_text, spaced, spaced_all, IsPrintable, ArePrintable}
 use Rattle.fields.specs.values.Protocol.{protocol_of, protocol_text}
 use Rattle.fields.specs.values.RejectType.{reject_of, reject_text}
 use Rattle.fields.specs.values.TcpFlags.{tcp_flags_of, tcp_flags_text}

@@ -1,12 +1,11 @@
 -- What is legal for reading is readable: options whose places rise stand in the order of a listing.
 use Prim.Native.Nat.{zero, suc}
-use Rattle.std.proofs.Common.{◌≡◌, ◌⊎◌, inl, inr, ℕ, ◌+◌, ◌-◌, ◌≤◌, Bool, true, false, List, [], ◌∷◌, ◌++◌, length, flat_map, get_or, Option, None, Some, refl, subst, arith, lit<}
+use Rattle.std.proofs.Common.{◌≡◌, ◌⊎◌, inl, inr, ℕ, ◌+◌, ◌-◌, Bool, true, false, List, [], ◌∷◌, ◌++◌, flat_map, get_or, Option, None, Some, refl, subst, arith, lit<}
 use Rattle.std.proofs.Math.Dec.{leb}
 use Rattle.std.proofs.lemmas.Bool.{leb-true, leb-false}
 use Rattle.std.specs.List.{All, Contains}
 use Rattle.rules.specs.options.Options.{slot, owner, is_match_of}
 use Rattle.rules.specs.options.Settings.{option_of_value, slot_of}
-use Rattle.rules.specs.rule.Actions.{is_action_of}
 use Rattle.rules.specs.rule.Rules.{Match, Rule}
 use Rattle.rules.specs.rule.Readable as readable
 use Rattle.rules.specs.rule.Readable.{rule_places, match_places, target_places, AreInOrder, IsInOrder, all_settings, ValueReadsBack, NamesChain}

@@ -1,16 +1,17 @@
 -- A rule that names another chain is readable too.
-use Rattle.std.proofs.Common.{◌≡◌, ℕ, List, Option, None, Some, refl, ap, ◌∙◌}
-use Rattle.fields.specs.values.Name.{name_of}
+use Rattle.std.proofs.Common.{◌≡◌, ℕ, List, Option, None, Some, refl, ap, ◌∙◌, IsTrue}
+use Rattle.std.proofs.lemmas.Bool.{cond-true}
+use Rattle.fields.specs.values.Name.{is_name, name_of}
 use Rattle.rules.specs.rule.Actions.{action_with_chain_name, with_chain_name}
 use Rattle.rules.specs.rule.Rules.{Rule, action_default, or_default, normal_form}
 use Rattle.rules.specs.options.Settings.{is_condition}
-use Rattle.rules.specs.printing.RoundTrip.{ReadsItself}
+use Rattle.rules.specs.printing.RoundTrip.{ReadsItself, RenamedReadsBack}
 use Rattle.rules.specs.declared.rule.action.Action.{Action}
 use Rattle.rules.specs.declared.rule.action.Action.TheVariants as action
 use Rattle.rules.specs.declared.options.setting.Setting.{Setting}
 use Rattle.rules.proofs.laws.reading.Readable.{IsGroup, OfAction, ActionBack}
 use Rattle.rules.proofs.laws.printing.RoundLaws.{rule_of-shown_rule}
-use Rattle.rules.proofs.laws.printing.RoundTripLaws.{readable}
+use Rattle.rules.proofs.laws.printing.RoundTripLaws.{read_reads, readable, text_reads_back}
 use Rattle.std.specs.Prelude.{filter}
 
 same-default : (name : List ℕ) (a : Option Action) → action_default (action_with_chain_name name a) ≡ action_default a
@@ -60,3 +61,10 @@ renamed_reads name r is reads =
   where
     with_target_options : List Setting → Rule
     with_target_options ss = record { settings = (normal_form r).settings; matches = (normal_form r).matches; action = action_with_chain_name name r.action; target_options = ss }
+
+name_is : (name : List ℕ) → IsTrue (is_name name) → name_of name ≡ Some name
+unfolding name_of
+name_is name h = cond-true (is_name name) _ _ h
+
+pub renamed_reads_back : RenamedReadsBack
+renamed_reads_back r name h back = text_reads_back (with_chain_name name r) (renamed_reads name r (name_is name h) (read_reads 0 back.0 r (back.2 0)))

@@ -4,8 +4,8 @@ use Rattle.classify.specs.steps.Packing.{IsOpen}
 use Rattle.classify.proofs.laws.bits.RowLaws.{open_new}
 use Rattle.classify.proofs.bits.bit_row.open_word.Goals as goal
 
-pub returns-then-len-eq0 : goal.returns-then-len-eq0
-returns-then-len-eq0 c =
+pub returns-then-len-eq0-clause-open : goal.returns-then-len-eq0-clause-open
+returns-then-len-eq0-clause-open c =
     let same_len : vec_len c.args.words.now ≡ length c.args.words.now.items = search rules in
     let lt : vec_len c.args.words.now < vec_capacity c.args.words.now = omega (arith, c.requires.packed.covers, c.requires.packed.tight, c.requires.room) in
     let ok : is_ok c.push.result ≡ true = c.push.ensures.succeeds lt in

@@ -1,5 +1,6 @@
 use Rattle.std.proofs.Common.{ap, length, ◌≡◌, ◌∙◌, sym, subst, rules, List, ℕ, Bool}
 use Rattle.fields.specs.declared.numbers.field.TheConstants.{FIELDS}
+use Rattle.classify.specs.classifier.Classifier.{ClassifiedAndRoom}
 use Rattle.classify.specs.steps.Fields.{IsKept}
 use Rattle.classify.proofs.laws.classifier.ClassifierLaws.{same_shown}
 use Rattle.classify.proofs.classifier.Classifier.copy.Goals as goal
@@ -15,4 +16,4 @@ pub returns : goal.returns
 returns c =
     let m : length c.copy_lines.new.lines ≡ FIELDS = c.copy_lines.auto.lines ∙ search rules in
     let n : length c.self.inside.lines ≡ FIELDS = search rules in
-    ap (λ (lines : List (List (ℕ × List Bool))). record { len = c.self.inside.len; lines = lines }) (same_shown c.self.inside.lines c.copy_lines.new.lines (m ∙ sym n) c.in_ok-copy_lines.ensures) ∙ c.self.view_is
+    ap (λ (lines : List (List (ℕ × List Bool))). record { len = c.self.inside.len; lines = lines }) (same_shown c.self.inside.lines c.copy_lines.new.lines (m ∙ sym n) c.in_ok-copy_lines.ensures) ∙ ap (λ (k : ClassifiedAndRoom). k.shown) c.self.view_is

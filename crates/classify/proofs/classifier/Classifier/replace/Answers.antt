@@ -1,9 +1,10 @@
-use Rattle.std.proofs.Common.{arith, ap, length, List, ℕ, subst, ◌≡◌, ◌∙◌, sym, rules, Bool}
+use Rattle.std.proofs.Common.{arith, ap, length, ◌≤◌, List, ℕ, subst, ◌≡◌, ◌∙◌, sym, rules, Bool}
 use Rattle.std.proofs.lemmas.Bool.{false≢true}
 use Rattle.fields.specs.declared.numbers.field.TheConstants.{FIELDS}
-use Rattle.classify.specs.classifier.Classifier.{Classified, IsClassifierOf, HasNoNewCut}
-use Rattle.classify.specs.steps.Fields.{IsKept}
-use Rattle.classify.proofs.laws.classifier.ClassifierLaws.{classifier_written, sound_lines, still_sound, same_shown, no_new_cuts, on_err_anyway}
+use Rattle.classify.specs.classifier.Classifier.{Classified, ClassifiedAndRoom, IsClassifierOf, HasNoNewCut}
+use Rattle.classify.specs.steps.Fields.{IsKept, room_beside}
+use Rattle.classify.proofs.laws.classifier.ClassifierLaws.{classifier_written, sound_lines, still_sound, same_shown, no_new_cuts, no_set, on_err_anyway}
+use Rattle.classify.proofs.laws.classifier.RoomLaws.{kept_room}
 use Rattle.classify.proofs.laws.classifier.RuleLaws.{rules_replaced}
 use Rattle.classify.proofs.classifier.Classifier.replace.Goals as goal
 
@@ -25,10 +26,10 @@ returns-clause-boxes c boxes h =
     let m : length c.replace_lines.new.lines ≡ length c.self.inside.lines = c.replace_lines.auto.lines in
     let P : Classified → Type 0 = λ k. IsClassifierOf boxes k in
     classifier_written c.self.inside.lines c.replace_lines.new.lines c.spans.result.now c.args.boxed boxes c.self.inside.len c.args.at n m c.spans.ensures.value c.spans.ensures.whole
-    c.in_ok-replace_lines.ensures.ok (subst P (sym c.self.view_is) h)
+    c.in_ok-replace_lines.ensures.ok (subst P (sym (ap (λ (k : ClassifiedAndRoom). k.shown) c.self.view_is)) h)
 
 pub returns-clause-rules : goal.returns-clause-rules
-returns-clause-rules c rule is rules h = rules_replaced rules c.args.at rule c.args.boxed c.args.self.now _ (returns-clause-boxes c) h is
+returns-clause-rules c rule is rules h = rules_replaced rules c.args.at rule c.args.boxed c.args.self.now.shown _ (returns-clause-boxes c) h is
 
 pub invariant_of-self : goal.invariant_of-self
 invariant_of-self c =
@@ -40,10 +41,23 @@ pub returns-in_err-replace_lines-clause-err : goal.returns-in_err-replace_lines-
 returns-in_err-replace_lines-clause-err c =
     let m : length c.replace_lines.new.lines ≡ length c.self.inside.lines = c.replace_lines.auto.lines in
     on_err_anyway c.from_residual.result (
-    ap (λ (lines : List (List (ℕ × List Bool))). record { len = c.self.inside.len; lines = lines }) (same_shown c.self.inside.lines c.replace_lines.new.lines m c.in_err-replace_lines.ensures.err) ∙ c.self.view_is)
+    ap (λ (lines : List (List (ℕ × List Bool))). record { len = c.self.inside.len; lines = lines }) (same_shown c.self.inside.lines c.replace_lines.new.lines m c.in_err-replace_lines.ensures.err) ∙ ap (λ (k : ClassifiedAndRoom). k.shown) c.self.view_is)
 
 pub returns-in_err-replace_lines-clause-there : goal.returns-in_err-replace_lines-clause-there
 returns-in_err-replace_lines-clause-there c none =
     let n : length c.self.inside.lines ≡ FIELDS = search rules in
     let P : Classified → Type 0 = λ k. HasNoNewCut c.args.boxed k in
-    absurd (false≢true (c.in_err-replace_lines.ensures.there (no_new_cuts c.self.inside.lines c.spans.result.now c.args.boxed c.self.inside.len n c.spans.ensures.value c.spans.ensures.whole (subst P (sym c.self.view_is) none))))
+    absurd (false≢true (c.in_err-replace_lines.ensures.there (no_new_cuts c.self.inside.lines c.spans.result.now c.args.boxed c.self.inside.len n c.spans.ensures.value c.spans.ensures.whole (subst P (sym (ap (λ (k : ClassifiedAndRoom). k.shown) c.self.view_is)) none))))
+
+pub returns-clause-room : goal.returns-clause-room
+returns-clause-room c none =
+    let n : length c.self.inside.lines ≡ FIELDS = search rules in
+    let P : Classified → Type 0 = λ k. HasNoNewCut c.args.boxed k in
+    let cuts = no_new_cuts c.self.inside.lines c.spans.result.now c.args.boxed c.self.inside.len n c.spans.ensures.value c.spans.ensures.whole (subst P (sym (ap (λ (k : ClassifiedAndRoom). k.shown) c.self.view_is)) none) in
+    let Q : ClassifiedAndRoom → Type 0 = λ k. k.room ≤ room_beside c.self.inside.len c.replace_lines.new.lines in
+    subst Q c.self.view_is (kept_room c.self.inside.lines c.replace_lines.new.lines c.self.inside.len c.replace_lines.auto.lines (λ k l lt. c.in_ok-replace_lines.ensures.room k no_set l lt (cuts k no_set l lt)))
+
+pub returns-in_err-replace_lines-clause-kept : goal.returns-in_err-replace_lines-clause-kept
+returns-in_err-replace_lines-clause-kept c =
+    let Q : ClassifiedAndRoom → Type 0 = λ k. k.room ≤ room_beside c.self.inside.len c.replace_lines.new.lines in
+    on_err_anyway c.from_residual.result (subst Q c.self.view_is (kept_room c.self.inside.lines c.replace_lines.new.lines c.self.inside.len c.replace_lines.auto.lines c.in_err-replace_lines.ensures.back))

@@ -3,7 +3,7 @@ use Rattle.std.specs.Prelude.{slice_index}
 use Rattle.classify.specs.steps.Packing.{IsPacked, all_bits}
 use Rattle.classify.specs.steps.Fields.{tops}
 use Rattle.classify.specs.steps.Pieces.{row_in}
-use Rattle.classify.specs.classifier.Classifier.{Classified}
+use Rattle.classify.specs.classifier.Classifier.{ClassifiedAndRoom}
 use Rattle.classify.proofs.laws.search.NextLaws.{field_row}
 use Rattle.classify.proofs.classifier.Classifier.row.Goals as goal
 
@@ -15,10 +15,10 @@ row_at-requires c =
 pub returns : goal.returns
 returns c =
     let f = field_row c.self.inside.lines c.self.inside.len c.args.place c.args.x c.deref.result.now c.index-self-place.result (search rules) c.self.invariant c.requires c.deref.ensures.value in
-    let e : c.self.inside.len ≡ c.args.self.now.len = ap (λ (k : Classified). k.len) c.self.view_is in
+    let e : c.self.inside.len ≡ c.args.self.now.shown.len = ap (λ (k : ClassifiedAndRoom). k.shown.len) c.self.view_is in
     let P : ℕ → Type 0 = λ n. IsPacked c.row_at.result.now n in
     record {
       packed = subst P (f.long ∙ e) c.row_at.ensures.packed;
       bits = ap (λ n. take n (all_bits c.row_at.result.now)) (sym (f.long ∙ e)) ∙ c.row_at.ensures.bits
-          ∙ ap (λ (line : List (ℕ × List Bool)). row_in line c.args.x) (f.same ∙ ap (λ (k : Classified). get_or k.lines c.args.place []) c.self.view_is);
+          ∙ ap (λ (line : List (ℕ × List Bool)). row_in line c.args.x) (f.same ∙ ap (λ (k : ClassifiedAndRoom). get_or k.shown.lines c.args.place []) c.self.view_is);
     }

@@ -6,7 +6,7 @@ use Rattle.fields.specs.numbers.Spans.{SpanSet}
 use Rattle.classify.specs.steps.Fields.{shown_line, IsReady, TakesIn}
 use Rattle.classify.specs.steps.Pieces.{IsRising}
 use Rattle.classify.specs.steps.Cuts.{IsApart}
-use Rattle.classify.proofs.laws.classifier.FieldLaws.{edited_more}
+use Rattle.classify.proofs.laws.line.ListLoopLaws.{edited_more}
 use Rattle.classify.proofs.classifier.lines.commit_lines.Goals as goal
 
 pub commit-requires : goal.commit-requires
@@ -30,7 +30,7 @@ loop-k-preserved c =
     (λ s.
     (let e : c.index-spans-k.result ≡ get_or c.args.spans.now c.loop-k.k s = c.index-spans-k.is ∙ get_or_default c.args.spans.now c.loop-k.k c.index-spans-k.result s lt in
     let P : SpanSet → Type 0 = λ t. TakesIn c.args.at t (get_or c.loop-k.lines c.loop-k.k c.index-lines-k.result) (record { pieces = c.commit.new.pieces }) in
-    subst P e (record { line = c.commit.ensures.line; sound = c.commit.ensures.sound })))
+    subst P e (record { line = c.commit.ensures.line; sound = c.commit.ensures.sound; room = c.commit.ensures.room })))
 
 pub returns : goal.returns
 returns c k s l lt = c.loop-k.invariant.done k l (omega arith) s

@@ -1,7 +1,7 @@
 use Rattle.std.proofs.Common.{◌≡◌, get_or}
 use Rattle.classify.specs.declared.line.owned.OwnedLine.{OwnedLine}
 use Rattle.classify.specs.steps.Fields.{shown_line}
-use Rattle.classify.proofs.laws.classifier.FieldLaws.{Edited}
+use Rattle.classify.proofs.laws.line.ListLoopLaws.{Edited}
 use Rattle.classify.proofs.classifier.lines.copy_lines.Given as goal
 
 abbrev pub invariant-loop-k : goal.invariant-loop-k

@@ -1,10 +1,11 @@
-use Rattle.std.proofs.Common.{arith, ap, length, get_or, ◌<◌, ◌≤◌, [], ◌≡◌, ◌∙◌, sym, ◌%◌, ◌≢◌}
+use Rattle.std.proofs.Common.{arith, length, get_or, ◌<◌, ◌≤◌, ◌+◌, [], ◌∙◌, ◌≡◌}
 use Rattle.std.proofs.lemmas.Bool.{false≢true}
 use Rattle.std.proofs.lemmas.List.Elements.{All-weaker}
 use Rattle.classify.specs.declared.line.owned.OwnedPiece.{OwnedPiece}
 use Rattle.fields.specs.numbers.Spans.{SpanSet}
 use Rattle.classify.proofs.laws.line.ApartLaws.{apart_after}
 use Rattle.classify.proofs.laws.line.BoxLaws.{all_rows_kept, places_from_rows, says_from_line, long_after, same_after_merge}
+use Rattle.classify.proofs.laws.line.RoomLaws.{room_back}
 use Rattle.classify.proofs.classifier.lines.insert_lines.Goals as goal
 
 abbrev no_set : SpanSet
@@ -56,18 +57,26 @@ returns-in-Err-clause-err c k l lt =
     let lt' : k < length c.prepare_lines.new.lines = omega (arith, c.prepare_lines.auto.lines) in
     let sound = c.requires.sound k no_set l lt in
     let split = c.prepare_lines.ensures.split k no_set l lt in
-    same_after_merge _ _ _ _ _ sound.rising sound.differ split (c.unsplit_lines.ensures k no_set l lt')
+    same_after_merge _ _ _ _ _ sound.rising sound.differ split (c.unsplit_lines.ensures.joined k no_set l lt')
 
 pub returns-in-Err-clause-there : goal.returns-in-Err-clause-there
-returns-in-Err-clause-there c part cuts =
-    absurd (false≢true (c.in-Err.ensures.there (λ k s l lt. record {
-      cuts = cuts k s l lt;
-      part = (let places = places_from_rows c.args.len (get_or c.args.lines.now k l).pieces.items (c.requires.sound k s l lt).rows in
-          All-weaker (λ (p : OwnedPiece). length p.row.bits ≡ c.args.len) (λ (p : OwnedPiece). length p.row.bits % 64 ≢ 0) (λ p e z. part (sym (ap (λ n. n % 64) e) ∙ z)) (get_or c.args.lines.now k l).pieces.items places);
-    })))
+returns-in-Err-clause-there c room = absurd (false≢true (c.in-Err.ensures.there room))
+
+pub returns-in-Ok-clause-room : goal.returns-in-Ok-clause-room
+returns-in-Ok-clause-room c k s l lt cuts n room =
+    let lt' : k < length c.prepare_lines.new.lines = omega (arith, c.prepare_lines.auto.lines) in
+    (c.commit_lines.ensures k s l lt').room n (c.in-Ok.ensures.room k s l lt cuts (n + 1) room)
 
 pub commit_lines-requires-clause-apart : goal.commit_lines-requires-clause-apart
 commit_lines-requires-clause-apart c k s l lt =
     let lt' : k < length c.args.lines.now = omega (arith, c.prepare_lines.auto.lines) in
     let sound = c.requires.sound k s l lt' in
     apart_after _ _ _ _ sound.rising sound.differ (c.prepare_lines.ensures.split k s l lt')
+
+pub returns-in-Err-clause-back : goal.returns-in-Err-clause-back
+returns-in-Err-clause-back c k l lt =
+    let lt' : k < length c.prepare_lines.new.lines = omega (arith, c.prepare_lines.auto.lines) in
+    let sound = c.requires.sound k no_set l lt in
+    let split = c.prepare_lines.ensures.split k no_set l lt in
+    let same = same_after_merge _ _ _ _ _ sound.rising sound.differ split (c.unsplit_lines.ensures.joined k no_set l lt') in
+    room_back _ _ _ _ _ sound.rising sound.differ split same (c.prepare_lines.ensures.rows k l lt) (c.unsplit_lines.ensures.rows k l lt')

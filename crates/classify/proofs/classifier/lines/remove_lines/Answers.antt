@@ -1,7 +1,7 @@
 use Rattle.std.proofs.Common.{arith, ap, get_or, ◌<◌, sym, subst, length}
 use Rattle.classify.specs.declared.line.owned.OwnedLine.{OwnedLine}
 use Rattle.classify.specs.steps.Fields.{HasPlace}
-use Rattle.classify.proofs.laws.classifier.FieldLaws.{edited_more}
+use Rattle.classify.proofs.laws.line.ListLoopLaws.{edited_more}
 use Rattle.classify.proofs.classifier.lines.remove_lines.Goals as goal
 
 pub remove_box-requires : goal.remove_box-requires
@@ -18,7 +18,7 @@ loop-k-preserved c =
     let h = c.loop-k.invariant in
     edited_more _ _ c.loop-k.lines c.loop-k.k (get_or c.loop-k.lines c.loop-k.k c.index-lines-k.result) (record { pieces = c.remove_box.new.pieces }) h (omega (arith, h.as_long))
     (ap (λ (d : OwnedLine). get_or c.loop-k.lines c.loop-k.k d) c.index-lines-k.is)
-    (record { line = λ top sets. c.remove_box.ensures.line top sets; sound = λ top n. c.remove_box.ensures.sound top n })
+    (record { line = λ top sets. c.remove_box.ensures.line top sets; sound = λ top n. c.remove_box.ensures.sound top n; room = c.remove_box.ensures.room })
 
 pub returns : goal.returns
 returns c k l lt = c.loop-k.invariant.done k l (omega arith)

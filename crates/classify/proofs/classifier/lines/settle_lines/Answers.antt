@@ -6,7 +6,7 @@ use Rattle.classify.specs.steps.Fields.{shown_line, TakesOver}
 use Rattle.classify.specs.steps.Cuts.{CutsStart, IsApart}
 use Rattle.classify.specs.steps.Edits.{EachRow}
 use Rattle.classify.specs.steps.Pieces.{IsRising}
-use Rattle.classify.proofs.laws.classifier.FieldLaws.{edited_more}
+use Rattle.classify.proofs.laws.line.ListLoopLaws.{edited_more}
 use Rattle.classify.proofs.classifier.lines.settle_lines.Goals as goal
 
 pub replace_box-requires : goal.replace_box-requires
@@ -31,7 +31,7 @@ loop-k-preserved c =
     (λ s.
     (let e : c.index-spans-k.result ≡ get_or c.args.spans.now c.loop-k.k s = c.index-spans-k.is ∙ get_or_default c.args.spans.now c.loop-k.k c.index-spans-k.result s lt in
     let P : SpanSet → Type 0 = λ t. TakesOver c.args.at t (get_or c.loop-k.lines c.loop-k.k c.index-lines-k.result) (record { pieces = c.replace_box.new.pieces }) in
-    subst P e (record { line = c.replace_box.ensures.line; sound = c.replace_box.ensures.sound })))
+    subst P e (record { line = c.replace_box.ensures.line; sound = c.replace_box.ensures.sound; room = c.replace_box.ensures.room })))
 
 pub returns : goal.returns
 returns c k s l lt = c.loop-k.invariant.done k l (omega arith) s

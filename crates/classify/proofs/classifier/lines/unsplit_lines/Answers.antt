@@ -2,11 +2,12 @@ use Rattle.std.proofs.Common.{arith, ap, length, get_or, ◌<◌, subst, ◌≡�
 use Rattle.std.proofs.lemmas.List.{get_or_default}
 use Rattle.classify.specs.declared.line.owned.OwnedLine.{OwnedLine}
 use Rattle.fields.specs.numbers.Spans.{SpanSet}
-use Rattle.classify.specs.steps.Fields.{shown_line}
+use Rattle.classify.specs.steps.Fields.{shown_line, KeepsChangedRows}
 use Rattle.classify.specs.steps.Pieces.{IsRising}
 use Rattle.classify.specs.steps.Edits.{IsMergeOf}
 use Rattle.classify.specs.steps.Cuts.{IsApart}
-use Rattle.classify.proofs.laws.classifier.FieldLaws.{edited_more}
+use Rattle.classify.proofs.laws.line.ListLoopLaws.{edited_more}
+use Rattle.classify.proofs.laws.classifier.ClassifierLaws.{no_set}
 use Rattle.classify.proofs.classifier.lines.unsplit_lines.Goals as goal
 
 pub unsplit_all-requires : goal.unsplit_all-requires
@@ -28,8 +29,12 @@ loop-k-preserved c =
     (ap (λ (d : OwnedLine). get_or c.loop-k.lines c.loop-k.k d) c.index-lines-k.is)
     (λ s.
     (let e : c.index-spans-k.result ≡ get_or c.args.spans.now c.loop-k.k s = c.index-spans-k.is ∙ get_or_default c.args.spans.now c.loop-k.k c.index-spans-k.result s lt in
-    let P : SpanSet → Type 0 = λ t. IsMergeOf t.top (shown_line (get_or c.loop-k.lines c.loop-k.k c.index-lines-k.result)) (shown_line (record { pieces = c.unsplit_all.new.pieces })) in
-    subst P e c.unsplit_all.ensures))
+    let P : SpanSet → Type 0 = λ t. IsMergeOf t.top (shown_line (get_or c.loop-k.lines c.loop-k.k c.index-lines-k.result)) (shown_line (record { pieces = c.unsplit_all.new.pieces }))
+    × KeepsChangedRows (get_or c.loop-k.lines c.loop-k.k c.index-lines-k.result) (record { pieces = c.unsplit_all.new.pieces }) in
+    subst P e (c.unsplit_all.ensures.merge, c.unsplit_all.ensures.rows)))
 
-pub returns : goal.returns
-returns c k s l lt = c.loop-k.invariant.done k l (omega arith) s
+pub returns-clause-joined : goal.returns-clause-joined
+returns-clause-joined c k s l lt = (c.loop-k.invariant.done k l (omega arith) s).0
+
+pub returns-clause-rows : goal.returns-clause-rows
+returns-clause-rows c k l lt = (c.loop-k.invariant.done k l (omega arith) no_set).1

@@ -15,7 +15,7 @@ returns-clause-sound c n le rows =
     let top : ℕ = c.args.spans.now.top in
     let spans : List Interval = c.args.spans.now.intervals in
     let P : List Cut → Type 0 = λ line. IsSound top (n + 1) line in
-    subst P (sym c.put_answers.ensures) (record {
+    subst P (sym c.put_answers.ensures.answers) (record {
       rising = answers_rising top c.args.at spans (shown c.args.pieces.now.items) c.requires.rising;
       differ = answers_differ top n c.args.at spans (shown c.args.pieces.now.items) c.requires.rising c.requires.cuts c.requires.apart rows le;
       rows = longer n c.args.at spans (shown c.args.pieces.now.items) le rows;
@@ -27,7 +27,7 @@ returns-clause-line c n sets le rows says =
     let spans : List Interval = c.args.spans.now.intervals in
     let line : List Cut = map (with_answer c.args.at spans) (shown c.args.pieces.now.items) in
     let P : List Cut → Type 0 = λ l. IsLineOf has top (insert sets c.args.at spans) l in
-    subst P (sym c.put_answers.ensures) (line_from_steps has top (insert sets c.args.at spans) line
+    subst P (sym c.put_answers.ensures.answers) (line_from_steps has top (insert sets c.args.at spans) line
     (steps_of_line (row_at has (insert sets c.args.at spans)) top line (answers_rising top c.args.at spans (shown c.args.pieces.now.items) c.requires.rising)
     (answers_differ top n c.args.at spans (shown c.args.pieces.now.items) c.requires.rising c.requires.cuts c.requires.apart rows le)
     (answers_say top c.args.at spans sets (shown c.args.pieces.now.items) c.requires.rising c.requires.cuts says)))

@@ -6,8 +6,8 @@ use Rattle.classify.specs.steps.Edits.{row_of}
 use Rattle.classify.proofs.laws.line.ShownLaws.{shown_row, shown-remove, length-shown}
 use Rattle.classify.proofs.line.edit.join.Goals as goal
 
-pub returns-then-same : goal.returns-then-same
-returns-then-same c =
+pub returns-then-same-clause-joined : goal.returns-then-same-clause-joined
+returns-then-same-clause-joined c =
     let next : c.args.k + 1 ≡ suc c.args.k = omega arith in
     let lt : c.args.k + 1 < length c.args.pieces.now.items = omega arith in
     let a : c.index.result.now.row.bits ≡ row_of (shown c.args.pieces.now.items) c.args.k = shown_row c.args.pieces.now.items c.args.k c.index.result.now c.requires c.index.ensures in
@@ -19,8 +19,8 @@ returns-then-same c =
       ap shown c.remove.ensures.items ∙ shown-remove c.args.pieces.now.items (c.args.k + 1) ∙ ap (λ j. remove (shown c.args.pieces.now.items) j) next,
     )
 
-pub returns-else-same : goal.returns-else-same
-returns-else-same c =
+pub returns-else-same-clause-joined : goal.returns-else-same-clause-joined
+returns-else-same-clause-joined c =
     let next : c.args.k + 1 ≡ suc c.args.k = omega arith in
     let lt : c.args.k + 1 < length c.args.pieces.now.items = omega arith in
     let a : c.index.result.now.row.bits ≡ row_of (shown c.args.pieces.now.items) c.args.k = shown_row c.args.pieces.now.items c.args.k c.index.result.now c.requires c.index.ensures in

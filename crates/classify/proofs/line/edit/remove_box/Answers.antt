@@ -19,9 +19,9 @@ remove_answers-requires c =
 pub returns-clause-sound : goal.returns-clause-sound
 returns-clause-sound c top n lt sound =
     let r = without_rising top c.args.at _ sound.rising in
-    sound_from_merge (n - 1) top _ _ r (shorter n c.args.at _ lt sound.rows) (c.remove_answers.ensures top r)
+    sound_from_merge (n - 1) top _ _ r (shorter n c.args.at _ lt sound.rows) (c.remove_answers.ensures.merge top r)
 
 pub returns-clause-line : goal.returns-clause-line
 returns-clause-line c top sets line =
     let r : IsRising top (shown c.args.pieces.now.items) = rising_from_line top sets _ line in
-    line_from_merge top (remove sets c.args.at) _ _ (c.remove_answers.ensures top (without_rising top c.args.at _ r)) (without_say top c.args.at sets _ r (says_from_line top sets _ line))
+    line_from_merge top (remove sets c.args.at) _ _ (c.remove_answers.ensures.merge top (without_rising top c.args.at _ r)) (without_say top c.args.at sets _ r (says_from_line top sets _ line))

@@ -21,11 +21,11 @@ returns-clause-sound c n le rows =
     let top : ℕ = c.args.spans.now.top in
     let spans : List Interval = c.args.spans.now.intervals in
     let r = written_rising top c.args.at spans _ c.requires.rising in
-    sound_from_merge n top _ _ r (as_long n c.args.at spans _ rows) (c.set_answers.ensures top r)
+    sound_from_merge n top _ _ r (as_long n c.args.at spans _ rows) (c.set_answers.ensures.merge top r)
 
 pub returns-clause-line : goal.returns-clause-line
 returns-clause-line c sets says =
     let top : ℕ = c.args.spans.now.top in
     let spans : List Interval = c.args.spans.now.intervals in
-    line_from_merge top (slice_set sets c.args.at spans) _ _ (c.set_answers.ensures top (written_rising top c.args.at spans _ c.requires.rising))
+    line_from_merge top (slice_set sets c.args.at spans) _ _ (c.set_answers.ensures.merge top (written_rising top c.args.at spans _ c.requires.rising))
     (written_say top c.args.at spans sets _ c.requires.rising c.requires.cuts says)

@@ -1,10 +1,11 @@
 use Rattle.std.proofs.Common.{arith, ◌≡◌, ◌<◌, ◌≤◌, length, ap, sym, ◌∙◌, subst, List, refl}
 use Rattle.classify.specs.declared.line.owned.OwnedPiece.{OwnedPiece}
-use Rattle.classify.specs.steps.Shown.{shown}
+use Rattle.classify.specs.steps.Shown.{shown, RoomAt}
 use Rattle.classify.specs.line.Line.{starts}
 use Rattle.std.specs.Prelude.{slice_index}
 use Rattle.std.proofs.lemmas.List.{get_or_default}
 use Rattle.classify.proofs.laws.line.ShownLaws.{start_is, IsIn, split_done, split_done_starts, split_not_there, split_there}
+use Rattle.classify.proofs.laws.line.RoomLaws.{room_inserted}
 use Rattle.classify.proofs.line.edit.split.Goals as goal
 
 pub returns-in_err-row-clause-there : goal.returns-in_err-row-clause-there
@@ -41,3 +42,12 @@ returns-else-index-x-clause-ok c =
     let st : slice_index (starts (shown c.args.pieces.now.items)) c.place_of-place.result ≡ c.index.result.now.start = start_is _ _ _ _ _ h in
     split_there _ _ _ _ _ h (let Q : List OwnedPiece → Type 0 = λ ps. slice_index (starts (shown ps)) c.place_of-place.result ≤ c.args.x in
     let low : slice_index (starts (shown c.args.pieces.now.items)) c.place_of-place.result ≤ c.args.x = subst Q h.same c.place_of-place.ensures.low in omega (arith, c.if-index-x.false))
+
+pub returns-in_ok-insert-clause-kept : goal.returns-in_ok-insert-clause-kept
+returns-in_ok-insert-clause-kept c top r s =
+    let h : IsIn c.args.pieces.now.items c.deref.result.now c.args.x c.place_of-place.result c.index.result.now =
+    record { same = c.deref.ensures.value; within = c.place_of-place.ensures.within; high = c.place_of-place.ensures.high; piece = c.index.ensures } in
+    absurd (split_not_there _ _ _ _ _ h c.if-index-x.true top r s)
+
+pub returns-in_ok-insert-clause-rows : goal.returns-in_ok-insert-clause-rows
+returns-in_ok-insert-clause-rows c n x room = subst (RoomAt n x) (sym c.in_ok-insert.ensures.items) (room_inserted n x _ _ _ room)

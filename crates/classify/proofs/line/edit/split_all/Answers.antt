@@ -1,15 +1,12 @@
 use Rattle.fields.specs.declared.numbers.spans.Interval.{Interval}
-use Rattle.std.proofs.Common.{arith, sym, List, subst, ℕ, get_or}
+use Rattle.std.proofs.Common.{arith, sym, ◌∙◌, List, subst, ℕ, get_or}
 use Rattle.std.proofs.lemmas.Bool.{false≢true}
-use Rattle.classify.proofs.laws.line.EndLaws.{ends_from_cuts, starts_zero}
-use Rattle.classify.proofs.laws.line.LoopLaws.{ends_kept}
 use Rattle.classify.proofs.laws.line.ApartLaws.{both_change}
-use Rattle.std.specs.Prelude.{All}
 use Rattle.fields.specs.numbers.Spans.{AreSpansFrom}
 use Rattle.classify.specs.steps.Cuts.{EndsStart}
 use Rattle.classify.specs.steps.Shown.{shown}
 use Rattle.classify.specs.steps.Pieces.{IsSplitOf}
-use Rattle.classify.proofs.laws.line.LoopLaws.{split_next, split_twice, spans_within, split_done_all}
+use Rattle.classify.proofs.laws.line.LoopLaws.{ends_there, split_next, split_twice, spans_within, split_done_all}
 use Rattle.classify.proofs.line.edit.split_all.Goals as goal
 
 abbrev no_span : Interval
@@ -32,12 +29,12 @@ returns-in_err-split_interval-clause-split c =
     let ends = both_change c.args.spans.now.top items c.loop-interval.interval-index no_span (subst C (sym c.intervals-interval-items.ensures.value) c.intervals-interval-items.ensures.canonical) (omega arith) in
     let Q : ℕ → Type 0 = λ top. IsSplitOf top items (shown c.loop-interval.pieces.items) (shown c.split_interval.new.pieces.items) in
     let P : List Interval → Type 0 = λ ss. IsSplitOf c.args.spans.now.top ss (shown c.args.pieces.now.items) (shown c.split_interval.new.pieces.items) in
-    subst P c.intervals-interval-items.ensures.value (split_twice _ _ _ _ _ c.loop-interval.invariant.split (subst Q c.top-top.ensures (c.split_interval.ensures.split items ends.0 ends.1)))
+    subst P c.intervals-interval-items.ensures.value (split_twice _ _ _ _ _ c.loop-interval.invariant.cuts.split (subst Q c.top-top.ensures (c.split_interval.ensures.split items ends.0 ends.1)))
 
 pub returns-clause-split : goal.returns-clause-split
 returns-clause-split c =
     let P : List Interval → Type 0 = λ ss. IsSplitOf c.args.spans.now.top ss (shown c.args.pieces.now.items) (shown c.loop-interval.pieces.items) in
-    subst P c.intervals-interval-items.ensures.value c.loop-interval.invariant.split
+    subst P c.intervals-interval-items.ensures.value c.loop-interval.invariant.cuts.split
 
 pub loop-interval-preserved : goal.loop-interval-preserved
 loop-interval-preserved c =
@@ -46,16 +43,31 @@ loop-interval-preserved c =
     let ends = both_change c.args.spans.now.top items c.loop-interval.interval-index no_span (subst C (sym c.intervals-interval-items.ensures.value) c.intervals-interval-items.ensures.canonical) (omega arith) in
     let Q : ℕ → Type 0 = λ top. IsSplitOf top items (shown c.loop-interval.pieces.items) (shown c.split_interval.new.pieces.items) in
     let R : ℕ → Type 0 = λ top. EndsStart top (shown c.split_interval.new.pieces.items) (get_or items c.loop-interval.interval-index no_span) in
-    split_next _ _ _ _ _ _ no_span c.loop-interval.invariant (subst Q c.top-top.ensures (c.split_interval.ensures.split items ends.0 ends.1)) (omega arith) (subst R c.top-top.ensures c.in_ok-split_interval.ensures.ok)
+    record {
+      cuts = split_next _ _ _ _ _ _ no_span c.loop-interval.invariant.cuts (subst Q c.top-top.ensures (c.split_interval.ensures.split items ends.0 ends.1)) (omega arith) (subst R c.top-top.ensures c.in_ok-split_interval.ensures.ok);
+      kept = λ cuts.
+          (let now = ends_there c.args.spans.now.top c.args.spans.now.intervals items _ _ c.loop-interval.interval-index no_span c.intervals-interval-items.ensures.value c.intervals-interval-items.ensures.canonical c.requires cuts c.loop-interval.invariant.cuts (omega arith) in
+          let T : ℕ → Type 0 = λ t. EndsStart t (shown c.loop-interval.pieces.items) (get_or items c.loop-interval.interval-index no_span) in
+          c.split_interval.ensures.kept (subst T (sym c.top-top.ensures) now) ∙ c.loop-interval.invariant.kept cuts);
+      rows = λ n x room. c.split_interval.ensures.rows n x (c.loop-interval.invariant.rows n x room);
+    }
 
 pub returns-clause-ok : goal.returns-clause-ok
-returns-clause-ok c = split_done_all _ _ _ _ _ _ c.loop-interval.invariant (omega arith) c.intervals-interval-items.ensures.value
+returns-clause-ok c = split_done_all _ _ _ _ _ _ c.loop-interval.invariant.cuts (omega arith) c.intervals-interval-items.ensures.value
 
 pub returns-in_err-split_interval-clause-there : goal.returns-in_err-split_interval-clause-there
 returns-in_err-split_interval-clause-there c cuts =
-    let top : ℕ = c.args.spans.now.top in
-    let all = ends_from_cuts top 0 (shown c.args.pieces.now.items) c.args.spans.now.intervals c.intervals-interval-items.ensures.canonical (λ x _ le ne. cuts x le ne) (λ _. starts_zero top (shown c.args.pieces.now.items) c.requires) in
-    let P : List Interval → Type 0 = λ ss. All (EndsStart top (shown c.args.pieces.now.items)) ss in
-    let now = ends_kept top (shown c.args.pieces.now.items) (shown c.loop-interval.pieces.items) c.intervals-interval-items.result.now c.intervals-interval-items.result.now c.loop-interval.invariant.split (subst P (sym c.intervals-interval-items.ensures.value) all) in
-    let R : ℕ → Type 0 = λ t. EndsStart t (shown c.loop-interval.pieces.items) (get_or c.intervals-interval-items.result.now c.loop-interval.interval-index no_span) in
-    absurd (false≢true (c.in_err-split_interval.ensures.there (subst R (sym c.top-top.ensures) (now c.loop-interval.interval-index no_span (omega arith)))))
+    let items : List Interval = c.intervals-interval-items.result.now in
+    let now = ends_there c.args.spans.now.top c.args.spans.now.intervals items _ _ c.loop-interval.interval-index no_span c.intervals-interval-items.ensures.value c.intervals-interval-items.ensures.canonical c.requires cuts c.loop-interval.invariant.cuts (omega arith) in
+    let T : ℕ → Type 0 = λ t. EndsStart t (shown c.loop-interval.pieces.items) (get_or items c.loop-interval.interval-index no_span) in
+    absurd (false≢true (c.in_err-split_interval.ensures.there (subst T (sym c.top-top.ensures) now)))
+
+pub returns-in_err-split_interval-clause-kept : goal.returns-in_err-split_interval-clause-kept
+returns-in_err-split_interval-clause-kept c cuts =
+    let items : List Interval = c.intervals-interval-items.result.now in
+    let now = ends_there c.args.spans.now.top c.args.spans.now.intervals items _ _ c.loop-interval.interval-index no_span c.intervals-interval-items.ensures.value c.intervals-interval-items.ensures.canonical c.requires cuts c.loop-interval.invariant.cuts (omega arith) in
+    let T : ℕ → Type 0 = λ t. EndsStart t (shown c.loop-interval.pieces.items) (get_or items c.loop-interval.interval-index no_span) in
+    c.split_interval.ensures.kept (subst T (sym c.top-top.ensures) now) ∙ c.loop-interval.invariant.kept cuts
+
+pub returns-in_err-split_interval-clause-rows : goal.returns-in_err-split_interval-clause-rows
+returns-in_err-split_interval-clause-rows c n x room = c.split_interval.ensures.rows n x (c.loop-interval.invariant.rows n x room)

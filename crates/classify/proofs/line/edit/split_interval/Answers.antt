@@ -1,4 +1,4 @@
-use Rattle.std.proofs.Common.{arith, ◌+◌}
+use Rattle.std.proofs.Common.{arith, ◌+◌, ◌∙◌}
 use Rattle.std.proofs.lemmas.Bool.{false≢true}
 use Rattle.classify.proofs.laws.line.ApartLaws.{begins_at, begins_there}
 use Rattle.classify.proofs.laws.line.LoopLaws.{split_twice}
@@ -39,3 +39,25 @@ returns-in_err-split-2-clause-there c e =
 
 pub split-requires : goal.split-requires
 split-requires c = (c.args.top, c.requires.rising)
+
+pub returns-in_err-split-clause-kept : goal.returns-in_err-split-clause-kept
+returns-in_err-split-clause-kept c e = c.split.ensures.kept c.args.top c.requires.rising e.0
+
+pub returns-in_err-split-2-clause-kept : goal.returns-in_err-split-2-clause-kept
+returns-in_err-split-2-clause-kept c e =
+    let g = c.split.ensures.split c.args.top (begins_at c.args.interval.first) c.requires.begins (begins_there c.args.interval.first) c.requires.rising in
+    c.split-then-interval-top.ensures.kept c.args.top g.rising (g.keeps (c.args.interval.last + 1) (e.1 c.if-interval-top.true)) ∙ c.split.ensures.kept c.args.top c.requires.rising e.0
+
+pub returns-then-interval-top-clause-kept : goal.returns-then-interval-top-clause-kept
+returns-then-interval-top-clause-kept c e =
+    let g = c.split.ensures.split c.args.top (begins_at c.args.interval.first) c.requires.begins (begins_there c.args.interval.first) c.requires.rising in
+    c.split-then-interval-top.ensures.kept c.args.top g.rising (g.keeps (c.args.interval.last + 1) (e.1 c.if-interval-top.true)) ∙ c.split.ensures.kept c.args.top c.requires.rising e.0
+
+pub returns-clause-kept : goal.returns-clause-kept
+returns-clause-kept c e = c.split.ensures.kept c.args.top c.requires.rising e.0
+
+pub returns-in_err-split-2-clause-rows : goal.returns-in_err-split-2-clause-rows
+returns-in_err-split-2-clause-rows c n x room = c.split-then-interval-top.ensures.rows n x (c.split.ensures.rows n x room)
+
+pub returns-then-interval-top-clause-rows : goal.returns-then-interval-top-clause-rows
+returns-then-interval-top-clause-rows c n x room = c.split-then-interval-top.ensures.rows n x (c.split.ensures.rows n x room)

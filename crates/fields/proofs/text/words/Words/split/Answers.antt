@@ -1,4 +1,4 @@
-use Rattle.std.proofs.Common.{◌≡◌, ap, Ok, rules}
+use Rattle.std.proofs.Common.{Ok, rules}
 use Rattle.fields.specs.steps.Cutting.{view_words}
 use Rattle.fields.proofs.laws.text.WordLaws.{words_of-law}
 use Rattle.fields.proofs.laws.text.OneLineLaws.{found_line, found_words}

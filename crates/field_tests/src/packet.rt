@@ -1,0 +1,3 @@
+mod hook;
+mod keys;
+mod reading;

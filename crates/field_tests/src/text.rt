@@ -1,0 +1,3 @@
+mod number;
+mod tap;
+mod words;

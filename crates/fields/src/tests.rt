@@ -1,4 +1,0 @@
-mod allowed;
-mod packets;
-mod taps;
-mod values;

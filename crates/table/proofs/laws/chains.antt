@@ -1,0 +1,15 @@
+pub mod PathLaws
+pub mod RowLaws
+pub mod PlaceLaws
+pub mod StoreLaws
+pub mod KeptLaws
+pub mod CountLaws
+pub mod SoundLaws
+pub mod KeepLaws
+pub mod StepLaws
+pub mod OrderLaws
+pub mod ChainLaws
+pub mod RestLaws
+pub mod RenamedLaws
+pub mod NewLaws
+pub mod FewerLaws

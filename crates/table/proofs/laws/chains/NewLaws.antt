@@ -1,0 +1,127 @@
+-- The first table.
+use Rattle.std.proofs.Common.{◌≡◌, ◌≢◌, ℕ, zero, suc, ◌<◌, Bool, false, List, [], ◌∷◌, length, get_or, map, refl, sym, ◌∙◌, ap, arith, subst, Option, Some, None, IsSome, unwrap_or, All}
+use Rattle.std.specs.Prelude.{codes, count_by}
+use Rattle.std.proofs.lemmas.List.Elements.{All-nil}
+use Rattle.table.specs.chains.Sound.{IsSound}
+use Rattle.table.specs.chains.Table.{Chain, Policy, Accept, empty_table, empty_chain}
+use Rattle.table.specs.steps.Kept.{blank, slot_at, row_at, listed, listed_at, listed_row, leading, leading_in, IsLinked, IsWhole}
+use Rattle.table.specs.steps.Rows.{Row, leads_to, IsClassified}
+use Rattle.table.specs.declared.chain.entry.Entry.{Entry}
+use Rattle.table.proofs.laws.chains.SoundLaws.{empty_sound}
+
+-- a chain without rules
+pub record IsBare (row : Row) (name : List ℕ) : Type 0 where
+  pub named : row.name ≡ name
+  pub entries : row.entries ≡ []
+  pub classified : IsClassified row
+  pub references : row.references ≡ 0
+
+-- three slots one after another
+pub record Three (s1 s2 s3 : List (Option Row)) (a b c : ℕ) (ra rb rc : Row) : Type 0 where
+  pub first : slot_at s1 a ≡ Some ra
+  pub free2 : slot_at s1 b ≡ None
+  pub second : slot_at s2 b ≡ Some rb
+  pub others2 : (k : ℕ) → k ≢ b → slot_at s2 k ≡ slot_at s1 k
+  pub free3 : slot_at s2 c ≡ None
+  pub third : slot_at s3 c ≡ Some rc
+  pub others3 : (k : ℕ) → k ≢ c → slot_at s3 k ≡ slot_at s2 k
+  pub input : IsBare ra (codes "INPUT")
+  pub forward : IsBare rb (codes "FORWARD")
+  pub output : IsBare rc (codes "OUTPUT")
+
+module _ (s1 s2 s3 : List (Option Row)) (a b c : ℕ) (ra rb rc : Row) (t : Three s1 s2 s3 a b c ra rb rc) where
+  ab : a ≢ b
+  ab e = let z : Some ra ≡ None = sym t.first ∙ ap (slot_at s1) e ∙ t.free2 in cc
+
+  second_a : slot_at s2 a ≡ Some ra
+  second_a = t.others2 a ab ∙ t.first
+
+  ac : a ≢ c
+  ac e = let z : Some ra ≡ None = sym second_a ∙ ap (slot_at s2) e ∙ t.free3 in cc
+
+  bc : b ≢ c
+  bc e = let z : Some rb ≡ None = sym t.second ∙ ap (slot_at s2) e ∙ t.free3 in cc
+
+  at_a : slot_at s3 a ≡ Some ra
+  at_a = t.others3 a ac ∙ second_a
+
+  at_b : slot_at s3 b ≡ Some rb
+  at_b = t.others3 b bc ∙ t.second
+
+  -- what lies under a key
+  under : (k : ℕ) (row : Row) → slot_at s3 k ≡ Some row → row_at s3 k ≡ row
+  under k row e = ap (λ (o : Option Row). unwrap_or o blank) e
+
+  keys : List ℕ
+  keys = a ∷ b ∷ c ∷ []
+
+  -- what holds of the three holds of each
+  each : (P : ℕ → Type 0) → P a → P b → P c → (i : ℕ) → i < 3 → P (get_or (a ∷ b ∷ c ∷ []) i 0)
+  each P pa pb pc zero lt = pa
+  each P pa pb pc (suc zero) lt = pb
+  each P pa pb pc (suc (suc zero)) lt = pc
+  each P pa pb pc (suc (suc (suc i))) lt = absurd (omega (arith, lt))
+
+  empty_at : (k : ℕ) (row : Row) (name : List ℕ) → slot_at s3 k ≡ Some row → IsBare row name → (row_at s3 k).entries ≡ []
+  empty_at k row name e bare = ap (λ (r : Row). r.entries) (under k row e) ∙ bare.entries
+
+  three_apart : (i j : ℕ) → i < 3 → j < 3 → get_or (a ∷ b ∷ c ∷ []) i 0 ≡ get_or (a ∷ b ∷ c ∷ []) j 0 → i ≡ j
+  three_apart zero zero li lj e = refl
+  three_apart zero (suc zero) li lj e = absurd (ab e)
+  three_apart zero (suc (suc zero)) li lj e = absurd (ac e)
+  three_apart (suc zero) zero li lj e = absurd (ab (sym e))
+  three_apart (suc zero) (suc zero) li lj e = refl
+  three_apart (suc zero) (suc (suc zero)) li lj e = absurd (bc e)
+  three_apart (suc (suc zero)) zero li lj e = absurd (ac (sym e))
+  three_apart (suc (suc zero)) (suc zero) li lj e = absurd (bc (sym e))
+  three_apart (suc (suc zero)) (suc (suc zero)) li lj e = refl
+  three_apart (suc (suc (suc i))) j li lj e = absurd (omega (arith, li))
+  three_apart i (suc (suc (suc j))) li lj e = absurd (omega (arith, lj))
+
+  shown_as : (k : ℕ) (row : Row) (name : List ℕ) → slot_at s3 k ≡ Some row → IsBare row name → listed_at s3 k ≡ empty_chain name
+  shown_as k row name e bare = ap listed_row (under k row e) ∙ (λ i. record { name = bare.named i; rules = map (λ (x : Entry). x.rule) (bare.entries i) })
+
+  pub listed_three : listed s3 (a ∷ b ∷ c ∷ []) ≡ empty_table.chains
+  listed_three = λ i. shown_as a ra (codes "INPUT") at_a t.input i ∷ shown_as b rb (codes "FORWARD") at_b t.forward i ∷ shown_as c rc (codes "OUTPUT") t.third t.output i ∷ []
+
+  none_leads : (k j : ℕ) (row : Row) (name : List ℕ) → slot_at s3 j ≡ Some row → IsBare row name → leading_in k (row_at s3 j) ≡ 0
+  none_leads k j row name e bare = ap (λ (es : List Entry). count_by (λ (x : Entry). leads_to k x.course) es) (empty_at j row name e bare)
+
+  nothing_leads : (k : ℕ) → leading s3 (a ∷ b ∷ c ∷ []) k ≡ 0
+  nothing_leads k = omega (arith, none_leads k a ra (codes "INPUT") at_a t.input, none_leads k b rb (codes "FORWARD") at_b t.forward, none_leads k c rc (codes "OUTPUT") t.third t.output)
+
+  counted_at : (k : ℕ) (row : Row) (name : List ℕ) → slot_at s3 k ≡ Some row → IsBare row name → (row_at s3 k).references ≡ leading s3 (a ∷ b ∷ c ∷ []) k
+  counted_at k row name e bare = ap (λ (r : Row). r.references) (under k row e) ∙ bare.references ∙ sym (nothing_leads k)
+
+  pub whole_three : (ps : List Policy) (order : List ℕ) (seen : List Bool) → length ps ≡ 3 → order ≡ a ∷ b ∷ c ∷ [] → ((k : ℕ) → get_or seen k false ≡ false) → a < length seen → b < length seen → c < length seen → IsWhole ps s3 order seen
+  whole_three ps order seen three_policies is clear an bn cn =
+      let P : List ℕ → Type 0 = λ ks. IsWhole ps s3 ks seen in
+      let S : ℕ → Type 0 = λ k. IsSome (slot_at s3 k) in
+      let O : Option Row → Type 0 = λ (o : Option Row). IsSome o in
+      let three : List ℕ = a ∷ b ∷ c ∷ [] in
+      let L : ℕ → Type 0 = λ k. All (IsLinked s3 three) (row_at s3 k).entries in
+      let E : List Entry → Type 0 = λ (es : List Entry). All (IsLinked s3 three) es in
+      let C : ℕ → Type 0 = λ k. IsClassified (row_at s3 k) in
+      let R : ℕ → Type 0 = λ k. (row_at s3 k).references ≡ leading s3 three k in
+      let T : List Chain → Type 0 = λ (cs : List Chain). IsSound (record { policies = Accept ∷ Accept ∷ Accept ∷ []; chains = cs }) in
+      let none : (k : ℕ) (row : Row) (name : List ℕ) → slot_at s3 k ≡ Some row → IsBare row name → L k = λ k row name e bare. subst E (sym (empty_at k row name e bare)) (All-nil (IsLinked s3 three)) in
+      let right : (k : ℕ) (row : Row) (name : List ℕ) → slot_at s3 k ≡ Some row → IsBare row name → C k = λ k row name e bare. subst IsClassified (sym (under k row e)) bare.classified in
+      subst P (sym is) (record {
+        policies = three_policies;
+        kept = record {
+          stored = record {
+            present = each S (subst O (sym at_a) refl) (subst O (sym at_b) refl) (subst O (sym t.third) refl);
+            apart = three_apart;
+            linked = each L (none a ra (codes "INPUT") at_a t.input) (none b rb (codes "FORWARD") at_b t.forward) (none c rc (codes "OUTPUT") t.third t.output);
+            classified = each C (right a ra (codes "INPUT") at_a t.input) (right b rb (codes "FORWARD") at_b t.forward) (right c rc (codes "OUTPUT") t.third t.output);
+            sound = subst T (sym listed_three) empty_sound;
+          };
+          counted = each R (counted_at a ra (codes "INPUT") at_a t.input) (counted_at b rb (codes "FORWARD") at_b t.forward) (counted_at c rc (codes "OUTPUT") t.third t.output);
+        };
+        unmarked = record {
+          within = λ k inn. (
+              let W : ℕ → Type 0 = λ x. x < length seen in
+              subst W inn.2 (each W an bn cn inn.0 inn.1));
+          clear = clear;
+        };
+      })

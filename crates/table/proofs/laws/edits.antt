@@ -1,0 +1,14 @@
+pub mod AnswerLaws
+pub mod DropLaws
+pub mod DropAllLaws
+pub mod EditLaws
+pub mod FlushLaws
+pub mod MakeLaws
+pub mod PutLaws
+pub mod RetargetLaws
+pub mod RenameLaws
+pub mod TableLaws
+pub mod Rows
+pub mod MarkLaws
+pub mod FilledLaws
+pub mod MadeLaws

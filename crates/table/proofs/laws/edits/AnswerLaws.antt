@@ -1,0 +1,196 @@
+-- What a call answers, by what it found.
+use Rattle.std.proofs.Common.{◌≡◌, inl, inr, ℕ, zero, suc, ◌<◌, Bool, true, false, not, ◌||◌, List, [], ◌∷◌, length, get_or, map, refl, sym, ◌∙◌, ap, arith, subst, Option, Some, None, Ok, Err}
+use Rattle.std.specs.List.{list_any, position}
+use Rattle.std.proofs.lemmas.Bool.{cases_Bool, cond-true, cond-false}
+use Rattle.std.proofs.lemmas.List.{length-map}
+use Rattle.std.proofs.lemmas.List.Elements.{All-weaker}
+use Rattle.rules.specs.rule.Rules.{Rule}
+use Rattle.std.specs.Option.{IsSome}
+use Rattle.std.proofs.lemmas.Bool.{false≢true}
+use Rattle.fields.specs.values.Name.{is_name, name_of}
+use Rattle.table.specs.chains.Sound.{IsSound}
+use Rattle.table.specs.chains.Table.{Table, TableView, Chain, Policy, AreClassified, is_named, has_chain, rules_of}
+use Rattle.table.specs.edits.Edits.{Edit, Cause, same_text, without_first, no_such_rule, changed_chain, TableFault, NoSuchChain, fault_of, first_fault, edited, changed, Answers, IsStep, IsStepIfRoom, NoMemory, no_such_chain}
+use Rattle.table.specs.declared.chain.entry.Course.TheVariants as course
+use Rattle.table.specs.declared.chain.entry.Entry.{Entry}
+use Rattle.std.specs.Prelude.{remove}
+use Rattle.std.proofs.lemmas.List.Quantifiers.{position-Some}
+use Rattle.std.proofs.lemmas.Slice.Eq.{bytes_eq-Decides}
+use Rattle.table.specs.steps.Rows.{Row, rule_in, rules_in, has_text, IsClassified}
+use Rattle.table.specs.steps.Kept.{row_at, name_at, listed, listed_row, blank, classifiers, table_of, IsStored}
+use Rattle.table.proofs.laws.chains.PlaceLaws.{any_none, any_some, IsPlaced, placed_at, placed_nowhere}
+use Rattle.table.proofs.laws.chains.StoreLaws.{names_apart, listed_get, length-listed}
+use Rattle.table.proofs.laws.chains.ChainLaws.{sound_weaker}
+
+-- An answer is right
+
+pub refused : (edit : Edit) (old : TableView) (f : TableFault) → fault_of edit old.table ≡ Some f → IsStep edit old old (Err f)
+refused edit old f h = let P : Option TableFault → Type 0 = λ (o : Option TableFault). Answers (elim o [ None ↦ Ok (edited edit old.table) | Some g ↦ Err g ]) old old (Err f) in subst P (sym h) (refl, refl)
+
+pub done : (edit : Edit) (old new : TableView) → fault_of edit old.table ≡ None → new.table ≡ edited edit old.table → IsStep edit old new (Ok tt)
+done edit old new h is = let P : Option TableFault → Type 0 = λ (o : Option TableFault). Answers (elim o [ None ↦ Ok (edited edit old.table) | Some g ↦ Err g ]) old new (Ok tt) in subst P (sym h) (refl, is)
+
+-- where nothing but memory refuses
+pub no_room : (edit : Edit) (old : TableView) → fault_of edit old.table ≡ None → IsStepIfRoom edit old old (Err NoMemory)
+no_room edit old h = inr (h, refl, refl)
+
+-- Causes, one after another
+
+pub holds : (c : Cause) (cs : List Cause) → c.0 ≡ true → first_fault (c ∷ cs) ≡ Some c.1
+holds c cs e = cond-true c.0 _ _ e
+
+pub passes : (c : Cause) (cs : List Cause) → c.0 ≡ false → first_fault (c ∷ cs) ≡ first_fault cs
+passes c cs e = cond-false c.0 _ _ e
+
+-- no chain has the name
+pub nowhere : (t : Table) (name : List ℕ) (cs : List Cause) → position (is_named name) t.chains ≡ None → first_fault (no_such_chain t name ∷ cs) ≡ Some NoSuchChain
+nowhere t name cs e = holds (no_such_chain t name) cs (ap not (placed_nowhere t name e))
+
+-- a chain has it
+pub somewhere : (t : Table) (name : List ℕ) (i : ℕ) (cs : List Cause) → position (is_named name) t.chains ≡ Some i → first_fault (no_such_chain t name ∷ cs) ≡ first_fault cs
+somewhere t name i cs e = passes (no_such_chain t name) cs (let p : IsPlaced t name i = placed_at t name i e in ap not p.there)
+
+-- What a table shows
+
+abbrev pub table_with : List Policy → List (Option Row) → List ℕ → Table
+table_with policies slots order = record { policies = policies; chains = listed slots order }
+
+abbrev pub view_with : List Policy → List (Option Row) → List ℕ → TableView
+view_with policies slots order = record { table = table_with policies slots order; classifiers = classifiers slots order }
+
+-- what holds of what a table's fields show holds of what it shows
+pub by_view : (P : TableView → Type 0) {shown view : TableView} → shown ≡ view → P shown → P view
+by_view P e h = subst P e h
+
+-- the rules of a chain that was found
+pub rules_found : (policies : List Policy) (slots : List (Option Row)) (order : List ℕ) (name : List ℕ) (i : ℕ) → i < length order → position (is_named name) (listed slots order) ≡ Some i
+    → rules_of (listed slots order) name ≡ rules_in (row_at slots (get_or order i 0))
+rules_found policies slots order name i lt e =
+    let p : IsPlaced (table_with policies slots order) name i = placed_at (table_with policies slots order) name i e in
+    p.rules (listed_row blank) ∙ ap (λ (c : Chain). c.rules) (listed_get slots order i (listed_row blank) lt)
+
+pub count_found : (policies : List Policy) (slots : List (Option Row)) (order : List ℕ) (name : List ℕ) (i : ℕ) → i < length order → position (is_named name) (listed slots order) ≡ Some i
+    → length (rules_of (listed slots order) name) ≡ length (row_at slots (get_or order i 0)).entries
+count_found policies slots order name i lt e = ap (λ (rs : List Rule). length rs) (rules_found policies slots order name i lt e) ∙ length-map (row_at slots (get_or order i 0)).entries (λ x. x.rule)
+
+pub name_found : (policies : List Policy) (slots : List (Option Row)) (order : List ℕ) (name : List ℕ) (i : ℕ) → i < length order → position (is_named name) (listed slots order) ≡ Some i → name_at slots order i ≡ name
+name_found policies slots order name i lt e =
+    let p : IsPlaced (table_with policies slots order) name i = placed_at (table_with policies slots order) name i e in
+    ap (λ (c : Chain). c.name) (sym (listed_get slots order i (listed_row blank) lt)) ∙ p.named (listed_row blank)
+
+-- the table after an edit of a chain that was found
+pub changed_found : (policies : List Policy) (slots new : List (Option Row)) (order : List ℕ) (name : List ℕ) (i : ℕ) (edit : List Rule → List Rule) → i < length order → position (is_named name) (listed slots order) ≡ Some i
+    → table_of new order ≡ changed edit (name_at slots order i) (table_of slots order) → table_with policies new order ≡ changed edit name (table_with policies slots order)
+changed_found policies slots new order name i edit lt e is =
+    let P : Table → Table = λ (t : Table). record { policies = policies; chains = t.chains } in
+    ap P is ∙ ap (λ n. changed edit n (table_with policies slots order)) (name_found policies slots order name i lt e)
+
+-- soundness, whatever the policies
+pub sound_with : (policies : List Policy) (slots : List (Option Row)) (order : List ℕ) → length policies ≡ 3 → IsSound (table_of slots order) → IsSound (table_with policies slots order)
+sound_with policies slots order three s =
+    let t : Table = table_of slots order in
+    let u : Table = table_with policies slots order in
+    record {
+      policies = three;
+      listed = s.listed;
+      chains = All-weaker _ _ (sound_weaker t u (λ n e. e)) t.chains s.chains;
+      no_loop = s.no_loop;
+      few = s.few;
+    }
+
+-- each chain's classifier is that of its rules
+pub classified_with : (slots : List (Option Row)) (keys : List ℕ) → ((i : ℕ) → i < length keys → IsClassified (row_at slots (get_or keys i 0))) → AreClassified (listed slots keys) (classifiers slots keys)
+classified_with slots [] h = tt
+classified_with slots (x ∷ xs) h = (h 0 (omega arith), classified_with slots xs (λ i lt. h (suc i) (omega (arith, lt))))
+
+-- Rules by their texts
+
+pub any_mapped : {X Y : Type 0} (f : X → Y) (p : Y → Bool) (xs : List X) → list_any p (map f xs) ≡ list_any (λ x. p (f x)) xs
+any_mapped f p [] = refl
+any_mapped f p (x ∷ xs) = ap (λ b. p (f x) || b) (any_mapped f p xs)
+
+-- no rule of a chain has the text
+pub no_text : (policies : List Policy) (slots : List (Option Row)) (order : List ℕ) (name : List ℕ) (i : ℕ) (rule : Rule) → i < length order → position (is_named name) (listed slots order) ≡ Some i
+    → position (has_text rule) (row_at slots (get_or order i 0)).entries ≡ None → (no_such_rule (table_with policies slots order) name rule).0 ≡ true
+no_text policies slots order name i rule lt e none =
+    let es : List Entry = (row_at slots (get_or order i 0)).entries in
+    ap not (ap (list_any (same_text rule)) (rules_found policies slots order name i lt e) ∙ any_mapped rule_in (same_text rule) es ∙ any_none (has_text rule) es none)
+
+-- one has
+pub some_text : (policies : List Policy) (slots : List (Option Row)) (order : List ℕ) (name : List ℕ) (i at : ℕ) (rule : Rule) → i < length order → position (is_named name) (listed slots order) ≡ Some i
+    → position (has_text rule) (row_at slots (get_or order i 0)).entries ≡ Some at → (no_such_rule (table_with policies slots order) name rule).0 ≡ false
+some_text policies slots order name i at rule lt e found =
+    let es : List Entry = (row_at slots (get_or order i 0)).entries in
+    ap not (ap (list_any (same_text rule)) (rules_found policies slots order name i lt e) ∙ any_mapped rule_in (same_text rule) es ∙ any_some (has_text rule) es at (record { rule = rule; course = course.GoesOn }) found)
+
+-- the first rule of the text is the one at its place
+without_at : (rule : Rule) (es : List Entry) (at : ℕ) (d : Entry) → at < length es → ((k : ℕ) → k < at → has_text rule (get_or es k d) ≡ false) → has_text rule (get_or es at d) ≡ true → without_first rule (map rule_in es) ≡ remove (map rule_in es) at
+without_at rule [] at d lt before is = absurd (omega (arith, lt))
+without_at rule (e ∷ es) zero d lt before is = cond-true (same_text rule e.rule) _ _ is
+without_at rule (e ∷ es) (suc at) d lt before is =
+    cond-false (same_text rule e.rule) _ _ (before 0 (omega arith)) ∙ ap (λ (rs : List Rule). e.rule ∷ rs) (without_at rule es at d (omega (arith, lt)) (λ k below. before (suc k) (omega (arith, below))) is)
+
+pub without_found : (rule : Rule) (es : List Entry) (at : ℕ) → position (has_text rule) es ≡ Some at → without_first rule (map rule_in es) ≡ remove (map rule_in es) at
+without_found rule es at found =
+    let d : Entry = record { rule = rule; course = course.GoesOn } in
+    let p = position-Some (has_text rule) es at d found in
+    without_at rule es at d p.0 p.2 p.1
+
+-- edits that do the same to one chain's rules
+
+map_agree : (f g : Chain → Chain) (cs : List Chain) (d : Chain) → ((k : ℕ) → k < length cs → f (get_or cs k d) ≡ g (get_or cs k d)) → map f cs ≡ map g cs
+map_agree f g [] d h = refl
+map_agree f g (c ∷ cs) d h = λ i. h 0 (omega arith) i ∷ map_agree f g cs d (λ k lt. h (suc k) (omega (arith, lt))) i
+
+pub changed_agree : (policies : List Policy) (slots : List (Option Row)) (order : List ℕ) (name : List ℕ) (i : ℕ) (f g : List Rule → List Rule) → IsStored slots order → i < length order → name_at slots order i ≡ name
+    → f (rules_in (row_at slots (get_or order i 0))) ≡ g (rules_in (row_at slots (get_or order i 0))) → changed f name (table_with policies slots order) ≡ changed g name (table_with policies slots order)
+changed_agree policies slots order name i f g s lt named same =
+    let d : Chain = listed_row blank in
+    let P : List Chain → Table = λ (cs : List Chain). record { policies = policies; chains = cs } in
+    ap P (map_agree (changed_chain f name) (changed_chain g name) (listed slots order) d
+    (λ k lk.
+    let below : k < length order = omega (arith, lk, length-listed slots order) in
+    let at : get_or (listed slots order) k d ≡ listed_row (row_at slots (get_or order k 0)) = listed_get slots order k d below in
+    let c : Chain = listed_row (row_at slots (get_or order k 0)) in
+    ap (changed_chain f name) at
+    ∙ elim (cases_Bool (is_named name c)) [
+      | inl own ↦ (
+          let q : k ≡ i = names_apart slots order s k i below lt ((bytes_eq-Decides c.name name).0 own ∙ sym named) in
+          let R : ℕ → Type 0 = λ j. f (rules_in (row_at slots (get_or order j 0))) ≡ g (rules_in (row_at slots (get_or order j 0))) in
+          let e : f c.rules ≡ g c.rules = subst R (sym q) same in
+          cond-true (is_named name c) _ _ own ∙ ap (λ (rs : List Rule). record { name = c.name; rules = rs }) e ∙ sym (cond-true (is_named name c) _ _ own))
+      | inr other ↦ cond-false (is_named name c) _ _ other ∙ sym (cond-false (is_named name c) _ _ other)
+    ]
+    ∙ ap (changed_chain g name) (sym at)))
+
+-- Names that are read
+
+some_same : {X : Type 0} {x y : X} → Some x ≡ Some y → x ≡ y
+some_same e = cc
+
+none_some : {X : Type 0} {x : X} → None ≡ Some x → ⊥
+none_some e = cc
+
+pub name_read : (text name : List ℕ) → name_of text ≡ Some name → (is_name text ≡ true) × (name ≡ text)
+unfolding name_of
+name_read text name e =
+    elim (cases_Bool (is_name text)) [
+      | inl t ↦ (t, some_same (sym e ∙ cond-true (is_name text) _ _ t))
+      | inr f ↦ absurd (none_some (sym (cond-false (is_name text) _ _ f) ∙ e))
+    ]
+
+pub name_refused : (text : List ℕ) → name_of text ≡ None → is_name text ≡ false
+unfolding name_of
+name_refused text e =
+    elim (cases_Bool (is_name text)) [
+      | inl t ↦ absurd (none_some (sym e ∙ cond-true (is_name text) _ _ t))
+      | inr f ↦ f
+    ]
+
+-- a chain of the name is there
+pub exists_named : (t : Table) (name : List ℕ) → IsSome (position (is_named name) t.chains) → has_chain t name ≡ true
+exists_named t name h = go (position (is_named name) t.chains) refl h
+  where
+    go : (o : Option ℕ) → position (is_named name) t.chains ≡ o → IsSome o → has_chain t name ≡ true
+    go (Some i) e h = let p : IsPlaced t name i = placed_at t name i e in p.there
+    go None e h = absurd (false≢true h)

@@ -1,0 +1,80 @@
+-- Rules put where they may stand.
+use Rattle.std.proofs.Common.{◌≡◌, inl, inr, ℕ, zero, suc, ◌<◌, ◌≤◌, List, [], ◌∷◌, ◌++◌, length, get_or, refl, sym, ◌∙◌, ap, arith, subst, Option, Some, None, Result, Ok, Err}
+use Rattle.std.specs.Prelude.{insert, slice_set}
+use Rattle.std.proofs.lemmas.Bool.{cases_Bool, cond-true, cond-false}
+use Rattle.std.proofs.lemmas.List.{length-set}
+use Rattle.rules.specs.printing.RoundTrip.{TextReadsBack}
+use Rattle.rules.specs.rule.Rules.{Rule}
+use Rattle.table.specs.chains.Sound.{IsSound}
+use Rattle.table.specs.chains.Table.{Table, Policy, chain_named_by, rules_of}
+use Rattle.table.specs.edits.Edits.{Edit, Cause, TableFault, IsStepIfRoom, edited, fault_of, InterfaceNotAllowed, asks_absent_interface, changed, first_fault, full, rule_causes, target_causes}
+use Rattle.table.specs.steps.Kept.{row_at, name_at, listed, IsStored}
+use Rattle.table.specs.steps.Puts.{AnswersCauses}
+use Rattle.table.specs.steps.Rows.{Row}
+use Rattle.table.proofs.laws.chains.KeepLaws.{put_sound}
+use Rattle.table.proofs.laws.chains.StepLaws.{none_holds, first_clear, target_clear, may_stand, insert_brings, replace_brings, room_by_name, few_by_name, insert_long, no_more}
+use Rattle.table.proofs.laws.chains.StoreLaws.{place_is}
+use Rattle.table.proofs.laws.edits.AnswerLaws.{count_found, table_with, view_with, done, refused, no_room}
+
+-- a fault of the first causes comes first
+pub fault_first : (xs ys : List Cause) (f : TableFault) → first_fault xs ≡ Some f → first_fault (xs ++ ys) ≡ Some f
+fault_first [] ys f e = absurd (cc)
+fault_first (x ∷ xs) ys f e =
+    elim (cases_Bool x.0) [
+      | inl t ↦ cond-true x.0 _ _ t ∙ sym (cond-true x.0 (Some x.1) (first_fault xs) t) ∙ e
+      | inr u ↦ cond-false x.0 _ _ u ∙ fault_first xs ys f (sym (cond-false x.0 (Some x.1) (first_fault xs) u) ∙ e)
+    ]
+
+-- where none of them holds, one of the others is told
+pub fault_later : (xs ys : List Cause) → first_fault xs ≡ None → first_fault (xs ++ ys) ≡ first_fault ys
+fault_later [] ys e = refl
+fault_later (x ∷ xs) ys e =
+    elim (cases_Bool x.0) [
+      | inl t ↦ absurd (let z : Some x.1 ≡ None = sym (cond-true x.0 (Some x.1) (first_fault xs) t) ∙ e in cc)
+      | inr u ↦ cond-false x.0 _ _ u ∙ fault_later xs ys (sym (cond-false x.0 (Some x.1) (first_fault xs) u) ∙ e)
+    ]
+
+-- how many rules the chain at a place has
+pub count_at : (slots : List (Option Row)) (order : List ℕ) (i : ℕ) → IsStored slots order → i < length order → length (rules_of (listed slots order) (name_at slots order i)) ≡ length (row_at slots (get_or order i 0)).entries
+count_at slots order i s lt = count_found [] slots order (name_at slots order i) i lt (place_is slots order (name_at slots order i) i s lt refl)
+
+-- a rule put in where it may leaves the table sound
+pub put_is_sound : (t : Table) (c : List ℕ) (r : Rule) (at : ℕ) → TextReadsBack r → IsSound t → first_fault (rule_causes t c r ++ full t c ∷ []) ≡ None → IsSound (changed (λ rules. insert rules at r) c t)
+put_is_sound t c r at reads s none =
+    let end : List Cause = full t c ∷ [] in
+    let h = none_holds (rule_causes t c r ++ end) none in
+    let a = first_clear (asks_absent_interface c r, InterfaceNotAllowed) (target_causes t c (chain_named_by r) ++ end) h in
+    let b = target_clear t c (chain_named_by r) end a.1 in
+    let f = first_clear (full t c) [] b.1 in
+    put_sound t c r (λ rules. insert rules at r) (insert_brings at r) (λ x there e. let lt : length x.rules < 8192 = room_by_name t c s f.0 x there e in omega (arith, lt, insert_long at r x.rules)) (may_stand t c r reads a.0 b.0)
+    (λ name e. (b.0 name e).1) s
+
+-- and so does one put over another
+pub over_is_sound : (t : Table) (c : List ℕ) (r : Rule) (at : ℕ) → TextReadsBack r → IsSound t → first_fault (rule_causes t c r) ≡ None → IsSound (changed (λ rules. slice_set rules at r) c t)
+over_is_sound t c r at reads s none =
+    let h = none_holds (rule_causes t c r) none in
+    let a = first_clear (asks_absent_interface c r, InterfaceNotAllowed) (target_causes t c (chain_named_by r)) h in
+    let b = target_clear t c (chain_named_by r) [] (no_more t c (chain_named_by r) a.1) in
+    put_sound t c r (λ rules. slice_set rules at r) (replace_brings at r) (λ x there e. let le : length x.rules ≤ 8192 = few_by_name t x s there in omega (arith, le, length-set x.rules at r)) (may_stand t c r reads a.0 b.0)
+    (λ name e. (b.0 name e).1) s
+
+-- put in at the end is put last
+pub insert_last : (rules : List Rule) (r : Rule) (n : ℕ) → n ≡ length rules → insert rules n r ≡ rules ++ r ∷ []
+insert_last [] r zero e = refl
+insert_last [] r (suc n) e = absurd (omega (arith, e))
+insert_last (x ∷ xs) r zero e = absurd (omega (arith, e))
+insert_last (x ∷ xs) r (suc n) e = ap (λ (ys : List Rule). x ∷ ys) (insert_last xs r n (omega (arith, e)))
+
+-- what a put answers is the step
+pub put_step : (edit : Edit) (ps : List Policy) (slots new : List (Option Row)) (order : List ℕ) (place : ℕ) (causes : List Cause) (f : List Rule → List Rule) (result : Result (Unit {0}) TableFault) → fault_of edit (table_with ps slots order) ≡ first_fault causes
+    → changed f (name_at slots order place) (table_with ps slots order) ≡ edited edit (table_with ps slots order) → AnswersCauses causes f slots new order place result → IsStepIfRoom edit (view_with ps slots order) (view_with ps new order) result
+put_step edit ps slots new order place causes f (Ok u) fault is a =
+    let P : Table → Table = λ (t : Table). record { policies = ps; chains = t.chains } in
+    inl (done edit (view_with ps slots order) (view_with ps new order) (fault ∙ a.0) (ap P a.1 ∙ is))
+put_step edit ps slots new order place causes f (Err g) fault is a =
+    let P : List (Option Row) → Type 0 = λ (s : List (Option Row)). IsStepIfRoom edit (view_with ps slots order) (view_with ps s order) (Err g) in
+    let Q : TableFault → Type 0 = λ h. IsStepIfRoom edit (view_with ps slots order) (view_with ps slots order) (Err h) in
+    subst P (sym a.1) (elim a.0 [
+      | inl due ↦ inl (refused edit (view_with ps slots order) g (fault ∙ due))
+      | inr memory ↦ subst Q (sym memory.1) (no_room edit (view_with ps slots order) (fault ∙ memory.0))
+    ])

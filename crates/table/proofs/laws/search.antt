@@ -1,0 +1,2 @@
+pub mod SearchLaws
+pub mod AdmitLaws

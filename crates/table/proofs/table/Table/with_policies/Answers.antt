@@ -1,0 +1,22 @@
+use Rattle.std.proofs.Common.{◌∙◌, ap, arith, Bool, false, List, get_or}
+use Rattle.table.proofs.laws.chains.NewLaws.{whole_three}
+use Rattle.table.proofs.table.Table.with_policies.Goals as goal
+
+pub invariant_of-result : goal.invariant_of-result
+invariant_of-result c =
+    whole_three c.insert_reserved-input.new.self.slots c.insert_reserved-forward.new.self.slots c.insert_reserved-output.new.self.slots
+    c.insert_reserved-input.result c.insert_reserved-forward.result c.insert_reserved-output.result c.in_ok-new.field-0 c.in_ok-new-2.field-0 c.in_ok-new-3.field-0
+    (record {
+      first = c.insert_reserved-input.ensures.updates.changed;
+      free2 = c.insert_reserved-forward.ensures.was_vacant;
+      second = c.insert_reserved-forward.ensures.updates.changed;
+      others2 = c.insert_reserved-forward.ensures.updates.others;
+      free3 = c.insert_reserved-output.ensures.was_vacant;
+      third = c.insert_reserved-output.ensures.updates.changed;
+      others3 = c.insert_reserved-output.ensures.updates.others;
+      input = (record { named = c.in_ok-new.ensures.name ∙ c.built_in_name.ensures; entries = c.in_ok-new.ensures.entries; classified = c.in_ok-new.ensures.classified; references = c.in_ok-new.ensures.references });
+      forward = (record { named = c.in_ok-new-2.ensures.name ∙ c.built_in_name-2.ensures; entries = c.in_ok-new-2.ensures.entries; classified = c.in_ok-new-2.ensures.classified; references = c.in_ok-new-2.ensures.references });
+      output = (record { named = c.in_ok-new-3.ensures.name ∙ c.built_in_name-3.ensures; entries = c.in_ok-new-3.ensures.entries; classified = c.in_ok-new-3.ensures.classified; references = c.in_ok-new-3.ensures.references });
+    }) c.args.policies c.in_ok-order.order.items c.cover-3.new.seen.items c.requires c.in_ok-order.ensures.items
+    (λ k. c.in_ok-cover-3.ensures.marks k ∙ c.in_ok-cover-2.ensures.marks k ∙ c.in_ok-cover.ensures.marks k ∙ ap (λ (xs : List Bool). get_or xs k false) c.new-seen.ensures.items)
+    (omega (arith, c.in_ok-cover.ensures.covered, c.in_ok-cover-2.ensures.longer, c.in_ok-cover-3.ensures.longer)) (omega (arith, c.in_ok-cover-2.ensures.covered, c.in_ok-cover-3.ensures.longer)) c.in_ok-cover-3.ensures.covered

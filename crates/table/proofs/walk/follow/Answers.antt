@@ -1,0 +1,13 @@
+use Rattle.std.proofs.Common.{subst}
+use Rattle.table.specs.steps.Walking.{LeadsIn}
+use Rattle.table.specs.declared.chain.entry.Course.{Course}
+use Rattle.table.proofs.laws.walk.StackLaws.{state_pop, state_push}
+use Rattle.table.proofs.walk.follow.Goals as goal
+
+pub returns-in-Some-clause-state : goal.returns-in-Some-clause-state
+returns-in-Some-clause-state c = λ order s leads goes. state_pop order c.args.at.now c.in-Some.rest c.args.stack.now.items c.pop.new.self.items c.in-Some.ensures.items s
+
+pub returns-in-Jumps-clause-state : goal.returns-in-Jumps-clause-state
+returns-in-Jumps-clause-state c = λ order s leads goes.
+    let P : Course → Type 0 = λ (x : Course). LeadsIn order x in
+    state_push order c.args.at.now c.start.result c.in-Jumps.key c.args.stack.now.items c.push.new.self.items c.push.ensures.items c.start.ensures (subst P c.in-Jumps.is leads) s

@@ -1,0 +1,4 @@
+pub mod chains
+pub mod edits
+pub mod steps
+pub mod walk

@@ -1,0 +1,4 @@
+pub mod Boxes
+pub mod Edits
+pub mod Headline
+pub mod Made

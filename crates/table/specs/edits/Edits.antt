@@ -1,0 +1,236 @@
+-- What each command does to the table, and what refuses it (iptables(8), "COMMANDS").
+use Rattle.std.specs.Prelude.{◌≡◌, ◌⊎◌, ℕ, zero, suc, ◌+◌, ◌-◌, ◌==◌, nat_lt, nat_le, Bool, true, false, ◌&&◌, ◌||◌, not, List, [], ◌∷◌, ◌++◌}
+use Rattle.std.specs.Prelude.{map, filter, length, position, insert, remove, slice_set, Option, Some, None, is_none, Result, Ok, Err}
+use Rattle.std.specs.Prelude.{codes, if◌then◌else◌}
+use Rattle.std.specs.Bool.{MatchBool}
+use Rattle.std.specs.List.{list_any}
+use Rattle.std.specs.Str.{bytes_eq}
+use Rattle.fields.specs.packet.Hook.{name as hook_name}
+use Rattle.fields.specs.values.Name.{is_name}
+use Rattle.fields.specs.declared.numbers.field.Field.TheVariants as field
+use Rattle.fields.specs.declared.packet.hook.Hook.TheVariants as hook
+use Rattle.rules.specs.rule.Actions.{with_chain_name}
+use Rattle.rules.specs.rule.Allows.{asks_on}
+use Rattle.rules.specs.printing.Printing.{rule_text}
+use Rattle.rules.specs.rule.Rules.{Rule}
+use Rattle.table.specs.chains.Table.{Chain, Table, TableView, Policy, Accept, Drop, built_in_names, is_built_in, empty_chain, is_named}
+use Rattle.table.specs.chains.Table.{has_chain, rules_of, user_chains, comes_before, chain_named_by, names, is_referenced}
+pub use Rattle.table.specs.declared.fault.TableFault.{TableFault}
+pub use Rattle.table.specs.declared.fault.TableFault.TheVariants.{NoSuchChain, ChainExists, BadChainName, NumberOutOfRange, NoSuchRule}
+pub use Rattle.table.specs.declared.fault.TableFault.TheVariants.{ChainNotEmpty, ChainReferenced, BuiltInChain, NotBuiltInChain, Loop}
+pub use Rattle.table.specs.declared.fault.TableFault.TheVariants.{TargetMissing, TargetBuiltIn, InterfaceNotAllowed, ChainFull}
+pub use Rattle.table.specs.declared.fault.TableFault.TheVariants.{TooManyChains, BadPolicy, NoMemory}
+
+-- a command on the table; names come in as bytes, and rules count from 1
+pub data Edit : Type 0 where
+  Append : List ℕ → Rule → Edit
+  Insert : List ℕ → ℕ → Rule → Edit
+  Replace : List ℕ → ℕ → Rule → Edit
+  DeleteAt : List ℕ → ℕ → Edit
+  DeleteRule : List ℕ → Rule → Edit
+  Has : List ℕ → Rule → Edit
+  Flush : List ℕ → Edit
+  FlushAll : Edit
+  NewChain : List ℕ → Edit
+  DeleteChain : List ℕ → Edit
+  DeleteChains : Edit
+  SetPolicy : List ℕ → List ℕ → Edit
+  Rename : List ℕ → List ℕ → Edit
+
+-- the rules have one text in a listing
+abbrev pub same_text : Rule → Rule → Bool
+same_text rule other = bytes_eq (rule_text rule) (rule_text other)
+
+-- the policy that a word names
+abbrev pub policy_named : List ℕ → Option Policy
+policy_named text = if bytes_eq text (codes "ACCEPT") then Some Accept else if bytes_eq text (codes "DROP") then Some Drop else None
+
+-- What refuses a command
+
+-- the chain that a rule names, if it names one, leads there
+abbrev pub leads_from : (List ℕ → Bool) → Option (List ℕ) → Bool
+leads_from leads None = false
+leads_from leads (Some name) = leads name
+
+-- a path along names leads from one chain to another in at most so many steps, also in none
+unfoldable pub leads_within : ℕ → List Chain → List ℕ → List ℕ → Bool
+leads_within zero chains from to = bytes_eq from to
+leads_within (suc n) chains from to =
+    bytes_eq from to
+    || list_any (λ (r : Rule). leads_from (λ name. leads_within n chains name to) (chain_named_by r)) (rules_of chains from)
+
+-- a path along names leads from one chain to another: a path that meets no chain twice has fewer steps than there are chains
+abbrev pub leads : List Chain → List ℕ → List ℕ → Bool
+leads chains from to = leads_within (length chains) chains from to
+
+-- a packet of INPUT goes out by no interface, one of OUTPUT comes in by none
+abbrev pub asks_absent_interface : List ℕ → Rule → Bool
+asks_absent_interface chain rule =
+    bytes_eq chain (hook_name hook.Input) && asks_on field.OutIface rule
+    || bytes_eq chain (hook_name hook.Output) && asks_on field.InIface rule
+
+-- a cause to refuse, and whether it holds
+abbrev pub Cause : Type 0
+Cause = Bool × TableFault
+
+-- no chain has the name
+abbrev pub no_such_chain : Table → List ℕ → Cause
+no_such_chain t chain = (not (has_chain t chain), NoSuchChain)
+
+-- the number is not one of 1 to the last
+abbrev pub out_of_range : ℕ → ℕ → Cause
+out_of_range number last = (number == 0 || nat_lt last number, NumberOutOfRange)
+
+-- the chain has 8,192 rules
+abbrev pub full : Table → List ℕ → Cause
+full t chain = (nat_le 8192 (length (rules_of t.chains chain)), ChainFull)
+
+-- the chain is a built-in one
+abbrev pub built_in : List ℕ → Cause
+built_in chain = (is_built_in chain, BuiltInChain)
+
+-- the name doesn't have the form of a chain's name
+abbrev pub bad_name : List ℕ → Cause
+bad_name name = (not (is_name name), BadChainName)
+
+-- a chain has the name, also a built-in one
+abbrev pub exists_already : Table → List ℕ → Cause
+exists_already t name = (has_chain t name, ChainExists)
+
+-- no rule of the chain has the text
+abbrev pub no_such_rule : Table → List ℕ → Rule → Cause
+no_such_rule t chain rule = (not (list_any (same_text rule) (rules_of t.chains chain)), NoSuchRule)
+
+-- the chain that a rule names is missing, built-in, or leads to the chain that the rule would stand in
+abbrev pub target_causes : Table → List ℕ → Option (List ℕ) → List Cause
+target_causes t chain None = []
+target_causes t chain (Some name) =
+    (not (has_chain t name), TargetMissing) ∷ (is_built_in name, TargetBuiltIn) ∷ (leads t.chains name chain, Loop) ∷ []
+
+-- why a rule may not stand in a chain
+abbrev pub rule_causes : Table → List ℕ → Rule → List Cause
+rule_causes t chain rule = (asks_absent_interface chain rule, InterfaceNotAllowed) ∷ target_causes t chain (chain_named_by rule)
+
+-- the chain isn't empty
+abbrev pub has_rules : Chain → Bool
+has_rules chain = nat_lt 0 (length chain.rules)
+
+-- what refuses a command, in the order in which it is asked
+abbrev pub causes : Edit → Table → List Cause
+causes (Append c r) t = no_such_chain t c ∷ (rule_causes t c r ++ full t c ∷ [])
+causes (Insert c n r) t = no_such_chain t c ∷ out_of_range n (length (rules_of t.chains c) + 1) ∷ (rule_causes t c r ++ full t c ∷ [])
+causes (Replace c n r) t = no_such_chain t c ∷ out_of_range n (length (rules_of t.chains c)) ∷ rule_causes t c r
+causes (DeleteAt c n) t = no_such_chain t c ∷ out_of_range n (length (rules_of t.chains c)) ∷ []
+causes (DeleteRule c r) t = no_such_chain t c ∷ no_such_rule t c r ∷ []
+causes (Has c r) t = no_such_chain t c ∷ no_such_rule t c r ∷ []
+causes (Flush c) t = no_such_chain t c ∷ []
+causes FlushAll t = []
+causes (NewChain c) t = bad_name c ∷ exists_already t c ∷ (nat_le 1024 (length (user_chains t.chains)), TooManyChains) ∷ []
+causes (DeleteChain c) t =
+    no_such_chain t c ∷ built_in c ∷ (nat_lt 0 (length (rules_of t.chains c)), ChainNotEmpty)
+    ∷ (is_referenced t.chains c, ChainReferenced) ∷ []
+causes DeleteChains t =
+    (list_any has_rules (user_chains t.chains), ChainNotEmpty)
+    ∷ (list_any (λ (c : Chain). is_referenced t.chains c.name) (user_chains t.chains), ChainReferenced) ∷ []
+causes (SetPolicy c text) t = no_such_chain t c ∷ (not (is_built_in c), NotBuiltInChain) ∷ (is_none (policy_named text), BadPolicy) ∷ []
+causes (Rename old new) t = no_such_chain t old ∷ built_in old ∷ bad_name new ∷ exists_already t new ∷ []
+
+-- the fault of the first cause that holds
+abbrev pub first_fault : List Cause → Option TableFault
+first_fault [] = None
+first_fault (cause ∷ causes) = if cause.0 then Some cause.1 else first_fault causes
+
+-- why the table refuses a command, if it does
+abbrev pub fault_of : Edit → Table → Option TableFault
+fault_of edit t = first_fault (causes edit t)
+
+-- What a command does
+
+-- the chain with its rules changed, if it has the name
+abbrev pub changed_chain : (List Rule → List Rule) → List ℕ → Chain → Chain
+changed_chain change name chain = if is_named name chain then record { name = chain.name; rules = change chain.rules } else chain
+
+-- the table with the rules of one chain changed
+abbrev pub changed : (List Rule → List Rule) → List ℕ → Table → Table
+changed change name t = record { policies = t.policies; chains = map (changed_chain change name) t.chains }
+
+-- the rules without the first of this text
+abbrev pub without_first : Rule → List Rule → List Rule
+without_first rule [] = []
+without_first rule (other ∷ rules) = if same_text rule other then rules else other ∷ without_first rule rules
+
+-- a user chain put at its place: after the built-in ones and those whose names come before its own
+abbrev pub placed : Chain → List Chain → List Chain
+placed chain [] = chain ∷ []
+placed chain (other ∷ chains) =
+    if is_built_in other.name || comes_before other.name chain.name then other ∷ placed chain chains else chain ∷ other ∷ chains
+
+-- the chains without that of a name
+abbrev pub without : List ℕ → List Chain → List Chain
+without name chains = filter (λ c. not (is_named name c)) chains
+
+-- a rule follows the chain that it names to its new name
+abbrev pub renamed_rule : List ℕ → List ℕ → Rule → Rule
+renamed_rule old new rule = if names old rule then with_chain_name new rule else rule
+
+-- the chain, under its new name if it had the old, with its rules following
+abbrev pub renamed_chain : List ℕ → List ℕ → Chain → Chain
+renamed_chain old new chain =
+    record { name = if is_named old chain then new else chain.name; rules = map (renamed_rule old new) chain.rules }
+
+-- the chain taken from its place and put at that of its new name
+abbrev pub moved : List ℕ → List Chain → List Chain
+moved name chains = placed (record { name = name; rules = rules_of chains name }) (without name chains)
+
+-- the policies with that of a built-in chain set, if the word names one
+abbrev pub policies_with : Option ℕ → Option Policy → List Policy → List Policy
+policies_with (Some k) (Some p) policies = slice_set policies k p
+policies_with k p policies = policies
+
+-- the table after the plain edit of its lists
+abbrev pub edited : Edit → Table → Table
+edited (Append c r) t = changed (λ rules. rules ++ r ∷ []) c t
+edited (Insert c n r) t = changed (λ rules. insert rules (n - 1) r) c t
+edited (Replace c n r) t = changed (λ rules. slice_set rules (n - 1) r) c t
+edited (DeleteAt c n) t = changed (λ rules. remove rules (n - 1)) c t
+edited (DeleteRule c r) t = changed (without_first r) c t
+edited (Has c r) t = t
+edited (Flush c) t = changed (λ rules. []) c t
+edited FlushAll t = record { policies = t.policies; chains = map (λ (c : Chain). empty_chain c.name) t.chains }
+edited (NewChain c) t = record { policies = t.policies; chains = placed (empty_chain c) t.chains }
+edited (DeleteChain c) t = record { policies = t.policies; chains = without c t.chains }
+edited DeleteChains t = record { policies = t.policies; chains = filter (λ (c : Chain). is_built_in c.name) t.chains }
+edited (SetPolicy c text) t =
+    record { policies = policies_with (position (bytes_eq c) built_in_names) (policy_named text) t.policies; chains = t.chains }
+edited (Rename old new) t = record { policies = t.policies; chains = moved new (map (renamed_chain old new) t.chains) }
+
+-- the table after a command, or why it is refused
+abbrev pub step : Edit → Table → Result Table TableFault
+step edit t = elim (fault_of edit t) [ None ↦ Ok (edited edit t) | Some f ↦ Err f ]
+
+-- What a call leaves
+
+-- the call answers the step; what is refused changes nothing, classifiers included
+abbrev pub Answers : Result Table TableFault → TableView → TableView → Result (Unit {0}) TableFault → Type 0
+Answers (Ok t) old new result = (result ≡ Ok tt) × (new.table ≡ t)
+Answers (Err f) old new result = (result ≡ Err f) × (new ≡ old)
+
+-- of a call that takes no memory
+abbrev pub IsStep : Edit → TableView → TableView → Result (Unit {0}) TableFault → Type 0
+IsStep edit old new result = Answers (step edit old.table) old new result
+
+-- of a call that takes memory: where nothing else refuses, out of memory may
+abbrev pub IsStepIfRoom : Edit → TableView → TableView → Result (Unit {0}) TableFault → Type 0
+IsStepIfRoom edit old new result = IsStep edit old new result ⊎ ((fault_of edit old.table ≡ None) × (result ≡ Err NoMemory) × (new ≡ old))
+
+-- the commands that take memory
+abbrev pub may_grow : Edit → Bool
+may_grow (Append c r) = true
+may_grow (Insert c n r) = true
+may_grow (Replace c n r) = true
+may_grow (NewChain c) = true
+may_grow edit = false
+
+-- of any call: out of memory may refuse a command that takes memory, and no other
+abbrev pub IsStepOf : Edit → TableView → TableView → Result (Unit {0}) TableFault → Type 0
+IsStepOf edit old new result = MatchBool (may_grow edit) (IsStepIfRoom edit old new result) (IsStep edit old new result)

@@ -1,0 +1,138 @@
+-- How the chains under their keys, and the index of the keys, stand for the chains of the table.
+use Rattle.std.specs.Prelude.{◌≡◌, ℕ, ◌+◌, ◌<◌, ◌≤◌, List, [], ◌∷◌, length, map, slice_index_or, slice_index, Option, Some, None}
+use Rattle.std.specs.Prelude.{IsSome, unwrap_or, All, Bool, count_by}
+use Rattle.fields.specs.declared.packet.hook.Hook.{Hook}
+use Rattle.fields.specs.declared.packet.hook.Hook.TheVariants.{Input, Forward, Output}
+use Rattle.classify.specs.classifier.Classifier.{Classified}
+use Rattle.std.specs.Prelude.{position, true, false, IsFalse}
+use Rattle.rules.specs.rule.Actions.{target_of}
+use Rattle.table.specs.chains.Sound.{IsSound}
+use Rattle.table.specs.chains.Table.{Chain, Table, Policy, Accept, chain_named_by, is_named, comes_before}
+use Rattle.table.specs.steps.Rows.{Row, rules_in, course_of, leads_to, is_key, ones, IsClassified}
+use Rattle.table.specs.declared.chain.entry.Entry.{Entry}
+
+-- no chain
+abbrev pub blank : Row
+blank = record { name = []; entries = []; classifier = record { len = 0; lines = [] }; references = 0 }
+
+-- what lies under a key
+abbrev pub slot_at : List (Option Row) → ℕ → Option Row
+slot_at slots key = slice_index_or slots key None
+
+-- the chain under a key
+abbrev pub row_at : List (Option Row) → ℕ → Row
+row_at slots key = unwrap_or (slot_at slots key) blank
+
+-- a chain as the table has it
+abbrev pub listed_row : Row → Chain
+listed_row row = record { name = row.name; rules = rules_in row }
+
+-- the chain under a key, as the table has it
+abbrev pub listed_at : List (Option Row) → ℕ → Chain
+listed_at slots key = listed_row (row_at slots key)
+
+-- the place of a hook's chain
+abbrev pub hook_place : Hook → ℕ
+hook_place Input = 0
+hook_place Forward = 1
+hook_place Output = 2
+
+-- the chains in the order of the index
+abbrev pub listed : List (Option Row) → List ℕ → List Chain
+listed slots order = map (listed_at slots) order
+
+-- the name of the chain at a place of the index
+abbrev pub name_at : List (Option Row) → List ℕ → ℕ → List ℕ
+name_at slots order place = (row_at slots (slice_index order place)).name
+
+-- their classifiers
+abbrev pub classifiers : List (Option Row) → List ℕ → List Classified
+classifiers slots order = map (λ key. (row_at slots key).classifier) order
+
+-- these chains, as a table with the policies ACCEPT
+abbrev pub table_of : List (Option Row) → List ℕ → Table
+table_of slots order = record { policies = Accept ∷ Accept ∷ Accept ∷ []; chains = listed slots order }
+
+-- the key stands in the index
+abbrev pub IsIn : List ℕ → ℕ → Type 0
+IsIn order key = (j : ℕ) × (j < length order) × (slice_index order j ≡ key)
+
+-- the key stands in the index, after those of the three built-in chains
+abbrev pub IsUser : List ℕ → ℕ → Type 0
+IsUser order key = (j : ℕ) × (3 ≤ j) × (j < length order) × (slice_index order j ≡ key)
+
+-- the key is that of the chain of a name, if there is one to be
+abbrev pub LinksTo : List (Option Row) → List ℕ → ℕ → Option (List ℕ) → Type 0
+LinksTo slots order key None = Unit {0}
+LinksTo slots order key (Some name) = IsUser order key × ((row_at slots key).name ≡ name)
+
+-- the course of a rule is that of its target, and leads to the chain that it names
+abbrev pub IsLinked : List (Option Row) → List ℕ → Entry → Type 0
+IsLinked slots order entry =
+    (key : ℕ) × (entry.course ≡ course_of (target_of entry.rule) key) × LinksTo slots order key (chain_named_by entry.rule)
+
+-- how many rules of a chain lead to the chain under a key
+abbrev pub leading_in : ℕ → Row → ℕ
+leading_in key row = count_by (λ (e : Entry). leads_to key e.course) row.entries
+
+-- how many rules of all chains lead there
+abbrev pub leading : List (Option Row) → List ℕ → ℕ → ℕ
+leading slots [] key = 0
+leading slots (k ∷ ks) key = leading_in key (row_at slots k) + leading slots ks key
+
+-- each chain is as before, but for its count
+pub record AreRecounted (old new : List (Option Row)) : Type 0 where
+  pub present : (key : ℕ) → IsSome (slot_at old key) → IsSome (slot_at new key)
+  pub name : (key : ℕ) → (row_at new key).name ≡ (row_at old key).name
+  pub entries : (key : ℕ) → (row_at new key).entries ≡ (row_at old key).entries
+  pub classifier : (key : ℕ) → (row_at new key).classifier ≡ (row_at old key).classifier
+
+-- the counts are as before, with one more under a key and one fewer under another, if there are such
+abbrev pub CountsInAndOut : Option ℕ → Option ℕ → (ℕ → ℕ) → (ℕ → ℕ) → Type 0
+CountsInAndOut more fewer old new = (key : ℕ) → new key + ones (is_key key fewer) ≡ old key + ones (is_key key more)
+
+-- the counts of the chains
+abbrev pub references_at : List (Option Row) → ℕ → ℕ
+references_at slots key = (row_at slots key).references
+
+-- the chains stand as they should, but for the counts of the rules that name them
+pub record IsStored (slots : List (Option Row)) (order : List ℕ) : Type 0 where
+  pub present : (i : ℕ) → i < length order → IsSome (slot_at slots (slice_index order i))
+  pub apart : (i j : ℕ) → i < length order → j < length order → slice_index order i ≡ slice_index order j → i ≡ j
+  pub linked : (i : ℕ) → i < length order → All (IsLinked slots order) (row_at slots (slice_index order i)).entries
+  pub classified : (i : ℕ) → i < length order → IsClassified (row_at slots (slice_index order i))
+  pub sound : IsSound (table_of slots order)
+
+-- the chain of the name stands at the place
+pub record IsPlaceOf (name : List ℕ) (slots : List (Option Row)) (order : List ℕ) (i : ℕ) : Type 0 where
+  pub within : i < length order
+  pub is : position (is_named name) (listed slots order) ≡ Some i
+
+-- no chain has the name, and one of it would stand at the place: after the user chains whose names come before it
+pub record IsPlaceFor (name : List ℕ) (slots : List (Option Row)) (order : List ℕ) (i : ℕ) : Type 0 where
+  pub free : position (is_named name) (listed slots order) ≡ None
+  pub user : 3 ≤ i
+  pub within : i ≤ length order
+  pub before : (k : ℕ) → 3 ≤ k → k < i → comes_before (name_at slots order k) name ≡ true
+  pub after : (k : ℕ) → i ≤ k → k < length order → comes_before name (name_at slots order k) ≡ true
+
+-- each chain counts the rules that name it
+abbrev pub IsCounted : List (Option Row) → List ℕ → Type 0
+IsCounted slots order =
+    (i : ℕ) → i < length order → (row_at slots (slice_index order i)).references ≡ leading slots order (slice_index order i)
+
+-- the chains stand as they should
+pub record IsKept (slots : List (Option Row)) (order : List ℕ) : Type 0 where
+  pub stored : IsStored slots order
+  pub counted : IsCounted slots order
+
+-- each key of the index has a place for its mark, and no mark is set
+pub record IsUnmarked (order : List ℕ) (seen : List Bool) : Type 0 where
+  pub within : (key : ℕ) → IsIn order key → key < length seen
+  pub clear : (key : ℕ) → IsFalse (slice_index_or seen key false)
+
+-- a table stands as it should
+pub record IsWhole (held : List Policy) (slots : List (Option Row)) (order : List ℕ) (seen : List Bool) : Type 0 where
+  pub policies : length held ≡ 3
+  pub kept : IsKept slots order
+  pub unmarked : IsUnmarked order seen

@@ -1,0 +1,17 @@
+-- The trail of a walk, as the code shows it.
+use Rattle.std.specs.Prelude.{◌≡◌, List, map, Option, Some, option_map}
+use Rattle.std.specs.List.{position}
+use Rattle.table.specs.chains.Table.{Chain, is_named}
+use Rattle.table.specs.walk.Walk.{Entry, Walked}
+use Rattle.table.specs.declared.walk.trail.Step.{Step}
+use Rattle.table.specs.declared.walk.trail.Trail.{Trail}
+
+-- an entry of the trail, by the place of its chain in the order of a listing, from 0
+abbrev pub shown : List Chain → Entry → Option Step
+shown chains entry = option_map (λ place. record { chain = place; number = entry.number }) (position (is_named entry.chain) chains)
+
+-- the trail, the verdict and whether the policy gave it are those of the walk
+pub record Shows (chains : List Chain) (walked : Walked) (trail : Trail) : Type 0 where
+  pub steps : map (shown chains) walked.trail ≡ map Some trail.steps.items
+  pub verdict : trail.verdict ≡ walked.verdict
+  pub by_policy : trail.by_policy ≡ walked.by_policy

@@ -1,0 +1,257 @@
+//! One chain: its name, its rules, their classifier, and how many rules of the table name it.
+ghost use Rattle.std.specs.Prelude.{◌≡◌, ◌<◌, ◌≤◌, ◌+◌, ◌-◌, ◌^◌, [], length, map, insert, remove, slice_set};
+ghost use Rattle.std.specs.Prelude.{slice_index_or};
+ghost use Rattle.std.specs.Prelude.{OnOk, OnErr, IfOk, IfSome};
+ghost use Rattle.std.specs.List.{position};
+ghost use Rattle.classify.specs.classifier.Classifier.{IsPoint};
+ghost use Rattle.classify.specs.search.NextMatch.{next_match};
+ghost use Rattle.rules.specs.rule.Allows.{matches};
+ghost use Rattle.table.specs.steps.Rows.{IsClassified, has_text, rules_in};
+ghost use Rattle.table.specs.edits.Boxes.{MakesOneBoxAtMost};
+ghost use Rattle.table.specs.steps.Renames.{NameChains, retargeted};
+
+mod copy;
+pub(crate) mod entry;
+
+use crate::chain::entry::{Entry, retarget};
+use classify::{Classifier, targets_leave_the_classifier};
+use fields::{FIELDS, Name};
+use rules::{Boxed, Rule, Work};
+use std::alloc::{AllocError, Global};
+use std::marker::Model;
+
+// Whether a rule of a chain has the text of the rule.
+#[tactic(auto, using(crate::proofs::laws::chains::RowLaws::texts_decide))]
+fn has_text(rule: &Rule, entry: &Entry) -> bool
+    ensures { result ≡ has_text rule.now entry.now }
+{
+    rule.equals(&entry.rule)
+}
+
+#[derive(Drop)]
+pub(crate) struct Chain {
+    name: Name,
+    entries: Vec<Entry>,
+    classifier: Classifier,
+    references: usize,
+}
+
+impl Model for Chain {
+    ghost use Rattle.table.specs.steps.Rows.{Row, IsClassified};
+
+    ghost Value = { Row };
+
+    ghost view = { λ c. record {
+      name = c.name;
+      entries = c.entries.items;
+      classifier = c.classifier.shown;
+      references = c.references;
+    } };
+
+    ghost invariant = { λ c. IsClassified (record {
+      name = c.name;
+      entries = c.entries.items;
+      classifier = c.classifier.shown;
+      references = c.references;
+    }) };
+}
+
+impl Chain {
+    // A chain without rules.
+    pub(crate) fn new(alloc: Global, name: Name) -> Result<Chain, AllocError>
+        ensures name { IfOk result (λ chain. chain.name ≡ name) }
+        ensures entries { IfOk result (λ chain. chain.entries ≡ []) }
+        ensures classified { IfOk result IsClassified }
+        ensures references { IfOk result (λ chain. chain.references ≡ 0) }
+    {
+        let classifier = Classifier::new(alloc)?;
+        Ok(Chain {
+            name,
+            entries: Vec::new(alloc),
+            classifier,
+            references: 0,
+        })
+    }
+
+    // The name; it is lent.
+    pub(crate) fn name(&self) -> &Name
+        ensures { result.now ≡ self.now.name }
+    {
+        &self.name
+    }
+
+    // How many rules there are.
+    pub(crate) fn len(&self) -> usize
+        ensures { result ≡ length self.now.entries }
+    {
+        self.entries.len()
+    }
+
+    // The rule at a place, with what the walk does after it; it is lent.
+    pub(crate) fn entry(&self, at: usize) -> &Entry
+        requires { at < length self.now.entries }
+        ensures { result.now ≡ slice_index_or self.now.entries at result.now }
+    {
+        &self.entries[at]
+    }
+
+    // The classifier of the rules; it is lent.
+    pub(crate) fn classifier(&self) -> &Classifier
+        ensures value { result.now.shown ≡ self.now.classifier }
+        ensures classified { IsClassified self.now }
+    {
+        &self.classifier
+    }
+
+    // How many rules of the table name the chain.
+    pub(crate) fn references(&self) -> usize
+        ensures { result ≡ self.now.references }
+    {
+        self.references
+    }
+
+    // Counts one rule more that names the chain.
+    pub(crate) fn count_in(&mut self)
+        requires { self.old.references + 1 < 2 ^ 64 }
+        ensures name { self.new.name ≡ self.old.name }
+        ensures entries { self.new.entries ≡ self.old.entries }
+        ensures classifier { self.new.classifier ≡ self.old.classifier }
+        ensures references { self.new.references ≡ self.old.references + 1 }
+    {
+        self.references += 1;
+    }
+
+    // Counts one rule less that names the chain.
+    pub(crate) fn count_out(&mut self)
+        requires { 0 < self.old.references }
+        ensures name { self.new.name ≡ self.old.name }
+        ensures entries { self.new.entries ≡ self.old.entries }
+        ensures classifier { self.new.classifier ≡ self.old.classifier }
+        ensures references { self.new.references + 1 ≡ self.old.references }
+    {
+        self.references -= 1;
+    }
+
+    // Puts a rule in at a place. Its room is taken first, then its box is made, and then the classifier takes it.
+    pub(crate) fn insert(
+        &mut self,
+        alloc: Global,
+        at: usize,
+        entry: Entry,
+        work: &mut Work,
+    ) -> Result<(), AllocError>
+        requires { at ≤ length self.old.entries }
+        ensures name { self.new.name ≡ self.old.name }
+        ensures references { self.new.references ≡ self.old.references }
+        ensures ok { OnOk result (self.new.entries ≡ insert self.old.entries at entry) }
+        ensures err { OnErr result (self.new ≡ self.old) }
+        ensures classified { IsClassified self.new }
+        ensures work { MakesOneBoxAtMost work.old work.new }
+    {
+        self.entries.reserve(1)?;
+        let boxed = Boxed::of(alloc, &entry.rule, work)?;
+        self.classifier.insert(at, boxed)?;
+        match self.entries.insert(at, entry) {
+            Ok(()) => return Ok(()),
+            Err(_) => unreachable!(),
+        }
+    }
+
+    // Puts a rule in the place of another.
+    pub(crate) fn replace(
+        &mut self,
+        alloc: Global,
+        at: usize,
+        entry: Entry,
+        work: &mut Work,
+    ) -> Result<(), AllocError>
+        requires { at < length self.old.entries }
+        ensures name { self.new.name ≡ self.old.name }
+        ensures references { self.new.references ≡ self.old.references }
+        ensures ok { OnOk result (self.new.entries ≡ slice_set self.old.entries at entry) }
+        ensures err { OnErr result (self.new ≡ self.old) }
+        ensures classified { IsClassified self.new }
+        ensures work { MakesOneBoxAtMost work.old work.new }
+    {
+        let _len = self.entries.len();
+        let boxed = Boxed::of(alloc, &entry.rule, work)?;
+        self.classifier.replace(at, boxed)?;
+        self.entries[at] = entry;
+        Ok(())
+    }
+
+    // Takes a rule out. It takes no memory.
+    pub(crate) fn remove(&mut self, at: usize)
+        requires { at < length self.old.entries }
+        ensures name { self.new.name ≡ self.old.name }
+        ensures references { self.new.references ≡ self.old.references }
+        ensures entries { self.new.entries ≡ remove self.old.entries at }
+        ensures classified { IsClassified self.new }
+    {
+        self.classifier.remove(at);
+        self.entries.remove(at);
+    }
+
+    // Takes all rules out. It takes no memory.
+    pub(crate) fn clear(&mut self)
+        ensures name { self.new.name ≡ self.old.name }
+        ensures references { self.new.references ≡ self.old.references }
+        ensures entries { self.new.entries ≡ [] }
+        ensures classified { IsClassified self.new }
+    {
+        self.classifier.clear();
+        self.entries.clear();
+    }
+
+    // Gives the chain another name. It takes no memory.
+    pub(crate) fn set_name(&mut self, name: Name)
+        ensures name { self.new.name ≡ name }
+        ensures entries { self.new.entries ≡ self.old.entries }
+        ensures references { self.new.references ≡ self.old.references }
+        ensures classified { IsClassified self.new }
+    {
+        self.name = name;
+    }
+
+    // Puts the name into the rules that lead to the chain under a key. It takes no memory, and the classifier stays.
+    pub(crate) fn retarget(&mut self, key: usize, name: &Name)
+        requires { NameChains self.old.entries }
+        ensures name { self.new.name ≡ self.old.name }
+        ensures entries { self.new.entries ≡ map (retargeted key name.now) self.old.entries }
+        ensures references { self.new.references ≡ self.old.references }
+        ensures classified { IsClassified self.new }
+    {
+        retarget(&mut self.entries, key, name);
+        targets_leave_the_classifier();
+    }
+
+    // Takes all rules out, and counts no rule any more that names the chain. It takes no memory.
+    pub(crate) fn reset(&mut self)
+        ensures name { self.new.name ≡ self.old.name }
+        ensures references { self.new.references ≡ 0 }
+        ensures entries { self.new.entries ≡ [] }
+        ensures classified { IsClassified self.new }
+    {
+        self.clear();
+        self.references = 0;
+    }
+
+    // The least place, at or after `from`, of a rule that allows the numbers, by the classifier. It takes no memory.
+    pub(crate) fn next(&self, numbers: &[u128; FIELDS], from: usize) -> Option<usize>
+        requires { IsPoint numbers.now }
+        ensures next { result ≡ next_match (matches numbers.now) (rules_in self.now) from }
+        ensures within { IfSome result (λ place. place < length self.now.entries) }
+        ensures small { IfSome result (λ place. place + 1 < 2 ^ 64) }
+    {
+        let _len = self.entries.len();
+        self.classifier.next(numbers, from)
+    }
+
+    // The place of the first rule with the text of this one.
+    pub(crate) fn place_of(&self, rule: &Rule) -> Option<usize>
+        ensures value { result ≡ position (has_text rule.now) self.now.entries }
+        ensures within { IfSome result (λ at. at < length self.now.entries) }
+    {
+        self.entries.iter().position(|entry| has_text(rule, entry))
+    }
+}

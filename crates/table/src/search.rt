@@ -1,0 +1,103 @@
+//! The search for a path of jumps and gotos from one chain to another.
+ghost use Rattle.std.specs.Prelude.{◌≡◌, ◌<◌, ◌≤◌, ◌+◌, ℕ, OnOk, length, false, slice_index, slice_index_or, IfSome};
+ghost use Rattle.std.specs.Prelude.{IsFalse};
+ghost use Rattle.table.specs.edits.Edits.{leads};
+ghost use Rattle.table.specs.steps.Kept.{IsIn, IsStored, listed, row_at};
+ghost use Rattle.table.specs.steps.Search.{IsMarked, IsSearch, Marks};
+ghost use Rattle.table.specs.steps.Kept.{IsUnmarked};
+
+use crate::chain::Chain;
+use arrayvec::ArrayVec;
+use slab::Slab;
+use std::alloc::AllocError;
+
+// The most chains that a table has: three built-in ones and 1,024 user chains.
+const CHAINS: usize = 1027;
+
+// Marks the chain under a key, if there is a key and the chain is new, and puts the key last among those reached.
+fn mark(key: Option<usize>, seen: &mut Vec<bool>, reached: &mut ArrayVec<usize, CHAINS>)
+    requires within { IfSome key (λ k. k < length seen.old.items) }
+    requires room { IfSome key (λ k. IsFalse (slice_index_or seen.old.items k false)
+        → length reached.old.items < 1027) }
+    ensures { Marks key seen.old.items reached.old.items seen.new.items reached.new.items }
+{
+    let Some(key) = key else {
+        return;
+    };
+    if !seen[key] {
+        seen[key] = true;
+        reached.push(key);
+    }
+}
+
+// Visits the chain whose key stands at a place among those reached: marks each chain that its rules lead to.
+fn visit(
+    chains: &Slab<Chain>,
+    order: &Vec<usize>,
+    at: usize,
+    seen: &mut Vec<bool>,
+    reached: &mut ArrayVec<usize, CHAINS>,
+)
+    requires kept { IsStored chains.now.slots order.now.items }
+    requires at { at < length reached.old.items }
+    requires search { IsSearch chains.now.slots order.now.items (slice_index reached.old.items 0)
+        seen.old.items reached.old.items at }
+    ensures { IsSearch chains.now.slots order.now.items (slice_index reached.old.items 0)
+        seen.new.items reached.new.items (at + 1) }
+{
+    let chain = &chains[reached[at]];
+    for place in 0..chain.len() {
+        mark(chain.entry(place).course.key(), seen, reached);
+    }
+}
+
+// Takes the marks of the chains reached back.
+fn unmark(order: &Vec<usize>, seen: &mut Vec<bool>, reached: &ArrayVec<usize, CHAINS>)
+    requires { IsMarked order.now.items seen.old.items reached.now.items }
+    ensures { IsUnmarked order.now.items seen.new.items }
+{
+    for at in 0..reached.len() {
+        seen[reached[at]] = false;
+    }
+}
+
+// Whether a path of jumps and gotos leads from the chain under one key to that under another, also one of no step. It
+// visits each chain at most once, and takes no memory.
+pub(crate) fn leads(
+    chains: &Slab<Chain>,
+    order: &Vec<usize>,
+    seen: &mut Vec<bool>,
+    from: usize,
+    goal: usize,
+) -> bool
+    requires kept { IsStored chains.now.slots order.now.items }
+    requires clear { IsUnmarked order.now.items seen.old.items }
+    requires from { IsIn order.now.items from }
+    requires goal { IsIn order.now.items goal }
+    ensures clear { IsUnmarked order.now.items seen.new.items }
+    ensures found { result ≡ leads (listed chains.now.slots order.now.items)
+        (row_at chains.now.slots from).name (row_at chains.now.slots goal).name }
+{
+    let mut reached = ArrayVec::new();
+    mark(Some(from), seen, &mut reached);
+    let mut at = 0;
+    while at < reached.len() && !seen[goal] {
+        visit(chains, order, at, seen, &mut reached);
+        at += 1;
+    }
+    let found = seen[goal];
+    unmark(order, seen, &reached);
+    found
+}
+
+// Makes a place for the mark of a key.
+pub(crate) fn cover(seen: &mut Vec<bool>, key: usize) -> Result<(), AllocError>
+    ensures marks { (k : ℕ) → slice_index_or seen.new.items k false ≡ slice_index_or seen.old.items k false }
+    ensures longer { length seen.old.items ≤ length seen.new.items }
+    ensures covered { OnOk result (key < length seen.new.items) }
+{
+    while seen.len() <= key {
+        seen.push(false)?;
+    }
+    Ok(())
+}

@@ -1,0 +1,512 @@
+//! The table.
+ghost use Rattle.std.specs.Prelude.{◌≡◌, ◌<◌, ◌≤◌, ◌-◌, [], length, map, slice_index, slice_index_or, slice_get, Some};
+ghost use Rattle.std.specs.Prelude.{None, IfOk};
+ghost use Rattle.classify.specs.classifier.Classifier.{IsClassifierOfRules};
+ghost use Rattle.table.specs.chains.Sound.{IsSound};
+ghost use Rattle.std.specs.List.{position};
+ghost use Rattle.table.specs.chains.Table.{AreClassified, chain_at, empty_table, emptied, is_named};
+ghost use Rattle.table.specs.walk.Walk.{walk};
+ghost use Rattle.table.specs.walk.Trail.{Shows};
+ghost use Rattle.table.specs.edits.Edits.{Append, DeleteAt, DeleteRule, Flush, FlushAll, Has, Insert, IsStep};
+ghost use Rattle.table.specs.edits.Edits.{IsStepIfRoom, NewChain, Replace, SetPolicy};
+ghost use Rattle.table.specs.edits.Boxes.{MakesOneBoxAtMost};
+ghost use Rattle.table.specs.edits.Edits.{DeleteChain, DeleteChains, Rename};
+
+use crate::chain::Chain;
+use crate::fault::TableFault;
+use crate::policy::Policy;
+use crate::verdict::Verdict;
+use crate::walk::trail::{Trail, trace};
+use crate::{drop, edit, put, rename, search, store, walk};
+use classify::Classifier;
+use fields::{Hook, Name, Packet};
+use rules::{Rule, Work};
+use slab::Slab;
+use std::alloc::{AllocError, Global};
+use std::marker::Model;
+
+// The most chains: 1,024 user chains and the built-in ones.
+const CHAINS_MAX: usize = 1027;
+
+/// The table `filter`: three built-in chains with a policy each, and the chains that users made, each with its
+/// rules and their classifier (iptables(8), "TABLES").
+///
+/// Chains are in the order of a listing: INPUT, FORWARD and OUTPUT, then the user chains by the bytes of their names.
+/// Rules count from 1.
+#[derive(Drop)]
+pub struct Table {
+    alloc: Global,
+    policies: [Policy; 3],
+    chains: Slab<Chain>,
+    order: Vec<usize>,
+    seen: Vec<bool>,
+}
+
+impl Model for Table {
+    ghost use Rattle.table.specs.chains.Table.{TableView};
+    ghost use Rattle.table.specs.steps.Kept.{IsWhole, classifiers, listed};
+
+    ghost Value = { TableView };
+
+    ghost view = { λ t. record {
+      table = record { policies = t.policies; chains = listed t.chains.slots t.order.items };
+      classifiers = classifiers t.chains.slots t.order.items;
+    } };
+
+    ghost invariant = { λ t. IsWhole t.policies t.chains.slots t.order.items t.seen.items };
+}
+
+impl Table {
+    /// The law of every table: it is sound, and each chain's classifier is that of its rules. It does nothing.
+    pub fn stands(&self)
+        ensures sound { IsSound self.now.table }
+        ensures classified { AreClassified self.now.table.chains self.now.classifiers }
+    {
+        let _count = self.order.len();
+    }
+
+    /// A table of the three built-in chains, without rules, each with the policy ACCEPT.
+    ///
+    /// # Errors
+    ///
+    /// `AllocError` where memory was refused.
+    pub fn new(alloc: Global) -> Result<Table, AllocError>
+        ensures { IfOk result (λ made. made.table ≡ empty_table) }
+    {
+        Table::with_policies(alloc, [Policy::Accept; store::BUILT_IN])
+    }
+
+    /// A table of the three built-in chains, without rules, with the policies of this one.
+    ///
+    /// # Errors
+    ///
+    /// `AllocError` where memory was refused.
+    pub fn emptied(&self) -> Result<Table, AllocError>
+        ensures { IfOk result (λ made. made.table ≡ emptied self.now.table) }
+    {
+        Table::with_policies(self.alloc, self.policies)
+    }
+
+    // A table of the three built-in chains, without rules, with these policies.
+    fn with_policies(
+        alloc: Global,
+        policies: [Policy; store::BUILT_IN],
+    ) -> Result<Table, AllocError>
+        requires { length policies ≡ 3 }
+        ensures policies { IfOk result (λ made. made.table.policies ≡ policies) }
+        ensures chains { IfOk result (λ made. made.table.chains ≡ empty_table.chains) }
+    {
+        let mut chains = Slab::new(alloc);
+        chains.reserve(store::BUILT_IN)?;
+        let input = chains.insert_reserved(Chain::new(alloc, store::built_in_name(Hook::Input))?);
+        let forward = chains.insert_reserved(Chain::new(
+            alloc,
+            store::built_in_name(Hook::Forward),
+        )?);
+        let output = chains.insert_reserved(Chain::new(alloc, store::built_in_name(Hook::Output))?);
+        let order = vec![in alloc; input, forward, output]?;
+        let mut seen = Vec::new(alloc);
+        search::cover(&mut seen, input)?;
+        search::cover(&mut seen, forward)?;
+        search::cover(&mut seen, output)?;
+        Ok(Table {
+            alloc,
+            policies,
+            chains,
+            order,
+            seen,
+        })
+    }
+
+    /// A table that shows the same. It copies rules and classifiers, and makes no box.
+    ///
+    /// # Errors
+    ///
+    /// `AllocError` where memory was refused.
+    pub fn copy(&self) -> Result<Table, AllocError>
+        ensures { IfOk result (λ copy. copy ≡ self.now) }
+    {
+        let chains = self.chains.clone()?;
+        let order = self.order.clone()?;
+        let seen = self.seen.clone()?;
+        Ok(Table {
+            alloc: self.alloc,
+            policies: self.policies,
+            chains,
+            order,
+            seen,
+        })
+    }
+
+    /// How many chains there are, the three built-in ones among them.
+    pub fn chain_count(&self) -> usize
+        ensures { result ≡ length self.now.table.chains }
+    {
+        self.order.len()
+    }
+
+    /// The name of the chain at a place in the order of a listing, from 0; it is lent.
+    pub fn chain_name(&self, place: usize) -> &[u8]
+        requires { place < length self.now.table.chains }
+        ensures { result.now ≡ (chain_at self.now.table place).name }
+    {
+        let key = self.order[place];
+        self.chains[key].name().bytes()
+    }
+
+    /// Where the chain of a name stands in the order of a listing, from 0. It takes no memory.
+    ///
+    /// It costs a search by halving.
+    pub fn place_of(&self, name: &[u8]) -> Option<usize>
+        ensures { result ≡ position (is_named name.now) self.now.table.chains }
+    {
+        store::place_of(&self.chains, &self.order, name)
+    }
+
+    /// The policy of the chain at a place, if it is a built-in one.
+    pub fn policy(&self, place: usize) -> Option<Policy>
+        ensures { result ≡ slice_get self.now.table.policies place }
+    {
+        self.policies.get(place).copied()
+    }
+
+    /// How many rules the chain at a place has.
+    pub fn rule_count(&self, place: usize) -> usize
+        requires { place < length self.now.table.chains }
+        ensures { result ≡ length (chain_at self.now.table place).rules }
+    {
+        store::count_at(&self.chains, &self.order, place)
+    }
+
+    /// Rule `number` of the chain at a place, from 1; it is lent.
+    pub fn rule(&self, place: usize, number: usize) -> &Rule
+        requires place { place < length self.now.table.chains }
+        requires first { 0 < number }
+        requires last { number ≤ length (chain_at self.now.table place).rules }
+        ensures { result.now
+            ≡ slice_index_or (chain_at self.now.table place).rules (number - 1) result.now }
+    {
+        let key = self.order[place];
+        &self.chains[key].entry(number - 1).rule
+    }
+
+    /// The classifier of the rules of the chain at a place; it is lent.
+    pub fn classifier(&self, place: usize) -> &Classifier
+        requires { place < length self.now.table.chains }
+        ensures value { result.now.shown ≡ slice_index_or self.now.classifiers place result.now.shown }
+        ensures rules { IsClassifierOfRules (chain_at self.now.table place).rules result.now.shown }
+    {
+        let key = self.order[place];
+        self.chains[key].classifier()
+    }
+
+    /// What becomes of a packet, by the classifiers of the chains: the verdict of its walk. It takes no memory.
+    pub fn verdict(&self, packet: &Packet) -> Verdict
+        ensures { result ≡ (walk self.now.table packet.now).verdict }
+    {
+        let hook = store::hook_place(packet.hook());
+        let policy = self.policies[hook].verdict();
+        walk::decide(&self.chains, &self.order, hook, policy, packet)
+    }
+
+    /// The walk of a packet: the rules that matched, the verdict, and whether the policy gave it.
+    ///
+    /// # Errors
+    ///
+    /// `AllocError` where memory was refused.
+    pub fn trail(&self, packet: &Packet) -> Result<Trail, AllocError>
+        ensures { IfOk result (Shows self.now.table.chains (walk self.now.table packet.now)) }
+    {
+        let hook = store::hook_place(packet.hook());
+        let policy = self.policies[hook].verdict();
+        trace(self.alloc, &self.chains, &self.order, hook, policy, packet)
+    }
+
+    /// Puts a rule last in a chain (`-A chain rule`). The rule is gone after a refusal too.
+    ///
+    /// It costs a box, the classifier's row work, and, where the rule names a chain, a search of the chains that it
+    /// leads to.
+    ///
+    /// # Errors
+    ///
+    /// `NoSuchChain`, `InterfaceNotAllowed`, `TargetMissing`, `TargetBuiltIn`, `Loop` and `ChainFull`, in this order,
+    /// and last `NoMemory` where memory was refused: the table is unchanged.
+    pub fn append(&mut self, chain: &[u8], rule: Rule, work: &mut Work) -> Result<(), TableFault>
+        ensures step { IsStepIfRoom (Append chain.now rule) self.old self.new result }
+        ensures work { MakesOneBoxAtMost work.old work.new }
+    {
+        let Some(place) = store::place_of(&self.chains, &self.order, chain) else {
+            return Err(TableFault::NoSuchChain);
+        };
+        let last = store::count_at(&self.chains, &self.order, place);
+        put::put_in(
+            self.alloc,
+            &mut self.chains,
+            &self.order,
+            &mut self.seen,
+            place,
+            last,
+            rule,
+            work,
+        )
+    }
+
+    /// Puts a rule in as rule `number` of a chain, from 1 to one more than there are (`-I chain number rule`). The
+    /// rule is gone after a refusal too.
+    ///
+    /// # Errors
+    ///
+    /// `NoSuchChain`, `NumberOutOfRange`, and then those of `append`: the table is unchanged.
+    pub fn insert(
+        &mut self,
+        chain: &[u8],
+        number: usize,
+        rule: Rule,
+        work: &mut Work,
+    ) -> Result<(), TableFault>
+        ensures step { IsStepIfRoom (Insert chain.now number rule) self.old self.new result }
+        ensures work { MakesOneBoxAtMost work.old work.new }
+    {
+        let Some(place) = store::place_of(&self.chains, &self.order, chain) else {
+            return Err(TableFault::NoSuchChain);
+        };
+        let last = store::count_at(&self.chains, &self.order, place);
+        if store::out_of_range(number, last + 1) {
+            return Err(TableFault::NumberOutOfRange);
+        }
+        put::put_in(
+            self.alloc,
+            &mut self.chains,
+            &self.order,
+            &mut self.seen,
+            place,
+            number - 1,
+            rule,
+            work,
+        )
+    }
+
+    /// Puts a rule in the place of rule `number` of a chain (`-R chain number rule`). The rule is gone after a
+    /// refusal too.
+    ///
+    /// # Errors
+    ///
+    /// `NoSuchChain`, `NumberOutOfRange`, `InterfaceNotAllowed`, `TargetMissing`, `TargetBuiltIn` and `Loop`, in this
+    /// order, and last `NoMemory` where memory was refused: the table is unchanged.
+    pub fn replace(
+        &mut self,
+        chain: &[u8],
+        number: usize,
+        rule: Rule,
+        work: &mut Work,
+    ) -> Result<(), TableFault>
+        ensures step { IsStepIfRoom (Replace chain.now number rule) self.old self.new result }
+        ensures work { MakesOneBoxAtMost work.old work.new }
+    {
+        let Some(place) = store::place_of(&self.chains, &self.order, chain) else {
+            return Err(TableFault::NoSuchChain);
+        };
+        let last = store::count_at(&self.chains, &self.order, place);
+        if store::out_of_range(number, last) {
+            return Err(TableFault::NumberOutOfRange);
+        }
+        put::put_over(
+            self.alloc,
+            &mut self.chains,
+            &self.order,
+            &mut self.seen,
+            place,
+            number - 1,
+            rule,
+            work,
+        )
+    }
+
+    /// Takes rule `number` of a chain out (`-D chain number`). It takes no memory.
+    ///
+    /// # Errors
+    ///
+    /// `NoSuchChain` and `NumberOutOfRange`, in this order: the table is unchanged.
+    pub fn delete_at(&mut self, chain: &[u8], number: usize) -> Result<(), TableFault>
+        ensures { IsStep (DeleteAt chain.now number) self.old self.new result }
+    {
+        let Some(place) = store::place_of(&self.chains, &self.order, chain) else {
+            return Err(TableFault::NoSuchChain);
+        };
+        let last = store::count_at(&self.chains, &self.order, place);
+        if store::out_of_range(number, last) {
+            return Err(TableFault::NumberOutOfRange);
+        }
+        edit::take_out(&mut self.chains, &self.order, place, number - 1);
+        Ok(())
+    }
+
+    /// Takes the first rule of a chain out that has the text of this one (`-D chain rule`). It takes no memory.
+    ///
+    /// # Errors
+    ///
+    /// `NoSuchChain` and `NoSuchRule`, in this order: the table is unchanged.
+    pub fn delete_rule(&mut self, chain: &[u8], rule: &Rule) -> Result<(), TableFault>
+        ensures { IsStep (DeleteRule chain.now rule.now) self.old self.new result }
+    {
+        let Some(place) = store::place_of(&self.chains, &self.order, chain) else {
+            return Err(TableFault::NoSuchChain);
+        };
+        let Some(at) = store::rule_place(&self.chains, &self.order, place, rule) else {
+            return Err(TableFault::NoSuchRule);
+        };
+        edit::take_out(&mut self.chains, &self.order, place, at);
+        Ok(())
+    }
+
+    /// Whether a chain has a rule with the text of this one (`-C chain rule`). It takes no memory.
+    ///
+    /// # Errors
+    ///
+    /// `NoSuchChain` and `NoSuchRule`, in this order.
+    pub fn has_rule(&self, chain: &[u8], rule: &Rule) -> Result<(), TableFault>
+        ensures { IsStep (Has chain.now rule.now) self.now self.now result }
+    {
+        let Some(place) = store::place_of(&self.chains, &self.order, chain) else {
+            return Err(TableFault::NoSuchChain);
+        };
+        match store::rule_place(&self.chains, &self.order, place, rule) {
+            Some(_) => Ok(()),
+            None => Err(TableFault::NoSuchRule),
+        }
+    }
+
+    /// Takes all rules of a chain out (`-F chain`). It takes no memory.
+    ///
+    /// # Errors
+    ///
+    /// `NoSuchChain`: the table is unchanged.
+    pub fn flush(&mut self, chain: &[u8]) -> Result<(), TableFault>
+        ensures { IsStep (Flush chain.now) self.old self.new result }
+    {
+        let Some(place) = store::place_of(&self.chains, &self.order, chain) else {
+            return Err(TableFault::NoSuchChain);
+        };
+        edit::empty(&mut self.chains, &self.order, place);
+        Ok(())
+    }
+
+    /// Takes all rules of all chains out (`-F`). It takes no memory, and is never refused.
+    ///
+    /// # Errors
+    ///
+    /// None.
+    pub fn flush_all(&mut self) -> Result<(), TableFault>
+        ensures { IsStep FlushAll self.old self.new result }
+    {
+        edit::empty_all(&mut self.chains, &self.order);
+        Ok(())
+    }
+
+    /// Sets the policy of a built-in chain: ACCEPT or DROP, in upper case (`-P chain policy`). It takes no memory.
+    ///
+    /// # Errors
+    ///
+    /// `NoSuchChain`, `NotBuiltInChain` and `BadPolicy`, in this order: the table is unchanged.
+    pub fn set_policy(&mut self, chain: &[u8], policy: &[u8]) -> Result<(), TableFault>
+        ensures { IsStep (SetPolicy chain.now policy.now) self.old self.new result }
+    {
+        let Some(place) = store::place_of(&self.chains, &self.order, chain) else {
+            return Err(TableFault::NoSuchChain);
+        };
+        if place >= store::BUILT_IN {
+            return Err(TableFault::NotBuiltInChain);
+        }
+        let Some(policy) = Policy::read(policy) else {
+            return Err(TableFault::BadPolicy);
+        };
+        self.policies[place] = policy;
+        Ok(())
+    }
+
+    /// Makes a chain without rules (`-N name`).
+    ///
+    /// # Errors
+    ///
+    /// `BadChainName`, `ChainExists` and `TooManyChains`, in this order, and last `NoMemory` where memory was refused:
+    /// the table is unchanged.
+    pub fn new_chain(&mut self, name: &[u8]) -> Result<(), TableFault>
+        ensures { IsStepIfRoom (NewChain name.now) self.old self.new result }
+    {
+        let Some(owned) = Name::read(name) else {
+            return Err(TableFault::BadChainName);
+        };
+        let Some(place) = store::place_for(&self.chains, &self.order, name) else {
+            return Err(TableFault::ChainExists);
+        };
+        if self.order.len() >= CHAINS_MAX {
+            return Err(TableFault::TooManyChains);
+        }
+        let key = self.chains.vacant_key();
+        let Ok(()) = search::cover(&mut self.seen, key) else {
+            return Err(TableFault::NoMemory);
+        };
+        match edit::make(self.alloc, &mut self.chains, &mut self.order, place, owned) {
+            Ok(()) => Ok(()),
+            Err(_) => return Err(TableFault::NoMemory),
+        }
+    }
+
+    /// Takes a user chain away (`-X chain`). It takes no memory.
+    ///
+    /// # Errors
+    ///
+    /// `NoSuchChain`, `BuiltInChain`, `ChainNotEmpty` and `ChainReferenced`, in this order: the table is unchanged.
+    pub fn delete_chain(&mut self, chain: &[u8]) -> Result<(), TableFault>
+        ensures { IsStep (DeleteChain chain.now) self.old self.new result }
+    {
+        let Some(place) = store::place_of(&self.chains, &self.order, chain) else {
+            return Err(TableFault::NoSuchChain);
+        };
+        if let Some(fault) = drop::refusal(&self.chains, &self.order, place) {
+            return Err(fault);
+        }
+        drop::take_away(&mut self.chains, &mut self.order, place);
+        Ok(())
+    }
+
+    /// Takes all user chains away (`-X`). It takes no memory.
+    ///
+    /// # Errors
+    ///
+    /// `ChainNotEmpty` where a user chain has rules, and else `ChainReferenced` where a rule names one: the table is
+    /// unchanged.
+    pub fn delete_chains(&mut self) -> Result<(), TableFault>
+        ensures { IsStep DeleteChains self.old self.new result }
+    {
+        if let Some(fault) = drop::refusal_of_all(&self.chains, &self.order) {
+            return Err(fault);
+        }
+        drop::take_all_away(&mut self.chains, &mut self.order);
+        Ok(())
+    }
+
+    /// Changes the name of a user chain; the rules that name it follow (`-E old new`). It takes no memory.
+    ///
+    /// # Errors
+    ///
+    /// `NoSuchChain`, `BuiltInChain`, `BadChainName` and `ChainExists`, in this order: the table is unchanged.
+    pub fn rename(&mut self, old: &[u8], new: &[u8]) -> Result<(), TableFault>
+        ensures { IsStep (Rename old.now new.now) self.old self.new result }
+    {
+        let Some(place) = store::place_of(&self.chains, &self.order, old) else {
+            return Err(TableFault::NoSuchChain);
+        };
+        if place < store::BUILT_IN {
+            return Err(TableFault::BuiltInChain);
+        }
+        let Some(name) = Name::read(new) else {
+            return Err(TableFault::BadChainName);
+        };
+        let Some(to) = store::place_for(&self.chains, &self.order, new) else {
+            return Err(TableFault::ChainExists);
+        };
+        rename::rename(&mut self.chains, &mut self.order, place, to, name);
+        Ok(())
+    }
+}

@@ -1,0 +1,109 @@
+//! The trail of a packet: the rules that match it, in turn.
+ghost use Rattle.std.specs.Prelude.{◌≡◌, ◌<◌, length, false, true, IfOk, Some};
+ghost use Rattle.table.specs.steps.Kept.{IsIn, IsStored, listed};
+ghost use Rattle.table.specs.steps.Walking.{entry_before, walk_at};
+ghost use Rattle.table.specs.walk.Trail.{Shows, shown};
+
+use crate::chain::Chain;
+use crate::store::place_of;
+use crate::verdict::Verdict;
+use crate::walk::{LIMIT, Pending, Turn, advance, follow};
+use arrayvec::ArrayVec;
+use fields::Packet;
+use slab::Slab;
+use std::alloc::{AllocError, Global};
+
+/// A rule that matched: the place of its chain in the order of a listing, from 0, and its number in the chain, from 1.
+#[derive(Clone, Copy, Debug, PartialEq, Eq)]
+pub struct Step {
+    /// The chain's place.
+    pub chain: usize,
+    /// The rule's number.
+    pub number: usize,
+}
+
+/// The rules that match a packet, and what becomes of it.
+#[derive(Drop)]
+pub struct Trail {
+    /// The rules, in turn. There are none where the walk is too long.
+    pub steps: Vec<Step>,
+    /// What becomes of the packet.
+    pub verdict: Verdict,
+    /// Whether the policy of the built-in chain gave the verdict.
+    pub by_policy: bool,
+}
+
+impl Trail {
+    // Of a walk that no rule decided.
+    fn by_policy(steps: Vec<Step>, policy: Verdict) -> Trail
+        ensures { result ≡ record { steps = steps; verdict = policy; by_policy = true } }
+    {
+        Trail {
+            steps,
+            verdict: policy,
+            by_policy: true,
+        }
+    }
+
+    // Of a walk that a rule decided, or that was too long.
+    fn decided(steps: Vec<Step>, verdict: Verdict) -> Trail
+        ensures { result ≡ record { steps = steps; verdict = verdict; by_policy = false } }
+    {
+        Trail {
+            steps,
+            verdict,
+            by_policy: false,
+        }
+    }
+}
+
+// The rule just before a place, as a step of the trail.
+fn step_before(chains: &Slab<Chain>, order: &Vec<usize>, at: Pending) -> Step
+    requires kept { IsStored chains.now.slots order.now.items }
+    requires present { IsIn order.now.items at.chain }
+    ensures { shown (listed chains.now.slots order.now.items) (entry_before chains.now.slots at) ≡ Some result }
+{
+    let chain = &chains[at.chain];
+    match place_of(chains, order, chain.name().bytes()) {
+        Some(place) => Step {
+            chain: place,
+            number: at.passed,
+        },
+        None => unreachable!(),
+    }
+}
+
+// The trail of a packet, from the first rule of the chain at a place of the listing on.
+pub(crate) fn trace(
+    alloc: Global,
+    chains: &Slab<Chain>,
+    order: &Vec<usize>,
+    hook: usize,
+    policy: Verdict,
+    packet: &Packet,
+) -> Result<Trail, AllocError>
+    requires kept { IsStored chains.now.slots order.now.items }
+    requires hook { hook < length order.now.items }
+    ensures { IfOk result (Shows (listed chains.now.slots order.now.items)
+        (walk_at 65536 chains.now.slots order.now.items hook policy packet.now.values)) }
+{
+    let mut at = Pending::start(order[hook]);
+    let mut stack = ArrayVec::new();
+    let mut left = LIMIT;
+    let mut steps = Vec::new(alloc);
+    'walk: loop {
+        let Some(course) = advance(chains, order, packet, &mut at, &mut stack) else {
+            return Ok(Trail::by_policy(steps, policy));
+        };
+        if left == 0 {
+            return Ok(Trail::decided(Vec::new(alloc), Verdict::TooLong));
+        }
+        left -= 1;
+        steps.push(step_before(chains, order, at))?;
+        match follow(course, &mut at, &mut stack) {
+            Turn::Decides(verdict) => return Ok(Trail::decided(steps, verdict)),
+            Turn::Policy => return Ok(Trail::by_policy(steps, policy)),
+            Turn::Goes => {}
+        }
+    }
+}

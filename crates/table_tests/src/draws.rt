@@ -1,0 +1,287 @@
+// Edits drawn at random, against plain lists of rules, and against a table that is made anew from these.
+
+ghost use Rattle.std.specs.Prelude.{◌<◌};
+
+use crate::commands::Filter;
+use crate::plain::{Draft, NAMES, Plain};
+use std::alloc::Global;
+use std::fmt::Write;
+use std::process::Abort;
+use std::test::Fail;
+use table::TableFault;
+
+// Numbers that look random, and are always the same.
+#[derive(Drop)]
+struct Dice {
+    state: u64,
+}
+
+impl Dice {
+    fn below(&mut self, bound: usize) -> usize
+        requires { 0 < bound }
+        ensures { result < bound }
+    {
+        self.state = self
+            .state
+            .wrapping_mul(6364136223846793005)
+            .wrapping_add(1442695040888963407);
+        (self.state >> 33) as usize % bound
+    }
+
+    fn draft(&mut self) -> Draft {
+        let condition = self.below(8);
+        let target = self.below(8);
+        let chain = self.below(8);
+        let jumps = self.below(2) == 0;
+        Draft {
+            condition,
+            target,
+            chain: if self.below(2) == 0 {
+                Some((chain, jumps))
+            } else {
+                None
+            },
+        }
+    }
+}
+
+// A table, and the plain lists that it has to show.
+#[derive(Drop)]
+struct Pair {
+    filter: Filter,
+    plain: Plain,
+}
+
+// What an edit has to be answered.
+fn answer(fault: Option<TableFault>) -> Result<(), TableFault> {
+    match fault {
+        Some(fault) => Err(fault),
+        None => Ok(()),
+    }
+}
+
+impl Pair {
+    fn new(alloc: Global) -> Result<Pair, Fail> {
+        Ok(Pair {
+            filter: Filter::new(alloc)?,
+            plain: Plain::new(alloc)?,
+        })
+    }
+
+    // Runs a command on the table: a word, a chain, a number if there is one, and a rule if there is one.
+    fn run(
+        &mut self,
+        rt: &impl Abort,
+        command: &str,
+        chain: usize,
+        number: Option<usize>,
+        draft: Option<&Draft>,
+        fault: Option<TableFault>,
+    ) -> Result<(), Fail> {
+        let name = NAMES[chain % 8];
+        let mut line = format!(in self.filter.alloc; "{command} {name}")?;
+        if let Some(number) = number {
+            write!(line, " {number}")?;
+        }
+        if let Some(draft) = draft {
+            draft.write(&mut line)?;
+        }
+        assert_eq!(rt;
+            self.filter.run(rt, line.as_str())?,
+            answer(fault),
+            "{line}"
+        );
+        Ok(())
+    }
+
+    fn append(&mut self, rt: &impl Abort, chain: usize, draft: Draft) -> Result<(), Fail> {
+        let fault = self.plain.fault_of_put(chain, 1, 1, &draft);
+        self.run(rt, "-A", chain, None, Some(&draft), fault)?;
+        if fault.is_none()
+            && let Some(rules) = self.plain.rules_mut(chain)
+        {
+            rules.push(draft)?;
+        }
+        Ok(())
+    }
+
+    fn insert(
+        &mut self,
+        rt: &impl Abort,
+        chain: usize,
+        number: usize,
+        draft: Draft,
+    ) -> Result<(), Fail> {
+        let last = self.plain.rules(chain).len().saturating_add(1);
+        let fault = self.plain.fault_of_put(chain, number, last, &draft);
+        self.run(rt, "-I", chain, Some(number), Some(&draft), fault)?;
+        if fault.is_none()
+            && let Some(rules) = self.plain.rules_mut(chain)
+        {
+            assert!(rt; 0 < number && number - 1 <= rules.len());
+            rules.insert(number - 1, draft)?;
+        }
+        Ok(())
+    }
+
+    fn replace(
+        &mut self,
+        rt: &impl Abort,
+        chain: usize,
+        number: usize,
+        draft: Draft,
+    ) -> Result<(), Fail> {
+        let last = self.plain.rules(chain).len();
+        let fault = self.plain.fault_of_put(chain, number, last, &draft);
+        self.run(rt, "-R", chain, Some(number), Some(&draft), fault)?;
+        if fault.is_none()
+            && let Some(rules) = self.plain.rules_mut(chain)
+        {
+            assert!(rt; 0 < number && number - 1 < rules.len());
+            rules[number - 1] = draft;
+        }
+        Ok(())
+    }
+
+    fn delete_at(&mut self, rt: &impl Abort, chain: usize, number: usize) -> Result<(), Fail> {
+        let fault = if !self.plain.has(chain) {
+            Some(TableFault::NoSuchChain)
+        } else if number == 0 || number > self.plain.rules(chain).len() {
+            Some(TableFault::NumberOutOfRange)
+        } else {
+            None
+        };
+        self.run(rt, "-D", chain, Some(number), None, fault)?;
+        if fault.is_none()
+            && let Some(rules) = self.plain.rules_mut(chain)
+        {
+            assert!(rt; 0 < number && number - 1 < rules.len());
+            rules.remove(number - 1);
+        }
+        Ok(())
+    }
+
+    // Asks for a rule, and takes it out.
+    fn delete_rule(&mut self, rt: &impl Abort, chain: usize, draft: Draft) -> Result<(), Fail> {
+        let place = self
+            .plain
+            .rules(chain)
+            .iter()
+            .position(|rule| *rule == draft);
+        let fault = if !self.plain.has(chain) {
+            Some(TableFault::NoSuchChain)
+        } else if place.is_none() {
+            Some(TableFault::NoSuchRule)
+        } else {
+            None
+        };
+        self.run(rt, "-C", chain, None, Some(&draft), fault)?;
+        self.run(rt, "-D", chain, None, Some(&draft), fault)?;
+        if let Some(place) = place
+            && let Some(rules) = self.plain.rules_mut(chain)
+        {
+            assert!(rt; place < rules.len());
+            rules.remove(place);
+        }
+        Ok(())
+    }
+
+    fn flush(&mut self, rt: &impl Abort, chain: usize) -> Result<(), Fail> {
+        let fault = if self.plain.has(chain) {
+            None
+        } else {
+            Some(TableFault::NoSuchChain)
+        };
+        self.run(rt, "-F", chain, None, None, fault)?;
+        if let Some(rules) = self.plain.rules_mut(chain) {
+            rules.clear();
+        }
+        Ok(())
+    }
+
+    fn new_chain(&mut self, rt: &impl Abort, chain: usize) -> Result<(), Fail> {
+        let fault = if self.plain.has(chain) {
+            Some(TableFault::ChainExists)
+        } else {
+            None
+        };
+        self.run(rt, "-N", chain, None, None, fault)?;
+        self.plain.make(chain);
+        Ok(())
+    }
+
+    // One edit that is drawn.
+    fn edit(&mut self, rt: &impl Abort, dice: &mut Dice) -> Result<(), Fail> {
+        let chain = dice.below(8);
+        let draft = dice.draft();
+        let count = self.plain.rules(chain).len();
+        let number = dice.below(count.saturating_add(3));
+        match dice.below(32) {
+            0 => self.new_chain(rt, chain),
+            1 => self.flush(rt, chain),
+            2..=7 => self.delete_at(rt, chain, number),
+            8..=10 => self.delete_rule(rt, chain, draft),
+            11 => match self.plain.rules(chain).last() {
+                Some(last) => {
+                    let last = *last;
+                    self.delete_rule(rt, chain, last)
+                }
+                None => self.append(rt, chain, draft),
+            },
+            12..=17 => self.replace(rt, chain, number, draft),
+            18..=24 => self.insert(rt, chain, number, draft),
+            _ => self.append(rt, chain, draft),
+        }
+    }
+
+    // A table made anew from the plain lists, with the policies of a new one.
+    fn anew(&self, rt: &impl Abort) -> Result<Pair, Fail> {
+        let mut pair = Pair::new(self.filter.alloc)?;
+        for chain in 3..8usize {
+            if self.plain.has(chain) {
+                pair.new_chain(rt, chain)?;
+            }
+        }
+        for chain in 0..8usize {
+            for draft in self.plain.rules(chain) {
+                pair.append(rt, chain, *draft)?;
+            }
+        }
+        Ok(pair)
+    }
+
+    // Compares all that the table shows with what a table made anew shows.
+    fn check(&self, rt: &impl Abort) -> Result<(), Fail> {
+        let alloc = self.filter.alloc;
+        assert!(rt; self.filter.listed(rt)?.as_str() == self.plain.listed(alloc)?.as_str());
+        let anew = self.anew(rt)?;
+        assert!(rt; self.filter.shown(rt)?.as_str() == anew.filter.shown(rt)?.as_str());
+        for packet in PACKETS {
+            let (reply, other) = (
+                self.filter.reply(rt, packet)?,
+                anew.filter.reply(rt, packet)?,
+            );
+            assert_eq!(rt; reply.as_str(), other.as_str(), "{packet}");
+        }
+        Ok(())
+    }
+}
+
+const PACKETS: [&str; 5] = [
+    "INPUT src=10.0.0.1 dst=2.2.2.2 proto=tcp sport=1 dport=22 in=eth0",
+    "INPUT src=11.0.0.1 dst=2.2.2.2 proto=udp frag=1 in=lo",
+    "FORWARD src=10.0.0.1 dst=2.2.2.2 proto=47 in=lo out=eth0",
+    "FORWARD src=11.0.0.1 dst=2.2.2.2 proto=tcp frag=1 in=eth0 out=lo",
+    "OUTPUT src=10.0.0.1 dst=2.2.2.2 proto=47 out=lo",
+];
+
+#[test]
+fn random_edits(rt: HostRuntime) -> Result<(), Fail> {
+    let mut dice = Dice { state: 7 };
+    let mut pair = Pair::new(rt.alloc())?;
+    for _ in 0..500u32 {
+        pair.edit(&rt, &mut dice)?;
+        pair.check(&rt)?;
+    }
+    Ok(())
+}

@@ -1,0 +1,253 @@
+// Each call once, with its answer.
+use crate::commands::Filter;
+use fields::Field;
+use std::process::Abort;
+use std::test::Fail;
+use table::Policy;
+
+const PACKET: &str = "INPUT src=10.0.0.1 dst=2.2.2.2 proto=47";
+
+// Runs a command, and compares what the table lists and its reply to the packet.
+fn step(
+    rt: &impl Abort,
+    filter: &mut Filter,
+    line: &str,
+    listed: &str,
+    reply: &str,
+) -> Result<(), Fail> {
+    assert_eq!(rt; filter.run(rt, line)?, Ok(()), "{line}");
+    assert_eq!(rt; filter.listed(rt)?.as_str(), listed, "{line}");
+    assert_eq!(rt; filter.reply(rt, PACKET)?.as_str(), reply, "{line}");
+    Ok(())
+}
+
+#[test]
+fn calls(rt: HostRuntime) -> Result<(), Fail> {
+    let mut filter = Filter::new(rt.alloc())?;
+    let rows = [
+        (
+            "-F",
+            "INPUT:0 FORWARD:0 OUTPUT:0",
+            "verdict ACCEPT by policy",
+        ),
+        (
+            "-N b",
+            "INPUT:0 FORWARD:0 OUTPUT:0 b:0",
+            "verdict ACCEPT by policy",
+        ),
+        (
+            "-N a",
+            "INPUT:0 FORWARD:0 OUTPUT:0 a:0 b:0",
+            "verdict ACCEPT by policy",
+        ),
+        (
+            "-N B",
+            "INPUT:0 FORWARD:0 OUTPUT:0 B:0 a:0 b:0",
+            "verdict ACCEPT by policy",
+        ),
+        (
+            "-N a2",
+            "INPUT:0 FORWARD:0 OUTPUT:0 B:0 a:0 a2:0 b:0",
+            "verdict ACCEPT by policy",
+        ),
+        (
+            "-A INPUT -s 10.0.0.0/8 -j DROP",
+            "INPUT:1 FORWARD:0 OUTPUT:0 B:0 a:0 a2:0 b:0",
+            "INPUT 1, verdict DROP by rule",
+        ),
+        (
+            "-I INPUT 1 -j a2",
+            "INPUT:2 FORWARD:0 OUTPUT:0 B:0 a:0 a2:0 b:0",
+            "INPUT 1, INPUT 2, verdict DROP by rule",
+        ),
+        (
+            "-A a2 -j ACCEPT",
+            "INPUT:2 FORWARD:0 OUTPUT:0 B:0 a:0 a2:1 b:0",
+            "INPUT 1, a2 1, verdict ACCEPT by rule",
+        ),
+        (
+            "-I INPUT 3 -j LOG",
+            "INPUT:3 FORWARD:0 OUTPUT:0 B:0 a:0 a2:1 b:0",
+            "INPUT 1, a2 1, verdict ACCEPT by rule",
+        ),
+        (
+            "-R a2 1 -g B",
+            "INPUT:3 FORWARD:0 OUTPUT:0 B:0 a:0 a2:1 b:0",
+            "INPUT 1, a2 1, INPUT 2, verdict DROP by rule",
+        ),
+        (
+            "-R INPUT 2 -p udp -j DROP",
+            "INPUT:3 FORWARD:0 OUTPUT:0 B:0 a:0 a2:1 b:0",
+            "INPUT 1, a2 1, INPUT 3, verdict ACCEPT by policy",
+        ),
+        (
+            "-C INPUT -p 17 -j DROP",
+            "INPUT:3 FORWARD:0 OUTPUT:0 B:0 a:0 a2:1 b:0",
+            "INPUT 1, a2 1, INPUT 3, verdict ACCEPT by policy",
+        ),
+        (
+            "-D INPUT 3",
+            "INPUT:2 FORWARD:0 OUTPUT:0 B:0 a:0 a2:1 b:0",
+            "INPUT 1, a2 1, verdict ACCEPT by policy",
+        ),
+        (
+            "-P INPUT DROP",
+            "INPUT:2 FORWARD:0 OUTPUT:0 B:0 a:0 a2:1 b:0",
+            "INPUT 1, a2 1, verdict DROP by policy",
+        ),
+        (
+            "-D INPUT -j a2",
+            "INPUT:1 FORWARD:0 OUTPUT:0 B:0 a:0 a2:1 b:0",
+            "verdict DROP by policy",
+        ),
+        (
+            "-F a2",
+            "INPUT:1 FORWARD:0 OUTPUT:0 B:0 a:0 a2:0 b:0",
+            "verdict DROP by policy",
+        ),
+        (
+            "-A b -j B",
+            "INPUT:1 FORWARD:0 OUTPUT:0 B:0 a:0 a2:0 b:1",
+            "verdict DROP by policy",
+        ),
+        (
+            "-F",
+            "INPUT:0 FORWARD:0 OUTPUT:0 B:0 a:0 a2:0 b:0",
+            "verdict DROP by policy",
+        ),
+        (
+            "-A B -j b",
+            "INPUT:0 FORWARD:0 OUTPUT:0 B:1 a:0 a2:0 b:0",
+            "verdict DROP by policy",
+        ),
+    ];
+    for (line, listed, reply) in rows {
+        step(&rt, &mut filter, line, listed, reply)?;
+    }
+    Ok(())
+}
+
+#[test]
+fn only_the_first_equal_rule_is_taken_out(rt: HostRuntime) -> Result<(), Fail> {
+    let lines = [
+        "-A INPUT -j LOG",
+        "-A INPUT -s 10.0.0.0/8 -j DROP",
+        "-A INPUT -j ACCEPT",
+        "-A INPUT -s 10.9.9.9/8 -j DROP",
+    ];
+    let mut filter = Filter::after(&rt, rt.alloc(), &lines)?;
+    let rows = [
+        (
+            "-C INPUT -s 10.0.0.0/255.0.0.0 -j DROP",
+            "INPUT:4 FORWARD:0 OUTPUT:0",
+            "INPUT 1, INPUT 2, verdict DROP by rule",
+        ),
+        (
+            "-D INPUT -s 10.0.0.0/8 -j DROP",
+            "INPUT:3 FORWARD:0 OUTPUT:0",
+            "INPUT 1, INPUT 2, verdict ACCEPT by rule",
+        ),
+        (
+            "-C INPUT -s 10.0.0.0/8 -j DROP",
+            "INPUT:3 FORWARD:0 OUTPUT:0",
+            "INPUT 1, INPUT 2, verdict ACCEPT by rule",
+        ),
+        (
+            "-D INPUT -j ACCEPT",
+            "INPUT:2 FORWARD:0 OUTPUT:0",
+            "INPUT 1, INPUT 2, verdict DROP by rule",
+        ),
+    ];
+    for (line, listed, reply) in rows {
+        step(&rt, &mut filter, line, listed, reply)?;
+    }
+    Ok(())
+}
+
+#[test]
+fn a_loop_is_one_of_the_rules_that_are_there(rt: HostRuntime) -> Result<(), Fail> {
+    let lines = ["-N a", "-N b", "-N c", "-A a -j b", "-A b -j c"];
+    let mut filter = Filter::after(&rt, rt.alloc(), &lines)?;
+    assert_eq!(rt; filter.run(&rt, "-A c -j a")?, Err(table::TableFault::Loop));
+    assert_eq!(rt;
+        filter.listed(&rt)?.as_str(),
+        "INPUT:0 FORWARD:0 OUTPUT:0 a:1 b:1 c:0"
+    );
+    filter.run_all(&rt, &["-R b 1 -j LOG", "-A c -j a"])?;
+    assert_eq!(rt; filter.run(&rt, "-A b -g c")?, Err(table::TableFault::Loop));
+    filter.run_all(&rt, &["-D a 1", "-A b -g c"])?;
+    assert_eq!(rt; filter.run(&rt, "-A a -g b")?, Err(table::TableFault::Loop));
+    filter.run_all(&rt, &["-F c", "-A a -g b"])?;
+    Ok(())
+}
+
+#[test]
+fn views(rt: HostRuntime) -> Result<(), Fail> {
+    let lines = [
+        "-N b",
+        "-N a",
+        "-P FORWARD DROP",
+        "-A INPUT -s 10.1.2.3/8 -j ACCEPT",
+        "-A INPUT -p tcp --dport 22 -j DROP",
+    ];
+    let filter = Filter::after(&rt, rt.alloc(), &lines)?;
+    assert_eq!(rt; filter.table.chain_count(), 5);
+    let policies = [
+        Some(Policy::Accept),
+        Some(Policy::Drop),
+        Some(Policy::Accept),
+        None,
+        None,
+        None,
+    ];
+    for (place, policy) in policies.iter().enumerate() {
+        assert_eq!(rt; filter.table.policy(place), *policy, "{place}");
+    }
+    let names = ["INPUT", "FORWARD", "OUTPUT", "a", "b"];
+    for (place, name) in names.iter().enumerate() {
+        assert!(rt; filter.name_at(&rt, place) == name.as_bytes(), "{name}");
+    }
+    assert!(rt; filter.table.chain_count() > 0);
+    assert_eq!(rt; filter.table.rule_count(0), 2);
+    assert!(rt; filter.table.chain_count() > 0);
+    let classifier = filter.table.classifier(0);
+    assert_eq!(rt; classifier.len(), 2);
+    let starts: [(Field, &[u128]); 5] = [
+        (Field::Source, &[0, 167772160, 184549376]),
+        (Field::Destination, &[0]),
+        (Field::Protocol, &[0, 6, 7]),
+        (Field::Fragment, &[0, 1]),
+        (Field::DestinationPort, &[0, 22, 23]),
+    ];
+    for (field, expected) in starts {
+        let line = classifier.line(field);
+        assert_eq!(rt; line.len(), expected.len());
+        for (piece, start) in line.pieces().zip(expected.iter()) {
+            assert_eq!(rt; piece.start(), *start);
+        }
+    }
+    Ok(())
+}
+
+#[test]
+fn boxes_are_made_once_an_edit(rt: HostRuntime) -> Result<(), Fail> {
+    let mut filter = Filter::new(rt.alloc())?;
+    let rows = [
+        ("-N a", 0),
+        ("-A INPUT -j a", 1),
+        ("-A INPUT -s 10.0.0.0/8 -j DROP", 2),
+        ("-I INPUT 1 -j LOG", 3),
+        ("-R INPUT 1 -p udp -j LOG", 4),
+        ("-D INPUT 1", 4),
+        ("-C INPUT -j a", 4),
+        ("-D INPUT -j a", 4),
+        ("-P INPUT DROP", 4),
+        ("-F a", 4),
+        ("-F", 4),
+    ];
+    for (line, boxes) in rows {
+        assert_eq!(rt; filter.run(&rt, line)?, Ok(()), "{line}");
+        assert_eq!(rt; filter.work.boxes(), boxes, "{line}");
+    }
+    Ok(())
+}

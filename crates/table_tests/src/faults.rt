@@ -1,0 +1,161 @@
+// Each fault of each call, in the order in which they are asked: a line that several would refuse shows the first. What
+// is refused changes nothing.
+use crate::commands::Filter;
+use std::alloc::Global;
+use std::process::Abort;
+use std::test::Fail;
+use table::TableFault;
+
+// The table that the commands meet.
+const BEFORE: [&str; 8] = [
+    "-N a",
+    "-N b",
+    "-N c",
+    "-A a -j b",
+    "-A b -g c",
+    "-A INPUT -j a",
+    "-A INPUT -s 10.0.0.0/8 -j DROP",
+    "-P FORWARD DROP",
+];
+
+// Packets that tell such tables apart.
+const PACKETS: [&str; 3] = [
+    "INPUT src=10.1.1.1 dst=2.2.2.2 proto=47",
+    "FORWARD src=10.1.1.1 dst=2.2.2.2 proto=47",
+    "OUTPUT src=10.1.1.1 dst=2.2.2.2 proto=47",
+];
+
+// Compares the answers to commands, each of which is refused, and all that the table shows before and after.
+fn refused(rt: &impl Abort, alloc: Global, rows: &[(&str, TableFault)]) -> Result<(), Fail> {
+    let mut filter = Filter::after(rt, alloc, &BEFORE)?;
+    let before = filter.shown(rt)?;
+    for (line, fault) in rows {
+        assert_eq!(rt; filter.run(rt, line)?, Err(*fault), "{line}");
+        assert!(rt; filter.shown(rt)?.as_str() == before.as_str(), "{line}");
+        for rule in [
+            "-C a -j b",
+            "-C b -g c",
+            "-C INPUT -j a",
+            "-C INPUT -s 10.0.0.0/8 -j DROP",
+        ] {
+            assert_eq!(rt; filter.run(rt, rule)?, Ok(()), "{rule} after {line}");
+        }
+    }
+    let replies = [
+        "INPUT 1, a 1, b 1, INPUT 2, verdict DROP by rule",
+        "verdict DROP by policy",
+        "verdict ACCEPT by policy",
+    ];
+    for (packet, reply) in PACKETS.iter().zip(replies.iter()) {
+        assert_eq!(rt; filter.reply(rt, packet)?.as_str(), *reply, "{packet}");
+    }
+    Ok(())
+}
+
+#[test]
+fn appended_rules(rt: HostRuntime) -> Result<(), Fail> {
+    let rows = [
+        ("-A nowhere -o eth0 -j gone", TableFault::NoSuchChain),
+        ("-A input -j DROP", TableFault::NoSuchChain),
+        ("-A \"\" -j DROP", TableFault::NoSuchChain),
+        ("-A INPUT -o eth0 -j gone", TableFault::InterfaceNotAllowed),
+        (
+            "-A OUTPUT ! -i eth0 -j FORWARD",
+            TableFault::InterfaceNotAllowed,
+        ),
+        ("-A INPUT -j gone", TableFault::TargetMissing),
+        (
+            "-A FORWARD -i eth0 -o eth0 -g gone",
+            TableFault::TargetMissing,
+        ),
+        ("-A INPUT -g OUTPUT", TableFault::TargetBuiltIn),
+        ("-A INPUT -j INPUT", TableFault::TargetBuiltIn),
+        ("-A a -j a", TableFault::Loop),
+        ("-A c -j b", TableFault::Loop),
+        ("-A c -g a", TableFault::Loop),
+    ];
+    refused(&rt, rt.alloc(), &rows)
+}
+
+#[test]
+fn inserted_rules(rt: HostRuntime) -> Result<(), Fail> {
+    let rows = [
+        ("-I nowhere 0 -o eth0 -j gone", TableFault::NoSuchChain),
+        ("-I INPUT 0 -o eth0 -j gone", TableFault::NumberOutOfRange),
+        ("-I INPUT 4 -j DROP", TableFault::NumberOutOfRange),
+        ("-I c 2 -j DROP", TableFault::NumberOutOfRange),
+        (
+            "-I INPUT 3 -o eth0 -j gone",
+            TableFault::InterfaceNotAllowed,
+        ),
+        (
+            "-I OUTPUT 1 -i eth0 -j INPUT",
+            TableFault::InterfaceNotAllowed,
+        ),
+        ("-I INPUT 1 -j gone", TableFault::TargetMissing),
+        ("-I INPUT 1 -j FORWARD", TableFault::TargetBuiltIn),
+        ("-I c 1 -j a", TableFault::Loop),
+        ("-I b 2 -g b", TableFault::Loop),
+    ];
+    refused(&rt, rt.alloc(), &rows)
+}
+
+#[test]
+fn replaced_rules(rt: HostRuntime) -> Result<(), Fail> {
+    let rows = [
+        ("-R nowhere 0 -o eth0 -j gone", TableFault::NoSuchChain),
+        ("-R INPUT 0 -o eth0 -j gone", TableFault::NumberOutOfRange),
+        ("-R INPUT 3 -j DROP", TableFault::NumberOutOfRange),
+        ("-R c 1 -j DROP", TableFault::NumberOutOfRange),
+        (
+            "-R INPUT 2 -o eth0 -j gone",
+            TableFault::InterfaceNotAllowed,
+        ),
+        ("-R INPUT 1 -j gone", TableFault::TargetMissing),
+        ("-R INPUT 1 -g INPUT", TableFault::TargetBuiltIn),
+        ("-R b 1 -j a", TableFault::Loop),
+        ("-R a 1 -g a", TableFault::Loop),
+    ];
+    refused(&rt, rt.alloc(), &rows)
+}
+
+#[test]
+fn rules_taken_out_or_asked_for(rt: HostRuntime) -> Result<(), Fail> {
+    let rows = [
+        ("-D nowhere 0", TableFault::NoSuchChain),
+        ("-D INPUT 0", TableFault::NumberOutOfRange),
+        ("-D INPUT 3", TableFault::NumberOutOfRange),
+        ("-D c 1", TableFault::NumberOutOfRange),
+        ("-D nowhere -j DROP", TableFault::NoSuchChain),
+        ("-D INPUT -j DROP", TableFault::NoSuchRule),
+        ("-D INPUT -g a", TableFault::NoSuchRule),
+        ("-D c -j b", TableFault::NoSuchRule),
+        ("-C nowhere -j DROP", TableFault::NoSuchChain),
+        ("-C FORWARD -j a", TableFault::NoSuchRule),
+        ("-C INPUT -s 10.0.0.0/9 -j DROP", TableFault::NoSuchRule),
+        ("-F nowhere", TableFault::NoSuchChain),
+    ];
+    refused(&rt, rt.alloc(), &rows)
+}
+
+#[test]
+fn chains_and_policies(rt: HostRuntime) -> Result<(), Fail> {
+    let rows = [
+        ("-N \"\"", TableFault::BadChainName),
+        ("-N ACCEPT", TableFault::BadChainName),
+        ("-N QUEUE", TableFault::BadChainName),
+        ("-N -a", TableFault::BadChainName),
+        ("-N !a", TableFault::BadChainName),
+        ("-N \"a b\"", TableFault::BadChainName),
+        ("-N a2345678901234567890123456789", TableFault::BadChainName),
+        ("-N b", TableFault::ChainExists),
+        ("-N OUTPUT", TableFault::ChainExists),
+        ("-P nowhere REJECT", TableFault::NoSuchChain),
+        ("-P a REJECT", TableFault::NotBuiltInChain),
+        ("-P a DROP", TableFault::NotBuiltInChain),
+        ("-P INPUT REJECT", TableFault::BadPolicy),
+        ("-P INPUT drop", TableFault::BadPolicy),
+        ("-P OUTPUT \"\"", TableFault::BadPolicy),
+    ];
+    refused(&rt, rt.alloc(), &rows)
+}

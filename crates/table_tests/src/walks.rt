@@ -1,0 +1,197 @@
+// Walks of packets through small tables.
+use crate::commands::Filter;
+use std::alloc::Global;
+use std::process::Abort;
+use std::test::Fail;
+
+const INPUT: &str = "INPUT src=1.1.1.1 dst=2.2.2.2 proto=47";
+
+const FORWARD: &str = "FORWARD src=1.1.1.1 dst=2.2.2.2 proto=47";
+
+const OUTPUT: &str = "OUTPUT src=1.1.1.1 dst=2.2.2.2 proto=47";
+
+// Compares the replies of a table, made by commands, to packets.
+fn expect(
+    rt: &impl Abort,
+    alloc: Global,
+    lines: &[&str],
+    replies: &[(&str, &str)],
+) -> Result<(), Fail> {
+    let filter = Filter::after(rt, alloc, lines)?;
+    for (packet, reply) in replies {
+        assert_eq!(rt; filter.reply(rt, packet)?.as_str(), *reply, "{packet}");
+    }
+    Ok(())
+}
+
+#[test]
+fn a_goto_returns_past_its_chain(rt: HostRuntime) -> Result<(), Fail> {
+    let lines = [
+        "-N a",
+        "-N b",
+        "-A INPUT -j a",
+        "-A INPUT -j DROP",
+        "-A a -g b",
+        "-A b -j RETURN",
+    ];
+    let replies = [
+        (INPUT, "INPUT 1, a 1, b 1, INPUT 2, verdict DROP by rule"),
+        (FORWARD, "verdict ACCEPT by policy"),
+        (OUTPUT, "verdict ACCEPT by policy"),
+    ];
+    expect(&rt, rt.alloc(), &lines, &replies)
+}
+
+#[test]
+fn a_goto_in_a_built_in_chain_ends_at_the_policy(rt: HostRuntime) -> Result<(), Fail> {
+    let alloc = rt.alloc();
+    let lines = ["-N b", "-A INPUT -g b", "-A INPUT -j DROP"];
+    expect(
+        &rt,
+        alloc,
+        &lines,
+        &[(INPUT, "INPUT 1, verdict ACCEPT by policy")],
+    )?;
+    let lines = [
+        "-N b",
+        "-A INPUT -g b",
+        "-A INPUT -j ACCEPT",
+        "-A b -j RETURN",
+        "-P INPUT DROP",
+    ];
+    expect(
+        &rt,
+        alloc,
+        &lines,
+        &[(INPUT, "INPUT 1, b 1, verdict DROP by policy")],
+    )
+}
+
+#[test]
+fn a_goto_keeps_the_rests_before_it(rt: HostRuntime) -> Result<(), Fail> {
+    let lines = [
+        "-N a",
+        "-N b",
+        "-N c",
+        "-A FORWARD -j a",
+        "-A FORWARD -j REJECT",
+        "-A a -j b",
+        "-A a -j LOG",
+        "-A b -g c",
+        "-A b -j ACCEPT",
+        "-A c",
+    ];
+    let reply =
+        "FORWARD 1, a 1, b 1, c 1, a 2, FORWARD 2, verdict REJECT icmp-port-unreachable by rule";
+    expect(&rt, rt.alloc(), &lines, &[(FORWARD, reply)])
+}
+
+#[test]
+fn a_return_in_a_built_in_chain_is_its_policy(rt: HostRuntime) -> Result<(), Fail> {
+    let alloc = rt.alloc();
+    let lines = ["-A INPUT", "-A INPUT -j RETURN", "-A INPUT -j DROP"];
+    expect(
+        &rt,
+        alloc,
+        &lines,
+        &[(INPUT, "INPUT 1, INPUT 2, verdict ACCEPT by policy")],
+    )?;
+    let lines = [
+        "-P OUTPUT DROP",
+        "-A OUTPUT -j RETURN",
+        "-A OUTPUT -j ACCEPT",
+    ];
+    let replies = [
+        (OUTPUT, "OUTPUT 1, verdict DROP by policy"),
+        (INPUT, "verdict ACCEPT by policy"),
+    ];
+    expect(&rt, alloc, &lines, &replies)
+}
+
+#[test]
+fn logs_and_rules_without_a_target_go_on(rt: HostRuntime) -> Result<(), Fail> {
+    let lines = [
+        "-A INPUT -j LOG",
+        "-A INPUT -p udp -j DROP",
+        "-A INPUT -s 1.0.0.0/8",
+        "-A INPUT -j REJECT --reject-with icmp-host-prohibited",
+    ];
+    let reply = "INPUT 1, INPUT 3, INPUT 4, verdict REJECT icmp-host-prohibited by rule";
+    expect(&rt, rt.alloc(), &lines, &[(INPUT, reply)])
+}
+
+#[test]
+fn each_hook_has_its_chain(rt: HostRuntime) -> Result<(), Fail> {
+    let lines = [
+        "-A INPUT -i eth0 -j DROP",
+        "-A FORWARD -i eth0 -o eth1 -j DROP",
+        "-A OUTPUT -o eth1 -j DROP",
+        "-P FORWARD DROP",
+        "-P OUTPUT DROP",
+        "-P OUTPUT ACCEPT",
+    ];
+    let replies = [
+        (
+            "INPUT src=1.1.1.1 dst=2.2.2.2 proto=47 in=eth0",
+            "INPUT 1, verdict DROP by rule",
+        ),
+        (
+            "INPUT src=1.1.1.1 dst=2.2.2.2 proto=47 in=eth1",
+            "verdict ACCEPT by policy",
+        ),
+        (
+            "FORWARD src=1.1.1.1 dst=2.2.2.2 proto=47 in=eth0 out=eth1",
+            "FORWARD 1, verdict DROP by rule",
+        ),
+        (
+            "FORWARD src=1.1.1.1 dst=2.2.2.2 proto=47 in=eth0 out=eth0",
+            "verdict DROP by policy",
+        ),
+        (
+            "OUTPUT src=1.1.1.1 dst=2.2.2.2 proto=47 out=eth1",
+            "OUTPUT 1, verdict DROP by rule",
+        ),
+        (
+            "OUTPUT src=1.1.1.1 dst=2.2.2.2 proto=47 out=eth0",
+            "verdict ACCEPT by policy",
+        ),
+    ];
+    expect(&rt, rt.alloc(), &lines, &replies)
+}
+
+#[test]
+fn conditions_of_packets(rt: HostRuntime) -> Result<(), Fail> {
+    let alloc = rt.alloc();
+    let lines = ["-A INPUT -p tcp --syn -j DROP"];
+    let first = "INPUT src=1.1.1.1 dst=2.2.2.2 proto=tcp sport=1000 dport=80 flags=SYN,ACK";
+    let second = "INPUT src=1.1.1.1 dst=2.2.2.2 proto=tcp sport=1000 dport=80 flags=SYN";
+    let replies = [
+        (first, "verdict ACCEPT by policy"),
+        (second, "INPUT 1, verdict DROP by rule"),
+    ];
+    expect(&rt, alloc, &lines, &replies)?;
+    let lines = ["-A INPUT -p tcp ! --dport 80 -j DROP"];
+    let fragment = "INPUT src=1.1.1.1 dst=2.2.2.2 proto=tcp frag=1";
+    expect(
+        &rt,
+        alloc,
+        &lines,
+        &[(fragment, "verdict ACCEPT by policy")],
+    )?;
+    let lines = ["-A INPUT -p icmp --icmp-type ping -j REJECT"];
+    let ping = "INPUT src=1.1.1.1 dst=2.2.2.2 proto=icmp icmp=8/0";
+    let reply = "INPUT 1, verdict REJECT icmp-port-unreachable by rule";
+    expect(&rt, alloc, &lines, &[(ping, reply)])?;
+    let lines = ["-A INPUT -s 10.1.2.3/8 -j ACCEPT", "-A INPUT -j DROP"];
+    let replies = [
+        (
+            "INPUT src=10.9.9.9 dst=2.2.2.2 proto=47",
+            "INPUT 1, verdict ACCEPT by rule",
+        ),
+        (
+            "INPUT src=11.0.0.1 dst=2.2.2.2 proto=47",
+            "INPUT 2, verdict DROP by rule",
+        ),
+    ];
+    expect(&rt, alloc, &lines, &replies)
+}
