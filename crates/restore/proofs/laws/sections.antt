@@ -1,0 +1,3 @@
+pub mod NameLaws
+pub mod ByteLaws
+pub mod ChainLaws

@@ -1,0 +1,4 @@
+pub mod Sequence
+pub mod commands
+pub mod sections
+pub mod listings

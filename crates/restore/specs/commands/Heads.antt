@@ -1,0 +1,149 @@
+-- The words that write a command: its name, the words that follow it, and a rule where it takes one (iptables(8), "SYNOPSIS"
+-- and "COMMANDS").
+use Rattle.std.specs.Prelude.{ℕ, ◌-◌, ◌||◌, ◌&&◌, nat_lt, Bool, false, List, [], ◌∷◌, ◌++◌, map, find, length, slice_get, is_some}
+use Rattle.std.specs.Prelude.{Option, Some, None, Result, Ok, Err, codes, if◌then◌else◌}
+use Rattle.std.specs.Char.{is_ascii_digit}
+use Rattle.std.specs.List.{list_all}
+use Rattle.std.specs.Str.{bytes_eq}
+use Rattle.fields.specs.text.Number.{number_of}
+use Rattle.rules.specs.rule.Rules as rules
+use Rattle.rules.specs.reading.Steps.{rule_of}
+use Rattle.rules.specs.declared.reading.fault.Refusal.{Refusal}
+use Rattle.rules.specs.declared.reading.fault.Refusal.TheVariants as refusal
+use Rattle.rules.specs.declared.reading.fault.RuleFault.TheVariants.{Refused}
+use Rattle.table.specs.edits.Edits.{Edit, Append, Insert, Replace, DeleteAt, DeleteRule, Has, Flush, FlushAll, NewChain, DeleteChain}
+use Rattle.table.specs.edits.Edits.{DeleteChains, SetPolicy, Rename}
+use Rattle.restore.specs.Sequence.{◌>>=◌, or_refused, refused_as, made_into}
+use Rattle.restore.specs.commands.Command.{Command, Change, ListRules, CommandFault, NoCommand, TwoCommands, WordCount, OtherTable, Rule}
+
+-- a refusal of a value in the head, or of the rule
+abbrev pub refused : Refusal → CommandFault
+refused r = Rule (Refused r)
+
+-- what reads the words that are left, up to the end of the line; the number is the place after the last of them
+abbrev pub Reader : Type 0 → Type 0
+Reader A = ℕ → List (List ℕ) → Result A CommandFault
+
+-- no word is left
+abbrev pub nothing : {A : Type 0} → A → Reader A
+nothing x end [] = Ok x
+nothing x end (w ∷ ws) = Err WordCount
+
+-- the next word, whatever it looks like
+abbrev pub word : {A : Type 0} → (List ℕ → Reader A) → Reader A
+word next end [] = Err WordCount
+word next end (w ∷ ws) = next w end ws
+
+-- the next word, which is the last, or none
+abbrev pub perhaps : {A : Type 0} → A → (List ℕ → A) → Reader A
+perhaps alone next end [] = Ok alone
+perhaps alone next end (w ∷ ws) = nothing (next w) end ws
+
+-- the next word, which is a number
+abbrev pub number : {A : Type 0} → (ℕ → Reader A) → Reader A
+number next end [] = Err WordCount
+number next end (w ∷ ws) = or_refused (refused refusal.BadValue) (number_of w) >>= λ n. next n end ws
+
+-- one or more digits
+abbrev pub is_digits : List ℕ → Bool
+is_digits text = nat_lt 0 (length text) && list_all is_ascii_digit text
+
+-- the next word is a number where it is made of digits alone; else no number is there
+abbrev pub number_or_none : {A : Type 0} → (ℕ → Reader A) → Reader A → Reader A
+number_or_none next without end [] = without end []
+number_or_none next without end (w ∷ ws) = if is_digits w then number next end (w ∷ ws) else without end (w ∷ ws)
+
+-- the words that are left, as a rule
+abbrev pub rule : {A : Type 0} → (rules.Rule → A) → Reader A
+rule next end words = refused_as refused (made_into next (rule_of end words))
+
+-- a name, short and long, and what follows it
+pub record Head (A : Type 0) : Type 0 where
+  pub short : List ℕ
+  pub long : List ℕ
+  pub follows : Reader A
+
+-- a row of a table of heads
+abbrev pub head : {A : Type 0} → List ℕ → List ℕ → Reader A → Head A
+head short long follows = record { short = short; long = long; follows = follows }
+
+-- the commands that edit the table
+abbrev pub edits : List (Head Edit)
+edits =
+    head (codes "-A") (codes "--append") (word (λ chain. rule (λ r. Append chain r)))
+    ∷ head (codes "-C") (codes "--check") (word (λ chain. rule (λ r. Has chain r)))
+    ∷ head (codes "-D") (codes "--delete") (word (λ chain. number_or_none (λ n. nothing (DeleteAt chain n)) (rule (λ r. DeleteRule chain r))))
+    ∷ head (codes "-I") (codes "--insert") (word (λ chain. number_or_none (λ n. rule (λ r. Insert chain n r)) (rule (λ r. Insert chain 1 r))))
+    ∷ head (codes "-R") (codes "--replace") (word (λ chain. number (λ n. rule (λ r. Replace chain n r))))
+    ∷ head (codes "-F") (codes "--flush") (perhaps FlushAll (λ chain. Flush chain))
+    ∷ head (codes "-X") (codes "--delete-chain") (perhaps DeleteChains (λ chain. DeleteChain chain))
+    ∷ head (codes "-N") (codes "--new-chain") (word (λ name. nothing (NewChain name)))
+    ∷ head (codes "-P") (codes "--policy") (word (λ chain. word (λ policy. nothing (SetPolicy chain policy))))
+    ∷ head (codes "-E") (codes "--rename-chain") (word (λ old. word (λ new. nothing (Rename old new))))
+    ∷ []
+
+-- an edit is a command
+abbrev pub changing : Head Edit → Head Command
+changing h = head h.short h.long (λ end words. made_into Change (h.follows end words))
+
+-- all commands
+abbrev pub commands : List (Head Command)
+commands = map changing edits ++ head (codes "-S") (codes "--list-rules") (perhaps (ListRules None) (λ chain. ListRules (Some chain))) ∷ []
+
+-- the word is the short name or the long
+abbrev pub is_name_of : {A : Type 0} → List ℕ → Head A → Bool
+is_name_of w h = bytes_eq w h.short || bytes_eq w h.long
+
+-- what follows a head's name; another word is no command
+abbrev pub followed : {A : Type 0} → Option (Head A) → Reader A
+followed None end words = Err NoCommand
+followed (Some h) end words = h.follows end words
+
+-- one of these heads
+abbrev pub one_of : {A : Type 0} → List (Head A) → Reader A
+one_of heads end [] = Err NoCommand
+one_of heads end (w ∷ ws) = followed (find (is_name_of w) heads) end ws
+
+-- the word that names the table, with its value
+abbrev pub table : {A : Type 0} → Reader A → Head A
+table next = head (codes "-t") (codes "--table") next
+
+-- the next word, which is a value
+abbrev pub value : {A : Type 0} → (List ℕ → Reader A) → Reader A
+value next end [] = Err (refused refusal.ValueMissing)
+value next end (w ∷ ws) = next w end ws
+
+-- the table is named once
+abbrev pub again : {A : Type 0} → Head A
+again = table (value (λ name end words. Err (refused refusal.RepeatedOption)))
+
+-- the table is `filter`, and a command follows
+abbrev pub named : {A : Type 0} → List (Head A) → List ℕ → Reader A
+named heads name = if bytes_eq name (codes "filter") then one_of (again ∷ heads) else (λ end words. Err OtherTable)
+
+-- one of these commands, after its table where that is named
+abbrev pub line_of : {A : Type 0} → List (Head A) → Reader A
+line_of heads = one_of (table (value (named heads)) ∷ heads)
+
+-- the name of a command
+abbrev pub is_command : Option (List ℕ) → Bool
+is_command None = false
+is_command (Some w) = is_some (find (is_name_of w) commands)
+
+-- the word at a place of the line, where these words are its last ones
+abbrev pub word_at : ℕ → List (List ℕ) → ℕ → Option (List ℕ)
+word_at end words place = slice_get words (place - (end - length words))
+
+-- an unknown option that is a command's name is a second command
+abbrev pub or_second : ℕ → List (List ℕ) → CommandFault → CommandFault
+or_second end words (Rule (Refused (refusal.UnknownOption place))) =
+    if is_command (word_at end words place) then TwoCommands else refused (refusal.UnknownOption place)
+or_second end words fault = fault
+
+-- the command that the words write
+unfoldable pub command_of : Reader Command
+command_of end words = refused_as (or_second end words) (line_of commands end words)
+
+-- the edit that the words write: any command but `-S`
+unfoldable pub edit_of : Reader Edit
+edit_of end words = refused_as (or_second end words) (line_of edits end words)

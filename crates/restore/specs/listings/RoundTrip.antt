@@ -1,0 +1,16 @@
+-- The listing of a table restores it.
+use Rattle.std.specs.Prelude.{◌≡◌, false, Ok}
+use Rattle.fields.specs.text.Line.{lines_of}
+use Rattle.table.specs.chains.Sound.{IsSound}
+use Rattle.table.specs.chains.Table.{Table, empty_table}
+use Rattle.restore.specs.listings.Listing.{listing}
+use Rattle.restore.specs.sections.Restore.{restored}
+use Rattle.restore.specs.sections.Section.{inside, transaction}
+
+-- the listing of a table is read from the empty table without a refusal, as the table
+abbrev pub RestoresAsEqual : Type 0
+RestoresAsEqual = (t : Table) → IsSound t → restored false false empty_table (lines_of (listing t)) ≡ Ok t
+
+-- a section with the lines between `*filter` and `COMMIT` gives the table
+abbrev pub CommitsAsEqual : Type 0
+CommitsAsEqual = (t : Table) → IsSound t → transaction false empty_table (inside (lines_of (listing t))) ≡ Ok t

@@ -1,0 +1,4 @@
+pub mod Names
+pub mod Section
+pub mod Restore
+pub mod Lines

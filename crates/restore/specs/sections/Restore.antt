@@ -1,0 +1,104 @@
+-- A restore: sections one after another (iptables-restore(8)).
+use Rattle.std.specs.Prelude.{ℕ, ◌||◌, Bool, true, false, List, [], ◌∷◌, drop, take, Result, Ok, Err, codes}
+use Rattle.std.specs.Prelude.{if◌then◌else◌}
+use Rattle.std.specs.List.{list_all}
+use Rattle.std.specs.Str.{bytes_eq}
+use Rattle.fields.specs.text.Words.{is_blank, words_of}
+use Rattle.table.specs.chains.Table.{Table}
+use Rattle.restore.specs.Sequence.{◌>>=◌, or_refused, made_into}
+use Rattle.restore.specs.sections.Section.{RestoreFault, NotAllowed, EndBeforeCommit, Quoting, LineTooLong, Section, begun, is_quiet}
+use Rattle.restore.specs.sections.Section.{is_too_long, begins_with, line_in}
+
+-- where a line of a restore stands: between sections, in a section that is skipped, or in one that is built
+pub data Place : Type 0 where
+  Between : Place
+  Skipping : Place
+  Building : Section → Place
+
+-- a restore: its options, and where its next line stands
+pub record Restore : Type 0 where
+  pub noflush : Bool
+  pub test : Bool
+  pub place : Place
+
+-- a restore begins
+abbrev pub begun_restore : Bool → Bool → Restore
+begun_restore noflush test = record { noflush = noflush; test = test; place = Between }
+
+-- the restore, with its next line there
+abbrev pub at : Restore → Place → Restore
+at r place = record { noflush = r.noflush; test = r.test; place = place }
+
+-- the line without the blanks and tabs before it
+abbrev pub after_blanks : List ℕ → List ℕ
+after_blanks [] = []
+after_blanks (byte ∷ bytes) = if is_blank byte then after_blanks bytes else byte ∷ bytes
+
+-- the bytes `COMMIT`, with blanks and tabs round them or not
+abbrev pub is_commit : List ℕ → Bool
+is_commit line = let rest = after_blanks line in if bytes_eq (take 6 rest) (codes "COMMIT") then list_all is_blank (drop 6 rest) else false
+
+-- the table that is in place after a line, and the restore
+pub record Restoring : Type 0 where
+  pub table : Table
+  pub restore : Restore
+
+-- this table, and the restore with its next line there
+abbrev pub moved : Table → Restore → Place → Restoring
+moved t r place = record { table = t; restore = at r place }
+
+-- `*filter` opens a section that is built, any other word that begins with `*` one that is skipped
+abbrev pub opened : Restore → Table → List ℕ → Place
+opened r t w = if bytes_eq w (codes "*filter") then Building (begun r.noflush t) else Skipping
+
+-- between sections a line of one word that begins with `*` opens one, and no other line is allowed
+abbrev pub opening : Restore → Table → List (List ℕ) → Result Place RestoreFault
+opening r t (w ∷ []) = if begins_with 42 w then Ok (opened r t w) else Err NotAllowed
+opening r t words = Err NotAllowed
+
+-- a line between sections
+abbrev pub between : Restore → Table → List ℕ → Result Place RestoreFault
+between r t line = if is_quiet line then Ok Between else or_refused Quoting (words_of line) >>= λ words. opening r t words
+
+-- `COMMIT` puts the built table in place, but for a test
+abbrev pub committed : Restore → Table → Section → Table
+committed r t s = if r.test then t else s.table
+
+-- a line, by where it stands; of a skipped section nothing is read up to `COMMIT`
+abbrev pub line_at : Place → Restore → Table → List ℕ → Result Restoring RestoreFault
+line_at Between r t line = made_into (moved t r) (between r t line)
+line_at Skipping r t line = Ok (moved t r (if is_commit line then Between else Skipping))
+line_at (Building s) r t line =
+    if is_commit line then Ok (moved (committed r t s) r Between)
+    else made_into (λ next. moved t r (Building next)) (line_in s line)
+
+-- one line of a restore; its length is asked first
+unfoldable pub restore_line : Restore → Table → List ℕ → Result Restoring RestoreFault
+restore_line r t line = if is_too_long line then Err LineTooLong else line_at r.place r t line
+
+-- the end of the lines is between sections
+abbrev pub ended_at : Place → Result (Unit {0}) RestoreFault
+ended_at Between = Ok tt
+ended_at Skipping = Err EndBeforeCommit
+ended_at (Building s) = Err EndBeforeCommit
+
+-- lines one after another, up to the first refusal
+abbrev pub restore_lines : Restoring → List (List ℕ) → Result Restoring RestoreFault
+restore_lines s [] = Ok s
+restore_lines s (line ∷ lines) = restore_line s.restore s.table line >>= λ next. restore_lines next lines
+
+-- the table that a whole restore gives
+abbrev pub restored : Bool → Bool → Table → List (List ℕ) → Result Table RestoreFault
+restored noflush test t lines =
+    restore_lines (record { table = t; restore = begun_restore noflush test }) lines >>= λ (s : Restoring).
+    made_into (λ done. s.table) (ended_at s.restore.place)
+
+-- a section that is skipped
+abbrev pub is_skipping : Place → Bool
+is_skipping Between = false
+is_skipping Skipping = true
+is_skipping (Building s) = false
+
+-- no memory is taken for a line that is too long, blank, a comment, of a skipped section, or `COMMIT`
+abbrev pub takes_no_memory : Place → List ℕ → Bool
+takes_no_memory place line = is_too_long line || is_skipping place || is_quiet line || is_commit line

@@ -1,0 +1,188 @@
+-- A section of a restore: its lines, applied in order to a table of its own (iptables-restore(8)).
+use Rattle.std.specs.Prelude.{ℕ, ◌-◌, ◌==◌, ◌&&◌, ◌||◌, not, nat_lt, Bool, true, false, List, [], ◌∷◌, ◌++◌, find, length, take, drop, option_and_then}
+use Rattle.std.specs.Prelude.{Option, Some, None, Result, Ok, Err, codes, if◌then◌else◌, refl}
+use Rattle.std.specs.Coded.{Coded, code_by, coded×}
+use Rattle.std.specs.FinSet as set
+use Rattle.std.specs.Str.{bytes_eq}
+use Rattle.fields.specs.text.Cut.{cut_at}
+use Rattle.fields.specs.text.Words.{is_blank, words_of}
+use Rattle.table.specs.chains.Table.{Table, TableView, emptied, is_built_in, has_chain}
+use Rattle.table.specs.edits.Edits.{Edit, Flush, NewChain, SetPolicy, step}
+use Rattle.table.specs.declared.fault.TableFault.TheVariants as table
+use Rattle.restore.specs.Sequence.{◌>>=◌, or_refused, refused_as, made_into}
+use Rattle.restore.specs.commands.Command as command
+use Rattle.restore.specs.commands.Heads.{edit_of, is_digits}
+use Rattle.restore.specs.sections.Names.{Names}
+pub use Rattle.restore.specs.declared.fault.RestoreFault.{RestoreFault}
+pub use Rattle.restore.specs.declared.fault.RestoreFault.TheVariants.{Command, Table as OfTable, NotAllowed, BadChainLine, DuplicateChainLine}
+pub use Rattle.restore.specs.declared.fault.RestoreFault.TheVariants.{EndBeforeCommit, Quoting, LineTooLong, NoMemory}
+
+-- memory ran out
+abbrev pub is_out_of_memory : RestoreFault → Bool
+is_out_of_memory NoMemory = true
+is_out_of_memory (OfTable table.NoMemory) = true
+is_out_of_memory (Command fault) = command.is_out_of_memory fault
+is_out_of_memory fault = false
+
+-- the table so far, and the names that chain lines had
+pub record Section : Type 0 where
+  pub table : Table
+  pub named : Names
+
+-- a section is stored as its table and its names
+abbrev pub section_code : Coded TableView → Coded Names → Coded Section
+section_code table names =
+    code_by (TableView × Names) (coded× table names) (λ (s : Section). (record { table = s.table; classifiers = [] }, s.named))
+    (λ (p : TableView × Names). record { table = p.0.table; named = p.1 }) (λ s. refl)
+
+-- a section begins: with noflush from the table, and else from it without its rules and user chains
+abbrev pub begun : Bool → Table → Section
+begun noflush t = record { table = if noflush then t else emptied t; named = set.empty }
+
+-- a line whose first byte other than a blank or tab is `#`, or that has none
+abbrev pub is_comment_at : Option ℕ → Bool
+is_comment_at None = true
+is_comment_at (Some b) = b == 35
+
+-- a blank line or a comment
+abbrev pub is_quiet : List ℕ → Bool
+is_quiet line = is_comment_at (find (λ b. not (is_blank b)) line)
+
+-- the first byte is this one
+abbrev pub begins_with : ℕ → List ℕ → Bool
+begins_with byte [] = false
+begins_with byte (b ∷ bs) = b == byte
+
+-- two texts, each of digits
+abbrev pub are_both_digits : Option (List ℕ × List ℕ) → Bool
+are_both_digits None = false
+are_both_digits (Some p) = is_digits p.0 && is_digits p.1
+
+-- what stands between the first and the last
+abbrev pub inside : {A : Type 0} → List A → List A
+inside text = drop 1 (take (length text - 1) text)
+
+-- what stands between `[` and `]`
+abbrev pub in_brackets : List ℕ → Option (List ℕ)
+in_brackets text = if bytes_eq text (codes "[" ++ (inside text ++ codes "]")) then Some (inside text) else None
+
+-- the text is `[p:b]`, each one or more digits
+abbrev pub is_counters : List ℕ → Bool
+is_counters text = are_both_digits (option_and_then (cut_at 58) (in_brackets text))
+
+-- what stands after the name in a chain line: a policy, and perhaps counters
+abbrev pub policy_word : List (List ℕ) → Option (List ℕ)
+policy_word (policy ∷ []) = Some policy
+policy_word (policy ∷ (counters ∷ [])) = if is_counters counters then Some policy else None
+policy_word words = None
+
+-- the word that names no policy
+abbrev pub is_none_word : List ℕ → Bool
+is_none_word policy = bytes_eq policy (codes "-")
+
+-- the word of a policy
+abbrev pub is_policy : List ℕ → Bool
+is_policy text = bytes_eq text (codes "ACCEPT") || bytes_eq text (codes "DROP")
+
+-- a built-in chain has ACCEPT, DROP or `-`, any other name `-`
+abbrev pub may_be_policy : List ℕ → List ℕ → Bool
+may_be_policy name policy = is_none_word policy || is_built_in name && is_policy policy
+
+-- the policy's word, where the chain may have it
+abbrev pub checked_policy : List ℕ → Option (List ℕ) → Result (List ℕ) RestoreFault
+checked_policy name None = Err BadChainLine
+checked_policy name (Some policy) = if may_be_policy name policy then Ok policy else Err BadChainLine
+
+-- what a chain line asks of the table: a policy for a built-in chain, where it isn't `-`; a user chain that is there is
+-- emptied, and a name that isn't there is made
+abbrev pub chain_edit : Table → List ℕ → List ℕ → Option Edit
+chain_edit t name policy =
+    if is_built_in name then (if is_none_word policy then None else Some (SetPolicy name policy))
+    else if has_chain t name then Some (Flush name)
+    else Some (NewChain name)
+
+-- a chain line is the first for its name in the section
+abbrev pub chain_line : Section → List ℕ → List ℕ → Result (Option Edit) RestoreFault
+chain_line s name policy = if set.contains s.named name then Err DuplicateChainLine else Ok (chain_edit s.table name policy)
+
+-- a command after counters, which are dropped, or without
+abbrev pub without_counters : List (List ℕ) → List (List ℕ)
+without_counters [] = []
+without_counters (w ∷ ws) = if is_counters w then ws else w ∷ ws
+
+-- what a line asks of the table, and the name of a chain line
+pub record Asked : Type 0 where
+  pub edit : Option Edit
+  pub name : Option (List ℕ)
+
+-- a chain line asks
+abbrev pub by_chain_line : List ℕ → Option Edit → Asked
+by_chain_line name edit = record { edit = edit; name = Some name }
+
+-- a command asks
+abbrev pub by_command : Edit → Asked
+by_command edit = record { edit = Some edit; name = None }
+
+-- nothing is asked
+abbrev pub asks_nothing : Asked
+asks_nothing = record { edit = None; name = None }
+
+-- a chain line of a name, with the words after it
+abbrev pub asked_of_chain : Section → List ℕ → List (List ℕ) → Result Asked RestoreFault
+asked_of_chain s name words =
+    checked_policy name (policy_word words) >>= λ policy. made_into (by_chain_line name) (chain_line s name policy)
+
+-- a command, with its counters
+abbrev pub asked_of_command : List (List ℕ) → Result Asked RestoreFault
+asked_of_command words = refused_as Command (made_into by_command (edit_of (length words) (without_counters words)))
+
+-- by the first word: `*` isn't allowed, `:` begins a chain line, any other line is a command
+abbrev pub asked_by : Section → List (List ℕ) → Result Asked RestoreFault
+asked_by s [] = Ok asks_nothing
+asked_by s (w ∷ ws) =
+    if begins_with 42 w then Err NotAllowed
+    else if begins_with 58 w then asked_of_chain s (drop 1 w) ws
+    else asked_of_command (w ∷ ws)
+
+-- a line has at most 10,240 bytes
+abbrev pub is_too_long : List ℕ → Bool
+is_too_long line = nat_lt 10240 (length line)
+
+-- what a line asks; its length is asked first, and blank lines and comments ask nothing
+unfoldable pub asked : Section → List ℕ → Result Asked RestoreFault
+asked s line =
+    if is_too_long line then Err LineTooLong
+    else if is_quiet line then Ok asks_nothing
+    else or_refused Quoting (words_of line) >>= λ words. asked_by s words
+
+-- the table after an edit, if there is one
+abbrev pub edited_by : Option Edit → Table → Result Table RestoreFault
+edited_by None t = Ok t
+edited_by (Some edit) t = refused_as OfTable (step edit t)
+
+-- the names that chain lines had, with one more
+abbrev pub with_name : Option (List ℕ) → Names → Names
+with_name None names = names
+with_name (Some name) names = set.insert names name
+
+-- what was asked is done to the table, and the name of a chain line is kept
+abbrev pub done : Section → Result Asked RestoreFault → Result Section RestoreFault
+done s asks = asks >>= λ (a : Asked). edited_by a.edit s.table >>= λ t. Ok (record { table = t; named = with_name a.name s.named })
+
+-- a line of a section, or the first refusal
+abbrev pub line_in : Section → List ℕ → Result Section RestoreFault
+line_in s line = done s (asked s line)
+
+-- lines one after another, up to the first refusal
+abbrev pub lines_in : Section → List (List ℕ) → Result Section RestoreFault
+lines_in s [] = Ok s
+lines_in s (line ∷ lines) = line_in s line >>= λ next. lines_in next lines
+
+-- the table that the lines of one section give
+abbrev pub transaction : Bool → Table → List (List ℕ) → Result Table RestoreFault
+transaction noflush t lines = made_into (λ (s : Section). s.table) (lines_in (begun noflush t) lines)
+
+-- memory ran out in a call
+abbrev pub ran_out : {A : Type 0} → Result A RestoreFault → Bool
+ran_out (Ok x) = false
+ran_out (Err f) = is_out_of_memory f
