@@ -4,9 +4,11 @@
 mod change;
 mod command;
 mod fault;
+mod restore;
 mod section;
 
 pub use change::apply;
 pub use command::Command;
 pub use fault::{CommandFault, RestoreFault};
+pub use restore::Restore;
 pub use section::Transaction;

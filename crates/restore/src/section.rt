@@ -58,7 +58,7 @@ fn as_restore(answer: Result<(), TableFault>) -> Result<(), RestoreFault>
 }
 
 // The words of a line.
-fn split(alloc: Global, line: &[u8]) -> Result<Words, RestoreFault>
+pub(crate) fn split(alloc: Global, line: &[u8]) -> Result<Words, RestoreFault>
     ensures { Gives is_out_of_memory (λ words. words) result (or_refused Quoting (words_of line.now)) }
 {
     match Words::split(alloc, line) {
@@ -69,7 +69,7 @@ fn split(alloc: Global, line: &[u8]) -> Result<Words, RestoreFault>
 }
 
 // Whether a word begins with a byte.
-fn begins_with(word: &[u8], byte: u8) -> bool
+pub(crate) fn begins_with(word: &[u8], byte: u8) -> bool
     ensures { result ≡ begins_with byte word.now }
 {
     match word.first() {

@@ -1,3 +1,6 @@
 pub mod NameLaws
 pub mod ByteLaws
 pub mod ChainLaws
+pub mod CommitLaws
+pub mod CommandLaws
+pub mod LineLaws

@@ -1,6 +1,7 @@
 -- A restore: sections one after another (iptables-restore(8)).
 use Rattle.std.specs.Prelude.{ℕ, ◌||◌, Bool, true, false, List, [], ◌∷◌, drop, take, Result, Ok, Err, codes}
-use Rattle.std.specs.Prelude.{if◌then◌else◌}
+use Rattle.std.specs.Prelude.{if◌then◌else◌, refl}
+use Rattle.std.specs.Coded.{Coded, code_by, coded×, coded_bool}
 use Rattle.std.specs.List.{list_all}
 use Rattle.std.specs.Str.{bytes_eq}
 use Rattle.fields.specs.text.Words.{is_blank, words_of}
@@ -8,18 +9,20 @@ use Rattle.table.specs.chains.Table.{Table}
 use Rattle.restore.specs.Sequence.{◌>>=◌, or_refused, made_into}
 use Rattle.restore.specs.sections.Section.{RestoreFault, NotAllowed, EndBeforeCommit, Quoting, LineTooLong, Section, begun, is_quiet}
 use Rattle.restore.specs.sections.Section.{is_too_long, begins_with, line_in}
-
--- where a line of a restore stands: between sections, in a section that is skipped, or in one that is built
-pub data Place : Type 0 where
-  Between : Place
-  Skipping : Place
-  Building : Section → Place
+pub use Rattle.restore.specs.declared.restore.Place.{Place}
+pub use Rattle.restore.specs.declared.restore.Place.TheVariants.{Between, Skipping, Building}
 
 -- a restore: its options, and where its next line stands
 pub record Restore : Type 0 where
   pub noflush : Bool
   pub test : Bool
   pub place : Place
+
+-- a restore is stored as its options and its place
+abbrev pub restore_code : Coded Place → Coded Restore
+restore_code place =
+    code_by ((Bool × Bool) × Place) (coded× (coded× coded_bool coded_bool) place) (λ (r : Restore). ((r.noflush, r.test), r.place))
+    (λ (p : (Bool × Bool) × Place). record { noflush = p.0.0; test = p.0.1; place = p.1 }) (λ r. refl)
 
 -- a restore begins
 abbrev pub begun_restore : Bool → Bool → Restore
@@ -48,28 +51,32 @@ abbrev pub moved : Table → Restore → Place → Restoring
 moved t r place = record { table = t; restore = at r place }
 
 -- `*filter` opens a section that is built, any other word that begins with `*` one that is skipped
-abbrev pub opened : Restore → Table → List ℕ → Place
-opened r t w = if bytes_eq w (codes "*filter") then Building (begun r.noflush t) else Skipping
+abbrev pub opened : Bool → Table → List ℕ → Place
+opened noflush t w = if bytes_eq w (codes "*filter") then Building (begun noflush t) else Skipping
 
 -- between sections a line of one word that begins with `*` opens one, and no other line is allowed
-abbrev pub opening : Restore → Table → List (List ℕ) → Result Place RestoreFault
-opening r t (w ∷ []) = if begins_with 42 w then Ok (opened r t w) else Err NotAllowed
-opening r t words = Err NotAllowed
+abbrev pub opening : Bool → Table → List (List ℕ) → Result Place RestoreFault
+opening noflush t (w ∷ []) = if begins_with 42 w then Ok (opened noflush t w) else Err NotAllowed
+opening noflush t words = Err NotAllowed
 
 -- a line between sections
-abbrev pub between : Restore → Table → List ℕ → Result Place RestoreFault
-between r t line = if is_quiet line then Ok Between else or_refused Quoting (words_of line) >>= λ words. opening r t words
+abbrev pub between : Bool → Table → List ℕ → Result Place RestoreFault
+between noflush t line = if is_quiet line then Ok Between else or_refused Quoting (words_of line) >>= λ words. opening noflush t words
+
+-- a line of a section that is skipped: `COMMIT` ends it
+abbrev pub skipped : List ℕ → Place
+skipped line = if is_commit line then Between else Skipping
 
 -- `COMMIT` puts the built table in place, but for a test
-abbrev pub committed : Restore → Table → Section → Table
-committed r t s = if r.test then t else s.table
+abbrev pub committed : Bool → Table → Section → Table
+committed test t s = if test then t else s.table
 
 -- a line, by where it stands; of a skipped section nothing is read up to `COMMIT`
 abbrev pub line_at : Place → Restore → Table → List ℕ → Result Restoring RestoreFault
-line_at Between r t line = made_into (moved t r) (between r t line)
-line_at Skipping r t line = Ok (moved t r (if is_commit line then Between else Skipping))
+line_at Between r t line = made_into (moved t r) (between r.noflush t line)
+line_at Skipping r t line = Ok (moved t r (skipped line))
 line_at (Building s) r t line =
-    if is_commit line then Ok (moved (committed r t s) r Between)
+    if is_commit line then Ok (moved (committed r.test t s) r Between)
     else made_into (λ next. moved t r (Building next)) (line_in s line)
 
 -- one line of a restore; its length is asked first

@@ -1,0 +1,91 @@
+-- What a restore answers to a line.
+use Rattle.std.proofs.Common.{◌≡◌, inl, inr, ℕ, Bool, true, false, not, ◌||◌, ◌&&◌, List, refl, sym, ◌∙◌, ap, subst, Result, Ok, Err, IsTrue, IsFalse, if◌then◌else◌}
+use Rattle.std.proofs.lemmas.Bool.{true≢false, false≢true, false_from_ne_true}
+use Rattle.std.specs.Bool.{MatchBool}
+use Rattle.table.specs.chains.Table.{Table, TableView}
+use Rattle.restore.specs.Sequence.{Gives, made_into}
+use Rattle.restore.specs.sections.Lines.{Answers, IsLine, RanOut, puts_table}
+use Rattle.restore.specs.sections.Restore.{Restore, Restoring, Place, Between, Skipping, Building, between, committed, is_commit, is_skipping, line_at, moved, restore_line, skipped, takes_no_memory}
+use Rattle.restore.specs.sections.Section.{RestoreFault, LineTooLong, Section, is_out_of_memory, is_quiet, is_too_long, line_in}
+
+-- a line of more bytes than it may have
+unfolding restore_line
+pub too_long : (r : Restore) (line : List ℕ) (old : TableView) → is_too_long line ≡ true → IsLine r line old old (Err LineTooLong)
+too_long r line old long =
+    inl (subst (λ b. Answers (if b then Err LineTooLong else line_at r.place r old.table line) (puts_table r line) old old (Err LineTooLong)) (sym long) (refl, refl))
+
+-- another line is done by where it stands
+unfolding restore_line
+by_place : (r : Restore) (line : List ℕ) (t : Table) → is_too_long line ≡ false → restore_line r t line ≡ line_at r.place r t line
+by_place r line t short = ap (λ b. if b then Err LineTooLong else line_at r.place r t line) short
+
+answered : (r : Restore) (line : List ℕ) (old new : TableView) (result : Result Restore RestoreFault) (given : Result Restoring RestoreFault) → restore_line r old.table line ≡ given → Answers given (puts_table r line) old new result → IsLine r line old new result
+answered r line old new result given is a = inl (subst (λ (g : Result Restoring RestoreFault). Answers g (puts_table r line) old new result) (sym is) a)
+
+-- a refusal: the definition's, or that memory ran out on a line that may take some
+refused : {A : Type 0} (r : Restore) (line : List ℕ) (old : TableView) (f : RestoreFault) (put : A → Restoring) (given : Result A RestoreFault) → restore_line r old.table line ≡ made_into put given → Gives is_out_of_memory (λ x. x) (Err f) given → (takes_no_memory r.place line ≡ true → is_out_of_memory f ≡ false) → IsLine r line old old (Err f)
+refused r line old f put given is g needs =
+    elim (is_out_of_memory f) as (λ b. is_out_of_memory f ≡ b → MatchBool b (Unit {0}) (given ≡ Err f) → IsLine r line old old (Err f)) [
+      | true ↦ λ memory h. inr (record { fault = f; answer = refl; memory = memory; may_take = false_from_ne_true (takes_no_memory r.place line) (λ takes. true≢false (sym memory ∙ needs takes)); unchanged = refl })
+      | false ↦ λ memory h. answered r line old old (Err f) (Err f) (is ∙ ap (made_into put) h) (refl, refl)
+    ] refl g
+
+either : (a b c : Bool) → (a ≡ true → c ≡ false) → (b ≡ true → c ≡ false) → (a || b) ≡ true → c ≡ false
+either true b c left right e = left refl
+either false b c left right e = right e
+
+module _ (noflush test : Bool) (line : List ℕ) (short : is_too_long line ≡ false) where
+  -- the restore, with its next line there
+  abbrev here : Place → Restore
+  here place = record { noflush = noflush; test = test; place = place }
+
+  -- of what a line takes no memory
+  takes_none : (place : Place) → is_skipping place ≡ false → takes_no_memory place line ≡ (is_quiet line || is_commit line)
+  takes_none place other = (λ i. short i || other i || is_quiet line || is_commit line)
+
+  pub between_ok : (old : TableView) (place : Place) → between noflush old.table line ≡ Ok place → IsLine (here Between) line old old (Ok (here place))
+  between_ok old place e =
+      answered (here Between) line old old (Ok (here place)) (Ok (moved old.table (here Between) place)) (by_place (here Between) line old.table short ∙ ap (made_into (moved old.table (here Between))) e) (refl, refl, refl)
+
+  pub between_err : (old : TableView) (f : RestoreFault) → Gives is_out_of_memory (λ (p : Place). p) (Err f) (between noflush old.table line) → (IsTrue (is_quiet line) → IsFalse (is_out_of_memory f)) → (IsTrue (is_commit line) → IsFalse (is_out_of_memory f)) → IsLine (here Between) line old old (Err f)
+  between_err old f g quiet commit =
+      refused (here Between) line old f (moved old.table (here Between)) (between noflush old.table line) (by_place (here Between) line old.table short) g
+      (λ takes. either (is_quiet line) (is_commit line) (is_out_of_memory f) quiet commit (sym (takes_none Between refl) ∙ takes))
+
+  pub skipped_line : (old : TableView) → IsLine (here Skipping) line old old (Ok (here (skipped line)))
+  skipped_line old =
+      answered (here Skipping) line old old (Ok (here (skipped line))) (Ok (moved old.table (here Skipping) (skipped line))) (by_place (here Skipping) line old.table short) (refl, refl, refl)
+
+  -- a line of a section that is built, which doesn't end it
+  in_section : (t : Table) (s : Section) → is_commit line ≡ false → restore_line (here (Building s)) t line ≡ made_into (λ (next : Section). moved t (here (Building s)) (Building next)) (line_in s line)
+  in_section t s other =
+      by_place (here (Building s)) line t short
+      ∙ ap (λ b. if b then Ok (moved (committed test t s) (here (Building s)) Between) else made_into (λ (next : Section). moved t (here (Building s)) (Building next)) (line_in s line)) other
+
+  pub section_ok : (old : TableView) (s next : Section) → is_commit line ≡ false → line_in s line ≡ Ok next → IsLine (here (Building s)) line old old (Ok (here (Building next)))
+  section_ok old s next other e =
+      answered (here (Building s)) line old old (Ok (here (Building next))) (Ok (moved old.table (here (Building s)) (Building next)))
+      (in_section old.table s other ∙ ap (made_into (λ (n : Section). moved old.table (here (Building s)) (Building n))) e)
+      (subst (λ b. Answers (Ok (moved old.table (here (Building s)) (Building next))) (true && b && not test) old old (Ok (here (Building next)))) (sym other) (refl, refl, refl))
+
+  pub section_err : (old : TableView) (s : Section) (f : RestoreFault) → is_commit line ≡ false → Gives is_out_of_memory (λ (next : Section). next) (Err f) (line_in s line) → (IsTrue (is_too_long line || is_quiet line) → IsFalse (is_out_of_memory f)) → IsLine (here (Building s)) line old old (Err f)
+  section_err old s f other g quiet =
+      refused (here (Building s)) line old f (λ (next : Section). moved old.table (here (Building s)) (Building next)) (line_in s line) (in_section old.table s other) g
+      (λ takes. either (is_quiet line) false (is_out_of_memory f) (λ q. quiet ((λ i. short i || is_quiet line) ∙ q)) (λ never. absurd (false≢true never)) (sym ((takes_none (Building s) refl) ∙ (λ i. is_quiet line || other i)) ∙ takes))
+
+  -- the answer where the section's table may be put in place
+  Committed : Bool → Bool → TableView → TableView → Section → Type 0
+  Committed commits tests old new s =
+      Answers (if commits then Ok (moved (committed tests old.table s) (record { noflush = noflush; test = tests; place = Building s }) Between) else made_into (λ (next : Section). moved old.table (record { noflush = noflush; test = tests; place = Building s }) (Building next)) (line_in s line)) (true && commits && not tests) old new (Ok (record { noflush = noflush; test = tests; place = Between }))
+
+  unfolding Committed
+  put : (tests : Bool) (old new : TableView) (s : Section) → new.table ≡ committed tests old.table s → (tests ≡ true → new ≡ old) → Committed true tests old new s
+  put true old new s is unchanged = (refl, is, unchanged refl)
+  put false old new s is unchanged = (refl, is)
+
+  -- `COMMIT`
+  unfolding Committed
+  pub section_commits : (old new : TableView) (s : Section) → is_commit line ≡ true → new.table ≡ committed test old.table s → (IsTrue test → new ≡ old) → IsLine (here (Building s)) line old new (Ok (here Between))
+  section_commits old new s commits is unchanged =
+      let a = subst (λ b. Committed b test old new s) (sym commits) (put test old new s is unchanged) in
+      answered (here (Building s)) line old new (Ok (here Between)) (line_at (Building s) (here (Building s)) old.table line) (by_place (here (Building s)) line old.table short) a
