@@ -4,9 +4,11 @@
 mod change;
 mod command;
 mod fault;
+mod round_trip;
 mod section;
 
 pub use change::apply;
 pub use command::Command;
 pub use fault::{CommandFault, RestoreFault};
+pub use round_trip::listings_restore;
 pub use section::Transaction;

@@ -1,9 +1,9 @@
 -- The line of a rule in a listing reads back.
-use Rattle.std.proofs.Common.{◌≡◌, ℕ, List, ◌∷◌, ◌++◌, Some, IsTrue, refl}
+use Rattle.std.proofs.Common.{◌≡◌, ℕ, List, ◌∷◌, ◌++◌, Some, refl}
 use Rattle.std.specs.Prelude.{codes}
 use Rattle.fields.specs.text.Printed.{Shown, bare, ArePrintable}
 use Rattle.fields.specs.text.Words.{words_of}
-use Rattle.fields.specs.values.Name.{is_name, name_of}
+use Rattle.fields.specs.values.Name.{name_of}
 use Rattle.fields.proofs.laws.text.OneLineLaws.{found_line}
 use Rattle.fields.proofs.laws.text.PrintedLaws.{words_of-spaced_all}
 use Rattle.rules.specs.printing.Printing.{shown_rule, rule_text}
