@@ -1,7 +1,7 @@
 -- The names of the chains of a table are all different.
-use Rattle.std.proofs.Common.{◌≡◌, inl, inr, ℕ, zero, suc, Bool, true, false, ◌||◌, not, List, [], ◌∷◌, get_or, refl, sym, ◌∙◌, ap, arith, subst, Ordering, codes}
+use Rattle.std.proofs.Common.{◌≡◌, inl, inr, ℕ, suc, true, false, ◌||◌, List, [], ◌∷◌, get_or}
+use Rattle.std.proofs.Common.{refl, sym, ◌∙◌, ap, arith, Ordering, codes}
 use Rattle.std.specs.Prelude.{All, AllPairs}
-use Rattle.std.specs.List.{list_any}
 use Rattle.std.specs.Str.{bytes_eq}
 use Rattle.std.specs.Cmp.Lexicographic.{slice_cmp, nat_list_cmp_total}
 use Rattle.std.specs.FinSet.{contains, insert, contains-insert}
@@ -39,7 +39,8 @@ not_equal Greater e = absurd (false≢true e)
 apart_by_order : (a b : List ℕ) → comes_before a b ≡ true → bytes_eq b a ≡ false
 apart_by_order a b before =
     elim (cases_Bool (bytes_eq b a)) [
-      | inl same ↦ absurd (false≢true (sym (sym (is_eq-slice_cmp a b) ∙ not_equal (slice_cmp nat_cmp a b) before) ∙ (bytes_eq-Decides a b).1 (sym ((bytes_eq-Decides b a).0 same))))
+      | inl same ↦ absurd (false≢true (sym (sym (is_eq-slice_cmp a b) ∙ not_equal (slice_cmp nat_cmp a b) before)
+          ∙ (bytes_eq-Decides a b).1 (sym ((bytes_eq-Decides b a).0 same))))
       | inr un ↦ un
     ]
 
@@ -51,7 +52,8 @@ different_by_order (n ∷ ns) order = (
 )
 
 -- a user chain's name is none of a built-in chain
-user_apart : (m : List ℕ) → is_built_in m ≡ false → (bytes_eq m (codes "INPUT") ≡ false) × (bytes_eq m (codes "FORWARD") ≡ false) × (bytes_eq m (codes "OUTPUT") ≡ false)
+user_apart : (m : List ℕ) → is_built_in m ≡ false
+    → (bytes_eq m (codes "INPUT") ≡ false) × (bytes_eq m (codes "FORWARD") ≡ false) × (bytes_eq m (codes "OUTPUT") ≡ false)
 user_apart m user =
     let (input, a) = or_parts (bytes_eq m (codes "INPUT")) _ user in
     let (forward, b) = or_parts (bytes_eq m (codes "FORWARD")) _ a in

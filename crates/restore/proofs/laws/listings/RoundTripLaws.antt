@@ -1,6 +1,7 @@
 -- The listing of a table restores it.
-use Rattle.std.proofs.Common.{◌≡◌, ℕ, Bool, true, false, List, [], ◌∷◌, ◌++◌, length, drop, map, flat_map, Option, Some, None, is_some, refl, sym, ap, subst, ◌∙◌, arith, take-append-drop}
-use Rattle.std.specs.Prelude.{Result, Ok, Err, All, codes, option_and_then, position, slice_get}
+use Rattle.std.proofs.Common.{◌≡◌, ℕ, false, List, [], ◌∷◌, ◌++◌, length, drop, map, flat_map, Option, Some, None, is_some}
+use Rattle.std.proofs.Common.{refl, sym, ap, subst, ◌∙◌, arith, take-append-drop}
+use Rattle.std.specs.Prelude.{Result, Ok, All, codes, option_and_then, position, slice_get}
 use Rattle.std.specs.Cmp.Lexicographic.{slice_cmp}
 use Rattle.std.specs.FinSet.{contains-empty}
 use Rattle.std.specs.Ordering.{nat_cmp}
@@ -11,17 +12,17 @@ use Rattle.fields.specs.text.Line.{lines_of}
 use Rattle.rules.specs.printing.RoundTrip.{IsListedLine, LinesOfRulesReadBack}
 use Rattle.rules.specs.rule.Rules.{Rule}
 use Rattle.table.specs.chains.Sound.{IsSound, IsSoundChain, IsUserName, MayStand}
-use Rattle.table.specs.chains.Table.{Chain, Table, built_in_names, empty_table, is_built_in, names_of, policy_of}
+use Rattle.table.specs.chains.Table.{Chain, Table, built_in_names, empty_table, is_built_in, names_of}
 use Rattle.table.specs.edits.Edits.{Edit}
 use Rattle.table.specs.declared.policy.Policy.{Policy}
-use Rattle.table.specs.edits.Made.{TablesAreMadeByEdits, appends, making, makings, steps}
+use Rattle.table.specs.edits.Made.{TablesAreMadeByEdits, appends, making, steps}
 use Rattle.restore.specs.Sequence.{◌>>=◌, made_into}
 use Rattle.restore.specs.listings.Listing.{listing}
 use Rattle.restore.specs.listings.RoundTrip.{RestoresAsEqual, CommitsAsEqual}
 use Rattle.restore.specs.sections.Restore.{Restoring, Between, Building, begun_restore, ended_at, restore_line, restore_lines, restored}
-use Rattle.restore.specs.sections.Section.{RestoreFault, Section, begun, inside, lines_in, transaction}
+use Rattle.restore.specs.sections.Section.{RestoreFault, Section, begun, inside, transaction}
 use Rattle.restore.proofs.laws.listings.LineLaws.{HasPolicy}
-use Rattle.restore.proofs.laws.listings.MakingLaws.{AreListed, IsChainName, Made, all_rules_made, chains_made, edit_for, rule_texts, text_of}
+use Rattle.restore.proofs.laws.listings.MakingLaws.{AreListed, IsChainName, all_rules_made, chains_made, edit_for, rule_texts, text_of}
 use Rattle.restore.proofs.laws.listings.NewNameLaws.{AreDifferent, all_different}
 use Rattle.restore.proofs.laws.listings.RunLaws.{Runs, inside_is, runs_append, runs_in_restore, runs_in_section, standing}
 use Rattle.restore.proofs.laws.listings.TextLaws.{body, listing_lines}
@@ -46,7 +47,8 @@ own_policies (p ∷ []) three = absurd (omega (arith, three))
 own_policies (p ∷ q ∷ []) three = absurd (omega (arith, three))
 own_policies (p ∷ q ∷ r ∷ []) three =
     let Has : List ℕ → Type 0 = λ n. HasPolicy n (policy_among (p ∷ q ∷ r ∷ []) n) in
-    All-cons Has (codes "INPUT") (codes "FORWARD" ∷ codes "OUTPUT" ∷ []) refl (All-cons Has (codes "FORWARD") (codes "OUTPUT" ∷ []) refl (All-cons Has (codes "OUTPUT") [] refl (All-nil Has)))
+    All-cons Has (codes "INPUT") (codes "FORWARD" ∷ codes "OUTPUT" ∷ []) refl
+    (All-cons Has (codes "FORWARD") (codes "OUTPUT" ∷ []) refl (All-cons Has (codes "OUTPUT") [] refl (All-nil Has)))
 own_policies (p ∷ q ∷ r ∷ x ∷ xs) three = absurd (omega (arith, three))
 
 user_name : (t : Table) (name : List ℕ) → IsUserName name → IsChainName t name
@@ -71,19 +73,23 @@ names_are t s = sym (take-append-drop 3 (names_of t.chains)) ∙ ap (λ (xs : Li
 chain_names : (t : Table) → IsSound t → All (IsChainName t) (names_of t.chains)
 chain_names t s =
     let users : List (List ℕ) = drop 3 (names_of t.chains) in
-    subst (λ (ns : List (List ℕ)). All (IsChainName t) ns) (sym (names_are t s)) (own_names t users s.policies (All-weaker IsUserName (IsChainName t) (user_name t) users s.listed.user))
+    subst (λ (ns : List (List ℕ)). All (IsChainName t) ns) (sym (names_are t s))
+    (own_names t users s.policies (All-weaker IsUserName (IsChainName t) (user_name t) users s.listed.user))
 
 names_differ : (t : Table) → IsSound t → AreDifferent (names_of t.chains)
 names_differ t s =
     let users : List (List ℕ) = drop 3 (names_of t.chains) in
-    subst AreDifferent (sym (names_are t s)) (all_different users (All-weaker IsUserName (λ m. is_built_in m ≡ false) (λ m is. is.other) users s.listed.user) s.listed.order)
+    subst AreDifferent (sym (names_are t s))
+    (all_different users (All-weaker IsUserName (λ m. is_built_in m ≡ false) (λ m is. is.other) users s.listed.user) s.listed.order)
 
 -- The lines of the rules
 
-rules_listed : LinesOfRulesReadBack → (t : Table) (name : List ℕ) (rules : List Rule) → IsChainName t name → All (MayStand t name) rules → All (IsListedLine name) rules
+rules_listed : LinesOfRulesReadBack → (t : Table) (name : List ℕ) (rules : List Rule) → IsChainName t name → All (MayStand t name) rules
+    → All (IsListedLine name) rules
 rules_listed law t name rules is may = All-weaker (MayStand t name) (IsListedLine name) (λ r stands. law name r is.form stands.readable) rules may
 
-chains_listed : LinesOfRulesReadBack → (t : Table) (chains : List Chain) → All (IsChainName t) (names_of chains) → All (IsSoundChain t) chains → All AreListed chains
+chains_listed : LinesOfRulesReadBack → (t : Table) (chains : List Chain) → All (IsChainName t) (names_of chains) → All (IsSoundChain t) chains
+    → All AreListed chains
 chains_listed law t [] names sound = All-nil AreListed
 chains_listed law t (c ∷ cs) names sound =
     let one : IsSoundChain t c = All-head (IsSoundChain t) c cs sound in
@@ -111,7 +117,8 @@ gives_table lines makes t s =
     let others : List Edit = flat_map appends t.chains in
     let start : Section = begun false empty_table in
     let are : All (IsChainName t) names = chain_names t s in
-    let all : steps (map (edit_for t) names ++ others) empty_table ≡ Ok t = ap (λ (es : List Edit). steps (es ++ others) empty_table) (sym (makings_by_name t t.chains)) ∙ makes t s in
+    let all : steps (map (edit_for t) names ++ others) empty_table ≡ Ok t =
+    ap (λ (es : List Edit). steps (es ++ others) empty_table) (sym (makings_by_name t t.chains)) ∙ makes t s in
     let first = chains_made t names others start t are (names_differ t s) (λ k d lt. contains-empty (slice_cmp nat_cmp) _) all in
     let more = all_rules_made t.chains first.section t (chains_listed lines t t.chains are s.chains) first.rest in
     record {

@@ -1,5 +1,5 @@
 -- Lines of a section that are done one after another, in a section and in a restore.
-use Rattle.std.proofs.Common.{◌≡◌, ℕ, suc, ◌+◌, ◌-◌, Bool, false, cond, List, [], ◌∷◌, ◌++◌, length, take, drop, refl, sym, ap, subst, ◌∙◌, arith}
+use Rattle.std.proofs.Common.{◌≡◌, ℕ, suc, ◌-◌, false, cond, List, [], ◌∷◌, ◌++◌, length, take, drop, sym, ap, subst, ◌∙◌, arith}
 use Rattle.std.specs.Prelude.{Result, Ok, Err}
 use Rattle.std.proofs.Math.Seq.{take-append_seam}
 use Rattle.std.proofs.lemmas.List.{length-append}
@@ -25,13 +25,15 @@ runs_append s mid last (x ∷ xs) ys (next, is, more) second = (next, is, runs_a
 
 pub runs_in_section : (s last : Section) (lines : List (List ℕ)) → Runs s lines last → lines_in s lines ≡ Ok last
 runs_in_section s last [] runs = ap Ok runs
-runs_in_section s last (x ∷ xs) (next, is, more) = ap (λ (q : Result Section RestoreFault). q >>= λ m. lines_in m xs) is.done ∙ runs_in_section next last xs more
+runs_in_section s last (x ∷ xs) (next, is, more) =
+    ap (λ (q : Result Section RestoreFault). q >>= λ m. lines_in m xs) is.done ∙ runs_in_section next last xs more
 
 -- a restore stands there, with this table in place
 abbrev pub standing : Table → Place → Restoring
 standing t place = record { table = t; restore = record { noflush = false; test = false; place = place } }
 
-line_built : (t : Table) (s next : Section) (line : List ℕ) → IsDone s line next → restore_line (standing t (Building s)).restore t line ≡ Ok (standing t (Building next))
+line_built : (t : Table) (s next : Section) (line : List ℕ) → IsDone s line next
+    → restore_line (standing t (Building s)).restore t line ≡ Ok (standing t (Building next))
 unfolding restore_line
 line_built t s next line is =
     let r : Restore = (standing t (Building s)).restore in
