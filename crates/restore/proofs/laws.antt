@@ -1,1 +1,2 @@
+pub mod listings
 pub mod sections

@@ -5,10 +5,12 @@ mod change;
 mod command;
 mod fault;
 mod restore;
+mod round_trip;
 mod section;
 
 pub use change::apply;
 pub use command::Command;
 pub use fault::{CommandFault, RestoreFault};
 pub use restore::Restore;
+pub use round_trip::listings_restore;
 pub use section::Transaction;

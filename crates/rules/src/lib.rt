@@ -9,6 +9,7 @@ mod rule;
 
 pub use boxing::boxed::Boxed;
 pub use boxing::work::Work;
+pub use printing::listed_line::lines_of_rules_read_back;
 pub use printing::write_rule;
 pub use reading::fault::{Refusal, RuleFault};
 pub use reading::grammar::reading_is_by_grammar;

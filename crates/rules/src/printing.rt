@@ -11,6 +11,8 @@ ghost use Rattle.rules.specs.rule.Readable.{IsInOrder, IsReadable};
 ghost use Rattle.rules.specs.steps.Writing.{has_words, value_text, setting_text, start_text, match_text, action_text};
 ghost use Rattle.rules.specs.steps.Views.{view_match, view_content};
 
+pub(crate) mod listed_line;
+
 use crate::options::match_kind::MatchKind;
 use crate::options::setting::Setting;
 use crate::options::value::Value;

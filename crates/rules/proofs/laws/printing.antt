@@ -1,3 +1,4 @@
+pub mod ListedLaws
 pub mod PrintLaws
 pub mod RoundLaws
 pub mod RoundTripLaws

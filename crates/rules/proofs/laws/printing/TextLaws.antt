@@ -37,14 +37,14 @@ false-true h = absurd (cc)
 no-words : ArePrintable []
 no-words k d within = absurd (omega arith)
 
-word-more : (w : Shown) (ws : List Shown) → IsPrintable w → ArePrintable ws → ArePrintable (w ∷ ws)
+pub word-more : (w : Shown) (ws : List Shown) → IsPrintable w → ArePrintable ws → ArePrintable (w ∷ ws)
 word-more w ws is are zero d within = is
 word-more w ws is are (suc k) d within = are k d (omega arith)
 
 words-more : (xs ys : List Shown) → ArePrintable xs → ArePrintable ys → ArePrintable (xs ++ ys)
 words-more xs ys a b = All-append IsPrintable xs ys a b
 
-bare-from : (text : List ℕ) → is_bare_word text ≡ true → IsBareWord text
+pub bare-from : (text : List ℕ) → is_bare_word text ≡ true → IsBareWord text
 bare-from text is =
     let (some, bytes) = and_parts (nat_lt 0 (length text)) (list_all is_bare text) is in
     record { some = some-bytes text (ltb-true 0 (length text) some); bytes = bytes }

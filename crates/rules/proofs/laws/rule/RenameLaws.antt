@@ -62,7 +62,7 @@ renamed_reads name r is reads =
     with_target_options : List Setting → Rule
     with_target_options ss = record { settings = (normal_form r).settings; matches = (normal_form r).matches; action = action_with_chain_name name r.action; target_options = ss }
 
-name_is : (name : List ℕ) → IsTrue (is_name name) → name_of name ≡ Some name
+pub name_is : (name : List ℕ) → IsTrue (is_name name) → name_of name ≡ Some name
 unfolding name_of
 name_is name h = cond-true (is_name name) _ _ h
 

@@ -1,0 +1,6 @@
+pub mod LineLaws
+pub mod MakingLaws
+pub mod NewNameLaws
+pub mod RoundTripLaws
+pub mod RunLaws
+pub mod TextLaws
