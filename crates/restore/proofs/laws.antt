@@ -1,1 +1,2 @@
 pub mod sections
+pub mod listings
