@@ -6,4 +6,6 @@ use Rattle.restore.proofs.listing.put_all_rules.Goals as goal
 
 pub returns-in_err-put_rules : goal.returns-in_err-put_rules
 returns-in_err-put_rules g c =
-    puts-stopped _ _ _ _ _ c.from_residual.ensures.0 (stopped-at rule_lines c.args.table.now.table.chains c.loop-place.place (empty_chain []) (omega arith) c.loop-place.invariant c.in_err-put_rules.ensures)
+    let chains = c.args.table.now.table.chains in
+    puts-stopped _ _ _ _ _ c.from_residual.ensures.0
+    (stopped-at rule_lines chains c.loop-place.place (empty_chain []) (omega arith) c.loop-place.invariant c.in_err-put_rules.ensures)

@@ -11,5 +11,7 @@ returns-in_err-put_rule_line g c =
     let rule = c.rule.result.now in
     let number : c.loop-number.number + 1 - 1 ≡ c.loop-number.number = omega arith in
     puts-stopped _ _ _ _ _ c.from_residual.ensures.0
-    (stopped-item (rule_line one.name) one.rules c.loop-number.number rule (omega arith) (c.rule.ensures ∙ ap (λ k. get_or one.rules k rule) number) c.loop-number.invariant
-    (subst (λ (name : List ℕ). Stopped g.W.Write.contents c.loop-number.output c.put_rule_line.new.output (rule_line name rule)) c.chain_name-name.ensures c.in_err-put_rule_line.ensures))
+    (stopped-item (rule_line one.name) one.rules c.loop-number.number rule (omega arith) (c.rule.ensures ∙ ap (λ k. get_or one.rules k rule) number)
+    c.loop-number.invariant
+    (subst (λ (name : List ℕ). Stopped g.W.Write.contents c.loop-number.output c.put_rule_line.new.output (rule_line name rule)) c.chain_name-name.ensures
+    c.in_err-put_rule_line.ensures))
