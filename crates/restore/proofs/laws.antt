@@ -1,2 +1,3 @@
 pub mod listings
 pub mod sections
+pub mod listings

@@ -4,6 +4,7 @@
 mod change;
 mod command;
 mod fault;
+mod listing;
 mod restore;
 mod round_trip;
 mod section;
@@ -11,6 +12,7 @@ mod section;
 pub use change::apply;
 pub use command::Command;
 pub use fault::{CommandFault, RestoreFault};
+pub use listing::{write_listing, write_rules};
 pub use restore::Restore;
 pub use round_trip::listings_restore;
 pub use section::Transaction;

@@ -4,3 +4,4 @@ pub mod NewNameLaws
 pub mod RoundTripLaws
 pub mod RunLaws
 pub mod TextLaws
+pub mod PlaceLaws

@@ -1,0 +1,7 @@
+use Rattle.std.proofs.Common.{take, flat_map}
+use Rattle.fields.specs.text.Tap.{Wrote}
+use Rattle.restore.specs.listings.Listing.{rule_lines}
+use Rattle.restore.proofs.listing.put_all_rules.Given as goal
+
+abbrev pub invariant-loop-place : goal.invariant-loop-place
+invariant-loop-place g l = Wrote g.W.Write.contents l.initial.output l.output (flat_map rule_lines (take l.place l.table.table.chains))

@@ -1,0 +1,11 @@
+use Rattle.std.proofs.Common.{[], arith}
+use Rattle.fields.proofs.laws.text.PutLaws.{puts-stopped, stopped-at}
+use Rattle.table.specs.chains.Table.{empty_chain}
+use Rattle.restore.specs.listings.Listing.{head_line}
+use Rattle.restore.proofs.listing.put_heads.Goals as goal
+
+pub returns-in_err-put_head : goal.returns-in_err-put_head
+returns-in_err-put_head g c =
+    let t = c.args.table.now.table in
+    puts-stopped _ _ _ _ _ c.from_residual.ensures.0
+    (stopped-at (head_line t) t.chains c.loop-place.place (empty_chain []) (omega arith) c.loop-place.invariant c.in_err-put_head.ensures)
