@@ -38,7 +38,7 @@ unfolding restore_line
 line_built t s next line is =
     let r : Restore = (standing t (Building s)).restore in
     ap (λ b. cond b (Err LineTooLong) (line_at (Building s) r t line)) is.short
-    ∙ ap (λ b. cond b (Ok (moved (committed r t s) r Between)) (made_into (λ (q : Section). moved t r (Building q)) (line_in s line))) is.within
+    ∙ ap (λ b. cond b (Ok (moved (committed r.test t s) r Between)) (made_into (λ (q : Section). moved t r (Building q)) (line_in s line))) is.within
     ∙ ap (made_into (λ (q : Section). moved t r (Building q))) is.done
 
 pub runs_in_restore : (t : Table) (s last : Section) (lines rest : List (List ℕ)) → Runs s lines last

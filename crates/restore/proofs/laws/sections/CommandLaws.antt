@@ -22,21 +22,25 @@ pub all_words : (words : List (List ℕ)) (w : List ℕ) → slice_get words 0 �
 all_words [] w e is = refl
 all_words (v ∷ ws) w e is = sym (ap (λ b. if b then ws else v ∷ ws) (ap is_counters (ap (λ (o : Option (List ℕ)). unwrap_or o []) e) ∙ is))
 
+-- a section of a table, with these names
+abbrev named_so : Names → Table → Result Section RestoreFault
+named_so names t = Ok (record { table = t; named = names })
+
 -- the table's answer is the section's
-with_names : (new : Section) (r : Result (Unit {0}) RestoreFault) (given : Result Table RestoreFault) → Gives is_out_of_memory (λ (u : Unit {0}). new.table) r given → Gives is_out_of_memory (λ (u : Unit {0}). new) r (given >>= λ t. Ok (record { table = t; named = new.named }))
-with_names new (Ok u) given g = ap (λ (x : Result Table RestoreFault). x >>= λ t. Ok (record { table = t; named = new.named })) g
-with_names new (Err f) given =
-    elim (is_out_of_memory f) as (λ b. MatchBool b (Unit {0}) (given ≡ Err f) → MatchBool b (Unit {0}) ((given >>= λ t. Ok (record { table = t; named = new.named })) ≡ Err f)) [
-      | true ↦ λ g. tt
-      | false ↦ λ g. ap (λ (x : Result Table RestoreFault). x >>= λ t. Ok (record { table = t; named = new.named })) g
-    ]
+with_names : (new : Section) (r : Result (Unit {0}) RestoreFault) (given : Result Table RestoreFault) → Gives is_out_of_memory (λ (u : Unit {0}). new.table) r given → Gives is_out_of_memory (λ (u : Unit {0}). new) r (given >>= named_so new.named)
+with_names new (Ok u) given g = ap (λ (x : Result Table RestoreFault). x >>= named_so new.named) g
+with_names new (Err f) given g =
+    elim (is_out_of_memory f) as (λ b. MatchBool b (Unit {0}) (given ≡ Err f) → MatchBool b (Unit {0}) ((given >>= named_so new.named) ≡ Err f)) [
+      | true ↦ λ h. tt
+      | false ↦ λ h. ap (λ (x : Result Table RestoreFault). x >>= named_so new.named) h
+    ] g
 
 -- the command of an answer, or another
-command_in : command.Command → Result command.Command CommandFault → command.Command
+abbrev command_in : command.Command → Result command.Command CommandFault → command.Command
 command_in other (Ok c) = c
 command_in other (Err f) = other
 
-is_read : {E : Type 0} → Result command.Command E → Bool
+abbrev is_read : {E : Type 0} → Result command.Command E → Bool
 is_read (Ok c) = true
 is_read (Err f) = false
 
@@ -62,10 +66,11 @@ module _ (ot nt : TableView) (names : Names) where
       (subst (λ (x : Result (Unit {0}) RestoreFault). Gives is_out_of_memory (λ (u : Unit {0}). nt.table) x (edited_by (Some edit) ot.table)) (sym answer) (stepped_of edit ot nt a (subst (λ (x : command.Command). IsApplied x ot nt a) is applied)))
 
   -- the same, of the words
-  pub command_done : (words rest : List (List ℕ)) (c : command.Command) (a : Result (Unit {0}) TableFault) (r : Result (Unit {0}) RestoreFault) → rest ≡ without_counters words → made_into Change (edit_of (length words) rest) ≡ Ok c → IsApplied c ot nt a → r ≡ refused_as OfTable a → Answered r (done old (asked_of_command words))
-  command_done words rest c a r left read applied answer =
+  pub command_done : (s : Section) (words rest : List (List ℕ)) (c : command.Command) (a : Result (Unit {0}) TableFault) (r : Result (Unit {0}) RestoreFault) → old ≡ s → rest ≡ without_counters words → made_into Change (edit_of (length words) rest) ≡ Ok c → IsApplied c ot nt a → r ≡ refused_as OfTable a → Answered r (done s (asked_of_command words))
+  command_done s words rest c a r seen left read applied answer =
       let found = read_edit_is (edit_of (length words) rest) c read in
       let asked : asked_of_command words ≡ Ok (by_command found.0) =
         ap (λ (ws : List (List ℕ)). refused_as Command (made_into by_command (edit_of (length words) ws))) (sym left)
         ∙ ap (λ (e : Result Edit CommandFault). refused_as Command (made_into by_command e)) found.1 in
-      subst (λ (x : Result Asked RestoreFault). Answered r (done old x)) (sym asked) (edit_done found.0 c a r found.2 applied answer)
+      subst (λ (q : Section). Answered r (done q (asked_of_command words))) seen
+      (subst (λ (x : Result Asked RestoreFault). Answered r (done old x)) (sym asked) (edit_done found.0 c a r found.2 applied answer))

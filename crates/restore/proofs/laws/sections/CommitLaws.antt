@@ -1,5 +1,5 @@
 -- The line `COMMIT`: it has one word.
-use Rattle.std.proofs.Common.{◌≡◌, ◌≢◌, inl, inr, ℕ, zero, suc, Bool, true, false, List, [], ◌∷◌, ◌++◌, take, drop, refl, sym, ◌∙◌, ap, subst, codes, length, arith, Option, Some, None, Err, IsTrue, IsFalse, if◌then◌else◌, ◌||◌, ◌&&◌}
+use Rattle.std.proofs.Common.{◌≡◌, ◌≢◌, inl, inr, ℕ, zero, suc, Bool, true, false, List, [], ◌∷◌, ◌++◌, take, drop, refl, sym, ◌∙◌, ap, subst, codes, length, arith, Option, Some, None, Ok, Err, IsTrue, IsFalse, if◌then◌else◌, ◌||◌, ◌&&◌}
 use Rattle.std.proofs.lemmas.Bool.{false≢true}
 use Rattle.std.proofs.lemmas.List.{take-append-drop}
 use Rattle.std.proofs.lemmas.Slice.Eq.{bytes_eq-Decides}
@@ -9,8 +9,8 @@ use Rattle.fields.specs.text.Words.{AreBlanks, EndsWord, is_blank, words_of}
 use Rattle.fields.proofs.laws.text.WordLaws.{words_of-AreWords}
 use Rattle.table.specs.chains.Table.{Table}
 use Rattle.restore.specs.Sequence.{◌>>=◌, or_refused}
-use Rattle.restore.specs.sections.Restore.{after_blanks, is_commit, opening}
-use Rattle.restore.specs.sections.Section.{Quoting, NotAllowed}
+use Rattle.restore.specs.sections.Restore.{Between, after_blanks, between, is_commit, opening}
+use Rattle.restore.specs.sections.Section.{Quoting, NotAllowed, is_quiet}
 
 -- the blanks before the rest of a line
 abbrev gap : List ℕ → List ℕ
@@ -57,5 +57,9 @@ word_of_commit line is =
     (gap line, codes "COMMIT", drop 6 rest, gap_and_rest line ∙ ap (λ (l : List ℕ). gap line ++ l) (sym (take-append-drop 6 rest) ∙ ap (λ (l : List ℕ). l ++ drop 6 rest) p.0), gap_is_blank line, inl (refl, filled, refl), blanks_end (drop 6 rest) p.1, p.1)
 
 -- between sections it is not allowed
-pub commit_not_allowed : (noflush : Bool) (t : Table) (line : List ℕ) → IsTrue (is_commit line) → (or_refused Quoting (words_of line) >>= λ words. opening noflush t words) ≡ Err NotAllowed
+commit_not_allowed : (noflush : Bool) (t : Table) (line : List ℕ) → IsTrue (is_commit line) → (or_refused Quoting (words_of line) >>= λ words. opening noflush t words) ≡ Err NotAllowed
 commit_not_allowed noflush t line is = ap (λ (w : Option (List (List ℕ))). or_refused Quoting w >>= λ words. opening noflush t words) (word_of_commit line is)
+
+-- the same, of the place after the line
+pub not_allowed : (noflush : Bool) (t : Table) (line : List ℕ) → is_quiet line ≡ false → IsTrue (is_commit line) → between noflush t line ≡ Err NotAllowed
+not_allowed noflush t line loud is = ap (λ b. if b then Ok Between else (or_refused Quoting (words_of line) >>= λ words. opening noflush t words)) loud ∙ commit_not_allowed noflush t line is

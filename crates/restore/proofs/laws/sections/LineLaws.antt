@@ -9,14 +9,14 @@ use Rattle.restore.specs.sections.Restore.{Restore, Restoring, Place, Between, S
 use Rattle.restore.specs.sections.Section.{RestoreFault, LineTooLong, Section, is_out_of_memory, is_quiet, is_too_long, line_in}
 
 -- a line of more bytes than it may have
-unfolding restore_line
 pub too_long : (r : Restore) (line : List ℕ) (old : TableView) → is_too_long line ≡ true → IsLine r line old old (Err LineTooLong)
+unfolding restore_line
 too_long r line old long =
     inl (subst (λ b. Answers (if b then Err LineTooLong else line_at r.place r old.table line) (puts_table r line) old old (Err LineTooLong)) (sym long) (refl, refl))
 
 -- another line is done by where it stands
-unfolding restore_line
 by_place : (r : Restore) (line : List ℕ) (t : Table) → is_too_long line ≡ false → restore_line r t line ≡ line_at r.place r t line
+unfolding restore_line
 by_place r line t short = ap (λ b. if b then Err LineTooLong else line_at r.place r t line) short
 
 answered : (r : Restore) (line : List ℕ) (old new : TableView) (result : Result Restore RestoreFault) (given : Result Restoring RestoreFault) → restore_line r old.table line ≡ given → Answers given (puts_table r line) old new result → IsLine r line old new result
@@ -33,6 +33,24 @@ refused r line old f put given is g needs =
 either : (a b c : Bool) → (a ≡ true → c ≡ false) → (b ≡ true → c ≡ false) → (a || b) ≡ true → c ≡ false
 either true b c left right e = left refl
 either false b c left right e = right e
+
+-- a restore in these words
+at_place : (noflush test : Bool) (line : List ℕ) (old new : TableView) (place known : Place) (r : Restore) (result : Result Restore RestoreFault) → record { noflush = noflush; test = test; place = place } ≡ r → place ≡ known → IsLine (record { noflush = noflush; test = test; place = known }) line old new result → IsLine r line old new result
+at_place noflush test line old new place known r result seen is h =
+    subst (λ (s : Restore). IsLine s line old new result) seen (subst (λ (p : Place). IsLine (record { noflush = noflush; test = test; place = p }) line old new result) (sym is) h)
+
+-- the same, of what a table and the next place are known to be
+pub reached : (noflush test : Bool) (line : List ℕ) (old new known_new : TableView) (place known next known_next : Place) (r : Restore) → record { noflush = noflush; test = test; place = place } ≡ r → place ≡ known → new ≡ known_new → next ≡ known_next → IsLine (record { noflush = noflush; test = test; place = known }) line old known_new (Ok (record { noflush = noflush; test = test; place = known_next })) → IsLine r line old new (Ok (record { noflush = noflush; test = test; place = next }))
+reached noflush test line old new known_new place known next known_next r seen is table after h =
+    at_place noflush test line old new place known r (Ok (record { noflush = noflush; test = test; place = next })) seen is
+    (subst (λ (t : TableView). IsLine (record { noflush = noflush; test = test; place = known }) line old t (Ok (record { noflush = noflush; test = test; place = next }))) (sym table)
+      (subst (λ (p : Place). IsLine (record { noflush = noflush; test = test; place = known }) line old known_new (Ok (record { noflush = noflush; test = test; place = p }))) (sym after) h))
+
+-- the same, of a refusal
+pub stopped : (noflush test : Bool) (line : List ℕ) (old : TableView) (place known : Place) (r : Restore) (f : RestoreFault) (result : Result Restore RestoreFault) → record { noflush = noflush; test = test; place = place } ≡ r → place ≡ known → result ≡ Err f → IsLine (record { noflush = noflush; test = test; place = known }) line old old (Err f) → IsLine r line old old result
+stopped noflush test line old place known r f result seen is answer h =
+    at_place noflush test line old old place known r result seen is
+    (subst (λ (x : Result Restore RestoreFault). IsLine (record { noflush = noflush; test = test; place = known }) line old old x) (sym answer) h)
 
 module _ (noflush test : Bool) (line : List ℕ) (short : is_too_long line ≡ false) where
   -- the restore, with its next line there
@@ -78,14 +96,14 @@ module _ (noflush test : Bool) (line : List ℕ) (short : is_too_long line ≡ f
   Committed commits tests old new s =
       Answers (if commits then Ok (moved (committed tests old.table s) (record { noflush = noflush; test = tests; place = Building s }) Between) else made_into (λ (next : Section). moved old.table (record { noflush = noflush; test = tests; place = Building s }) (Building next)) (line_in s line)) (true && commits && not tests) old new (Ok (record { noflush = noflush; test = tests; place = Between }))
 
-  unfolding Committed
   put : (tests : Bool) (old new : TableView) (s : Section) → new.table ≡ committed tests old.table s → (tests ≡ true → new ≡ old) → Committed true tests old new s
+  unfolding Committed
   put true old new s is unchanged = (refl, is, unchanged refl)
   put false old new s is unchanged = (refl, is)
 
   -- `COMMIT`
-  unfolding Committed
   pub section_commits : (old new : TableView) (s : Section) → is_commit line ≡ true → new.table ≡ committed test old.table s → (IsTrue test → new ≡ old) → IsLine (here (Building s)) line old new (Ok (here Between))
+  unfolding Committed
   section_commits old new s commits is unchanged =
       let a = subst (λ b. Committed b test old new s) (sym commits) (put test old new s is unchanged) in
       answered (here (Building s)) line old new (Ok (here Between)) (line_at (Building s) (here (Building s)) old.table line) (by_place (here (Building s)) line old.table short) a
