@@ -1,7 +1,7 @@
 //! A command, after its table where that is named.
 ghost use Rattle.std.specs.Prelude.{◌≡◌, ◌||◌, length, drop, map, find, codes, Err};
 ghost use Rattle.std.specs.Str.{bytes_eq};
-ghost use Rattle.rules.specs.declared.reading.fault.Refusal as refusal;
+ghost use Rattle.rules.specs.declared.reading.fault.Refusal.TheVariants as refusal;
 ghost use Rattle.restore.specs.Sequence.{Gives};
 ghost use Rattle.restore.specs.commands.Command.{is_out_of_memory, meaning};
 ghost use Rattle.restore.specs.commands.Heads.{followed, is_name_of, line_of, named, refused, value};

@@ -10,6 +10,7 @@ use Rattle.restore.specs.Sequence.{◌>>=◌, Gives, made_into, or_refused, refu
 use Rattle.restore.specs.commands.Command.{CommandFault, WordCount, is_out_of_memory}
 use Rattle.restore.specs.commands.Heads.{Reader, is_digits, nothing, number, number_or_none, perhaps, refused, rule, word}
 use Rattle.restore.specs.commands.Reading.{next_number, next_number_if_digits, next_or}
+use Rattle.restore.proofs.laws.commands.NextLaws.{some_with_rest, with_rest}
 
 -- a refusal is the definition's, or it says that memory ran out
 pub refuses : {X Y : Type 0} (view : X → Y) (e : CommandFault) (given : Result Y CommandFault) → given ≡ Err e → Gives is_out_of_memory view (Err e) given
@@ -36,17 +37,20 @@ module _ {A B : Type 0} (k : A → B) where
   pub word_lacks : (next : List ℕ → Reader A) (end : ℕ) (ws : List (List ℕ)) (e : CommandFault) → Err e ≡ next_or WordCount ws → made_into k (word next end ws) ≡ Err e
   word_lacks next end ws e is = word_next next end ws ∙ ap (λ s. s >>= λ p. made_into k (next p.0 end p.1)) (sym is)
 
-  -- the next number, and what follows it
-  number_next : (next : ℕ → Reader A) (end : ℕ) (ws : List (List ℕ)) → made_into k (number next end ws) ≡ (next_number end ws >>= λ p. made_into k (next p.0 end p.1))
+  -- what follows a number
+  abbrev after_number : (next : ℕ → Reader A) (end : ℕ) → ℕ × List (List ℕ) → Result B CommandFault
+  after_number next end p = made_into k (next p.0 end p.1)
+
+  number_next : (next : ℕ → Reader A) (end : ℕ) (ws : List (List ℕ)) → made_into k (number next end ws) ≡ (next_number end ws >>= after_number next end)
   number_next next end [] = refl
   number_next next end (w ∷ ws) =
-      elim (number_of w) as (λ o. made_into k (or_refused (refused refusal.BadValue) o >>= λ n. next n end ws) ≡ ((or_refused (refused refusal.BadValue) o >>= λ n. Ok (n, ws)) >>= λ p. made_into k (next p.0 end p.1))) [ Some n ↦ refl | None ↦ refl ]
+      elim (number_of w) as (λ o. made_into k (or_refused (refused refusal.BadValue) o >>= λ n. next n end ws) ≡ (with_rest ws o >>= after_number next end)) [ Some n ↦ refl | None ↦ refl ]
 
   pub number_is : (next : ℕ → Reader A) (end : ℕ) (ws rest : List (List ℕ)) (n : ℕ) → Ok (n, rest) ≡ next_number end ws → made_into k (number next end ws) ≡ made_into k (next n end rest)
-  number_is next end ws rest n is = number_next next end ws ∙ ap (λ s. s >>= λ p. made_into k (next p.0 end p.1)) (sym is)
+  number_is next end ws rest n is = number_next next end ws ∙ ap (λ s. s >>= after_number next end) (sym is)
 
   pub number_lacks : (next : ℕ → Reader A) (end : ℕ) (ws : List (List ℕ)) (e : CommandFault) → Err e ≡ next_number end ws → made_into k (number next end ws) ≡ Err e
-  number_lacks next end ws e is = number_next next end ws ∙ ap (λ s. s >>= λ p. made_into k (next p.0 end p.1)) (sym is)
+  number_lacks next end ws e is = number_next next end ws ∙ ap (λ s. s >>= after_number next end) (sym is)
 
   -- with a number or without
   abbrev by_number : (next : ℕ → Reader A) (without : Reader A) (end : ℕ) (ws : List (List ℕ)) → Option (ℕ × List (List ℕ)) → Result B CommandFault
@@ -56,8 +60,8 @@ module _ {A B : Type 0} (k : A → B) where
   number_if_digits_next : (next : ℕ → Reader A) (without : Reader A) (end : ℕ) (ws : List (List ℕ)) → made_into k (number_or_none next without end ws) ≡ (next_number_if_digits end ws >>= by_number next without end ws)
   number_if_digits_next next without end [] = refl
   number_if_digits_next next without end (w ∷ ws) =
-      elim (is_digits w) as (λ b. made_into k (if b then number next end (w ∷ ws) else without end (w ∷ ws)) ≡ ((if b then number (λ n end words. Ok (Some (n, words))) end (w ∷ ws) else Ok None) >>= by_number next without end (w ∷ ws))) [
-        | true ↦ elim (number_of w) as (λ o. made_into k (or_refused (refused refusal.BadValue) o >>= λ n. next n end ws) ≡ ((or_refused (refused refusal.BadValue) o >>= λ n. Ok (Some (n, ws))) >>= by_number next without end (w ∷ ws))) [ Some n ↦ refl | None ↦ refl ]
+      elim (is_digits w) as (λ b. made_into k (if b then number next end (w ∷ ws) else without end (w ∷ ws)) ≡ ((if b then some_with_rest ws (number_of w) else Ok None) >>= by_number next without end (w ∷ ws))) [
+        | true ↦ elim (number_of w) as (λ o. made_into k (or_refused (refused refusal.BadValue) o >>= λ n. next n end ws) ≡ (some_with_rest ws o >>= by_number next without end (w ∷ ws))) [ Some n ↦ refl | None ↦ refl ]
         | false ↦ refl
       ]
 
