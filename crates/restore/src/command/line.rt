@@ -46,14 +46,13 @@ fn command_named<'a>(
     }
 }
 
-// Why the table may not be named again.
-fn named_again(words: &Words, place: usize) -> CommandFault
-    ensures { Err result ≡ value (λ name end words. Err (refused refusal.RepeatedOption)) (length words.now) (drop place words.now) }
+// The refusal of a table that is named again.
+fn named_again<'a>(words: &'a Words, place: usize) -> Result<Command<'a>, CommandFault>
+    ensures { Gives is_out_of_memory meaning result
+        (value (λ name end words. Err (refused refusal.RepeatedOption)) (length words.now) (drop place words.now)) }
 {
-    match next_word(words, place, refused(Refusal::ValueMissing)) {
-        Ok(_) => refused(Refusal::RepeatedOption),
-        Err(fault) => fault,
-    }
+    next_word(words, place, refused(Refusal::ValueMissing))?;
+    Err(refused(Refusal::RepeatedOption))
 }
 
 // The name of the table, which is `filter`, and one of these commands.
@@ -71,7 +70,7 @@ fn with_table<'a>(
     }
     let (name, after) = next_word(words, after, CommandFault::NoCommand)?;
     if is_table(name) {
-        return Err(named_again(words, after));
+        return named_again(words, after);
     }
     command_named(alloc, heads, name, words, after)
 }
