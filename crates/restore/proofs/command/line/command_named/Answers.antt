@@ -1,6 +1,5 @@
-use Rattle.std.proofs.Common.{length, drop, map, find, Some, None}
+use Rattle.std.proofs.Common.{length, drop, Some, None}
 use Rattle.restore.specs.commands.Command.{meaning}
-use Rattle.restore.specs.commands.Heads.{followed, is_name_of}
 use Rattle.restore.specs.commands.Reading.{row_of}
 use Rattle.restore.proofs.laws.commands.HeadLaws.{followed_by}
 use Rattle.restore.proofs.laws.commands.StepLaws.{along}
