@@ -11,8 +11,8 @@ pub returns-in_err-number : goal.returns-in_err-number
 returns-in_err-number c =
     let p = err_from_is_err_and c.from_residual.result c.from_residual.ensures.1 in
     rw (p.1, p.2) (
-      digits_next (length c.args.words.now) c.args.words.now c.args.place c.get.result.now (Err c.in_err-number.field-0.0) c.get.ensures.value
-      (sym c.is_digits.ensures ∙ c.if-not-is_digits.false) c.in_err-number.ensures
+    digits_next (length c.args.words.now) c.args.words.now c.args.place c.get.result.now (Err c.in_err-number.field-0.0) c.get.ensures.value
+    (sym c.is_digits.ensures ∙ c.if-not-is_digits.false) c.in_err-number.ensures
     )
 
 pub returns : goal.returns
