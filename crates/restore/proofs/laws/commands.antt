@@ -1,5 +1,5 @@
+pub mod AnswerLaws
 pub mod NextLaws
-pub mod StepLaws
 pub mod HeadLaws
 pub mod LineLaws
 pub mod SecondLaws

@@ -1,7 +1,7 @@
 use Rattle.std.proofs.Common.{length, drop}
 use Rattle.restore.specs.commands.Command.{meaning}
 use Rattle.restore.proofs.laws.commands.LineLaws.{edit_is}
-use Rattle.restore.proofs.laws.commands.StepLaws.{along}
+use Rattle.restore.proofs.laws.commands.AnswerLaws.{along}
 use Rattle.restore.proofs.command.Command.read_edit.Goals as goal
 
 pub returns : goal.returns

@@ -7,4 +7,6 @@ use Rattle.restore.proofs.command.head.Head.follow.Goals as goal
 
 pub returns-in-Delete : goal.returns-in-Delete
 returns-in-Delete c =
-    subst (λ (h : Head). Gives is_out_of_memory meaning c.delete.result ((row_of h).follows (length c.args.words.now) (drop c.args.place c.args.words.now))) (sym c.in-Delete.is) c.delete.ensures
+    let end = length c.args.words.now in
+    let rest = drop c.args.place c.args.words.now in
+    subst (λ (h : Head). Gives is_out_of_memory meaning c.delete.result ((row_of h).follows end rest)) (sym c.in-Delete.is) c.delete.ensures
