@@ -97,6 +97,6 @@ impl<'a> Command<'a> {
     ) -> Result<Command<'a>, CommandFault>
         ensures { Gives is_out_of_memory meaning result (made_into Change (edit_of (length words.now) (drop from words.now))) }
     {
-        read_among(alloc, &Head::EDITS, words, from)
+        read_among(alloc, &Head::ALL[..Head::EDITS], words, from)
     }
 }

@@ -35,6 +35,9 @@ impl Names {
 }
 
 impl Head {
+    // How many of the heads, from the first on, are those of commands that edit the table.
+    pub(crate) const EDITS: usize = 10;
+
     // Each head.
     pub(crate) const ALL: [Head; 11] = [
         Head::Append,
@@ -48,20 +51,6 @@ impl Head {
         Head::Policy,
         Head::Rename,
         Head::ListRules,
-    ];
-
-    // Those of the commands that edit the table.
-    pub(crate) const EDITS: [Head; 10] = [
-        Head::Append,
-        Head::Check,
-        Head::Delete,
-        Head::Insert,
-        Head::Replace,
-        Head::Flush,
-        Head::DeleteChain,
-        Head::NewChain,
-        Head::Policy,
-        Head::Rename,
     ];
 
     // The names of the command.
