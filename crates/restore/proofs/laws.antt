@@ -1,3 +1,3 @@
-pub mod listings
+pub mod commands
 pub mod sections
 pub mod listings

@@ -1,9 +1,20 @@
 //! Commands.
-ghost use Rattle.std.specs.Prelude.{length, drop};
-ghost use Rattle.restore.specs.Sequence.{Gives, made_into};
+ghost use Rattle.std.specs.Prelude.{length, drop, map};
+ghost use Rattle.restore.specs.Sequence.{Gives, made_into, refused_as};
 ghost use Rattle.restore.specs.commands.Command.{Change, is_out_of_memory, meaning};
-ghost use Rattle.restore.specs.commands.Heads.{edit_of};
+ghost use Rattle.restore.specs.commands.Heads.{command_of, edit_of, line_of, or_second};
+ghost use Rattle.restore.specs.commands.Reading.{row_of};
 
+pub(crate) mod digits;
+mod follow;
+mod head;
+mod line;
+mod next;
+mod second;
+
+use crate::command::head::Head;
+use crate::command::line::read_line;
+use crate::command::second::or_second;
 use crate::fault::CommandFault;
 use fields::Words;
 use rules::Rule;
@@ -42,12 +53,50 @@ pub enum Command<'a> {
     ListRules(Option<&'a [u8]>),
 }
 
+// One of these commands, or why the words from a place on write none.
+fn read_among<'a>(
+    alloc: Global,
+    heads: &[Head],
+    words: &'a Words,
+    from: usize,
+) -> Result<Command<'a>, CommandFault>
+    ensures { Gives is_out_of_memory meaning result
+        (let rest = drop from words.now in refused_as (or_second (length words.now) rest) (line_of (map row_of heads.now) (length words.now) rest)) }
+{
+    match read_line(alloc, heads, words, from) {
+        Ok(command) => Ok(command),
+        Err(fault) => Err(or_second(words, from, fault)),
+    }
+}
+
 impl<'a> Command<'a> {
-    pub(crate) fn read_edit(alloc: Global, words: &'a Words, from: usize) -> Result<Command<'a>, CommandFault>
+    /// The command that the words from a place on write (iptables(8), "SYNOPSIS" and "COMMANDS"): its name, short or
+    /// long, with `-t filter` before it or not, the words that follow the name, and a rule where it takes one. From
+    /// beyond the last word on there are no words.
+    ///
+    /// It takes memory for the rule alone, as `read_rule` says, and time linear in the words and their bytes.
+    ///
+    /// # Errors
+    ///
+    /// `CommandFault::NoCommand`, C1, where no word is left for the command, or the word there names none;
+    /// `TwoCommands`, C2, where the rule's reader comes on a word that it doesn't know and that names a command;
+    /// `WordCount`, C3, for too few words before the rule, or words after a command that takes no rule; `OtherTable`,
+    /// C4, for another table than `filter`; and `Rule` with the first fault of the rule, or of a value before it: a
+    /// table without a name or named twice, or a number that can't be read. P0 is answered where memory was refused.
+    pub fn read(alloc: Global, words: &'a Words, from: usize) -> Result<Command<'a>, CommandFault>
+        ensures { Gives is_out_of_memory meaning result (command_of (length words.now) (drop from words.now)) }
+    {
+        read_among(alloc, &Head::ALL, words, from)
+    }
+
+    // The same, of any command but `-S`, which is none here.
+    pub(crate) fn read_edit(
+        alloc: Global,
+        words: &'a Words,
+        from: usize,
+    ) -> Result<Command<'a>, CommandFault>
         ensures { Gives is_out_of_memory meaning result (made_into Change (edit_of (length words.now) (drop from words.now))) }
     {
-        let _v: Vec<u8> = Vec::new(alloc);
-        let _w = words.len() + from - from;
-        Err(CommandFault::NoCommand)
+        read_among(alloc, &Head::ALL[..Head::EDITS], words, from)
     }
 }

@@ -2,25 +2,10 @@
 ghost use Rattle.std.specs.Prelude.{◌≡◌, Option, option_map, drop};
 ghost use Rattle.fields.specs.steps.Cutting.{view_words};
 ghost use Rattle.table.specs.chains.Table.{is_built_in};
-ghost use Rattle.restore.specs.commands.Heads.{is_digits};
-ghost use Rattle.std.specs.Char.{is_ascii_digit};
-ghost use Rattle.std.specs.List.{list_all};
 ghost use Rattle.restore.specs.sections.Section.{in_brackets, is_counters, is_policy, may_be_policy, policy_word};
 
+use crate::command::digits::is_digits;
 use fields::{Hook, cut_at};
-
-fn all_digits(text: &[u8]) -> bool
-    ensures { result ≡ list_all is_ascii_digit text.now }
-{
-    text.iter().all(|byte| byte.is_ascii_digit())
-}
-
-// One or more digits.
-fn is_digits(text: &[u8]) -> bool
-    ensures { result ≡ is_digits text.now }
-{
-    !text.is_empty() && all_digits(text)
-}
 
 // What stands between `[` and `]`.
 fn in_brackets(text: &[u8]) -> Option<&[u8]>

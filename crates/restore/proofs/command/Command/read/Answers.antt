@@ -1,0 +1,6 @@
+use Rattle.restore.specs.commands.Heads.{command_of}
+use Rattle.restore.proofs.command.Command.read.Goals as goal
+
+pub returns : goal.returns
+unfolding command_of
+returns c = c.read_among.ensures

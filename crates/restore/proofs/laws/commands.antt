@@ -1,0 +1,5 @@
+pub mod AnswerLaws
+pub mod NextLaws
+pub mod HeadLaws
+pub mod LineLaws
+pub mod SecondLaws

@@ -1,0 +1,168 @@
+//! What follows the name of a command.
+ghost use Rattle.std.specs.Prelude.{length, drop, Some, None};
+ghost use Rattle.restore.specs.Sequence.{Gives, made_into};
+ghost use Rattle.restore.specs.commands.Command.{Change, ListRules, is_out_of_memory, meaning};
+ghost use Rattle.restore.specs.commands.Heads.{nothing, number, number_or_none, perhaps, rule, word};
+ghost use Rattle.restore.specs.commands.Reading.{row_of};
+ghost use Rattle.table.specs.edits.Edits.{Append, Insert, Replace, DeleteAt, DeleteRule, Has, Flush, FlushAll, NewChain, DeleteChain};
+ghost use Rattle.table.specs.edits.Edits.{DeleteChains, SetPolicy, Rename};
+
+use crate::command::Command;
+use crate::command::head::Head;
+use crate::command::next::{
+    last_word, last_word_if_any, next_number, next_number_if_digits, next_word, nothing, rule,
+};
+use crate::fault::CommandFault;
+use fields::Words;
+use std::alloc::Global;
+
+// A chain, and a rule to be put last.
+fn append<'a>(alloc: Global, words: &'a Words, place: usize) -> Result<Command<'a>, CommandFault>
+    ensures { Gives is_out_of_memory meaning result
+        (made_into Change (word (λ chain. rule (λ r. Append chain r)) (length words.now) (drop place words.now))) }
+{
+    let (chain, after) = next_word(words, place, CommandFault::WordCount)?;
+    let rule = rule(alloc, words, after)?;
+    Ok(Command::Append(chain, rule))
+}
+
+// A chain, and a rule to be looked for.
+fn check<'a>(alloc: Global, words: &'a Words, place: usize) -> Result<Command<'a>, CommandFault>
+    ensures { Gives is_out_of_memory meaning result
+        (made_into Change (word (λ chain. rule (λ r. Has chain r)) (length words.now) (drop place words.now))) }
+{
+    let (chain, after) = next_word(words, place, CommandFault::WordCount)?;
+    let rule = rule(alloc, words, after)?;
+    Ok(Command::Check(chain, rule))
+}
+
+// A chain, and the number of a rule to be taken out or the rule itself.
+fn delete<'a>(alloc: Global, words: &'a Words, place: usize) -> Result<Command<'a>, CommandFault>
+    ensures { Gives is_out_of_memory meaning result
+        (made_into Change (word (λ chain. number_or_none (λ n. nothing (DeleteAt chain n)) (rule (λ r. DeleteRule chain r)))
+        (length words.now) (drop place words.now))) }
+{
+    let (chain, after) = next_word(words, place, CommandFault::WordCount)?;
+    if let Some((number, after)) = next_number_if_digits(words, after)? {
+        nothing(words, after)?;
+        return Ok(Command::DeleteAt(chain, number));
+    }
+    let rule = rule(alloc, words, after)?;
+    Ok(Command::DeleteRule(chain, rule))
+}
+
+// A chain, the number that a rule is to have, or else 1, and the rule.
+fn insert<'a>(alloc: Global, words: &'a Words, place: usize) -> Result<Command<'a>, CommandFault>
+    ensures { Gives is_out_of_memory meaning result
+        (made_into Change (word (λ chain. number_or_none (λ n. rule (λ r. Insert chain n r)) (rule (λ r. Insert chain 1 r)))
+        (length words.now) (drop place words.now))) }
+{
+    let (chain, after) = next_word(words, place, CommandFault::WordCount)?;
+    match next_number_if_digits(words, after)? {
+        Some((number, after)) => {
+            let rule = rule(alloc, words, after)?;
+            return Ok(Command::Insert(chain, number, rule));
+        }
+        None => {
+            let rule = rule(alloc, words, after)?;
+            return Ok(Command::Insert(chain, 1, rule));
+        }
+    }
+}
+
+// A chain, the number of a rule, and the rule to stand there.
+fn replace<'a>(alloc: Global, words: &'a Words, place: usize) -> Result<Command<'a>, CommandFault>
+    ensures { Gives is_out_of_memory meaning result
+        (made_into Change (word (λ chain. number (λ n. rule (λ r. Replace chain n r))) (length words.now) (drop place words.now))) }
+{
+    let (chain, after) = next_word(words, place, CommandFault::WordCount)?;
+    let (number, after) = next_number(words, after)?;
+    let rule = rule(alloc, words, after)?;
+    Ok(Command::Replace(chain, number, rule))
+}
+
+// A chain to be emptied, or all.
+fn flush<'a>(words: &'a Words, place: usize) -> Result<Command<'a>, CommandFault>
+    ensures { Gives is_out_of_memory meaning result
+        (made_into Change (perhaps FlushAll (λ chain. Flush chain) (length words.now) (drop place words.now))) }
+{
+    match last_word_if_any(words, place)? {
+        Some(chain) => Ok(Command::Flush(chain)),
+        None => Ok(Command::FlushAll),
+    }
+}
+
+// A chain to be taken away, or all user chains.
+fn delete_chain<'a>(words: &'a Words, place: usize) -> Result<Command<'a>, CommandFault>
+    ensures { Gives is_out_of_memory meaning result
+        (made_into Change (perhaps DeleteChains (λ chain. DeleteChain chain) (length words.now) (drop place words.now))) }
+{
+    match last_word_if_any(words, place)? {
+        Some(chain) => Ok(Command::DeleteChain(chain)),
+        None => Ok(Command::DeleteChains),
+    }
+}
+
+// The name of a chain to be made.
+fn new_chain<'a>(words: &'a Words, place: usize) -> Result<Command<'a>, CommandFault>
+    ensures { Gives is_out_of_memory meaning result
+        (made_into Change (word (λ name. nothing (NewChain name)) (length words.now) (drop place words.now))) }
+{
+    let name = last_word(words, place)?;
+    Ok(Command::NewChain(name))
+}
+
+// A chain, and its policy.
+fn policy<'a>(words: &'a Words, place: usize) -> Result<Command<'a>, CommandFault>
+    ensures { Gives is_out_of_memory meaning result
+        (made_into Change (word (λ chain. word (λ policy. nothing (SetPolicy chain policy))) (length words.now) (drop place words.now))) }
+{
+    let (chain, after) = next_word(words, place, CommandFault::WordCount)?;
+    let policy = last_word(words, after)?;
+    Ok(Command::SetPolicy(chain, policy))
+}
+
+// A chain, and its new name.
+fn rename<'a>(words: &'a Words, place: usize) -> Result<Command<'a>, CommandFault>
+    ensures { Gives is_out_of_memory meaning result
+        (made_into Change (word (λ old. word (λ new. nothing (Rename old new))) (length words.now) (drop place words.now))) }
+{
+    let (old, after) = next_word(words, place, CommandFault::WordCount)?;
+    let new = last_word(words, after)?;
+    Ok(Command::Rename(old, new))
+}
+
+// A chain whose rules are to be listed, or all.
+fn list_rules<'a>(words: &'a Words, place: usize) -> Result<Command<'a>, CommandFault>
+    ensures { Gives is_out_of_memory meaning result
+        (perhaps (ListRules None) (λ chain. ListRules (Some chain)) (length words.now) (drop place words.now)) }
+{
+    let chain = last_word_if_any(words, place)?;
+    Ok(Command::ListRules(chain))
+}
+
+impl Head {
+    // The command of this name, with the words from a place on.
+    pub(crate) fn follow<'a>(
+        self,
+        alloc: Global,
+        words: &'a Words,
+        place: usize,
+    ) -> Result<Command<'a>, CommandFault>
+        ensures { Gives is_out_of_memory meaning result ((row_of self).follows (length words.now) (drop place words.now)) }
+    {
+        match self {
+            Head::Append => append(alloc, words, place),
+            Head::Check => check(alloc, words, place),
+            Head::Delete => delete(alloc, words, place),
+            Head::Insert => insert(alloc, words, place),
+            Head::Replace => replace(alloc, words, place),
+            Head::Flush => flush(words, place),
+            Head::DeleteChain => delete_chain(words, place),
+            Head::NewChain => new_chain(words, place),
+            Head::Policy => policy(words, place),
+            Head::Rename => rename(words, place),
+            Head::ListRules => list_rules(words, place),
+        }
+    }
+}
