@@ -58,7 +58,12 @@ fn opened(alloc: Global, noflush: bool, table: &Table, word: &[u8]) -> Result<Pl
 }
 
 // The place after the words of a line between sections.
-fn opening(alloc: Global, noflush: bool, table: &Table, words: &Words) -> Result<Place, RestoreFault>
+fn opening(
+    alloc: Global,
+    noflush: bool,
+    table: &Table,
+    words: &Words,
+) -> Result<Place, RestoreFault>
     ensures { Gives is_out_of_memory (λ place. place) result (opening noflush table.now.table words.now) }
 {
     if words.len() != 1 || !begins_with(words.get(0), b'*') {
@@ -127,7 +132,12 @@ impl Restore {
     ///
     /// The first refusal of the line, which ends the restore; a fault that says that memory ran out is answered where
     /// memory was refused. `table` is unchanged.
-    pub fn line(self, table: &mut Table, line: &[u8], work: &mut Work) -> Result<Restore, RestoreFault>
+    pub fn line(
+        self,
+        table: &mut Table,
+        line: &[u8],
+        work: &mut Work,
+    ) -> Result<Restore, RestoreFault>
         ensures step { IsLine self line.now table.old table.new result }
         ensures work { MakesOneBoxAtMost work.old work.new }
     {

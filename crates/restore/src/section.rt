@@ -114,7 +114,11 @@ impl Transaction {
     pub fn begin(alloc: Global, table: &Table, noflush: bool) -> Result<Transaction, AllocError>
         ensures { IfOk result (λ begun_one. begun_one ≡ begun noflush table.now.table) }
     {
-        let own = if noflush { table.copy()? } else { table.emptied()? };
+        let own = if noflush {
+            table.copy()?
+        } else {
+            table.emptied()?
+        };
         Ok(Transaction {
             alloc,
             table: own,

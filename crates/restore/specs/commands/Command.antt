@@ -1,7 +1,5 @@
 -- Commands, and why words are none (iptables(8), "COMMANDS").
-use Rattle.std.specs.Prelude.{ℕ, Bool, true, false, List, Option, Some, None, option_map, Result}
-use Rattle.std.specs.Borrow.{Bor}
-use Rattle.rules.specs.declared.reading.fault.RuleFault.{RuleFault}
+use Rattle.std.specs.Prelude.{ℕ, Bool, true, false, List, Option, option_map, Result}
 use Rattle.rules.specs.declared.reading.fault.RuleFault.TheVariants as rule
 use Rattle.table.specs.chains.Table.{TableView}
 use Rattle.table.specs.edits.Edits.{Edit, IsStepOf}

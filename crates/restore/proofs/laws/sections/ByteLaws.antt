@@ -1,7 +1,7 @@
 -- What stands between brackets.
-use Rattle.std.proofs.Common.{◌≡◌, ℕ, zero, suc, ◌+◌, ◌-◌, ◌<◌, ◌≤◌, Bool, true, false, List, [], ◌∷◌, ◌++◌, length, get_or, take, drop, refl, sym, ◌∙◌, ap, subst, arith, Option, Some, None, if◌then◌else◌, not, find, slice_get}
+use Rattle.std.proofs.Common.{◌≡◌, ℕ, zero, suc, ◌+◌, ◌-◌, ◌<◌, ◌≤◌, Bool, true, false, List, [], ◌∷◌, ◌++◌, length, get_or, take, drop, refl, sym, ◌∙◌, ap, arith, Option, Some, None, if◌then◌else◌, not, find, slice_get}
 use Rattle.std.proofs.Math.Seq.{get_or-append_seam}
-use Rattle.std.proofs.lemmas.List.{take-append-drop, drop-take, get_or-drop, length-append}
+use Rattle.std.proofs.lemmas.List.{take-append-drop, drop-take, length-append}
 use Rattle.std.proofs.lemmas.Slice.Eq.{bytes_eq-Decides}
 use Rattle.std.specs.Str.{bytes_eq}
 use Rattle.fields.specs.text.Words.{is_blank}
@@ -57,10 +57,10 @@ opened_and_closed text long first last =
     let n = length text - 1 in
     let e : length text ≡ n + 1 = omega (arith, long) in
     let whole : text ≡ bracketed (inside text) =
-        sym (take-append-drop n text)
-        ∙ ap (λ t. t ++ drop n text) (first_alone text n (omega (arith, long)) (omega (arith, long)))
-        ∙ ap (λ b. b ∷ (inside text ++ drop n text)) first
-        ∙ ap (λ t. 91 ∷ (inside text ++ t)) (last_alone text n e ∙ ap (λ b. b ∷ []) last) in
+    sym (take-append-drop n text)
+    ∙ ap (λ t. t ++ drop n text) (first_alone text n (omega (arith, long)) (omega (arith, long)))
+    ∙ ap (λ b. b ∷ (inside text ++ drop n text)) first
+    ∙ ap (λ t. 91 ∷ (inside text ++ t)) (last_alone text n e ∙ ap (λ b. b ∷ []) last) in
     let m : n ≡ 1 + (n - 1) = omega (arith, long) in
     ap (λ b. if b then Some (inside text) else None) ((bytes_eq-Decides text (bracketed (inside text))).1 whole)
     ∙ ap Some (ap (λ k. drop 1 (take k text)) m ∙ drop-take 1 (n - 1) text)

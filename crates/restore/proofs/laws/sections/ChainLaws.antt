@@ -1,5 +1,5 @@
 -- What the table answers, as a section's answer.
-use Rattle.std.proofs.Common.{◌≡◌, ◌⊎◌, inl, inr, ℕ, ◌+◌, cond, not, arith, length, Bool, true, false, ◌||◌, List, [], ◌∷◌, refl, sym, ◌∙◌, ap, subst, Option, Some, None, is_some, Result, Ok, Err, if◌then◌else◌}
+use Rattle.std.proofs.Common.{◌≡◌, inl, inr, ℕ, ◌+◌, cond, not, arith, length, Bool, true, false, ◌||◌, List, [], ◌∷◌, refl, sym, ◌∙◌, ap, subst, Option, Some, None, is_some, Result, Ok, Err, if◌then◌else◌}
 use Rattle.std.proofs.Math.Dec.{ltb}
 use Rattle.std.proofs.lemmas.Bool.{cases_lt, lt-ltb, le-ltb}
 use Rattle.std.specs.Bool.{MatchBool}
@@ -7,7 +7,6 @@ use Rattle.std.specs.List.{list_any, position, position_or_len}
 use Rattle.table.specs.chains.Table.{Table, TableView, has_chain, is_built_in}
 use Rattle.table.specs.edits.Edits.{Edit, Flush, NewChain, SetPolicy, Answers, IsStep, IsStepIfRoom, IsStepOf, may_grow, step}
 use Rattle.table.specs.declared.fault.TableFault.{TableFault}
-use Rattle.table.specs.declared.fault.TableFault.TheVariants as fault
 use Rattle.restore.specs.Sequence.{Gives, refused_as}
 use Rattle.restore.specs.sections.Section.{RestoreFault, OfTable, chain_edit, edited_by, is_none_word, is_out_of_memory}
 

@@ -1,5 +1,5 @@
 -- What a command of a section does.
-use Rattle.std.proofs.Common.{◌≡◌, ◌≢◌, ℕ, Bool, true, false, List, [], ◌∷◌, drop, refl, sym, ◌∙◌, ap, subst, Option, Some, None, Result, Ok, Err, slice_get, is_some, unwrap_or, if◌then◌else◌, arith, length}
+use Rattle.std.proofs.Common.{◌≡◌, ℕ, Bool, true, false, List, [], ◌∷◌, drop, refl, sym, ◌∙◌, ap, subst, Option, Some, Result, Ok, Err, slice_get, is_some, unwrap_or, if◌then◌else◌, length}
 use Rattle.std.proofs.lemmas.Bool.{false≢true}
 use Rattle.std.specs.Bool.{MatchBool}
 use Rattle.table.specs.chains.Table.{Table, TableView}
@@ -70,7 +70,7 @@ module _ (ot nt : TableView) (names : Names) where
   command_done s words rest c a r seen left read applied answer =
       let found = read_edit_is (edit_of (length words) rest) c read in
       let asked : asked_of_command words ≡ Ok (by_command found.0) =
-        ap (λ (ws : List (List ℕ)). refused_as Command (made_into by_command (edit_of (length words) ws))) (sym left)
-        ∙ ap (λ (e : Result Edit CommandFault). refused_as Command (made_into by_command e)) found.1 in
+      ap (λ (ws : List (List ℕ)). refused_as Command (made_into by_command (edit_of (length words) ws))) (sym left)
+      ∙ ap (λ (e : Result Edit CommandFault). refused_as Command (made_into by_command e)) found.1 in
       subst (λ (q : Section). Answered r (done q (asked_of_command words))) seen
       (subst (λ (x : Result Asked RestoreFault). Answered r (done old x)) (sym asked) (edit_done found.0 c a r found.2 applied answer))

@@ -4,7 +4,7 @@ use Rattle.std.proofs.lemmas.Bool.{true≢false, false≢true, false_from_ne_tru
 use Rattle.std.specs.Bool.{MatchBool}
 use Rattle.table.specs.chains.Table.{Table, TableView}
 use Rattle.restore.specs.Sequence.{Gives, made_into}
-use Rattle.restore.specs.sections.Lines.{Answers, IsLine, RanOut, puts_table}
+use Rattle.restore.specs.sections.Lines.{Answers, IsLine, puts_table}
 use Rattle.restore.specs.sections.Restore.{Restore, Restoring, Place, Between, Skipping, Building, between, committed, is_commit, is_skipping, line_at, moved, restore_line, skipped, takes_no_memory}
 use Rattle.restore.specs.sections.Section.{RestoreFault, LineTooLong, Section, is_out_of_memory, is_quiet, is_too_long, line_in}
 
@@ -44,7 +44,7 @@ pub reached : (noflush test : Bool) (line : List ℕ) (old new known_new : Table
 reached noflush test line old new known_new place known next known_next r seen is table after h =
     at_place noflush test line old new place known r (Ok (record { noflush = noflush; test = test; place = next })) seen is
     (subst (λ (t : TableView). IsLine (record { noflush = noflush; test = test; place = known }) line old t (Ok (record { noflush = noflush; test = test; place = next }))) (sym table)
-      (subst (λ (p : Place). IsLine (record { noflush = noflush; test = test; place = known }) line old known_new (Ok (record { noflush = noflush; test = test; place = p }))) (sym after) h))
+    (subst (λ (p : Place). IsLine (record { noflush = noflush; test = test; place = known }) line old known_new (Ok (record { noflush = noflush; test = test; place = p }))) (sym after) h))
 
 -- the same, of a refusal
 pub stopped : (noflush test : Bool) (line : List ℕ) (old : TableView) (place known : Place) (r : Restore) (f : RestoreFault) (result : Result Restore RestoreFault) → record { noflush = noflush; test = test; place = place } ≡ r → place ≡ known → result ≡ Err f → IsLine (record { noflush = noflush; test = test; place = known }) line old old (Err f) → IsLine r line old old result
