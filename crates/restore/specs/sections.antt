@@ -2,3 +2,4 @@ pub mod Names
 pub mod Section
 pub mod Restore
 pub mod Lines
+pub mod Headline

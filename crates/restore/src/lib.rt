@@ -4,6 +4,7 @@
 mod change;
 mod command;
 mod fault;
+mod headline;
 mod listing;
 mod restore;
 mod round_trip;
@@ -12,6 +13,7 @@ mod section;
 pub use change::apply;
 pub use command::Command;
 pub use fault::{CommandFault, RestoreFault};
+pub use headline::restores_leave_what_they_accept;
 pub use listing::{write_listing, write_rules};
 pub use restore::Restore;
 pub use round_trip::listings_restore;

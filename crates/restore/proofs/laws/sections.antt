@@ -4,3 +4,4 @@ pub mod ChainLaws
 pub mod CommitLaws
 pub mod CommandLaws
 pub mod LineLaws
+pub mod HeadlineLaws

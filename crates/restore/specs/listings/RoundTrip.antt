@@ -2,7 +2,7 @@
 use Rattle.std.specs.Prelude.{◌≡◌, false, Ok}
 use Rattle.fields.specs.text.Line.{lines_of}
 use Rattle.table.specs.chains.Sound.{IsSound}
-use Rattle.table.specs.chains.Table.{Table, empty_table}
+use Rattle.table.specs.chains.Table.{AreClassified, Table, TableView, empty_table}
 use Rattle.restore.specs.listings.Listing.{listing}
 use Rattle.restore.specs.sections.Restore.{restored}
 use Rattle.restore.specs.sections.Section.{inside, transaction}
@@ -14,3 +14,10 @@ RestoresAsEqual = (t : Table) → IsSound t → restored false false empty_table
 -- a section with the lines between `*filter` and `COMMIT` gives the table
 abbrev pub CommitsAsEqual : Type 0
 CommitsAsEqual = (t : Table) → IsSound t → transaction false empty_table (inside (lines_of (listing t))) ≡ Ok t
+
+-- whatever table has the chains that a listing restores, and classifiers of their rules, is the table that was listed, with the
+-- classifiers that it has
+abbrev pub ListingsRestoreClassifiers : Type 0
+ListingsRestoreClassifiers =
+    (t made : TableView) → IsSound t.table → AreClassified t.table.chains t.classifiers → AreClassified made.table.chains made.classifiers
+    → restored false false empty_table (lines_of (listing t.table)) ≡ Ok made.table → made ≡ t
