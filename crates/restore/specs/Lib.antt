@@ -1,4 +1,5 @@
 pub mod Sequence
 pub mod commands
+pub mod steps
 pub mod sections
 pub mod listings

@@ -3,7 +3,7 @@ ghost use Rattle.std.specs.Prelude.{length, drop, map};
 ghost use Rattle.restore.specs.Sequence.{Gives, made_into, refused_as};
 ghost use Rattle.restore.specs.commands.Command.{Change, is_out_of_memory, meaning};
 ghost use Rattle.restore.specs.commands.Heads.{command_of, edit_of, line_of, or_second};
-ghost use Rattle.restore.specs.commands.Reading.{row_of};
+ghost use Rattle.restore.specs.steps.Reading.{row_of};
 
 pub(crate) mod digits;
 mod follow;

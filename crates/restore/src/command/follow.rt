@@ -3,7 +3,7 @@ ghost use Rattle.std.specs.Prelude.{length, drop, Some, None};
 ghost use Rattle.restore.specs.Sequence.{Gives, made_into};
 ghost use Rattle.restore.specs.commands.Command.{Change, ListRules, is_out_of_memory, meaning};
 ghost use Rattle.restore.specs.commands.Heads.{nothing, number, number_or_none, perhaps, rule, word};
-ghost use Rattle.restore.specs.commands.Reading.{row_of};
+ghost use Rattle.restore.specs.steps.Reading.{row_of};
 ghost use Rattle.table.specs.edits.Edits.{Append, Insert, Replace, DeleteAt, DeleteRule, Has, Flush, FlushAll, NewChain, DeleteChain};
 ghost use Rattle.table.specs.edits.Edits.{DeleteChains, SetPolicy, Rename};
 

@@ -1,7 +1,7 @@
 //! The names of commands.
 ghost use Rattle.std.specs.Prelude.{◌≡◌, find};
 ghost use Rattle.restore.specs.commands.Heads.{is_name_of};
-ghost use Rattle.restore.specs.commands.Reading.{row_of};
+ghost use Rattle.restore.specs.steps.Reading.{row_of};
 
 // What a command is named for.
 #[derive(Clone, Copy)]

@@ -5,7 +5,7 @@ ghost use Rattle.rules.specs.declared.reading.fault.Refusal.TheVariants as refus
 ghost use Rattle.restore.specs.Sequence.{Gives};
 ghost use Rattle.restore.specs.commands.Command.{is_out_of_memory, meaning};
 ghost use Rattle.restore.specs.commands.Heads.{followed, is_name_of, line_of, named, refused, value};
-ghost use Rattle.restore.specs.commands.Reading.{row_of};
+ghost use Rattle.restore.specs.steps.Reading.{row_of};
 
 use crate::command::Command;
 use crate::command::head::Head;

@@ -3,7 +3,7 @@ ghost use Rattle.std.specs.Prelude.{◌≡◌, length, drop, Some, None, option_
 ghost use Rattle.restore.specs.Sequence.{Gives, made_into};
 ghost use Rattle.restore.specs.commands.Command.{is_out_of_memory};
 ghost use Rattle.restore.specs.commands.Heads.{nothing, perhaps, rule, word};
-ghost use Rattle.restore.specs.commands.Reading.{next_number, next_number_if_digits, next_or};
+ghost use Rattle.restore.specs.steps.Reading.{next_number, next_number_if_digits, next_or};
 
 use crate::command::digits::is_digits;
 use crate::fault::CommandFault;

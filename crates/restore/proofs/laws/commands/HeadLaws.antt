@@ -2,7 +2,7 @@
 use Rattle.std.proofs.Common.{◌≡◌, ℕ, Bool, true, false, List, [], ◌∷◌, map, find, option_map, refl, sym, ◌∙◌, ap}
 use Rattle.std.proofs.Common.{Option, Some, if◌then◌else◌}
 use Rattle.restore.specs.commands.Heads.{followed, is_name_of}
-use Rattle.restore.specs.commands.Reading.{row_of}
+use Rattle.restore.specs.steps.Reading.{row_of}
 use Rattle.restore.specs.declared.command.head.Head as code
 
 -- what is found among the values of a function

@@ -9,7 +9,7 @@ use Rattle.rules.specs.declared.reading.fault.Refusal.TheVariants as refusal
 use Rattle.restore.specs.Sequence.{◌>>=◌, made_into, or_refused}
 use Rattle.restore.specs.commands.Command.{CommandFault, WordCount}
 use Rattle.restore.specs.commands.Heads.{Reader, is_digits, nothing, number, perhaps, refused, word}
-use Rattle.restore.specs.commands.Reading.{next_number, next_number_if_digits, next_or}
+use Rattle.restore.specs.steps.Reading.{next_number, next_number_if_digits, next_or}
 
 -- the words from the place of a word on
 drop_next : (ws : List (List ℕ)) (n : ℕ) (w : List ℕ) → slice_get ws n ≡ Some w → drop n ws ≡ w ∷ drop (n + 1) ws

@@ -5,7 +5,7 @@ use Rattle.std.proofs.lemmas.Bool.{cases_lt}
 use Rattle.std.proofs.lemmas.List.{drop-drop, drop_all, length-drop}
 use Rattle.restore.specs.commands.Command.{CommandFault}
 use Rattle.restore.specs.commands.Heads.{is_command, is_name_of, word_at}
-use Rattle.restore.specs.commands.Reading.{next_or, row_of}
+use Rattle.restore.specs.steps.Reading.{next_or, row_of}
 use Rattle.restore.specs.declared.command.head.Head as code
 use Rattle.restore.specs.declared.command.head.TheConstants.Head.{ALL}
 use Rattle.restore.proofs.laws.commands.HeadLaws.{found}

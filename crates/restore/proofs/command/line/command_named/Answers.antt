@@ -1,6 +1,6 @@
 use Rattle.std.proofs.Common.{length, drop, Some, None}
 use Rattle.restore.specs.commands.Command.{meaning}
-use Rattle.restore.specs.commands.Reading.{row_of}
+use Rattle.restore.specs.steps.Reading.{row_of}
 use Rattle.restore.proofs.laws.commands.HeadLaws.{followed_by}
 use Rattle.restore.proofs.laws.commands.AnswerLaws.{along}
 use Rattle.restore.proofs.command.line.command_named.Goals as goal

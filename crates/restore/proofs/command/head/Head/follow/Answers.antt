@@ -1,7 +1,7 @@
 use Rattle.std.proofs.Common.{length, drop, subst, sym}
 use Rattle.restore.specs.Sequence.{Gives}
 use Rattle.restore.specs.commands.Command.{is_out_of_memory, meaning}
-use Rattle.restore.specs.commands.Reading.{row_of}
+use Rattle.restore.specs.steps.Reading.{row_of}
 use Rattle.restore.specs.declared.command.head.Head.{Head}
 use Rattle.restore.proofs.command.head.Head.follow.Goals as goal
 
