@@ -5,7 +5,9 @@ ghost use Rattle.table.specs.chains.Table.{chain_at, policy_of};
 ghost use Rattle.table.specs.edits.Made.{policy_text};
 ghost use Rattle.restore.specs.listings.Listing.{chain_line, head_line, head_with, listing, policy_word};
 ghost use Rattle.restore.specs.listings.Listing.{rule_line, rule_lines, rules_listing};
+ghost use Rattle.restore.specs.listings.RoundTrip.{RestoresItself};
 
+use crate::round_trip::listings_restore;
 use fields::{Tap, WriteFailed};
 use rules::{Rule, write_rule};
 use std::io::Write;
@@ -178,6 +180,8 @@ fn put_rules_of<W: Write>(
 /// Writes the listing of a table (iptables-save(8)): `*filter`, a line for each chain with its policy, or `-` for a
 /// user chain, and the counters `[0:0]`, then the rules chain by chain, each after `-A chain`, and `COMMIT`.
 ///
+/// A restore of the listing gives the table from the empty one.
+///
 /// It takes no memory, and time linear in the text, which is written as it comes.
 ///
 /// # Errors
@@ -186,7 +190,10 @@ fn put_rules_of<W: Write>(
 /// failed before.
 pub fn write_listing<W: Write>(table: &Table, output: &mut Tap<W>) -> Result<(), WriteFailed>
     ensures puts { Puts W.contents output.old output.new result (listing table.now.table) }
+    ensures restores { RestoresItself table.now.table }
 {
+    table.stands();
+    listings_restore();
     output.put(b"*filter\n")?;
     put_chain_lines(table, output)?;
     put_all_rules(table, output)?;

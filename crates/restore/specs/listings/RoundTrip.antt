@@ -7,9 +7,13 @@ use Rattle.restore.specs.listings.Listing.{listing}
 use Rattle.restore.specs.sections.Restore.{restored}
 use Rattle.restore.specs.sections.Section.{inside, transaction}
 
--- the listing of a table is read from the empty table without a refusal, as the table
+-- the listing of the table is read from the empty table without a refusal, as the table
+abbrev pub RestoresItself : Table → Type 0
+RestoresItself t = restored false false empty_table (lines_of (listing t)) ≡ Ok t
+
+-- every table is so
 abbrev pub RestoresAsEqual : Type 0
-RestoresAsEqual = (t : Table) → IsSound t → restored false false empty_table (lines_of (listing t)) ≡ Ok t
+RestoresAsEqual = (t : Table) → IsSound t → RestoresItself t
 
 -- a section with the lines between `*filter` and `COMMIT` gives the table
 abbrev pub CommitsAsEqual : Type 0

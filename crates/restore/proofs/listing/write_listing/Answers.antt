@@ -7,6 +7,7 @@ pub returns-in_err-put : goal.returns-in_err-put
 returns-in_err-put g c =
     let t = c.args.table.now.table in let chains = flat_map (chain_line t) t.chains in let rules = flat_map rule_lines t.chains in
     record {
+      restores = c.listings_restore.ensures.restores t c.stands.ensures.sound;
       puts = stops-in _ _ _ _ _ (codes "*filter\n") (chains ++ (rules ++ codes "COMMIT\n")) refl c.from_residual.ensures.0 c.in_err-put.ensures.puts;
     }
 
@@ -14,6 +15,7 @@ pub returns-in_err-put_chain_lines : goal.returns-in_err-put_chain_lines
 returns-in_err-put_chain_lines g c =
     let t = c.args.table.now.table in let chains = flat_map (chain_line t) t.chains in let rules = flat_map rule_lines t.chains in
     record {
+      restores = c.listings_restore.ensures.restores t c.stands.ensures.sound;
       puts = puts-after _ _ _ _ _ _ (codes "*filter\n") (chains ++ (rules ++ codes "COMMIT\n")) refl c.in_ok-put.ensures.puts
           (stops-in _ _ _ _ _ chains (rules ++ codes "COMMIT\n") refl c.from_residual-in_err-put_chain_lines.ensures.0 c.in_err-put_chain_lines.ensures);
     }
@@ -22,6 +24,7 @@ pub returns-in_err-put_all_rules : goal.returns-in_err-put_all_rules
 returns-in_err-put_all_rules g c =
     let t = c.args.table.now.table in let chains = flat_map (chain_line t) t.chains in let rules = flat_map rule_lines t.chains in
     record {
+      restores = c.listings_restore.ensures.restores t c.stands.ensures.sound;
       puts = puts-after _ _ _ _ _ _ (codes "*filter\n") (chains ++ (rules ++ codes "COMMIT\n")) refl c.in_ok-put.ensures.puts
           (puts-after _ _ _ _ _ _ chains (rules ++ codes "COMMIT\n") refl c.in_ok-put_chain_lines.ensures
           (stops-in _ _ _ _ _ rules (codes "COMMIT\n") refl c.from_residual-in_err-put_all_rules.ensures.0 c.in_err-put_all_rules.ensures));
@@ -31,6 +34,7 @@ pub returns : goal.returns
 returns g c =
     let t = c.args.table.now.table in let chains = flat_map (chain_line t) t.chains in let rules = flat_map rule_lines t.chains in
     record {
+      restores = c.listings_restore.ensures.restores t c.stands.ensures.sound;
       puts = puts-after _ _ _ _ _ _ (codes "*filter\n") (chains ++ (rules ++ codes "COMMIT\n")) refl c.in_ok-put.ensures.puts
           (puts-after _ _ _ _ _ _ chains (rules ++ codes "COMMIT\n") refl c.in_ok-put_chain_lines.ensures
           (puts-after _ _ _ _ _ _ rules (codes "COMMIT\n") refl c.in_ok-put_all_rules.ensures c.put-2.ensures.puts));
