@@ -11,8 +11,12 @@ mod bits;
 mod boxes;
 mod case;
 mod classifiers;
+mod commands;
+mod listings;
 mod planted;
+mod restores;
 mod rulings;
+mod sections;
 mod sets;
 mod tables;
 mod values;
@@ -88,6 +92,39 @@ fn run<R: Print + AllocGlobal>(rt: &R, refusals: &mut Refusals) {
         tables::put_over(alloc, refusals),
     );
     tell(rt, "trails", tables::trail(alloc, refusals));
+    tell(rt, "tables copied", tables::copy(alloc, refusals));
+    tell(rt, "tables emptied", tables::emptied(alloc, refusals));
+    run_of_restores(rt, refusals);
+}
+
+/// The cases of commands and restores.
+fn run_of_restores<R: Print + AllocGlobal>(rt: &R, refusals: &mut Refusals) {
+    let alloc = rt.alloc();
+    tell(rt, "commands read", commands::read(alloc, refusals));
+    tell(
+        rt,
+        "commands without a rule",
+        commands::needless(alloc, refusals),
+    );
+    tell(rt, "commands done", commands::apply(alloc, refusals));
+    tell(rt, "sections begun", sections::begin(alloc, refusals));
+    tell(rt, "lines of sections", sections::line(alloc, refusals));
+    tell(
+        rt,
+        "refused lines of sections",
+        sections::refused(alloc, refusals),
+    );
+    tell(
+        rt,
+        "quiet lines of sections",
+        sections::needless(alloc, refusals),
+    );
+    tell(rt, "restores", restores::line(alloc, refusals));
+    tell(
+        rt,
+        "quiet lines of restores",
+        restores::needless(alloc, refusals),
+    );
 }
 
 /// Prints how the planted cases ended, each by the trouble that it is made to be.

@@ -215,8 +215,8 @@ fn none(alloc: Global, refusals: &mut Refusals) -> Result<Table, Trouble> {
     Ok(again!(refusals, Table::new(alloc), true))
 }
 
-/// The table before the edits.
-fn before(alloc: Global, refusals: &mut Refusals) -> Result<Table, Trouble> {
+/// A table of a user chain `a` and one rule of INPUT.
+pub fn with_one(alloc: Global, refusals: &mut Refusals) -> Result<Table, Trouble> {
     let mut table = none(alloc, refusals)?;
     make(alloc, refusals, &mut table, b"a", &EMPTY)?;
     put(
@@ -228,6 +228,12 @@ fn before(alloc: Global, refusals: &mut Refusals) -> Result<Table, Trouble> {
         FROM_TEN,
         &MADE,
     )?;
+    Ok(table)
+}
+
+/// The table before the edits.
+fn before(alloc: Global, refusals: &mut Refusals) -> Result<Table, Trouble> {
+    let mut table = with_one(alloc, refusals)?;
     put(
         alloc,
         refusals,
@@ -253,6 +259,31 @@ fn before(alloc: Global, refusals: &mut Refusals) -> Result<Table, Trouble> {
 pub fn new(alloc: Global, refusals: &mut Refusals) -> Result<(), Trouble> {
     let table = none(alloc, refusals)?;
     expect(is_of(alloc, refusals, &table, &EMPTY)?)
+}
+
+/// `Table::copy`.
+pub fn copy(alloc: Global, refusals: &mut Refusals) -> Result<(), Trouble> {
+    let table = before(alloc, refusals)?;
+    let copy = again!(
+        refusals,
+        table.copy(),
+        is_of(alloc, refusals, &table, &BEFORE)?
+    );
+    expect(is_of(alloc, refusals, &copy, &BEFORE)?)?;
+    expect(verdict(alloc, refusals, &copy)? == Verdict::Accept)?;
+    expect(is_of(alloc, refusals, &table, &BEFORE)?)
+}
+
+/// `Table::emptied`.
+pub fn emptied(alloc: Global, refusals: &mut Refusals) -> Result<(), Trouble> {
+    let table = before(alloc, refusals)?;
+    let emptied = again!(
+        refusals,
+        table.emptied(),
+        is_of(alloc, refusals, &table, &BEFORE)?
+    );
+    expect(is_of(alloc, refusals, &emptied, &EMPTY)?)?;
+    expect(is_of(alloc, refusals, &table, &BEFORE)?)
 }
 
 /// `Table::new_chain`, at the end of the listing and before another chain.

@@ -19,7 +19,8 @@ pub fn words_of(
     Err(Trouble::RefusedTwice)
 }
 
-fn are_words(words: &Words, expected: &[&[u8]]) -> bool {
+/// Whether these are the words.
+pub fn are_words(words: &Words, expected: &[&[u8]]) -> bool {
     if words.len() != expected.len() {
         return false;
     }

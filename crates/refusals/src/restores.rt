@@ -1,0 +1,153 @@
+//! Restores: lines done to the table in place.
+use crate::case::{Refusals, Trouble, again, expect, expect_kept};
+use crate::listings::{WITH_ONE, has_listing};
+use crate::sections::{QUIET, TOO_LONG, is_out_of_memory, trouble_of};
+use crate::tables::with_one;
+use restore::{Restore, RestoreFault};
+use rules::Work;
+use std::alloc::Global;
+use table::{Table, TableFault};
+
+/// Does the lines of a restore, and ends it.
+fn run(
+    alloc: Global,
+    table: &mut Table,
+    lines: &[&[u8]],
+    work: &mut Work,
+) -> Result<(), RestoreFault> {
+    let mut restore = Restore::new(alloc, true, false);
+    for line in lines {
+        restore = restore.line(table, line, work)?;
+    }
+    restore.finish()
+}
+
+/// What a restore of these lines, with one rule at most, comes to; a refusal leaves the table, and the lines are
+/// done by another restore.
+fn answer(
+    alloc: Global,
+    refusals: &mut Refusals,
+    table: &mut Table,
+    lines: &[&[u8]],
+) -> Result<Result<(), RestoreFault>, Trouble> {
+    let mut work = Work::new();
+    for calls in 1..3 {
+        let answer = run(alloc, table, lines, &mut work);
+        expect(work.boxes() <= calls)?;
+        match answer {
+            Ok(()) => return Ok(Ok(())),
+            Err(fault) => {
+                if !is_out_of_memory(fault) {
+                    return Ok(Err(fault));
+                }
+            }
+        }
+        refusals.note();
+        expect_kept(has_listing(alloc, refusals, table, WITH_ONE)?)?;
+    }
+    Err(Trouble::RefusedTwice)
+}
+
+/// `Restore::line`, of lines that open a section, of chain lines and commands, and of `COMMIT`.
+pub fn line(alloc: Global, refusals: &mut Refusals) -> Result<(), Trouble> {
+    let mut table = with_one(alloc, refusals)?;
+    let rows: [(&[&[u8]], Result<(), RestoreFault>, &[u8]); 4] = [
+        (&[b"-A INPUT"], Err(RestoreFault::NotAllowed), WITH_ONE),
+        (
+            &[b"*filter", b":b -"],
+            Err(RestoreFault::EndBeforeCommit),
+            WITH_ONE,
+        ),
+        (
+            &[b"*filter", b"-F", b"-A b -j LOG"],
+            Err(RestoreFault::Table(TableFault::NoSuchChain)),
+            WITH_ONE,
+        ),
+        (
+            &[
+                b"*nat",
+                b"COMMIT",
+                b"*filter",
+                b":b -",
+                b"-A b -p tcp --dport 22 -j a",
+                b"COMMIT",
+            ],
+            Ok(()),
+            b":a - [0:0]\n:b - [0:0]\n-A INPUT -s 10.0.0.0/8 -j DROP\n-A b -p tcp -m tcp --dport 22 -j a\nCOMMIT\n",
+        ),
+    ];
+    for (lines, expected, text) in rows {
+        expect(answer(alloc, refusals, &mut table, lines)? == expected)?;
+        expect(has_listing(alloc, refusals, &table, text)?)?;
+    }
+    Ok(())
+}
+
+/// A restore after a line that opens a section.
+fn inside(
+    alloc: Global,
+    refusals: &mut Refusals,
+    table: &mut Table,
+    opening: &[u8],
+) -> Result<Restore, Trouble> {
+    Ok(again!(
+        refusals,
+        Restore::new(alloc, true, false).line(table, opening, &mut Work::new()),
+        has_listing(alloc, refusals, table, WITH_ONE)?
+    ))
+}
+
+/// The restore after lines that have to be accepted without any memory.
+fn after_all(restore: Restore, table: &mut Table, lines: &[&[u8]]) -> Result<Restore, Trouble> {
+    let mut next = restore;
+    for line in lines {
+        next = match next.line(table, line, &mut Work::new()) {
+            Ok(next) => next,
+            Err(fault) => return Err(trouble_of(fault)),
+        };
+    }
+    Ok(next)
+}
+
+/// What a line comes to that has to be refused by a fault without any memory.
+fn expect_fault(
+    restore: Restore,
+    table: &mut Table,
+    line: &[u8],
+    fault: RestoreFault,
+) -> Result<(), Trouble> {
+    match restore.line(table, line, &mut Work::new()) {
+        Ok(_) => Err(Trouble::OtherAnswer),
+        Err(found) => {
+            if found == fault {
+                return Ok(());
+            }
+            Err(trouble_of(found))
+        }
+    }
+}
+
+/// `Restore::line` of the lines that take no memory: between sections, in one that is skipped, and in one of `filter`.
+pub fn needless(alloc: Global, refusals: &mut Refusals) -> Result<(), Trouble> {
+    let mut table = with_one(alloc, refusals)?;
+    let rows: [(&[u8], RestoreFault); 2] = [
+        (b"COMMIT", RestoreFault::NotAllowed),
+        (&TOO_LONG, RestoreFault::LineTooLong),
+    ];
+    for (line, fault) in rows {
+        let between = after_all(Restore::new(alloc, true, false), &mut table, &QUIET)?;
+        expect_fault(between, &mut table, line, fault)?;
+    }
+    for opening in [b"*nat".as_slice(), b"*filter"] {
+        let restore = inside(alloc, refusals, &mut table, opening)?;
+        let open = after_all(restore, &mut table, &QUIET)?;
+        expect_fault(open, &mut table, &TOO_LONG, RestoreFault::LineTooLong)?;
+        let restore = inside(alloc, refusals, &mut table, opening)?;
+        let closed = after_all(restore, &mut table, &[b" COMMIT\t"])?;
+        expect(closed.finish().is_ok())?;
+    }
+    let skipping = inside(alloc, refusals, &mut table, b"*nat")?;
+    let lines = [b"a \"b".as_slice(), b":a - b", b"*filter", b"COMMIT"];
+    expect(after_all(skipping, &mut table, &lines)?.finish().is_ok())?;
+    expect(has_listing(alloc, refusals, &table, WITH_ONE)?)
+}

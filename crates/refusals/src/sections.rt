@@ -1,0 +1,146 @@
+//! Sections of a restore.
+use crate::case::{Refusals, Trouble, again, expect, expect_kept};
+use crate::listings::{WITH_ONE, has_listing};
+use crate::tables::with_one;
+use restore::{CommandFault, RestoreFault, Transaction};
+use rules::{RuleFault, Work};
+use std::alloc::Global;
+use table::{Table, TableFault};
+
+/// A line of one byte more than a line may have.
+pub const TOO_LONG: [u8; 10_241] = [b'#'; 10_241];
+
+/// Lines that ask nothing.
+pub const QUIET: [&[u8]; 3] = [b"", b" \t", b"\t# a \"b"];
+
+/// Whether a fault says that memory was refused.
+pub fn is_out_of_memory(fault: RestoreFault) -> bool {
+    match fault {
+        RestoreFault::NoMemory
+        | RestoreFault::Table(TableFault::NoMemory)
+        | RestoreFault::Command(CommandFault::Rule(RuleFault::NoMemory)) => true,
+        _ => false,
+    }
+}
+
+/// What a fault comes to where a line that takes no memory has to be accepted.
+pub fn trouble_of(fault: RestoreFault) -> Trouble {
+    if is_out_of_memory(fault) {
+        Trouble::Needless
+    } else {
+        Trouble::OtherAnswer
+    }
+}
+
+/// A section of the table with one rule; a refusal leaves the table.
+fn begun(
+    alloc: Global,
+    refusals: &mut Refusals,
+    table: &Table,
+    noflush: bool,
+) -> Result<Transaction, Trouble> {
+    Ok(again!(
+        refusals,
+        Transaction::begin(alloc, table, noflush),
+        has_listing(alloc, refusals, table, WITH_ONE)?
+    ))
+}
+
+/// What a section of that table answers to a line; a refusal leaves the table, and the line is done by another section.
+fn answer(
+    alloc: Global,
+    refusals: &mut Refusals,
+    table: &Table,
+    noflush: bool,
+    line: &[u8],
+) -> Result<Result<Transaction, RestoreFault>, Trouble> {
+    let mut work = Work::new();
+    for calls in 1..3 {
+        let section = begun(alloc, refusals, table, noflush)?;
+        let answer = section.line(line, &mut work);
+        expect(work.boxes() <= calls)?;
+        match answer {
+            Ok(next) => return Ok(Ok(next)),
+            Err(fault) => {
+                if !is_out_of_memory(fault) {
+                    return Ok(Err(fault));
+                }
+            }
+        }
+        refusals.note();
+        expect_kept(has_listing(alloc, refusals, table, WITH_ONE)?)?;
+    }
+    Err(Trouble::RefusedTwice)
+}
+
+/// `Transaction::begin`, with `noflush` and without.
+pub fn begin(alloc: Global, refusals: &mut Refusals) -> Result<(), Trouble> {
+    let table = with_one(alloc, refusals)?;
+    let rows: [(bool, &[u8]); 2] = [(true, WITH_ONE), (false, b"COMMIT\n")];
+    for (noflush, text) in rows {
+        let own = begun(alloc, refusals, &table, noflush)?.commit();
+        expect(has_listing(alloc, refusals, &own, text)?)?;
+        expect(has_listing(alloc, refusals, &table, WITH_ONE)?)?;
+    }
+    Ok(())
+}
+
+/// `Transaction::line`, of a command after counters and of chain lines.
+pub fn line(alloc: Global, refusals: &mut Refusals) -> Result<(), Trouble> {
+    let table = with_one(alloc, refusals)?;
+    let rows: [(bool, &[u8], &[u8]); 3] = [
+        (
+            true,
+            b"[3:180] -A INPUT -p tcp --dport 22 -j a",
+            b":a - [0:0]\n-A INPUT -s 10.0.0.0/8 -j DROP\n-A INPUT -p tcp -m tcp --dport 22 -j a\nCOMMIT\n",
+        ),
+        (true, b":a - [0:0]", WITH_ONE),
+        (false, b":b - [0:0]", b":b - [0:0]\nCOMMIT\n"),
+    ];
+    for (noflush, line, text) in rows {
+        match answer(alloc, refusals, &table, noflush, line)? {
+            Ok(section) => expect(has_listing(alloc, refusals, &section.commit(), text)?)?,
+            Err(_) => return Err(Trouble::OtherAnswer),
+        }
+        expect(has_listing(alloc, refusals, &table, WITH_ONE)?)?;
+    }
+    Ok(())
+}
+
+/// `Transaction::line` of lines that are refused whatever memory there is.
+pub fn refused(alloc: Global, refusals: &mut Refusals) -> Result<(), Trouble> {
+    let table = with_one(alloc, refusals)?;
+    let rows: [(&[u8], RestoreFault); 4] = [
+        (b"a \"b", RestoreFault::Quoting),
+        (b":a ACCEPT", RestoreFault::BadChainLine),
+        (
+            b"-A a -f -F",
+            RestoreFault::Command(CommandFault::TwoCommands),
+        ),
+        (b"-A a -f -g a", RestoreFault::Table(TableFault::Loop)),
+    ];
+    for (line, fault) in rows {
+        match answer(alloc, refusals, &table, true, line)? {
+            Ok(_) => return Err(Trouble::OtherAnswer),
+            Err(found) => expect(found == fault)?,
+        }
+    }
+    Ok(())
+}
+
+/// `Transaction::line` of lines that ask nothing, and of one that is too long: they take no memory.
+pub fn needless(alloc: Global, refusals: &mut Refusals) -> Result<(), Trouble> {
+    let table = with_one(alloc, refusals)?;
+    let mut section = begun(alloc, refusals, &table, true)?;
+    for line in QUIET {
+        section = match section.line(line, &mut Work::new()) {
+            Ok(next) => next,
+            Err(fault) => return Err(trouble_of(fault)),
+        };
+    }
+    match section.line(&TOO_LONG, &mut Work::new()) {
+        Ok(_) => Err(Trouble::OtherAnswer),
+        Err(RestoreFault::LineTooLong) => Ok(()),
+        Err(fault) => Err(trouble_of(fault)),
+    }
+}
