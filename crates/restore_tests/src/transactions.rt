@@ -1,0 +1,126 @@
+// Sections without a restore round them.
+use crate::filter::{Filter, restore_text, text_of};
+use fields::Tap;
+use restore::{Transaction, write_listing};
+use std::alloc::Global;
+use std::process::Abort;
+use std::test::Fail;
+use table::Table;
+
+// The table that the sections begin from.
+const BEFORE: [&str; 4] = ["-N a", "-A a -j DROP", "-A INPUT -j a", "-P FORWARD DROP"];
+
+// The table that lines give, or the text of the first refusal.
+fn committed(
+    filter: &mut Filter,
+    noflush: bool,
+    lines: &[&str],
+) -> Result<Result<Table, String>, Fail> {
+    let mut section = Transaction::begin(filter.alloc, &filter.table, noflush)?;
+    for line in lines {
+        match section.line(line.as_bytes(), &mut filter.work) {
+            Ok(next) => section = next,
+            Err(fault) => return Ok(Err(restore_text(filter.alloc, fault)?)),
+        }
+    }
+    Ok(Ok(section.commit()))
+}
+
+fn listing(rt: &impl Abort, alloc: Global, table: &Table) -> Result<String, Fail> {
+    let mut output = Tap::new(Vec::new(alloc));
+    write_listing(table, &mut output)?;
+    text_of(rt, alloc, output)
+}
+
+// Compares the listing of the table that lines give, while the table in place stays as it was.
+fn gives(
+    rt: &impl Abort,
+    filter: &mut Filter,
+    noflush: bool,
+    lines: &[&str],
+    listed: &str,
+) -> Result<(), Fail> {
+    let before = filter.listing(rt)?;
+    match committed(filter, noflush, lines)? {
+        Ok(table) => {
+            assert_eq!(rt; listing(rt, filter.alloc, &table)?.as_str(), listed);
+        }
+        Err(fault) => assert!(rt; false, "{fault}"),
+    }
+    assert_eq!(rt; filter.listing(rt)?.as_str(), before.as_str());
+    Ok(())
+}
+
+#[test]
+fn begun_and_committed(rt: HostRuntime) -> Result<(), Fail> {
+    let mut filter = Filter::after(&rt, rt.alloc(), &BEFORE)?;
+    let emptied = "*filter\n\
+        :INPUT ACCEPT [0:0]\n\
+        :FORWARD DROP [0:0]\n\
+        :OUTPUT ACCEPT [0:0]\n\
+        COMMIT\n";
+    let copied = filter.listing(&rt)?;
+    for lines in [&[][..], &["", "# x", "\t"][..]] {
+        gives(&rt, &mut filter, false, lines, emptied)?;
+        gives(&rt, &mut filter, true, lines, copied.as_str())?;
+    }
+    Ok(())
+}
+
+#[test]
+fn lines_of_a_section(rt: HostRuntime) -> Result<(), Fail> {
+    let mut filter = Filter::after(&rt, rt.alloc(), &BEFORE)?;
+    let lines = [
+        ":a - [0:0]",
+        "[1:2] -A a -j RETURN",
+        ":INPUT DROP",
+        "",
+        "-A OUTPUT -j a",
+    ];
+    let flushed = "*filter\n\
+        :INPUT DROP [0:0]\n\
+        :FORWARD DROP [0:0]\n\
+        :OUTPUT ACCEPT [0:0]\n\
+        :a - [0:0]\n\
+        -A OUTPUT -j a\n\
+        -A a -j RETURN\n\
+        COMMIT\n";
+    let kept = "*filter\n\
+        :INPUT DROP [0:0]\n\
+        :FORWARD DROP [0:0]\n\
+        :OUTPUT ACCEPT [0:0]\n\
+        :a - [0:0]\n\
+        -A INPUT -j a\n\
+        -A OUTPUT -j a\n\
+        -A a -j RETURN\n\
+        COMMIT\n";
+    gives(&rt, &mut filter, false, &lines, flushed)?;
+    gives(&rt, &mut filter, true, &lines, kept)
+}
+
+#[test]
+fn refused_lines(rt: HostRuntime) -> Result<(), Fail> {
+    let mut filter = Filter::after(&rt, rt.alloc(), &BEFORE)?;
+    let before = filter.listing(&rt)?;
+    let rows = [
+        ("COMMIT", "no command"),
+        (" COMMIT ", "no command"),
+        ("\"COMMIT\"", "no command"),
+        ("-S", "no command"),
+        ("*filter", "line not allowed here"),
+        (":b", "bad chain line"),
+        (":a -", "duplicate chain line"),
+        ("\"", "bad quoting"),
+        ("-A a -j a", "loop"),
+    ];
+    for (line, fault) in rows {
+        for noflush in [false, true] {
+            match committed(&mut filter, noflush, &["-P INPUT DROP", ":a -", line])? {
+                Ok(_) => assert!(&rt; false, "{line}"),
+                Err(text) => assert_eq!(&rt; text.as_str(), fault, "{line}"),
+            }
+            assert_eq!(&rt; filter.listing(&rt)?.as_str(), before.as_str(), "{line}");
+        }
+    }
+    Ok(())
+}
