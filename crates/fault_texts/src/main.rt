@@ -1,8 +1,10 @@
-//! The program `fault_texts`: prints every fault that the public calls of `fields`, `rules` and `table` answer, with its
-//! text. What it has to print stands beside it, as the table of faults has it.
+//! The program `fault_texts`: prints every fault that the public calls of `fields`, `rules`, `table` and `restore`
+//! answer, with its text. What it has to print stands beside it, as the table of faults has it; a fault that holds
+//! another one has the text of that one.
 #![tactic(auto)]
 
 use fields::{PacketFault, ReadFailed, WordFault, WriteFailed};
+use restore::{CommandFault, RestoreFault};
 use rules::{Refusal, RuleFault};
 use std::io;
 use table::TableFault;
@@ -49,6 +51,28 @@ const TABLE_FAULTS: [TableFault; 17] = [
     TableFault::NoMemory,
 ];
 
+const COMMAND_FAULTS: [CommandFault; 5] = [
+    CommandFault::NoCommand,
+    CommandFault::TwoCommands,
+    CommandFault::WordCount,
+    CommandFault::OtherTable,
+    CommandFault::Rule(RuleFault::NoMemory),
+];
+
+const RESTORE_FAULTS: [RestoreFault; 11] = [
+    RestoreFault::Command(CommandFault::NoCommand),
+    RestoreFault::Command(CommandFault::TwoCommands),
+    RestoreFault::Table(TableFault::Loop),
+    RestoreFault::Table(TableFault::NoMemory),
+    RestoreFault::NotAllowed,
+    RestoreFault::BadChainLine,
+    RestoreFault::DuplicateChainLine,
+    RestoreFault::EndBeforeCommit,
+    RestoreFault::Quoting,
+    RestoreFault::LineTooLong,
+    RestoreFault::NoMemory,
+];
+
 fn print_faults_of_rules(rt: &impl Print) -> io::Result<()> {
     for refusal in REFUSALS {
         println!(rt; "{refusal:?}: {refusal}")?;
@@ -77,8 +101,19 @@ fn print_faults_of_tables(rt: &impl Print) -> io::Result<()> {
     Ok(())
 }
 
+fn print_faults_of_restores(rt: &impl Print) -> io::Result<()> {
+    for fault in COMMAND_FAULTS {
+        println!(rt; "{fault:?}: {fault}")?;
+    }
+    for fault in RESTORE_FAULTS {
+        println!(rt; "{fault:?}: {fault}")?;
+    }
+    Ok(())
+}
+
 fn main(rt: HostRuntime) -> io::Result<()> {
     print_faults_of_rules(&rt)?;
     print_faults_of_fields(&rt)?;
-    print_faults_of_tables(&rt)
+    print_faults_of_tables(&rt)?;
+    print_faults_of_restores(&rt)
 }

@@ -1,6 +1,6 @@
 //! The cases: the calls that promise to take no memory.
 use crate::trouble::Trouble;
-use crate::{classifiers, lent, planted, rulings, tables, taps, values};
+use crate::{classifiers, lent, listings, planted, restores, rulings, tables, taps, values};
 use std::alloc::Global;
 
 /// Which calls are made. Each case makes all calls of one kind of value, and compares their answers.
@@ -46,12 +46,20 @@ pub enum Case {
     Policy,
     Verdict,
     TableViews,
+    RestoreEnds,
+    QuietLines,
+    SkippedLines,
+    LongLines,
+    CommitLines,
+    Sections,
+    Listing,
+    RulesListed,
     Planted,
 }
 
 impl Case {
     /// All cases.
-    pub const ALL: [Case; 41] = [
+    pub const ALL: [Case; 49] = [
         Case::Numbers,
         Case::Names,
         Case::Prefix,
@@ -92,6 +100,14 @@ impl Case {
         Case::Policy,
         Case::Verdict,
         Case::TableViews,
+        Case::RestoreEnds,
+        Case::QuietLines,
+        Case::SkippedLines,
+        Case::LongLines,
+        Case::CommitLines,
+        Case::Sections,
+        Case::Listing,
+        Case::RulesListed,
         Case::Planted,
     ];
 
@@ -138,6 +154,14 @@ impl Case {
             Case::Policy => "set-policy",
             Case::Verdict => "verdict",
             Case::TableViews => "table-views",
+            Case::RestoreEnds => "restore-ends",
+            Case::QuietLines => "quiet-lines",
+            Case::SkippedLines => "skipped-lines",
+            Case::LongLines => "long-lines",
+            Case::CommitLines => "commit-lines",
+            Case::Sections => "section-commit",
+            Case::Listing => "listing",
+            Case::RulesListed => "rules-listed",
             Case::Planted => "planted",
         }
     }
@@ -185,6 +209,14 @@ impl Case {
             Case::Policy => tables::set_policy(alloc, times),
             Case::Verdict => tables::verdict(alloc, times),
             Case::TableViews => tables::views(alloc, times),
+            Case::RestoreEnds => restores::ends(alloc, times),
+            Case::QuietLines => restores::quiet_lines(alloc, times),
+            Case::SkippedLines => restores::skipped_lines(alloc, times),
+            Case::LongLines => restores::long_lines(alloc, times),
+            Case::CommitLines => restores::commit_lines(alloc, times),
+            Case::Sections => restores::sections(alloc, times),
+            Case::Listing => listings::listing(alloc, times),
+            Case::RulesListed => listings::rules(alloc, times),
             Case::Planted => planted::takes_memory(alloc, times),
         }
     }

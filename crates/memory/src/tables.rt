@@ -10,7 +10,7 @@ use table::{Policy, Table, TableFault, Verdict};
 /// How many rules are put in, whatever the number of calls.
 const RULES: u32 = 1000;
 
-const RULE: &[u8] = b"-s 10.0.0.0/8 -p tcp --dport 22 -j a";
+pub const RULE: &[u8] = b"-s 10.0.0.0/8 -p tcp --dport 22 -j a";
 
 /// What an edit comes to that has to be accepted.
 fn accepted(answer: Result<(), TableFault>) -> Result<(), Trouble> {
@@ -22,13 +22,13 @@ fn accepted(answer: Result<(), TableFault>) -> Result<(), Trouble> {
 }
 
 /// Puts the rule that a line writes last in a chain.
-fn append(alloc: Global, table: &mut Table, chain: &[u8], line: &[u8]) -> Result<(), Trouble> {
+pub fn append(alloc: Global, table: &mut Table, chain: &[u8], line: &[u8]) -> Result<(), Trouble> {
     let rule = rule_of(alloc, line)?;
     accepted(table.append(chain, rule, &mut Work::new()))
 }
 
 /// A table with the chains `a` and `b`.
-fn of_chains(alloc: Global) -> Result<Table, Trouble> {
+pub fn of_chains(alloc: Global) -> Result<Table, Trouble> {
     let mut table = Table::new(alloc)?;
     accepted(table.new_chain(b"a"))?;
     accepted(table.new_chain(b"b"))?;
