@@ -275,6 +275,8 @@ fn head_rule_and_table(rt: HostRuntime) -> Result<(), Fail> {
         ("-N -t", "bad chain name"),
         ("-P -t -t", "no such chain"),
         ("-E -A -A", "no such chain"),
+        ("-A xxxxxxxxxxxxxxxxxxxxxxxxxxxxx", "no such chain"),
+        ("-A INPUT -j xxxxxxxxxxxxxxxxxxxxxxxxxxxxx", "bad value"),
     ];
     refused(&rt, &mut filter, &rows)
 }

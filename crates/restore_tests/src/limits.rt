@@ -62,10 +62,13 @@ fn a_full_chain(rt: HostRuntime) -> Result<(), Fail> {
 fn the_listing_of_a_full_chain(rt: HostRuntime) -> Result<(), Fail> {
     let alloc = rt.alloc();
     let mut filter = Filter::new(alloc)?;
-    let before = "-A INPUT -p tcp --syn -j DROP -m comment --comment ";
+    let before = "-A INPUT -s 10.0.0.0/8 -j DROP -m comment --comment ";
     let text = section(alloc, before, "", 8192)?;
     assert_eq!(&rt; filter.restore(Mode::FLUSH, text.as_str())?.as_str(), "");
-    restores_as_equal(&rt, &filter)
+    let listing = filter.listing(&rt)?;
+    assert_eq!(&rt; listing.as_str().split('\n').count(), 8192 + 6);
+    let mut other = Filter::new(alloc)?;
+    other.restored(&rt, Mode::FLUSH, listing.as_str(), "", listing.as_str())
 }
 
 #[test]
