@@ -51,17 +51,19 @@ const TABLE_FAULTS: [TableFault; 17] = [
     TableFault::NoMemory,
 ];
 
-const COMMAND_FAULTS: [CommandFault; 5] = [
+const COMMAND_FAULTS: [CommandFault; 6] = [
     CommandFault::NoCommand,
     CommandFault::TwoCommands,
     CommandFault::WordCount,
     CommandFault::OtherTable,
     CommandFault::Rule(RuleFault::NoMemory),
+    CommandFault::Rule(RuleFault::Refused(Refusal::ProtocolNeeded)),
 ];
 
-const RESTORE_FAULTS: [RestoreFault; 11] = [
+const RESTORE_FAULTS: [RestoreFault; 12] = [
     RestoreFault::Command(CommandFault::NoCommand),
     RestoreFault::Command(CommandFault::TwoCommands),
+    RestoreFault::Command(CommandFault::Rule(RuleFault::Refused(Refusal::UnknownMatch))),
     RestoreFault::Table(TableFault::Loop),
     RestoreFault::Table(TableFault::NoMemory),
     RestoreFault::NotAllowed,

@@ -48,7 +48,7 @@ pub enum RuleFault {
     /// P0: no memory was given for the rule.
     #[error("no memory")]
     NoMemory,
-    /// The words are no rule.
-    #[error("no rule")]
+    /// P1 to P12: the words are no rule.
+    #[error("{0}")]
     Refused(Refusal),
 }
