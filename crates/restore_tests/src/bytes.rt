@@ -27,9 +27,15 @@ fn commented(alloc: Global, before: &[u8], spelling: &[u8]) -> Result<Vec<u8>, F
     Ok(line)
 }
 
-// Whether a comment of the byte alone is listed without quotes.
-fn is_plain(byte: u8) -> bool {
-    byte.is_ascii_alphanumeric() || byte == b'_' || byte == b'-'
+// How a comment of the byte alone is listed, by its spellings without quotes, in quotes, and after a backslash in them.
+fn listed<'a>(byte: u8, plain: &'a [u8], quoted: &'a [u8], escaped: &'a [u8]) -> &'a [u8] {
+    if byte.is_ascii_alphanumeric() || byte == b'_' || byte == b'-' {
+        return plain;
+    }
+    if byte == b'"' || byte == b'\\' || byte == b'\'' {
+        return escaped;
+    }
+    quoted
 }
 
 #[test]
@@ -39,13 +45,8 @@ fn comments_of_any_byte(rt: HostRuntime) -> Result<(), Fail> {
     for byte in (0..=255u8).filter(|byte| *byte != b'\n') {
         let escaped = [b'"', b'\\', byte, b'"'];
         let quoted = [b'"', byte, b'"'];
-        let spelling = if is_plain(byte) {
-            &quoted[1..2]
-        } else if byte == b'"' || byte == b'\\' || byte == b'\'' {
-            escaped.as_slice()
-        } else {
-            quoted.as_slice()
-        };
+        let plain = [byte];
+        let spelling = listed(byte, &plain, &quoted, &escaped);
         let mut text = commented(alloc, b"-P INPUT ACCEPT\n", spelling)?;
         text.push(b'\n')?;
         for line in [
