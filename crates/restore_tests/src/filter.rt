@@ -1,7 +1,7 @@
 // A table, edited by commands and restores that are given as text.
 use fields::{Packet, Tap, Words};
-use restore::{Command, CommandFault, Restore, RestoreFault, apply, write_listing, write_rules};
-use rules::{RuleFault, Work};
+use restore::{Command, Restore, apply, write_listing, write_rules};
+use rules::Work;
 use std::alloc::Global;
 use std::process::Abort;
 use std::test::Fail;
@@ -69,22 +69,6 @@ pub(crate) fn text_of(
     }
 }
 
-// The text of a command's fault: of its rule's, where it has one.
-pub(crate) fn command_text(alloc: Global, fault: CommandFault) -> Result<String, Fail> {
-    match fault {
-        CommandFault::Rule(RuleFault::Refused(refusal)) => Ok(format!(in alloc; "{refusal}")?),
-        _ => Ok(format!(in alloc; "{fault}")?),
-    }
-}
-
-// The text of a restore's fault: of its command's, where it has one.
-pub(crate) fn restore_text(alloc: Global, fault: RestoreFault) -> Result<String, Fail> {
-    match fault {
-        RestoreFault::Command(fault) => command_text(alloc, fault),
-        _ => Ok(format!(in alloc; "{fault}")?),
-    }
-}
-
 impl Filter {
     pub(crate) fn new(alloc: Global) -> Result<Filter, Fail> {
         Ok(Filter {
@@ -128,7 +112,7 @@ impl Filter {
                 let answer = apply(&mut self.table, command, &mut self.work);
                 self.answer(answer)
             }
-            Err(fault) => command_text(self.alloc, fault),
+            Err(fault) => Ok(format!(in self.alloc; "{fault}")?),
         }
     }
 
@@ -165,7 +149,7 @@ impl Filter {
                 Ok(next) => restore = next,
                 Err(fault) => {
                     let number = place.saturating_add(1);
-                    let fault = restore_text(self.alloc, fault)?;
+                    let fault = format!(in self.alloc; "{fault}")?;
                     return Ok(format!(in self.alloc; "line {number}: {fault}")?);
                 }
             }

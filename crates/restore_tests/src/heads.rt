@@ -1,5 +1,5 @@
 // The commands that lines write.
-use crate::filter::{command_text, text_of};
+use crate::filter::text_of;
 use fields::{Tap, Words};
 use restore::Command;
 use rules::{Rule, write_rule};
@@ -135,7 +135,7 @@ fn described(rt: &impl Abort, alloc: Global, line: &str, from: usize) -> Result<
             description.put_command(&command)?;
             text_of(rt, alloc, description.output)
         }
-        Err(fault) => command_text(alloc, fault),
+        Err(fault) => Ok(format!(in alloc; "{fault}")?),
     }
 }
 

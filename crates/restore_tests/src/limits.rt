@@ -19,7 +19,7 @@ fn section(alloc: Global, before: &str, after: &str, count: u32) -> Result<Strin
     Ok(text)
 }
 
-// A text with as many of a byte behind it as make so many bytes.
+// A text with as many of a byte after it as make so many bytes.
 fn padded(alloc: Global, text: &str, byte: char, length: usize) -> Result<String, Fail> {
     let mut line = format!(in alloc; "{text}")?;
     for _ in text.as_bytes().len()..length {

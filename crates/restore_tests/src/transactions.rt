@@ -1,5 +1,5 @@
 // Sections without a restore round them.
-use crate::filter::{Filter, restore_text, text_of};
+use crate::filter::{Filter, text_of};
 use fields::Tap;
 use restore::{Transaction, write_listing};
 use std::alloc::Global;
@@ -20,7 +20,7 @@ fn committed(
     for line in lines {
         match section.line(line.as_bytes(), &mut filter.work) {
             Ok(next) => section = next,
-            Err(fault) => return Ok(Err(restore_text(filter.alloc, fault)?)),
+            Err(fault) => return Ok(Err(format!(in filter.alloc; "{fault}")?)),
         }
     }
     Ok(Ok(section.commit()))
