@@ -125,8 +125,8 @@ impl Restore {
     /// Does a line of the restore, of the bytes between two newlines. `table` is the one in place: a section is begun
     /// from it, and `COMMIT` puts the section's table in its place, unless this is a test.
     ///
-    /// A line that opens a section costs a copy of the table with `noflush`; another line what its command costs. No memory is
-    /// taken for a line that is too long, blank, a comment, of a skipped section, or `COMMIT`.
+    /// A line that opens a section costs a copy of the table with `noflush`; another line what its command costs. No
+    /// memory is taken for a line that is too long, blank, a comment, of a skipped section, or `COMMIT`.
     ///
     /// # Errors
     ///
