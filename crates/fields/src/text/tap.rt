@@ -198,4 +198,25 @@ impl<W: Write> Tap<W> {
         }
         Ok(())
     }
+
+    /// Has the device hand on what it holds back: one that writes through a buffer writes the buffer out.
+    ///
+    /// # Errors
+    ///
+    /// `WriteFailed` where the device's call fails, and from then on. What was written stays as it was.
+    pub fn flush(&mut self) -> Result<(), WriteFailed>
+        ensures puts { Puts W.contents self.old self.new result [] }
+        ensures turns { turns_left self.new ≡ turns_left self.old }
+    {
+        if self.failed {
+            return Err(WriteFailed);
+        }
+        match self.device.flush() {
+            Ok(()) => Ok(()),
+            Err(_) => {
+                self.failed = true;
+                Err(WriteFailed)
+            }
+        }
+    }
 }
