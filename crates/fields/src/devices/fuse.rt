@@ -27,7 +27,7 @@ impl Failure {
         }
     }
 
-    // What a write answers that fails.
+    // What a write that fails answers.
     pub(crate) fn of_write(self) -> Result<usize>
         ensures { IsFailure self result }
     {
@@ -63,7 +63,7 @@ impl Fuse {
         }
     }
 
-    /// The same, but that one call fails: the first is call 0. Calls after it go on.
+    /// One call fails: the first is call 0. Calls after it go on. Else they move bytes as those of `never` do.
     pub fn failing(most: usize, call: u32, failure: Failure) -> Fuse
         ensures most { most_of result ≡ most }
         ensures calls { calls_of result ≡ 0 }

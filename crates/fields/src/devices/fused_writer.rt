@@ -1,5 +1,5 @@
 //! A writer over memory that fails at one call, and would go on after it.
-ghost use Rattle.std.specs.Prelude.{◌≡◌, ◌+◌, ◌-◌, ◌≤◌, ⊤, Some, IfOk, length, vec_capacity};
+ghost use Rattle.std.specs.Prelude.{◌≡◌, ◌+◌, ◌-◌, ◌≤◌, ⊤, Some, MatchResult, length, vec_capacity};
 ghost use Rattle.std.specs.Io.{WritesAtMost};
 ghost use Rattle.std.specs.Io.KnownBytes.{Keeps, WriteAppends};
 ghost use Rattle.fields.specs.devices.Fuse.{calls_of, failed_call, counted, GoesOn, WritesOn};
@@ -69,7 +69,8 @@ impl Write for FusedWriter {
         ensures bound { WritesAtMost result buf.now }
         ensures bytes { WriteAppends (Some (held self.old)) (Some (held self.new)) result buf.now }
         ensures due { WritesOn (fuse_of self.old) result (taken self.old buf.now) }
-        ensures room { IfOk result (λ n. room_left self.old ≤ room_left self.new + n) }
+        ensures room { MatchResult result (λ n. room_left self.old ≤ room_left self.new + n)
+            (λ _. room_left self.old ≤ room_left self.new) }
         ensures counts { fuse_of self.new ≡ counted (fuse_of self.old) }
         ensures flushes { flushes_of self.new ≡ flushes_of self.old }
     {
