@@ -1,12 +1,11 @@
 //! Readers: how often one is asked, what is read, and when a tap over it fails. Each function says whether all is as
 //! expected.
-use crate::device::{Failure, Reader};
-use fields::{LineEnd, LineRead, ReadFailed, Tap};
+use fields::{Failure, Fuse, FusedReader, LineEnd, LineRead, ReadFailed, Tap};
 use std::alloc::{AllocError, Global};
 use std::io::BufRead;
 
 /// The most bytes of a line.
-const MOST: usize = 8;
+pub const MOST: usize = 8;
 
 /// The next line. A line without room for it would fail.
 fn next_line<R: BufRead>(tap: &mut Tap<R>, line: &mut Vec<u8>) -> Result<LineRead, ReadFailed> {
@@ -17,7 +16,7 @@ fn next_line<R: BufRead>(tap: &mut Tap<R>, line: &mut Vec<u8>) -> Result<LineRea
 }
 
 /// Whether the next line ends so, and is this one: none where it is too long.
-fn is_next<R: BufRead>(
+pub fn is_next<R: BufRead>(
     tap: &mut Tap<R>,
     line: &mut Vec<u8>,
     end: LineEnd,
@@ -34,7 +33,7 @@ fn is_next<R: BufRead>(
 
 /// Each `fill` asks the reader once, and `eat` asks nothing.
 pub fn asked_once() -> bool {
-    let mut tap = Tap::new(Reader::new(b"abc", 2));
+    let mut tap = Tap::new(FusedReader::new(b"abc", Fuse::never(2)));
     let first = tap.fill() == Ok(b"ab");
     let again = tap.fill() == Ok(b"ab");
     tap.eat(2);
@@ -45,7 +44,7 @@ pub fn asked_once() -> bool {
 /// A reader that fails at its second call isn't asked again, though it would go on.
 pub fn failures() -> bool {
     for failure in [Failure::Interrupted, Failure::Error] {
-        let mut tap = Tap::new(Reader::failing(b"abc", 2, 1, failure));
+        let mut tap = Tap::new(FusedReader::new(b"abc", Fuse::failing(2, 1, failure)));
         let first = tap.fill().is_ok() && !tap.failed();
         let failed = tap.fill().is_err() && tap.failed();
         let again = tap.fill().is_err() && tap.failed();
@@ -60,7 +59,7 @@ pub fn failures() -> bool {
 pub fn end(alloc: Global) -> Result<bool, AllocError> {
     let mut line = Vec::with_capacity(alloc, MOST)?;
     for text in [b"".as_slice(), b"ab\n"] {
-        let mut tap = Tap::new(Reader::new(text, 1));
+        let mut tap = Tap::new(FusedReader::new(text, Fuse::never(1)));
         if !text.is_empty() && !is_next(&mut tap, &mut line, LineEnd::Newline, Some(b"ab")) {
             return Ok(false);
         }
@@ -93,14 +92,14 @@ fn bytes_of(
 fn is_passed(alloc: Global, count: usize, step: usize) -> Result<bool, AllocError> {
     let mut line = Vec::with_capacity(alloc, MOST)?;
     let bytes = bytes_of(alloc, b"ab\n", count, b"\ncdefghij\n\nk")?;
-    let mut tap = Tap::new(Reader::new(&bytes, step));
+    let mut tap = Tap::new(FusedReader::new(&bytes, Fuse::never(step)));
     let before = is_next(&mut tap, &mut line, LineEnd::Newline, Some(b"ab"));
     let long = is_next(&mut tap, &mut line, LineEnd::Newline, None) && !tap.failed();
     let after = is_next(&mut tap, &mut line, LineEnd::Newline, Some(b"cdefghij"));
     let empty = is_next(&mut tap, &mut line, LineEnd::Newline, Some(b""));
     let last = is_next(&mut tap, &mut line, LineEnd::Input, Some(b"k")) && !tap.failed();
     let bytes = bytes_of(alloc, b"ab\n", count, b"")?;
-    let mut tap = Tap::new(Reader::new(&bytes, step));
+    let mut tap = Tap::new(FusedReader::new(&bytes, Fuse::never(step)));
     let first = is_next(&mut tap, &mut line, LineEnd::Newline, Some(b"ab"));
     let open = is_next(&mut tap, &mut line, LineEnd::Input, None) && !tap.failed();
     let end = is_next(&mut tap, &mut line, LineEnd::Nothing, Some(b"")) && !tap.failed();
@@ -124,10 +123,16 @@ pub fn failure_in_a_long_line(alloc: Global) -> Result<bool, AllocError> {
     let mut line = Vec::with_capacity(alloc, MOST)?;
     let bytes = bytes_of(alloc, b"", 100, b"\nab\n")?;
     for fails_at in 0..20 {
-        let mut tap = Tap::new(Reader::failing(&bytes, 5, fails_at, Failure::Error));
+        let mut tap = Tap::new(FusedReader::new(
+            &bytes,
+            Fuse::failing(5, fails_at, Failure::Error),
+        ));
         let failed = next_line(&mut tap, &mut line).is_err() && tap.failed();
         let again = next_line(&mut tap, &mut line).is_err() && tap.fill().is_err();
-        if !(failed && again && tap.into_device().calls() == fails_at.saturating_add(1)) {
+        if !(failed
+            && again
+            && tap.into_device().calls() == u64::from(fails_at).saturating_add(1))
+        {
             return Ok(false);
         }
     }
@@ -141,7 +146,7 @@ pub fn many_lines(alloc: Global) -> Result<bool, AllocError> {
     for _ in 0..1_000_000u32 {
         bytes.extend_from_slice(b"ab\n")?;
     }
-    let mut tap = Tap::new(Reader::new(&bytes, 4096));
+    let mut tap = Tap::new(FusedReader::new(&bytes, Fuse::never(4096)));
     for _ in 0..1_000_000u32 {
         if !is_next(&mut tap, &mut line, LineEnd::Newline, Some(b"ab")) {
             return Ok(false);

@@ -1,4 +1,5 @@
 pub mod Sequence
+pub mod devices
 pub mod numbers
 pub mod packet
 pub mod steps

@@ -1,12 +1,17 @@
 //! What the layers above share: the words of a line, the values of packets and rules with their
-//! readers and texts, sets of numbers, and readers and writers that remember a failure.
+//! readers and texts, sets of numbers, readers and writers that remember a failure, and some over memory that fail
+//! where a test wants it.
 #![tactic(auto)]
 
+mod devices;
 mod numbers;
 mod packet;
 mod text;
 mod values;
 
+pub use devices::fuse::{Failure, Fuse};
+pub use devices::fused_reader::FusedReader;
+pub use devices::fused_writer::FusedWriter;
 pub use numbers::field::{FIELDS, Field};
 pub use numbers::spans::{Interval, Spans, canonical_is_unique};
 pub use packet::hook::Hook;

@@ -1,33 +1,4 @@
-use fields::{LineEnd, Tap, WriteFailed};
-use std::io::{BufRead, Error, ErrorKind, Read, Result, Write};
-
-// Shows its bytes, fails once where they have ended, and counts its calls.
-#[derive(Drop)]
-struct Failing {
-    bytes: &'static [u8],
-    calls: usize,
-}
-
-impl Read for Failing {
-    fn read(&mut self, _buf: &mut [u8]) -> Result<usize> {
-        Err(Error::from(ErrorKind::Other))
-    }
-}
-
-impl BufRead for Failing {
-    fn fill_buf(&mut self) -> Result<&[u8]> {
-        self.calls = self.calls.saturating_add(1);
-        if self.bytes.is_empty() && self.calls == 2 {
-            return Err(Error::from(ErrorKind::Other));
-        }
-        Ok(self.bytes)
-    }
-
-    fn consume(&mut self, amount: usize) {
-        let n = amount.min(self.bytes.len());
-        self.bytes = &self.bytes[n..];
-    }
-}
+use fields::{Failure, Fuse, FusedReader, FusedWriter, LineEnd, Tap, WriteFailed};
 
 #[test]
 fn shows_and_eats(rt: HostRuntime) {
@@ -41,16 +12,13 @@ fn shows_and_eats(rt: HostRuntime) {
 
 #[test]
 fn stays_failed(rt: HostRuntime) {
-    let mut tap = Tap::new(Failing {
-        bytes: b"ab",
-        calls: 0,
-    });
+    let mut tap = Tap::new(FusedReader::new(b"ab", Fuse::failing(2, 1, Failure::Error)));
     let mut line = Vec::with_capacity(rt.alloc(), 10).expect(&rt, "memory");
     assert!(rt; tap.read_line(10, &mut line).is_err());
     assert!(rt; tap.failed());
     assert!(rt; tap.fill().is_err());
     assert!(rt; tap.read_line(10, &mut line).is_err());
-    assert!(rt; tap.into_device().calls == 2);
+    assert!(rt; tap.into_device().calls() == 2);
 }
 
 #[test]
@@ -89,29 +57,27 @@ fn writes_all(rt: HostRuntime) {
     assert!(rt; tap.into_device().as_slice() == b"abcde".as_slice());
 }
 
-// Takes nothing at its second call.
-#[derive(Drop)]
-struct Full {
-    calls: usize,
-}
-
-impl Write for Full {
-    fn write(&mut self, buf: &[u8]) -> Result<usize> {
-        self.calls = self.calls.saturating_add(1);
-        Ok(if self.calls == 2 { 0 } else { buf.len() })
-    }
-
-    fn flush(&mut self) -> Result<()> {
-        Ok(())
-    }
-}
-
 #[test]
 fn write_of_nothing_fails(rt: HostRuntime) {
-    let mut tap = Tap::new(Full { calls: 0 });
+    let room = Vec::with_capacity(rt.alloc(), 6).expect(&rt, "memory");
+    let fuse = Fuse::failing(2, 1, Failure::Nothing);
+    let mut tap = Tap::new(FusedWriter::new(room, fuse));
     assert!(rt; tap.put(b"ab").is_ok());
     assert!(rt; tap.put(b"cd") == Err(WriteFailed));
     assert!(rt; tap.failed());
     assert!(rt; tap.put(b"ef") == Err(WriteFailed));
-    assert!(rt; tap.into_device().calls == 2);
+    assert!(rt; tap.into_device().calls() == 2);
+}
+
+// A flush that fails makes the tap fail, which leaves what was written and calls no more.
+#[test]
+fn flush_that_fails(rt: HostRuntime) {
+    let room = Vec::with_capacity(rt.alloc(), 4).expect(&rt, "memory");
+    let fuse = Fuse::failing(2, 2, Failure::Error);
+    let mut tap = Tap::new(FusedWriter::new(room, fuse));
+    assert!(rt; tap.put(b"ab").is_ok() && tap.flush().is_ok());
+    assert!(rt; tap.flush() == Err(WriteFailed) && tap.failed());
+    assert!(rt; tap.put(b"cd") == Err(WriteFailed) && tap.flush() == Err(WriteFailed));
+    let device = tap.into_device();
+    assert!(rt; device.written() == b"ab".as_slice() && device.calls() == 3);
 }

@@ -1,0 +1,2 @@
+mod fused_reader;
+mod fused_writer;
