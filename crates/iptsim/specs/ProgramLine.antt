@@ -61,13 +61,14 @@ abbrev pub IsJobOn : List Text → Job → Type 0
 IsJobOn words job = (fault_of program_app words ≡ [])
     × (met : Text × List Row) × (subcommand_of program_app words ≡ Some met) × IsJobOf met.0 met.1 job
 
--- `clap`'s error as a fault
-abbrev pub Names : Error → LineFault → Type 0
-Names error faults.NoMemory = kind_of error ≡ OutOfMemory
-Names error faults.NoSubcommand = ⊥
-Names error (faults.Refused kept) = (kept ≡ error) × (kind_of error ≢ OutOfMemory)
+-- the fault stands for `clap`'s error
+abbrev pub StandsFor : Error → LineFault → Type 0
+StandsFor error faults.NoMemory = kind_of error ≡ OutOfMemory
+StandsFor error faults.NoSubcommand = ⊥
+StandsFor error (faults.Refused kept) = (kept ≡ error) × (kind_of error ≢ OutOfMemory)
 
--- memory aside: `clap` takes the words and finds no subcommand, or refuses them for such a cause
+-- why the words are no job: `clap` takes them and they name no subcommand, or it refuses them with an error of this kind;
+-- nothing is said of memory
 abbrev pub IsFaultOn : List Text → LineFault → Type 0
 IsFaultOn words faults.NoMemory = ⊤
 IsFaultOn words faults.NoSubcommand = (fault_of program_app words ≡ []) × (subcommand_of program_app words ≡ None)

@@ -2,7 +2,7 @@
 ghost use Rattle.std.specs.Prelude.{◌≡◌, IfErr, IfOk, false, map};
 ghost use Rattle.clap.specs.Words.{app_of, first_of, found_of, kind_of, rows_of, rule_of};
 ghost use Rattle.clap.specs.declared.builder.command.Command.TheViews.{out-Command as fields_of};
-ghost use Rattle.iptsim.specs.ProgramLine.{IsFaultOn, IsJobOf, IsJobOn, IsSubcommand, Names, flag_rule, is_true, load_rule, program_app, restore_app, session_app};
+ghost use Rattle.iptsim.specs.ProgramLine.{IsFaultOn, IsJobOf, IsJobOn, IsSubcommand, StandsFor, flag_rule, is_true, load_rule, program_app, restore_app, session_app};
 
 use clap::error::ErrorKind;
 use clap::{Arg, ArgAction, ArgMatches, Command, Error};
@@ -53,7 +53,7 @@ impl From<AllocError> for LineFault {
 
 // What `clap` answers in place of matches.
 fn fault_of(error: Error) -> LineFault
-    ensures { Names error result }
+    ensures { StandsFor error result }
 {
     if error.kind() == ErrorKind::OutOfMemory {
         LineFault::NoMemory
@@ -158,13 +158,13 @@ impl<'a> Job<'a> {
     ///
     /// # Errors
     ///
-    /// `NoSubcommand` where there is no subcommand among words that are otherwise in order; `Refused` where `clap` refuses
-    /// them, and where they ask for help; `NoMemory` where a growth of memory is refused.
+    /// `NoSubcommand` where `clap` takes the words and they name no subcommand; `Refused` where it refuses them, or they ask
+    /// for help; `NoMemory` where a growth of memory is refused.
     pub fn read(alloc: Global, words: &'a [&'a str]) -> Result<Job<'a>, LineFault>
-        // A job is what `clap` makes of the words, none of which it refuses.
+        // `clap` takes the words, and the job is exactly what it makes of them.
         ensures job { IfOk result (IsJobOn (map (λ s. s.now) words.entry.now)) }
 
-        // A fault other than of memory stands in for no job.
+        // A fault says why the words are no job, unless memory is refused.
         ensures fault { IfErr result (IsFaultOn (map (λ s. s.now) words.entry.now)) }
     {
         let matches = match program(alloc)?.try_get_matches_from(words) {
