@@ -117,7 +117,8 @@ where
     }
 }
 
-// Does a task from a reader to a writer, each through a buffer. A restore that isn't a test writes the listing where `list` is set.
+// Does a task from a reader to a writer, each through a buffer. A restore writes the listing where `list` is set and it is
+// no test.
 fn serve<'a, R: Read + Drop, W: Write + Drop>(
     alloc: Global,
     session: &mut Session,
