@@ -9,6 +9,14 @@ mod commands;
 #[cfg(test)]
 mod console;
 #[cfg(test)]
+mod device_rows;
+#[cfg(test)]
+mod devices;
+#[cfg(test)]
+mod faults;
+#[cfg(test)]
+mod limits;
+#[cfg(test)]
 mod lines;
 #[cfg(test)]
 mod listings;
@@ -21,6 +29,10 @@ mod refused_restores;
 #[cfg(test)]
 mod restores;
 #[cfg(test)]
+mod runs;
+#[cfg(test)]
 mod sessions_of_lines;
+#[cfg(test)]
+mod whole_restores;
 #[cfg(test)]
 mod words;
