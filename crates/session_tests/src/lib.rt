@@ -3,6 +3,8 @@
 #![tactic(auto)]
 
 #[cfg(test)]
+mod beginnings;
+#[cfg(test)]
 mod chains;
 #[cfg(test)]
 mod commands;
@@ -15,6 +17,8 @@ mod devices;
 #[cfg(test)]
 mod faults;
 #[cfg(test)]
+mod forms;
+#[cfg(test)]
 mod limits;
 #[cfg(test)]
 mod lines;
@@ -24,6 +28,8 @@ mod listings;
 mod packet_words;
 #[cfg(test)]
 mod packets;
+#[cfg(test)]
+mod random_input;
 #[cfg(test)]
 mod refused_restores;
 #[cfg(test)]
