@@ -1,12 +1,1 @@
-pub mod Rule
-pub mod Table
-pub mod Walk
-pub mod Listing
-pub mod Fault
-pub mod Request
-pub mod Session
-pub mod Headline
-pub mod Edit
-pub mod Outcome
-pub mod Views
-pub mod Run
+pub mod ProgramLine

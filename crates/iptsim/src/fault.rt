@@ -1,70 +1,68 @@
-//! Why a line is refused.
-ghost use Rattle.std.specs.Prelude.{◌≡◌};
-ghost use Rattle.iptsim.specs.Fault.{fault_text, fault_status};
-
+//! Why the program ends without the status of a session or a restore.
+use crate::job::LineFault;
+use sessions::RunFault;
+use std::alloc::{AllocError, AllocFailed};
 use thiserror::Error;
 
-/// Why a line is refused. Its code and text are those that a session prints.
-#[derive(Clone, Copy, Debug, PartialEq, Eq, Drop, Error)]
-pub enum Fault {
-    #[error("unknown line")]
-    UnknownLine,
-    #[error("wrong number of words")]
-    WordCount,
-    #[error("bad value")]
-    BadValue,
-    #[error("unknown key")]
-    UnknownKey,
-    #[error("key missing")]
-    KeyMissing,
-    #[error("bad packet value")]
-    BadPacketValue,
-    #[error("field not carried")]
-    FieldNotCarried,
-    #[error("chain full")]
-    ChainFull,
-    #[error("bad quoting")]
-    BadQuoting,
-    #[error("line too long")]
-    LineTooLong,
+/// Why the program ends without the status of a session or a restore, with its message.
+#[derive(Debug, Drop, Error)]
+pub(crate) enum ProgramFault<'a> {
     #[error("no memory")]
     NoMemory,
+    /// A word of the program's line is no text.
+    #[error("a word is not UTF-8")]
+    NotText,
+    #[error(transparent)]
+    Line(LineFault),
+    #[error("cannot open {0}")]
+    CannotOpen(&'a str),
+    #[error("cannot read {0}")]
+    CannotRead(&'a str),
+    #[error("input failed")]
+    InputFailed,
+    #[error("output failed")]
+    OutputFailed,
 }
 
-impl Fault {
-    /// The code and the text, as a session prints them.
-    pub fn text(self) -> &'static [u8]
-        ensures { result.now ≡ fault_text self }
-    {
+impl ProgramFault<'_> {
+    /// The status that the program ends with: 1, 2 or 4.
+    pub(crate) fn status(&self) -> u8 {
         match self {
-            Fault::UnknownLine => b"S1 unknown line",
-            Fault::WordCount => b"C3 wrong number of words",
-            Fault::BadValue => b"P3 bad value",
-            Fault::UnknownKey => b"F1 unknown key",
-            Fault::KeyMissing => b"F2 key missing",
-            Fault::BadPacketValue => b"F3 bad packet value",
-            Fault::FieldNotCarried => b"F4 field not carried",
-            Fault::ChainFull => b"T14 chain full",
-            Fault::BadQuoting => b"R5 bad quoting",
-            Fault::LineTooLong => b"R6 line too long",
-            Fault::NoMemory => b"M0 no memory",
+            ProgramFault::CannotOpen(_)
+            | ProgramFault::CannotRead(_)
+            | ProgramFault::InputFailed
+            | ProgramFault::OutputFailed => 1,
+            ProgramFault::NotText
+            | ProgramFault::Line(LineFault::NoSubcommand)
+            | ProgramFault::Line(LineFault::Refused(_)) => 2,
+            ProgramFault::NoMemory | ProgramFault::Line(LineFault::NoMemory) => 4,
         }
     }
+}
 
-    /// The status of a session whose first fault this is: 1, 2 or 4.
-    pub fn status(self) -> u8
-        ensures { result ≡ fault_status self }
-    {
-        match self {
-            Fault::ChainFull | Fault::BadQuoting | Fault::LineTooLong => 1,
-            Fault::NoMemory => 4,
-            Fault::UnknownLine
-            | Fault::WordCount
-            | Fault::BadValue
-            | Fault::UnknownKey
-            | Fault::KeyMissing
-            | Fault::BadPacketValue
-            | Fault::FieldNotCarried => 2,
+impl From<AllocError> for ProgramFault<'_> {
+    fn from(_error: AllocError) -> Self {
+        ProgramFault::NoMemory
+    }
+}
+
+impl<T: Drop> From<AllocFailed<T>> for ProgramFault<'_> {
+    fn from(_error: AllocFailed<T>) -> Self {
+        ProgramFault::NoMemory
+    }
+}
+
+impl From<LineFault> for ProgramFault<'_> {
+    fn from(fault: LineFault) -> Self {
+        ProgramFault::Line(fault)
+    }
+}
+
+impl From<RunFault> for ProgramFault<'_> {
+    fn from(fault: RunFault) -> Self {
+        match fault {
+            RunFault::ReadFailed => ProgramFault::InputFailed,
+            RunFault::WriteFailed => ProgramFault::OutputFailed,
         }
     }
 }

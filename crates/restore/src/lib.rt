@@ -18,3 +18,4 @@ pub use listing::{write_listing, write_rules};
 pub use restore::Restore;
 pub use round_trip::listings_restore;
 pub use section::Transaction;
+pub use section::quiet::is_quiet;

@@ -1,3 +1,0 @@
-mod devices;
-mod failures;
-mod sessions;

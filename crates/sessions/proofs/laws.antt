@@ -1,0 +1,3 @@
+pub mod replies
+pub mod runs
+pub mod turns

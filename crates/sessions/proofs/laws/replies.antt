@@ -1,0 +1,5 @@
+pub mod HexadecimalLaws
+pub mod LineRows
+pub mod NumberLaws
+pub mod WalkRows
+pub mod WalkedLaws

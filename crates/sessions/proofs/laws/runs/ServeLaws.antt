@@ -1,0 +1,25 @@
+-- A line that was read is served, and its reply is written and handed on.
+use Rattle.std.proofs.Common.{◌≡◌, ℕ, Bool, true, false, List, [], length, replicate, refl, subst, append-nil, Option, Result, arith}
+use Rattle.std.proofs.lemmas.List.{length-replicate}
+use Rattle.fields.specs.declared.text.tap.Tap.{Tap}
+use Rattle.fields.specs.text.Tap.{Puts, Wrote}
+use Rattle.fields.specs.text.Line.{IsHeld}
+use Rattle.fields.proofs.laws.text.PutLaws.{puts-then}
+use Rattle.table.specs.chains.Table.{TableView}
+use Rattle.sessions.specs.lines.Turn.{Spot}
+use Rattle.sessions.specs.steps.Served.{HasPlace, IsTurnOf}
+use Rattle.sessions.specs.declared.turn.Turn as made
+
+-- a text that was held so
+some_text : (line : List ℕ) (too_long : Bool) → (text : List ℕ) × IsHeld 10240 text line too_long
+some_text line true = (replicate 10241 0, let zeros : List ℕ = replicate 10241 0 in let long : length zeros ≡ 10241 = length-replicate {A = ℕ} 10241 0 in omega (arith, long))
+some_text line false = (line, refl)
+
+-- whatever text was held, the chain that is to be printed is there
+pub place_of : (line : List ℕ) (too_long : Bool) (spot : Spot) (old new : TableView) (t : made.Turn)
+    → ((text : List ℕ) → IsHeld 10240 text line too_long → IsTurnOf text spot old new t) → HasPlace new.table t.reply
+place_of line too_long spot old new t is = let text = some_text line too_long in (is text.0 text.1).1.place
+
+-- what is written and then handed on
+pub puts_on : {T X E : Type 0} (contents : T → Option (List ℕ)) (a b c : Tap T) (r : Result X E) (text : List ℕ) → Wrote contents a b text → Puts contents b c r [] → Puts contents a c r text
+puts_on contents a b c r text wrote flushed = subst (λ (l : List ℕ). Puts contents a c r l) (append-nil text) (puts-then contents a b c r text [] wrote flushed)

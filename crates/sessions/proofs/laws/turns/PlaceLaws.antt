@@ -1,0 +1,58 @@
+-- The chain of a name stands at its place.
+use Rattle.std.proofs.Common.{◌≡◌, inl, inr, ℕ, zero, suc, ◌+◌, ◌<◌, ◌||◌, Bool, true, false, cond, not, List, [], ◌∷◌, length, ltb, get_or, refl, sym, ap, ◌∙◌, Option, Some, None, is_some, arith}
+use Rattle.std.specs.List.{list_any, position, position_or_len}
+use Rattle.std.proofs.lemmas.Bool.{cases_lt, lt-ltb, le-ltb}
+use Rattle.std.proofs.lemmas.List.Quantifiers.{position-Some}
+use Rattle.std.proofs.lemmas.Slice.Eq.{bytes_eq-Decides}
+use Rattle.table.specs.chains.Table.{Chain, Table, chain_at, empty_chain, has_chain, is_named, rules_of}
+
+some_is : {A : Type 0} (b : Bool) (x : A) → is_some (cond b (Some x) None) ≡ b
+some_is true x = refl
+some_is false x = refl
+
+found : {A : Type 0} (p : A → Bool) (xs : List A) → ltb (position_or_len p xs) (length xs) ≡ list_any p xs
+found p [] = refl
+found p (x ∷ xs) =
+    let n : ℕ = position_or_len p xs in
+    elim (p x) as (λ b. ltb (cond (not b) (1 + n) 0) (length (x ∷ xs)) ≡ (b || list_any p xs)) [
+      | true ↦ lt-ltb 0 (length (x ∷ xs)) (omega arith)
+      | false ↦ elim (cases_lt n (length xs)) [
+        | inl lt ↦ lt-ltb (1 + n) (length (x ∷ xs)) (omega arith) ∙ sym (lt-ltb n (length xs) lt) ∙ found p xs
+        | inr ge ↦ le-ltb (1 + n) (length (x ∷ xs)) (omega arith) ∙ sym (le-ltb n (length xs) ge) ∙ found p xs
+      ]
+    ]
+
+-- a chain of the name is there exactly where one has a place
+pub there_is : (t : Table) (name : List ℕ) (place : Option ℕ) → place ≡ position (is_named name) t.chains → has_chain t name ≡ is_some place
+there_is t name place is =
+    sym (found (is_named name) t.chains) ∙ sym (some_is (ltb (position_or_len (is_named name) t.chains) (length t.chains)) (position_or_len (is_named name) t.chains)) ∙ ap is_some (sym is)
+
+-- the chain of a name, by its place
+pub record IsAt (t : Table) (name : List ℕ) (place : ℕ) : Type 0 where
+  pub within : place < length t.chains
+  pub there : has_chain t name ≡ true
+  pub name_is : (chain_at t place).name ≡ name
+  pub rules_are : rules_of t.chains name ≡ (chain_at t place).rules
+
+named : (chain : Chain) (name : List ℕ) → is_named name chain ≡ true → chain.name ≡ name
+named chain name is = (bytes_eq-Decides chain.name name).0 is
+
+-- the rules are those of the first chain of the name
+rules_at : (chains : List Chain) (name : List ℕ) (k : ℕ) (d : Chain) → k < length chains → is_named name (get_or chains k d) ≡ true
+    → ((j : ℕ) → j < k → is_named name (get_or chains j d) ≡ false) → rules_of chains name ≡ (get_or chains k d).rules
+rules_at [] name k d within is first = absurd (omega (arith, within))
+rules_at (chain ∷ chains) name zero d within is first = ap (λ (b : Bool). cond b chain.rules (rules_of chains name)) is
+rules_at (chain ∷ chains) name (suc k) d within is first =
+    ap (λ (b : Bool). cond b chain.rules (rules_of chains name)) (first 0 (omega arith))
+    ∙ rules_at chains name k d (omega (arith, within)) is (λ j below. first (suc j) (omega (arith, below)))
+
+pub is_at : (t : Table) (name : List ℕ) (place : ℕ) → Some place ≡ position (is_named name) t.chains → IsAt t name place
+is_at t name place is =
+    let d : Chain = empty_chain [] in
+    let at = position-Some (is_named name) t.chains place d (sym is) in
+    record {
+      within = at.0;
+      there = there_is t name (Some place) is;
+      name_is = named (chain_at t place) name at.1;
+      rules_are = rules_at t.chains name place d at.0 at.1 at.2;
+    }

@@ -1,0 +1,4 @@
+pub mod Fault
+pub mod Opening
+pub mod Request
+pub mod Turn

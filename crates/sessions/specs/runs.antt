@@ -1,0 +1,4 @@
+pub mod Session
+pub mod Run
+pub mod Accepted
+pub mod Headline

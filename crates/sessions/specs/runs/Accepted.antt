@@ -1,0 +1,76 @@
+-- The changes that lines had accepted: a command that wasn't refused, or a section of a restore that was committed.
+use Rattle.std.specs.Prelude.{ℕ, Bool, List, [], ◌∷◌, ◌++◌, Result, Ok, Err, if◌then◌else◌}
+use Rattle.std.specs.Option.{option_to_list}
+use Rattle.table.specs.chains.Table.{Table}
+use Rattle.table.specs.edits.Edits.{Edit, edited}
+use Rattle.table.specs.edits.Headline.{edited_by}
+use Rattle.restore.specs.commands.Command as command
+use Rattle.restore.specs.declared.fault.RestoreFault.{RestoreFault}
+use Rattle.restore.specs.declared.restore.Place.{Place}
+use Rattle.restore.specs.declared.restore.Place.TheVariants.{Between, Building}
+use Rattle.restore.specs.sections.Section.{Asked, asked, begun}
+use Rattle.sessions.specs.lines.Fault.{Fault}
+use Rattle.sessions.specs.lines.Request.{Request, Run, request_on}
+use Rattle.sessions.specs.lines.Turn.{Line, Reply, Says, Fails, Spot, Outside, Within, Turn, turn}
+use Rattle.sessions.specs.runs.Session.{State, step}
+
+-- an accepted change: an edit by a command, or a section that was committed, with noflush or without, and the edits of its
+-- lines in order
+pub data Change : Type 0 where
+  Command : Edit → Change
+  Section : Bool → List Edit → Change
+
+-- the table after a change, by plain list edits; a section begins from the table, or from its policies alone
+abbrev pub changed : Table → Change → Table
+changed t (Command edit) = edited edit t
+changed t (Section noflush edits) = edited_by (begun noflush t).table edits
+
+-- the table after some changes, one after another
+abbrev pub changed_by : Table → List Change → Table
+changed_by t [] = t
+changed_by t (change ∷ changes) = changed_by (changed t change) changes
+
+-- the edit that a line of a section asks for, if it asks for one
+abbrev pub edit_asked : Result Asked RestoreFault → List Edit
+edit_asked (Ok a) = option_to_list a.edit
+edit_asked (Err fault) = []
+
+-- the edits of the open section, from the place before a line and the place after it
+abbrev pub section_edits : List Edit → List ℕ → Place → Place → List Edit
+section_edits edits line (Building s) (Building next) = edits ++ edit_asked (asked s line)
+section_edits edits line before after = []
+
+-- a section that is built before a line, and after it isn't, though the restore goes on, was committed; a test commits nothing
+abbrev pub committed : Bool → Bool → List Edit → Place → Place → List Change
+committed noflush test edits (Building s) Between = if test then [] else Section noflush edits ∷ []
+committed noflush test edits before after = []
+
+-- a command that was not refused
+abbrev pub commanded : Reply → Result Request Fault → List Change
+commanded (Fails fault) request = []
+commanded (Says text) (Ok (Run (command.Change edit))) = Command edit ∷ []
+commanded (Says text) request = []
+
+-- the edits of the open section, and the changes so far
+pub record Account : Type 0 where
+  pub edits : List Edit
+  pub changes : List Change
+
+-- the account after a line, by where it stood and where the next one stands
+abbrev pub noted : Account → List ℕ → Spot → Turn → Spot → Account
+noted a line Outside t after = record { edits = []; changes = a.changes ++ commanded t.reply (request_on line) }
+noted a line (Within word r) t (Within word' next) = record {
+  edits = section_edits a.edits line r.place next.place;
+  changes = a.changes ++ committed r.noflush r.test a.edits r.place next.place;
+}
+noted a line before t after = record { edits = []; changes = a.changes }
+
+-- the account after some lines
+abbrev pub account : State → Account → List Line → Account
+account s a [] = a
+account s a (line ∷ lines) =
+    let t = turn s.now.table s.now.spot line in account (step s line) (noted a line.text s.now.spot t t.spot) lines
+
+-- the changes that lines had accepted, in order
+abbrev pub accepted : State → List Line → List Change
+accepted s lines = (account s (record { edits = []; changes = [] }) lines).changes

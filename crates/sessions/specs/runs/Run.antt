@@ -1,0 +1,94 @@
+-- What a run of a session did, or a restore from the command line, whatever came of its reader and its writer.
+use Rattle.std.specs.Prelude.{◌≡◌, ◌⊎◌, ℕ, Bool, true, false, List, [], ◌∷◌, ◌++◌, fold, Result, Ok, Err, Option, None, IfSome, IsTrue, IsFalse}
+use Rattle.std.specs.Io.KnownBytes.{Appends, Consumes}
+use Rattle.fields.specs.declared.text.tap.Tap.{Tap}
+use Rattle.fields.specs.text.Tap.{known, IsBeginning}
+use Rattle.fields.specs.text.Line.{EndsAt, lines_of, ended_lines}
+use Rattle.table.specs.chains.Table.{Table}
+use Rattle.sessions.specs.lines.Turn.{Line, Spot, Passing}
+use Rattle.sessions.specs.runs.Session.{State, step, texts_of}
+pub use Rattle.sessions.specs.declared.session.RunFault.{RunFault}
+pub use Rattle.sessions.specs.declared.session.RunFault.TheVariants.{ReadFailed, WriteFailed}
+
+-- a run ends at the fault of a restore that no line ends
+abbrev pub has_ended : Spot → Bool
+has_ended (Passing None) = true
+has_ended spot = false
+
+-- lines lead from one state to another, and none is read after a run has ended
+abbrev pub Lead : State → List Line → State → Type 0
+Lead from [] to = to ≡ from
+Lead from (line ∷ lines) to = IsFalse (has_ended from.now.spot) × Lead (step from line) lines to
+
+-- the bytes are none, or a newline (10) ends them
+abbrev pub EndsLine : List ℕ → Type 0
+EndsLine bytes = (bytes ≡ []) ⊎ ((front : List ℕ) × (bytes ≡ front ++ 10 ∷ []))
+
+-- the lines are those of the bytes, each read whole: up to its newline, or up to the end of the input, where that was met
+pub record AreRead (lines : List Line) (bytes : List ℕ) (met_end : Type 0) : Type 0 where
+  pub texts : texts_of lines ≡ lines_of bytes
+  pub whole : EndsLine bytes ⊎ met_end
+
+-- The run went on to a state, of which it printed what the end prints; it had ended, or had come to the input's end.
+pub record Finished (start : State) (finish : State → State) (lines : List Line) (bytes : List ℕ) (met_end : Type 0) (written : List ℕ) (status : ℕ) : Type 0 where
+  pub last : State
+  pub leads : Lead start lines last
+  pub read : AreRead lines bytes met_end
+  pub done : IsTrue (has_ended last.now.spot) ⊎ met_end
+  pub printed : written ≡ (finish last).printed
+  pub answer : status ≡ (finish last).now.status
+
+-- The reader failed before or in a line: what was printed is the output of the lines read whole.
+pub record ReadStopped (start : State) (lines : List Line) (bytes written : List ℕ) : Type 0 where
+  pub last : State
+  pub leads : Lead start lines last
+  pub texts : texts_of lines ≡ ended_lines bytes
+  pub going : IsFalse (has_ended last.now.spot)
+  pub printed : written ≡ last.printed
+
+-- what was written holds all that was printed before, and no more than was printed after
+pub record IsBetween (before after : State) (written : List ℕ) : Type 0 where
+  pub all : IsBeginning before.printed written
+  pub part : IsBeginning written after.printed
+
+-- The writer failed in the reply to the last line that was read.
+pub record ReplyStopped (start : State) (lines : List Line) (bytes : List ℕ) (met_end : Type 0) (written : List ℕ) : Type 0 where
+  pub before : List Line
+  pub line : Line
+  pub first : State
+  pub last : State
+  pub split : lines ≡ before ++ line ∷ []
+  pub leads : Lead start before first
+  pub replies : Lead first (line ∷ []) last
+  pub read : AreRead lines bytes met_end
+  pub between : IsBetween first last written
+
+-- The writer failed in what is printed at the end of the run.
+pub record EndStopped (start : State) (finish : State → State) (lines : List Line) (bytes : List ℕ) (met_end : Type 0) (written : List ℕ) : Type 0 where
+  pub last : State
+  pub leads : Lead start lines last
+  pub read : AreRead lines bytes met_end
+  pub done : IsTrue (has_ended last.now.spot) ⊎ met_end
+  pub between : IsBetween last (finish last) written
+
+-- What a run did that read these bytes as these lines and wrote these bytes, by its answer.
+abbrev pub Ran : State → (State → State) → List Line → List ℕ → Type 0 → List ℕ → Result ℕ RunFault → Type 0
+Ran start finish lines bytes met_end written (Ok status) = Finished start finish lines bytes met_end written status
+Ran start finish lines bytes met_end written (Err ReadFailed) = ReadStopped start lines bytes written
+Ran start finish lines bytes met_end written (Err WriteFailed) =
+    ReplyStopped start lines bytes met_end written ⊎ EndStopped start finish lines bytes met_end written
+
+-- The same, with what the reader lost and the writer got, and the table that is left: that of the lines.
+pub record Runs {R W : Type 0} (remaining : R → Option (List ℕ)) (contents : W → Option (List ℕ)) (start : State) (finish : State → State) (lines : List Line)
+    (input : Tap R) (output : Tap W) (result : Result ℕ RunFault) (new : Table) (input' : Tap R) (output' : Tap W) : Type 0 where
+  pub bytes : List ℕ
+  pub written : List ℕ
+  pub reads : Consumes (known remaining input) (known remaining input') bytes
+  pub writes : Appends (known contents output) (known contents output') written
+  pub ran : Ran start finish lines bytes (EndsAt (known remaining input) (known remaining input')) written result
+  pub table : new ≡ (fold step start lines).now.table
+
+-- A run that has a status: for some marks it wrote, answered and left what is said of all bytes.
+abbrev pub Whole : {R W : Type 0} → (R → Option (List ℕ)) → (W → Option (List ℕ)) → (List ℕ → List Bool → State) → Tap R → Tap W → ℕ → Table → Tap W → Type 0
+Whole remaining contents said input output status new output' = IfSome (known remaining input) (λ bytes.
+    (marks : List Bool) × let s = said bytes marks in Appends (known contents output) (known contents output') s.printed × (status ≡ s.now.status) × (new ≡ s.now.table))

@@ -1,0 +1,82 @@
+-- Sessions and restores from the command line: a step for each line.
+use Rattle.std.specs.Prelude.{ℕ, ◌+◌, ◌==◌, Bool, false, List, [], ◌∷◌, ◌++◌, fold, map, None, if◌then◌else◌}
+use Rattle.fields.specs.text.Line.{lines_of}
+use Rattle.table.specs.chains.Table.{Table}
+use Rattle.restore.specs.sections.Restore.{begun_restore}
+use Rattle.sessions.specs.lines.Fault.{fault_line, fault_status}
+use Rattle.sessions.specs.lines.Turn.{Line, Reply, Says, Fails, Spot, Outside, Within, Turn, turn, last_turn, restore_end}
+
+-- how a session stands: its table, where its next line stands, how many lines there were, and the status so far
+pub record Standing : Type 0 where
+  pub table : Table
+  pub spot : Spot
+  pub number : ℕ
+  pub status : ℕ
+
+-- how a session stands after some lines, and what was printed
+pub record State : Type 0 where
+  pub now : Standing
+  pub printed : List ℕ
+
+-- what is printed of a reply to line n
+abbrev pub reply_text : ℕ → Reply → List ℕ
+reply_text n (Says text) = text
+reply_text n (Fails fault) = fault_line n fault
+
+-- the status is that of the first fault
+abbrev pub status_after : ℕ → Reply → ℕ
+status_after status (Says text) = status
+status_after status (Fails fault) = if status == 0 then fault_status fault else status
+
+-- the state after a turn, which was that of line n
+abbrev pub after : State → ℕ → Turn → State
+after s n t = record {
+  now = record { table = t.table; spot = t.spot; number = n; status = status_after s.now.status t.reply };
+  printed = s.printed ++ reply_text n t.reply;
+}
+
+-- one line more
+abbrev pub step : State → Line → State
+step s line = after s (s.now.number + 1) (turn s.now.table s.now.spot line)
+
+-- before the first line
+abbrev pub begun : Table → Spot → State
+begun t spot = record { now = record { table = t; spot = spot; number = 0; status = 0 }; printed = [] }
+
+-- a session begins outside of restores
+abbrev pub session_start : Table → State
+session_start t = begun t Outside
+
+-- the end of a session's input
+abbrev pub session_finish : State → State
+session_finish s = after s s.now.number (last_turn s.now.table s.now.spot)
+
+-- all lines of a restore from the command line are a restore's, and none is its end line
+abbrev pub restore_start : Bool → Bool → Table → State
+restore_start noflush test t = begun t (Within None (begun_restore noflush test))
+
+-- the end of the input of such a restore
+abbrev pub restore_finish : Bool → State → State
+restore_finish list s = after s s.now.number (restore_end list s.now.table s.now.spot)
+
+-- the texts of lines
+abbrev pub texts_of : List Line → List (List ℕ)
+texts_of lines = map (λ (line : Line). line.text) lines
+
+-- lines with their marks, false where there is none
+abbrev pub marked : List (List ℕ) → List Bool → List Line
+marked [] marks = []
+marked (text ∷ texts) [] = record { text = text; refused = false } ∷ marked texts []
+marked (text ∷ texts) (mark ∷ marks) = record { text = text; refused = mark } ∷ marked texts marks
+
+-- lines one after another
+abbrev pub play : State → List (List ℕ) → List Bool → State
+play s texts marks = fold step s (marked texts marks)
+
+-- a whole session
+abbrev pub session : Table → List ℕ → List Bool → State
+session t bytes marks = session_finish (play (session_start t) (lines_of bytes) marks)
+
+-- a whole restore from the command line
+abbrev pub restore_session : Bool → Bool → Bool → Table → List ℕ → List Bool → State
+restore_session noflush test list t bytes marks = restore_finish list (play (restore_start noflush test t) (lines_of bytes) marks)

@@ -1,0 +1,57 @@
+-- What came of lines that were read and served, and of the end of the input.
+use Rattle.std.specs.Prelude.{◌≡◌, ◌⊎◌, ℕ, Bool, List, ◌++◌, Option, Result, Ok, Err, MatchResult, IsTrue}
+use Rattle.std.specs.Io.KnownBytes.{Consumes}
+use Rattle.fields.specs.declared.text.tap.Tap.{Tap}
+use Rattle.fields.specs.text.Line.{EndsAt}
+use Rattle.fields.specs.text.Tap.{known, Wrote, Stopped, Puts}
+use Rattle.table.specs.chains.Table.{Table}
+use Rattle.sessions.specs.lines.Turn.{Line}
+use Rattle.sessions.specs.runs.Session.{State, step}
+use Rattle.sessions.specs.runs.Run.{AreRead, Lead, RunFault, Runs, WriteFailed, has_ended}
+use Rattle.sessions.specs.declared.session.Progress.{Progress}
+
+-- the state of the definition, where this was printed
+abbrev pub state_of : Table → Progress → List ℕ → State
+state_of t p printed = record {
+  now = record { table = t; spot = p.spot; number = p.number; status = p.status };
+  printed = printed;
+}
+
+-- a line was served as the definition says, for some mark: its reply was written, or the writer failed in it
+abbrev pub ServesLine : {W E : Type 0} → (W → Option (List ℕ)) → Table → Progress → Table → Progress → Tap W → Tap W → Result (Unit {0}) E → List ℕ → Type 0
+ServesLine contents t p t' p' o o' r text =
+    (refused : Bool) × (reply : List ℕ)
+    × ((printed : List ℕ) → step (state_of t p printed) (record { text = text; refused = refused }) ≡ state_of t' p' (printed ++ reply))
+    × Puts contents o o' r reply
+
+-- All lines that were read were served, up to the input's end or to the fault that ends a run.
+pub record ServedAll {R W : Type 0} (remaining : R → Option (List ℕ)) (contents : W → Option (List ℕ)) (start : State)
+    (input : Tap R) (output : Tap W) (new : Table) (p : Progress) (input' : Tap R) (output' : Tap W) : Type 0 where
+  pub bytes : List ℕ
+  pub lines : List Line
+  pub printed : List ℕ
+  pub reads : Consumes (known remaining input) (known remaining input') bytes
+  pub leads : Lead start lines (state_of new p printed)
+  pub read : AreRead lines bytes (EndsAt (known remaining input) (known remaining input'))
+  pub done : IsTrue (has_ended p.spot) ⊎ EndsAt (known remaining input) (known remaining input')
+  pub wrote : Wrote contents output output' printed
+
+-- what came of lines, by the answer: a run that failed is over, whatever its end would have been
+abbrev pub ServesLines : {R W : Type 0} → (R → Option (List ℕ)) → (W → Option (List ℕ)) → State → Tap R → Tap W → Result (Unit {0}) RunFault → Table → Progress → Tap R → Tap W → Type 0
+ServesLines remaining contents start input output (Ok _) new p input' output' = ServedAll remaining contents start input output new p input' output'
+ServesLines remaining contents start input output (Err fault) new p input' output' =
+    (finish : State → State) → (lines : List Line) × Runs remaining contents start finish lines input output (Err fault) new input' output'
+
+-- this reply was written and this status answered, or the writer failed in the reply
+abbrev pub Finishes : {W : Type 0} → (W → Option (List ℕ)) → ℕ → List ℕ → Tap W → Tap W → Result ℕ RunFault → Type 0
+Finishes contents status reply o o' r = MatchResult r
+    (λ answer. (answer ≡ status) × Wrote contents o o' reply)
+    (λ fault. (fault ≡ WriteFailed) × Stopped contents o o' reply)
+
+-- The end of the input was what the definition says: it prints this reply, leaves the table and gives this status.
+pub record Ends {W : Type 0} (contents : W → Option (List ℕ)) (finish : State → State) (t : Table) (p : Progress) (o o' : Tap W) (r : Result ℕ RunFault) : Type 0 where
+  pub reply : List ℕ
+  pub status : ℕ
+  pub printed : (before : List ℕ) → (finish (state_of t p before)).printed ≡ before ++ reply
+  pub answer : (before : List ℕ) → (finish (state_of t p before)).now.status ≡ status
+  pub finishes : Finishes contents status reply o o' r

@@ -1,0 +1,3 @@
+//! What the lines of a session ask for.
+pub(crate) mod opening;
+pub(crate) mod request;

@@ -1,0 +1,377 @@
+//! Sessions over a reader and a writer.
+ghost use Rattle.std.specs.Prelude.{◌≡◌, ◌+◌, ◌^◌, ◌<◌, ◌≤◌, ◌↔◌, ℕ, List, [], false, true, IfOk, OnOk, length, vec_len, vec_capacity};
+ghost use Rattle.fields.specs.text.Tap.{has_failed, known, turns_left, Puts};
+ghost use Rattle.fields.specs.text.Line.{IsHeld, EndsAt};
+ghost use Rattle.table.specs.chains.Table.{Table as TableOf};
+ghost use Rattle.sessions.specs.lines.Turn.{Reply, last_turn, restore_end};
+ghost use Rattle.sessions.specs.runs.Session.{reply_text, status_after};
+ghost use Rattle.sessions.specs.steps.Served.{HasPlace, IsReply};
+
+use crate::fault::Fault;
+use crate::reply::{Answer, write_reply};
+use crate::spot::Spot;
+use crate::turn::{Turn, take_line};
+use fields::{LineEnd, Tap, WriteFailed};
+use restore::{Restore, listings_restore, restores_leave_what_they_accept};
+use rules::Work;
+use std::alloc::{AllocError, Global};
+use std::io::{BufRead, Write};
+use std::mem;
+use table::Table;
+use thiserror::Error;
+
+/// Why a run stopped before it had a status.
+#[derive(Clone, Copy, Debug, PartialEq, Eq, Drop, Error)]
+pub enum RunFault {
+    /// A read failed.
+    #[error("a read failed")]
+    ReadFailed,
+    /// A write failed, or took no byte.
+    #[error("a write failed")]
+    WriteFailed,
+}
+
+// The longest line, in bytes without its newline.
+const LINE_MAX: usize = 10240;
+
+// How far a run is: where its next line stands, how many lines there were, and the status of the first fault.
+#[derive(Drop)]
+struct Progress {
+    spot: Spot,
+    number: u64,
+    status: u8,
+}
+
+impl Progress {
+    // Before the first line.
+    fn begin(spot: Spot) -> Progress
+        ensures { result ≡ record { spot = spot; number = 0; status = 0 } }
+    {
+        Progress {
+            spot,
+            number: 0,
+            status: 0,
+        }
+    }
+
+    // The status is that of the first fault.
+    fn note(&mut self, reply: &Result<Answer, Fault>)
+        ensures spot { self.new.spot ≡ self.old.spot }
+        ensures number { self.new.number ≡ self.old.number }
+        ensures status { (t : TableOf) (said : Reply) → IsReply t reply.now said → self.new.status ≡ status_after self.old.status said }
+    {
+        if let Err(fault) = reply {
+            if self.status == 0 {
+                self.status = fault.status();
+            }
+        }
+    }
+
+    // Writes what came of the line at hand, and has the writer hand it on.
+    fn report<W: Write>(
+        &mut self,
+        table: &Table,
+        reply: Result<Answer, Fault>,
+        output: &mut Tap<W>,
+    ) -> Result<(), WriteFailed>
+        requires ready { has_failed output.old ≡ false }
+        requires place { HasPlace table.now.table reply }
+        ensures spot { self.new.spot ≡ self.old.spot }
+        ensures number { self.new.number ≡ self.old.number }
+        ensures status { (said : Reply) → IsReply table.now.table reply said → self.new.status ≡ status_after self.old.status said }
+        ensures puts { (said : Reply) → IsReply table.now.table reply said → Puts W.contents output.old output.new result (reply_text self.old.number said) }
+    {
+        self.note(&reply);
+        if matches!(reply, Ok(Answer::Nothing)) {
+            return Ok(());
+        }
+        write_reply(table, self.number, reply, output)?;
+        output.flush()
+    }
+}
+
+// What is printed at the end of a session's input.
+fn last_reply(spot: Spot) -> Result<Answer, Fault>
+    ensures reply { (t : TableOf) → IsReply t result (last_turn t spot).reply }
+    ensures place { (t : TableOf) → HasPlace t result }
+{
+    match spot {
+        Spot::Outside => Ok(Answer::Nothing),
+        Spot::Within(_word, _restore) => Err(Fault::EndWordMissing),
+        Spot::Passing(_word) => Ok(Answer::Nothing),
+    }
+}
+
+// What is printed at the end of the input of a restore from the command line.
+fn restore_reply(list: bool, spot: Spot) -> Result<Answer, Fault>
+    ensures reply { (t : TableOf) → IsReply t result (restore_end list t spot).reply }
+    ensures place { (t : TableOf) → HasPlace t result }
+{
+    match spot {
+        Spot::Outside => Ok(Answer::Nothing),
+        Spot::Within(_word, restore) => match restore.finish() {
+            Ok(()) => {
+                if list {
+                    return Ok(Answer::Listing);
+                }
+                Ok(Answer::Nothing)
+            }
+            Err(fault) => Err(Fault::of_line(fault)),
+        },
+        Spot::Passing(_word) => Ok(Answer::Nothing),
+    }
+}
+
+impl Progress {
+    ghost use Rattle.sessions.specs.runs.Session.{restore_finish, session_finish};
+    ghost use Rattle.sessions.specs.steps.Lines.{Ends, Finishes};
+
+    // Writes what is printed at the end of the input, and answers the status.
+    fn end<W: Write>(
+        mut self,
+        table: &Table,
+        reply: Result<Answer, Fault>,
+        output: &mut Tap<W>,
+    ) -> Result<u8, RunFault>
+        requires ready { has_failed output.old ≡ false }
+        requires place { HasPlace table.now.table reply }
+        ensures { (said : Reply) → IsReply table.now.table reply said
+            → Finishes W.contents (status_after self.status said) (reply_text self.number said) output.old output.new result }
+    {
+        match self.report(table, reply, output) {
+            Ok(()) => Ok(self.status),
+            Err(_) => Err(RunFault::WriteFailed),
+        }
+    }
+
+    // The end of a session's input.
+    fn finish_session<W: Write>(
+        mut self,
+        table: &Table,
+        output: &mut Tap<W>,
+    ) -> Result<u8, RunFault>
+        requires { has_failed output.old ≡ false }
+        ensures { Ends W.contents session_finish table.now.table self output.old output.new result }
+    {
+        let spot = mem::replace(&mut self.spot, Spot::Outside);
+        self.end(table, last_reply(spot), output)
+    }
+
+    // The end of the input of a restore from the command line.
+    fn finish_restore<W: Write>(
+        mut self,
+        list: bool,
+        table: &Table,
+        output: &mut Tap<W>,
+    ) -> Result<u8, RunFault>
+        requires { has_failed output.old ≡ false }
+        ensures { Ends W.contents (restore_finish list) table.now.table self output.old output.new result }
+    {
+        let spot = mem::replace(&mut self.spot, Spot::Outside);
+        self.end(table, restore_reply(list, spot), output)
+    }
+}
+
+/// A table, and the lines that edit it, list it, restore it and ask it about packets.
+#[derive(Drop)]
+pub struct Session {
+    alloc: Global,
+    table: Table,
+    work: Work,
+    line: Vec<u8>,
+    ghost room: { 10240 ≤ vec_capacity line },
+}
+
+impl Session {
+    ghost use Rattle.table.specs.chains.Table.{empty_table};
+    ghost use Rattle.sessions.specs.runs.Session.{restore_finish, restore_session, restore_start, session, session_finish, session_start};
+    ghost use Rattle.restore.specs.listings.RoundTrip.{RestoresItself};
+    ghost use Rattle.sessions.specs.runs.Headline.{RestoresClassifiers, RunsTo};
+    ghost use Rattle.sessions.specs.runs.Run.{Whole, has_ended};
+    ghost use Rattle.sessions.specs.steps.Lines.{ServesLine, ServesLines, state_of};
+    ghost use Rattle.sessions.specs.Views.{table_of};
+
+    /// A session over a table of the built-in chains without rules. It takes the memory of the table and of the longest
+    /// line, 10,240 bytes.
+    ///
+    /// # Errors
+    ///
+    /// `AllocError` where memory was refused.
+    pub fn new(alloc: Global) -> Result<Session, AllocError>
+        ensures { IfOk result (λ s. (table_of s).table ≡ empty_table) }
+    {
+        let table = Table::new(alloc)?;
+        let line = Vec::with_capacity(alloc, LINE_MAX)?;
+        Ok(Session {
+            alloc,
+            table,
+            work: Work::new(),
+            line,
+        })
+    }
+
+    /// The table as the lines so far left it.
+    pub fn table(&self) -> &Table
+        ensures { result.now ≡ table_of self.now }
+    {
+        &self.table
+    }
+
+    // The line that was read.
+    fn serve<W: Write>(
+        &mut self,
+        progress: &mut Progress,
+        too_long: bool,
+        output: &mut Tap<W>,
+    ) -> Result<(), WriteFailed>
+        requires number { progress.old.number + 1 < 2 ^ 64 }
+        requires fresh { has_failed output.old ≡ false }
+        requires within { vec_len self.old.line ≤ 10240 }
+        ensures serves { (text : List ℕ) → IsHeld 10240 text self.old.line.items too_long →
+            ServesLine W.contents (table_of self.old).table progress.old (table_of self.new).table progress.new output.old output.new result text }
+        ensures number { progress.new.number ≡ progress.old.number + 1 }
+    {
+        progress.number += 1;
+        let spot = mem::replace(&mut progress.spot, Spot::Outside);
+        let Turn { spot, reply } = take_line(
+            self.alloc,
+            &mut self.table,
+            &mut self.work,
+            spot,
+            self.line.as_slice(),
+            too_long,
+        );
+        progress.spot = spot;
+        progress.report(&self.table, reply, output)
+    }
+
+    // Serves the lines of the input, each before the next is read: up to the end of the input, or up to the fault of a
+    // restore that no line ends.
+    fn serve_lines<R: BufRead, W: Write>(
+        &mut self,
+        progress: &mut Progress,
+        input: &mut Tap<R>,
+        output: &mut Tap<W>,
+    ) -> Result<(), RunFault>
+        requires input { has_failed input.old ≡ false }
+        requires output { has_failed output.old ≡ false }
+        requires number { progress.old.number ≡ 0 }
+        requires going { has_ended progress.old.spot ≡ false }
+        ensures serves { ServesLines R.remaining W.contents (state_of (table_of self.old).table progress.old []) input.old output.old result
+            (table_of self.new).table progress.new input.new output.new }
+        ensures read_failed { result ≡ Err RunFault.ReadFailed ↔ has_failed input.new ≡ true }
+        ensures write_failed { result ≡ Err RunFault.WriteFailed ↔ has_failed output.new ≡ true }
+    {
+        let _limit = input.turns();
+        'lines: loop {
+            let read = match input.read_line(LINE_MAX, &mut self.line) {
+                Ok(read) => read,
+                Err(_) => return Err(RunFault::ReadFailed),
+            };
+            match read.end {
+                LineEnd::Nothing => return Ok(()),
+                LineEnd::Newline => match self.serve(progress, read.too_long, output) {
+                    Ok(()) => {
+                        if progress.spot.has_ended() {
+                            return Ok(());
+                        }
+                    }
+                    Err(_) => return Err(RunFault::WriteFailed),
+                },
+                LineEnd::Input => {
+                    return match self.serve(progress, read.too_long, output) {
+                        Ok(()) => Ok(()),
+                        Err(_) => Err(RunFault::WriteFailed),
+                    };
+                }
+            }
+        }
+    }
+
+    // The same, of a table of which the laws of tables and restores are called.
+    fn serve_all<R: BufRead, W: Write>(
+        &mut self,
+        progress: &mut Progress,
+        input: &mut Tap<R>,
+        output: &mut Tap<W>,
+    ) -> Result<(), RunFault>
+        requires input { has_failed input.old ≡ false }
+        requires output { has_failed output.old ≡ false }
+        requires number { progress.old.number ≡ 0 }
+        requires going { has_ended progress.old.spot ≡ false }
+        ensures serves { ServesLines R.remaining W.contents (state_of (table_of self.old).table progress.old []) input.old output.old result
+            (table_of self.new).table progress.new input.new output.new }
+        ensures read_failed { result ≡ Err RunFault.ReadFailed ↔ has_failed input.new ≡ true }
+        ensures write_failed { result ≡ Err RunFault.WriteFailed ↔ has_failed output.new ≡ true }
+        ensures restores { RestoresItself (table_of self.new).table }
+        ensures classifiers { RestoresClassifiers (table_of self.new) }
+    {
+        let served = self.serve_lines(progress, input, output);
+        self.table.stands();
+        listings_restore();
+        restores_leave_what_they_accept();
+        served
+    }
+
+    /// Runs the lines of the input from the table as it is, and answers the status: that of the first fault, 0 without
+    /// one. Each line is served, and its reply handed on to whoever waits for it, before the next is read.
+    ///
+    /// After a `RunFault` it may be called again, with new taps; a restore that was open is given up.
+    ///
+    /// A line costs what its command costs, and time linear in its length and its reply.
+    ///
+    /// # Errors
+    ///
+    /// `ReadFailed` exactly where the reader's tap has failed, `WriteFailed` exactly where the writer's has.
+    pub fn run<R: BufRead, W: Write>(
+        &mut self,
+        input: &mut Tap<R>,
+        output: &mut Tap<W>,
+    ) -> Result<u8, RunFault>
+        requires input { has_failed input.old ≡ false }
+        requires output { has_failed output.old ≡ false }
+        ensures whole { IfOk result (λ status. Whole R.remaining W.contents (session (table_of self.old).table) input.old output.old status (table_of self.new).table output.new) }
+        ensures runs { RunsTo R.remaining W.contents (session_start (table_of self.old).table) session_finish (table_of self.old) input.old output.old result (table_of self.new) input.new output.new }
+        ensures ended { OnOk result (EndsAt (known R.remaining input.old) (known R.remaining input.new)) }
+        ensures read_failed { result ≡ Err RunFault.ReadFailed ↔ has_failed input.new ≡ true }
+        ensures write_failed { result ≡ Err RunFault.WriteFailed ↔ has_failed output.new ≡ true }
+    {
+        let mut progress = Progress::begin(Spot::Outside);
+        match self.serve_all(&mut progress, input, output) {
+            Ok(()) => progress.finish_session(&self.table, output),
+            Err(fault) => Err(fault),
+        }
+    }
+
+    /// Reads the whole input as one restore, whose lines count from 1, and answers the status: that of the first fault,
+    /// after which no line is read, or 0. Without a fault the listing is written, if `list` says so.
+    ///
+    /// With `noflush` each section begins from the table in place, and else from its policies alone; with `test` no
+    /// table is put in place.
+    ///
+    /// # Errors
+    ///
+    /// Those of `run`.
+    pub fn restore<R: BufRead, W: Write>(
+        &mut self,
+        noflush: bool,
+        test: bool,
+        list: bool,
+        input: &mut Tap<R>,
+        output: &mut Tap<W>,
+    ) -> Result<u8, RunFault>
+        requires input { has_failed input.old ≡ false }
+        requires output { has_failed output.old ≡ false }
+        ensures whole { IfOk result (λ status. Whole R.remaining W.contents (restore_session noflush test list (table_of self.old).table) input.old output.old status (table_of self.new).table output.new) }
+        ensures runs { RunsTo R.remaining W.contents (restore_start noflush test (table_of self.old).table) (restore_finish list) (table_of self.old) input.old output.old result (table_of self.new) input.new output.new }
+        ensures read_failed { result ≡ Err RunFault.ReadFailed ↔ has_failed input.new ≡ true }
+        ensures write_failed { result ≡ Err RunFault.WriteFailed ↔ has_failed output.new ≡ true }
+    {
+        let restore = Restore::new(self.alloc, noflush, test);
+        let mut progress = Progress::begin(Spot::Within(None, restore));
+        match self.serve_all(&mut progress, input, output) {
+            Ok(()) => progress.finish_restore(list, &self.table, output),
+            Err(fault) => Err(fault),
+        }
+    }
+}
