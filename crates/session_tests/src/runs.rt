@@ -132,6 +132,34 @@ fn each_line_is_served_before_the_next_is_read(rt: HostRuntime) -> Result<(), Fa
 }
 
 #[test]
+fn each_reply_is_handed_on(rt: HostRuntime) -> Result<(), Fail> {
+    let alloc = rt.alloc();
+    for (script, replies) in [
+        (LISTING, 1),
+        (WALK, 1),
+        (REFUSED, 2),
+        (KEPT, 1),
+        (OPEN, 2),
+        (DUMP, 1),
+        (CUT, 1),
+    ] {
+        let input = script.input(alloc)?;
+        let mut session = Session::new(alloc)?;
+        let never = Fuse::never(usize::MAX);
+        let ran = called(
+            alloc,
+            &mut session,
+            script.call,
+            input.as_bytes(),
+            never,
+            never,
+        )?;
+        assert!(&rt; ran.writer.flushes() >= replies, "{input}");
+    }
+    Ok(())
+}
+
+#[test]
 fn devices_that_move_few_bytes_a_call(rt: HostRuntime) -> Result<(), Fail> {
     let alloc = rt.alloc();
     for (script, status) in [
