@@ -24,35 +24,34 @@ const DUMP: &str = "# Generated\n\
     [3:180] -A INPUT -p tcp -m tcp --dport 22 -j ACCEPT\n\
     COMMIT\n";
 
-// The number of the last line, and the line without its newline.
-fn last_line(input: &str) -> (usize, &str) {
+// An input without the newline at its end.
+fn without_newline(input: &str) -> &str {
+    input.strip_suffix('\n').unwrap_or(input)
+}
+
+// The number of the last line.
+fn last_number(input: &str) -> usize {
     if input.is_empty() {
-        return (0, "");
+        return 0;
     }
-    let whole = input.strip_suffix('\n').unwrap_or(input);
-    let (mut number, mut last) = (0usize, "");
-    for line in whole.split('\n') {
-        number = number.saturating_add(1);
-        last = line;
-    }
-    (number, last)
+    without_newline(input).split('\n').count()
 }
 
 // Whether a beginning of the session ends inside its restore.
-fn is_in_restore(number: usize, last: &str) -> bool {
-    match number {
-        2 => last == "iptables-restore <<E",
+fn is_in_restore(input: &str) -> bool {
+    match last_number(input) {
+        2 => without_newline(input).ends_with("\niptables-restore <<E"),
         3..=7 => true,
-        8 => last != "E",
+        8 => !without_newline(input).ends_with("\nE"),
         _ => false,
     }
 }
 
 // Whether a beginning of the dump ends inside a section.
-fn is_in_section(number: usize, last: &str) -> bool {
-    match number {
+fn is_in_section(input: &str) -> bool {
+    match last_number(input) {
         0 | 1 => false,
-        4 | 8 => last != "COMMIT",
+        4 | 8 => !without_newline(input).ends_with("\nCOMMIT"),
         _ => true,
     }
 }
@@ -60,10 +59,10 @@ fn is_in_section(number: usize, last: &str) -> bool {
 // A beginning of the session: inside the restore there is one fault, that of its first bad line, or else the missing end
 // word. Outside of it no end word is missing.
 fn session_is_cut(rt: &impl Abort, alloc: Global, input: &str) -> Result<(), Fail> {
-    let (number, last) = last_line(input);
+    let number = last_number(input);
     let ended = Console::new(alloc)?.run(input.as_bytes())?;
     let faults = faults_of(rt, alloc, &ended)?;
-    if !is_in_restore(number, last) {
+    if !is_in_restore(input) {
         for fault in &faults {
             assert!(rt; fault.code != "S3", "{input}");
             assert!(rt; fault.number == number || fault.number == 6, "{input}");
@@ -84,10 +83,10 @@ fn session_is_cut(rt: &impl Abort, alloc: Global, input: &str) -> Result<(), Fai
 // A beginning of the dump: inside a section there is one fault, that of its last line or else the missing `COMMIT`.
 // Outside of sections it is accepted.
 fn dump_is_cut(rt: &impl Abort, alloc: Global, input: &str) -> Result<(), Fail> {
-    let (number, last) = last_line(input);
+    let number = last_number(input);
     let ended = Console::new(alloc)?.restore(Mode::LIST, input.as_bytes())?;
     let faults = faults_of(rt, alloc, &ended)?;
-    if !is_in_section(number, last) {
+    if !is_in_section(input) {
         assert!(rt; faults.is_empty(), "{input}");
         assert!(rt; ended.written.ends_with(b"COMMIT\n"), "{input}");
         return Ok(());

@@ -296,7 +296,7 @@ fn a_walk_of_the_most_matches(rt: HostRuntime) -> Result<(), Fail> {
 }
 
 #[test]
-fn a_walk_without_an_end_in_sight(rt: HostRuntime) -> Result<(), Fail> {
+fn a_walk_that_is_far_too_long(rt: HostRuntime) -> Result<(), Fail> {
     let mut console = Console::new(rt.alloc())?;
     let rules = doubling(rt.alloc(), "e", 40)?;
     console.prints(&rt, rules.as_str(), "", 0)?;

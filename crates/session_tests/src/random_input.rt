@@ -10,7 +10,7 @@ use std::test::Fail;
 // The most bytes of an input.
 const MOST: usize = 4096;
 
-// Bytes that part words and lines, or begin them.
+// Bytes that separate words and lines, or begin them.
 const SIGNS: &[u8] = b"\n\n -ADIFNXPES*:#\"\\!\t";
 
 // Parts of lines.
