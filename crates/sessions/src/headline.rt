@@ -8,5 +8,4 @@ ghost use Rattle.sessions.specs.runs.Several.{RunsLeaveWhatTheyAccept};
 /// shows after any list of runs.
 pub fn runs_leave_what_they_accept()
     ensures { RunsLeaveWhatTheyAccept }
-{
-}
+{}
