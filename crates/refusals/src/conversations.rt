@@ -61,14 +61,14 @@ fn begun(alloc: Global, refusals: &mut Refusals) -> Result<Session, Trouble> {
 fn line(
     alloc: Global,
     refusals: &mut Refusals,
+    session: &mut Session,
     text: &[u8],
     expected: &[u8],
     status: u8,
     left: &[u8],
 ) -> Result<(), Trouble> {
-    let mut session = begun(alloc, refusals)?;
     for _ in 0..2 {
-        let (printed, answer) = run(alloc, refusals, &mut session, text)?;
+        let (printed, answer) = run(alloc, refusals, session, text)?;
         if !is_refused(&printed, answer) {
             expect(printed.as_slice() == expected && answer == Ok(status))?;
             return expect(has_listing(alloc, refusals, session.table(), left)?);
@@ -80,15 +80,9 @@ fn line(
     Err(Trouble::RefusedTwice)
 }
 
-/// `Session::run`, of each kind of line by itself.
+/// `Session::run`, of each kind of line by itself; the last changes the table.
 pub fn lines(alloc: Global, refusals: &mut Refusals) -> Result<(), Trouble> {
     let rows: [(&[u8], &[u8], u8, &[u8]); 7] = [
-        (
-            b"iptables -A a -p tcp --dport 22 -j ACCEPT",
-            b"",
-            0,
-            b":a - [0:0]\n-A INPUT -s 10.0.0.0/8 -j DROP\n-A a -p tcp -m tcp --dport 22 -j ACCEPT\nCOMMIT\n",
-        ),
         (
             b"iptables -S INPUT",
             b"-P INPUT ACCEPT\n-A INPUT -s 10.0.0.0/8 -j DROP\n",
@@ -120,9 +114,16 @@ pub fn lines(alloc: Global, refusals: &mut Refusals) -> Result<(), Trouble> {
             WITH_ONE,
         ),
         (b"# nothing\n \t\n", b"", 0, WITH_ONE),
+        (
+            b"iptables -A a -p tcp --dport 22 -j ACCEPT",
+            b"",
+            0,
+            b":a - [0:0]\n-A INPUT -s 10.0.0.0/8 -j DROP\n-A a -p tcp -m tcp --dport 22 -j ACCEPT\nCOMMIT\n",
+        ),
     ];
+    let mut session = begun(alloc, refusals)?;
     for (text, expected, status, left) in rows {
-        line(alloc, refusals, text, expected, status, left)?;
+        line(alloc, refusals, &mut session, text, expected, status, left)?;
     }
     Ok(())
 }
