@@ -9,7 +9,7 @@ use std::alloc::Global;
 /// How many bytes a read or a write moves, at most.
 const MOVED: usize = 65536;
 
-/// The bytes of a line of input, and of a reply to one, at most.
+/// The bytes of a rule's line, a packet's line and a reply, at most.
 const LINE_BYTES: usize = 128;
 
 /// How a session is given an input.
@@ -59,7 +59,7 @@ impl Script {
         })
     }
 
-    /// So many packet lines. Another of so many rules decides each than the line before.
+    /// So many packet lines against so many rules. Each asks for another rule than the line before.
     pub(crate) fn packets(alloc: Global, rules: usize, lines: usize) -> Result<Script> {
         let room = lines.saturating_mul(LINE_BYTES);
         let mut input = String::with_capacity(alloc, room)?;
