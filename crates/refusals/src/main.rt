@@ -12,6 +12,7 @@ mod boxes;
 mod case;
 mod classifiers;
 mod commands;
+mod conversations;
 mod listings;
 mod planted;
 mod restores;
@@ -124,6 +125,21 @@ fn run_of_restores<R: Print + AllocGlobal>(rt: &R, refusals: &mut Refusals) {
         rt,
         "quiet lines of restores",
         restores::needless(alloc, refusals),
+    );
+    tell(
+        rt,
+        "lines of sessions",
+        conversations::lines(alloc, refusals),
+    );
+    tell(
+        rt,
+        "restores among lines",
+        conversations::restores(alloc, refusals),
+    );
+    tell(
+        rt,
+        "restores by themselves",
+        conversations::whole_restores(alloc, refusals),
     );
 }
 

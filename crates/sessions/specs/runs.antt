@@ -2,3 +2,4 @@ pub mod Session
 pub mod Run
 pub mod Accepted
 pub mod Headline
+pub mod Several

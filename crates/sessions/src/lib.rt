@@ -2,10 +2,12 @@
 #![tactic(auto)]
 
 mod fault;
+mod headline;
 mod line;
 mod reply;
 mod session;
 mod spot;
 mod turn;
 
+pub use headline::runs_leave_what_they_accept;
 pub use session::{RunFault, Session};

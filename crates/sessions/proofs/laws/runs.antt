@@ -2,6 +2,7 @@ pub mod LeadLaws
 pub mod KeptLaws
 pub mod AcceptedLaws
 pub mod HeadlineLaws
+pub mod SeveralLaws
 pub mod ReachedLaws
 pub mod ServeLaws
 pub mod EndLaws

@@ -1,0 +1,179 @@
+//! Sessions: each kind of line.
+use crate::case::{Refusals, Trouble, again, expect, expect_kept};
+use crate::listings::{WITH_ONE, has_listing};
+use fields::Tap;
+use sessions::{RunFault, Session};
+use std::alloc::Global;
+
+/// The lines that make the table with a chain `a` and a rule of INPUT.
+const START: [&[u8]; 2] = [b"iptables -N a", b"iptables -A INPUT -s 10.0.0.0/8 -j DROP"];
+
+/// What a line prints that was refused memory: nothing else, and it is the first of its run.
+const REFUSED: &[u8] = b"line 1: M0 no memory\n";
+
+/// What one run of a session printed and answered. The writer has its room beforehand.
+fn run(
+    alloc: Global,
+    refusals: &mut Refusals,
+    session: &mut Session,
+    lines: &[u8],
+) -> Result<(Vec<u8>, Result<u8, RunFault>), Trouble> {
+    let room = again!(refusals, Vec::with_capacity(alloc, 1024), true);
+    let mut output = Tap::new(room);
+    let answer = session.run(&mut Tap::new(lines), &mut output);
+    Ok((output.into_device(), answer))
+}
+
+/// Whether a run was refused memory in its first line: it says so, and says nothing else of the line.
+fn is_refused(printed: &[u8], answer: Result<u8, RunFault>) -> bool {
+    printed.starts_with(REFUSED) && answer == Ok(4)
+}
+
+/// Runs a line that makes the table, again where it was refused memory.
+fn make(
+    alloc: Global,
+    refusals: &mut Refusals,
+    session: &mut Session,
+    line: &[u8],
+) -> Result<(), Trouble> {
+    for _ in 0..2 {
+        let (printed, answer) = run(alloc, refusals, session, line)?;
+        if !is_refused(&printed, answer) {
+            return expect(printed.is_empty() && answer == Ok(0));
+        }
+        refusals.note();
+    }
+    Err(Trouble::RefusedTwice)
+}
+
+/// A session over the table with one rule.
+fn begun(alloc: Global, refusals: &mut Refusals) -> Result<Session, Trouble> {
+    let mut session = again!(refusals, Session::new(alloc), true);
+    for line in START {
+        make(alloc, refusals, &mut session, line)?;
+    }
+    expect(has_listing(alloc, refusals, session.table(), WITH_ONE)?)?;
+    Ok(session)
+}
+
+/// Runs one line, which prints a text, gives a status and leaves a listing. Where it was refused memory it says that
+/// alone, and changes nothing; it is run again.
+fn line(
+    alloc: Global,
+    refusals: &mut Refusals,
+    text: &[u8],
+    expected: &[u8],
+    status: u8,
+    left: &[u8],
+) -> Result<(), Trouble> {
+    let mut session = begun(alloc, refusals)?;
+    for _ in 0..2 {
+        let (printed, answer) = run(alloc, refusals, &mut session, text)?;
+        if !is_refused(&printed, answer) {
+            expect(printed.as_slice() == expected && answer == Ok(status))?;
+            return expect(has_listing(alloc, refusals, session.table(), left)?);
+        }
+        refusals.note();
+        expect_kept(printed.as_slice() == REFUSED)?;
+        expect_kept(has_listing(alloc, refusals, session.table(), WITH_ONE)?)?;
+    }
+    Err(Trouble::RefusedTwice)
+}
+
+/// `Session::run`, of each kind of line by itself.
+pub fn lines(alloc: Global, refusals: &mut Refusals) -> Result<(), Trouble> {
+    let rows: [(&[u8], &[u8], u8, &[u8]); 7] = [
+        (
+            b"iptables -A a -p tcp --dport 22 -j ACCEPT",
+            b"",
+            0,
+            b":a - [0:0]\n-A INPUT -s 10.0.0.0/8 -j DROP\n-A a -p tcp -m tcp --dport 22 -j ACCEPT\nCOMMIT\n",
+        ),
+        (
+            b"iptables -S INPUT",
+            b"-P INPUT ACCEPT\n-A INPUT -s 10.0.0.0/8 -j DROP\n",
+            0,
+            WITH_ONE,
+        ),
+        (
+            b"iptables-save",
+            b"*filter\n:INPUT ACCEPT [0:0]\n:FORWARD ACCEPT [0:0]\n:OUTPUT ACCEPT [0:0]\n:a - [0:0]\n-A INPUT -s 10.0.0.0/8 -j DROP\nCOMMIT\n",
+            0,
+            WITH_ONE,
+        ),
+        (
+            b"packet INPUT src=10.0.0.1 dst=2.2.2.2 proto=47",
+            b"INPUT 1\nverdict DROP by rule\n",
+            0,
+            WITH_ONE,
+        ),
+        (
+            b"lines a",
+            b"src 0:{}\ndst 0:{}\nin 00000000000000000000000000000000:{}\nout 00000000000000000000000000000000:{}\nproto 0:{}\nfrag 0:{}\nsport 0:{}\ndport 0:{}\nflags 0:{}\nicmp 0:{}\nct 0:{}\n",
+            0,
+            WITH_ONE,
+        ),
+        (
+            b"packet INPUT src=10.0.0.1",
+            b"line 1: F2 key missing\n",
+            2,
+            WITH_ONE,
+        ),
+        (b"# nothing\n \t\n", b"", 0, WITH_ONE),
+    ];
+    for (text, expected, status, left) in rows {
+        line(alloc, refusals, text, expected, status, left)?;
+    }
+    Ok(())
+}
+
+/// What a run printed of a restore in which memory was refused: one line that says so, of any number.
+fn says_refused(printed: &[u8]) -> bool {
+    printed.starts_with(b"line ") && printed.ends_with(b": M0 no memory\n")
+}
+
+/// A restore among the lines of a session, in which each line may be refused memory: the restore then ends there, and
+/// leaves the table.
+pub fn restores(alloc: Global, refusals: &mut Refusals) -> Result<(), Trouble> {
+    let mut session = begun(alloc, refusals)?;
+    let text = b"iptables-restore -n <<E\n*filter\n:b -\n[1:2] -A b -j RETURN\nCOMMIT\nE\n";
+    let left = b":a - [0:0]\n:b - [0:0]\n-A INPUT -s 10.0.0.0/8 -j DROP\n-A b -j RETURN\nCOMMIT\n";
+    for _ in 0..2 {
+        let (printed, answer) = run(alloc, refusals, &mut session, text.as_slice())?;
+        if printed.is_empty() {
+            expect(answer == Ok(0))?;
+            return expect(has_listing(alloc, refusals, session.table(), left)?);
+        }
+        refusals.note();
+        expect(answer == Ok(4))?;
+        expect_kept(has_listing(alloc, refusals, session.table(), WITH_ONE)?)?;
+    }
+    Err(Trouble::RefusedTwice)
+}
+
+/// `Session::restore`: the first line that is refused memory ends it, and leaves the table.
+pub fn whole_restores(alloc: Global, refusals: &mut Refusals) -> Result<(), Trouble> {
+    let mut session = begun(alloc, refusals)?;
+    let text = b"*filter\n:a -\n-A a -j LOG\nCOMMIT\n";
+    let left = b":a - [0:0]\n-A INPUT -s 10.0.0.0/8 -j DROP\n-A a -j LOG\nCOMMIT\n";
+    for _ in 0..2 {
+        let room = again!(refusals, Vec::with_capacity(alloc, 1024), true);
+        let mut output = Tap::new(room);
+        let answer = session.restore(
+            true,
+            false,
+            false,
+            &mut Tap::new(text.as_slice()),
+            &mut output,
+        );
+        let printed = output.into_device();
+        if printed.is_empty() {
+            expect(answer == Ok(0))?;
+            return expect(has_listing(alloc, refusals, session.table(), left)?);
+        }
+        refusals.note();
+        expect(says_refused(&printed) && answer == Ok(4))?;
+        expect_kept(has_listing(alloc, refusals, session.table(), WITH_ONE)?)?;
+    }
+    Err(Trouble::RefusedTwice)
+}

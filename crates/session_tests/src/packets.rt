@@ -1,0 +1,306 @@
+// Packets: their verdicts, and the rules that matched.
+use crate::console::each_prints;
+use std::test::Fail;
+
+#[test]
+fn a_verdict_by_rule(rt: HostRuntime) -> Result<(), Fail> {
+    let rows = [(
+        "iptables -A INPUT -s 10.1.2.3/8 -j ACCEPT\n\
+                iptables -A INPUT -j DROP\n\
+                packet INPUT src=10.9.9.9 dst=2.2.2.2 proto=47\n\
+                packet INPUT src=11.0.0.1 dst=2.2.2.2 proto=47\n\
+                iptables-save\n",
+        "INPUT 1\n\
+                verdict ACCEPT by rule\n\
+                INPUT 2\n\
+                verdict DROP by rule\n\
+                *filter\n\
+                :INPUT ACCEPT [0:0]\n\
+                :FORWARD ACCEPT [0:0]\n\
+                :OUTPUT ACCEPT [0:0]\n\
+                -A INPUT -s 10.0.0.0/8 -j ACCEPT\n\
+                -A INPUT -j DROP\n\
+                COMMIT\n",
+        0,
+    )];
+    each_prints(&rt, rt.alloc(), &rows)
+}
+
+#[test]
+fn rules_without_a_verdict_stand_on_the_trail(rt: HostRuntime) -> Result<(), Fail> {
+    let rows = [
+        (
+            "iptables -A INPUT\n\
+                iptables -A INPUT -j RETURN\n\
+                iptables -A INPUT -j DROP\n\
+                packet INPUT src=1.1.1.1 dst=2.2.2.2 proto=47\n\
+                packet INPUT src=1.1.1.1 dst=2.2.2.2 proto=udp sport=1 dport=2 in=eth0\n",
+            "INPUT 1\n\
+                INPUT 2\n\
+                verdict ACCEPT by policy\n\
+                INPUT 1\n\
+                INPUT 2\n\
+                verdict ACCEPT by policy\n",
+            0,
+        ),
+        (
+            "iptables -A INPUT -j LOG\n\
+                iptables -A INPUT\n\
+                iptables -A INPUT -s 9.9.9.9 -j DROP\n\
+                iptables -A INPUT -j ACCEPT\n\
+                packet INPUT src=1.1.1.1 dst=2.2.2.2 proto=47\n",
+            "INPUT 1\n\
+                INPUT 2\n\
+                INPUT 4\n\
+                verdict ACCEPT by rule\n",
+            0,
+        ),
+    ];
+    each_prints(&rt, rt.alloc(), &rows)
+}
+
+#[test]
+fn goto_leaves_nothing_on_the_stack(rt: HostRuntime) -> Result<(), Fail> {
+    let rows = [
+        (
+            "iptables -N a\n\
+                iptables -N b\n\
+                iptables -A INPUT -j a\n\
+                iptables -A INPUT -j DROP\n\
+                iptables -A a -g b\n\
+                iptables -A b -j RETURN\n\
+                packet INPUT src=1.1.1.1 dst=2.2.2.2 proto=47\n\
+                packet INPUT src=0.0.0.0 dst=255.255.255.255 proto=tcp sport=0 dport=65535 flags=ALL in=lo\n\
+                packet INPUT src=9.9.9.9 dst=2.2.2.2 proto=icmp icmp=8/0 ct=NEW\n",
+            "INPUT 1\n\
+                a 1\n\
+                b 1\n\
+                INPUT 2\n\
+                verdict DROP by rule\n\
+                INPUT 1\n\
+                a 1\n\
+                b 1\n\
+                INPUT 2\n\
+                verdict DROP by rule\n\
+                INPUT 1\n\
+                a 1\n\
+                b 1\n\
+                INPUT 2\n\
+                verdict DROP by rule\n",
+            0,
+        ),
+        (
+            "iptables -N b\n\
+                iptables -A INPUT -g b\n\
+                iptables -A INPUT -j DROP\n\
+                packet INPUT src=1.1.1.1 dst=2.2.2.2 proto=47\n",
+            "INPUT 1\n\
+                verdict ACCEPT by policy\n",
+            0,
+        ),
+        (
+            "iptables -N a\n\
+                iptables -N b\n\
+                iptables -A INPUT -j a\n\
+                iptables -A INPUT -j DROP\n\
+                iptables -A a -g b\n\
+                iptables -A a -j ACCEPT\n\
+                iptables -A b\n\
+                packet INPUT src=1.1.1.1 dst=2.2.2.2 proto=47\n",
+            "INPUT 1\n\
+                a 1\n\
+                b 1\n\
+                INPUT 2\n\
+                verdict DROP by rule\n",
+            0,
+        ),
+    ];
+    each_prints(&rt, rt.alloc(), &rows)
+}
+
+#[test]
+fn a_jump_comes_back(rt: HostRuntime) -> Result<(), Fail> {
+    let rows = [(
+        "iptables -N a\n\
+                iptables -A INPUT -j a\n\
+                iptables -A INPUT -j DROP\n\
+                iptables -A a -s 9.9.9.9 -j ACCEPT\n\
+                packet INPUT src=1.1.1.1 dst=2.2.2.2 proto=47\n\
+                packet INPUT src=9.9.9.9 dst=2.2.2.2 proto=47\n",
+        "INPUT 1\n\
+                INPUT 2\n\
+                verdict DROP by rule\n\
+                INPUT 1\n\
+                a 1\n\
+                verdict ACCEPT by rule\n",
+        0,
+    )];
+    each_prints(&rt, rt.alloc(), &rows)
+}
+
+#[test]
+fn return_in_a_built_in_chain_is_its_policy(rt: HostRuntime) -> Result<(), Fail> {
+    let rows = [(
+        "iptables -P INPUT DROP\n\
+                iptables -A INPUT -j RETURN\n\
+                iptables -A INPUT -j ACCEPT\n\
+                packet INPUT src=1.1.1.1 dst=2.2.2.2 proto=47\n",
+        "INPUT 1\n\
+                verdict DROP by policy\n",
+        0,
+    )];
+    each_prints(&rt, rt.alloc(), &rows)
+}
+
+#[test]
+fn each_hook_has_its_chain(rt: HostRuntime) -> Result<(), Fail> {
+    let rows = [(
+        "iptables -P FORWARD DROP\n\
+                iptables -A OUTPUT -j DROP\n\
+                packet INPUT src=1.1.1.1 dst=2.2.2.2 proto=47\n\
+                packet FORWARD src=1.1.1.1 dst=2.2.2.2 proto=47\n\
+                packet OUTPUT src=1.1.1.1 dst=2.2.2.2 proto=47\n",
+        "verdict ACCEPT by policy\n\
+                verdict DROP by policy\n\
+                OUTPUT 1\n\
+                verdict DROP by rule\n",
+        0,
+    )];
+    each_prints(&rt, rt.alloc(), &rows)
+}
+
+#[test]
+fn flags(rt: HostRuntime) -> Result<(), Fail> {
+    let rows = [(
+        "iptables -A INPUT -p tcp --syn -j DROP\n\
+                packet INPUT src=1.1.1.1 dst=2.2.2.2 proto=tcp sport=1000 dport=80 flags=SYN,ACK\n\
+                packet INPUT src=1.1.1.1 dst=2.2.2.2 proto=tcp sport=1000 dport=80 flags=SYN\n",
+        "verdict ACCEPT by policy\n\
+                INPUT 1\n\
+                verdict DROP by rule\n",
+        0,
+    )];
+    each_prints(&rt, rt.alloc(), &rows)
+}
+
+#[test]
+fn a_negated_port_asks_for_the_protocol_and_no_fragment(rt: HostRuntime) -> Result<(), Fail> {
+    let rows = [(
+        "iptables -A INPUT -p tcp ! --dport 80 -j DROP\n\
+                packet INPUT src=1.1.1.1 dst=2.2.2.2 proto=tcp frag=1\n",
+        "verdict ACCEPT by policy\n",
+        0,
+    )];
+    each_prints(&rt, rt.alloc(), &rows)
+}
+
+#[test]
+fn fragments(rt: HostRuntime) -> Result<(), Fail> {
+    let rows = [
+        (
+            "iptables -A INPUT -f -j ACCEPT\n\
+                iptables -A INPUT ! -f -j DROP\n\
+                packet INPUT src=1.1.1.1 dst=2.2.2.2 proto=47 frag=1\n\
+                packet INPUT src=1.1.1.1 dst=2.2.2.2 proto=47\n",
+            "INPUT 1\n\
+                verdict ACCEPT by rule\n\
+                INPUT 2\n\
+                verdict DROP by rule\n",
+            0,
+        ),
+        (
+            "iptables -A INPUT -p icmp -m icmp -j DROP\n\
+                iptables -A INPUT -p udp -m multiport --sports 0:65535 -j DROP\n\
+                iptables -A INPUT -p udp -m udp -j DROP\n\
+                packet INPUT src=1.1.1.1 dst=2.2.2.2 proto=icmp frag=1\n\
+                packet INPUT src=1.1.1.1 dst=2.2.2.2 proto=udp frag=1\n\
+                packet INPUT src=1.1.1.1 dst=2.2.2.2 proto=icmp icmp=1/1\n\
+                packet INPUT src=1.1.1.1 dst=2.2.2.2 proto=udp sport=1 dport=1\n",
+            "verdict ACCEPT by policy\n\
+                verdict ACCEPT by policy\n\
+                INPUT 1\n\
+                verdict DROP by rule\n\
+                INPUT 2\n\
+                verdict DROP by rule\n",
+            0,
+        ),
+    ];
+    each_prints(&rt, rt.alloc(), &rows)
+}
+
+#[test]
+fn a_reject_names_its_type(rt: HostRuntime) -> Result<(), Fail> {
+    let rows = [(
+        "iptables -A INPUT -p icmp --icmp-type ping -j REJECT\n\
+                packet INPUT src=1.1.1.1 dst=2.2.2.2 proto=icmp icmp=8/0\n",
+        "INPUT 1\n\
+                verdict REJECT icmp-port-unreachable by rule\n",
+        0,
+    )];
+    each_prints(&rt, rt.alloc(), &rows)
+}
+
+#[test]
+fn a_missing_interface_has_no_name(rt: HostRuntime) -> Result<(), Fail> {
+    let rows = [(
+        "iptables -A INPUT -i eth0 -j DROP\n\
+                iptables -A INPUT ! -i eth0 -j DROP\n\
+                packet INPUT src=1.1.1.1 dst=2.2.2.2 proto=47\n\
+                packet INPUT src=1.1.1.1 dst=2.2.2.2 proto=47 in=eth0\n\
+                packet INPUT src=1.1.1.1 dst=2.2.2.2 proto=47 in=eth00\n",
+        "INPUT 2\n\
+                verdict DROP by rule\n\
+                INPUT 1\n\
+                verdict DROP by rule\n\
+                INPUT 2\n\
+                verdict DROP by rule\n",
+        0,
+    )];
+    each_prints(&rt, rt.alloc(), &rows)
+}
+
+#[test]
+fn fields_that_a_line_leaves_out(rt: HostRuntime) -> Result<(), Fail> {
+    let rows = [(
+        "iptables -A INPUT -p tcp ! -f -m tcp --tcp-flags ALL NONE -m conntrack --ctstate INVALID -j DROP\n\
+                packet INPUT src=1.1.1.1 dst=2.2.2.2 proto=tcp sport=1 dport=1\n\
+                packet INPUT src=1.1.1.1 dst=2.2.2.2 proto=tcp sport=1 dport=1 flags=SYN\n\
+                packet INPUT src=1.1.1.1 dst=2.2.2.2 proto=tcp sport=1 dport=1 ct=NEW\n\
+                packet INPUT src=1.1.1.1 dst=2.2.2.2 proto=tcp frag=1\n",
+        "INPUT 1\n\
+                verdict DROP by rule\n\
+                verdict ACCEPT by policy\n\
+                verdict ACCEPT by policy\n\
+                verdict ACCEPT by policy\n",
+        0,
+    )];
+    each_prints(&rt, rt.alloc(), &rows)
+}
+
+#[test]
+fn states_of_connections(rt: HostRuntime) -> Result<(), Fail> {
+    let rows = [
+        (
+            "iptables -A INPUT -m conntrack --ctstate NEW -j DROP\n\
+                packet INPUT src=1.1.1.1 dst=2.2.2.2 proto=47 ct=NEW\n",
+            "INPUT 1\n\
+                verdict DROP by rule\n",
+            0,
+        ),
+        (
+            "iptables -A INPUT -m conntrack --ctstate ESTABLISHED -j DROP\n\
+                packet INPUT src=1.1.1.1 dst=2.2.2.2 proto=47 ct=ESTABLISHED,DNAT\n",
+            "INPUT 1\n\
+                verdict DROP by rule\n",
+            0,
+        ),
+        (
+            "iptables -A INPUT -m conntrack --ctstate INVALID -j DROP\n\
+                packet INPUT src=1.1.1.1 dst=2.2.2.2 proto=47 \n",
+            "INPUT 1\n\
+                verdict DROP by rule\n",
+            0,
+        ),
+    ];
+    each_prints(&rt, rt.alloc(), &rows)
+}

@@ -1,0 +1,195 @@
+// Input drawn at random.
+ghost use Rattle.std.specs.Prelude.{◌<◌};
+
+use crate::console::{Console, Ended, Mode};
+use crate::forms::faults_of;
+use std::alloc::Global;
+use std::process::Abort;
+use std::test::Fail;
+
+// The most bytes of an input.
+const MOST: usize = 4096;
+
+// Bytes that separate words and lines, or begin them.
+const SIGNS: &[u8] = b"\n\n -ADIFNXPES*:#\"\\!\t";
+
+// Parts of lines.
+const PARTS: [&str; 48] = [
+    "iptables ",
+    "iptables -A INPUT ",
+    "iptables -A a ",
+    "iptables -I INPUT 1 ",
+    "iptables -R INPUT 1 ",
+    "iptables -D INPUT 1\n",
+    "iptables -N a\n",
+    "iptables -N b\n",
+    "iptables -E a c\n",
+    "iptables -F\n",
+    "iptables -X\n",
+    "iptables -S\n",
+    "iptables -P INPUT DROP\n",
+    "iptables-save\n",
+    "iptables-restore <<E\n",
+    "iptables-restore -n <<E\n",
+    "iptables-restore -t <<COMMIT\n",
+    "lines INPUT\n",
+    "lines a\n",
+    "packet INPUT src=1.1.1.1 dst=2.2.2.2 proto=47\n",
+    "packet FORWARD src=10.1.1.1 dst=2.2.2.2 proto=tcp sport=1 dport=22 in=eth0 out=lo\n",
+    "*filter\n",
+    "*nat\n",
+    "COMMIT\n",
+    "E\n",
+    ":a - [0:0]\n",
+    ":INPUT DROP [1:2]\n",
+    "[3:4] ",
+    "-A FORWARD ",
+    "-N b\n",
+    "! ",
+    "-s 10.0.0.0/8 ",
+    "-d 1.1.1.1 ",
+    "-i eth+ ",
+    "-p tcp ",
+    "--dport 22 ",
+    "--syn ",
+    "-p icmp --icmp-type ping ",
+    "-m state --state NEW ",
+    "-m comment --comment \"a \\\" b\" ",
+    "-m iprange --src-range 1.1.1.1-2.2.2.2 ",
+    "-j DROP\n",
+    "-j a\n",
+    "-g b\n",
+    "-j LOG --log-prefix \"x\"\n",
+    "-j REJECT\n",
+    "\n",
+    "# \"\n",
+];
+
+// Numbers that look random, and are always the same.
+#[derive(Drop)]
+struct Dice {
+    state: u64,
+}
+
+impl Dice {
+    fn below(&mut self, bound: usize) -> usize
+        requires { 0 < bound }
+        ensures { result < bound }
+    {
+        self.state = self
+            .state
+            .wrapping_mul(6364136223846793005)
+            .wrapping_add(1442695040888963407);
+        (self.state >> 33) as usize % bound
+    }
+
+    // Bytes, of which about half are signs.
+    fn bytes(&mut self, alloc: Global) -> Result<Vec<u8>, Fail> {
+        let mut input = Vec::new(alloc);
+        for _ in 0..self.below(MOST + 1) {
+            let byte = if self.below(2) == 0 {
+                SIGNS[self.below(SIGNS.len())]
+            } else {
+                self.below(256) as u8
+            };
+            input.push(byte)?;
+        }
+        Ok(input)
+    }
+
+    // Parts of lines, one after another.
+    fn parts(&mut self, alloc: Global) -> Result<Vec<u8>, Fail> {
+        let mut input = Vec::new(alloc);
+        for _ in 0..self.below(128) {
+            let part = PARTS[self.below(48)].as_bytes();
+            if input.len() + part.len() <= MOST {
+                input.extend_from_slice(part)?;
+            }
+        }
+        Ok(input)
+    }
+}
+
+// The listing of a table restores to the same listing.
+fn listing_restores(rt: &impl Abort, console: &mut Console) -> Result<(), Fail> {
+    let Ended { written, status } = console.run(b"iptables-save")?;
+    assert_eq!(rt; status, 0);
+    let mut other = Console::new(console.alloc)?;
+    let restored = other.restore(Mode::LIST, &written)?;
+    assert_eq!(rt; restored.status, 0);
+    assert!(rt; restored.written.as_slice() == written.as_slice());
+    Ok(())
+}
+
+// Runs an input: each line of the output has one of the forms, and the status is that of the first fault.
+fn is_served(rt: &impl Abort, alloc: Global, input: &[u8], by_lines: bool) -> Result<(), Fail> {
+    let mut console = Console::new(alloc)?;
+    let ended = if by_lines {
+        console.run(input)?
+    } else {
+        console.restore(Mode::LIST, input)?
+    };
+    faults_of(rt, alloc, &ended)?;
+    assert!(rt; ended.status != 4);
+    listing_restores(rt, &mut console)
+}
+
+// Serves so many inputs of bytes, as sessions and as restores in turn.
+fn bytes_are_served(rt: &impl Abort, alloc: Global, state: u64, count: u32) -> Result<(), Fail> {
+    let mut dice = Dice { state };
+    for number in 0..count {
+        let input = dice.bytes(alloc)?;
+        is_served(rt, alloc, &input, number % 2 == 0)?;
+    }
+    Ok(())
+}
+
+// Serves so many inputs of parts of lines.
+fn parts_are_served(rt: &impl Abort, alloc: Global, state: u64, count: u32) -> Result<(), Fail> {
+    let mut dice = Dice { state };
+    for number in 0..count {
+        let input = dice.parts(alloc)?;
+        is_served(rt, alloc, &input, number % 8 != 0)?;
+    }
+    Ok(())
+}
+
+#[test]
+fn bytes_first_quarter(rt: HostRuntime) -> Result<(), Fail> {
+    bytes_are_served(&rt, rt.alloc(), 1, 1250)
+}
+
+#[test]
+fn bytes_second_quarter(rt: HostRuntime) -> Result<(), Fail> {
+    bytes_are_served(&rt, rt.alloc(), 2, 1250)
+}
+
+#[test]
+fn bytes_third_quarter(rt: HostRuntime) -> Result<(), Fail> {
+    bytes_are_served(&rt, rt.alloc(), 3, 1250)
+}
+
+#[test]
+fn bytes_fourth_quarter(rt: HostRuntime) -> Result<(), Fail> {
+    bytes_are_served(&rt, rt.alloc(), 4, 1250)
+}
+
+#[test]
+fn parts_of_lines_first_quarter(rt: HostRuntime) -> Result<(), Fail> {
+    parts_are_served(&rt, rt.alloc(), 5, 1250)
+}
+
+#[test]
+fn parts_of_lines_second_quarter(rt: HostRuntime) -> Result<(), Fail> {
+    parts_are_served(&rt, rt.alloc(), 6, 1250)
+}
+
+#[test]
+fn parts_of_lines_third_quarter(rt: HostRuntime) -> Result<(), Fail> {
+    parts_are_served(&rt, rt.alloc(), 7, 1250)
+}
+
+#[test]
+fn parts_of_lines_fourth_quarter(rt: HostRuntime) -> Result<(), Fail> {
+    parts_are_served(&rt, rt.alloc(), 8, 1250)
+}
