@@ -1,12 +1,14 @@
-//! The program `bench`: the classifier's times and memory, beside a plain walk over the boxes.
+//! The program `bench`: the classifier's times and memory, beside a plain walk over the boxes, and the times of sessions.
 //!
 //! `bench N ..` prints them for each number N of rules, up to 8,192. With no number it compares the searches
-//! of a few points with the plain walk's, and prints only what never varies.
+//! of a few points with the plain walk's, and the replies of a few sessions with those that are due, and prints only what
+//! never varies.
 #![tactic(auto)]
 
 mod agree;
 mod measure;
 mod sample;
+mod script;
 mod walk;
 
 use anyhow::Result;

@@ -3,11 +3,13 @@
 ghost use Rattle.classify.specs.classifier.Classifier.{IsPoint};
 
 use crate::sample::{self, Rule};
+use crate::script::Script;
 use crate::walk;
 use anyhow::Result;
 use classify::{Classifier, PIECE_BYTES};
 use fields::{FIELDS, Field};
 use rules::Boxed;
+use sessions::Session;
 use std::alloc::Global;
 use std::rt::Clock;
 use std::time::Instant;
@@ -20,6 +22,9 @@ const ROUNDS: usize = 200;
 
 /// How many boxes the plain walks pass over, all of them together.
 const WALKED: usize = 20_000_000;
+
+/// How many packet lines a session is asked.
+const PACKETS: usize = 1_000_000;
 
 /// Which rule allows the points.
 #[derive(Clone, Copy)]
@@ -147,6 +152,40 @@ fn print_memory(rt: &impl Print, classifier: &Classifier) -> Result<()> {
     Ok(())
 }
 
+/// Prints what a script takes in a session, and what it reads and writes.
+fn print_script<R: Print + Clock + AllocGlobal>(
+    rt: &R,
+    session: &mut Session,
+    name: &str,
+    script: &Script,
+) -> Result<()> {
+    let room = script.room(rt.alloc())?;
+    let start = Instant::now(rt)?;
+    let writer = script.run(session, room);
+    let took = start.elapsed(rt)?.as_micros();
+    let (read, written) = (script.input_bytes(), script.wanted_bytes());
+    println!(rt; "  {name:<20} {took:>9} us, {read} bytes read, {written} bytes written")?;
+    if !script.is_met(&writer) {
+        println!(rt; "  its output went wrong")?;
+    }
+    Ok(())
+}
+
+/// Prints what a restore of so many rules, their listing, and packet lines take in a session.
+fn print_session<R: Print + Clock + AllocGlobal>(rt: &R, count: usize) -> Result<()> {
+    let alloc = rt.alloc();
+    let rules = sample::rules(alloc, count)?;
+    let mut session = Session::new(alloc)?;
+    println!(rt; "  in a session")?;
+    let restore = Script::restore(alloc, rules.as_slice())?;
+    print_script(rt, &mut session, "restore", &restore)?;
+    let listing = Script::listing(alloc, rules.as_slice())?;
+    print_script(rt, &mut session, "listing", &listing)?;
+    let packets = Script::packets(alloc, count, PACKETS)?;
+    let name = format!(in alloc; "{PACKETS} packet lines")?;
+    print_script(rt, &mut session, name.as_str(), &packets)
+}
+
 /// Prints the times and the memory for so many rules.
 pub(crate) fn run<R: Print + Clock + AllocGlobal>(rt: &R, count: usize) -> Result<()> {
     let alloc = rt.alloc();
@@ -164,5 +203,6 @@ pub(crate) fn run<R: Print + Clock + AllocGlobal>(rt: &R, count: usize) -> Resul
     println!(rt; "  each put last: {end} us")?;
     print_memory(rt, &classifier)?;
     let boxes = sample::boxes(alloc, count)?;
-    print_searches(rt, &classifier, &boxes)
+    print_searches(rt, &classifier, &boxes)?;
+    print_session(rt, count)
 }

@@ -49,15 +49,29 @@ impl Rule {
         }
     }
 
-    fn text(self, alloc: Global) -> Result<String> {
+    /// The rule as a listing has it, without its chain.
+    pub(crate) fn text(self, alloc: Global) -> Result<String> {
         let [a, b, c, _] = self.source.to_be_bytes();
         let [d, e, f, _] = self.destination.to_be_bytes();
         let sport = self.source_port;
         let dport = self.destination_port;
         let text = format!(in alloc;
-            "-s {a}.{b}.{c}.0/24 -d {d}.{e}.{f}.0/24 -p tcp --sport {sport} --dport {dport} -j ACCEPT"
+            "-s {a}.{b}.{c}.0/24 -d {d}.{e}.{f}.0/24 -p tcp -m tcp --sport {sport} --dport {dport} -j ACCEPT"
         )?;
         Ok(text)
+    }
+
+    /// The line of a packet that the rule allows; there are 256 of them.
+    pub(crate) fn packet(self, alloc: Global, host: usize) -> Result<String> {
+        let [a, b, c, _] = self.source.to_be_bytes();
+        let [d, e, f, g] = self.destination.to_be_bytes();
+        let host = host % 256;
+        let sport = self.source_port;
+        let dport = self.destination_port;
+        let line = format!(in alloc;
+            "packet INPUT src={a}.{b}.{c}.{host} dst={d}.{e}.{f}.{g} proto=tcp sport={sport} dport={dport}\n"
+        )?;
+        Ok(line)
     }
 
     /// A point that the rule allows; there are 256 of them.
@@ -79,6 +93,15 @@ impl Rule {
             0,
         ]
     }
+}
+
+/// The rules of so many places, in their order.
+pub(crate) fn rules(alloc: Global, count: usize) -> Result<Vec<Rule>> {
+    let mut rules = Vec::with_capacity(alloc, count)?;
+    for place in 0..count {
+        rules.push(Rule::of(place))?;
+    }
+    Ok(rules)
 }
 
 /// The box of a rule, read from its text.
