@@ -33,7 +33,6 @@ fn after_blanks(line: &[u8]) -> &[u8]
     rest
 }
 
-
 /// Whether a line is blank, or a comment: its first byte other than a blank or tab is `#`. It takes no memory.
 pub fn is_quiet(line: &[u8]) -> bool
     ensures { result ≡ is_quiet line.now }
