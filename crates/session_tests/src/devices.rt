@@ -12,12 +12,9 @@ use std::test::Fail;
 // More calls than any run here makes.
 const CALLS: u32 = 100_000;
 
-// How many bytes the reader has given.
-fn taken(input: &str, ran: &Ran<'_>) -> usize {
-    input
-        .as_bytes()
-        .len()
-        .saturating_sub(ran.reader.rest().len())
+// The bytes that the reader has given.
+fn given<'a>(input: &'a [u8], ran: &Ran<'_>) -> &'a [u8] {
+    &input[..input.len().saturating_sub(ran.reader.rest().len())]
 }
 
 // Compares the listing of a session with that of another, which got these lines without a failure.
@@ -57,8 +54,7 @@ fn read_fails(rt: &impl Abort, alloc: Global, script: Script, reads: Fuse) -> Re
     if ran.reader.failed_at().is_none() {
         return Ok(false);
     }
-    let given = taken(input.as_str(), &ran);
-    let whole = line_count(&input.as_bytes()[..given]);
+    let whole = line_count(given(input.as_bytes(), &ran));
     let replies = script.replies(alloc, whole)?;
     assert!(rt; ran.writer.written() == replies.as_bytes(), "{input}");
     let mut lines = String::new(alloc);
@@ -105,8 +101,7 @@ fn write_fails(rt: &impl Abort, alloc: Global, script: Script, writes: Fuse) -> 
     if ran.writer.failed_at().is_none() {
         return Ok(false);
     }
-    let given = taken(input.as_str(), &ran);
-    let lines = &input.as_bytes()[..given];
+    let lines = given(input.as_bytes(), &ran);
     assert!(rt; lines.ends_with(b"\n"));
     let count = line_count(lines);
     let output = script.output(alloc)?;

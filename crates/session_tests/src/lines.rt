@@ -24,13 +24,20 @@ const FIELDS: [(&str, &str); 11] = [
 type Pieces<'a> = (&'a str, &'a str);
 
 // The pieces of some fields; each other field has one piece, which all rules allow.
-fn lines_of(alloc: Global, all: &str, pieces: &[Pieces<'_>]) -> Result<String, Fail> {
-    let mut text = String::new(alloc);
+fn lines_of(alloc: Global, all: &str, pieces: &[Pieces<'_>]) -> Result<Vec<u8>, Fail> {
+    let mut text = Vec::new(alloc);
     for (name, start) in FIELDS {
+        text.extend_from_slice(name.as_bytes())?;
+        text.push(b' ')?;
         match pieces.iter().find(|given| given.0 == name) {
-            Some((_, given)) => write!(text, "{name} {given}\n")?,
-            None => write!(text, "{name} {start}:{all}\n")?,
+            Some((_, given)) => text.extend_from_slice(given.as_bytes())?,
+            None => {
+                text.extend_from_slice(start.as_bytes())?;
+                text.push(b':')?;
+                text.extend_from_slice(all.as_bytes())?;
+            }
         }
+        text.push(b'\n')?;
     }
     Ok(text)
 }
@@ -45,7 +52,10 @@ fn shows(
 ) -> Result<(), Fail> {
     console.prints(rt, commands, "", 0)?;
     let output = lines_of(console.alloc, all, pieces)?;
-    console.prints(rt, "lines INPUT\n", output.as_str(), 0)
+    let shown = console.run(b"lines INPUT\n")?;
+    assert!(rt; shown.written.as_slice() == output.as_slice());
+    assert_eq!(rt; shown.status, 0);
+    Ok(())
 }
 
 // Compares the lines of INPUT that has one rule.
