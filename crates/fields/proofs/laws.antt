@@ -1,4 +1,5 @@
 pub mod ListLaws
+pub mod PlaceLaws
 pub mod devices
 pub mod numbers
 pub mod packet

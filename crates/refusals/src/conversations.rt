@@ -5,6 +5,19 @@ use fields::Tap;
 use sessions::{RunFault, Session};
 use std::alloc::Global;
 
+/// The classifier of a chain without rules.
+const NO_RULE: &[u8] = b"src 0:{}\n\
+    dst 0:{}\n\
+    in 00000000000000000000000000000000:{}\n\
+    out 00000000000000000000000000000000:{}\n\
+    proto 0:{}\n\
+    frag 0:{}\n\
+    sport 0:{}\n\
+    dport 0:{}\n\
+    flags 0:{}\n\
+    icmp 0:{}\n\
+    ct 0:{}\n";
+
 /// The lines that make the table with a chain `a` and a rule of INPUT.
 const START: [&[u8]; 2] = [b"iptables -N a", b"iptables -A INPUT -s 10.0.0.0/8 -j DROP"];
 
@@ -101,12 +114,7 @@ pub fn lines(alloc: Global, refusals: &mut Refusals) -> Result<(), Trouble> {
             0,
             WITH_ONE,
         ),
-        (
-            b"lines a",
-            b"src 0:{}\ndst 0:{}\nin 00000000000000000000000000000000:{}\nout 00000000000000000000000000000000:{}\nproto 0:{}\nfrag 0:{}\nsport 0:{}\ndport 0:{}\nflags 0:{}\nicmp 0:{}\nct 0:{}\n",
-            0,
-            WITH_ONE,
-        ),
+        (b"lines a", NO_RULE, 0, WITH_ONE),
         (
             b"packet INPUT src=10.0.0.1",
             b"line 1: F2 key missing\n",

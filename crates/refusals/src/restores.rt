@@ -1,7 +1,7 @@
 //! Restores: lines done to the table in place.
 use crate::case::{Refusals, Trouble, again, expect, expect_kept};
 use crate::listings::{WITH_ONE, has_listing};
-use crate::sections::{QUIET, TOO_LONG, is_out_of_memory, trouble_of};
+use crate::sections::{QUIET, TOO_LONG, trouble_of};
 use crate::tables::with_one;
 use restore::{Restore, RestoreFault};
 use rules::Work;
@@ -37,7 +37,7 @@ fn answer(
         match answer {
             Ok(()) => return Ok(Ok(())),
             Err(fault) => {
-                if !is_out_of_memory(fault) {
+                if !fault.is_out_of_memory() {
                     return Ok(Err(fault));
                 }
             }

@@ -3,7 +3,7 @@ use crate::case::{Refusals, Trouble, again, expect, expect_kept};
 use crate::listings::{WITH_ONE, has_listing};
 use crate::tables::with_one;
 use restore::{CommandFault, RestoreFault, Transaction};
-use rules::{RuleFault, Work};
+use rules::Work;
 use std::alloc::Global;
 use table::{Table, TableFault};
 
@@ -13,19 +13,9 @@ pub const TOO_LONG: [u8; 10_241] = [b'#'; 10_241];
 /// Lines that ask nothing.
 pub const QUIET: [&[u8]; 3] = [b"", b" \t", b"\t# a \"b"];
 
-/// Whether a fault says that memory was refused.
-pub fn is_out_of_memory(fault: RestoreFault) -> bool {
-    match fault {
-        RestoreFault::NoMemory
-        | RestoreFault::Table(TableFault::NoMemory)
-        | RestoreFault::Command(CommandFault::Rule(RuleFault::NoMemory)) => true,
-        _ => false,
-    }
-}
-
 /// What a fault comes to where a line that takes no memory has to be accepted.
 pub fn trouble_of(fault: RestoreFault) -> Trouble {
-    if is_out_of_memory(fault) {
+    if fault.is_out_of_memory() {
         Trouble::Needless
     } else {
         Trouble::OtherAnswer
@@ -62,7 +52,7 @@ fn answer(
         match answer {
             Ok(next) => return Ok(Ok(next)),
             Err(fault) => {
-                if !is_out_of_memory(fault) {
+                if !fault.is_out_of_memory() {
                     return Ok(Err(fault));
                 }
             }

@@ -1,4 +1,7 @@
 //! Why words are no command, and why a restore is refused.
+ghost use Rattle.std.specs.Prelude.{◌≡◌};
+ghost use Rattle.restore.specs.sections.Section.{is_out_of_memory};
+
 use rules::RuleFault;
 use table::TableFault;
 use thiserror::Error;
@@ -53,4 +56,18 @@ pub enum RestoreFault {
     /// M0: memory was refused for the words of the line, or for the table of a section.
     #[error("no memory")]
     NoMemory,
+}
+
+impl RestoreFault {
+    /// Whether it says that memory was refused, whatever asked for it.
+    pub fn is_out_of_memory(self) -> bool
+        ensures { result ≡ is_out_of_memory self }
+    {
+        matches!(
+            self,
+            RestoreFault::NoMemory
+                | RestoreFault::Table(TableFault::NoMemory)
+                | RestoreFault::Command(CommandFault::Rule(RuleFault::NoMemory))
+        )
+    }
 }

@@ -2,7 +2,6 @@
 ghost use Rattle.std.specs.Prelude.{◌≡◌};
 ghost use Rattle.sessions.specs.lines.Fault.{command_text, fault_status, fault_text, line_text, line_status, of_line};
 ghost use Rattle.sessions.specs.lines.Fault.{packet_text, refusal_text, rule_text, table_text};
-ghost use Rattle.restore.specs.sections.Section.{is_out_of_memory};
 
 use fields::PacketFault;
 use restore::{CommandFault, RestoreFault};
@@ -24,18 +23,6 @@ pub(crate) enum Fault {
     EndWordMissing,
     /// M0: memory was refused.
     NoMemory,
-}
-
-// Whether memory was refused.
-fn is_out_of_memory(fault: RestoreFault) -> bool
-    ensures { result ≡ is_out_of_memory fault }
-{
-    matches!(
-        fault,
-        RestoreFault::NoMemory
-            | RestoreFault::Table(TableFault::NoMemory)
-            | RestoreFault::Command(CommandFault::Rule(RuleFault::NoMemory))
-    )
 }
 
 fn refusal_text(refusal: Refusal) -> &'static [u8]
@@ -151,7 +138,7 @@ impl Fault {
     pub(crate) fn of_line(fault: RestoreFault) -> Fault
         ensures { result ≡ of_line fault }
     {
-        if is_out_of_memory(fault) {
+        if fault.is_out_of_memory() {
             return Fault::NoMemory;
         }
         Fault::Line(fault)
@@ -176,7 +163,7 @@ impl Fault {
         ensures { result ≡ fault_status self }
     {
         match self {
-            Fault::Line(fault) if is_out_of_memory(fault) => 4,
+            Fault::Line(fault) if fault.is_out_of_memory() => 4,
             Fault::Line(fault) => line_status(fault),
             Fault::Packet(_) | Fault::UnknownLine | Fault::BadRestoreLine | Fault::EndWordMissing =>
                 2,

@@ -288,7 +288,7 @@ impl Session {
         }
     }
 
-    // The same, of a table of which the laws of tables and restores are called.
+    // The same, and what holds of the table afterwards: its listing restores it, with the classifiers that it has.
     fn serve_all<R: BufRead, W: Write>(
         &mut self,
         progress: &mut Progress,

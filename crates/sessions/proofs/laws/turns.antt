@@ -1,3 +1,4 @@
 pub mod PlaceLaws
+pub mod ResultLaws
 pub mod TurnLaws
 pub mod LineLaws

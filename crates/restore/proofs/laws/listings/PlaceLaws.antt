@@ -18,7 +18,7 @@ use Rattle.table.specs.chains.Sound.{AreListed, IsSound, IsUserName}
 use Rattle.table.specs.chains.Table.{Chain, Table, built_in_names, chain_at, comes_before, empty_chain, is_built_in, is_named, names_of, policy_of}
 use Rattle.table.specs.declared.policy.Policy.{Policy}
 use Rattle.restore.specs.listings.Listing.{head_line, listed_chains, rule_lines, rules_listing}
-use Rattle.restore.proofs.laws.sections.ChainLaws.{any_is}
+use Rattle.fields.proofs.laws.PlaceLaws.{any_is}
 
 -- Names differ
 

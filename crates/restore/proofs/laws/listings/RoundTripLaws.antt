@@ -26,7 +26,7 @@ use Rattle.restore.proofs.laws.listings.MakingLaws.{AreListed, IsChainName, all_
 use Rattle.restore.proofs.laws.listings.NewNameLaws.{AreDifferent, all_different}
 use Rattle.restore.proofs.laws.listings.RunLaws.{Runs, inside_is, runs_append, runs_in_restore, runs_in_section, standing}
 use Rattle.restore.proofs.laws.listings.TextLaws.{body, listing_lines}
-use Rattle.restore.proofs.laws.sections.ChainLaws.{any_is}
+use Rattle.fields.proofs.laws.PlaceLaws.{any_is}
 
 -- The names of the chains
 

@@ -19,6 +19,7 @@ use Rattle.sessions.specs.lines.Turn.{Spot, Outside, Passing, Within, Turn, ende
 use Rattle.sessions.specs.steps.Served.{Comes, IsTurn, IsTurnOf, RanOut}
 use Rattle.sessions.specs.declared.reply.Answer.TheVariants as answers
 use Rattle.sessions.specs.declared.turn.Turn as made
+use Rattle.sessions.proofs.laws.turns.ResultLaws.{err_is, ok_is, ok≢err}
 use Rattle.sessions.proofs.laws.turns.TurnLaws.{fails_on, fails_turn, silent_turn}
 
 -- the line isn't marked
@@ -144,15 +145,6 @@ within_long text word r v t other long s reply =
     inside text word r v v t other
     (subst (λ (b : Bool). IsTurn (restore_turn v.table word r (cond b (Err LineTooLong) (line_at r.place r v.table text))) v t) (sym (too_long_is text long))
     (fails_turn v t (Within word r) (OfLine LineTooLong) s reply))
-
-ok≢err : {A E : Type 0} (x : A) (e : E) → Ok x ≡ Err e → ⊥
-ok≢err {A = A} {E = E} x e is = false≢true (sym (ap (λ (r : Result A E). let b : Bool = elim r [ Ok y ↦ true | Err f ↦ false ] in b) is))
-
-err_is : (e f : RestoreFault) → (let r : Result Restore RestoreFault = Err e in r) ≡ Err f → e ≡ f
-err_is e f is = ap (λ (r : Result Restore RestoreFault). let x : RestoreFault = elim r [ Ok y ↦ e | Err g ↦ g ] in x) is
-
-ok_is : (a b : Restore) → (let r : Result Restore RestoreFault = Ok a in r) ≡ Ok b → a ≡ b
-ok_is a b is = ap (λ (r : Result Restore RestoreFault). let x : Restore = elim r [ Ok y ↦ y | Err g ↦ a ] in x) is
 
 -- a line that was accepted
 accepted : (s : Restoring) (word : Option (List ℕ)) (r next : Restore) (old new : TableView) (t : made.Turn) → (let x : Result Restore RestoreFault = Ok next in x) ≡ Ok s.restore → new.table ≡ s.table

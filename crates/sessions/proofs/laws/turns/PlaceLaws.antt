@@ -1,31 +1,14 @@
 -- The chain of a name stands at its place.
 use Rattle.std.proofs.Common.{◌≡◌, inl, inr, ℕ, zero, suc, ◌+◌, ◌<◌, ◌||◌, Bool, true, false, cond, not, List, [], ◌∷◌, length, ltb, get_or, refl, sym, ap, ◌∙◌, Option, Some, None, is_some, arith}
 use Rattle.std.specs.List.{list_any, position, position_or_len}
-use Rattle.std.proofs.lemmas.Bool.{cases_lt, lt-ltb, le-ltb}
 use Rattle.std.proofs.lemmas.List.Quantifiers.{position-Some}
 use Rattle.std.proofs.lemmas.Slice.Eq.{bytes_eq-Decides}
+use Rattle.fields.proofs.laws.PlaceLaws.{any_is}
 use Rattle.table.specs.chains.Table.{Chain, Table, chain_at, empty_chain, has_chain, is_named, rules_of}
-
-some_is : {A : Type 0} (b : Bool) (x : A) → is_some (cond b (Some x) None) ≡ b
-some_is true x = refl
-some_is false x = refl
-
-found : {A : Type 0} (p : A → Bool) (xs : List A) → ltb (position_or_len p xs) (length xs) ≡ list_any p xs
-found p [] = refl
-found p (x ∷ xs) =
-    let n : ℕ = position_or_len p xs in
-    elim (p x) as (λ b. ltb (cond (not b) (1 + n) 0) (length (x ∷ xs)) ≡ (b || list_any p xs)) [
-      | true ↦ lt-ltb 0 (length (x ∷ xs)) (omega arith)
-      | false ↦ elim (cases_lt n (length xs)) [
-        | inl lt ↦ lt-ltb (1 + n) (length (x ∷ xs)) (omega arith) ∙ sym (lt-ltb n (length xs) lt) ∙ found p xs
-        | inr ge ↦ le-ltb (1 + n) (length (x ∷ xs)) (omega arith) ∙ sym (le-ltb n (length xs) ge) ∙ found p xs
-      ]
-    ]
 
 -- a chain of the name is there exactly where one has a place
 pub there_is : (t : Table) (name : List ℕ) (place : Option ℕ) → place ≡ position (is_named name) t.chains → has_chain t name ≡ is_some place
-there_is t name place is =
-    sym (found (is_named name) t.chains) ∙ sym (some_is (ltb (position_or_len (is_named name) t.chains) (length t.chains)) (position_or_len (is_named name) t.chains)) ∙ ap is_some (sym is)
+there_is t name place is = sym (any_is (is_named name) t.chains) ∙ ap is_some (sym is)
 
 -- the chain of a name, by its place
 pub record IsAt (t : Table) (name : List ℕ) (place : ℕ) : Type 0 where

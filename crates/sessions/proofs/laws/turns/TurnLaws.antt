@@ -2,7 +2,6 @@
 use Rattle.std.proofs.Common.{◌≡◌, inl, inr, ℕ, ◌&&◌, Bool, true, false, cond, List, refl, sym, ap, subst, ◌∙◌, Some, None, Result, Ok, Err}
 use Rattle.std.specs.Bool.{MatchBool}
 use Rattle.std.specs.List.{position}
-use Rattle.std.proofs.lemmas.Bool.{false≢true}
 use Rattle.table.specs.chains.Table.{Table, TableView, has_chain, is_named, rules_of}
 use Rattle.table.specs.edits.Edits.{Answers, Edit, IsStepIfRoom, may_grow, step as table_step}
 use Rattle.table.specs.declared.fault.TableFault.{TableFault}
@@ -18,6 +17,7 @@ use Rattle.sessions.specs.steps.Served.{Comes, HasPlace, IsReply, IsTurn}
 use Rattle.sessions.specs.declared.reply.Answer.{Answer}
 use Rattle.sessions.specs.declared.reply.Answer.TheVariants as answers
 use Rattle.sessions.specs.declared.turn.Turn as made
+use Rattle.sessions.proofs.laws.turns.ResultLaws.{err_is, ok≢err}
 use Rattle.sessions.proofs.laws.turns.PlaceLaws.{is_at, there_is}
 
 -- a turn of these parts
@@ -44,12 +44,6 @@ pub fails_on : (old new : TableView) (t : made.Turn) (from : Spot) (fault : Faul
 fails_on old new t from fault same s r = subst (λ (x : TableView). IsTurn (fails x.table from fault) new t) same (fails_turn new t from fault s r)
 
 -- Edits
-
-ok≢err : {A E : Type 0} (x : A) (e : E) → Ok x ≡ Err e → ⊥
-ok≢err {A = A} {E = E} x e is = false≢true (sym (ap (λ (r : Result A E). let b : Bool = elim r [ Ok y ↦ true | Err f ↦ false ] in b) is))
-
-err_is : (e f : TableFault) → (let r : Result (Unit {0}) TableFault = Err e in r) ≡ Err f → e ≡ f
-err_is e f is = ap (λ (r : Result (Unit {0}) TableFault). let x : TableFault = elim r [ Ok y ↦ e | Err g ↦ g ] in x) is
 
 -- an edit that was done
 done : (given : Result Table TableFault) (old new : TableView) (u : Unit {0}) → Answers given old new (Ok u) → given ≡ Ok new.table
