@@ -2,7 +2,7 @@
 use crate::fault::ProgramFault;
 use crate::job::{Job, LineFault, Task};
 use fields::Tap;
-use sessions::Session;
+use sessions::{RunFault, Session};
 use std::alloc::{AllocError, Global};
 use std::io::{self, BufReader, BufWriter, ErrorKind, Read, Write};
 use std::rt::{Env, Files};
@@ -133,6 +133,19 @@ fn serve<'a, R: Read + Drop, W: Write + Drop>(
     let Ok(writer) = BufWriter::with_capacity(alloc, REPLY_BUFFER, writer) else {
         return Err(ProgramFault::NoMemory);
     };
+    let (served, _writer) = serve_between(session, task, list, reader, writer);
+    Ok(served?)
+}
+
+// Does a task from a reader to a writer, and answers with the writer. Each reply was flushed, so what its buffer holds at
+// the end is what a failed write left: it is not written again.
+fn serve_between<R: Read + Drop, W: Write + Drop>(
+    session: &mut Session,
+    task: Task,
+    list: bool,
+    reader: BufReader<R>,
+    writer: BufWriter<W>,
+) -> (Result<u8, RunFault>, W) {
     let mut input = Tap::new(reader);
     let mut output = Tap::new(writer);
     let served = match task {
@@ -141,7 +154,9 @@ fn serve<'a, R: Read + Drop, W: Write + Drop>(
             session.restore(noflush, test, list && !test, &mut input, &mut output)
         }
     };
-    // Each reply was flushed, so what the buffer holds now is what a failed write left: it is not written again.
-    let (_writer, _unwritten) = output.into_device().into_parts();
-    Ok(served?)
+    let (writer, _unwritten) = output.into_device().into_parts();
+    (served, writer)
 }
+
+#[cfg(test)]
+mod tests;

@@ -7,8 +7,6 @@ mod bytes;
 #[cfg(test)]
 mod commands;
 #[cfg(test)]
-mod device;
-#[cfg(test)]
 mod faults;
 #[cfg(test)]
 mod filter;

@@ -1,7 +1,6 @@
 // Listings: of writers that fail, and restored.
-use crate::device::Narrow;
 use crate::filter::{EMPTY, Filter, Mode};
-use fields::{Tap, WriteFailed};
+use fields::{Failure, Fuse, FusedWriter, Tap, WriteFailed};
 use restore::{listings_restore, write_listing, write_rules};
 use std::alloc::Global;
 use std::process::Abort;
@@ -146,50 +145,76 @@ fn rules_that_are_listed(rt: HostRuntime) -> Result<(), Fail> {
     Ok(())
 }
 
-// A tap over a writer that fails after so many bytes.
-fn narrow(alloc: Global, room: usize, step: usize, errs: bool) -> Tap<Narrow> {
-    Tap::new(Narrow {
-        written: Vec::new(alloc),
-        room,
-        step,
-        errs,
-    })
+// More bytes than a listing here has.
+const ROOM: usize = 4096;
+
+// A tap over a writer that takes so many bytes a call at most, and fails at one call.
+fn failing(
+    alloc: Global,
+    most: usize,
+    call: u32,
+    failure: Failure,
+) -> Result<Tap<FusedWriter>, Fail> {
+    let room = Vec::with_capacity(alloc, ROOM)?;
+    let fuse = Fuse::failing(most, call, failure);
+    Ok(Tap::new(FusedWriter::new(room, fuse)))
 }
 
-// Compares what a writer with so much room got with the text, and the answer.
-fn got(
+// Compares the answer with what the writer did, and what it got with the text. It says whether the writer failed: then it
+// was called no more.
+fn fails_with_its_writer(
     rt: &impl Abort,
     answer: Result<(), WriteFailed>,
-    output: Tap<Narrow>,
-    room: usize,
+    output: Tap<FusedWriter>,
     text: &str,
+) -> bool {
+    let tap_failed = output.failed();
+    let writer = output.into_device();
+    let failed = writer.failed_at();
+    assert!(rt; answer.is_err() == failed.is_some());
+    assert!(rt; tap_failed == failed.is_some());
+    assert!(rt; text.as_bytes().starts_with(writer.written()));
+    match failed {
+        Some(call) => assert!(rt; writer.calls() == u64::from(call).saturating_add(1)),
+        None => assert!(rt; writer.written() == text.as_bytes()),
+    }
+    failed.is_some()
+}
+
+// Each call of a writer fails in turn, as long as there is one.
+fn each_call_fails(
+    rt: &impl Abort,
+    filter: &Filter,
+    rules: &str,
+    most: usize,
+    failure: Failure,
 ) -> Result<(), Fail> {
-    let bytes = text.as_bytes();
-    let fits = bytes.len() <= room;
-    assert!(rt; answer.is_ok() == fits, "{room}");
-    assert!(rt; output.failed() != fits, "{room}");
-    let device = output.into_device();
-    let count = room.min(bytes.len());
-    assert!(rt; device.written.as_slice() == &bytes[..count], "{room}");
+    let alloc = filter.alloc;
+    for call in 0..ROOM as u32 {
+        let mut output = failing(alloc, most, call, failure)?;
+        let answer = write_rules(&filter.table, Some(b"ab"), &mut output);
+        fails_with_its_writer(rt, answer, output, "-N ab\n-A ab -j b\n");
+        let mut output = failing(alloc, most, call, failure)?;
+        let answer = write_rules(&filter.table, None, &mut output);
+        let ruled = fails_with_its_writer(rt, answer, output, rules);
+        let mut output = failing(alloc, most, call, failure)?;
+        let answer = write_listing(&filter.table, &mut output);
+        let listed = fails_with_its_writer(rt, answer, output, ODD_LISTING);
+        if !ruled && !listed {
+            return Ok(());
+        }
+    }
+    assert!(rt; false, "no listing ended");
     Ok(())
 }
 
 #[test]
-fn writers_that_fail_at_each_byte(rt: HostRuntime) -> Result<(), Fail> {
-    let alloc = rt.alloc();
-    let filter = Filter::after(&rt, alloc, &ODD)?;
+fn writers_that_fail_at_each_call(rt: HostRuntime) -> Result<(), Fail> {
+    let filter = Filter::after(&rt, rt.alloc(), &ODD)?;
     let rules = filter.rules(&rt, None)?;
-    for room in 0..=ODD_LISTING.as_bytes().len() {
-        for (step, errs) in [(1000, true), (1000, false), (1, true), (1, false)] {
-            let mut output = narrow(alloc, room, step, errs);
-            let answer = write_listing(&filter.table, &mut output);
-            got(&rt, answer, output, room, ODD_LISTING)?;
-            let mut output = narrow(alloc, room, step, errs);
-            let answer = write_rules(&filter.table, None, &mut output);
-            got(&rt, answer, output, room, rules.as_str())?;
-            let mut output = narrow(alloc, room, step, errs);
-            let answer = write_rules(&filter.table, Some(b"ab"), &mut output);
-            got(&rt, answer, output, room, "-N ab\n-A ab -j b\n")?;
+    for most in [1, usize::MAX] {
+        for failure in [Failure::Error, Failure::Nothing] {
+            each_call_fails(&rt, &filter, rules.as_str(), most, failure)?;
         }
     }
     Ok(())
@@ -200,12 +225,12 @@ fn a_tap_that_failed_before(rt: HostRuntime) -> Result<(), Fail> {
     let alloc = rt.alloc();
     let filter = Filter::new(alloc)?;
     for chain in [None, Some("INPUT"), Some("nowhere")] {
-        let mut output = narrow(alloc, 3, 1000, true);
+        let mut output = failing(alloc, 1, 3, Failure::Error)?;
         assert!(&rt; output.put(b"abcd").is_err());
         assert!(&rt; write_listing(&filter.table, &mut output).is_err());
         let chain = chain.map(|name| name.as_bytes());
         assert!(&rt; write_rules(&filter.table, chain, &mut output).is_err());
-        assert_eq!(&rt; output.into_device().written.as_slice(), b"abc".as_slice());
+        assert!(&rt; output.into_device().written() == b"abc".as_slice());
     }
     Ok(())
 }

@@ -159,9 +159,9 @@ fn each_reply_is_handed_on(rt: HostRuntime) -> Result<(), Fail> {
     Ok(())
 }
 
-#[test]
-fn devices_that_move_few_bytes_a_call(rt: HostRuntime) -> Result<(), Fail> {
-    let alloc = rt.alloc();
+// Each script with its status, over devices that move so many bytes a call at most: all lines are read and all replies
+// are written.
+fn ends_whole(rt: &impl Abort, alloc: Global, read: usize, write: usize) -> Result<(), Fail> {
     for (script, status) in [
         (LISTING, 0),
         (WALK, 0),
@@ -173,21 +173,34 @@ fn devices_that_move_few_bytes_a_call(rt: HostRuntime) -> Result<(), Fail> {
     ] {
         let input = script.input(alloc)?;
         let output = script.output(alloc)?;
-        for (read, write) in [(1, usize::MAX), (usize::MAX, 1), (1, 1), (7, 3)] {
-            let mut session = Session::new(alloc)?;
-            let (reads, writes) = (Fuse::never(read), Fuse::never(write));
-            let ran = called(
-                alloc,
-                &mut session,
-                script.call,
-                input.as_bytes(),
-                reads,
-                writes,
-            )?;
-            assert!(&rt; ran.answer == Ok(status), "{input}");
-            assert!(&rt; ran.writer.written() == output.as_bytes(), "{input}");
-            assert!(&rt; ran.reader.rest().is_empty());
-        }
+        let mut session = Session::new(alloc)?;
+        let (reads, writes) = (Fuse::never(read), Fuse::never(write));
+        let ran = called(
+            alloc,
+            &mut session,
+            script.call,
+            input.as_bytes(),
+            reads,
+            writes,
+        )?;
+        assert!(rt; ran.answer == Ok(status), "{input}");
+        assert!(rt; ran.writer.written() == output.as_bytes(), "{input}");
+        assert!(rt; ran.reader.rest().is_empty());
+    }
+    Ok(())
+}
+
+// With ample memory nothing is out of memory.
+#[test]
+fn always_out_of_memory(rt: HostRuntime) -> Result<(), Fail> {
+    ends_whole(&rt, rt.alloc(), usize::MAX, usize::MAX)
+}
+
+// Devices that move few bytes a call don't fail.
+#[test]
+fn tap_says_failed_for_no_cause(rt: HostRuntime) -> Result<(), Fail> {
+    for (read, write) in [(1, usize::MAX), (usize::MAX, 1), (1, 1), (7, 3)] {
+        ends_whole(&rt, rt.alloc(), read, write)?;
     }
     Ok(())
 }

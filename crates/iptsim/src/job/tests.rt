@@ -17,8 +17,9 @@ const fn restore(noflush: bool, test: bool) -> Task {
     Task::Restore { noflush, test }
 }
 
+// No line is refused that asks for a job.
 #[test]
-fn jobs(rt: HostRuntime) -> Result<(), Fail> {
+fn program_line_always_refused(rt: HostRuntime) -> Result<(), Fail> {
     let rows = [
         ("session", Task::Session, None),
         ("session --load f", Task::Session, Some("f")),
