@@ -1,7 +1,6 @@
 -- What the table answers, as a section's answer.
-use Rattle.std.proofs.Common.{◌≡◌, inl, inr, ℕ, ◌+◌, cond, not, arith, length, Bool, true, false, ◌||◌, List, [], ◌∷◌, refl, sym, ◌∙◌, ap, subst, Option, Some, None, is_some, Result, Ok, Err, if◌then◌else◌}
+use Rattle.std.proofs.Common.{◌≡◌, inl, inr, ℕ, Bool, true, false, List, refl, sym, ap, subst, Option, Some, None, Result, Ok, Err, if◌then◌else◌}
 use Rattle.std.specs.Bool.{MatchBool}
-use Rattle.fields.proofs.laws.PlaceLaws.{any_is}
 use Rattle.table.specs.chains.Table.{Table, TableView, has_chain, is_built_in}
 use Rattle.table.specs.edits.Edits.{Edit, Flush, NewChain, SetPolicy, Answers, IsStep, IsStepIfRoom, IsStepOf, may_grow, step}
 use Rattle.table.specs.declared.fault.TableFault.{TableFault}

@@ -1,16 +1,13 @@
 -- What the lines of a restore leave, one after another.
-use Rattle.std.proofs.Common.{◌≡◌, inl, inr, ℕ, Bool, true, false, List, [], ◌∷◌, refl, sym, ◌∙◌, ap, subst, Result, Ok, Err}
+use Rattle.std.proofs.Common.{◌≡◌, inl, inr, ℕ, Bool, true, false, List, [], ◌∷◌, sym, ◌∙◌, ap, subst, Result, Ok, Err}
 use Rattle.std.proofs.lemmas.Bool.{false≢true}
-use Rattle.fields.specs.text.Line.{lines_of}
-use Rattle.table.specs.chains.Sound.{IsSound}
-use Rattle.table.specs.chains.Table.{AreClassified, Table, TableView, empty_table}
+use Rattle.table.specs.chains.Table.{AreClassified, Table, TableView}
 use Rattle.table.specs.edits.Headline.{ChainsHaveOneListOfClassifiers}
 use Rattle.restore.specs.Sequence.{◌>>=◌}
-use Rattle.restore.specs.listings.Listing.{listing}
 use Rattle.restore.specs.listings.RoundTrip.{ListingsRestoreClassifiers, RestoresAsEqual}
-use Rattle.restore.specs.sections.Headline.{Lead, LinesLeaveWhatTheyRestore, RefusedLinesChangeNothing}
+use Rattle.restore.specs.sections.Headline.{LinesLeaveWhatTheyRestore, RefusedLinesChangeNothing}
 use Rattle.restore.specs.sections.Lines.{Answers, IsLine, puts_table}
-use Rattle.restore.specs.sections.Restore.{Restore, Restoring, restore_line, restore_lines, restored}
+use Rattle.restore.specs.sections.Restore.{Restore, Restoring, restore_line, restore_lines}
 use Rattle.restore.specs.sections.Section.{RestoreFault}
 
 -- what an answer gives, or another

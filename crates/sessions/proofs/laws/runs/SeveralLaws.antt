@@ -2,7 +2,7 @@
 use Rattle.std.proofs.Common.{◌≡◌, List, [], ◌∷◌, ◌++◌, refl, sym, ap, ◌∙◌}
 use Rattle.table.specs.chains.Table.{Table, TableView}
 use Rattle.sessions.specs.runs.Accepted.{Change, accepted, changed, changed_by}
-use Rattle.sessions.specs.runs.Several.{Run, RunsLeaveWhatTheyAccept, accepted_by}
+use Rattle.sessions.specs.runs.Several.{RunsLeaveWhatTheyAccept, accepted_by}
 
 -- changes, and then others
 changed_then : (t : Table) (first next : List Change) → changed_by t (first ++ next) ≡ changed_by (changed_by t first) next

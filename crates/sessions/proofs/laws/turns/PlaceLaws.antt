@@ -1,6 +1,6 @@
 -- The chain of a name stands at its place.
-use Rattle.std.proofs.Common.{◌≡◌, inl, inr, ℕ, zero, suc, ◌+◌, ◌<◌, ◌||◌, Bool, true, false, cond, not, List, [], ◌∷◌, length, ltb, get_or, refl, sym, ap, ◌∙◌, Option, Some, None, is_some, arith}
-use Rattle.std.specs.List.{list_any, position, position_or_len}
+use Rattle.std.proofs.Common.{◌≡◌, ℕ, zero, suc, ◌<◌, Bool, true, false, cond, List, [], ◌∷◌, length, get_or, sym, ap, ◌∙◌, Option, Some, is_some, arith}
+use Rattle.std.specs.List.{position}
 use Rattle.std.proofs.lemmas.List.Quantifiers.{position-Some}
 use Rattle.std.proofs.lemmas.Slice.Eq.{bytes_eq-Decides}
 use Rattle.fields.proofs.laws.PlaceLaws.{any_is}
