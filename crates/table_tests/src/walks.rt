@@ -19,7 +19,7 @@ fn expect(
 ) -> Result<(), Fail> {
     let filter = Filter::after(rt, alloc, lines)?;
     for (packet, reply) in replies {
-        filter.replies(rt, packet, reply)?;
+        assert_eq!(rt; filter.reply(rt, packet)?.as_str(), *reply, "{packet}");
     }
     Ok(())
 }

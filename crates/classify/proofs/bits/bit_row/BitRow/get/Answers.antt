@@ -1,6 +1,7 @@
 use Rattle.std.proofs.Common.{sym, ◌∙◌, ◌≡◌, ◌<◌, ap, length, arith, get_or, false}
 use Rattle.classify.specs.bits.BitRow.{BitsAndRoom}
-use Rattle.classify.proofs.laws.bits.RowLaws.{front_len, row_bit_at}
+use Rattle.classify.proofs.laws.bits.RowLaws.{front_len}
+use Rattle.classify.proofs.laws.bits.GetLaws.{row_bit_at}
 use Rattle.classify.proofs.bits.bit_row.BitRow.get.Goals as goal
 
 pub returns : goal.returns
