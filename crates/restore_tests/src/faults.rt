@@ -111,27 +111,42 @@ fn no_command(rt: HostRuntime) -> Result<(), Fail> {
     Ok(())
 }
 
+// What stands before and after the name of a second command, and the reply.
+const SECOND: [(&str, &str, &str); 13] = [
+    ("-A INPUT ", "", "two commands"),
+    ("-A INPUT \"", "\" --bad", "two commands"),
+    ("-I INPUT 1 -f ", "", "two commands"),
+    ("-I INPUT 1 -f \"", "\" --bad", "two commands"),
+    ("-D x -p tcp ", "", "two commands"),
+    ("-D x -p tcp \"", "\" --bad", "two commands"),
+    ("-C INPUT -i -A ", "", "two commands"),
+    ("-C INPUT -i -A \"", "\" --bad", "two commands"),
+    ("-A INPUT ! ", "", "inversion not allowed"),
+    ("-A INPUT -p bad ", "", "bad value"),
+    ("-A INPUT --bad ", "", "unknown option"),
+    ("-A INPUT -j ", "", "bad value"),
+    ("-A INPUT -m ", "", "unknown match"),
+];
+
+// Compares the reply to a command with the name of another in it.
+fn second_command(
+    rt: &impl Abort,
+    filter: &mut Filter,
+    name: &str,
+    form: (&str, &str, &str),
+) -> Result<(), Fail> {
+    let (before, after, fault) = form;
+    let line = format!(in filter.alloc; "{before}{name}{after}")?;
+    filter.step(rt, line.as_str(), fault)
+}
+
 #[test]
 fn second_commands(rt: HostRuntime) -> Result<(), Fail> {
-    let alloc = rt.alloc();
-    let mut filter = Filter::new(alloc)?;
+    let mut filter = Filter::new(rt.alloc())?;
     for name in NAMES {
-        for before in ["-A INPUT", "-I INPUT 1 -f", "-D x -p tcp", "-C INPUT -i -A"] {
-            let line = format!(in alloc; "{before} {name}")?;
-            filter.step(&rt, line.as_str(), "two commands")?;
-            let line = format!(in alloc; "{before} \"{name}\" --bad")?;
-            filter.step(&rt, line.as_str(), "two commands")?;
+        for form in SECOND {
+            second_command(&rt, &mut filter, name, form)?;
         }
-        let line = format!(in alloc; "-A INPUT ! {name}")?;
-        filter.step(&rt, line.as_str(), "inversion not allowed")?;
-        let line = format!(in alloc; "-A INPUT -p bad {name}")?;
-        filter.step(&rt, line.as_str(), "bad value")?;
-        let line = format!(in alloc; "-A INPUT --bad {name}")?;
-        filter.step(&rt, line.as_str(), "unknown option")?;
-        let line = format!(in alloc; "-A INPUT -j {name}")?;
-        filter.step(&rt, line.as_str(), "bad value")?;
-        let line = format!(in alloc; "-A INPUT -m {name}")?;
-        filter.step(&rt, line.as_str(), "unknown match")?;
     }
     let rows = [
         ("-A -A -A", "two commands"),

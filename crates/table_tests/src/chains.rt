@@ -11,8 +11,8 @@ use table::TableFault;
 fn refused(rt: &impl Abort, filter: &mut Filter, rows: &[(&str, TableFault)]) -> Result<(), Fail> {
     for (line, fault) in rows {
         let before = filter.shown(rt)?;
-        assert_eq!(rt; filter.run(rt, line)?, Err(*fault), "{line}");
-        assert_eq!(rt; filter.shown(rt)?.as_str(), before.as_str(), "{line}");
+        filter.refuses(rt, line, *fault)?;
+        filter.still_shows(rt, before.as_str(), line)?;
     }
     Ok(())
 }
@@ -46,15 +46,9 @@ fn one_chain_taken_away(rt: HostRuntime) -> Result<(), Fail> {
     filter.run_all(&rt, &["-F a"])?;
     refused(&rt, &mut filter, &[("-X a", TableFault::ChainReferenced)])?;
     filter.run_all(&rt, &["-X b"])?;
-    assert_eq!(&rt;
-        filter.listed(&rt)?.as_str(),
-        "INPUT:1 FORWARD:0 OUTPUT:0 a:0"
-    );
+    filter.lists(&rt, "INPUT:1 FORWARD:0 OUTPUT:0 a:0")?;
     filter.run_all(&rt, &["-D INPUT 1", "-X a", "-N a"])?;
-    assert_eq!(&rt;
-        filter.listed(&rt)?.as_str(),
-        "INPUT:0 FORWARD:0 OUTPUT:0 a:0"
-    );
+    filter.lists(&rt, "INPUT:0 FORWARD:0 OUTPUT:0 a:0")?;
     Ok(())
 }
 
@@ -66,7 +60,7 @@ fn all_user_chains_taken_away(rt: HostRuntime) -> Result<(), Fail> {
     filter.run_all(&rt, &["-F a"])?;
     refused(&rt, &mut filter, &[("-X", TableFault::ChainReferenced)])?;
     filter.run_all(&rt, &["-F OUTPUT", "-A OUTPUT -j ACCEPT", "-X", "-X"])?;
-    assert_eq!(&rt; filter.listed(&rt)?.as_str(), "INPUT:0 FORWARD:0 OUTPUT:1");
+    filter.lists(&rt, "INPUT:0 FORWARD:0 OUTPUT:1")?;
     Ok(())
 }
 
@@ -91,15 +85,9 @@ fn a_renamed_chain(rt: HostRuntime) -> Result<(), Fail> {
     ];
     refused(&rt, &mut filter, &rows)?;
     filter.run_all(&rt, &["-E c a"])?;
-    assert_eq!(&rt;
-        filter.listed(&rt)?.as_str(),
-        "INPUT:1 FORWARD:0 OUTPUT:0 a:1 b:2"
-    );
+    filter.lists(&rt, "INPUT:1 FORWARD:0 OUTPUT:0 a:1 b:2")?;
     let packet = "INPUT src=10.0.0.1 dst=2.2.2.2 proto=47";
-    assert_eq!(&rt;
-        filter.reply(&rt, packet)?.as_str(),
-        "INPUT 1, a 1, verdict DROP by rule"
-    );
+    filter.replies(&rt, packet, "INPUT 1, a 1, verdict DROP by rule")?;
     filter.run_all(&rt, &["-C INPUT -j a", "-C b -g a", "-C b -j RETURN"])?;
     let rows = [
         ("-C INPUT -j c", TableFault::NoSuchRule),
@@ -108,10 +96,7 @@ fn a_renamed_chain(rt: HostRuntime) -> Result<(), Fail> {
     ];
     refused(&rt, &mut filter, &rows)?;
     filter.run_all(&rt, &["-E a zz", "-E b zy"])?;
-    assert_eq!(&rt;
-        filter.listed(&rt)?.as_str(),
-        "INPUT:1 FORWARD:0 OUTPUT:0 zy:2 zz:1"
-    );
+    filter.lists(&rt, "INPUT:1 FORWARD:0 OUTPUT:0 zy:2 zz:1")?;
     Ok(())
 }
 
@@ -126,19 +111,15 @@ fn a_copy_and_its_original(rt: HostRuntime) -> Result<(), Fail> {
     ];
     let filter = Filter::after(&rt, alloc, &lines)?;
     let mut copy = filter.copy()?;
-    assert_eq!(&rt; copy.shown(&rt)?.as_str(), filter.shown(&rt)?.as_str());
+    let before = filter.shown(&rt)?;
+    copy.still_shows(&rt, before.as_str(), "the copy")?;
     let packet = "INPUT src=10.0.0.1 dst=2.2.2.2 proto=udp sport=1 dport=2";
     let reply = "INPUT 1, a 1, verdict DROP by rule";
-    assert_eq!(&rt; copy.reply(&rt, packet)?.as_str(), reply);
-    let before = filter.shown(&rt)?;
+    copy.replies(&rt, packet, reply)?;
     copy.run_all(&rt, &["-D a 1", "-P INPUT DROP", "-E a b", "-N c"])?;
-    assert_eq!(&rt; filter.shown(&rt)?.as_str(), before.as_str());
-    assert_eq!(&rt; filter.reply(&rt, packet)?.as_str(), reply);
-    assert_eq!(&rt;
-        copy.reply(&rt, packet)?.as_str(),
-        "INPUT 1, verdict DROP by policy"
-    );
-    Ok(())
+    filter.still_shows(&rt, before.as_str(), "the original")?;
+    filter.replies(&rt, packet, reply)?;
+    copy.replies(&rt, packet, "INPUT 1, verdict DROP by policy")
 }
 
 #[test]

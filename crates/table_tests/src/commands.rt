@@ -93,10 +93,39 @@ impl Filter {
         })
     }
 
+    // Runs a command, which has to be accepted.
+    pub(crate) fn accepts(&mut self, rt: &impl Abort, line: &str) -> Result<(), Fail> {
+        assert_eq!(rt; self.run(rt, line)?, Ok(()), "{line}");
+        Ok(())
+    }
+
+    // Runs a command, which has to be refused by the fault.
+    pub(crate) fn refuses(
+        &mut self,
+        rt: &impl Abort,
+        line: &str,
+        fault: TableFault,
+    ) -> Result<(), Fail> {
+        assert_eq!(rt; self.run(rt, line)?, Err(fault), "{line}");
+        Ok(())
+    }
+
     // Runs commands, each of which has to be accepted.
     pub(crate) fn run_all(&mut self, rt: &impl Abort, lines: &[&str]) -> Result<(), Fail> {
         for line in lines {
-            assert_eq!(rt; self.run(rt, line)?, Ok(()), "{line}");
+            self.accepts(rt, line)?;
+        }
+        Ok(())
+    }
+
+    // Runs commands, each of which has to be refused by its fault.
+    pub(crate) fn refuses_all(
+        &mut self,
+        rt: &impl Abort,
+        rows: &[(&str, TableFault)],
+    ) -> Result<(), Fail> {
+        for (line, fault) in rows {
+            self.refuses(rt, line, *fault)?;
         }
         Ok(())
     }

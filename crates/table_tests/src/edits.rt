@@ -1,6 +1,8 @@
 // Each call once, with its answer.
 use crate::commands::Filter;
+use classify::Line;
 use fields::Field;
+use std::alloc::Global;
 use std::process::Abort;
 use std::test::Fail;
 use table::Policy;
@@ -15,10 +17,9 @@ fn step(
     listed: &str,
     reply: &str,
 ) -> Result<(), Fail> {
-    assert_eq!(rt; filter.run(rt, line)?, Ok(()), "{line}");
-    assert_eq!(rt; filter.listed(rt)?.as_str(), listed, "{line}");
-    assert_eq!(rt; filter.reply(rt, PACKET)?.as_str(), reply, "{line}");
-    Ok(())
+    filter.accepts(rt, line)?;
+    filter.lists(rt, listed)?;
+    filter.replies(rt, PACKET, reply)
 }
 
 #[test]
@@ -168,21 +169,18 @@ fn only_the_first_equal_rule_is_taken_out(rt: HostRuntime) -> Result<(), Fail> {
 fn a_loop_is_one_of_the_rules_that_are_there(rt: HostRuntime) -> Result<(), Fail> {
     let lines = ["-N a", "-N b", "-N c", "-A a -j b", "-A b -j c"];
     let mut filter = Filter::after(&rt, rt.alloc(), &lines)?;
-    assert_eq!(rt; filter.run(&rt, "-A c -j a")?, Err(table::TableFault::Loop));
-    assert_eq!(rt;
-        filter.listed(&rt)?.as_str(),
-        "INPUT:0 FORWARD:0 OUTPUT:0 a:1 b:1 c:0"
-    );
+    filter.refuses(&rt, "-A c -j a", table::TableFault::Loop)?;
+    filter.lists(&rt, "INPUT:0 FORWARD:0 OUTPUT:0 a:1 b:1 c:0")?;
     filter.run_all(&rt, &["-R b 1 -j LOG", "-A c -j a"])?;
-    assert_eq!(rt; filter.run(&rt, "-A b -g c")?, Err(table::TableFault::Loop));
+    filter.refuses(&rt, "-A b -g c", table::TableFault::Loop)?;
     filter.run_all(&rt, &["-D a 1", "-A b -g c"])?;
-    assert_eq!(rt; filter.run(&rt, "-A a -g b")?, Err(table::TableFault::Loop));
+    filter.refuses(&rt, "-A a -g b", table::TableFault::Loop)?;
     filter.run_all(&rt, &["-F c", "-A a -g b"])?;
     Ok(())
 }
 
-#[test]
-fn views(rt: HostRuntime) -> Result<(), Fail> {
+// A table with two user chains, and two rules of INPUT.
+fn of_two_rules(rt: &impl Abort, alloc: Global) -> Result<Filter, Fail> {
     let lines = [
         "-N b",
         "-N a",
@@ -190,8 +188,12 @@ fn views(rt: HostRuntime) -> Result<(), Fail> {
         "-A INPUT -s 10.1.2.3/8 -j ACCEPT",
         "-A INPUT -p tcp --dport 22 -j DROP",
     ];
-    let filter = Filter::after(&rt, rt.alloc(), &lines)?;
-    assert_eq!(rt; filter.table.chain_count(), 5);
+    Filter::after(rt, alloc, &lines)
+}
+
+#[test]
+fn policies_of_chains(rt: HostRuntime) -> Result<(), Fail> {
+    let filter = of_two_rules(&rt, rt.alloc())?;
     let policies = [
         Some(Policy::Accept),
         Some(Policy::Drop),
@@ -201,17 +203,33 @@ fn views(rt: HostRuntime) -> Result<(), Fail> {
         None,
     ];
     for (place, policy) in policies.iter().enumerate() {
-        assert_eq!(rt; filter.table.policy(place), *policy, "{place}");
+        assert!(rt; filter.table.policy(place) == *policy, "{place}");
     }
+    Ok(())
+}
+
+#[test]
+fn names_of_chains(rt: HostRuntime) -> Result<(), Fail> {
+    let filter = of_two_rules(&rt, rt.alloc())?;
     let names = ["INPUT", "FORWARD", "OUTPUT", "a", "b"];
+    assert!(rt; filter.table.chain_count() == names.len());
     for (place, name) in names.iter().enumerate() {
         assert!(rt; filter.name_at(&rt, place) == name.as_bytes(), "{name}");
     }
-    assert!(rt; filter.table.chain_count() > 0);
-    assert_eq!(rt; filter.table.rule_count(0), 2);
-    assert!(rt; filter.table.chain_count() > 0);
-    let classifier = filter.table.classifier(0);
-    assert_eq!(rt; classifier.len(), 2);
+    Ok(())
+}
+
+// Compares where the pieces of a line start.
+fn starts_at(rt: &impl Abort, line: &Line, starts: &[u128]) {
+    assert!(rt; line.len() == starts.len());
+    for (piece, start) in line.pieces().zip(starts.iter()) {
+        assert!(rt; piece.start() == *start);
+    }
+}
+
+#[test]
+fn lines_of_a_chain(rt: HostRuntime) -> Result<(), Fail> {
+    let filter = of_two_rules(&rt, rt.alloc())?;
     let starts: [(Field, &[u128]); 5] = [
         (Field::Source, &[0, 167772160, 184549376]),
         (Field::Destination, &[0]),
@@ -219,13 +237,20 @@ fn views(rt: HostRuntime) -> Result<(), Fail> {
         (Field::Fragment, &[0, 1]),
         (Field::DestinationPort, &[0, 22, 23]),
     ];
+    assert!(rt; filter.table.chain_count() > 0);
+    let classifier = filter.table.classifier(0);
     for (field, expected) in starts {
-        let line = classifier.line(field);
-        assert_eq!(rt; line.len(), expected.len());
-        for (piece, start) in line.pieces().zip(expected.iter()) {
-            assert_eq!(rt; piece.start(), *start);
-        }
+        starts_at(&rt, &classifier.line(field), expected);
     }
+    Ok(())
+}
+
+#[test]
+fn counts_of_rules(rt: HostRuntime) -> Result<(), Fail> {
+    let filter = of_two_rules(&rt, rt.alloc())?;
+    assert!(rt; filter.table.chain_count() > 0);
+    assert!(rt; filter.table.rule_count(0) == 2);
+    assert!(rt; filter.table.classifier(0).len() == 2);
     Ok(())
 }
 
@@ -246,7 +271,7 @@ fn boxes_are_made_once_an_edit(rt: HostRuntime) -> Result<(), Fail> {
         ("-F", 4),
     ];
     for (line, boxes) in rows {
-        assert_eq!(rt; filter.run(&rt, line)?, Ok(()), "{line}");
+        filter.accepts(&rt, line)?;
         assert_eq!(rt; filter.work.boxes(), boxes, "{line}");
     }
     Ok(())

@@ -25,31 +25,39 @@ const PACKETS: [&str; 3] = [
     "OUTPUT src=10.1.1.1 dst=2.2.2.2 proto=47",
 ];
 
+// Rules that are there before and after.
+const RULES: [&str; 4] = [
+    "-C a -j b",
+    "-C b -g c",
+    "-C INPUT -j a",
+    "-C INPUT -s 10.0.0.0/8 -j DROP",
+];
+
+// The replies to the packets, before and after.
+const REPLIES: [&str; 3] = [
+    "INPUT 1, a 1, b 1, INPUT 2, verdict DROP by rule",
+    "verdict DROP by policy",
+    "verdict ACCEPT by policy",
+];
+
+// Compares the replies to the packets.
+fn replies(rt: &impl Abort, filter: &Filter) -> Result<(), Fail> {
+    for (packet, reply) in PACKETS.iter().zip(REPLIES.iter()) {
+        filter.replies(rt, packet, reply)?;
+    }
+    Ok(())
+}
+
 // Compares the answers to commands, each of which is refused, and all that the table shows before and after.
 fn refused(rt: &impl Abort, alloc: Global, rows: &[(&str, TableFault)]) -> Result<(), Fail> {
     let mut filter = Filter::after(rt, alloc, &BEFORE)?;
     let before = filter.shown(rt)?;
     for (line, fault) in rows {
-        assert_eq!(rt; filter.run(rt, line)?, Err(*fault), "{line}");
-        assert!(rt; filter.shown(rt)?.as_str() == before.as_str(), "{line}");
-        for rule in [
-            "-C a -j b",
-            "-C b -g c",
-            "-C INPUT -j a",
-            "-C INPUT -s 10.0.0.0/8 -j DROP",
-        ] {
-            assert_eq!(rt; filter.run(rt, rule)?, Ok(()), "{rule} after {line}");
-        }
+        filter.refuses(rt, line, *fault)?;
+        filter.still_shows(rt, before.as_str(), line)?;
+        filter.run_all(rt, &RULES)?;
     }
-    let replies = [
-        "INPUT 1, a 1, b 1, INPUT 2, verdict DROP by rule",
-        "verdict DROP by policy",
-        "verdict ACCEPT by policy",
-    ];
-    for (packet, reply) in PACKETS.iter().zip(replies.iter()) {
-        assert_eq!(rt; filter.reply(rt, packet)?.as_str(), *reply, "{packet}");
-    }
-    Ok(())
+    replies(rt, &filter)
 }
 
 #[test]

@@ -1,18 +1,11 @@
 // Long chains, many chains and long walks.
 use crate::commands::Filter;
+use std::alloc::Global;
 use std::process::Abort;
 use std::test::Fail;
-use table::{Step, TableFault, Verdict};
+use table::{Step, TableFault, Trail, Verdict};
 
 const PACKET: &str = "INPUT src=11.0.0.1 dst=2.2.2.2 proto=47";
-
-// Compares the answers to commands, each of which is refused.
-fn refused(rt: &impl Abort, filter: &mut Filter, rows: &[(&str, TableFault)]) -> Result<(), Fail> {
-    for (line, fault) in rows {
-        assert_eq!(rt; filter.run(rt, line)?, Err(*fault), "{line}");
-    }
-    Ok(())
-}
 
 // Runs a command with two numbers in it, which has to be accepted.
 fn run_numbered(
@@ -24,14 +17,13 @@ fn run_numbered(
 ) -> Result<(), Fail> {
     let (before, between) = parts;
     let line = format!(in filter.alloc; "{before}{first}{between}{second}")?;
-    assert_eq!(rt; filter.run(rt, line.as_str())?, Ok(()), "{line}");
-    Ok(())
+    filter.accepts(rt, line.as_str())
 }
 
 // Puts the same rule in, until the chain is full.
 fn fill(rt: &impl Abort, filter: &mut Filter, line: &str) -> Result<(), Fail> {
     for _ in 0..8192u32 {
-        assert_eq!(rt; filter.run(rt, line)?, Ok(()), "{line}");
+        filter.accepts(rt, line)?;
     }
     Ok(())
 }
@@ -52,22 +44,16 @@ fn a_full_built_in_chain(rt: HostRuntime) -> Result<(), Fail> {
         ("-A INPUT -j gone", TableFault::TargetMissing),
         ("-A INPUT -j OUTPUT", TableFault::TargetBuiltIn),
     ];
-    refused(&rt, &mut filter, &rows)?;
+    filter.refuses_all(&rt, &rows)?;
     filter.run_all(&rt, &["-R INPUT 8192 -j DROP"])?;
-    let reply = filter.reply(&rt, PACKET)?;
-    assert_eq!(rt; reply.as_str(), "INPUT 8192, verdict DROP by rule");
+    filter.replies(&rt, PACKET, "INPUT 8192, verdict DROP by rule")?;
     filter.run_all(&rt, &["-D INPUT 1", "-C INPUT -j DROP"])?;
-    let reply = filter.reply(&rt, PACKET)?;
-    assert_eq!(rt; reply.as_str(), "INPUT 8191, verdict DROP by rule");
+    filter.replies(&rt, PACKET, "INPUT 8191, verdict DROP by rule")?;
     filter.run_all(&rt, &["-I INPUT 1 -j LOG"])?;
-    let reply = filter.reply(&rt, PACKET)?;
-    assert_eq!(rt; reply.as_str(), "INPUT 1, INPUT 8192, verdict DROP by rule");
-    refused(&rt, &mut filter, &[("-A INPUT", TableFault::ChainFull)])?;
+    filter.replies(&rt, PACKET, "INPUT 1, INPUT 8192, verdict DROP by rule")?;
+    filter.refuses_all(&rt, &[("-A INPUT", TableFault::ChainFull)])?;
     filter.run_all(&rt, &["-D INPUT -j DROP", "-F INPUT"])?;
-    assert_eq!(rt;
-        filter.listed(&rt)?.as_str(),
-        "INPUT:0 FORWARD:0 OUTPUT:0 a:0 b:0"
-    );
+    filter.lists(&rt, "INPUT:0 FORWARD:0 OUTPUT:0 a:0 b:0")?;
     Ok(())
 }
 
@@ -81,7 +67,7 @@ fn a_loop_is_reported_before_a_full_chain(rt: HostRuntime) -> Result<(), Fail> {
         ("-R a 8192 -j b", TableFault::Loop),
         ("-A a -j RETURN", TableFault::ChainFull),
     ];
-    refused(&rt, &mut filter, &rows)
+    filter.refuses_all(&rt, &rows)
 }
 
 #[test]
@@ -91,11 +77,9 @@ fn matches_past_a_row_of_words(rt: HostRuntime) -> Result<(), Fail> {
         filter.run_all(&rt, &["-A INPUT -s 10.0.0.0/8 -j ACCEPT"])?;
     }
     filter.run_all(&rt, &["-A INPUT -j DROP"])?;
-    let reply = filter.reply(&rt, PACKET)?;
-    assert_eq!(rt; reply.as_str(), "INPUT 257, verdict DROP by rule");
+    filter.replies(&rt, PACKET, "INPUT 257, verdict DROP by rule")?;
     filter.run_all(&rt, &["-D INPUT 1"])?;
-    let reply = filter.reply(&rt, PACKET)?;
-    assert_eq!(rt; reply.as_str(), "INPUT 256, verdict DROP by rule");
+    filter.replies(&rt, PACKET, "INPUT 256, verdict DROP by rule")?;
     Ok(())
 }
 
@@ -111,26 +95,56 @@ fn row_of_chains(rt: &impl Abort, filter: &mut Filter) -> Result<(), Fail> {
     filter.run_all(rt, &["-A INPUT -j d1"])
 }
 
+// Compares how many steps a walk has, and how it ends.
+fn ends(
+    rt: &impl Abort,
+    filter: &Filter,
+    steps: usize,
+    verdict: Verdict,
+    by_policy: bool,
+) -> Result<(), Fail> {
+    let trail = filter.trail(rt, PACKET)?;
+    assert_eq!(rt; trail.steps.len(), steps);
+    assert_eq!(rt; trail.verdict, verdict);
+    assert_eq!(rt; trail.by_policy, by_policy);
+    Ok(())
+}
+
+// The name of the chain at a place of the row.
+fn name_in_row(alloc: Global, place: usize) -> Result<String, Fail> {
+    Ok(if place == 0 {
+        format!(in alloc; "INPUT")?
+    } else {
+        format!(in alloc; "d{place}")?
+    })
+}
+
+// Compares one step of a walk through the row of chains.
+fn passes(rt: &impl Abort, filter: &Filter, step: &Step, place: usize) -> Result<(), Fail> {
+    let name = name_in_row(filter.alloc, place)?;
+    assert!(rt;
+        filter.name_at(rt, step.chain) == name.as_bytes(),
+        "{place}"
+    );
+    assert_eq!(rt; step.number, 1, "{place}");
+    Ok(())
+}
+
+// Compares the steps of a walk through the row of chains.
+fn passes_each(rt: &impl Abort, filter: &Filter) -> Result<(), Fail> {
+    let trail = filter.trail(rt, PACKET)?;
+    for (place, step) in trail.steps.as_slice().iter().enumerate() {
+        passes(rt, filter, step, place)?;
+    }
+    Ok(())
+}
+
 #[test]
 fn a_jump_through_every_chain(rt: HostRuntime) -> Result<(), Fail> {
-    let alloc = rt.alloc();
-    let mut filter = Filter::new(alloc)?;
+    let mut filter = Filter::new(rt.alloc())?;
     row_of_chains(&rt, &mut filter)?;
-    let trail = filter.trail(&rt, PACKET)?;
-    assert_eq!(rt; trail.steps.len(), 1024);
-    assert!(rt; trail.verdict == Verdict::Accept && trail.by_policy);
-    for (place, step) in trail.steps.as_slice().iter().enumerate() {
-        let name = if place == 0 {
-            format!(in alloc; "INPUT")?
-        } else {
-            format!(in alloc; "d{place}")?
-        };
-        assert!(rt;
-            filter.name_at(&rt, step.chain) == name.as_bytes(),
-            "{place}"
-        );
-        assert_eq!(rt; step.number, 1, "{place}");
-    }
+    ends(&rt, &filter, 1024, Verdict::Accept, true)?;
+    passes_each(&rt, &filter)?;
     let rows = [
         ("-N d1025", TableFault::TooManyChains),
         ("-N d7", TableFault::ChainExists),
@@ -138,13 +152,10 @@ fn a_jump_through_every_chain(rt: HostRuntime) -> Result<(), Fail> {
         ("-A d1024 -j d1", TableFault::Loop),
         ("-A d1024 -g d1024", TableFault::Loop),
     ];
-    refused(&rt, &mut filter, &rows)?;
-    assert_eq!(rt; filter.table.chain_count(), 1027);
+    filter.refuses_all(&rt, &rows)?;
+    assert!(rt; filter.table.chain_count() == 1027);
     filter.run_all(&rt, &["-A d1024 -j DROP"])?;
-    let trail = filter.trail(&rt, PACKET)?;
-    assert_eq!(rt; trail.steps.len(), 1025);
-    assert!(rt; trail.verdict == Verdict::Drop && !trail.by_policy);
-    Ok(())
+    ends(&rt, &filter, 1025, Verdict::Drop, false)
 }
 
 // So many chains, each of which but the last has two rules that jump to the next; the names are a letter with a number
@@ -173,33 +184,23 @@ fn forty_doubling_chains(rt: HostRuntime) -> Result<(), Fail> {
     let mut filter = Filter::new(rt.alloc())?;
     doubling_chains(&rt, &mut filter, "e", 1, 40)?;
     filter.run_all(&rt, &["-A INPUT -j e1"])?;
-    assert_eq!(rt; filter.reply(&rt, PACKET)?.as_str(), "verdict TOOLONG");
-    let trail = filter.trail(&rt, PACKET)?;
-    assert!(rt; trail.steps.is_empty() && !trail.by_policy);
-    refused(&rt, &mut filter, &[("-A e40 -j e1", TableFault::Loop)])
+    filter.replies(&rt, PACKET, "verdict TOOLONG")?;
+    ends(&rt, &filter, 0, Verdict::TooLong, false)?;
+    filter.refuses_all(&rt, &[("-A e40 -j e1", TableFault::Loop)])
+}
+
+// Compares the first and last steps of a walk that begins and ends in INPUT.
+fn is_between(rt: &impl Abort, trail: &Trail) {
+    let (first, last) = (trail.steps.first(), trail.steps.last());
+    let in_input = |number| Step { chain: 0, number };
+    assert!(rt; first == Some(&in_input(1)));
+    assert!(rt; last == Some(&in_input(2)));
 }
 
 // Compares a walk of 65,536 matches: its first and last steps, and how it ends.
 fn expect_longest(rt: &impl Abort, filter: &Filter, by_policy: bool) -> Result<(), Fail> {
-    let trail = filter.trail(rt, PACKET)?;
-    assert_eq!(rt; trail.steps.len(), 65536);
-    let steps = trail.steps.as_slice();
-    assert_eq!(rt;
-        steps.first(),
-        Some(&Step {
-            chain: 0,
-            number: 1
-        })
-    );
-    assert_eq!(rt;
-        steps.last(),
-        Some(&Step {
-            chain: 0,
-            number: 2
-        })
-    );
-    assert_eq!(rt; trail.verdict, Verdict::Accept);
-    assert_eq!(rt; trail.by_policy, by_policy);
+    ends(rt, filter, 65536, Verdict::Accept, by_policy)?;
+    is_between(rt, &filter.trail(rt, PACKET)?);
     Ok(())
 }
 
@@ -210,10 +211,10 @@ fn the_longest_walk(rt: HostRuntime) -> Result<(), Fail> {
     filter.run_all(&rt, &["-A INPUT -j c0", "-A INPUT -j ACCEPT"])?;
     expect_longest(&rt, &filter, false)?;
     filter.run_all(&rt, &["-I INPUT 2"])?;
-    assert_eq!(rt; filter.reply(&rt, PACKET)?.as_str(), "verdict TOOLONG");
+    filter.replies(&rt, PACKET, "verdict TOOLONG")?;
     filter.run_all(&rt, &["-D INPUT 3"])?;
     expect_longest(&rt, &filter, true)?;
     filter.run_all(&rt, &["-A INPUT -j LOG"])?;
-    assert_eq!(rt; filter.reply(&rt, PACKET)?.as_str(), "verdict TOOLONG");
+    filter.replies(&rt, PACKET, "verdict TOOLONG")?;
     Ok(())
 }

@@ -128,4 +128,27 @@ impl Filter {
         }
         text_of(rt, self.alloc, output)
     }
+
+    // Compares the names of the chains with the counts of their rules.
+    pub(crate) fn lists(&self, rt: &impl Abort, listed: &str) -> Result<(), Fail> {
+        assert_eq!(rt; self.listed(rt)?.as_str(), listed);
+        Ok(())
+    }
+
+    // Compares the reply to a packet.
+    pub(crate) fn replies(&self, rt: &impl Abort, line: &str, reply: &str) -> Result<(), Fail> {
+        assert_eq!(rt; self.reply(rt, line)?.as_str(), reply, "{line}");
+        Ok(())
+    }
+
+    // Compares all that the table shows with what it showed before a command.
+    pub(crate) fn still_shows(
+        &self,
+        rt: &impl Abort,
+        before: &str,
+        line: &str,
+    ) -> Result<(), Fail> {
+        assert_eq!(rt; self.shown(rt)?.as_str(), before, "{line}");
+        Ok(())
+    }
 }

@@ -19,7 +19,7 @@ fn expect(
 ) -> Result<(), Fail> {
     let filter = Filter::after(rt, alloc, lines)?;
     for (packet, reply) in replies {
-        assert_eq!(rt; filter.reply(rt, packet)?.as_str(), *reply, "{packet}");
+        filter.replies(rt, packet, reply)?;
     }
     Ok(())
 }
