@@ -1,5 +1,5 @@
 //! Why the program ends without the status of a session or a restore.
-use crate::job::LineFault;
+use jobs::LineFault;
 use sessions::RunFault;
 use std::alloc::{AllocError, AllocFailed};
 use thiserror::Error;

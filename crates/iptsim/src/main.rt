@@ -2,7 +2,6 @@
 #![tactic(auto)]
 
 mod fault;
-mod job;
 mod program;
 
 use crate::program::run;

@@ -1,7 +1,7 @@
 //! What the program does: it reads its line, restores a file where it is asked to, and does its task.
 use crate::fault::ProgramFault;
-use crate::job::{Job, LineFault, Task};
 use fields::Tap;
+use jobs::{Job, LineFault, Task};
 use sessions::{RunFault, Session};
 use std::alloc::{AllocError, Global};
 use std::io::{self, BufReader, BufWriter, ErrorKind, Read, Write};

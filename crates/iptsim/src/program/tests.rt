@@ -1,7 +1,7 @@
 // What the program leaves on a writer that fails.
-use crate::job::Task;
 use crate::program::serve_between;
 use fields::{Failure, Fuse, FusedReader, FusedWriter};
+use jobs::Task;
 use sessions::{RunFault, Session};
 use std::io::{BufReader, BufWriter};
 use std::test::Fail;

@@ -2,7 +2,7 @@
 ghost use Rattle.std.specs.Prelude.{◌≡◌, IfErr, IfOk, false, map};
 ghost use Rattle.clap.specs.Words.{app_of, first_of, found_of, kind_of, rows_of, rule_of};
 ghost use Rattle.clap.specs.declared.builder.command.Command.TheViews.{out-Command as fields_of};
-ghost use Rattle.iptsim.specs.ProgramLine.{IsFaultOn, IsJobOf, IsJobOn, IsSubcommand, StandsFor, flag_rule, is_true, load_rule, program_app, restore_app, session_app};
+ghost use Rattle.jobs.specs.ProgramLine.{IsFaultOn, IsJobOf, IsJobOn, IsSubcommand, StandsFor, flag_rule, is_true, load_rule, program_app, restore_app, session_app};
 
 use clap::error::ErrorKind;
 use clap::{Arg, ArgAction, ArgMatches, Command, Error};
@@ -42,7 +42,7 @@ pub enum LineFault {
 }
 
 impl From<AllocError> for LineFault {
-    ghost use Rattle.iptsim.specs.declared.job.LineFault.TheVariants.{NoMemory};
+    ghost use Rattle.jobs.specs.declared.job.LineFault.TheVariants.{NoMemory};
 
     ghost from_gives = { λ _ fault. fault ≡ NoMemory };
 

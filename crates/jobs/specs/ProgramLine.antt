@@ -5,11 +5,11 @@ use Rattle.clap.specs.Words.{App, IsAmong, Row, Rule, Text, fault_of, first_of, 
 use Rattle.clap.specs.declared.builder.action.ArgAction.TheVariants.{SetTrue}
 use Rattle.clap.specs.declared.error.Error.{Error}
 use Rattle.clap.specs.declared.error.kind.ErrorKind.TheVariants.{OutOfMemory}
-use Rattle.iptsim.specs.declared.job.Job.{Job}
-use Rattle.iptsim.specs.declared.job.LineFault.{LineFault}
-use Rattle.iptsim.specs.declared.job.LineFault.TheVariants as faults
-use Rattle.iptsim.specs.declared.job.Task.{Task}
-use Rattle.iptsim.specs.declared.job.Task.TheVariants as tasks
+use Rattle.jobs.specs.declared.job.Job.{Job}
+use Rattle.jobs.specs.declared.job.LineFault.{LineFault}
+use Rattle.jobs.specs.declared.job.LineFault.TheVariants as faults
+use Rattle.jobs.specs.declared.job.Task.{Task}
+use Rattle.jobs.specs.declared.job.Task.TheVariants as tasks
 
 -- `--load FILE`
 abbrev pub load_rule : Rule

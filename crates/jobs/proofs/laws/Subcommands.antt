@@ -5,7 +5,7 @@ use Rattle.clap.specs.Words.{App, HasMatchesOf, Row, Shape, Text, fault_of, is_s
 use Rattle.clap.specs.Simple.{built, entered, names_of, rows_at}
 use Rattle.clap.specs.Walk.{stop_after}
 use Rattle.clap.specs.declared.parser.matches.ArgMatches.{ArgMatches}
-use Rattle.iptsim.specs.ProgramLine.{IsSubcommand, program_app}
+use Rattle.jobs.specs.ProgramLine.{IsSubcommand, program_app}
 
 -- a value whose two halves are known
 both_read : {X A B : Type 0} (h : X → A × B) (o : Option X) (a : A) (b : B) → Some a ≡ option_map (λ x. (h x).0) o

@@ -1,7 +1,7 @@
 use Rattle.std.proofs.Common.{Bor, map}
 use Rattle.clap.specs.Words.{Text}
-use Rattle.iptsim.proofs.laws.Subcommands.{named_by_words, named_is_known, taken_words}
-use Rattle.iptsim.proofs.job.Job.read.Goals as goal
+use Rattle.jobs.proofs.laws.Subcommands.{named_by_words, named_is_known, taken_words}
+use Rattle.jobs.proofs.job.Job.read.Goals as goal
 
 pub job_of-requires : goal.job_of-requires
 job_of-requires c =

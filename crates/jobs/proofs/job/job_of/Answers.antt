@@ -1,8 +1,8 @@
 use Rattle.std.proofs.Common.{rules, codes, ◌∙◌}
 use Rattle.clap.specs.Words.{found_of}
 use Rattle.clap.proofs.WalkLemmas.{first_value-rows}
-use Rattle.iptsim.proofs.job.job_of.Goals.{in-session, in-restore}
-use Rattle.iptsim.proofs.job.job_of.Goals as goal
+use Rattle.jobs.proofs.job.job_of.Goals.{in-session, in-restore}
+use Rattle.jobs.proofs.job.job_of.Goals as goal
 
 pub returns : goal.returns
 returns c = (
