@@ -33,6 +33,13 @@ pub fn listing(alloc: Global, times: u32) -> Result<(), Trouble> {
     Ok(())
 }
 
+/// Compares the rules of a chain, or of all.
+fn expect_rules(table: &Table, chain: Option<&[u8]>, text: &[u8]) -> Result<(), Trouble> {
+    let mut output = Tap::new(expecting(text));
+    expect(write_rules(table, chain, &mut output).is_ok())?;
+    expect(output.into_device().is_whole())
+}
+
 /// `write_rules`, of all chains, of a built-in chain, of a user chain, and of one that isn't there.
 pub fn rules(alloc: Global, times: u32) -> Result<(), Trouble> {
     let table = of_rules(alloc)?;
@@ -54,9 +61,7 @@ pub fn rules(alloc: Global, times: u32) -> Result<(), Trouble> {
     ];
     for _ in 0..times {
         for (chain, text) in rows {
-            let mut output = Tap::new(expecting(text));
-            expect(write_rules(&table, chain, &mut output).is_ok())?;
-            expect(output.into_device().is_whole())?;
+            expect_rules(&table, chain, text)?;
         }
     }
     Ok(())

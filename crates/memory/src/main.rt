@@ -103,6 +103,12 @@ fn run_ample<R: Print + AllocGlobal>(rt: &R) {
     tell(rt, "addresses", extremes::addresses(alloc));
     tell(rt, "interfaces", extremes::interfaces(alloc));
     tell(rt, "protocols, ports and types", extremes::numbers(alloc));
+    run_of_rules(rt);
+}
+
+/// The calls on large lists, and on rules.
+fn run_of_rules<R: Print + AllocGlobal>(rt: &R) {
+    let alloc = rt.alloc();
     tell(rt, "lists of ports", extremes::port_lists(alloc));
     tell(rt, "flags", extremes::flag_tests(alloc));
     tell(rt, "states", extremes::states(alloc));

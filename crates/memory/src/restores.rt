@@ -50,16 +50,26 @@ fn expect_open(restore: Restore) -> Result<(), Trouble> {
     expect(restore.finish() == Err(RestoreFault::EndBeforeCommit))
 }
 
+/// Ends one of the restores inside a section, and one between sections.
+fn end_one(alloc: Global, restores: &mut Vec<Restore>) -> Result<(), Trouble> {
+    expect_open(one_of(restores)?)?;
+    expect(Restore::new(alloc, true, true).finish().is_ok())
+}
+
+/// Ends restores inside a section, and between sections, so many times.
+fn end_often(alloc: Global, table: &mut Table, opening: &[u8], times: u32) -> Result<(), Trouble> {
+    let mut restores = all_inside(alloc, table, opening)?;
+    for _ in 0..times {
+        end_one(alloc, &mut restores)?;
+    }
+    Ok(())
+}
+
 /// `Restore::new` and `finish`, between sections and inside one.
 pub fn ends(alloc: Global, times: u32) -> Result<(), Trouble> {
     let mut table = Table::new(alloc)?;
     for opening in OPENING {
-        let mut restores = all_inside(alloc, &mut table, opening)?;
-        for _ in 0..times {
-            let restore = one_of(&mut restores)?;
-            expect_open(restore)?;
-            expect(Restore::new(alloc, true, true).finish().is_ok())?;
-        }
+        end_often(alloc, &mut table, opening, times)?;
     }
     Ok(())
 }
@@ -80,15 +90,33 @@ fn after_all(
     Ok(next)
 }
 
+/// Lines that ask nothing.
+const QUIET: [&[u8]; 4] = [b"", b" \t", b"# a \"b", b"\t#COMMIT"];
+
+/// The quiet lines between sections.
+fn quiet_between(alloc: Global, table: &mut Table, times: u32) -> Result<(), Trouble> {
+    let restore = after_all(Restore::new(alloc, false, false), table, &QUIET, times)?;
+    expect(restore.finish().is_ok())
+}
+
+/// Lines inside a section.
+fn lines_inside(
+    alloc: Global,
+    table: &mut Table,
+    opening: &[u8],
+    lines: &[&[u8]],
+    times: u32,
+) -> Result<(), Trouble> {
+    let restore = inside(alloc, table, opening)?;
+    expect_open(after_all(restore, table, lines, times)?)
+}
+
 /// `Restore::line` of blank lines and comments, between sections and inside each kind of section.
 pub fn quiet_lines(alloc: Global, times: u32) -> Result<(), Trouble> {
-    let lines = [b"".as_slice(), b" \t ", b"# a \"b", b"\t#COMMIT"];
     let mut table = Table::new(alloc)?;
-    let restore = after_all(Restore::new(alloc, false, false), &mut table, &lines, times)?;
-    expect(restore.finish().is_ok())?;
+    quiet_between(alloc, &mut table, times)?;
     for opening in OPENING {
-        let restore = inside(alloc, &mut table, opening)?;
-        expect_open(after_all(restore, &mut table, &lines, times)?)?;
+        lines_inside(alloc, &mut table, opening, &QUIET, times)?;
     }
     Ok(())
 }
@@ -103,8 +131,7 @@ pub fn skipped_lines(alloc: Global, times: u32) -> Result<(), Trouble> {
         b"COMMIT x",
     ];
     let mut table = Table::new(alloc)?;
-    let restore = inside(alloc, &mut table, b"*nat")?;
-    expect_open(after_all(restore, &mut table, &lines, times)?)
+    lines_inside(alloc, &mut table, b"*nat", &lines, times)
 }
 
 /// Whether a line ends a restore by a fault.
@@ -115,18 +142,71 @@ fn ends_by(restore: Restore, table: &mut Table, line: &[u8], fault: RestoreFault
     }
 }
 
+/// One of the restores inside a section, and one between sections, each after a line that is too long.
+fn too_long(
+    alloc: Global,
+    table: &mut Table,
+    restores: &mut Vec<Restore>,
+    line: &[u8],
+) -> Result<(), Trouble> {
+    let restore = one_of(restores)?;
+    let between = Restore::new(alloc, false, false);
+    expect(ends_by(restore, table, line, RestoreFault::LineTooLong))?;
+    expect(ends_by(between, table, line, RestoreFault::LineTooLong))
+}
+
+/// The same so many times.
+fn too_long_often(
+    alloc: Global,
+    table: &mut Table,
+    opening: &[u8],
+    line: &[u8],
+    times: u32,
+) -> Result<(), Trouble> {
+    let mut restores = all_inside(alloc, table, opening)?;
+    for _ in 0..times {
+        too_long(alloc, table, &mut restores, line)?;
+    }
+    Ok(())
+}
+
 /// `Restore::line` of a line that is too long, between sections and inside each kind of section.
 pub fn long_lines(alloc: Global, times: u32) -> Result<(), Trouble> {
     let line = [b'#'; 10_241];
     let mut table = Table::new(alloc)?;
     for opening in OPENING {
-        let mut restores = all_inside(alloc, &mut table, opening)?;
-        for _ in 0..times {
-            let restore = one_of(&mut restores)?;
-            let between = Restore::new(alloc, false, false);
-            expect(ends_by(restore, &mut table, &line, RestoreFault::LineTooLong))?;
-            expect(ends_by(between, &mut table, &line, RestoreFault::LineTooLong))?;
-        }
+        too_long_often(alloc, &mut table, opening, &line, times)?;
+    }
+    Ok(())
+}
+
+/// One of the restores inside a section after `COMMIT`, which it accepts.
+fn expect_closed(table: &mut Table, restores: &mut Vec<Restore>) -> Result<(), Trouble> {
+    let closed = after(one_of(restores)?, table, b" COMMIT\t")?;
+    expect(closed.finish().is_ok())
+}
+
+/// The same, and a restore between sections after `COMMIT`.
+fn commit_one(
+    alloc: Global,
+    table: &mut Table,
+    restores: &mut Vec<Restore>,
+) -> Result<(), Trouble> {
+    expect_closed(table, restores)?;
+    let between = Restore::new(alloc, false, false);
+    expect(ends_by(between, table, b"COMMIT", RestoreFault::NotAllowed))
+}
+
+/// The same so many times.
+fn commit_often(
+    alloc: Global,
+    table: &mut Table,
+    opening: &[u8],
+    times: u32,
+) -> Result<(), Trouble> {
+    let mut restores = all_inside(alloc, table, opening)?;
+    for _ in 0..times {
+        commit_one(alloc, table, &mut restores)?;
     }
     Ok(())
 }
@@ -135,32 +215,37 @@ pub fn long_lines(alloc: Global, times: u32) -> Result<(), Trouble> {
 pub fn commit_lines(alloc: Global, times: u32) -> Result<(), Trouble> {
     let mut table = Table::new(alloc)?;
     for opening in OPENING {
-        let mut restores = all_inside(alloc, &mut table, opening)?;
-        for _ in 0..times {
-            let restore = one_of(&mut restores)?;
-            expect(after(restore, &mut table, b" COMMIT\t")?.finish().is_ok())?;
-            let between = Restore::new(alloc, false, false);
-            expect(ends_by(between, &mut table, b"COMMIT", RestoreFault::NotAllowed))?;
-        }
+        commit_often(alloc, &mut table, opening, times)?;
     }
     Ok(())
+}
+
+/// All sections of a table.
+fn all_sections(alloc: Global, table: &Table) -> Result<Vec<Transaction>, Trouble> {
+    let mut sections = Vec::with_capacity(alloc, BEGUN as usize)?;
+    for _ in 0..BEGUN {
+        let section = Transaction::begin(alloc, table, true)?;
+        if sections.push(section).is_err() {
+            return Err(Trouble::NoMemory);
+        }
+    }
+    Ok(sections)
+}
+
+/// Commits one of the sections.
+fn commit_section(sections: &mut Vec<Transaction>) -> Result<(), Trouble> {
+    let Some(section) = sections.pop() else {
+        return Err(Trouble::OtherAnswer);
+    };
+    expect(section.commit().chain_count() == 3)
 }
 
 /// `Transaction::commit`.
 pub fn sections(alloc: Global, times: u32) -> Result<(), Trouble> {
     let table = Table::new(alloc)?;
-    let mut sections = Vec::with_capacity(alloc, BEGUN as usize)?;
-    for _ in 0..BEGUN {
-        let section = Transaction::begin(alloc, &table, true)?;
-        if sections.push(section).is_err() {
-            return Err(Trouble::NoMemory);
-        }
-    }
+    let mut sections = all_sections(alloc, &table)?;
     for _ in 0..times {
-        let Some(section) = sections.pop() else {
-            return Err(Trouble::OtherAnswer);
-        };
-        expect(section.commit().chain_count() == 3)?;
+        commit_section(&mut sections)?;
     }
     Ok(())
 }

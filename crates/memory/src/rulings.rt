@@ -22,6 +22,25 @@ pub fn box_of(alloc: Global, line: &[u8]) -> Result<Boxed, Trouble> {
     Ok(Boxed::of(alloc, &rule, &mut Work::new())?)
 }
 
+/// Whether a rule goes to the long chain.
+fn goes(rule: &Rule) -> bool {
+    match rule.target() {
+        Some(Target::Goto(name)) => is_text(name.bytes(), b"chain-of-more-than-16-bytes"),
+        _ => false,
+    }
+}
+
+/// Whether one rule rejects, with a condition on the way in alone, and the other goes to the long chain, with one on the
+/// way out alone.
+fn are_told(reject: &Rule, jump: &Rule) -> bool {
+    reject.target() == Some(Target::Reject(RejectType::default()))
+        && reject.on_in()
+        && !reject.on_out()
+        && jump.on_out()
+        && !jump.on_in()
+        && goes(jump)
+}
+
 /// `Rule::target`, `on_in` and `on_out`.
 pub fn target(alloc: Global, times: u32) -> Result<(), Trouble> {
     let reject = rule_of(alloc, b"-i eth+ -j REJECT")?;
@@ -30,15 +49,7 @@ pub fn target(alloc: Global, times: u32) -> Result<(), Trouble> {
         b"! -o lo -m comment --comment \"a b\" -g chain-of-more-than-16-bytes",
     )?;
     for _ in 0..times {
-        expect(reject.target() == Some(Target::Reject(RejectType::default())))?;
-        expect(reject.on_in() && !reject.on_out() && jump.on_out() && !jump.on_in())?;
-        match jump.target() {
-            Some(Target::Goto(name)) => expect(is_text(
-                name.bytes(),
-                b"chain-of-more-than-16-bytes",
-            ))?,
-            _ => return Err(Trouble::OtherAnswer),
-        }
+        expect(are_told(&reject, &jump))?;
     }
     Ok(())
 }

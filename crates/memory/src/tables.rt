@@ -3,7 +3,7 @@ use crate::lent::words_of;
 use crate::rulings::rule_of;
 use crate::trouble::{Trouble, expect, is_text};
 use fields::{Field, Packet};
-use rules::Work;
+use rules::{Rule, Work};
 use std::alloc::Global;
 use table::{Policy, Table, TableFault, Verdict};
 
@@ -52,41 +52,77 @@ fn rules_of_input(table: &Table) -> usize {
     table.rule_count(0)
 }
 
+/// Compares how many rules INPUT has after so many deletes.
+fn expect_left(table: &Table, times: u32) -> Result<(), Trouble> {
+    expect(rules_of_input(table) == 1000usize.saturating_sub(times as usize))
+}
+
+/// Deletes the rule after the last, which isn't there, and the middle one.
+fn delete_middle(table: &mut Table) -> Result<(), Trouble> {
+    let last = rules_of_input(table);
+    expect(table.delete_at(b"INPUT", last.saturating_add(1)) == Err(TableFault::NumberOutOfRange))?;
+    accepted(table.delete_at(b"INPUT", last / 2 + 1))
+}
+
 /// `Table::delete_at`.
 pub fn delete_at(alloc: Global, times: u32) -> Result<(), Trouble> {
     let mut table = full(alloc)?;
     for _ in 0..times {
-        let last = rules_of_input(&table);
-        expect(
-            table.delete_at(b"INPUT", last.saturating_add(1)) == Err(TableFault::NumberOutOfRange),
-        )?;
-        accepted(table.delete_at(b"INPUT", last / 2 + 1))?;
+        delete_middle(&mut table)?;
     }
-    expect(rules_of_input(&table) == 1000usize.saturating_sub(times as usize))
+    expect_left(&table, times)
+}
+
+/// Deletes a rule that isn't there, and one that is.
+fn delete_one(table: &mut Table, rule: &Rule, other: &Rule) -> Result<(), Trouble> {
+    expect(table.delete_rule(b"INPUT", other) == Err(TableFault::NoSuchRule))?;
+    accepted(table.delete_rule(b"INPUT", rule))
+}
+
+/// The same so many times.
+fn delete_often(table: &mut Table, rule: &Rule, other: &Rule, times: u32) -> Result<(), Trouble> {
+    for _ in 0..times {
+        delete_one(table, rule, other)?;
+    }
+    expect_left(table, times)
 }
 
 /// `Table::delete_rule`.
 pub fn delete_rule(alloc: Global, times: u32) -> Result<(), Trouble> {
     let mut table = full(alloc)?;
-    let (rule, other) = (rule_of(alloc, RULE)?, rule_of(alloc, b"-j a")?);
+    let rule = rule_of(alloc, RULE)?;
+    let other = rule_of(alloc, b"-j a")?;
+    delete_often(&mut table, &rule, &other, times)
+}
+
+/// A table with the chains `a` and `b`, and a rule of one chain.
+fn with_rule(alloc: Global, chain: &[u8]) -> Result<Table, Trouble> {
+    let mut table = of_chains(alloc)?;
+    append(alloc, &mut table, chain, RULE)?;
+    Ok(table)
+}
+
+/// Whether a table lacks a rule, and the chain `input`.
+fn lacks(table: &Table, rule: &Rule, other: &Rule) -> bool {
+    table.has_rule(b"INPUT", other) == Err(TableFault::NoSuchRule)
+        && table.has_rule(b"input", rule) == Err(TableFault::NoSuchChain)
+}
+
+/// Looks for a rule, and for another one that isn't there, so many times.
+fn look_often(table: &Table, rule: &Rule, other: &Rule, times: u32) -> Result<(), Trouble> {
     for _ in 0..times {
-        expect(table.delete_rule(b"INPUT", &other) == Err(TableFault::NoSuchRule))?;
-        accepted(table.delete_rule(b"INPUT", &rule))?;
+        accepted(table.has_rule(b"INPUT", rule))?;
+        expect(lacks(table, rule, other))?;
     }
-    expect(rules_of_input(&table) == 1000usize.saturating_sub(times as usize))
+    Ok(())
 }
 
 /// `Table::has_rule`.
 pub fn has_rule(alloc: Global, times: u32) -> Result<(), Trouble> {
-    let mut table = of_chains(alloc)?;
-    append(alloc, &mut table, b"INPUT", RULE)?;
-    let (rule, other) = (rule_of(alloc, RULE)?, rule_of(alloc, b"-j a")?);
-    for _ in 0..times {
-        accepted(table.has_rule(b"INPUT", &rule))?;
-        expect(table.has_rule(b"INPUT", &other) == Err(TableFault::NoSuchRule))?;
-        expect(table.has_rule(b"input", &rule) == Err(TableFault::NoSuchChain))?;
-    }
-    Ok(())
+    let table = with_rule(alloc, b"INPUT")?;
+    let rule = rule_of(alloc, RULE)?;
+    let other = rule_of(alloc, b"-j a")?;
+    look_often(&table, &rule, &other, times)
 }
 
 /// Puts the rules in, one at a time, and takes each out: the first ones by the calls, each of which is `flush` or else
@@ -117,15 +153,24 @@ pub fn flush_all(alloc: Global, times: u32) -> Result<(), Trouble> {
     emptied(alloc, times, false)
 }
 
+/// Sets the policy of OUTPUT.
+fn set_output(table: &mut Table, text: &[u8], policy: Policy) -> Result<(), Trouble> {
+    accepted(table.set_policy(b"OUTPUT", text))?;
+    expect(table.policy(2) == Some(policy) && table.policy(3).is_none())
+}
+
+/// Sets the policy of OUTPUT to each, and that of a user chain, which has none.
+fn set_each(table: &mut Table) -> Result<(), Trouble> {
+    set_output(table, b"DROP", Policy::Drop)?;
+    set_output(table, b"ACCEPT", Policy::Accept)?;
+    expect(table.set_policy(b"a", b"DROP") == Err(TableFault::NotBuiltInChain))
+}
+
 /// `Table::set_policy`.
 pub fn set_policy(alloc: Global, times: u32) -> Result<(), Trouble> {
     let mut table = of_chains(alloc)?;
     for _ in 0..times {
-        accepted(table.set_policy(b"OUTPUT", b"DROP"))?;
-        expect(table.policy(2) == Some(Policy::Drop) && table.policy(3).is_none())?;
-        accepted(table.set_policy(b"OUTPUT", b"ACCEPT"))?;
-        expect(table.policy(2) == Some(Policy::Accept))?;
-        expect(table.set_policy(b"a", b"DROP") == Err(TableFault::NotBuiltInChain))?;
+        set_each(&mut table)?;
     }
     Ok(())
 }
@@ -138,41 +183,60 @@ fn packet_of(alloc: Global, line: &[u8]) -> Result<Packet, Trouble> {
     }
 }
 
-/// `Table::verdict`, of a walk that jumps, goes and returns, and of one that ends at the policy.
-pub fn verdict(alloc: Global, times: u32) -> Result<(), Trouble> {
+/// The rules of a walk that jumps, goes and returns: their chains and lines.
+const WALKED: [(&[u8], &[u8]); 4] = [
+    (b"INPUT", RULE),
+    (b"INPUT", b"-p tcp -j DROP"),
+    (b"a", b"-g b"),
+    (b"b", b"-j RETURN"),
+];
+
+/// A table with the rules of the walk.
+fn of_walk(alloc: Global) -> Result<Table, Trouble> {
     let mut table = of_chains(alloc)?;
-    let rows: [(&[u8], &[u8]); 4] = [
-        (b"INPUT", RULE),
-        (b"INPUT", b"-p tcp -j DROP"),
-        (b"a", b"-g b"),
-        (b"b", b"-j RETURN"),
-    ];
-    for (chain, line) in rows {
+    for (chain, line) in WALKED {
         append(alloc, &mut table, chain, line)?;
     }
+    Ok(table)
+}
+
+/// Whether a table drops a packet and accepts another.
+fn divides(table: &Table, dropped: &Packet, passed: &Packet) -> bool {
+    table.verdict(dropped) == Verdict::Drop && table.verdict(passed) == Verdict::Accept
+}
+
+/// `Table::verdict`, of a walk that jumps, goes and returns, and of one that ends at the policy.
+pub fn verdict(alloc: Global, times: u32) -> Result<(), Trouble> {
+    let table = of_walk(alloc)?;
     let first = b"INPUT src=10.0.0.1 dst=10.0.0.2 proto=tcp sport=7 dport=22";
-    let packets = (
-        packet_of(alloc, first)?,
-        packet_of(alloc, b"OUTPUT src=10.0.0.1 dst=10.0.0.2 proto=47")?,
-    );
+    let dropped = packet_of(alloc, first)?;
+    let passed = packet_of(alloc, b"OUTPUT src=10.0.0.1 dst=10.0.0.2 proto=47")?;
     for _ in 0..times {
-        expect(table.verdict(&packets.0) == Verdict::Drop)?;
-        expect(table.verdict(&packets.1) == Verdict::Accept)?;
+        expect(divides(&table, &dropped, &passed))?;
     }
     Ok(())
 }
 
+/// Whether the last of five chains is `b`, of one rule.
+fn has_chain(table: &Table) -> bool {
+    table.chain_count() == 5 && is_text(table.chain_name(4), b"b") && table.rule_count(4) == 1
+}
+
+/// Whether the first chain has the policy ACCEPT, and the last one none.
+fn has_policies(table: &Table) -> bool {
+    table.policy(0) == Some(Policy::Accept) && table.policy(4).is_none()
+}
+
+/// Whether the line of the addresses has three pieces in the last of five chains.
+fn has_line(table: &Table) -> bool {
+    table.chain_count() == 5 && table.classifier(4).line(Field::Source).len() == 3
+}
+
 /// `Table::chain_count`, `chain_name`, `policy`, `rule_count` and `classifier`.
 pub fn views(alloc: Global, times: u32) -> Result<(), Trouble> {
-    let mut table = of_chains(alloc)?;
-    append(alloc, &mut table, b"b", RULE)?;
+    let table = with_rule(alloc, b"b")?;
     for _ in 0..times {
-        if table.chain_count() != 5 {
-            return Err(Trouble::OtherAnswer);
-        }
-        expect(is_text(table.chain_name(4), b"b") && table.rule_count(4) == 1)?;
-        expect(table.policy(0) == Some(Policy::Accept) && table.policy(4).is_none())?;
-        expect(table.classifier(4).line(Field::Source).len() == 3)?;
+        expect(has_chain(&table) && has_policies(&table) && has_line(&table))?;
     }
     Ok(())
 }

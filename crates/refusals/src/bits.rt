@@ -16,16 +16,33 @@ pub fn has_bits(row: &BitRow, len: usize, set: &[usize]) -> bool {
     true
 }
 
+/// Puts a bit in first; a refusal leaves the bits that were there.
+fn insert_first(
+    refusals: &mut Refusals,
+    row: &mut BitRow,
+    bit: bool,
+    len: usize,
+    set: &[usize],
+) -> Result<(), Trouble> {
+    again!(refusals, row.insert(0, bit), has_bits(row, len, set));
+    Ok(())
+}
+
+/// Fills the word of a row of one bit, in which there is room.
+fn fill(row: &mut BitRow) -> Result<(), Trouble> {
+    for _ in 1..64 {
+        expect_given(row.insert(row.len(), false))?;
+    }
+    Ok(())
+}
+
 /// `BitRow::insert`, into a row of no bit and into one whose word is full.
 pub fn insert(alloc: Global, refusals: &mut Refusals) -> Result<(), Trouble> {
     let mut row = BitRow::new(alloc);
-    again!(refusals, row.insert(0, true), has_bits(&row, 0, &[]));
+    insert_first(refusals, &mut row, true, 0, &[])?;
     expect(has_bits(&row, 1, &[0]))?;
-    for _ in 1..64 {
-        // There is room for these.
-        expect_given(row.insert(row.len(), false))?;
-    }
+    fill(&mut row)?;
     expect(has_bits(&row, 64, &[0]))?;
-    again!(refusals, row.insert(0, false), has_bits(&row, 64, &[0]));
+    insert_first(refusals, &mut row, false, 64, &[0])?;
     expect(has_bits(&row, 65, &[1]))
 }

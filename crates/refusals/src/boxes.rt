@@ -3,7 +3,7 @@ use crate::case::{Refusals, Trouble, again, expect, expect_kept};
 use crate::rulings::{has_text, rule_of};
 use crate::sets::{Ends, has_just};
 use fields::{FIELDS, Field};
-use rules::{Boxed, Work};
+use rules::{Boxed, Rule, Work};
 use std::alloc::Global;
 
 /// The box of the rule that a line writes.
@@ -28,6 +28,37 @@ fn is_box(boxed: &Boxed, rows: &[(Field, &[Ends])]) -> bool {
     boxed.spans().len() == FIELDS
 }
 
+/// Boxes a rule, and compares its box; a refusal leaves the rule's text.
+fn expect_box(
+    alloc: Global,
+    refusals: &mut Refusals,
+    rule: &Rule,
+    text: &[u8],
+    sets: &[(Field, &[Ends])],
+) -> Result<(), Trouble> {
+    let mut work = Work::new();
+    for calls in 1..3 {
+        if let Ok(boxed) = Boxed::of(alloc, rule, &mut work) {
+            return expect(work.boxes() == calls && is_box(&boxed, sets));
+        }
+        refusals.note();
+        expect_kept(work.boxes() == calls && has_text(alloc, refusals, rule, text)?)?;
+    }
+    Err(Trouble::RefusedTwice)
+}
+
+/// Reads a rule, and compares its box.
+fn expect_box_of(
+    alloc: Global,
+    refusals: &mut Refusals,
+    line: &[u8],
+    text: &[u8],
+    sets: &[(Field, &[Ends])],
+) -> Result<(), Trouble> {
+    let rule = rule_of(alloc, refusals, line)?;
+    expect_box(alloc, refusals, &rule, text, sets)
+}
+
 /// `Boxed::of`.
 pub fn of(alloc: Global, refusals: &mut Refusals) -> Result<(), Trouble> {
     let rows: [(&[u8], &[u8], &[(Field, &[Ends])]); 3] = [
@@ -48,22 +79,7 @@ pub fn of(alloc: Global, refusals: &mut Refusals) -> Result<(), Trouble> {
         ),
     ];
     for (line, text, sets) in rows {
-        let rule = rule_of(alloc, refusals, line)?;
-        let mut work = Work::new();
-        let mut calls = 1;
-        let boxed = match Boxed::of(alloc, &rule, &mut work) {
-            Ok(boxed) => boxed,
-            Err(_) => {
-                refusals.note();
-                expect_kept(work.boxes() == 1 && has_text(alloc, refusals, &rule, text)?)?;
-                calls = 2;
-                match Boxed::of(alloc, &rule, &mut work) {
-                    Ok(boxed) => boxed,
-                    Err(_) => return Err(Trouble::RefusedTwice),
-                }
-            }
-        };
-        expect(work.boxes() == calls && is_box(&boxed, sets))?;
+        expect_box_of(alloc, refusals, line, text, sets)?;
     }
     Ok(())
 }

@@ -3,6 +3,7 @@ use crate::boxes::box_of;
 use crate::case::{Refusals, Trouble, again, expect, expect_given, expect_kept};
 use classify::{Classifier, Line, Row};
 use fields::Field;
+use rules::Boxed;
 use std::alloc::Global;
 
 /// The start of a piece, and the places of the boxes that allow its numbers.
@@ -111,6 +112,21 @@ fn is_of(classifier: &Classifier, boxes: usize, rows: &[Expected]) -> bool {
     true
 }
 
+/// Whether the box of a rule got in at a place.
+fn got_in(
+    alloc: Global,
+    refusals: &mut Refusals,
+    classifier: &mut Classifier,
+    place: usize,
+    line: &[u8],
+) -> Result<bool, Trouble> {
+    let boxed = box_of(alloc, refusals, line)?;
+    if place > classifier.len() {
+        return Err(Trouble::OtherAnswer);
+    }
+    Ok(classifier.insert(place, boxed).is_ok())
+}
+
 /// Puts the box of a rule in at a place; a refusal leaves the lines that were there.
 fn put(
     alloc: Global,
@@ -122,11 +138,7 @@ fn put(
 ) -> Result<(), Trouble> {
     let boxes = classifier.len();
     for _ in 0..2 {
-        let boxed = box_of(alloc, refusals, line)?;
-        if place > classifier.len() {
-            return Err(Trouble::OtherAnswer);
-        }
-        if classifier.insert(place, boxed).is_ok() {
+        if got_in(alloc, refusals, classifier, place, line)? {
             return Ok(());
         }
         refusals.note();
@@ -153,14 +165,23 @@ pub fn new(alloc: Global, refusals: &mut Refusals) -> Result<(), Trouble> {
     expect(is_of(&classifier, 0, &[]))
 }
 
+/// The copy of a classifier of two boxes; a refusal leaves its lines.
+fn copy_of(
+    alloc: Global,
+    refusals: &mut Refusals,
+    classifier: &Classifier,
+) -> Result<Classifier, Trouble> {
+    Ok(again!(
+        refusals,
+        classifier.copy(alloc),
+        is_of(classifier, 2, &OF_BOTH)
+    ))
+}
+
 /// `Classifier::copy`.
 pub fn copy(alloc: Global, refusals: &mut Refusals) -> Result<(), Trouble> {
     let classifier = of_both(alloc, refusals)?;
-    let copy = again!(
-        refusals,
-        classifier.copy(alloc),
-        is_of(&classifier, 2, &OF_BOTH)
-    );
+    let copy = copy_of(alloc, refusals, &classifier)?;
     expect(is_of(&copy, 2, &OF_BOTH) && is_of(&classifier, 2, &OF_BOTH))
 }
 
@@ -173,22 +194,72 @@ pub fn insert(alloc: Global, refusals: &mut Refusals) -> Result<(), Trouble> {
     expect(is_of(&classifier, 2, &OF_BOTH))
 }
 
+/// Whether the box of a rule got in the place of the first.
+fn got_over(
+    alloc: Global,
+    refusals: &mut Refusals,
+    classifier: &mut Classifier,
+    line: &[u8],
+) -> Result<bool, Trouble> {
+    let boxed = box_of(alloc, refusals, line)?;
+    if classifier.len() == 0 {
+        return Err(Trouble::OtherAnswer);
+    }
+    Ok(classifier.replace(0, boxed).is_ok())
+}
+
 /// `Classifier::replace`, by a box that brings new cuts and lacks old ones.
 pub fn replace(alloc: Global, refusals: &mut Refusals) -> Result<(), Trouble> {
     let mut classifier = none(alloc, refusals)?;
     put(alloc, refusals, &mut classifier, 0, FIRST, &[])?;
     for _ in 0..2 {
-        let boxed = box_of(alloc, refusals, SECOND)?;
-        if classifier.len() == 0 {
-            return Err(Trouble::OtherAnswer);
-        }
-        if classifier.replace(0, boxed).is_ok() {
+        if got_over(alloc, refusals, &mut classifier, SECOND)? {
             return expect(is_of(&classifier, 1, &OF_SECOND));
         }
         refusals.note();
         expect_kept(is_of(&classifier, 1, &OF_FIRST))?;
     }
     Err(Trouble::RefusedTwice)
+}
+
+/// Puts a box without conditions first among two.
+fn give_in(classifier: &mut Classifier, put_in: Boxed) -> Result<(), Trouble> {
+    if classifier.len() != 2 {
+        return Err(Trouble::OtherAnswer);
+    }
+    expect_given(classifier.insert(0, put_in))?;
+    expect(is_of(classifier, 3, &OF_ANY_AND_BOTH))
+}
+
+/// Takes the first of three boxes out.
+fn take_out(classifier: &mut Classifier) -> Result<(), Trouble> {
+    if classifier.len() != 3 {
+        return Err(Trouble::OtherAnswer);
+    }
+    classifier.remove(0);
+    Ok(())
+}
+
+/// The lines of the first box before one without conditions.
+const OF_FIRST_AND_ANY: [Expected<'static>; 1] = [(
+    Field::Source,
+    &[(0, &[1]), (167_772_160, &[0, 1]), (184_549_376, &[1])],
+)];
+
+/// Puts a box without conditions over the last of two.
+fn give_over(classifier: &mut Classifier, put_over: Boxed) -> Result<(), Trouble> {
+    if classifier.len() != 2 {
+        return Err(Trouble::OtherAnswer);
+    }
+    expect_given(classifier.replace(1, put_over))?;
+    expect(is_of(classifier, 2, &OF_FIRST_AND_ANY))
+}
+
+/// Puts a box without conditions in where all were taken out.
+fn give_back(classifier: &mut Classifier, put_back: Boxed) -> Result<(), Trouble> {
+    classifier.clear();
+    expect_given(classifier.insert(0, put_back))?;
+    expect(is_of(classifier, 1, &[]))
 }
 
 /// A box without conditions, made before, goes into a classifier of two boxes, takes the place of one, and goes into
@@ -199,27 +270,11 @@ pub fn replace(alloc: Global, refusals: &mut Refusals) -> Result<(), Trouble> {
 /// run is refused in turn, and each call has to succeed at once every time.
 pub fn needless(alloc: Global, refusals: &mut Refusals) -> Result<(), Trouble> {
     let mut classifier = of_both(alloc, refusals)?;
-    let (put_in, put_over) = (box_of(alloc, refusals, ANY)?, box_of(alloc, refusals, ANY)?);
+    let put_in = box_of(alloc, refusals, ANY)?;
+    let put_over = box_of(alloc, refusals, ANY)?;
     let put_back = box_of(alloc, refusals, ANY)?;
-    if classifier.len() != 2 {
-        return Err(Trouble::OtherAnswer);
-    }
-    expect_given(classifier.insert(0, put_in))?;
-    expect(is_of(&classifier, 3, &OF_ANY_AND_BOTH))?;
-    if classifier.len() != 3 {
-        return Err(Trouble::OtherAnswer);
-    }
-    classifier.remove(0);
-    if classifier.len() != 2 {
-        return Err(Trouble::OtherAnswer);
-    }
-    expect_given(classifier.replace(1, put_over))?;
-    let rows: [Expected; 1] = [(
-        Field::Source,
-        &[(0, &[1]), (167_772_160, &[0, 1]), (184_549_376, &[1])],
-    )];
-    expect(is_of(&classifier, 2, &rows))?;
-    classifier.clear();
-    expect_given(classifier.insert(0, put_back))?;
-    expect(is_of(&classifier, 1, &[]))
+    give_in(&mut classifier, put_in)?;
+    take_out(&mut classifier)?;
+    give_over(&mut classifier, put_over)?;
+    give_back(&mut classifier, put_back)
 }

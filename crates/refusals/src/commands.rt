@@ -1,12 +1,12 @@
 //! Commands, read from words and done to a table.
 use crate::case::{Refusals, Trouble, expect, expect_kept};
-use crate::listings::{WITH_ONE, has_listing};
-use crate::rulings::{has_text, rule_of};
+use crate::listings::{WITH_ONE, expect_kept_listing, expect_listing};
+use crate::rulings::{expect_text, rule_of};
 use crate::tables::with_one;
 use crate::words::{are_words, words_of};
 use fields::Words;
 use restore::{Command, CommandFault};
-use rules::{Refusal, RuleFault, Work};
+use rules::{Refusal, Rule, RuleFault, Work};
 use std::alloc::Global;
 use table::{Table, TableFault};
 
@@ -36,6 +36,23 @@ fn answer<'a>(
     Err(Trouble::RefusedTwice)
 }
 
+/// Compares the command that words write: a rule for INPUT.
+fn expect_append(
+    alloc: Global,
+    refusals: &mut Refusals,
+    words: &Words,
+    expected: &[&[u8]],
+    text: &[u8],
+) -> Result<(), Trouble> {
+    match answer(alloc, refusals, words, expected)? {
+        Ok(Command::Append(chain, rule)) => {
+            expect(chain == b"INPUT".as_slice())?;
+            expect_text(alloc, refusals, &rule, text)
+        }
+        _ => Err(Trouble::OtherAnswer),
+    }
+}
+
 /// `Command::read` of a command with a rule.
 fn read_append(alloc: Global, refusals: &mut Refusals) -> Result<(), Trouble> {
     let words = split(
@@ -53,40 +70,42 @@ fn read_append(alloc: Global, refusals: &mut Refusals) -> Result<(), Trouble> {
         b"-j",
         b"a",
     ];
-    match answer(alloc, refusals, &words, &expected)? {
-        Ok(Command::Append(chain, rule)) => {
-            expect(chain == b"INPUT".as_slice())?;
-            let text = b" -m comment --comment \"x y\" -j a";
-            expect(has_text(alloc, refusals, &rule, text)?)
-        }
-        _ => Err(Trouble::OtherAnswer),
+    let text = b" -m comment --comment \"x y\" -j a";
+    expect_append(alloc, refusals, &words, &expected, text)
+}
+
+/// Reads a line that writes no command.
+fn read_refused(
+    alloc: Global,
+    refusals: &mut Refusals,
+    line: &[u8],
+    expected: &[&[u8]],
+    fault: CommandFault,
+) -> Result<(), Trouble> {
+    let words = split(alloc, refusals, line)?;
+    match answer(alloc, refusals, &words, expected)? {
+        Ok(_) => Err(Trouble::OtherAnswer),
+        Err(found) => expect(found == fault),
     }
 }
 
 /// `Command::read`, of a command with a rule and of words that are none.
 pub fn read(alloc: Global, refusals: &mut Refusals) -> Result<(), Trouble> {
     read_append(alloc, refusals)?;
-    let protocol_needed = RuleFault::Refused(Refusal::ProtocolNeeded);
-    let rows: [(&[u8], &[&[u8]], CommandFault); 2] = [
-        (
-            b"-C a -f -F",
-            &[b"-C", b"a", b"-f", b"-F"],
-            CommandFault::TwoCommands,
-        ),
-        (
-            b"-C a -s 1.1.1.1 --sport 1",
-            &[b"-C", b"a", b"-s", b"1.1.1.1", b"--sport", b"1"],
-            CommandFault::Rule(protocol_needed),
-        ),
-    ];
-    for (line, expected, fault) in rows {
-        let words = split(alloc, refusals, line)?;
-        match answer(alloc, refusals, &words, expected)? {
-            Ok(_) => return Err(Trouble::OtherAnswer),
-            Err(found) => expect(found == fault)?,
-        }
-    }
-    Ok(())
+    read_refused(
+        alloc,
+        refusals,
+        b"-C a -f -F",
+        &[b"-C", b"a", b"-f", b"-F"],
+        CommandFault::TwoCommands,
+    )?;
+    read_refused(
+        alloc,
+        refusals,
+        b"-C a -s 1.1.1.1 --sport 1",
+        &[b"-C", b"a", b"-s", b"1.1.1.1", b"--sport", b"1"],
+        CommandFault::Rule(RuleFault::Refused(Refusal::ProtocolNeeded)),
+    )
 }
 
 /// `Command::read` of commands without a rule, which take no memory.
@@ -139,21 +158,50 @@ fn done(
             Err(TableFault::NoMemory) => refusals.note(),
             Err(_) => return Err(Trouble::OtherAnswer),
         }
-        expect_kept(has_listing(alloc, refusals, table, listing)?)?;
+        expect_kept_listing(alloc, refusals, table, listing)?;
     }
     Err(Trouble::RefusedTwice)
+}
+
+/// The rest of the listing after a further rule of INPUT.
+const WITH_TWO: &[u8] =
+    b":a - [0:0]\n-A INPUT -s 10.0.0.0/8 -j DROP\n-A INPUT -p tcp -m tcp --dport 22 -j a\nCOMMIT\n";
+
+/// The rest of the listing after a new chain.
+const WITH_CHAIN: &[u8] =
+    b":a - [0:0]\n:b - [0:0]\n-A INPUT -s 10.0.0.0/8 -j DROP\n-A INPUT -p tcp -m tcp --dport 22 -j a\nCOMMIT\n";
+
+/// Does the command, between one listing and another.
+fn expect_done(
+    alloc: Global,
+    refusals: &mut Refusals,
+    table: &mut Table,
+    edit: Edit,
+    before: &[u8],
+    after: &[u8],
+) -> Result<(), Trouble> {
+    expect_listing(alloc, refusals, table, before)?;
+    done(alloc, refusals, table, edit, before)?;
+    expect_listing(alloc, refusals, table, after)
 }
 
 /// `apply`, of a rule put last in a chain and of a new chain.
 pub fn apply(alloc: Global, refusals: &mut Refusals) -> Result<(), Trouble> {
     let mut table = with_one(alloc, refusals)?;
-    expect(has_listing(alloc, refusals, &table, WITH_ONE)?)?;
-    done(alloc, refusals, &mut table, Edit::Append, WITH_ONE)?;
-    let with_two =
-        b":a - [0:0]\n-A INPUT -s 10.0.0.0/8 -j DROP\n-A INPUT -p tcp -m tcp --dport 22 -j a\nCOMMIT\n";
-    expect(has_listing(alloc, refusals, &table, with_two)?)?;
-    done(alloc, refusals, &mut table, Edit::NewChain, with_two)?;
-    let with_chain =
-        b":a - [0:0]\n:b - [0:0]\n-A INPUT -s 10.0.0.0/8 -j DROP\n-A INPUT -p tcp -m tcp --dport 22 -j a\nCOMMIT\n";
-    expect(has_listing(alloc, refusals, &table, with_chain)?)
+    expect_done(
+        alloc,
+        refusals,
+        &mut table,
+        Edit::Append,
+        WITH_ONE,
+        WITH_TWO,
+    )?;
+    expect_done(
+        alloc,
+        refusals,
+        &mut table,
+        Edit::NewChain,
+        WITH_TWO,
+        WITH_CHAIN,
+    )
 }

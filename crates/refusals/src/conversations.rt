@@ -1,6 +1,6 @@
 //! Sessions: each kind of line.
 use crate::case::{Refusals, Trouble, again, expect, expect_kept};
-use crate::listings::{WITH_ONE, has_listing};
+use crate::listings::{WITH_ONE, expect_kept_listing, expect_listing};
 use fields::Tap;
 use sessions::{RunFault, Session};
 use std::alloc::Global;
@@ -59,14 +59,35 @@ fn make(
     Err(Trouble::RefusedTwice)
 }
 
+/// A session over a table without a rule.
+fn none(alloc: Global, refusals: &mut Refusals) -> Result<Session, Trouble> {
+    Ok(again!(refusals, Session::new(alloc), true))
+}
+
+/// Makes the table with one rule.
+fn start(alloc: Global, refusals: &mut Refusals, session: &mut Session) -> Result<(), Trouble> {
+    for line in START {
+        make(alloc, refusals, session, line)?;
+    }
+    expect_listing(alloc, refusals, session.table(), WITH_ONE)
+}
+
 /// A session over the table with one rule.
 fn begun(alloc: Global, refusals: &mut Refusals) -> Result<Session, Trouble> {
-    let mut session = again!(refusals, Session::new(alloc), true);
-    for line in START {
-        make(alloc, refusals, &mut session, line)?;
-    }
-    expect(has_listing(alloc, refusals, session.table(), WITH_ONE)?)?;
+    let mut session = none(alloc, refusals)?;
+    start(alloc, refusals, &mut session)?;
     Ok(session)
+}
+
+/// Compares what a line that was refused memory printed, and the listing, which it leaves.
+fn expect_kept_table(
+    alloc: Global,
+    refusals: &mut Refusals,
+    session: &Session,
+    printed: &[u8],
+) -> Result<(), Trouble> {
+    expect_kept(printed == REFUSED)?;
+    expect_kept_listing(alloc, refusals, session.table(), WITH_ONE)
 }
 
 /// Runs one line, which prints a text, gives a status and leaves a listing. Where it was refused memory it says that
@@ -84,11 +105,10 @@ fn line(
         let (printed, answer) = run(alloc, refusals, session, text)?;
         if !is_refused(&printed, answer) {
             expect(printed.as_slice() == expected && answer == Ok(status))?;
-            return expect(has_listing(alloc, refusals, session.table(), left)?);
+            return expect_listing(alloc, refusals, session.table(), left);
         }
         refusals.note();
-        expect_kept(printed.as_slice() == REFUSED)?;
-        expect_kept(has_listing(alloc, refusals, session.table(), WITH_ONE)?)?;
+        expect_kept_table(alloc, refusals, session, &printed)?;
     }
     Err(Trouble::RefusedTwice)
 }
@@ -141,21 +161,76 @@ fn says_refused(printed: &[u8]) -> bool {
     printed.starts_with(b"line ") && printed.ends_with(b": M0 no memory\n")
 }
 
+/// Compares what a restore that is done answers, and the listing.
+fn expect_restored(
+    alloc: Global,
+    refusals: &mut Refusals,
+    session: &Session,
+    answer: Result<u8, RunFault>,
+    left: &[u8],
+) -> Result<(), Trouble> {
+    expect(answer == Ok(0))?;
+    expect_listing(alloc, refusals, session.table(), left)
+}
+
+/// Runs a restore among the lines of a session, again where it was refused memory.
+fn restore_among(
+    alloc: Global,
+    refusals: &mut Refusals,
+    session: &mut Session,
+    text: &[u8],
+    left: &[u8],
+) -> Result<(), Trouble> {
+    for _ in 0..2 {
+        let (printed, answer) = run(alloc, refusals, session, text)?;
+        if printed.is_empty() {
+            return expect_restored(alloc, refusals, session, answer, left);
+        }
+        refusals.note();
+        expect(answer == Ok(4))?;
+        expect_kept_listing(alloc, refusals, session.table(), WITH_ONE)?;
+    }
+    Err(Trouble::RefusedTwice)
+}
+
 /// A restore among the lines of a session, in which each line may be refused memory: the restore then ends there, and
 /// leaves the table.
 pub fn restores(alloc: Global, refusals: &mut Refusals) -> Result<(), Trouble> {
     let mut session = begun(alloc, refusals)?;
     let text = b"iptables-restore -n <<E\n*filter\n:b -\n[1:2] -A b -j RETURN\nCOMMIT\nE\n";
     let left = b":a - [0:0]\n:b - [0:0]\n-A INPUT -s 10.0.0.0/8 -j DROP\n-A b -j RETURN\nCOMMIT\n";
+    restore_among(alloc, refusals, &mut session, text, left)
+}
+
+/// What a restore by itself printed and answered. The writer has its room beforehand.
+fn run_whole(
+    alloc: Global,
+    refusals: &mut Refusals,
+    session: &mut Session,
+    lines: &[u8],
+) -> Result<(Vec<u8>, Result<u8, RunFault>), Trouble> {
+    let room = again!(refusals, Vec::with_capacity(alloc, 1024), true);
+    let mut output = Tap::new(room);
+    let answer = session.restore(true, false, false, &mut Tap::new(lines), &mut output);
+    Ok((output.into_device(), answer))
+}
+
+/// Runs a restore by itself, again where it was refused memory.
+fn restore_whole(
+    alloc: Global,
+    refusals: &mut Refusals,
+    session: &mut Session,
+    text: &[u8],
+    left: &[u8],
+) -> Result<(), Trouble> {
     for _ in 0..2 {
-        let (printed, answer) = run(alloc, refusals, &mut session, text.as_slice())?;
+        let (printed, answer) = run_whole(alloc, refusals, session, text)?;
         if printed.is_empty() {
-            expect(answer == Ok(0))?;
-            return expect(has_listing(alloc, refusals, session.table(), left)?);
+            return expect_restored(alloc, refusals, session, answer, left);
         }
         refusals.note();
-        expect(answer == Ok(4))?;
-        expect_kept(has_listing(alloc, refusals, session.table(), WITH_ONE)?)?;
+        expect(says_refused(&printed) && answer == Ok(4))?;
+        expect_kept_listing(alloc, refusals, session.table(), WITH_ONE)?;
     }
     Err(Trouble::RefusedTwice)
 }
@@ -165,24 +240,5 @@ pub fn whole_restores(alloc: Global, refusals: &mut Refusals) -> Result<(), Trou
     let mut session = begun(alloc, refusals)?;
     let text = b"*filter\n:a -\n-A a -j LOG\nCOMMIT\n";
     let left = b":a - [0:0]\n-A INPUT -s 10.0.0.0/8 -j DROP\n-A a -j LOG\nCOMMIT\n";
-    for _ in 0..2 {
-        let room = again!(refusals, Vec::with_capacity(alloc, 1024), true);
-        let mut output = Tap::new(room);
-        let answer = session.restore(
-            true,
-            false,
-            false,
-            &mut Tap::new(text.as_slice()),
-            &mut output,
-        );
-        let printed = output.into_device();
-        if printed.is_empty() {
-            expect(answer == Ok(0))?;
-            return expect(has_listing(alloc, refusals, session.table(), left)?);
-        }
-        refusals.note();
-        expect(says_refused(&printed) && answer == Ok(4))?;
-        expect_kept(has_listing(alloc, refusals, session.table(), WITH_ONE)?)?;
-    }
-    Err(Trouble::RefusedTwice)
+    restore_whole(alloc, refusals, &mut session, text, left)
 }

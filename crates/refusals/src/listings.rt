@@ -1,5 +1,5 @@
 //! Listings: what a table shows.
-use crate::case::{Refusals, Trouble, again, expect_kept};
+use crate::case::{Refusals, Trouble, again, expect, expect_kept};
 use fields::Tap;
 use restore::write_listing;
 use std::alloc::Global;
@@ -23,4 +23,24 @@ pub fn has_listing(
     let written = write_listing(table, &mut output);
     let is_same = output.into_device().as_slice().strip_prefix(HEAD) == Some(rest);
     Ok(written.is_ok() && is_same)
+}
+
+/// Compares the rest of a table's listing.
+pub fn expect_listing(
+    alloc: Global,
+    refusals: &mut Refusals,
+    table: &Table,
+    rest: &[u8],
+) -> Result<(), Trouble> {
+    expect(has_listing(alloc, refusals, table, rest)?)
+}
+
+/// Compares the rest of a table's listing after a refusal, which leaves it.
+pub fn expect_kept_listing(
+    alloc: Global,
+    refusals: &mut Refusals,
+    table: &Table,
+    rest: &[u8],
+) -> Result<(), Trouble> {
+    expect_kept(has_listing(alloc, refusals, table, rest)?)
 }

@@ -1,6 +1,6 @@
 //! Restores: lines done to the table in place.
 use crate::case::{Refusals, Trouble, again, expect, expect_kept};
-use crate::listings::{WITH_ONE, has_listing};
+use crate::listings::{WITH_ONE, expect_kept_listing, expect_listing, has_listing};
 use crate::sections::{QUIET, TOO_LONG, trouble_of};
 use crate::tables::with_one;
 use restore::{Restore, RestoreFault};
@@ -43,9 +43,22 @@ fn answer(
             }
         }
         refusals.note();
-        expect_kept(has_listing(alloc, refusals, table, WITH_ONE)?)?;
+        expect_kept_listing(alloc, refusals, table, WITH_ONE)?;
     }
     Err(Trouble::RefusedTwice)
+}
+
+/// Compares what a restore comes to, and the listing that it leaves.
+fn expect_answer(
+    alloc: Global,
+    refusals: &mut Refusals,
+    table: &mut Table,
+    lines: &[&[u8]],
+    expected: Result<(), RestoreFault>,
+    text: &[u8],
+) -> Result<(), Trouble> {
+    expect(answer(alloc, refusals, table, lines)? == expected)?;
+    expect_listing(alloc, refusals, table, text)
 }
 
 /// `Restore::line`, of lines that open a section, of chain lines and commands, and of `COMMIT`.
@@ -77,8 +90,7 @@ pub fn line(alloc: Global, refusals: &mut Refusals) -> Result<(), Trouble> {
         ),
     ];
     for (lines, expected, text) in rows {
-        expect(answer(alloc, refusals, &mut table, lines)? == expected)?;
-        expect(has_listing(alloc, refusals, &table, text)?)?;
+        expect_answer(alloc, refusals, &mut table, lines, expected, text)?;
     }
     Ok(())
 }
@@ -127,27 +139,67 @@ fn expect_fault(
     }
 }
 
-/// `Restore::line` of the lines that take no memory: between sections, in one that is skipped, and in one of `filter`.
-pub fn needless(alloc: Global, refusals: &mut Refusals) -> Result<(), Trouble> {
-    let mut table = with_one(alloc, refusals)?;
+/// The faults of a restore between sections, after quiet lines.
+fn needless_between(alloc: Global, table: &mut Table) -> Result<(), Trouble> {
     let rows: [(&[u8], RestoreFault); 2] = [
         (b"COMMIT", RestoreFault::NotAllowed),
         (&TOO_LONG, RestoreFault::LineTooLong),
     ];
     for (line, fault) in rows {
-        let between = after_all(Restore::new(alloc, true, false), &mut table, &QUIET)?;
-        expect_fault(between, &mut table, line, fault)?;
+        let between = after_all(Restore::new(alloc, true, false), table, &QUIET)?;
+        expect_fault(between, table, line, fault)?;
     }
-    for opening in [b"*nat".as_slice(), b"*filter"] {
-        let restore = inside(alloc, refusals, &mut table, opening)?;
-        let open = after_all(restore, &mut table, &QUIET)?;
-        expect_fault(open, &mut table, &TOO_LONG, RestoreFault::LineTooLong)?;
-        let restore = inside(alloc, refusals, &mut table, opening)?;
-        let closed = after_all(restore, &mut table, &[b" COMMIT\t"])?;
-        expect(closed.finish().is_ok())?;
-    }
-    let skipping = inside(alloc, refusals, &mut table, b"*nat")?;
+    Ok(())
+}
+
+/// The fault of a line that is too long, inside a section and after quiet lines.
+fn needless_open(
+    alloc: Global,
+    refusals: &mut Refusals,
+    table: &mut Table,
+    opening: &[u8],
+) -> Result<(), Trouble> {
+    let restore = inside(alloc, refusals, table, opening)?;
+    let open = after_all(restore, table, &QUIET)?;
+    expect_fault(open, table, &TOO_LONG, RestoreFault::LineTooLong)
+}
+
+/// Lines inside a section, the last of which ends it.
+fn needless_closed(
+    alloc: Global,
+    refusals: &mut Refusals,
+    table: &mut Table,
+    opening: &[u8],
+    lines: &[&[u8]],
+) -> Result<(), Trouble> {
+    let restore = inside(alloc, refusals, table, opening)?;
+    let closed = after_all(restore, table, lines)?;
+    expect(closed.finish().is_ok())
+}
+
+/// Each of these inside a section.
+fn needless_inside(
+    alloc: Global,
+    refusals: &mut Refusals,
+    table: &mut Table,
+    opening: &[u8],
+) -> Result<(), Trouble> {
+    needless_open(alloc, refusals, table, opening)?;
+    needless_closed(alloc, refusals, table, opening, &[b" COMMIT\t"])
+}
+
+/// All lines that take no memory.
+fn needless_all(alloc: Global, refusals: &mut Refusals, table: &mut Table) -> Result<(), Trouble> {
+    needless_between(alloc, table)?;
+    needless_inside(alloc, refusals, table, b"*nat")?;
+    needless_inside(alloc, refusals, table, b"*filter")?;
     let lines = [b"a \"b".as_slice(), b":a - b", b"*filter", b"COMMIT"];
-    expect(after_all(skipping, &mut table, &lines)?.finish().is_ok())?;
-    expect(has_listing(alloc, refusals, &table, WITH_ONE)?)
+    needless_closed(alloc, refusals, table, b"*nat", &lines)
+}
+
+/// `Restore::line` of the lines that take no memory: between sections, in one that is skipped, and in one of `filter`.
+pub fn needless(alloc: Global, refusals: &mut Refusals) -> Result<(), Trouble> {
+    let mut table = with_one(alloc, refusals)?;
+    needless_all(alloc, refusals, &mut table)?;
+    expect_listing(alloc, refusals, &table, WITH_ONE)
 }

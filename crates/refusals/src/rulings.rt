@@ -62,11 +62,47 @@ const RULES: [(&[u8], &[u8]); 4] = [
     ),
 ];
 
+/// Compares a rule's text.
+pub fn expect_text(
+    alloc: Global,
+    refusals: &mut Refusals,
+    rule: &Rule,
+    text: &[u8],
+) -> Result<(), Trouble> {
+    expect(has_text(alloc, refusals, rule, text)?)
+}
+
+/// Reads a rule, and compares its text.
+fn expect_read(
+    alloc: Global,
+    refusals: &mut Refusals,
+    line: &[u8],
+    text: &[u8],
+) -> Result<(), Trouble> {
+    let rule = rule_of(alloc, refusals, line)?;
+    expect_text(alloc, refusals, &rule, text)
+}
+
+/// Compares why a line writes no rule.
+fn expect_refused(
+    alloc: Global,
+    refusals: &mut Refusals,
+    line: &[u8],
+    refusal: Refusal,
+) -> Result<(), Trouble> {
+    let Some(words) = words_of(alloc, refusals, line)? else {
+        return Err(Trouble::OtherAnswer);
+    };
+    match read(alloc, refusals, &words)? {
+        Ok(_) => Err(Trouble::OtherAnswer),
+        Err(found) => expect(found == refusal),
+    }
+}
+
 /// `read_rule`.
 pub fn read_all(alloc: Global, refusals: &mut Refusals) -> Result<(), Trouble> {
     for (line, text) in RULES {
-        let rule = rule_of(alloc, refusals, line)?;
-        expect(has_text(alloc, refusals, &rule, text)?)?;
+        expect_read(alloc, refusals, line, text)?;
     }
     let faults: [(&[u8], Refusal); 3] = [
         (b"-s 10.0.0.0/8 --dport 22 -j DROP", Refusal::ProtocolNeeded),
@@ -77,28 +113,42 @@ pub fn read_all(alloc: Global, refusals: &mut Refusals) -> Result<(), Trouble> {
         (b"-p tcp --dport 1 --dport 2", Refusal::RepeatedOption),
     ];
     for (line, refusal) in faults {
-        let Some(words) = words_of(alloc, refusals, line)? else {
-            return Err(Trouble::OtherAnswer);
-        };
-        match read(alloc, refusals, &words)? {
-            Ok(_) => return Err(Trouble::OtherAnswer),
-            Err(found) => expect(found == refusal)?,
-        }
+        expect_refused(alloc, refusals, line, refusal)?;
     }
     Ok(())
+}
+
+/// The copy of a rule; a refusal leaves its text.
+fn copy_of(
+    alloc: Global,
+    refusals: &mut Refusals,
+    rule: &Rule,
+    text: &[u8],
+) -> Result<Rule, Trouble> {
+    Ok(again!(
+        refusals,
+        rule.copy(alloc),
+        has_text(alloc, refusals, rule, text)?
+    ))
+}
+
+/// Compares the copy of a rule.
+fn expect_copy(
+    alloc: Global,
+    refusals: &mut Refusals,
+    rule: &Rule,
+    text: &[u8],
+) -> Result<(), Trouble> {
+    let copy = copy_of(alloc, refusals, rule, text)?;
+    expect(copy == *rule)?;
+    expect_text(alloc, refusals, &copy, text)
 }
 
 /// `Rule::copy`.
 pub fn copy_all(alloc: Global, refusals: &mut Refusals) -> Result<(), Trouble> {
     for (line, text) in RULES {
         let rule = rule_of(alloc, refusals, line)?;
-        let copy = again!(
-            refusals,
-            rule.copy(alloc),
-            has_text(alloc, refusals, &rule, text)?
-        );
-        expect(copy == rule)?;
-        expect(has_text(alloc, refusals, &copy, text)?)?;
+        expect_copy(alloc, refusals, &rule, text)?;
     }
     Ok(())
 }

@@ -1,6 +1,6 @@
 //! Sections of a restore.
 use crate::case::{Refusals, Trouble, again, expect, expect_kept};
-use crate::listings::{WITH_ONE, has_listing};
+use crate::listings::{WITH_ONE, expect_kept_listing, expect_listing, has_listing};
 use crate::tables::with_one;
 use restore::{CommandFault, RestoreFault, Transaction};
 use rules::Work;
@@ -58,43 +58,102 @@ fn answer(
             }
         }
         refusals.note();
-        expect_kept(has_listing(alloc, refusals, table, WITH_ONE)?)?;
+        expect_kept_listing(alloc, refusals, table, WITH_ONE)?;
     }
     Err(Trouble::RefusedTwice)
+}
+
+/// Compares the listing of a section's own table, and that of the table, which it leaves.
+fn expect_committed(
+    alloc: Global,
+    refusals: &mut Refusals,
+    table: &Table,
+    section: Transaction,
+    text: &[u8],
+) -> Result<(), Trouble> {
+    let own = section.commit();
+    expect_listing(alloc, refusals, &own, text)?;
+    expect_listing(alloc, refusals, table, WITH_ONE)
+}
+
+/// Begins a section, and commits it.
+fn begin_one(
+    alloc: Global,
+    refusals: &mut Refusals,
+    table: &Table,
+    noflush: bool,
+    text: &[u8],
+) -> Result<(), Trouble> {
+    let section = begun(alloc, refusals, table, noflush)?;
+    expect_committed(alloc, refusals, table, section, text)
 }
 
 /// `Transaction::begin`, with `noflush` and without.
 pub fn begin(alloc: Global, refusals: &mut Refusals) -> Result<(), Trouble> {
     let table = with_one(alloc, refusals)?;
-    let rows: [(bool, &[u8]); 2] = [(true, WITH_ONE), (false, b"COMMIT\n")];
-    for (noflush, text) in rows {
-        let own = begun(alloc, refusals, &table, noflush)?.commit();
-        expect(has_listing(alloc, refusals, &own, text)?)?;
-        expect(has_listing(alloc, refusals, &table, WITH_ONE)?)?;
-    }
-    Ok(())
+    begin_one(alloc, refusals, &table, true, WITH_ONE)?;
+    begin_one(alloc, refusals, &table, false, b"COMMIT\n")
 }
+
+/// A section after a line that it accepts.
+fn after(
+    alloc: Global,
+    refusals: &mut Refusals,
+    table: &Table,
+    noflush: bool,
+    line: &[u8],
+) -> Result<Transaction, Trouble> {
+    match answer(alloc, refusals, table, noflush, line)? {
+        Ok(section) => Ok(section),
+        Err(_) => Err(Trouble::OtherAnswer),
+    }
+}
+
+/// Does a line that a section accepts, and commits the section.
+fn line_one(
+    alloc: Global,
+    refusals: &mut Refusals,
+    table: &Table,
+    noflush: bool,
+    line: &[u8],
+    text: &[u8],
+) -> Result<(), Trouble> {
+    let section = after(alloc, refusals, table, noflush, line)?;
+    expect_committed(alloc, refusals, table, section, text)
+}
+
+/// Lines that a section accepts: whether it begins with `noflush`, the line, and the section's listing.
+const ACCEPTED: [(bool, &[u8], &[u8]); 3] = [
+    (
+        true,
+        b"[3:180] -A INPUT -p tcp --dport 22 -j a",
+        b":a - [0:0]\n-A INPUT -s 10.0.0.0/8 -j DROP\n-A INPUT -p tcp -m tcp --dport 22 -j a\nCOMMIT\n",
+    ),
+    (true, b":a - [0:0]", WITH_ONE),
+    (false, b":b - [0:0]", b":b - [0:0]\nCOMMIT\n"),
+];
 
 /// `Transaction::line`, of a command after counters and of chain lines.
 pub fn line(alloc: Global, refusals: &mut Refusals) -> Result<(), Trouble> {
     let table = with_one(alloc, refusals)?;
-    let rows: [(bool, &[u8], &[u8]); 3] = [
-        (
-            true,
-            b"[3:180] -A INPUT -p tcp --dport 22 -j a",
-            b":a - [0:0]\n-A INPUT -s 10.0.0.0/8 -j DROP\n-A INPUT -p tcp -m tcp --dport 22 -j a\nCOMMIT\n",
-        ),
-        (true, b":a - [0:0]", WITH_ONE),
-        (false, b":b - [0:0]", b":b - [0:0]\nCOMMIT\n"),
-    ];
-    for (noflush, line, text) in rows {
-        match answer(alloc, refusals, &table, noflush, line)? {
-            Ok(section) => expect(has_listing(alloc, refusals, &section.commit(), text)?)?,
-            Err(_) => return Err(Trouble::OtherAnswer),
-        }
-        expect(has_listing(alloc, refusals, &table, WITH_ONE)?)?;
+    for (noflush, line, text) in ACCEPTED {
+        line_one(alloc, refusals, &table, noflush, line, text)?;
     }
     Ok(())
+}
+
+/// Does a line that is refused by a fault.
+fn refuse_one(
+    alloc: Global,
+    refusals: &mut Refusals,
+    table: &Table,
+    line: &[u8],
+    fault: RestoreFault,
+) -> Result<(), Trouble> {
+    match answer(alloc, refusals, table, true, line)? {
+        Ok(_) => Err(Trouble::OtherAnswer),
+        Err(found) => expect(found == fault),
+    }
 }
 
 /// `Transaction::line` of lines that are refused whatever memory there is.
@@ -110,10 +169,7 @@ pub fn refused(alloc: Global, refusals: &mut Refusals) -> Result<(), Trouble> {
         (b"-A a -f -g a", RestoreFault::Table(TableFault::Loop)),
     ];
     for (line, fault) in rows {
-        match answer(alloc, refusals, &table, true, line)? {
-            Ok(_) => return Err(Trouble::OtherAnswer),
-            Err(found) => expect(found == fault)?,
-        }
+        refuse_one(alloc, refusals, &table, line, fault)?;
     }
     Ok(())
 }

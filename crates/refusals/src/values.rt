@@ -1,6 +1,6 @@
 //! The sets of the numbers that values allow on their fields.
 use crate::case::{Refusals, Trouble, again, expect, expect_kept};
-use crate::sets::has_just;
+use crate::sets::{Ends, has_just};
 use fields::{
     CtSet, FlagTest, IcmpType, IfPattern, IpRange, PortList, PortRange, Prefix, Protocol,
 };
@@ -17,14 +17,24 @@ macro_rules! expect_allowed {
     };
 }
 
+/// `IpRange::allowed`.
+fn expect_range(
+    alloc: Global,
+    refusals: &mut Refusals,
+    text: &[u8],
+    intervals: &[Ends],
+) -> Result<(), Trouble> {
+    expect_allowed!(alloc, refusals, IpRange::read(text), intervals);
+    Ok(())
+}
+
 /// `Prefix::allowed` and `IpRange::allowed`.
 pub fn addresses(alloc: Global, refusals: &mut Refusals) -> Result<(), Trouble> {
     let ten = [(167_772_160, 184_549_375)];
     expect_allowed!(alloc, refusals, Prefix::read(b"10.1.2.3/8"), &ten);
     let nine = [(167_772_161, 167_772_169)];
-    expect_allowed!(alloc, refusals, IpRange::read(b"10.0.0.1-10.0.0.9"), &nine);
-    expect_allowed!(alloc, refusals, IpRange::read(b"10.0.0.9-10.0.0.1"), &[]);
-    Ok(())
+    expect_range(alloc, refusals, b"10.0.0.1-10.0.0.9", &nine)?;
+    expect_range(alloc, refusals, b"10.0.0.9-10.0.0.1", &[])
 }
 
 /// `IfPattern::allowed`.
@@ -37,13 +47,30 @@ pub fn interfaces(alloc: Global, refusals: &mut Refusals) -> Result<(), Trouble>
     Ok(())
 }
 
-/// `Protocol::allowed`, `PortRange::allowed` and `PortList::allowed`.
-pub fn ports(alloc: Global, refusals: &mut Refusals) -> Result<(), Trouble> {
+/// `Protocol::allowed`.
+fn protocols(alloc: Global, refusals: &mut Refusals) -> Result<(), Trouble> {
     expect_allowed!(alloc, refusals, Protocol::read(b"tcp"), &[(6, 6)]);
+    Ok(())
+}
+
+/// `PortRange::allowed`.
+fn port_ranges(alloc: Global, refusals: &mut Refusals) -> Result<(), Trouble> {
     expect_allowed!(alloc, refusals, PortRange::read(b"1000:"), &[(1000, 65535)]);
+    Ok(())
+}
+
+/// `PortList::allowed`.
+fn port_lists(alloc: Global, refusals: &mut Refusals) -> Result<(), Trouble> {
     let listed = [(1, 5), (22, 22)];
     expect_allowed!(alloc, refusals, PortList::read(b"5,22,1:4,22:22"), &listed);
     Ok(())
+}
+
+/// `Protocol::allowed`, `PortRange::allowed` and `PortList::allowed`.
+pub fn ports(alloc: Global, refusals: &mut Refusals) -> Result<(), Trouble> {
+    protocols(alloc, refusals)?;
+    port_ranges(alloc, refusals)?;
+    port_lists(alloc, refusals)
 }
 
 /// `IcmpType::allowed`.
@@ -52,8 +79,8 @@ pub fn icmp_types(alloc: Global, refusals: &mut Refusals) -> Result<(), Trouble>
     Ok(())
 }
 
-/// `FlagTest::allowed` and `CtSet::allowed`.
-pub fn flags(alloc: Global, refusals: &mut Refusals) -> Result<(), Trouble> {
+/// `FlagTest::allowed`.
+fn flag_tests(alloc: Global, refusals: &mut Refusals) -> Result<(), Trouble> {
     let syn = [(2, 2), (10, 10), (34, 34), (42, 42)];
     expect_allowed!(
         alloc,
@@ -61,6 +88,11 @@ pub fn flags(alloc: Global, refusals: &mut Refusals) -> Result<(), Trouble> {
         FlagTest::read(b"SYN,RST,ACK,FIN", b"SYN"),
         &syn
     );
+    Ok(())
+}
+
+/// `CtSet::allowed`.
+fn states(alloc: Global, refusals: &mut Refusals) -> Result<(), Trouble> {
     let states = [(2, 5), (10, 13)];
     expect_allowed!(
         alloc,
@@ -69,4 +101,10 @@ pub fn flags(alloc: Global, refusals: &mut Refusals) -> Result<(), Trouble> {
         &states
     );
     Ok(())
+}
+
+/// `FlagTest::allowed` and `CtSet::allowed`.
+pub fn flags(alloc: Global, refusals: &mut Refusals) -> Result<(), Trouble> {
+    flag_tests(alloc, refusals)?;
+    states(alloc, refusals)
 }

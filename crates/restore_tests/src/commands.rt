@@ -12,11 +12,8 @@ fn session(
     listing: &str,
 ) -> Result<(), Fail> {
     let mut filter = Filter::new(alloc)?;
-    for (line, reply) in rows {
-        filter.step(rt, line, reply)?;
-    }
-    assert_eq!(rt; filter.listing(rt)?.as_str(), listing);
-    Ok(())
+    filter.steps(rt, rows)?;
+    filter.lists(rt, listing, "the commands")
 }
 
 #[test]
@@ -144,6 +141,18 @@ fn rules_taken_out(rt: HostRuntime) -> Result<(), Fail> {
     session(&rt, rt.alloc(), &rows, EMPTY)
 }
 
+// Compares the reply to a command that changes nothing, and the listing after it.
+fn keeps(
+    rt: &impl Abort,
+    filter: &mut Filter,
+    line: &str,
+    reply: &str,
+    listing: &str,
+) -> Result<(), Fail> {
+    filter.step(rt, line, reply)?;
+    filter.lists(rt, listing, line)
+}
+
 #[test]
 fn rules_asked_for(rt: HostRuntime) -> Result<(), Fail> {
     let mut filter = Filter::after(&rt, rt.alloc(), &["-N a", "-A INPUT -g a", "-A INPUT"])?;
@@ -159,9 +168,8 @@ fn rules_asked_for(rt: HostRuntime) -> Result<(), Fail> {
         ("-C INPUT", ""),
         ("-C INPUT -s 0.0.0.0/0 -i + -p all", ""),
     ];
-    for (line, reply) in rows {
-        filter.step(&rt, line, reply)?;
-        assert_eq!(&rt; filter.listing(&rt)?.as_str(), before.as_str(), "{line}");
+    for (line, reply) in rows.iter() {
+        keeps(&rt, &mut filter, line, reply, before.as_str())?;
     }
     Ok(())
 }
@@ -299,6 +307,16 @@ fn a_loop_is_refused(rt: HostRuntime) -> Result<(), Fail> {
     session(&rt, rt.alloc(), &rows, listing)
 }
 
+// Compares what is listed of a chain that isn't there.
+fn lists_nothing(rt: &impl Abort, filter: &Filter, chain: &str) -> Result<(), Fail> {
+    assert_eq!(rt;
+        filter.rules(rt, Some(chain.as_bytes()))?.as_str(),
+        "",
+        "{chain}"
+    );
+    Ok(())
+}
+
 #[test]
 fn listed_rules(rt: HostRuntime) -> Result<(), Fail> {
     let lines = [
@@ -322,15 +340,9 @@ fn listed_rules(rt: HostRuntime) -> Result<(), Fail> {
         ("-S 1", "no such chain"),
         (r#"-S """#, "no such chain"),
     ];
-    for (line, reply) in rows {
-        filter.step(&rt, line, reply)?;
-    }
-    for chain in ["x", "input", "", "a b"] {
-        assert_eq!(&rt;
-            filter.rules(&rt, Some(chain.as_bytes()))?.as_str(),
-            "",
-            "{chain}"
-        );
+    filter.steps(&rt, &rows)?;
+    for chain in ["x", "input", "", "a b"].iter() {
+        lists_nothing(&rt, &filter, chain)?;
     }
     Ok(())
 }

@@ -4,6 +4,7 @@ use crate::filter::Filter;
 use fields::Words;
 use restore::{Command, CommandFault};
 use rules::{Refusal, RuleFault};
+use std::alloc::Global;
 use std::process::Abort;
 use std::test::Fail;
 
@@ -33,11 +34,18 @@ pub(crate) const NAMES: [&str; 22] = [
     "--list-rules",
 ];
 
-// Compares the replies to commands, each of which is refused.
-fn refused(rt: &impl Abort, filter: &mut Filter, rows: &[(&str, &str)]) -> Result<(), Fail> {
-    for (line, fault) in rows {
-        filter.step(rt, line, fault)?;
-    }
+// Why the words of a line are no command, if they aren't.
+fn fault_of(alloc: Global, line: &str) -> Result<Option<CommandFault>, Fail> {
+    let words = Words::split(alloc, line.as_bytes())?;
+    Ok(match Command::read(alloc, &words, 0) {
+        Ok(_) => None,
+        Err(fault) => Some(fault),
+    })
+}
+
+// Compares why the words of a line are no command.
+fn refused(rt: &impl Abort, alloc: Global, line: &str, fault: CommandFault) -> Result<(), Fail> {
+    assert!(rt; fault_of(alloc, line)? == Some(fault), "{line}");
     Ok(())
 }
 
@@ -70,12 +78,8 @@ fn each_fault(rt: HostRuntime) -> Result<(), Fail> {
             CommandFault::Rule(RuleFault::Refused(Refusal::UnknownOption(3))),
         ),
     ];
-    for (line, fault) in rows {
-        let words = Words::split(alloc, line.as_bytes())?;
-        match Command::read(alloc, &words, 0) {
-            Ok(_) => assert!(rt; false, "{line}"),
-            Err(other) => assert!(rt; other == fault, "{line}"),
-        }
+    for (line, fault) in rows.iter() {
+        refused(&rt, alloc, line, *fault)?;
     }
     Ok(())
 }
@@ -83,7 +87,7 @@ fn each_fault(rt: HostRuntime) -> Result<(), Fail> {
 #[test]
 fn no_command(rt: HostRuntime) -> Result<(), Fail> {
     let mut filter = Filter::new(rt.alloc())?;
-    for line in [
+    let lines = [
         "",
         " \t ",
         "INPUT -A",
@@ -105,10 +109,8 @@ fn no_command(rt: HostRuntime) -> Result<(), Fail> {
         "*filter",
         ":a -",
         "[0:0] -F",
-    ] {
-        filter.step(&rt, line, "no command")?;
-    }
-    Ok(())
+    ];
+    filter.same_steps(&rt, &lines, "no command")
 }
 
 // What stands before and after the name of a second command, and the reply.
@@ -140,13 +142,19 @@ fn second_command(
     filter.step(rt, line.as_str(), fault)
 }
 
+// The same of each form of it.
+fn second_command_of_each(rt: &impl Abort, filter: &mut Filter, name: &str) -> Result<(), Fail> {
+    for form in SECOND.iter() {
+        second_command(rt, filter, name, *form)?;
+    }
+    Ok(())
+}
+
 #[test]
 fn second_commands(rt: HostRuntime) -> Result<(), Fail> {
     let mut filter = Filter::new(rt.alloc())?;
-    for name in NAMES {
-        for form in SECOND {
-            second_command(&rt, &mut filter, name, form)?;
-        }
+    for name in NAMES.iter() {
+        second_command_of_each(&rt, &mut filter, name)?;
     }
     let rows = [
         ("-A -A -A", "two commands"),
@@ -155,14 +163,13 @@ fn second_commands(rt: HostRuntime) -> Result<(), Fail> {
         ("-A INPUT -t filter", "unknown option"),
         ("-A INPUT -Z", "unknown option"),
     ];
-    refused(&rt, &mut filter, &rows)
+    filter.steps(&rt, &rows)
 }
 
 #[test]
 fn counts_of_words(rt: HostRuntime) -> Result<(), Fail> {
-    let lines = ["-N a", "-A INPUT -j DROP"];
-    let mut filter = Filter::after(&rt, rt.alloc(), &lines)?;
-    for line in [
+    let mut filter = Filter::after(&rt, rt.alloc(), &["-N a", "-A INPUT -j DROP"])?;
+    let lines = [
         "-A",
         "-C",
         "-D",
@@ -192,10 +199,8 @@ fn counts_of_words(rt: HostRuntime) -> Result<(), Fail> {
         "-F INPUT -A INPUT",
         "-t filter -N",
         "-t filter -F a b",
-    ] {
-        filter.step(&rt, line, "wrong number of words")?;
-    }
-    Ok(())
+    ];
+    filter.same_steps(&rt, &lines, "wrong number of words")
 }
 
 #[test]
@@ -218,7 +223,7 @@ fn tables(rt: HostRuntime) -> Result<(), Fail> {
         ("-t filter --table nat -F", "repeated option"),
         ("--table filter -t filter", "repeated option"),
     ];
-    refused(&rt, &mut filter, &rows)
+    filter.steps(&rt, &rows)
 }
 
 #[test]
@@ -259,7 +264,7 @@ fn numbers(rt: HostRuntime) -> Result<(), Fail> {
         ("-C INPUT 1", "unknown option"),
         ("-A INPUT 1", "unknown option"),
     ];
-    refused(&rt, &mut filter, &rows)
+    filter.steps(&rt, &rows)
 }
 
 #[test]
@@ -293,5 +298,5 @@ fn head_rule_and_table(rt: HostRuntime) -> Result<(), Fail> {
         ("-A xxxxxxxxxxxxxxxxxxxxxxxxxxxxx", "no such chain"),
         ("-A INPUT -j xxxxxxxxxxxxxxxxxxxxxxxxxxxxx", "bad value"),
     ];
-    refused(&rt, &mut filter, &rows)
+    filter.steps(&rt, &rows)
 }

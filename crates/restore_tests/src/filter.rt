@@ -116,12 +116,51 @@ impl Filter {
         }
     }
 
+    // Compares the reply to a command.
+    fn replies(&mut self, rt: &impl Abort, line: &str, reply: &str) -> Result<(), Fail> {
+        assert_eq!(rt; self.reply(rt, line)?.as_str(), reply, "{line}");
+        Ok(())
+    }
+
+    // Compares the listing of the table after what a text says.
+    pub(crate) fn lists(&self, rt: &impl Abort, listing: &str, text: &str) -> Result<(), Fail> {
+        assert_eq!(rt; self.listing(rt)?.as_str(), listing, "{text}");
+        Ok(())
+    }
+
+    // Compares the reply to a command that changes nothing.
+    fn replies_only(&mut self, rt: &impl Abort, line: &str, reply: &str) -> Result<(), Fail> {
+        let before = self.listing(rt)?;
+        self.replies(rt, line, reply)?;
+        self.lists(rt, before.as_str(), line)
+    }
+
     // Compares the reply to a command. One that has a reply changes nothing.
     pub(crate) fn step(&mut self, rt: &impl Abort, line: &str, reply: &str) -> Result<(), Fail> {
-        let before = self.listing(rt)?;
-        assert_eq!(rt; self.reply(rt, line)?.as_str(), reply, "{line}");
-        if !reply.is_empty() {
-            assert_eq!(rt; self.listing(rt)?.as_str(), before.as_str(), "{line}");
+        if reply.is_empty() {
+            self.replies(rt, line, reply)
+        } else {
+            self.replies_only(rt, line, reply)
+        }
+    }
+
+    // Compares the replies to commands.
+    pub(crate) fn steps(&mut self, rt: &impl Abort, rows: &[(&str, &str)]) -> Result<(), Fail> {
+        for (line, reply) in rows {
+            self.step(rt, line, reply)?;
+        }
+        Ok(())
+    }
+
+    // Compares the replies to commands, which are all the same.
+    pub(crate) fn same_steps(
+        &mut self,
+        rt: &impl Abort,
+        lines: &[&str],
+        reply: &str,
+    ) -> Result<(), Fail> {
+        for line in lines {
+            self.step(rt, line, reply)?;
         }
         Ok(())
     }
@@ -129,7 +168,7 @@ impl Filter {
     // Runs commands, each of which has to be accepted.
     pub(crate) fn run(&mut self, rt: &impl Abort, lines: &[&str]) -> Result<(), Fail> {
         for line in lines {
-            assert_eq!(rt; self.reply(rt, line)?.as_str(), "", "{line}");
+            self.replies(rt, line, "")?;
         }
         Ok(())
     }
@@ -160,6 +199,18 @@ impl Filter {
         }
     }
 
+    // Compares the reply to a restore.
+    pub(crate) fn restores(
+        &mut self,
+        rt: &impl Abort,
+        mode: Mode,
+        text: &str,
+        reply: &str,
+    ) -> Result<(), Fail> {
+        assert_eq!(rt; self.restore(mode, text)?.as_str(), reply, "{text}");
+        Ok(())
+    }
+
     // Compares the reply to a restore, and the listing after it.
     pub(crate) fn restored(
         &mut self,
@@ -169,9 +220,8 @@ impl Filter {
         reply: &str,
         listing: &str,
     ) -> Result<(), Fail> {
-        assert_eq!(rt; self.restore(mode, text)?.as_str(), reply, "{text}");
-        assert_eq!(rt; self.listing(rt)?.as_str(), listing, "{text}");
-        Ok(())
+        self.restores(rt, mode, text, reply)?;
+        self.lists(rt, listing, text)
     }
 
     // Compares the reply to a restore that changes nothing.

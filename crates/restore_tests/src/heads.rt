@@ -123,33 +123,73 @@ impl Description {
     }
 }
 
+// What a command is.
+fn text_of_command(rt: &impl Abort, alloc: Global, command: &Command) -> Result<String, Fail> {
+    let mut description = Description {
+        alloc,
+        output: Tap::new(Vec::new(alloc)),
+    };
+    description.put_command(command)?;
+    text_of(rt, alloc, description.output)
+}
+
 // What the command is that the words of a line write from a place on.
 fn described(rt: &impl Abort, alloc: Global, line: &str, from: usize) -> Result<String, Fail> {
     let words = Words::split(alloc, line.as_bytes())?;
     match Command::read(alloc, &words, from) {
-        Ok(command) => {
-            let mut description = Description {
-                alloc,
-                output: Tap::new(Vec::new(alloc)),
-            };
-            description.put_command(&command)?;
-            text_of(rt, alloc, description.output)
-        }
+        Ok(command) => text_of_command(rt, alloc, &command),
         Err(fault) => Ok(format!(in alloc; "{fault}")?),
     }
+}
+
+// Compares what the command is that the words of a line write from a place on.
+fn describes(
+    rt: &impl Abort,
+    alloc: Global,
+    line: &str,
+    from: usize,
+    command: &str,
+) -> Result<(), Fail> {
+    let read = described(rt, alloc, line, from)?;
+    assert_eq!(rt; read.as_str(), command, "{line}");
+    Ok(())
+}
+
+// The same of a command with a text before its name.
+fn describes_after(
+    rt: &impl Abort,
+    alloc: Global,
+    before: &str,
+    name: &str,
+    row: &(&str, &str, &str, &str),
+) -> Result<(), Fail> {
+    let (_, _, words, command) = *row;
+    let line = format!(in alloc; "{before}{name} {words}")?;
+    describes(rt, alloc, line.as_str(), 0, command)
+}
+
+// What may stand before the name of a command.
+const BEFORE: [&str; 4] = ["", "-t filter ", "--table filter ", "\"-t\"\tfilter  "];
+
+// The same of a command with each text before one of its names.
+fn describes_name(
+    rt: &impl Abort,
+    alloc: Global,
+    name: &str,
+    row: &(&str, &str, &str, &str),
+) -> Result<(), Fail> {
+    for before in BEFORE.iter() {
+        describes_after(rt, alloc, before, name, row)?;
+    }
+    Ok(())
 }
 
 #[test]
 fn short_and_long_names(rt: HostRuntime) -> Result<(), Fail> {
     let alloc = rt.alloc();
-    for (short, long, words, command) in ROWS {
-        for name in [short, long] {
-            for before in ["", "-t filter ", "--table filter ", "\"-t\"\tfilter  "] {
-                let line = format!(in alloc; "{before}{name} {words}")?;
-                let read = described(&rt, alloc, line.as_str(), 0)?;
-                assert_eq!(rt; read.as_str(), command, "{line}");
-            }
-        }
+    for row in ROWS.iter() {
+        describes_name(&rt, alloc, row.0, row)?;
+        describes_name(&rt, alloc, row.1, row)?;
     }
     Ok(())
 }
@@ -167,9 +207,8 @@ fn words_from_a_place_on(rt: HostRuntime) -> Result<(), Fail> {
         ("-F", 1000, "no command"),
         ("", 0, "no command"),
     ];
-    for (line, from, command) in rows {
-        let read = described(&rt, alloc, line, from)?;
-        assert_eq!(rt; read.as_str(), command, "{line}");
+    for (line, from, command) in rows.iter() {
+        describes(&rt, alloc, line, *from, command)?;
     }
     Ok(())
 }

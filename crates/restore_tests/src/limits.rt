@@ -28,34 +28,58 @@ fn padded(alloc: Global, text: &str, byte: char, length: usize) -> Result<String
     Ok(line)
 }
 
+// Compares the reply to a section of so many lines, which changes nothing.
+fn unchanged(
+    rt: &impl Abort,
+    filter: &mut Filter,
+    mode: Mode,
+    parts: (&str, &str),
+    count: u32,
+    reply: &str,
+) -> Result<(), Fail> {
+    let (before, after) = parts;
+    let text = section(filter.alloc, before, after, count)?;
+    filter.unchanged(rt, mode, text.as_str(), reply)
+}
+
+// Restores a section of so many lines, which has to be accepted.
+fn restores(
+    rt: &impl Abort,
+    filter: &mut Filter,
+    parts: (&str, &str),
+    count: u32,
+) -> Result<(), Fail> {
+    let (before, after) = parts;
+    let text = section(filter.alloc, before, after, count)?;
+    filter.restores(rt, Mode::FLUSH, text.as_str(), "")
+}
+
+// Compares the replies to sections of no rule and of a rule more than a chain has, and restores one of as many.
+fn fill(rt: &impl Abort, filter: &mut Filter) -> Result<(), Fail> {
+    let parts = ("-A INPUT -p ", " -j DROP");
+    unchanged(rt, filter, Mode::FLUSH, parts, 0, "")?;
+    let parts = ("[0:0] -A INPUT -j DROP -m comment --comment ", "");
+    let reply = "line 8194: chain full";
+    unchanged(rt, filter, Mode::FLUSH, parts, 8193, reply)?;
+    let before = "-A INPUT -s 10.0.0.0/8 -j ACCEPT -m comment --comment ";
+    restores(rt, filter, (before, ""), 8192)
+}
+
 #[test]
 fn a_full_chain(rt: HostRuntime) -> Result<(), Fail> {
-    let alloc = rt.alloc();
-    let mut filter = Filter::new(alloc)?;
-    let text = section(alloc, "-A INPUT -p ", " -j DROP", 0)?;
-    filter.unchanged(&rt, Mode::FLUSH, text.as_str(), "")?;
-    let text = section(
-        alloc,
-        "[0:0] -A INPUT -j DROP -m comment --comment ",
-        "",
-        8193,
-    )?;
-    filter.unchanged(&rt, Mode::FLUSH, text.as_str(), "line 8194: chain full")?;
-    let text = section(
-        alloc,
-        "-A INPUT -s 10.0.0.0/8 -j ACCEPT -m comment --comment ",
-        "",
-        8192,
-    )?;
-    assert_eq!(&rt; filter.restore(Mode::FLUSH, text.as_str())?.as_str(), "");
+    let mut filter = Filter::new(rt.alloc())?;
+    fill(&rt, &mut filter)?;
     let last = "-C INPUT -s 10.0.0.0/8 -m comment --comment 8192 -j ACCEPT";
     filter.run(&rt, &[last])?;
     let text = "*filter\n-A INPUT -j DROP\nCOMMIT";
     filter.unchanged(&rt, Mode::NOFLUSH, text, "line 2: chain full")?;
-    filter.step(&rt, "-I INPUT 8194 -j DROP", "number out of range")?;
-    filter.step(&rt, "-I INPUT 8193 -j DROP", "chain full")?;
-    filter.step(&rt, "-R INPUT 8192 -j DROP", "")?;
-    filter.step(&rt, "-A INPUT -j DROP", "chain full")
+    let rows = [
+        ("-I INPUT 8194 -j DROP", "number out of range"),
+        ("-I INPUT 8193 -j DROP", "chain full"),
+        ("-R INPUT 8192 -j DROP", ""),
+        ("-A INPUT -j DROP", "chain full"),
+    ];
+    filter.steps(&rt, &rows)
 }
 
 #[test]
@@ -64,30 +88,34 @@ fn the_listing_of_a_full_chain(rt: HostRuntime) -> Result<(), Fail> {
     let mut filter = Filter::new(alloc)?;
     let before = "-A INPUT -s 10.0.0.0/8 -j DROP -m comment --comment ";
     let text = section(alloc, before, "", 8192)?;
-    assert_eq!(&rt; filter.restore(Mode::FLUSH, text.as_str())?.as_str(), "");
+    filter.restores(&rt, Mode::FLUSH, text.as_str(), "")?;
     let listing = filter.listing(&rt)?;
     assert_eq!(&rt; listing.as_str().split('\n').count(), 8192 + 6);
     let mut other = Filter::new(alloc)?;
     other.restored(&rt, Mode::FLUSH, listing.as_str(), "", listing.as_str())
 }
 
+// The text before and after the number of a chain.
+const CHAIN: (&str, &str) = (":k", " - [0:0]");
+
+// Compares the reply to a section of a chain more than a table has, and restores one of as many.
+fn fill_with_chains(rt: &impl Abort, filter: &mut Filter) -> Result<(), Fail> {
+    let reply = "line 1026: too many chains";
+    unchanged(rt, filter, Mode::FLUSH, CHAIN, 1025, reply)?;
+    restores(rt, filter, CHAIN, 1024)
+}
+
 #[test]
 fn many_chains(rt: HostRuntime) -> Result<(), Fail> {
-    let alloc = rt.alloc();
-    let mut filter = Filter::new(alloc)?;
-    let text = section(alloc, ":k", " - [0:0]", 1025)?;
-    filter.unchanged(
-        &rt,
-        Mode::FLUSH,
-        text.as_str(),
-        "line 1026: too many chains",
-    )?;
-    let text = section(alloc, ":k", " - [0:0]", 1024)?;
-    assert_eq!(&rt; filter.restore(Mode::FLUSH, text.as_str())?.as_str(), "");
+    let mut filter = Filter::new(rt.alloc())?;
+    fill_with_chains(&rt, &mut filter)?;
     restores_as_equal(&rt, &filter)?;
-    filter.unchanged(&rt, Mode::NOFLUSH, text.as_str(), "")?;
-    filter.step(&rt, "-N k1025", "too many chains")?;
-    filter.step(&rt, "-N k1024", "chain exists")?;
+    unchanged(&rt, &mut filter, Mode::NOFLUSH, CHAIN, 1024, "")?;
+    let rows = [
+        ("-N k1025", "too many chains"),
+        ("-N k1024", "chain exists"),
+    ];
+    filter.steps(&rt, &rows)?;
     filter.restored(&rt, Mode::FLUSH, "*filter\nCOMMIT", "", EMPTY)
 }
 
@@ -105,29 +133,56 @@ const LONG: [(&str, &str, char, &str); 9] = [
     ("*nat\n", "", '"', "\nCOMMIT"),
 ];
 
-#[test]
-fn long_lines(rt: HostRuntime) -> Result<(), Fail> {
-    let alloc = rt.alloc();
-    let mut filter = Filter::new(alloc)?;
-    for (before, line, byte, after) in LONG {
-        let number = before.split('\n').count();
-        for mode in Mode::ALL {
-            let full = padded(alloc, line, byte, LINE)?;
-            let text = format!(in alloc; "{before}{full}{after}")?;
-            filter.unchanged(&rt, mode, text.as_str(), "")?;
-            let text = format!(in alloc; "{before}{full}{byte}{after}")?;
-            let reply = format!(in alloc; "line {number}: line too long")?;
-            filter.unchanged(&rt, mode, text.as_str(), reply.as_str())?;
-        }
+// Compares the replies to restores with a line of the most bytes, and with one byte more.
+fn long_line(
+    rt: &impl Abort,
+    filter: &mut Filter,
+    mode: Mode,
+    row: &(&str, &str, char, &str),
+) -> Result<(), Fail> {
+    let (before, line, byte, after) = *row;
+    let alloc = filter.alloc;
+    let full = padded(alloc, line, byte, LINE)?;
+    let text = format!(in alloc; "{before}{full}{after}")?;
+    filter.unchanged(rt, mode, text.as_str(), "")?;
+    let text = format!(in alloc; "{before}{full}{byte}{after}")?;
+    let number = before.split('\n').count();
+    let reply = format!(in alloc; "line {number}: line too long")?;
+    filter.unchanged(rt, mode, text.as_str(), reply.as_str())
+}
+
+// The same in several lines.
+fn long_lines_in(rt: &impl Abort, filter: &mut Filter, mode: Mode) -> Result<(), Fail> {
+    for row in LONG.iter() {
+        long_line(rt, filter, mode, row)?;
     }
     Ok(())
 }
 
 #[test]
+fn long_lines(rt: HostRuntime) -> Result<(), Fail> {
+    let mut filter = Filter::new(rt.alloc())?;
+    for mode in Mode::ALL.iter() {
+        long_lines_in(&rt, &mut filter, *mode)?;
+    }
+    Ok(())
+}
+
+// Compares the replies to a section whose third line has the most bytes, and one byte more.
+fn length_first(rt: &impl Abort, filter: &mut Filter, line: &str, fault: &str) -> Result<(), Fail> {
+    let alloc = filter.alloc;
+    let full = padded(alloc, line, ' ', LINE)?;
+    let text = format!(in alloc; "*filter\n:INPUT -\n{full}\nCOMMIT")?;
+    let reply = format!(in alloc; "line 3: {fault}")?;
+    filter.unchanged(rt, Mode::FLUSH, text.as_str(), reply.as_str())?;
+    let text = format!(in alloc; "*filter\n:INPUT -\n{full} \nCOMMIT")?;
+    filter.unchanged(rt, Mode::FLUSH, text.as_str(), "line 3: line too long")
+}
+
+#[test]
 fn the_length_is_asked_first(rt: HostRuntime) -> Result<(), Fail> {
-    let alloc = rt.alloc();
-    let mut filter = Filter::new(alloc)?;
-    for (line, fault) in [
+    let mut filter = Filter::new(rt.alloc())?;
+    let rows = [
         ("-Z", "no command"),
         (":a", "bad chain line"),
         (":INPUT - ", "duplicate chain line"),
@@ -135,46 +190,64 @@ fn the_length_is_asked_first(rt: HostRuntime) -> Result<(), Fail> {
         ("COMMIT x", "no command"),
         ("-N ", "wrong number of words"),
         ("\" ", "bad quoting"),
-    ] {
-        let full = padded(alloc, line, ' ', LINE)?;
-        let text = format!(in alloc; "*filter\n:INPUT -\n{full}\nCOMMIT")?;
-        let reply = format!(in alloc; "line 3: {fault}")?;
-        filter.unchanged(&rt, Mode::FLUSH, text.as_str(), reply.as_str())?;
-        let text = format!(in alloc; "*filter\n:INPUT -\n{full} \nCOMMIT")?;
-        filter.unchanged(&rt, Mode::FLUSH, text.as_str(), "line 3: line too long")?;
+    ];
+    for (line, fault) in rows.iter() {
+        length_first(&rt, &mut filter, line, fault)?;
     }
     Ok(())
 }
 
+// Writes a text so many times.
+fn write_times(line: &mut String, text: &str, times: u32) -> Result<(), Fail> {
+    for _ in 0..times {
+        line.push_str(text)?;
+    }
+    Ok(())
+}
+
+// Writes a comment of the most bytes.
+fn write_comment(line: &mut String) -> Result<(), Fail> {
+    line.push_str(" -m comment --comment \"")?;
+    write_times(line, "\\\"", 256)?;
+    line.push_str("\"")?;
+    Ok(())
+}
+
+// Writes a log with a prefix of the most bytes.
+fn write_log(line: &mut String) -> Result<(), Fail> {
+    line.push_str(" -j LOG --log-prefix \"")?;
+    write_times(line, "\\'", 29)?;
+    line.push_str(
+        "\" --log-level 7 --log-tcp-sequence --log-tcp-options --log-ip-options --log-uid",
+    )?;
+    Ok(())
+}
+
+// The longest rule of a chain.
+fn longest_rule(alloc: Global, chain: &str) -> Result<String, Fail> {
+    let mut line = format!(in alloc; "-A {chain} ! -s 255.255.255.255/32 ! -d 255.255.255.255/32")?;
+    line.push_str(" ! -i abcdefghijklmno ! -o abcdefghijklmno ! -p ipv6-icmp ! -f")?;
+    for _ in 0..16u32 {
+        write_comment(&mut line)?;
+    }
+    write_log(&mut line)?;
+    Ok(line)
+}
+
+// Compares what is listed of a chain with one rule.
+fn lists_rule(rt: &impl Abort, alloc: Global, chain: &str, line: &str) -> Result<(), Fail> {
+    let made = format!(in alloc; "-N {chain}")?;
+    let filter = Filter::after(rt, alloc, &[made.as_str(), line])?;
+    let rules = format!(in alloc; "{made}\n{line}\n")?;
+    let listed = filter.rules(rt, Some(chain.as_bytes()))?;
+    assert_eq!(rt; listed.as_str(), rules.as_str());
+    restores_as_equal(rt, &filter)
+}
+
 #[test]
 fn the_longest_rule(rt: HostRuntime) -> Result<(), Fail> {
-    let alloc = rt.alloc();
     let chain = "xxxxxxxxxxxxxxxxxxxxxxxxxxxx";
-    let mut line = format!(in alloc; "-A {chain} ! -s 255.255.255.255/32 ! -d 255.255.255.255/32")?;
-    write!(
-        line,
-        " ! -i abcdefghijklmno ! -o abcdefghijklmno ! -p ipv6-icmp ! -f"
-    )?;
-    for _ in 0..16u32 {
-        write!(line, " -m comment --comment \"")?;
-        for _ in 0..256u32 {
-            write!(line, "\\\"")?;
-        }
-        write!(line, "\"")?;
-    }
-    write!(line, " -j LOG --log-prefix \"")?;
-    for _ in 0..29u32 {
-        write!(line, "\\'")?;
-    }
-    write!(
-        line,
-        "\" --log-level 7 --log-tcp-sequence --log-tcp-options --log-ip-options --log-uid"
-    )?;
+    let line = longest_rule(rt.alloc(), chain)?;
     assert_eq!(&rt; line.as_bytes().len(), 8876);
-    let made = format!(in alloc; "-N {chain}")?;
-    let filter = Filter::after(&rt, alloc, &[made.as_str(), line.as_str()])?;
-    let rules = format!(in alloc; "{made}\n{line}\n")?;
-    let listed = filter.rules(&rt, Some(chain.as_bytes()))?;
-    assert_eq!(&rt; listed.as_str(), rules.as_str());
-    restores_as_equal(&rt, &filter)
+    lists_rule(&rt, rt.alloc(), chain, line.as_str())
 }

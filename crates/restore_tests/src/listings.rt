@@ -81,36 +81,68 @@ const PACKETS: [&str; 6] = [
     "OUTPUT src=1.1.1.1 dst=2.2.2.2 proto=tcp sport=7 dport=4",
 ];
 
-// Compares the listings of two tables, and what becomes of packets in them.
-fn equal(rt: &impl Abort, one: &Filter, other: &Filter) -> Result<(), Fail> {
+// Compares the listings of two tables.
+fn listed_equal(rt: &impl Abort, one: &Filter, other: &Filter) -> Result<(), Fail> {
     let listing = one.listing(rt)?;
-    assert_eq!(rt; other.listing(rt)?.as_str(), listing.as_str());
+    other.lists(rt, listing.as_str(), "the restore")
+}
+
+// Compares what `-S` lists of two tables.
+fn ruled_equal(rt: &impl Abort, one: &Filter, other: &Filter) -> Result<(), Fail> {
     let rules = one.rules(rt, None)?;
     assert_eq!(rt; other.rules(rt, None)?.as_str(), rules.as_str());
-    for packet in PACKETS {
-        assert_eq!(rt; other.verdict(packet)?, one.verdict(packet)?, "{packet}");
+    Ok(())
+}
+
+// Compares what becomes of a packet in two tables.
+fn judged_equal(rt: &impl Abort, one: &Filter, other: &Filter, packet: &str) -> Result<(), Fail> {
+    assert_eq!(rt; other.verdict(packet)?, one.verdict(packet)?, "{packet}");
+    Ok(())
+}
+
+// Compares the listings of two tables, and what becomes of packets in them.
+fn equal(rt: &impl Abort, one: &Filter, other: &Filter) -> Result<(), Fail> {
+    listed_equal(rt, one, other)?;
+    ruled_equal(rt, one, other)?;
+    for packet in PACKETS.iter() {
+        judged_equal(rt, one, other, packet)?;
     }
     Ok(())
 }
 
+// Restores the listing of a table over another, and compares both.
+fn restored_over(
+    rt: &impl Abort,
+    filter: &Filter,
+    other: &mut Filter,
+    mode: Mode,
+    text: &str,
+) -> Result<(), Fail> {
+    other.restores(rt, mode, text, "")?;
+    equal(rt, filter, other)
+}
+
+// The same over an empty table.
+fn restored_anew(rt: &impl Abort, filter: &Filter, mode: Mode, text: &str) -> Result<(), Fail> {
+    let mut other = Filter::new(filter.alloc)?;
+    restored_over(rt, filter, &mut other, mode, text)
+}
+
+// The same over one with other chains, rules and policies, and over itself.
+fn restored_twice(rt: &impl Abort, filter: &Filter, text: &str) -> Result<(), Fail> {
+    let lines = ["-N zz", "-A zz -j DROP", "-A INPUT -j zz", "-P OUTPUT DROP"];
+    let mut other = Filter::after(rt, filter.alloc, &lines)?;
+    other.unchanged(rt, Mode::TEST, text, "")?;
+    restored_over(rt, filter, &mut other, Mode::FLUSH, text)?;
+    restored_over(rt, filter, &mut other, Mode::FLUSH, text)
+}
+
 // Restores the listing of a table over others: an empty one, itself, and one with other chains, rules and policies.
 pub(crate) fn restores_as_equal(rt: &impl Abort, filter: &Filter) -> Result<(), Fail> {
-    let alloc = filter.alloc;
     let listing = filter.listing(rt)?;
-    let text = listing.as_str();
-    for mode in [Mode::FLUSH, Mode::NOFLUSH] {
-        let mut other = Filter::new(alloc)?;
-        assert_eq!(rt; other.restore(mode, text)?.as_str(), "");
-        equal(rt, filter, &other)?;
-    }
-    let lines = ["-N zz", "-A zz -j DROP", "-A INPUT -j zz", "-P OUTPUT DROP"];
-    let mut other = Filter::after(rt, alloc, &lines)?;
-    other.unchanged(rt, Mode::TEST, text, "")?;
-    for _ in 0..2u32 {
-        assert_eq!(rt; other.restore(Mode::FLUSH, text)?.as_str(), "");
-        equal(rt, filter, &other)?;
-    }
-    Ok(())
+    restored_anew(rt, filter, Mode::FLUSH, listing.as_str())?;
+    restored_anew(rt, filter, Mode::NOFLUSH, listing.as_str())?;
+    restored_twice(rt, filter, listing.as_str())
 }
 
 #[test]
@@ -118,8 +150,20 @@ fn listings_are_restored(rt: HostRuntime) -> Result<(), Fail> {
     listings_restore();
     restores_as_equal(&rt, &Filter::new(rt.alloc())?)?;
     let filter = Filter::after(&rt, rt.alloc(), &ODD)?;
-    assert_eq!(&rt; filter.listing(&rt)?.as_str(), ODD_LISTING);
+    filter.lists(&rt, ODD_LISTING, "the commands")?;
     restores_as_equal(&rt, &filter)
+}
+
+// Compares what `-S` lists, for a chain or for all.
+fn rules_are(
+    rt: &impl Abort,
+    filter: &Filter,
+    chain: Option<&str>,
+    text: &str,
+) -> Result<(), Fail> {
+    let listed = filter.rules(rt, chain.map(|name| name.as_bytes()))?;
+    assert_eq!(rt; listed.as_str(), text);
+    Ok(())
 }
 
 #[test]
@@ -136,13 +180,11 @@ fn rules_that_are_listed(rt: HostRuntime) -> Result<(), Fail> {
             "-P INPUT DROP\n-P FORWARD ACCEPT\n-P OUTPUT ACCEPT\n-N a\n-N b\n-A b -j a\n-A b\n",
         ),
     ];
-    for (chain, text) in rows {
-        let listed = filter.rules(&rt, chain.map(|name| name.as_bytes()))?;
-        assert_eq!(&rt; listed.as_str(), text);
+    for (chain, text) in rows.iter() {
+        rules_are(&rt, &filter, *chain, text)?;
     }
     let empty = Filter::new(rt.alloc())?;
-    assert_eq!(&rt; empty.listing(&rt)?.as_str(), EMPTY);
-    Ok(())
+    empty.lists(&rt, EMPTY, "no command")
 }
 
 // More bytes than a listing here has.
@@ -181,6 +223,43 @@ fn fails_with_its_writer(
     failed.is_some()
 }
 
+// Writes the rules of a chain or of all to a writer that fails, and says whether it failed.
+fn rules_fail(
+    rt: &impl Abort,
+    filter: &Filter,
+    mut output: Tap<FusedWriter>,
+    chain: Option<&[u8]>,
+    text: &str,
+) -> bool {
+    let answer = write_rules(&filter.table, chain, &mut output);
+    fails_with_its_writer(rt, answer, output, text)
+}
+
+// Writes the listing to a writer that fails, and says whether it failed.
+fn listing_fails(rt: &impl Abort, filter: &Filter, mut output: Tap<FusedWriter>) -> bool {
+    let answer = write_listing(&filter.table, &mut output);
+    fails_with_its_writer(rt, answer, output, ODD_LISTING)
+}
+
+// One call of a writer fails: whether one of the rules and the listing has so many.
+fn one_call_fails(
+    rt: &impl Abort,
+    filter: &Filter,
+    rules: &str,
+    most: usize,
+    call: u32,
+    failure: Failure,
+) -> Result<bool, Fail> {
+    let alloc = filter.alloc;
+    let output = failing(alloc, most, call, failure)?;
+    rules_fail(rt, filter, output, Some(b"ab"), "-N ab\n-A ab -j b\n");
+    let output = failing(alloc, most, call, failure)?;
+    let ruled = rules_fail(rt, filter, output, None, rules);
+    let output = failing(alloc, most, call, failure)?;
+    let listed = listing_fails(rt, filter, output);
+    Ok(ruled || listed)
+}
+
 // Each call of a writer fails in turn, as long as there is one.
 fn each_call_fails(
     rt: &impl Abort,
@@ -189,18 +268,8 @@ fn each_call_fails(
     most: usize,
     failure: Failure,
 ) -> Result<(), Fail> {
-    let alloc = filter.alloc;
     for call in 0..ROOM as u32 {
-        let mut output = failing(alloc, most, call, failure)?;
-        let answer = write_rules(&filter.table, Some(b"ab"), &mut output);
-        fails_with_its_writer(rt, answer, output, "-N ab\n-A ab -j b\n");
-        let mut output = failing(alloc, most, call, failure)?;
-        let answer = write_rules(&filter.table, None, &mut output);
-        let ruled = fails_with_its_writer(rt, answer, output, rules);
-        let mut output = failing(alloc, most, call, failure)?;
-        let answer = write_listing(&filter.table, &mut output);
-        let listed = fails_with_its_writer(rt, answer, output, ODD_LISTING);
-        if !ruled && !listed {
+        if !one_call_fails(rt, filter, rules, most, call, failure)? {
             return Ok(());
         }
     }
@@ -208,29 +277,41 @@ fn each_call_fails(
     Ok(())
 }
 
+// The same for writers that take so many bytes a call.
+fn each_failure(rt: &impl Abort, filter: &Filter, rules: &str, most: usize) -> Result<(), Fail> {
+    each_call_fails(rt, filter, rules, most, Failure::Error)?;
+    each_call_fails(rt, filter, rules, most, Failure::Nothing)
+}
+
 #[test]
 fn writers_that_fail_at_each_call(rt: HostRuntime) -> Result<(), Fail> {
     let filter = Filter::after(&rt, rt.alloc(), &ODD)?;
     let rules = filter.rules(&rt, None)?;
-    for most in [1, usize::MAX] {
-        for failure in [Failure::Error, Failure::Nothing] {
-            each_call_fails(&rt, &filter, rules.as_str(), most, failure)?;
-        }
-    }
+    each_failure(&rt, &filter, rules.as_str(), 1)?;
+    each_failure(&rt, &filter, rules.as_str(), usize::MAX)
+}
+
+// A tap whose writer failed at its fourth call.
+fn failed(rt: &impl Abort, alloc: Global) -> Result<Tap<FusedWriter>, Fail> {
+    let mut output = failing(alloc, 1, 3, Failure::Error)?;
+    assert!(rt; output.put(b"abcd").is_err());
+    Ok(output)
+}
+
+// Nothing is written to a tap that failed before.
+fn stays_failed(rt: &impl Abort, filter: &Filter, chain: Option<&str>) -> Result<(), Fail> {
+    let mut output = failed(rt, filter.alloc)?;
+    assert!(rt; write_listing(&filter.table, &mut output).is_err());
+    let chain = chain.map(|name| name.as_bytes());
+    assert!(rt; write_rules(&filter.table, chain, &mut output).is_err());
+    assert!(rt; output.into_device().written() == b"abc".as_slice());
     Ok(())
 }
 
 #[test]
 fn a_tap_that_failed_before(rt: HostRuntime) -> Result<(), Fail> {
-    let alloc = rt.alloc();
-    let filter = Filter::new(alloc)?;
-    for chain in [None, Some("INPUT"), Some("nowhere")] {
-        let mut output = failing(alloc, 1, 3, Failure::Error)?;
-        assert!(&rt; output.put(b"abcd").is_err());
-        assert!(&rt; write_listing(&filter.table, &mut output).is_err());
-        let chain = chain.map(|name| name.as_bytes());
-        assert!(&rt; write_rules(&filter.table, chain, &mut output).is_err());
-        assert!(&rt; output.into_device().written() == b"abc".as_slice());
-    }
-    Ok(())
+    let filter = Filter::new(rt.alloc())?;
+    stays_failed(&rt, &filter, None)?;
+    stays_failed(&rt, &filter, Some("INPUT"))?;
+    stays_failed(&rt, &filter, Some("nowhere"))
 }

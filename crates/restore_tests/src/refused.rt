@@ -1,8 +1,9 @@
 // Why restores are refused, in the order in which it is asked: a line that several faults would refuse shows the first.
 // A section that is refused changes nothing, and the sections before it stand.
+use crate::bytes::fault_after;
 use crate::faults::NAMES;
 use crate::filter::{EMPTY, Filter, Mode};
-use restore::{CommandFault, Restore, RestoreFault};
+use restore::{CommandFault, RestoreFault};
 use rules::{Refusal, RuleFault};
 use std::alloc::Global;
 use std::process::Abort;
@@ -15,13 +16,19 @@ fn filled(rt: &impl Abort, alloc: Global) -> Result<Filter, Fail> {
     Filter::after(rt, alloc, &lines)
 }
 
+// Compares the reply to a restore in every mode, which changes nothing.
+fn unchanged(rt: &impl Abort, filter: &mut Filter, text: &str, reply: &str) -> Result<(), Fail> {
+    for mode in Mode::ALL.iter() {
+        filter.unchanged(rt, *mode, text, reply)?;
+    }
+    Ok(())
+}
+
 // Compares the replies to restores in every mode, each of which is refused and changes nothing.
 fn refused(rt: &impl Abort, alloc: Global, rows: &[(&str, &str)]) -> Result<(), Fail> {
     let mut filter = filled(rt, alloc)?;
     for (text, reply) in rows {
-        for mode in Mode::ALL {
-            filter.unchanged(rt, mode, text, reply)?;
-        }
+        unchanged(rt, &mut filter, text, reply)?;
     }
     Ok(())
 }
@@ -31,10 +38,7 @@ fn refused_line(rt: &impl Abort, filter: &mut Filter, line: &str, fault: &str) -
     let alloc = filter.alloc;
     let text = format!(in alloc; "*filter\n-P OUTPUT DROP\n:b -\n{line}\nCOMMIT")?;
     let reply = format!(in alloc; "line 4: {fault}")?;
-    for mode in Mode::ALL {
-        filter.unchanged(rt, mode, text.as_str(), reply.as_str())?;
-    }
-    Ok(())
+    unchanged(rt, filter, text.as_str(), reply.as_str())
 }
 
 // The same of several lines.
@@ -43,6 +47,15 @@ fn refused_lines(rt: &impl Abort, alloc: Global, lines: &[&str], fault: &str) ->
     for line in lines {
         refused_line(rt, &mut filter, line, fault)?;
     }
+    Ok(())
+}
+
+// Compares why a line is refused after a chain line that is accepted.
+fn refused_by(rt: &impl Abort, alloc: Global, line: &str, fault: RestoreFault) -> Result<(), Fail> {
+    let mut filter = filled(rt, alloc)?;
+    let before = [b"*filter".as_slice(), b":b -"];
+    let other = fault_after(&mut filter, false, &before, line.as_bytes())?;
+    assert!(rt; other == Some(fault), "{line}");
     Ok(())
 }
 
@@ -68,16 +81,8 @@ fn each_fault(rt: HostRuntime) -> Result<(), Fail> {
         (":b -", RestoreFault::DuplicateChainLine),
         ("\"", RestoreFault::Quoting),
     ];
-    for (line, fault) in rows {
-        let mut filter = filled(&rt, rt.alloc())?;
-        let mut restore = Restore::new(filter.alloc, false, false);
-        for before in ["*filter", ":b -"] {
-            restore = restore.line(&mut filter.table, before.as_bytes(), &mut filter.work)?;
-        }
-        match restore.line(&mut filter.table, line.as_bytes(), &mut filter.work) {
-            Ok(_) => assert!(&rt; false, "{line}"),
-            Err(other) => assert!(&rt; other == fault, "{line}"),
-        }
+    for (line, fault) in rows.iter() {
+        refused_by(&rt, rt.alloc(), line, *fault)?;
     }
     Ok(())
 }
@@ -267,6 +272,18 @@ fn bad_quoting(rt: HostRuntime) -> Result<(), Fail> {
     refused_lines(&rt, rt.alloc(), &lines, "bad quoting")
 }
 
+// Compares the reply to a command with the name of another in it.
+fn two_commands(rt: &impl Abort, filter: &mut Filter, name: &str) -> Result<(), Fail> {
+    let line = format!(in filter.alloc; "[0:0] -A nowhere -f {name} \"\"")?;
+    refused_line(rt, filter, line.as_str(), "two commands")
+}
+
+// The same of a name that is inverted.
+fn inverted(rt: &impl Abort, filter: &mut Filter, name: &str) -> Result<(), Fail> {
+    let line = format!(in filter.alloc; "-A INPUT ! {name}")?;
+    refused_line(rt, filter, line.as_str(), "inversion not allowed")
+}
+
 #[test]
 fn faults_of_commands_in_a_section(rt: HostRuntime) -> Result<(), Fail> {
     let mut filter = filled(&rt, rt.alloc())?;
@@ -300,14 +317,39 @@ fn faults_of_commands_in_a_section(rt: HostRuntime) -> Result<(), Fail> {
         ("-P INPUT REJECT", "bad policy"),
         ("-E b LOG", "bad chain name"),
     ];
-    for (line, fault) in rows {
+    for (line, fault) in rows.iter() {
         refused_line(&rt, &mut filter, line, fault)?;
     }
-    for name in NAMES {
-        let line = format!(in filter.alloc; "[0:0] -A nowhere -f {name} \"\"")?;
-        refused_line(&rt, &mut filter, line.as_str(), "two commands")?;
-        let line = format!(in filter.alloc; "-A INPUT ! {name}")?;
-        refused_line(&rt, &mut filter, line.as_str(), "inversion not allowed")?;
+    for name in NAMES.iter() {
+        two_commands(&rt, &mut filter, name)?;
+        inverted(&rt, &mut filter, name)?;
+    }
+    Ok(())
+}
+
+// Compares the reply to a restore of an empty table, and the listing after it.
+fn stops_in(
+    rt: &impl Abort,
+    alloc: Global,
+    mode: Mode,
+    row: &(&str, &str),
+    listing: &str,
+) -> Result<(), Fail> {
+    let (text, reply) = *row;
+    let mut filter = Filter::new(alloc)?;
+    filter.restored(rt, mode, text, reply, listing)
+}
+
+// The same in several modes.
+fn stops(
+    rt: &impl Abort,
+    alloc: Global,
+    modes: &[Mode],
+    row: &(&str, &str),
+    listing: &str,
+) -> Result<(), Fail> {
+    for mode in modes {
+        stops_in(rt, alloc, *mode, row, listing)?;
     }
     Ok(())
 }
@@ -336,15 +378,15 @@ fn sections_before_a_refusal_stand(rt: HostRuntime) -> Result<(), Fail> {
         ),
         ("*filter\n-N a\nCOMMIT\n*nat", "end: end before COMMIT"),
     ];
-    for (text, reply) in rows {
-        for mode in [Mode::FLUSH, Mode::NOFLUSH] {
-            let mut filter = Filter::new(rt.alloc())?;
-            filter.restored(&rt, mode, text, reply, listing)?;
-        }
-        for mode in [Mode::TEST, Mode::NOFLUSH_TEST] {
-            let mut filter = Filter::new(rt.alloc())?;
-            filter.restored(&rt, mode, text, reply, EMPTY)?;
-        }
+    for row in rows.iter() {
+        stops(&rt, rt.alloc(), &[Mode::FLUSH, Mode::NOFLUSH], row, listing)?;
+        stops(
+            &rt,
+            rt.alloc(),
+            &[Mode::TEST, Mode::NOFLUSH_TEST],
+            row,
+            EMPTY,
+        )?;
     }
     Ok(())
 }
@@ -357,8 +399,8 @@ fn a_refused_section_leaves_the_rules(rt: HostRuntime) -> Result<(), Fail> {
         -A INPUT -s 1.2.3.4 -j ACCEPT\n\
         -A INPUT -j nowhere\n\
         COMMIT";
-    for mode in Mode::ALL {
-        filter.unchanged(&rt, mode, text, "line 4: target chain missing")?;
+    for mode in Mode::ALL.iter() {
+        filter.unchanged(&rt, *mode, text, "line 4: target chain missing")?;
         filter.step(&rt, "-S INPUT", "-P INPUT ACCEPT\n-A INPUT -j DROP\n")?;
     }
     Ok(())

@@ -16,6 +16,37 @@ fn accepted(
     filter.restored(rt, mode, text, "", listing)
 }
 
+// The same in several modes.
+fn accepted_in(
+    rt: &impl Abort,
+    alloc: Global,
+    modes: &[Mode],
+    text: &str,
+    listing: &str,
+) -> Result<(), Fail> {
+    for mode in modes {
+        accepted(rt, alloc, *mode, text, listing)?;
+    }
+    Ok(())
+}
+
+// The same of several texts.
+fn accepted_each(
+    rt: &impl Abort,
+    alloc: Global,
+    modes: &[Mode],
+    texts: &[&str],
+    listing: &str,
+) -> Result<(), Fail> {
+    for text in texts {
+        accepted_in(rt, alloc, modes, text, listing)?;
+    }
+    Ok(())
+}
+
+// The modes that put a table in place.
+const IN_PLACE: [Mode; 2] = [Mode::FLUSH, Mode::NOFLUSH];
+
 #[test]
 fn a_dump(rt: HostRuntime) -> Result<(), Fail> {
     let text = "# Generated\n\
@@ -40,7 +71,7 @@ fn a_dump(rt: HostRuntime) -> Result<(), Fail> {
 
 #[test]
 fn nothing_to_do(rt: HostRuntime) -> Result<(), Fail> {
-    for text in [
+    let texts = [
         "",
         "\n",
         "\n\n# x",
@@ -48,12 +79,21 @@ fn nothing_to_do(rt: HostRuntime) -> Result<(), Fail> {
         "*filter\n\nCOMMIT\n\n",
         "*nat\nCOMMIT",
         "*nat\nCOMMIT\n*filter\nCOMMIT\n*mangle\nCOMMIT",
-    ] {
-        for mode in Mode::ALL {
-            accepted(&rt, rt.alloc(), mode, text, EMPTY)?;
-        }
-    }
-    Ok(())
+    ];
+    accepted_each(&rt, rt.alloc(), &Mode::ALL, &texts, EMPTY)
+}
+
+// Compares the listing of a table, made by commands, after a restore that is accepted.
+fn accepted_after(
+    rt: &impl Abort,
+    alloc: Global,
+    lines: &[&str],
+    mode: Mode,
+    text: &str,
+    listing: &str,
+) -> Result<(), Fail> {
+    let mut filter = Filter::after(rt, alloc, lines)?;
+    filter.restored(rt, mode, text, "", listing)
 }
 
 #[test]
@@ -79,9 +119,8 @@ fn chain_lines(rt: HostRuntime) -> Result<(), Fail> {
         :a - [0:0]\n\
         :b - [0:0]\n\
         COMMIT\n";
-    for mode in [Mode::FLUSH, Mode::NOFLUSH] {
-        let mut filter = Filter::after(&rt, rt.alloc(), &lines)?;
-        filter.restored(&rt, mode, text, "", listing)?;
+    for mode in IN_PLACE.iter() {
+        accepted_after(&rt, rt.alloc(), &lines, *mode, text, listing)?;
     }
     Ok(())
 }
@@ -117,17 +156,13 @@ fn names_of_chain_lines(rt: HostRuntime) -> Result<(), Fail> {
         :OUTPUT ACCEPT [0:0]\n\
         :b - [0:0]\n\
         COMMIT\n";
-    for text in [
+    let texts = [
         "*filter\n:a -\n-A a\n-E a b\n:b -\nCOMMIT",
         "*filter\n:b -\nCOMMIT\n*filter\n:b -\nCOMMIT",
         "*filter\n-N b\n-A b\n:b -\nCOMMIT",
         "*filter\n:b -\n-X b\n-N b\nCOMMIT",
-    ] {
-        for mode in [Mode::FLUSH, Mode::NOFLUSH] {
-            accepted(&rt, rt.alloc(), mode, text, one)?;
-        }
-    }
-    Ok(())
+    ];
+    accepted_each(&rt, rt.alloc(), &IN_PLACE, &texts, one)
 }
 
 #[test]
@@ -162,9 +197,7 @@ fn commands_of_a_section(rt: HostRuntime) -> Result<(), Fail> {
         -A b\n\
         -A d ! -s 1.1.1.1/32\n\
         COMMIT\n";
-    for mode in [Mode::FLUSH, Mode::NOFLUSH] {
-        accepted(&rt, rt.alloc(), mode, text, listing)?;
-    }
+    accepted_in(&rt, rt.alloc(), &IN_PLACE, text, listing)?;
     let text = "*filter\n-N a\n-A INPUT -j DROP\n-F\n-X\nCOMMIT";
     accepted(&rt, rt.alloc(), Mode::FLUSH, text, EMPTY)
 }
@@ -177,7 +210,7 @@ fn blanks_comments_and_skipped_sections(rt: HostRuntime) -> Result<(), Fail> {
         :OUTPUT ACCEPT [0:0]\n\
         :a - [0:0]\n\
         COMMIT\n";
-    for text in [
+    let texts = [
         "# a\n\n \t\n\t # \"\n*filter\n#\n\t\n# COMMIT\n-N a\nCOMMIT\n\n#",
         "*filter\n-N a\n\t COMMIT \t",
         " \t*filter\t \n\t-N a\nCOMMIT",
@@ -185,12 +218,8 @@ fn blanks_comments_and_skipped_sections(rt: HostRuntime) -> Result<(), Fail> {
         "*nat\n*filter\n:x y z\n\"\nCOMMIT x\n\"COMMIT\"\nCOMMITx\n \tCOMMIT\t \n*\nCOMMIT\n*filter\n-N a\nCOMMIT",
         "*nat\n-A x -j y\n[1:2\na\"b\"\n\"open\nCOMMIT\n*filter\n-N a\nCOMMIT\n*Filter\n-N b\nCOMMIT",
         "\"*a b\"\n-N b\nCOMMIT\n*filter\r\n-N c\nCOMMIT\n*filter\n-N a\nCOMMIT",
-    ] {
-        for mode in [Mode::FLUSH, Mode::NOFLUSH] {
-            accepted(&rt, rt.alloc(), mode, text, listing)?;
-        }
-    }
-    Ok(())
+    ];
+    accepted_each(&rt, rt.alloc(), &IN_PLACE, &texts, listing)
 }
 
 #[test]

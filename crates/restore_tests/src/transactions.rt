@@ -32,7 +32,30 @@ fn listing(rt: &impl Abort, alloc: Global, table: &Table) -> Result<String, Fail
     text_of(rt, alloc, output)
 }
 
-// Compares the listing of the table that lines give, while the table in place stays as it was.
+// Compares the listing of a table.
+fn lists(rt: &impl Abort, alloc: Global, table: &Table, listed: &str) -> Result<(), Fail> {
+    assert_eq!(rt; listing(rt, alloc, table)?.as_str(), listed);
+    Ok(())
+}
+
+// Compares the listing of the table that lines give.
+fn gives_table(
+    rt: &impl Abort,
+    filter: &mut Filter,
+    noflush: bool,
+    lines: &[&str],
+    listed: &str,
+) -> Result<(), Fail> {
+    match committed(filter, noflush, lines)? {
+        Ok(table) => lists(rt, filter.alloc, &table, listed),
+        Err(fault) => {
+            assert!(rt; false, "{fault}");
+            Ok(())
+        }
+    }
+}
+
+// The same, while the table in place stays as it was.
 fn gives(
     rt: &impl Abort,
     filter: &mut Filter,
@@ -41,14 +64,8 @@ fn gives(
     listed: &str,
 ) -> Result<(), Fail> {
     let before = filter.listing(rt)?;
-    match committed(filter, noflush, lines)? {
-        Ok(table) => {
-            assert_eq!(rt; listing(rt, filter.alloc, &table)?.as_str(), listed);
-        }
-        Err(fault) => assert!(rt; false, "{fault}"),
-    }
-    assert_eq!(rt; filter.listing(rt)?.as_str(), before.as_str());
-    Ok(())
+    gives_table(rt, filter, noflush, lines, listed)?;
+    filter.lists(rt, before.as_str(), "the section")
 }
 
 #[test]
@@ -60,11 +77,11 @@ fn begun_and_committed(rt: HostRuntime) -> Result<(), Fail> {
         :OUTPUT ACCEPT [0:0]\n\
         COMMIT\n";
     let copied = filter.listing(&rt)?;
-    for lines in [&[][..], &["", "# x", "\t"][..]] {
-        gives(&rt, &mut filter, false, lines, emptied)?;
-        gives(&rt, &mut filter, true, lines, copied.as_str())?;
-    }
-    Ok(())
+    gives(&rt, &mut filter, false, &[], emptied)?;
+    gives(&rt, &mut filter, true, &[], copied.as_str())?;
+    let lines = ["", "# x", "\t"];
+    gives(&rt, &mut filter, false, &lines, emptied)?;
+    gives(&rt, &mut filter, true, &lines, copied.as_str())
 }
 
 #[test]
@@ -98,6 +115,33 @@ fn lines_of_a_section(rt: HostRuntime) -> Result<(), Fail> {
     gives(&rt, &mut filter, true, &lines, kept)
 }
 
+// Compares why a line is refused after two that are accepted.
+fn refuses(
+    rt: &impl Abort,
+    filter: &mut Filter,
+    noflush: bool,
+    row: &(&str, &str),
+) -> Result<(), Fail> {
+    let (line, fault) = *row;
+    match committed(filter, noflush, &["-P INPUT DROP", ":a -", line])? {
+        Ok(_) => assert!(rt; false, "{line}"),
+        Err(text) => assert_eq!(rt; text.as_str(), fault, "{line}"),
+    }
+    Ok(())
+}
+
+// The same, while the table in place stays as it was.
+fn refused_line(
+    rt: &impl Abort,
+    filter: &mut Filter,
+    noflush: bool,
+    row: &(&str, &str),
+    before: &str,
+) -> Result<(), Fail> {
+    refuses(rt, filter, noflush, row)?;
+    filter.lists(rt, before, row.0)
+}
+
 #[test]
 fn refused_lines(rt: HostRuntime) -> Result<(), Fail> {
     let mut filter = Filter::after(&rt, rt.alloc(), &BEFORE)?;
@@ -113,14 +157,9 @@ fn refused_lines(rt: HostRuntime) -> Result<(), Fail> {
         ("\"", "bad quoting"),
         ("-A a -j a", "loop"),
     ];
-    for (line, fault) in rows {
-        for noflush in [false, true] {
-            match committed(&mut filter, noflush, &["-P INPUT DROP", ":a -", line])? {
-                Ok(_) => assert!(&rt; false, "{line}"),
-                Err(text) => assert_eq!(&rt; text.as_str(), fault, "{line}"),
-            }
-            assert_eq!(&rt; filter.listing(&rt)?.as_str(), before.as_str(), "{line}");
-        }
+    for row in rows.iter() {
+        refused_line(&rt, &mut filter, false, row, before.as_str())?;
+        refused_line(&rt, &mut filter, true, row, before.as_str())?;
     }
     Ok(())
 }

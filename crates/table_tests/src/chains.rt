@@ -1,5 +1,6 @@
 // Chains taken away and renamed, copies of tables, and rules that are lent.
-use crate::commands::Filter;
+use crate::commands::{Act, Filter, play};
+use crate::shown::text_of;
 use fields::Tap;
 use rules::{Rule, write_rule};
 use std::alloc::Global;
@@ -7,135 +8,143 @@ use std::process::Abort;
 use std::test::Fail;
 use table::TableFault;
 
-// Runs commands, each of which has to be refused by its fault and to change nothing.
-fn refused(rt: &impl Abort, filter: &mut Filter, rows: &[(&str, TableFault)]) -> Result<(), Fail> {
-    for (line, fault) in rows {
-        let before = filter.shown(rt)?;
-        filter.refuses(rt, line, *fault)?;
-        filter.still_shows(rt, before.as_str(), line)?;
-    }
-    Ok(())
-}
-
 // The text of a rule: a space before each word.
 fn text(rt: &impl Abort, alloc: Global, rule: &Rule) -> Result<String, Fail> {
     let mut output = Tap::new(Vec::new(alloc));
     write_rule(rule, &mut output)?;
-    let bytes = output.into_device();
-    match str::from_utf8(&bytes) {
-        Ok(text) => Ok(format!(in alloc; "{text}")?),
-        Err(_) => {
-            assert!(rt; false, "no text");
-            Ok(String::new(alloc))
-        }
-    }
+    text_of(rt, alloc, output)
 }
 
 #[test]
 fn one_chain_taken_away(rt: HostRuntime) -> Result<(), Fail> {
-    let lines = ["-N b", "-N a", "-A a -j b", "-A INPUT -j a"];
-    let mut filter = Filter::after(&rt, rt.alloc(), &lines)?;
-    let rows = [
-        ("-X c", TableFault::NoSuchChain),
-        ("-X OUTPUT", TableFault::BuiltInChain),
-        ("-X INPUT", TableFault::BuiltInChain),
-        ("-X a", TableFault::ChainNotEmpty),
-        ("-X b", TableFault::ChainReferenced),
+    let acts = [
+        Act::Runs("-N b"),
+        Act::Runs("-N a"),
+        Act::Runs("-A a -j b"),
+        Act::Runs("-A INPUT -j a"),
+        Act::Keeps("-X c", TableFault::NoSuchChain),
+        Act::Keeps("-X OUTPUT", TableFault::BuiltInChain),
+        Act::Keeps("-X INPUT", TableFault::BuiltInChain),
+        Act::Keeps("-X a", TableFault::ChainNotEmpty),
+        Act::Keeps("-X b", TableFault::ChainReferenced),
+        Act::Runs("-F a"),
+        Act::Keeps("-X a", TableFault::ChainReferenced),
+        Act::Runs("-X b"),
+        Act::Lists("INPUT:1 FORWARD:0 OUTPUT:0 a:0"),
+        Act::Runs("-D INPUT 1"),
+        Act::Runs("-X a"),
+        Act::Runs("-N a"),
+        Act::Lists("INPUT:0 FORWARD:0 OUTPUT:0 a:0"),
     ];
-    refused(&rt, &mut filter, &rows)?;
-    filter.run_all(&rt, &["-F a"])?;
-    refused(&rt, &mut filter, &[("-X a", TableFault::ChainReferenced)])?;
-    filter.run_all(&rt, &["-X b"])?;
-    filter.lists(&rt, "INPUT:1 FORWARD:0 OUTPUT:0 a:0")?;
-    filter.run_all(&rt, &["-D INPUT 1", "-X a", "-N a"])?;
-    filter.lists(&rt, "INPUT:0 FORWARD:0 OUTPUT:0 a:0")?;
-    Ok(())
+    play(&rt, rt.alloc(), &acts)
 }
 
 #[test]
 fn all_user_chains_taken_away(rt: HostRuntime) -> Result<(), Fail> {
-    let lines = ["-N c", "-N b", "-N a", "-A a -j DROP", "-A OUTPUT -j c"];
-    let mut filter = Filter::after(&rt, rt.alloc(), &lines)?;
-    refused(&rt, &mut filter, &[("-X", TableFault::ChainNotEmpty)])?;
-    filter.run_all(&rt, &["-F a"])?;
-    refused(&rt, &mut filter, &[("-X", TableFault::ChainReferenced)])?;
-    filter.run_all(&rt, &["-F OUTPUT", "-A OUTPUT -j ACCEPT", "-X", "-X"])?;
-    filter.lists(&rt, "INPUT:0 FORWARD:0 OUTPUT:1")?;
-    Ok(())
+    let acts = [
+        Act::Runs("-N c"),
+        Act::Runs("-N b"),
+        Act::Runs("-N a"),
+        Act::Runs("-A a -j DROP"),
+        Act::Runs("-A OUTPUT -j c"),
+        Act::Keeps("-X", TableFault::ChainNotEmpty),
+        Act::Runs("-F a"),
+        Act::Keeps("-X", TableFault::ChainReferenced),
+        Act::Runs("-F OUTPUT"),
+        Act::Runs("-A OUTPUT -j ACCEPT"),
+        Act::Runs("-X"),
+        Act::Runs("-X"),
+        Act::Lists("INPUT:0 FORWARD:0 OUTPUT:1"),
+    ];
+    play(&rt, rt.alloc(), &acts)
 }
 
 #[test]
 fn a_renamed_chain(rt: HostRuntime) -> Result<(), Fail> {
-    let lines = [
-        "-N b",
-        "-N c",
-        "-A INPUT -j c",
-        "-A b -g c",
-        "-A b -j RETURN",
-        "-A c -j DROP",
+    let acts = [
+        Act::Runs("-N b"),
+        Act::Runs("-N c"),
+        Act::Runs("-A INPUT -j c"),
+        Act::Runs("-A b -g c"),
+        Act::Runs("-A b -j RETURN"),
+        Act::Runs("-A c -j DROP"),
+        Act::Keeps("-E x y", TableFault::NoSuchChain),
+        Act::Keeps("-E INPUT ACCEPT", TableFault::BuiltInChain),
+        Act::Keeps("-E c ACCEPT", TableFault::BadChainName),
+        Act::Keeps("-E c b", TableFault::ChainExists),
+        Act::Keeps("-E c c", TableFault::ChainExists),
+        Act::Keeps("-E c FORWARD", TableFault::ChainExists),
+        Act::Runs("-E c a"),
+        Act::Lists("INPUT:1 FORWARD:0 OUTPUT:0 a:1 b:2"),
+        Act::Replies(
+            "INPUT src=10.0.0.1 dst=2.2.2.2 proto=47",
+            "INPUT 1, a 1, verdict DROP by rule",
+        ),
+        Act::Runs("-C INPUT -j a"),
+        Act::Runs("-C b -g a"),
+        Act::Runs("-C b -j RETURN"),
+        Act::Keeps("-C INPUT -j c", TableFault::NoSuchRule),
+        Act::Keeps("-A INPUT -j c", TableFault::TargetMissing),
+        Act::Keeps("-A a -j b", TableFault::Loop),
+        Act::Runs("-E a zz"),
+        Act::Runs("-E b zy"),
+        Act::Lists("INPUT:1 FORWARD:0 OUTPUT:0 zy:2 zz:1"),
     ];
-    let mut filter = Filter::after(&rt, rt.alloc(), &lines)?;
-    let rows = [
-        ("-E x y", TableFault::NoSuchChain),
-        ("-E INPUT ACCEPT", TableFault::BuiltInChain),
-        ("-E c ACCEPT", TableFault::BadChainName),
-        ("-E c b", TableFault::ChainExists),
-        ("-E c c", TableFault::ChainExists),
-        ("-E c FORWARD", TableFault::ChainExists),
-    ];
-    refused(&rt, &mut filter, &rows)?;
-    filter.run_all(&rt, &["-E c a"])?;
-    filter.lists(&rt, "INPUT:1 FORWARD:0 OUTPUT:0 a:1 b:2")?;
-    let packet = "INPUT src=10.0.0.1 dst=2.2.2.2 proto=47";
-    filter.replies(&rt, packet, "INPUT 1, a 1, verdict DROP by rule")?;
-    filter.run_all(&rt, &["-C INPUT -j a", "-C b -g a", "-C b -j RETURN"])?;
-    let rows = [
-        ("-C INPUT -j c", TableFault::NoSuchRule),
-        ("-A INPUT -j c", TableFault::TargetMissing),
-        ("-A a -j b", TableFault::Loop),
-    ];
-    refused(&rt, &mut filter, &rows)?;
-    filter.run_all(&rt, &["-E a zz", "-E b zy"])?;
-    filter.lists(&rt, "INPUT:1 FORWARD:0 OUTPUT:0 zy:2 zz:1")?;
-    Ok(())
+    play(&rt, rt.alloc(), &acts)
+}
+
+const PACKET: &str = "INPUT src=10.0.0.1 dst=2.2.2.2 proto=udp sport=1 dport=2";
+
+const REPLY: &str = "INPUT 1, a 1, verdict DROP by rule";
+
+// Compares a copy with what its original showed and replied, and edits it.
+fn edited(rt: &impl Abort, copy: &mut Filter, before: &str) -> Result<(), Fail> {
+    copy.still_shows(rt, before, "the copy")?;
+    copy.replies(rt, PACKET, REPLY)?;
+    copy.run_all(rt, &["-D a 1", "-P INPUT DROP", "-E a b", "-N c"])
+}
+
+// Compares an original with what it showed and replied before its copy was edited.
+fn stays(rt: &impl Abort, filter: &Filter, before: &str) -> Result<(), Fail> {
+    filter.still_shows(rt, before, "the original")?;
+    filter.replies(rt, PACKET, REPLY)
+}
+
+// Edits a copy, and compares both.
+fn compared(rt: &impl Abort, filter: &Filter, copy: &mut Filter) -> Result<(), Fail> {
+    let before = filter.shown(rt)?;
+    edited(rt, copy, before.as_str())?;
+    stays(rt, filter, before.as_str())
 }
 
 #[test]
 fn a_copy_and_its_original(rt: HostRuntime) -> Result<(), Fail> {
-    let alloc = rt.alloc();
     let lines = [
         "-P FORWARD DROP",
         "-N a",
         "-A INPUT -s 10.0.0.0/8 -j a",
         "-A a -p udp -j DROP",
     ];
-    let filter = Filter::after(&rt, alloc, &lines)?;
+    let filter = Filter::after(&rt, rt.alloc(), &lines)?;
     let mut copy = filter.copy()?;
-    let before = filter.shown(&rt)?;
-    copy.still_shows(&rt, before.as_str(), "the copy")?;
-    let packet = "INPUT src=10.0.0.1 dst=2.2.2.2 proto=udp sport=1 dport=2";
-    let reply = "INPUT 1, a 1, verdict DROP by rule";
-    copy.replies(&rt, packet, reply)?;
-    copy.run_all(&rt, &["-D a 1", "-P INPUT DROP", "-E a b", "-N c"])?;
-    filter.still_shows(&rt, before.as_str(), "the original")?;
-    filter.replies(&rt, packet, reply)?;
-    copy.replies(&rt, packet, "INPUT 1, verdict DROP by policy")
+    compared(&rt, &filter, &mut copy)?;
+    copy.replies(&rt, PACKET, "INPUT 1, verdict DROP by policy")
+}
+
+// Compares the text of a rule of FORWARD, which has two.
+fn lends(rt: &impl Abort, filter: &Filter, number: usize, expected: &str) -> Result<(), Fail> {
+    assert!(rt; filter.table.chain_count() == 3);
+    assert!(rt; filter.table.rule_count(1) == 2);
+    assert!(rt; number == 1 || number == 2);
+    let lent = text(rt, filter.alloc, filter.table.rule(1, number))?;
+    assert_eq!(rt; lent.as_str(), expected);
+    Ok(())
 }
 
 #[test]
 fn rules_that_are_lent(rt: HostRuntime) -> Result<(), Fail> {
-    let alloc = rt.alloc();
     let lines = ["-A FORWARD -j LOG", "-A FORWARD -p icmp -j ACCEPT"];
-    let filter = Filter::after(&rt, alloc, &lines)?;
-    assert_eq!(&rt; filter.table.chain_count(), 3);
-    assert_eq!(&rt; filter.table.rule_count(1), 2);
-    assert_eq!(&rt;
-        text(&rt, alloc, filter.table.rule(1, 1))?.as_str(),
-        " -j LOG"
-    );
-    assert_eq!(&rt;
-        text(&rt, alloc, filter.table.rule(1, 2))?.as_str(),
-        " -p icmp -j ACCEPT"
-    );
-    Ok(())
+    let filter = Filter::after(&rt, rt.alloc(), &lines)?;
+    lends(&rt, &filter, 1, " -j LOG")?;
+    lends(&rt, &filter, 2, " -p icmp -j ACCEPT")
 }

@@ -68,7 +68,26 @@ impl Pair {
         })
     }
 
-    // Runs a command on the table: a word, a chain, a number if there is one, and a rule if there is one.
+    // The text of a command: a word, a chain, a number if there is one, and a rule if there is one.
+    fn line(
+        &self,
+        command: &str,
+        chain: usize,
+        number: Option<usize>,
+        draft: Option<&Draft>,
+    ) -> Result<String, Fail> {
+        let name = NAMES[chain % 8];
+        let mut line = format!(in self.filter.alloc; "{command} {name}")?;
+        if let Some(number) = number {
+            write!(line, " {number}")?;
+        }
+        if let Some(draft) = draft {
+            draft.write(&mut line)?;
+        }
+        Ok(line)
+    }
+
+    // Runs a command on the table, and compares the answer.
     fn run(
         &mut self,
         rt: &impl Abort,
@@ -78,20 +97,8 @@ impl Pair {
         draft: Option<&Draft>,
         fault: Option<TableFault>,
     ) -> Result<(), Fail> {
-        let name = NAMES[chain % 8];
-        let mut line = format!(in self.filter.alloc; "{command} {name}")?;
-        if let Some(number) = number {
-            write!(line, " {number}")?;
-        }
-        if let Some(draft) = draft {
-            draft.write(&mut line)?;
-        }
-        assert_eq!(rt;
-            self.filter.run(rt, line.as_str())?,
-            answer(fault),
-            "{line}"
-        );
-        Ok(())
+        let line = self.line(command, chain, number, draft)?;
+        self.filter.answers(rt, line.as_str(), answer(fault))
     }
 
     fn append(&mut self, rt: &impl Abort, chain: usize, draft: Draft) -> Result<(), Fail> {
@@ -234,36 +241,72 @@ impl Pair {
         }
     }
 
-    // A table made anew from the plain lists, with the policies of a new one.
-    fn anew(&self, rt: &impl Abort) -> Result<Pair, Fail> {
-        let mut pair = Pair::new(self.filter.alloc)?;
+    // Makes a user chain in a table made anew, if it is in the plain lists.
+    fn make_chain(&self, rt: &impl Abort, anew: &mut Pair, chain: usize) -> Result<(), Fail> {
+        if self.plain.has(chain) {
+            anew.new_chain(rt, chain)?;
+        }
+        Ok(())
+    }
+
+    // Appends the rules of a chain in a table made anew.
+    fn append_rules(&self, rt: &impl Abort, anew: &mut Pair, chain: usize) -> Result<(), Fail> {
+        for draft in self.plain.rules(chain) {
+            anew.append(rt, chain, *draft)?;
+        }
+        Ok(())
+    }
+
+    // Makes all chains and their rules in a table made anew.
+    fn make_all(&self, rt: &impl Abort, anew: &mut Pair) -> Result<(), Fail> {
         for chain in 3..8usize {
-            if self.plain.has(chain) {
-                pair.new_chain(rt, chain)?;
-            }
+            self.make_chain(rt, anew, chain)?;
         }
         for chain in 0..8usize {
-            for draft in self.plain.rules(chain) {
-                pair.append(rt, chain, *draft)?;
-            }
+            self.append_rules(rt, anew, chain)?;
         }
-        Ok(pair)
+        Ok(())
+    }
+
+    // A table made anew from the plain lists, with the policies of a new one.
+    fn anew(&self, rt: &impl Abort) -> Result<Pair, Fail> {
+        let mut anew = Pair::new(self.filter.alloc)?;
+        self.make_all(rt, &mut anew)?;
+        Ok(anew)
+    }
+
+    // Compares what the table lists with the plain lists.
+    fn check_listed(&self, rt: &impl Abort) -> Result<(), Fail> {
+        let listed = self.plain.listed(self.filter.alloc)?;
+        self.filter.lists(rt, listed.as_str())
     }
 
     // Compares all that the table shows with what a table made anew shows.
-    fn check(&self, rt: &impl Abort) -> Result<(), Fail> {
-        let alloc = self.filter.alloc;
-        assert!(rt; self.filter.listed(rt)?.as_str() == self.plain.listed(alloc)?.as_str());
-        let anew = self.anew(rt)?;
-        assert!(rt; self.filter.shown(rt)?.as_str() == anew.filter.shown(rt)?.as_str());
-        for packet in PACKETS {
-            let (reply, other) = (
-                self.filter.reply(rt, packet)?,
-                anew.filter.reply(rt, packet)?,
-            );
-            assert_eq!(rt; reply.as_str(), other.as_str(), "{packet}");
+    fn check_shown(&self, rt: &impl Abort, anew: &Filter) -> Result<(), Fail> {
+        let shown = anew.shown(rt)?;
+        self.filter.still_shows(rt, shown.as_str(), "made anew")
+    }
+
+    // Compares the reply to a packet with that of a table made anew.
+    fn check_reply(&self, rt: &impl Abort, anew: &Filter, packet: &str) -> Result<(), Fail> {
+        let reply = anew.reply(rt, packet)?;
+        self.filter.replies(rt, packet, reply.as_str())
+    }
+
+    // Compares the replies to the packets with those of a table made anew.
+    fn check_replies(&self, rt: &impl Abort, anew: &Filter) -> Result<(), Fail> {
+        for packet in PACKETS.iter() {
+            self.check_reply(rt, anew, packet)?;
         }
         Ok(())
+    }
+
+    // Compares the table with the plain lists and with a table made anew.
+    fn check(&self, rt: &impl Abort) -> Result<(), Fail> {
+        self.check_listed(rt)?;
+        let anew = self.anew(rt)?;
+        self.check_shown(rt, &anew.filter)?;
+        self.check_replies(rt, &anew.filter)
     }
 }
 

@@ -1,11 +1,11 @@
 // Each call once, with its answer.
-use crate::commands::Filter;
+use crate::commands::{Act, Filter, play};
 use classify::Line;
 use fields::Field;
 use std::alloc::Global;
 use std::process::Abort;
 use std::test::Fail;
-use table::Policy;
+use table::{Policy, TableFault};
 
 const PACKET: &str = "INPUT src=10.0.0.1 dst=2.2.2.2 proto=47";
 
@@ -20,6 +20,14 @@ fn step(
     filter.accepts(rt, line)?;
     filter.lists(rt, listed)?;
     filter.replies(rt, PACKET, reply)
+}
+
+// Runs commands from a table on, and compares what it lists and its replies to the packet after each.
+fn steps(rt: &impl Abort, filter: &mut Filter, rows: &[(&str, &str, &str)]) -> Result<(), Fail> {
+    for (line, listed, reply) in rows {
+        step(rt, filter, line, listed, reply)?;
+    }
+    Ok(())
 }
 
 #[test]
@@ -122,10 +130,7 @@ fn calls(rt: HostRuntime) -> Result<(), Fail> {
             "verdict DROP by policy",
         ),
     ];
-    for (line, listed, reply) in rows {
-        step(&rt, &mut filter, line, listed, reply)?;
-    }
-    Ok(())
+    steps(&rt, &mut filter, &rows)
 }
 
 #[test]
@@ -159,24 +164,29 @@ fn only_the_first_equal_rule_is_taken_out(rt: HostRuntime) -> Result<(), Fail> {
             "INPUT 1, INPUT 2, verdict DROP by rule",
         ),
     ];
-    for (line, listed, reply) in rows {
-        step(&rt, &mut filter, line, listed, reply)?;
-    }
-    Ok(())
+    steps(&rt, &mut filter, &rows)
 }
 
 #[test]
 fn a_loop_is_one_of_the_rules_that_are_there(rt: HostRuntime) -> Result<(), Fail> {
-    let lines = ["-N a", "-N b", "-N c", "-A a -j b", "-A b -j c"];
-    let mut filter = Filter::after(&rt, rt.alloc(), &lines)?;
-    filter.refuses(&rt, "-A c -j a", table::TableFault::Loop)?;
-    filter.lists(&rt, "INPUT:0 FORWARD:0 OUTPUT:0 a:1 b:1 c:0")?;
-    filter.run_all(&rt, &["-R b 1 -j LOG", "-A c -j a"])?;
-    filter.refuses(&rt, "-A b -g c", table::TableFault::Loop)?;
-    filter.run_all(&rt, &["-D a 1", "-A b -g c"])?;
-    filter.refuses(&rt, "-A a -g b", table::TableFault::Loop)?;
-    filter.run_all(&rt, &["-F c", "-A a -g b"])?;
-    Ok(())
+    let acts = [
+        Act::Runs("-N a"),
+        Act::Runs("-N b"),
+        Act::Runs("-N c"),
+        Act::Runs("-A a -j b"),
+        Act::Runs("-A b -j c"),
+        Act::Refuses("-A c -j a", TableFault::Loop),
+        Act::Lists("INPUT:0 FORWARD:0 OUTPUT:0 a:1 b:1 c:0"),
+        Act::Runs("-R b 1 -j LOG"),
+        Act::Runs("-A c -j a"),
+        Act::Refuses("-A b -g c", TableFault::Loop),
+        Act::Runs("-D a 1"),
+        Act::Runs("-A b -g c"),
+        Act::Refuses("-A a -g b", TableFault::Loop),
+        Act::Runs("-F c"),
+        Act::Runs("-A a -g b"),
+    ];
+    play(&rt, rt.alloc(), &acts)
 }
 
 // A table with two user chains, and two rules of INPUT.
@@ -239,8 +249,8 @@ fn lines_of_a_chain(rt: HostRuntime) -> Result<(), Fail> {
     ];
     assert!(rt; filter.table.chain_count() > 0);
     let classifier = filter.table.classifier(0);
-    for (field, expected) in starts {
-        starts_at(&rt, &classifier.line(field), expected);
+    for (field, expected) in starts.iter() {
+        starts_at(&rt, &classifier.line(*field), expected);
     }
     Ok(())
 }
@@ -251,6 +261,13 @@ fn counts_of_rules(rt: HostRuntime) -> Result<(), Fail> {
     assert!(rt; filter.table.chain_count() > 0);
     assert!(rt; filter.table.rule_count(0) == 2);
     assert!(rt; filter.table.classifier(0).len() == 2);
+    Ok(())
+}
+
+// Runs a command, and compares how many boxes were made up to it.
+fn makes(rt: &impl Abort, filter: &mut Filter, line: &str, boxes: u64) -> Result<(), Fail> {
+    filter.accepts(rt, line)?;
+    assert_eq!(rt; filter.work.boxes(), boxes, "{line}");
     Ok(())
 }
 
@@ -270,9 +287,8 @@ fn boxes_are_made_once_an_edit(rt: HostRuntime) -> Result<(), Fail> {
         ("-F a", 4),
         ("-F", 4),
     ];
-    for (line, boxes) in rows {
-        filter.accepts(&rt, line)?;
-        assert_eq!(rt; filter.work.boxes(), boxes, "{line}");
+    for (line, boxes) in rows.iter() {
+        makes(&rt, &mut filter, line, *boxes)?;
     }
     Ok(())
 }

@@ -48,15 +48,36 @@ fn replies(rt: &impl Abort, filter: &Filter) -> Result<(), Fail> {
     Ok(())
 }
 
-// Compares the answers to commands, each of which is refused, and all that the table shows before and after.
+// Compares the answer to a command that is refused, and all that the table shows before and after.
+fn refused_by(
+    rt: &impl Abort,
+    filter: &mut Filter,
+    before: &str,
+    row: &(&str, TableFault),
+) -> Result<(), Fail> {
+    let (line, fault) = *row;
+    filter.answers(rt, line, Err(fault))?;
+    filter.still_shows(rt, before, line)?;
+    filter.run_all(rt, &RULES)
+}
+
+// Compares the answers to commands, each of which is refused.
+fn refused_each(
+    rt: &impl Abort,
+    filter: &mut Filter,
+    rows: &[(&str, TableFault)],
+) -> Result<(), Fail> {
+    let before = filter.shown(rt)?;
+    for row in rows {
+        refused_by(rt, filter, before.as_str(), row)?;
+    }
+    Ok(())
+}
+
+// Compares the answers to commands, each of which is refused, and the replies after them.
 fn refused(rt: &impl Abort, alloc: Global, rows: &[(&str, TableFault)]) -> Result<(), Fail> {
     let mut filter = Filter::after(rt, alloc, &BEFORE)?;
-    let before = filter.shown(rt)?;
-    for (line, fault) in rows {
-        filter.refuses(rt, line, *fault)?;
-        filter.still_shows(rt, before.as_str(), line)?;
-        filter.run_all(rt, &RULES)?;
-    }
+    refused_each(rt, &mut filter, rows)?;
     replies(rt, &filter)
 }
 

@@ -1,5 +1,5 @@
 // Long chains, many chains and long walks.
-use crate::commands::Filter;
+use crate::commands::{Act, Filter};
 use std::alloc::Global;
 use std::process::Abort;
 use std::test::Fail;
@@ -32,55 +32,58 @@ fn fill(rt: &impl Abort, filter: &mut Filter, line: &str) -> Result<(), Fail> {
 fn a_full_built_in_chain(rt: HostRuntime) -> Result<(), Fail> {
     let mut filter = Filter::after(&rt, rt.alloc(), &["-N a", "-N b"])?;
     fill(&rt, &mut filter, "-A INPUT -s 10.0.0.0/8 -j ACCEPT")?;
-    let rows = [
-        ("-A INPUT -j DROP", TableFault::ChainFull),
-        ("-I INPUT 1 -j DROP", TableFault::ChainFull),
-        ("-I INPUT 8193 -j DROP", TableFault::ChainFull),
-        ("-A INPUT -j a", TableFault::ChainFull),
-        ("-I INPUT 8194 -j DROP", TableFault::NumberOutOfRange),
-        ("-R INPUT 8193 -j DROP", TableFault::NumberOutOfRange),
-        ("-D INPUT 8193", TableFault::NumberOutOfRange),
-        ("-A INPUT -o eth0 -j DROP", TableFault::InterfaceNotAllowed),
-        ("-A INPUT -j gone", TableFault::TargetMissing),
-        ("-A INPUT -j OUTPUT", TableFault::TargetBuiltIn),
+    let acts = [
+        Act::Refuses("-A INPUT -j DROP", TableFault::ChainFull),
+        Act::Refuses("-I INPUT 1 -j DROP", TableFault::ChainFull),
+        Act::Refuses("-I INPUT 8193 -j DROP", TableFault::ChainFull),
+        Act::Refuses("-A INPUT -j a", TableFault::ChainFull),
+        Act::Refuses("-I INPUT 8194 -j DROP", TableFault::NumberOutOfRange),
+        Act::Refuses("-R INPUT 8193 -j DROP", TableFault::NumberOutOfRange),
+        Act::Refuses("-D INPUT 8193", TableFault::NumberOutOfRange),
+        Act::Refuses("-A INPUT -o eth0 -j DROP", TableFault::InterfaceNotAllowed),
+        Act::Refuses("-A INPUT -j gone", TableFault::TargetMissing),
+        Act::Refuses("-A INPUT -j OUTPUT", TableFault::TargetBuiltIn),
+        Act::Runs("-R INPUT 8192 -j DROP"),
+        Act::Replies(PACKET, "INPUT 8192, verdict DROP by rule"),
+        Act::Runs("-D INPUT 1"),
+        Act::Runs("-C INPUT -j DROP"),
+        Act::Replies(PACKET, "INPUT 8191, verdict DROP by rule"),
+        Act::Runs("-I INPUT 1 -j LOG"),
+        Act::Replies(PACKET, "INPUT 1, INPUT 8192, verdict DROP by rule"),
+        Act::Refuses("-A INPUT", TableFault::ChainFull),
+        Act::Runs("-D INPUT -j DROP"),
+        Act::Runs("-F INPUT"),
+        Act::Lists("INPUT:0 FORWARD:0 OUTPUT:0 a:0 b:0"),
     ];
-    filter.refuses_all(&rt, &rows)?;
-    filter.run_all(&rt, &["-R INPUT 8192 -j DROP"])?;
-    filter.replies(&rt, PACKET, "INPUT 8192, verdict DROP by rule")?;
-    filter.run_all(&rt, &["-D INPUT 1", "-C INPUT -j DROP"])?;
-    filter.replies(&rt, PACKET, "INPUT 8191, verdict DROP by rule")?;
-    filter.run_all(&rt, &["-I INPUT 1 -j LOG"])?;
-    filter.replies(&rt, PACKET, "INPUT 1, INPUT 8192, verdict DROP by rule")?;
-    filter.refuses_all(&rt, &[("-A INPUT", TableFault::ChainFull)])?;
-    filter.run_all(&rt, &["-D INPUT -j DROP", "-F INPUT"])?;
-    filter.lists(&rt, "INPUT:0 FORWARD:0 OUTPUT:0 a:0 b:0")?;
-    Ok(())
+    filter.acts(&rt, &acts)
 }
 
 #[test]
 fn a_loop_is_reported_before_a_full_chain(rt: HostRuntime) -> Result<(), Fail> {
     let mut filter = Filter::after(&rt, rt.alloc(), &["-N a", "-N b", "-A b -j a"])?;
     fill(&rt, &mut filter, "-A a -j LOG")?;
-    let rows = [
-        ("-A a -j b", TableFault::Loop),
-        ("-I a 1 -g a", TableFault::Loop),
-        ("-R a 8192 -j b", TableFault::Loop),
-        ("-A a -j RETURN", TableFault::ChainFull),
+    let acts = [
+        Act::Refuses("-A a -j b", TableFault::Loop),
+        Act::Refuses("-I a 1 -g a", TableFault::Loop),
+        Act::Refuses("-R a 8192 -j b", TableFault::Loop),
+        Act::Refuses("-A a -j RETURN", TableFault::ChainFull),
     ];
-    filter.refuses_all(&rt, &rows)
+    filter.acts(&rt, &acts)
 }
 
 #[test]
 fn matches_past_a_row_of_words(rt: HostRuntime) -> Result<(), Fail> {
     let mut filter = Filter::new(rt.alloc())?;
     for _ in 0..256u32 {
-        filter.run_all(&rt, &["-A INPUT -s 10.0.0.0/8 -j ACCEPT"])?;
+        filter.accepts(&rt, "-A INPUT -s 10.0.0.0/8 -j ACCEPT")?;
     }
-    filter.run_all(&rt, &["-A INPUT -j DROP"])?;
-    filter.replies(&rt, PACKET, "INPUT 257, verdict DROP by rule")?;
-    filter.run_all(&rt, &["-D INPUT 1"])?;
-    filter.replies(&rt, PACKET, "INPUT 256, verdict DROP by rule")?;
-    Ok(())
+    let acts = [
+        Act::Runs("-A INPUT -j DROP"),
+        Act::Replies(PACKET, "INPUT 257, verdict DROP by rule"),
+        Act::Runs("-D INPUT 1"),
+        Act::Replies(PACKET, "INPUT 256, verdict DROP by rule"),
+    ];
+    filter.acts(&rt, &acts)
 }
 
 // 1,024 user chains, each of which jumps to the next, and a rule of INPUT that jumps to the first.
@@ -95,6 +98,13 @@ fn row_of_chains(rt: &impl Abort, filter: &mut Filter) -> Result<(), Fail> {
     filter.run_all(rt, &["-A INPUT -j d1"])
 }
 
+// Compares how many steps a trail has, and how it ends.
+fn trail_ends(rt: &impl Abort, trail: &Trail, steps: usize, verdict: Verdict, by_policy: bool) {
+    assert_eq!(rt; trail.steps.len(), steps);
+    assert_eq!(rt; trail.verdict, verdict);
+    assert_eq!(rt; trail.by_policy, by_policy);
+}
+
 // Compares how many steps a walk has, and how it ends.
 fn ends(
     rt: &impl Abort,
@@ -104,9 +114,7 @@ fn ends(
     by_policy: bool,
 ) -> Result<(), Fail> {
     let trail = filter.trail(rt, PACKET)?;
-    assert_eq!(rt; trail.steps.len(), steps);
-    assert_eq!(rt; trail.verdict, verdict);
-    assert_eq!(rt; trail.by_policy, by_policy);
+    trail_ends(rt, &trail, steps, verdict, by_policy);
     Ok(())
 }
 
@@ -145,17 +153,30 @@ fn a_jump_through_every_chain(rt: HostRuntime) -> Result<(), Fail> {
     row_of_chains(&rt, &mut filter)?;
     ends(&rt, &filter, 1024, Verdict::Accept, true)?;
     passes_each(&rt, &filter)?;
-    let rows = [
-        ("-N d1025", TableFault::TooManyChains),
-        ("-N d7", TableFault::ChainExists),
-        ("-N DROP", TableFault::BadChainName),
-        ("-A d1024 -j d1", TableFault::Loop),
-        ("-A d1024 -g d1024", TableFault::Loop),
+    let acts = [
+        Act::Refuses("-N d1025", TableFault::TooManyChains),
+        Act::Refuses("-N d7", TableFault::ChainExists),
+        Act::Refuses("-N DROP", TableFault::BadChainName),
+        Act::Refuses("-A d1024 -j d1", TableFault::Loop),
+        Act::Refuses("-A d1024 -g d1024", TableFault::Loop),
     ];
-    filter.refuses_all(&rt, &rows)?;
+    filter.acts(&rt, &acts)?;
     assert!(rt; filter.table.chain_count() == 1027);
-    filter.run_all(&rt, &["-A d1024 -j DROP"])?;
+    filter.accepts(&rt, "-A d1024 -j DROP")?;
     ends(&rt, &filter, 1025, Verdict::Drop, false)
+}
+
+// Makes a chain whose name is a letter with a number.
+fn new_chain(rt: &impl Abort, filter: &mut Filter, letter: &str, number: u32) -> Result<(), Fail> {
+    let line = format!(in filter.alloc; "-N {letter}{number}")?;
+    filter.accepts(rt, line.as_str())
+}
+
+// Appends two rules that jump to the next chain.
+fn jump_twice(rt: &impl Abort, filter: &mut Filter, letter: &str, number: u32) -> Result<(), Fail> {
+    let next = number.wrapping_add(1);
+    let line = format!(in filter.alloc; "-A {letter}{number} -j {letter}{next}")?;
+    filter.run_all(rt, &[line.as_str(), line.as_str()])
 }
 
 // So many chains, each of which but the last has two rules that jump to the next; the names are a letter with a number
@@ -168,13 +189,10 @@ fn doubling_chains(
     last: u32,
 ) -> Result<(), Fail> {
     for number in first..=last {
-        let line = format!(in filter.alloc; "-N {letter}{number}")?;
-        filter.run_all(rt, &[line.as_str()])?;
+        new_chain(rt, filter, letter, number)?;
     }
     for number in first..last {
-        let next = number + 1;
-        let line = format!(in filter.alloc; "-A {letter}{number} -j {letter}{next}")?;
-        filter.run_all(rt, &[line.as_str(), line.as_str()])?;
+        jump_twice(rt, filter, letter, number)?;
     }
     Ok(())
 }
@@ -183,10 +201,13 @@ fn doubling_chains(
 fn forty_doubling_chains(rt: HostRuntime) -> Result<(), Fail> {
     let mut filter = Filter::new(rt.alloc())?;
     doubling_chains(&rt, &mut filter, "e", 1, 40)?;
-    filter.run_all(&rt, &["-A INPUT -j e1"])?;
-    filter.replies(&rt, PACKET, "verdict TOOLONG")?;
-    ends(&rt, &filter, 0, Verdict::TooLong, false)?;
-    filter.refuses_all(&rt, &[("-A e40 -j e1", TableFault::Loop)])
+    let acts = [
+        Act::Runs("-A INPUT -j e1"),
+        Act::Replies(PACKET, "verdict TOOLONG"),
+        Act::Refuses("-A e40 -j e1", TableFault::Loop),
+    ];
+    filter.acts(&rt, &acts)?;
+    ends(&rt, &filter, 0, Verdict::TooLong, false)
 }
 
 // Compares the first and last steps of a walk that begins and ends in INPUT.
@@ -210,11 +231,16 @@ fn the_longest_walk(rt: HostRuntime) -> Result<(), Fail> {
     doubling_chains(&rt, &mut filter, "c", 0, 15)?;
     filter.run_all(&rt, &["-A INPUT -j c0", "-A INPUT -j ACCEPT"])?;
     expect_longest(&rt, &filter, false)?;
-    filter.run_all(&rt, &["-I INPUT 2"])?;
-    filter.replies(&rt, PACKET, "verdict TOOLONG")?;
-    filter.run_all(&rt, &["-D INPUT 3"])?;
+    let acts = [
+        Act::Runs("-I INPUT 2"),
+        Act::Replies(PACKET, "verdict TOOLONG"),
+        Act::Runs("-D INPUT 3"),
+    ];
+    filter.acts(&rt, &acts)?;
     expect_longest(&rt, &filter, true)?;
-    filter.run_all(&rt, &["-A INPUT -j LOG"])?;
-    filter.replies(&rt, PACKET, "verdict TOOLONG")?;
-    Ok(())
+    let acts = [
+        Act::Runs("-A INPUT -j LOG"),
+        Act::Replies(PACKET, "verdict TOOLONG"),
+    ];
+    filter.acts(&rt, &acts)
 }

@@ -1,28 +1,73 @@
 use fields::{Failure, Fuse, FusedReader};
 use std::io::{BufRead, ErrorKind, Read};
+use std::process::Abort;
+
+// Whether the reader shows just these bytes.
+fn shows(reader: &mut FusedReader<'_>, bytes: &[u8]) -> bool {
+    match reader.fill_buf() {
+        Ok(shown) => shown == bytes,
+        Err(_) => false,
+    }
+}
+
+// Whether a read gives so many bytes.
+fn gives(reader: &mut FusedReader<'_>, buf: &mut [u8], count: usize) -> bool {
+    match reader.read(buf) {
+        Ok(given) => given == count,
+        Err(_) => false,
+    }
+}
+
+// The next two bytes come, and one more where there is room for one.
+fn reads_on(rt: &impl Abort, reader: &mut FusedReader<'_>) {
+    let mut buf = [0; 4];
+    assert!(rt; gives(reader, &mut buf, 2));
+    assert!(rt; buf.as_slice() == b"bc\0\0".as_slice());
+    assert!(rt; gives(reader, &mut buf[..1], 1));
+    assert!(rt; buf.as_slice() == b"dc\0\0".as_slice());
+}
+
+// Whether no byte is shown, nor given where there is room for four.
+fn is_at_end(reader: &mut FusedReader<'_>) -> bool {
+    shows(reader, b"") && gives(reader, &mut [0; 4], 0)
+}
+
+// Whether the reader fails by an error of the kind.
+fn fails_by(reader: &mut FusedReader<'_>, kind: ErrorKind) -> bool {
+    match reader.fill_buf() {
+        Ok(_) => false,
+        Err(error) => error.kind() == kind,
+    }
+}
+
+// Whether the second call fails so and takes nothing, and the third goes on.
+fn goes_on(failure: Failure, kind: ErrorKind) -> bool {
+    let mut reader = FusedReader::new(b"abc", Fuse::failing(2, 1, failure));
+    let unfailed = reader.fill_buf().is_ok() && reader.failed_at().is_none();
+    let failed = fails_by(&mut reader, kind)
+        && reader.failed_at() == Some(1)
+        && reader.calls() == 2;
+    let shown = shows(&mut reader, b"ab") && reader.failed_at() == Some(1) && reader.calls() == 3;
+    unfailed && failed && shown
+}
 
 // A call shows at most so many bytes, or gives at most so many and at most as many as it is lent room for.
 #[test]
 fn gives_bytes_in_chunks(rt: HostRuntime) {
     let mut reader = FusedReader::new(b"abcdef", Fuse::never(2));
-    assert!(rt; reader.fill_buf().expect(&rt, "bytes") == b"ab".as_slice());
+    assert!(rt; shows(&mut reader, b"ab"));
     reader.consume(1);
-    let mut buf = [0; 4];
-    assert!(rt; reader.read(&mut buf).expect(&rt, "bytes") == 2);
-    assert!(rt; buf.as_slice() == b"bc\0\0".as_slice());
-    assert!(rt; reader.read(&mut buf[..1]).expect(&rt, "bytes") == 1);
-    assert!(rt; buf.as_slice() == b"dc\0\0".as_slice());
+    reads_on(&rt, &mut reader);
     assert!(rt; reader.rest() == b"ef".as_slice());
     assert!(rt; reader.calls() == 3 && reader.failed_at().is_none());
     reader.consume(9);
-    assert!(rt; reader.fill_buf().expect(&rt, "bytes").is_empty());
-    assert!(rt; reader.read(&mut buf).expect(&rt, "bytes") == 0);
+    assert!(rt; is_at_end(&mut reader));
 }
 
 #[test]
 fn gives_a_byte_where_none_is_asked(rt: HostRuntime) {
     let mut reader = FusedReader::new(b"ab", Fuse::never(0));
-    assert!(rt; reader.fill_buf().expect(&rt, "bytes") == b"a".as_slice());
+    assert!(rt; shows(&mut reader, b"a"));
 }
 
 // The call that fails takes nothing, and the next goes on.
@@ -33,14 +78,6 @@ fn fails_once(rt: HostRuntime) {
         (Failure::Interrupted, ErrorKind::Interrupted),
         (Failure::Nothing, ErrorKind::Other),
     ] {
-        let mut reader = FusedReader::new(b"abc", Fuse::failing(2, 1, failure));
-        assert!(rt; reader.fill_buf().is_ok() && reader.failed_at().is_none());
-        match reader.fill_buf() {
-            Ok(_) => assert!(rt; false),
-            Err(error) => assert!(rt; error.kind() == kind),
-        }
-        assert!(rt; reader.failed_at() == Some(1) && reader.calls() == 2);
-        assert!(rt; reader.fill_buf().expect(&rt, "bytes") == b"ab".as_slice());
-        assert!(rt; reader.failed_at() == Some(1) && reader.calls() == 3);
+        assert!(rt; goes_on(failure, kind));
     }
 }

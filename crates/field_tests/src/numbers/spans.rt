@@ -10,14 +10,35 @@ const NUMBERS: u32 = 5;
 
 const MASKS: u32 = 32;
 
+/// What two sets share, which have one top.
+fn meet_of(
+    rt: &impl Abort,
+    alloc: Global,
+    left: &Spans,
+    right: &Spans,
+) -> Result<Spans, AllocError> {
+    assert_eq!(rt; left.top(), right.top());
+    left.meet(alloc, right)
+}
+
+/// What either of two sets has, which have one top.
+fn join_of(
+    rt: &impl Abort,
+    alloc: Global,
+    left: &Spans,
+    right: &Spans,
+) -> Result<Spans, AllocError> {
+    assert_eq!(rt; left.top(), right.top());
+    left.join(alloc, right)
+}
+
 /// The set of a mask, made from all numbers by leaving out the others.
 fn set_of(rt: &impl Abort, alloc: Global, mask: u32) -> Result<Spans, AllocError> {
     let mut set = Spans::whole(alloc, TOP)?;
     for x in 0..NUMBERS {
         if mask >> x & 1 == 0 {
             let others = Spans::one(alloc, TOP, x.into(), x.into())?.except(alloc)?;
-            assert_eq!(rt; set.top(), others.top());
-            set = set.meet(alloc, &others)?;
+            set = meet_of(rt, alloc, &set, &others)?;
         }
     }
     Ok(set)
@@ -41,52 +62,87 @@ fn runs_of(alloc: Global, mask: u32) -> Result<Vec<Interval>, AllocError> {
     Ok(runs)
 }
 
+// Whether the set's intervals are the runs of set bits.
+fn has_runs(alloc: Global, set: &Spans, mask: u32) -> Result<bool, AllocError> {
+    let runs = runs_of(alloc, mask)?;
+    Ok(set.intervals() == runs.as_slice())
+}
+
+// The set has just the numbers whose bits are set, and not the one after the top.
+fn has_bits(rt: &impl Abort, set: &Spans, mask: u32) {
+    for x in 0..NUMBERS + 1 {
+        assert!(rt; set.has(x.into()) == (mask >> x & 1 == 1), "{x} in {mask}");
+    }
+}
+
+// Whether what is left by what the set leaves is the set; what it leaves has just the numbers of the mask.
+fn is_left_by_others(
+    rt: &impl Abort,
+    alloc: Global,
+    set: &Spans,
+    mask: u32,
+) -> Result<bool, AllocError> {
+    let others = set.except(alloc)?;
+    has_bits(rt, &others, mask);
+    let again = others.except(alloc)?;
+    Ok(again.intervals() == set.intervals())
+}
+
+// Whether all numbers leave the set as it is where they meet it.
+fn meets_all(rt: &impl Abort, alloc: Global, set: &Spans) -> Result<bool, AllocError> {
+    let all = Spans::whole(alloc, TOP)?;
+    let same = meet_of(rt, alloc, set, &all)?;
+    Ok(same.intervals() == set.intervals())
+}
+
 #[test]
 fn small_sets(rt: HostRuntime) -> Result<(), Fail> {
     let alloc = rt.alloc();
-    let all = Spans::whole(alloc, TOP)?;
     for mask in 0..MASKS {
         let set = set_of(&rt, alloc, mask)?;
-        let others = set.except(alloc)?;
-        let again = others.except(alloc)?;
-        assert_eq!(rt; set.top(), all.top());
-        let same = set.meet(alloc, &all)?;
-        for x in 0..NUMBERS {
-            assert_eq!(rt; set.has(x.into()), mask >> x & 1 == 1, "{x} in {mask}");
-            assert_eq!(rt;
-                others.has(x.into()),
-                mask >> x & 1 == 0,
-                "{x} outside {mask}"
-            );
-        }
-        assert!(rt; !set.has(TOP + 1) && !others.has(TOP + 1));
-        assert_eq!(rt; set.intervals(), runs_of(alloc, mask)?.as_slice(), "{mask}");
-        assert_eq!(rt; again.intervals(), set.intervals(), "{mask}");
-        assert_eq!(rt; same.intervals(), set.intervals(), "{mask}");
+        has_bits(&rt, &set, mask);
+        assert!(rt; has_runs(alloc, &set, mask)?, "{mask}");
     }
     Ok(())
+}
+
+#[test]
+fn others_of_small_sets(rt: HostRuntime) -> Result<(), Fail> {
+    let alloc = rt.alloc();
+    for mask in 0..MASKS {
+        let set = set_of(&rt, alloc, mask)?;
+        assert!(rt;
+            is_left_by_others(&rt, alloc, &set, mask ^ (MASKS - 1))?,
+            "{mask}"
+        );
+        assert!(rt; meets_all(&rt, alloc, &set)?, "{mask}");
+    }
+    Ok(())
+}
+
+// Whether the sets of two masks meet in the runs of both.
+fn meets(rt: &impl Abort, alloc: Global, mask: u32, other: u32) -> Result<bool, AllocError> {
+    let left = set_of(rt, alloc, mask)?;
+    let right = set_of(rt, alloc, other)?;
+    let both = meet_of(rt, alloc, &left, &right)?;
+    has_runs(alloc, &both, mask & other)
+}
+
+// Whether the sets of two masks join to the runs of either.
+fn joins(rt: &impl Abort, alloc: Global, mask: u32, other: u32) -> Result<bool, AllocError> {
+    let left = set_of(rt, alloc, mask)?;
+    let right = set_of(rt, alloc, other)?;
+    let either = join_of(rt, alloc, &left, &right)?;
+    has_runs(alloc, &either, mask | other)
 }
 
 #[test]
 fn small_meets_and_joins(rt: HostRuntime) -> Result<(), Fail> {
     let alloc = rt.alloc();
     for mask in 0..MASKS {
-        let left = set_of(&rt, alloc, mask)?;
         for other in 0..MASKS {
-            let right = set_of(&rt, alloc, other)?;
-            assert_eq!(rt; left.top(), right.top());
-            let both = left.meet(alloc, &right)?;
-            assert_eq!(rt;
-                both.intervals(),
-                runs_of(alloc, mask & other)?.as_slice(),
-                "{mask} and {other}"
-            );
-            let either = left.join(alloc, &right)?;
-            assert_eq!(rt;
-                either.intervals(),
-                runs_of(alloc, mask | other)?.as_slice(),
-                "{mask} or {other}"
-            );
+            assert!(rt; meets(&rt, alloc, mask, other)?, "{mask} and {other}");
+            assert!(rt; joins(&rt, alloc, mask, other)?, "{mask} or {other}");
         }
     }
     Ok(())
@@ -111,44 +167,41 @@ fn intervals_of_one(rt: HostRuntime) -> Result<(), Fail> {
     Ok(())
 }
 
+// Whether the set's only interval is this.
+fn is_just(set: &Spans, first: u128, last: u128) -> bool {
+    set.intervals() == [Interval { first, last }].as_slice()
+}
+
 #[test]
 fn greatest_top(rt: HostRuntime) -> Result<(), Fail> {
     let alloc = rt.alloc();
     let top = u128::MAX;
     let all = Spans::whole(alloc, top)?;
-    assert_eq!(rt;
-        all.intervals(),
-        [Interval {
-            first: 0,
-            last: top
-        }]
-        .as_slice()
-    );
-    assert!(rt; all.has(0) && all.has(top));
+    assert!(rt; is_just(&all, 0, top) && all.has(0) && all.has(top));
     assert!(rt; all.except(alloc)?.intervals().is_empty());
+    Ok(())
+}
+
+#[test]
+fn end_of_greatest_top(rt: HostRuntime) -> Result<(), Fail> {
+    let alloc = rt.alloc();
+    let top = u128::MAX;
     let end = Spans::one(alloc, top, top - 1, top)?;
+    assert!(rt; end.has(top) && !end.has(top - 2));
     let before = end.except(alloc)?;
-    assert_eq!(rt;
-        before.intervals(),
-        [Interval {
-            first: 0,
-            last: top - 2
-        }]
-        .as_slice()
-    );
-    assert!(rt; end.has(top) && !end.has(top - 2) && !before.has(top));
+    assert!(rt; is_just(&before, 0, top - 2) && !before.has(top));
     let again = before.except(alloc)?;
-    assert_eq!(rt; again.intervals(), end.intervals());
+    assert!(rt; again.intervals() == end.intervals());
+    Ok(())
+}
+
+#[test]
+fn meet_at_greatest_top(rt: HostRuntime) -> Result<(), Fail> {
+    let alloc = rt.alloc();
+    let top = u128::MAX;
+    let end = Spans::one(alloc, top, top - 1, top)?;
     let last = Spans::one(alloc, top, top, top)?;
-    assert_eq!(rt; end.top(), last.top());
-    let both = end.meet(alloc, &last)?;
-    assert_eq!(rt;
-        both.intervals(),
-        [Interval {
-            first: top,
-            last: top
-        }]
-        .as_slice()
-    );
+    let both = meet_of(&rt, alloc, &end, &last)?;
+    assert!(rt; is_just(&both, top, top));
     Ok(())
 }

@@ -1,27 +1,48 @@
 use fields::{Field, Hook, Packet, PacketFault, Words};
+use std::alloc::Global;
+use std::process::Abort;
 use std::test::Fail;
 
-#[test]
-fn packets_are_read(rt: HostRuntime) -> Result<(), Fail> {
-    let line = b"packet INPUT src=10.9.9.9 dst=2.2.2.2 proto=47";
-    let words = Words::split(rt.alloc(), line)?;
-    assert!(rt; words.len() == 5);
-    let packet = Packet::read(&words, 1)?;
-    assert_eq!(rt; packet.hook(), Hook::Input);
+// The packet that a line describes, from a place of its words on.
+fn packet_of(alloc: Global, line: &[u8], from: usize) -> Result<Packet, Fail> {
+    let words = Words::split(alloc, line)?;
+    Ok(Packet::read(&words, from)?)
+}
+
+// The number of words of a line.
+fn count_of(alloc: Global, line: &[u8]) -> Result<usize, Fail> {
+    let words = Words::split(alloc, line)?;
+    Ok(words.len())
+}
+
+// The packet has these numbers, and 0 on every other field.
+fn has_points(rt: &impl Abort, packet: &Packet, source: u128, destination: u128, protocol: u128) {
     for field in Field::ALL {
         let value = match field {
-            Field::Source => 10 << 24 | 9 << 16 | 9 << 8 | 9,
-            Field::Destination => 0x02020202,
-            Field::Protocol => 47,
+            Field::Source => source,
+            Field::Destination => destination,
+            Field::Protocol => protocol,
             _ => 0,
         };
         assert_eq!(rt; packet.point(field), value);
     }
-    let words = Words::split(
-        rt.alloc(),
-        b"OUTPUT proto=0 dst=0.0.0.0 src=255.255.255.255",
-    )?;
-    let packet = Packet::read(&words, 0)?;
+}
+
+#[test]
+fn packets_are_read(rt: HostRuntime) -> Result<(), Fail> {
+    let line = b"packet INPUT src=10.9.9.9 dst=2.2.2.2 proto=47";
+    assert!(rt; count_of(rt.alloc(), line)? == 5);
+    let packet = packet_of(rt.alloc(), line, 1)?;
+    assert_eq!(rt; packet.hook(), Hook::Input);
+    let source = 10 << 24 | 9 << 16 | 9 << 8 | 9;
+    has_points(&rt, &packet, source, 0x02020202, 47);
+    Ok(())
+}
+
+#[test]
+fn packets_of_other_keys(rt: HostRuntime) -> Result<(), Fail> {
+    let line = b"OUTPUT proto=0 dst=0.0.0.0 src=255.255.255.255";
+    let packet = packet_of(rt.alloc(), line, 0)?;
     assert_eq!(rt; packet.hook(), Hook::Output);
     assert_eq!(rt; packet.point(Field::Source), 4294967295);
     Ok(())

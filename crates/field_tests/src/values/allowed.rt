@@ -1,7 +1,20 @@
 // The sets of the conditions of rules.
 use super::has_just;
 use fields::{CtSet, FlagTest, IfPattern, IpRange, PortList, PortRange, Prefix, Protocol};
+use std::alloc::Global;
 use std::test::Fail;
+
+// Whether the prefix of a text allows just the addresses from the first to the last.
+fn prefix_allows(alloc: Global, text: &[u8], first: u128, last: u128) -> Result<bool, Fail> {
+    let set = Prefix::read(text).ok_or("refused")?.allowed(alloc)?;
+    Ok(has_just(&set, &[(first, last)]))
+}
+
+// Whether the range of a text allows just these addresses.
+fn range_allows(alloc: Global, text: &[u8], intervals: &[(u128, u128)]) -> Result<bool, Fail> {
+    let set = IpRange::read(text).ok_or("refused")?.allowed(alloc)?;
+    Ok(has_just(&set, intervals))
+}
 
 #[test]
 fn addresses(rt: HostRuntime) -> Result<(), Fail> {
@@ -11,15 +24,20 @@ fn addresses(rt: HostRuntime) -> Result<(), Fail> {
         (b"0.0.0.0/0", 0, 4_294_967_295),
         (b"255.255.255.255", 4_294_967_295, 4_294_967_295),
     ] {
-        let set = Prefix::read(text).ok_or("refused")?.allowed(alloc)?;
-        assert!(rt; has_just(&set, &[(first, last)]), "{first} to {last}");
+        assert!(rt;
+            prefix_allows(alloc, text, first, last)?,
+            "{first} to {last}"
+        );
     }
-    let range = IpRange::read(b"10.0.0.1-10.0.0.9").ok_or("refused")?;
-    let set = range.allowed(alloc)?;
-    assert!(rt; has_just(&set, &[(167_772_161, 167_772_169)]));
-    let none = IpRange::read(b"10.0.0.9-10.0.0.1").ok_or("refused")?;
-    let set = none.allowed(alloc)?;
-    assert!(rt; has_just(&set, &[]));
+    Ok(())
+}
+
+#[test]
+fn ranges_of_addresses(rt: HostRuntime) -> Result<(), Fail> {
+    let alloc = rt.alloc();
+    let range = [(167_772_161, 167_772_169)];
+    assert!(rt; range_allows(alloc, b"10.0.0.1-10.0.0.9", &range)?);
+    assert!(rt; range_allows(alloc, b"10.0.0.9-10.0.0.1", &[])?);
     Ok(())
 }
 

@@ -1,5 +1,20 @@
-use fields::{CtSet, Tap};
+use fields::{CtSet, Tap, WriteFailed};
+use std::alloc::Global;
 use std::test::Fail;
+
+// Whether a set is printed so.
+fn prints(alloc: Global, set: CtSet, want: &[u8]) -> Result<bool, WriteFailed> {
+    let mut output = Tap::new(Vec::new(alloc));
+    set.put(&mut output)?;
+    Ok(output.into_device().as_slice() == want)
+}
+
+// Whether the text is a set that is printed so, which `--state` takes too or refuses.
+fn is_read(alloc: Global, text: &[u8], printed: &[u8], is_state: bool) -> Result<bool, Fail> {
+    let set = CtSet::read(text).ok_or("refused")?;
+    let state = if is_state { Some(set) } else { None };
+    Ok(prints(alloc, set, printed)? && CtSet::read_state(text) == state)
+}
 
 #[test]
 fn lists_of_states(rt: HostRuntime) -> Result<(), Fail> {
@@ -22,15 +37,13 @@ fn lists_of_states(rt: HostRuntime) -> Result<(), Fail> {
         (b"NEW,SNAT", b"NEW,SNAT", false),
     ];
     for (text, printed, is_state) in rows {
-        let set = CtSet::read(text).ok_or("refused")?;
-        let mut output = Tap::new(Vec::new(rt.alloc()));
-        set.put(&mut output)?;
-        assert!(rt; output.into_device().as_slice() == printed);
-        assert_eq!(rt;
-            CtSet::read_state(text),
-            if is_state { Some(set) } else { None }
-        );
+        assert!(rt; is_read(rt.alloc(), text, printed, is_state)?);
     }
+    Ok(())
+}
+
+#[test]
+fn lists_that_are_none(rt: HostRuntime) {
     let refused: [&[u8]; 9] = [
         b"",
         b"NEW,",
@@ -43,10 +56,9 @@ fn lists_of_states(rt: HostRuntime) -> Result<(), Fail> {
         b"6",
     ];
     for text in refused {
-        assert_eq!(rt; CtSet::read(text), None);
-        assert_eq!(rt; CtSet::read_state(text), None);
+        assert!(rt; CtSet::read(text).is_none());
+        assert!(rt; CtSet::read_state(text).is_none());
     }
-    Ok(())
 }
 
 #[test]

@@ -1,6 +1,12 @@
 use fields::{FlagTest, Tap};
 use std::test::Fail;
 
+// Whether the test of a mask and the flags to be set holds of a value.
+fn holds_of(mask: &[u8], comp: &[u8], value: u8) -> Result<bool, Fail> {
+    let test = FlagTest::read(mask, comp).ok_or("refused")?;
+    Ok(test.holds(value))
+}
+
 #[test]
 fn flags_asked(rt: HostRuntime) -> Result<(), Fail> {
     let rows: [(&[u8], &[u8], u8, bool); 8] = [
@@ -14,15 +20,23 @@ fn flags_asked(rt: HostRuntime) -> Result<(), Fail> {
         (b"ALL", b"NONE", 32, false),
     ];
     for (mask, comp, value, holds) in rows {
-        let test = FlagTest::read(mask, comp).ok_or("refused")?;
-        assert_eq!(rt; test.holds(value), holds);
+        assert_eq!(rt; holds_of(mask, comp, value)?, holds);
     }
+    Ok(())
+}
+
+#[test]
+fn nothing_is_asked(rt: HostRuntime) -> Result<(), Fail> {
     let nothing = FlagTest::read(b"NONE", b"none").ok_or("refused")?;
     assert!(rt; nothing.asks_nothing());
     assert!(rt; !FlagTest::syn().asks_nothing());
-    assert_eq!(rt; FlagTest::read(b"SYN", b""), None);
-    assert_eq!(rt; FlagTest::read(b"X", b"SYN"), None);
     Ok(())
+}
+
+#[test]
+fn flags_that_are_none(rt: HostRuntime) {
+    assert!(rt; FlagTest::read(b"SYN", b"").is_none());
+    assert!(rt; FlagTest::read(b"X", b"SYN").is_none());
 }
 
 #[test]

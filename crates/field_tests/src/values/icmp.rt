@@ -1,6 +1,42 @@
 use super::has_just;
 use fields::{IcmpType, Tap};
+use std::alloc::{AllocError, Global};
 use std::test::Fail;
+
+// Whether the text is a type that is printed so.
+fn prints(alloc: Global, text: &[u8], want: &[u8]) -> Result<bool, Fail> {
+    let icmp = IcmpType::read(text).ok_or("refused")?;
+    let mut output = Tap::new(Vec::new(alloc));
+    icmp.put(&mut output)?;
+    Ok(output.into_device().as_slice() == want)
+}
+
+// Whether a type holds of the first and the last number, and of 0 and 65535 only as one of these.
+fn holds_at_ends(icmp: IcmpType, first: u16, last: u16) -> bool {
+    icmp.holds(first)
+        && icmp.holds(last)
+        && icmp.holds(0) == (first == 0)
+        && icmp.holds(65535) == (last == 65535)
+}
+
+// Whether a type allows just the numbers from the first to the last.
+fn allows(alloc: Global, icmp: IcmpType, first: u16, last: u16) -> Result<bool, AllocError> {
+    let set = icmp.allowed(alloc)?;
+    Ok(has_just(&set, &[(first.into(), last.into())]))
+}
+
+// Whether the text is a type of the numbers from the first to the last, which is printed so.
+fn is_read(
+    alloc: Global,
+    text: &[u8],
+    printed: &[u8],
+    (first, last): (u16, u16),
+) -> Result<bool, Fail> {
+    let icmp = IcmpType::read(text).ok_or("refused")?;
+    let allowed = allows(alloc, icmp, first, last)?;
+    let written = prints(alloc, text, printed)?;
+    Ok(allowed && written && holds_at_ends(icmp, first, last))
+}
 
 #[test]
 fn icmp_types(rt: HostRuntime) -> Result<(), Fail> {
@@ -31,23 +67,19 @@ fn icmp_types(rt: HostRuntime) -> Result<(), Fail> {
         (b"timestamp-request", b"13", (3328, 3583)),
         (b"timestamp-reply", b"14", (3584, 3839)),
     ];
-    for (text, printed, (first, last)) in rows {
-        let icmp = IcmpType::read(text).ok_or("refused")?;
-        let set = icmp.allowed(rt.alloc())?;
-        assert!(rt; has_just(&set, &[(first.into(), last.into())]));
-        assert!(rt; icmp.holds(first) && icmp.holds(last));
-        assert_eq!(rt; icmp.holds(0), first == 0);
-        assert_eq!(rt; icmp.holds(65535), last == 65535);
-        let mut output = Tap::new(Vec::new(rt.alloc()));
-        icmp.put(&mut output)?;
-        assert!(rt; output.into_device().as_slice() == printed);
+    for (text, printed, ends) in rows {
+        assert!(rt; is_read(rt.alloc(), text, printed, ends)?);
     }
+    Ok(())
+}
+
+#[test]
+fn texts_that_are_no_type(rt: HostRuntime) {
     let refused: [&[u8]; 14] = [
         b"", b"256", b"255/0", b"8/256", b"8/", b"/0", b"8/0/0", b"08", b"8/00", b"-1", b"Any",
         b"PING", b"echo", b"any/0",
     ];
     for text in refused {
-        assert_eq!(rt; IcmpType::read(text), None);
+        assert!(rt; IcmpType::read(text).is_none());
     }
-    Ok(())
 }

@@ -1,5 +1,24 @@
-use fields::{IfPattern, Tap};
+use fields::{IfPattern, Tap, WriteFailed};
+use std::alloc::Global;
 use std::test::Fail;
+
+// Whether the copy of a pattern is printed so.
+fn prints(alloc: Global, pattern: &IfPattern, want: &[u8]) -> Result<bool, WriteFailed> {
+    let mut output = Tap::new(Vec::new(alloc));
+    pattern.copy().put(&mut output)?;
+    Ok(output.into_device().as_slice() == want)
+}
+
+// Whether a pattern has just these bytes, and is any where it is `+`.
+fn is_of(pattern: &IfPattern, text: &[u8]) -> bool {
+    pattern.bytes() == text && pattern.is_any() == (text == b"+".as_slice())
+}
+
+// Whether the text is a pattern of just this text, which is printed so.
+fn is_read(alloc: Global, text: &[u8]) -> Result<bool, Fail> {
+    let pattern = IfPattern::read(text).ok_or("refused")?;
+    Ok(prints(alloc, &pattern, text)? && is_of(&pattern, text))
+}
 
 #[test]
 fn interfaces(rt: HostRuntime) -> Result<(), Fail> {
@@ -11,13 +30,13 @@ fn interfaces(rt: HostRuntime) -> Result<(), Fail> {
         b"a23456789012345".as_slice(),
     ];
     for text in texts {
-        let pattern = IfPattern::read(text).ok_or("refused")?;
-        let mut output = Tap::new(Vec::new(rt.alloc()));
-        pattern.copy().put(&mut output)?;
-        assert_eq!(rt; output.into_device().as_slice(), text);
-        assert_eq!(rt; pattern.bytes(), text);
-        assert_eq!(rt; pattern.is_any(), text == b"+".as_slice());
+        assert!(rt; is_read(rt.alloc(), text)?);
     }
+    Ok(())
+}
+
+#[test]
+fn texts_that_are_no_interface(rt: HostRuntime) {
     let refused = [
         b"".as_slice(),
         b"a234567890123456".as_slice(),
@@ -29,7 +48,6 @@ fn interfaces(rt: HostRuntime) -> Result<(), Fail> {
     for text in refused {
         assert!(rt; IfPattern::read(text).is_none());
     }
-    Ok(())
 }
 
 #[test]

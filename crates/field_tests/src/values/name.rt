@@ -1,5 +1,24 @@
-use fields::{Name, Tap};
+use fields::{Name, Tap, WriteFailed};
+use std::alloc::Global;
 use std::test::Fail;
+
+// Whether a name is printed so.
+fn prints(alloc: Global, name: &Name, want: &[u8]) -> Result<bool, WriteFailed> {
+    let mut output = Tap::new(Vec::new(alloc));
+    name.put(&mut output)?;
+    Ok(output.into_device().as_slice() == want)
+}
+
+// Whether a name has just these bytes, and is its copy.
+fn is_of(name: &Name, text: &[u8]) -> bool {
+    name.copy() == *name && name.bytes() == text
+}
+
+// Whether the text is a name of just this text, which is printed so.
+fn is_read(alloc: Global, text: &[u8]) -> Result<bool, Fail> {
+    let name = Name::read(text).ok_or("refused")?;
+    Ok(prints(alloc, &name, text)? && is_of(&name, text))
+}
 
 #[test]
 fn names(rt: HostRuntime) -> Result<(), Fail> {
@@ -12,13 +31,13 @@ fn names(rt: HostRuntime) -> Result<(), Fail> {
         b"a234567890123456789012345678".as_slice(),
     ];
     for text in texts {
-        let name = Name::read(text).ok_or("refused")?;
-        let mut output = Tap::new(Vec::new(rt.alloc()));
-        name.put(&mut output)?;
-        assert_eq!(rt; output.into_device().as_slice(), text);
-        assert!(rt; name.copy() == name);
-        assert_eq!(rt; name.bytes(), text);
+        assert!(rt; is_read(rt.alloc(), text)?);
     }
+    Ok(())
+}
+
+#[test]
+fn texts_that_are_no_name(rt: HostRuntime) {
     let refused = [
         b"".as_slice(),
         b"a2345678901234567890123456789".as_slice(),
@@ -36,6 +55,10 @@ fn names(rt: HostRuntime) -> Result<(), Fail> {
     for text in refused {
         assert!(rt; Name::read(text).is_none());
     }
+}
+
+#[test]
+fn names_have_an_order(rt: HostRuntime) -> Result<(), Fail> {
     let (upper, lower) = (Name::read(b"Z"), Name::read(b"a"));
     assert!(rt; upper.ok_or("refused")? < lower.ok_or("refused")?);
     Ok(())

@@ -1,5 +1,26 @@
-use fields::{PortList, Tap};
+use fields::{PortList, Tap, WriteFailed};
+use std::alloc::Global;
 use std::test::Fail;
+
+// Whether the copy of a list is printed so.
+fn prints(alloc: Global, list: &PortList, want: &[u8]) -> Result<bool, WriteFailed> {
+    let mut output = Tap::new(Vec::new(alloc));
+    list.copy().put(&mut output)?;
+    Ok(output.into_device().as_slice() == want)
+}
+
+// Whether a list has so many items and holds of 443, and of 65535 where its text says so.
+fn is_of(list: &PortList, text: &[u8], count: usize) -> bool {
+    list.items().len() == count
+        && list.holds(443)
+        && list.holds(65535) == (text == b"0:65535".as_slice())
+}
+
+// Whether the text is a list of so many items, which is printed so.
+fn is_read(alloc: Global, text: &[u8], want: &[u8], count: usize) -> Result<bool, Fail> {
+    let list = PortList::read(text).ok_or("refused")?;
+    Ok(prints(alloc, &list, want)? && is_of(&list, text, count))
+}
 
 #[test]
 fn port_lists(rt: HostRuntime) -> Result<(), Fail> {
@@ -15,14 +36,13 @@ fn port_lists(rt: HostRuntime) -> Result<(), Fail> {
         ),
     ];
     for (text, want, count) in texts {
-        let list = PortList::read(text).ok_or("refused")?;
-        let mut output = Tap::new(Vec::new(rt.alloc()));
-        list.copy().put(&mut output)?;
-        assert_eq!(rt; output.into_device().as_slice(), want);
-        assert_eq!(rt; list.items().len(), count);
-        assert!(rt; list.holds(443));
-        assert_eq!(rt; list.holds(65535), text == b"0:65535".as_slice());
+        assert!(rt; is_read(rt.alloc(), text, want, count)?);
     }
+    Ok(())
+}
+
+#[test]
+fn texts_that_are_no_list(rt: HostRuntime) {
     let refused = [
         b"".as_slice(),
         b"1,".as_slice(),
@@ -39,5 +59,4 @@ fn port_lists(rt: HostRuntime) -> Result<(), Fail> {
     for text in refused {
         assert!(rt; PortList::read(text).is_none());
     }
-    Ok(())
 }

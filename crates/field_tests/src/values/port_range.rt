@@ -1,5 +1,35 @@
-use fields::{PortRange, Tap};
+use fields::{PortRange, Tap, WriteFailed};
+use std::alloc::Global;
 use std::test::Fail;
+
+// Whether a range is printed so.
+fn prints(alloc: Global, range: PortRange, want: &[u8]) -> Result<bool, WriteFailed> {
+    let mut output = Tap::new(Vec::new(alloc));
+    range.put(&mut output)?;
+    Ok(output.into_device().as_slice() == want)
+}
+
+// Whether a range is that of the first and the last port, and holds of them.
+fn has_ends(range: PortRange, first: u16, last: u16) -> bool {
+    range.first() == first && range.last() == last && range.holds(first) && range.holds(last)
+}
+
+// Whether the text is the range of the first and the last port, which is printed so.
+fn is_read(
+    alloc: Global,
+    text: &[u8],
+    want: &[u8],
+    (first, last): (u16, u16),
+) -> Result<bool, Fail> {
+    let range = PortRange::read(text).ok_or("refused")?;
+    let printed = prints(alloc, range, want)?;
+    Ok(
+        printed
+            && has_ends(range, first, last)
+            && range.holds(443) == (last > 443)
+            && range.is_all() == (text == b":".as_slice()),
+    )
+}
 
 #[test]
 fn port_ranges(rt: HostRuntime) -> Result<(), Fail> {
@@ -12,15 +42,14 @@ fn port_ranges(rt: HostRuntime) -> Result<(), Fail> {
         (b":".as_slice(), b"0:65535".as_slice(), 0, 65535),
     ];
     for (text, want, first, last) in texts {
-        let range = PortRange::read(text).ok_or("refused")?;
-        let mut output = Tap::new(Vec::new(rt.alloc()));
-        range.put(&mut output)?;
-        assert_eq!(rt; output.into_device().as_slice(), want);
-        assert_eq!(rt; (range.first(), range.last()), (first, last));
-        assert!(rt; range.holds(first) && range.holds(last));
-        assert_eq!(rt; range.holds(443), last > 443);
-        assert_eq!(rt; range.is_all(), text == b":".as_slice());
+        assert!(rt; is_read(rt.alloc(), text, want, (first, last))?);
     }
+    assert!(rt; PortRange::default().is_all());
+    Ok(())
+}
+
+#[test]
+fn texts_that_are_no_range(rt: HostRuntime) {
     let refused = [
         b"".as_slice(),
         b"65536".as_slice(),
@@ -33,6 +62,4 @@ fn port_ranges(rt: HostRuntime) -> Result<(), Fail> {
     for text in refused {
         assert!(rt; PortRange::read(text).is_none());
     }
-    assert!(rt; PortRange::default().is_all());
-    Ok(())
 }

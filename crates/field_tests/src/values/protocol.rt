@@ -1,5 +1,25 @@
-use fields::{Protocol, Tap};
+use fields::{Protocol, Tap, WriteFailed};
+use std::alloc::Global;
 use std::test::Fail;
+
+// Whether a protocol is printed so.
+fn prints(alloc: Global, protocol: Protocol, want: &[u8]) -> Result<bool, WriteFailed> {
+    let mut output = Tap::new(Vec::new(alloc));
+    protocol.put(&mut output)?;
+    Ok(output.into_device().as_slice() == want)
+}
+
+// Whether a protocol has the number, and is all of them where that is 0.
+fn has_number(protocol: Protocol, number: u8) -> bool {
+    protocol.number() == number && protocol.is_all() == (number == 0)
+}
+
+// Whether the text is the one protocol of a number, which is printed so.
+fn is_read(alloc: Global, text: &[u8], want: &[u8], number: u8) -> Result<bool, Fail> {
+    let protocol = Protocol::read(text).ok_or("refused")?;
+    let printed = prints(alloc, protocol, want)?;
+    Ok(printed && has_number(protocol, number) && Protocol::read_one(text) == Some(protocol))
+}
 
 #[test]
 fn protocols(rt: HostRuntime) -> Result<(), Fail> {
@@ -17,16 +37,19 @@ fn protocols(rt: HostRuntime) -> Result<(), Fail> {
         (b"0".as_slice(), b"0".as_slice(), 0),
     ];
     for (text, want, number) in texts {
-        let protocol = Protocol::read(text).ok_or("refused")?;
-        let mut output = Tap::new(Vec::new(rt.alloc()));
-        protocol.put(&mut output)?;
-        assert_eq!(rt; output.into_device().as_slice(), want);
-        assert_eq!(rt; protocol.number(), number);
-        assert_eq!(rt; Protocol::read_one(text), Some(protocol));
-        assert_eq!(rt; protocol.is_all(), number == 0);
+        assert!(rt; is_read(rt.alloc(), text, want, number)?);
     }
-    assert_eq!(rt; Protocol::read(b"all"), Protocol::read(b"0"));
+    Ok(())
+}
+
+#[test]
+fn all_protocols(rt: HostRuntime) {
+    assert!(rt; Protocol::read(b"all") == Protocol::read(b"0"));
     assert!(rt; Protocol::read_one(b"all").is_none());
+}
+
+#[test]
+fn texts_that_are_no_protocol(rt: HostRuntime) {
     for text in [
         b"".as_slice(),
         b"256".as_slice(),
@@ -35,5 +58,4 @@ fn protocols(rt: HostRuntime) -> Result<(), Fail> {
     ] {
         assert!(rt; Protocol::read(text).is_none());
     }
-    Ok(())
 }

@@ -71,20 +71,32 @@ impl Numbered {
         Ok(())
     }
 
+    /// Puts the box of a number in at the end or at the front.
+    fn put(&mut self, alloc: Global, number: u32, is_last: bool) -> Result<(), Trouble> {
+        if is_last {
+            self.put_last(alloc, number)
+        } else {
+            self.put_first(alloc, number)
+        }
+    }
+
     /// Whether the rule of a number is found where the list has it, or not at all.
     fn finds(&self, number: u32) -> bool {
-        let place = self.numbers.iter().position(|found| *found == number);
+        let place = place_of(&self.numbers, number);
         self.classifier.next(&point_of(number), 0) == place
+    }
+
+    /// Whether the classifier has so many boxes, and the lines of the addresses as many pieces as they make.
+    fn has_count(&self, count: usize) -> bool {
+        self.classifier.len() == count
+            && pieces_on(&self.classifier, Field::Source)
+                == count.saturating_mul(2).saturating_add(1)
+            && pieces_on(&self.classifier, Field::Destination) == 1
     }
 
     /// Compares the lengths, the line of the addresses, and a search for some numbers.
     fn check(&self) -> Result<(), Trouble> {
-        let count = self.numbers.len();
-        expect(self.classifier.len() == count)?;
-        expect(
-            pieces_on(&self.classifier, Field::Source) == count.saturating_mul(2).saturating_add(1),
-        )?;
-        expect(pieces_on(&self.classifier, Field::Destination) == 1)?;
+        expect(self.has_count(self.numbers.len()))?;
         for number in 0..10_000u32 {
             if number % 97 == 0 || number < 4 || number >= 8999 {
                 expect(self.finds(number))?;
@@ -94,23 +106,34 @@ impl Numbered {
     }
 }
 
+/// The place of a number in a list.
+fn place_of(numbers: &[u32], number: u32) -> Option<usize> {
+    for place in 0..numbers.len() {
+        if numbers[place] == number {
+            return Some(place);
+        }
+    }
+    None
+}
+
 /// How many pieces a line has.
 fn pieces_on(classifier: &Classifier, field: Field) -> usize {
     classifier.line(field).len()
 }
 
-/// A classifier of all boxes, put in at the end and at the front in turn.
-fn filled(alloc: Global) -> Result<Numbered, Trouble> {
-    let mut numbered = Numbered {
+/// Neither a box nor a number.
+fn none(alloc: Global) -> Result<Numbered, Trouble> {
+    Ok(Numbered {
         classifier: Classifier::new(alloc)?,
         numbers: Vec::new(alloc),
-    };
+    })
+}
+
+/// A classifier of all boxes, put in at the end and at the front in turn.
+fn filled(alloc: Global) -> Result<Numbered, Trouble> {
+    let mut numbered = none(alloc)?;
     for number in 0..COUNT {
-        if number % 2 == 0 {
-            numbered.put_last(alloc, number)?;
-        } else {
-            numbered.put_first(alloc, number)?;
-        }
+        numbered.put(alloc, number, number % 2 == 0)?;
     }
     Ok(numbered)
 }
@@ -123,6 +146,52 @@ fn copied(alloc: Global, numbered: &Numbered) -> Result<Numbered, Trouble> {
     })
 }
 
+/// Puts other boxes in the place of some.
+fn replace_some(alloc: Global, numbered: &mut Numbered) -> Result<(), Trouble> {
+    for (place, number) in [(0, 9000), (4095, 9001), (8191, 9002)] {
+        numbered.replace(alloc, place, number)?;
+    }
+    numbered.check()
+}
+
+/// Takes some boxes out.
+fn remove_some(numbered: &mut Numbered) -> Result<(), Trouble> {
+    for place in [8191, 4096, 0] {
+        numbered.remove(place)?;
+    }
+    numbered.check()
+}
+
+/// Puts a box in at the front and one at the end.
+fn put_two(alloc: Global, numbered: &mut Numbered) -> Result<(), Trouble> {
+    numbered.put_first(alloc, 9003)?;
+    numbered.put_last(alloc, 9004)?;
+    numbered.check()
+}
+
+/// Takes all boxes out.
+fn clear(numbered: &mut Numbered) -> Result<(), Trouble> {
+    numbered.classifier.clear();
+    numbered.numbers.clear();
+    numbered.check()
+}
+
+/// Puts a box in where there is none.
+fn put_one(alloc: Global, numbered: &mut Numbered) -> Result<(), Trouble> {
+    numbered.put_first(alloc, 9005)?;
+    numbered.check()
+}
+
+/// Edits a classifier of all boxes, beside its copy, which stays as it was.
+fn edit(alloc: Global, numbered: &mut Numbered, copy: &Numbered) -> Result<(), Trouble> {
+    replace_some(alloc, numbered)?;
+    copy.check()?;
+    remove_some(numbered)?;
+    put_two(alloc, numbered)?;
+    clear(numbered)?;
+    put_one(alloc, numbered)
+}
+
 /// `Classifier::new`, `insert`, `copy`, `replace`, `remove` and `clear`.
 pub fn full(alloc: Global) -> Result<(), Trouble> {
     let mut numbered = filled(alloc)?;
@@ -130,21 +199,5 @@ pub fn full(alloc: Global) -> Result<(), Trouble> {
     numbered.check()?;
     let copy = copied(alloc, &numbered)?;
     copy.check()?;
-    for (place, number) in [(0, 9000), (4095, 9001), (8191, 9002)] {
-        numbered.replace(alloc, place, number)?;
-    }
-    numbered.check()?;
-    copy.check()?;
-    for place in [8191, 4096, 0] {
-        numbered.remove(place)?;
-    }
-    numbered.check()?;
-    numbered.put_first(alloc, 9003)?;
-    numbered.put_last(alloc, 9004)?;
-    numbered.check()?;
-    numbered.classifier.clear();
-    numbered.numbers.clear();
-    numbered.check()?;
-    numbered.put_first(alloc, 9005)?;
-    numbered.check()
+    edit(alloc, &mut numbered, &copy)
 }

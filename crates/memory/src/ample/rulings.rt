@@ -91,6 +91,37 @@ fn has_text(rule: &Rule, text: &[u8]) -> bool {
     write_rule(rule, &mut output).is_ok() && output.into_device().is_whole()
 }
 
+/// Whether a copy equals its rule, and has its text.
+fn is_copy(copy: &Rule, rule: &Rule, text: &[u8]) -> bool {
+    *copy == *rule && has_text(copy, text)
+}
+
+/// Whether a box has these intervals on a field, tcp alone, and all interfaces but one.
+fn is_box(boxed: &Boxed, field: Field, intervals: &[Ends]) -> bool {
+    has_just(boxed.on(field), intervals)
+        && has_just(boxed.on(Field::Protocol), &[(6, 6)])
+        && boxed.on(Field::InIface).intervals().len() == 2
+}
+
+/// Boxes a rule.
+fn expect_box(alloc: Global, rule: &Rule, field: Field, intervals: &[Ends]) -> Result<(), Trouble> {
+    let boxed = Boxed::of(alloc, rule, &mut Work::new())?;
+    expect(is_box(&boxed, field, intervals))
+}
+
+/// Copies a rule, and writes and boxes the copy.
+fn expect_copy(
+    alloc: Global,
+    rule: &Rule,
+    text: &[u8],
+    field: Field,
+    intervals: &[Ends],
+) -> Result<(), Trouble> {
+    let copy = rule.copy(alloc)?;
+    expect(is_copy(&copy, rule, text))?;
+    expect_box(alloc, &copy, field, intervals)
+}
+
 /// Reads a rule, and copies, writes and boxes it.
 fn expect_rule(
     alloc: Global,
@@ -100,20 +131,38 @@ fn expect_rule(
 ) -> Result<(), Trouble> {
     let rule = rule_of(alloc, text)?;
     expect(has_text(&rule, text))?;
-    let copy = rule.copy(alloc)?;
-    expect(copy == rule && has_text(&copy, text))?;
-    let boxed = Boxed::of(alloc, &copy, &mut Work::new())?;
-    expect(has_just(boxed.on(field), intervals) && has_just(boxed.on(Field::Protocol), &[(6, 6)]))?;
-    expect(boxed.on(Field::InIface).intervals().len() == 2)
+    expect_copy(alloc, &rule, text, field, intervals)
+}
+
+/// A rule with 16 equal matches and a target.
+fn expect_matched(
+    alloc: Global,
+    matched: &[u8],
+    target: &[u8],
+    field: Field,
+    intervals: &[Ends],
+) -> Result<(), Trouble> {
+    let text = text_of(alloc, matched, target)?;
+    expect_rule(alloc, &text, field, intervals)
+}
+
+/// Rules with 16 equal matches and each kind of target.
+fn expect_targets(
+    alloc: Global,
+    matched: &[u8],
+    field: Field,
+    intervals: &[Ends],
+) -> Result<(), Trouble> {
+    for target in TARGETS {
+        expect_matched(alloc, matched, target, field, intervals)?;
+    }
+    Ok(())
 }
 
 /// Rules with 16 matches of one kind.
 pub fn full(alloc: Global) -> Result<(), Trouble> {
     for (matched, field, intervals) in MATCHES {
-        for target in TARGETS {
-            let text = text_of(alloc, matched, target)?;
-            expect_rule(alloc, &text, field, intervals)?;
-        }
+        expect_targets(alloc, matched, field, intervals)?;
     }
     Ok(())
 }
@@ -125,9 +174,5 @@ pub fn longest(alloc: Global) -> Result<(), Trouble> {
         comment.extend_from_slice(b"\\\"")?;
     }
     comment.extend_from_slice(b"\"")?;
-    for target in TARGETS {
-        let text = text_of(alloc, &comment, target)?;
-        expect_rule(alloc, &text, Field::Destination, &[(1, 4_294_967_295)])?;
-    }
-    Ok(())
+    expect_targets(alloc, &comment, Field::Destination, &[(1, 4_294_967_295)])
 }

@@ -80,32 +80,118 @@ fn set_of(alloc: Global, intervals: &[Ends]) -> Result<Spans, Trouble> {
     Ok(set)
 }
 
+/// Compares a set, and the numbers that it leaves out.
+pub fn expect_set(
+    alloc: Global,
+    set: &Spans,
+    intervals: &[Ends],
+    others: &[Ends],
+) -> Result<(), Trouble> {
+    expect(has_just(set, intervals))?;
+    expect(has_just(&set.except(alloc)?, others))
+}
+
+/// Compares the numbers up to a top, which leave out none.
+fn expect_whole(alloc: Global, top: u128) -> Result<(), Trouble> {
+    let whole = Spans::whole(alloc, top)?;
+    expect_set(alloc, &whole, &[(0, top)], &[])
+}
+
+/// Compares the numbers from one to another, and those that they leave out.
+fn expect_one(
+    alloc: Global,
+    first: u128,
+    last: u128,
+    intervals: &[Ends],
+    others: &[Ends],
+) -> Result<(), Trouble> {
+    let one = interval(alloc, first, last)?;
+    expect_set(alloc, &one, intervals, others)
+}
+
+/// Compares the numbers that are in either of two sets.
+fn expect_joined(
+    alloc: Global,
+    left: &Spans,
+    right: &Spans,
+    intervals: &[Ends],
+) -> Result<(), Trouble> {
+    let either = joined(alloc, left, right)?;
+    expect(has_just(&either, intervals))
+}
+
+/// Compares the numbers that are in both of two sets.
+fn expect_met(
+    alloc: Global,
+    left: &Spans,
+    right: &Spans,
+    intervals: &[Ends],
+) -> Result<(), Trouble> {
+    let both = met(alloc, left, right)?;
+    expect(has_just(&both, intervals))
+}
+
+/// Compares the numbers that are in either of two sets, and those that are in both.
+fn expect_pair(
+    alloc: Global,
+    left: &Spans,
+    right: &Spans,
+    either: &[Ends],
+    both: &[Ends],
+) -> Result<(), Trouble> {
+    expect_joined(alloc, left, right, either)?;
+    expect_met(alloc, left, right, both)
+}
+
+/// The highest number, joined with all numbers, and met with them.
+fn last_and_whole(alloc: Global) -> Result<(), Trouble> {
+    let whole = Spans::whole(alloc, u128::MAX)?;
+    let last = interval(alloc, u128::MAX, u128::MAX)?;
+    expect_pair(
+        alloc,
+        &last,
+        &whole,
+        &[(0, u128::MAX)],
+        &[(u128::MAX, u128::MAX)],
+    )
+}
+
 /// `Spans::whole` and `one`, up to the highest top.
 pub fn ends(alloc: Global) -> Result<(), Trouble> {
-    let whole = Spans::whole(alloc, u128::MAX)?;
-    expect(has_just(&whole, &[(0, u128::MAX)]))?;
-    expect(has_just(&whole.except(alloc)?, &[]))?;
-    let last = Spans::one(alloc, u128::MAX, u128::MAX, u128::MAX)?;
-    expect(has_just(&last, &[(u128::MAX, u128::MAX)]))?;
-    expect(has_just(&last.except(alloc)?, &[(0, u128::MAX - 1)]))?;
-    expect(has_just(&joined(alloc, &last, &whole)?, &[(0, u128::MAX)]))?;
-    expect(has_just(&met(alloc, &last, &whole)?, &[(u128::MAX, u128::MAX)]))?;
-    let turned = Spans::one(alloc, u128::MAX, u128::MAX, 0)?;
-    expect(has_just(&turned, &[]))?;
-    expect(has_just(&turned.except(alloc)?, &[(0, u128::MAX)]))?;
-    let nought = Spans::whole(alloc, 0)?;
-    expect(has_just(&nought, &[(0, 0)]) && has_just(&nought.except(alloc)?, &[]))
+    expect_whole(alloc, u128::MAX)?;
+    let others = [(0, u128::MAX - 1)];
+    expect_one(
+        alloc,
+        u128::MAX,
+        u128::MAX,
+        &[(u128::MAX, u128::MAX)],
+        &others,
+    )?;
+    last_and_whole(alloc)?;
+    expect_one(alloc, u128::MAX, 0, &[], &[(0, u128::MAX)])?;
+    expect_whole(alloc, 0)
+}
+
+/// Compares a comb with its intervals, and the rest with the gaps; and both sets, each of them as well with itself.
+fn expect_comb(
+    alloc: Global,
+    comb: &Spans,
+    rest: &Spans,
+    teeth: &[Ends],
+    gaps: &[Ends],
+) -> Result<(), Trouble> {
+    expect_set(alloc, comb, teeth, gaps)?;
+    expect_set(alloc, rest, gaps, teeth)?;
+    expect_pair(alloc, comb, rest, &[(0, u128::MAX)], &[])?;
+    expect_met(alloc, comb, comb, teeth)?;
+    expect_joined(alloc, rest, rest, gaps)
 }
 
 /// `Spans::except`, `meet` and `join` of many intervals.
 pub fn many(alloc: Global) -> Result<(), Trouble> {
     let (teeth, gaps) = (teeth(alloc)?, gaps(alloc)?);
     let comb = set_of(alloc, &teeth)?;
-    expect(comb.intervals().len() == 1001 && has_just(&comb, &teeth))?;
     let rest = comb.except(alloc)?;
-    expect(has_just(&rest, &gaps) && has_just(&rest.except(alloc)?, &teeth))?;
-    expect(has_just(&met(alloc, &comb, &rest)?, &[]))?;
-    expect(has_just(&joined(alloc, &comb, &rest)?, &[(0, u128::MAX)]))?;
-    expect(has_just(&met(alloc, &comb, &comb)?, &teeth))?;
-    expect(has_just(&joined(alloc, &rest, &rest)?, &gaps))
+    expect(comb.intervals().len() == 1001)?;
+    expect_comb(alloc, &comb, &rest, &teeth, &gaps)
 }

@@ -1,21 +1,10 @@
 //! The sets of the numbers that values allow, at their extremes, and all other numbers.
-use crate::ample::sets::{Ends, has_just};
-use crate::trouble::{Trouble, expect};
+use crate::ample::sets::{Ends, expect_set};
+use crate::trouble::Trouble;
 use fields::{
     CtSet, FlagTest, IcmpType, IfPattern, IpRange, PortList, PortRange, Prefix, Protocol, Spans,
 };
 use std::alloc::Global;
-
-/// Compares a set, and the numbers that it leaves out.
-fn expect_set(
-    alloc: Global,
-    set: &Spans,
-    intervals: &[Ends],
-    others: &[Ends],
-) -> Result<(), Trouble> {
-    expect(has_just(set, intervals))?;
-    expect(has_just(&set.except(alloc)?, others))
-}
 
 /// Compares the set that a value allows, and the numbers that it leaves out.
 macro_rules! expect_allowed {
@@ -29,17 +18,37 @@ macro_rules! expect_allowed {
 
 const ADDRESSES: [Ends; 1] = [(0, 4_294_967_295)];
 
+/// `Prefix`.
+fn expect_prefix(
+    alloc: Global,
+    text: &[u8],
+    intervals: &[Ends],
+    others: &[Ends],
+) -> Result<(), Trouble> {
+    expect_allowed!(alloc, Prefix::read(text), intervals, others);
+    Ok(())
+}
+
+/// `IpRange`.
+fn expect_range(
+    alloc: Global,
+    text: &[u8],
+    intervals: &[Ends],
+    others: &[Ends],
+) -> Result<(), Trouble> {
+    expect_allowed!(alloc, IpRange::read(text), intervals, others);
+    Ok(())
+}
+
 /// `Prefix` and `IpRange`.
 pub fn addresses(alloc: Global) -> Result<(), Trouble> {
     let last = [(4_294_967_295, 4_294_967_295)];
     let others = [(0, 4_294_967_294)];
-    expect_allowed!(alloc, Prefix::read(b"1.2.3.4/0"), &ADDRESSES, &[]);
-    expect_allowed!(alloc, Prefix::read(b"255.255.255.255"), &last, &others);
-    let all = b"0.0.0.0-255.255.255.255";
-    expect_allowed!(alloc, IpRange::read(all), &ADDRESSES, &[]);
-    expect_allowed!(alloc, IpRange::read(b"0.0.0.1-0.0.0.0"), &[], &ADDRESSES);
-    expect_allowed!(alloc, IpRange::read(b"255.255.255.255"), &last, &others);
-    Ok(())
+    expect_prefix(alloc, b"1.2.3.4/0", &ADDRESSES, &[])?;
+    expect_prefix(alloc, b"255.255.255.255", &last, &others)?;
+    expect_range(alloc, b"0.0.0.0-255.255.255.255", &ADDRESSES, &[])?;
+    expect_range(alloc, b"0.0.0.1-0.0.0.0", &[], &ADDRESSES)?;
+    expect_range(alloc, b"255.255.255.255", &last, &others)
 }
 
 /// `IfPattern`.
@@ -67,25 +76,36 @@ pub fn interfaces(alloc: Global) -> Result<(), Trouble> {
     Ok(())
 }
 
+/// `PortRange`.
+fn expect_ports(
+    alloc: Global,
+    text: &[u8],
+    intervals: &[Ends],
+    others: &[Ends],
+) -> Result<(), Trouble> {
+    expect_allowed!(alloc, PortRange::read(text), intervals, others);
+    Ok(())
+}
+
+/// `IcmpType`.
+fn expect_types(
+    alloc: Global,
+    text: &[u8],
+    intervals: &[Ends],
+    others: &[Ends],
+) -> Result<(), Trouble> {
+    expect_allowed!(alloc, IcmpType::read(text), intervals, others);
+    Ok(())
+}
+
 /// `Protocol`, `PortRange` and `IcmpType`.
 pub fn numbers(alloc: Global) -> Result<(), Trouble> {
     expect_allowed!(alloc, Protocol::read(b"255"), &[(255, 255)], &[(0, 254)]);
-    expect_allowed!(alloc, PortRange::read(b":"), &[(0, 65535)], &[]);
-    expect_allowed!(
-        alloc,
-        PortRange::read(b"65535"),
-        &[(65535, 65535)],
-        &[(0, 65534)]
-    );
-    expect_allowed!(alloc, IcmpType::read(b"any"), &[(0, 65535)], &[]);
+    expect_ports(alloc, b":", &[(0, 65535)], &[])?;
+    expect_ports(alloc, b"65535", &[(65535, 65535)], &[(0, 65534)])?;
+    expect_types(alloc, b"any", &[(0, 65535)], &[])?;
     let others = [(0, 65278), (65280, 65535)];
-    expect_allowed!(
-        alloc,
-        IcmpType::read(b"254/255"),
-        &[(65279, 65279)],
-        &others
-    );
-    Ok(())
+    expect_types(alloc, b"254/255", &[(65279, 65279)], &others)
 }
 
 /// `PortList`, of 15 ports, and of seven ranges and a port.
@@ -124,6 +144,18 @@ pub fn port_lists(alloc: Global) -> Result<(), Trouble> {
     Ok(())
 }
 
+/// `FlagTest`.
+fn expect_flags(
+    alloc: Global,
+    mask: &[u8],
+    set: &[u8],
+    intervals: &[Ends],
+    others: &[Ends],
+) -> Result<(), Trouble> {
+    expect_allowed!(alloc, FlagTest::read(mask, set), intervals, others);
+    Ok(())
+}
+
 /// `FlagTest`: every second number, all, and none.
 pub fn flag_tests(alloc: Global) -> Result<(), Trouble> {
     let (mut odd, mut even) = ([(0, 0); 32], [(0, 0); 32]);
@@ -132,17 +164,11 @@ pub fn flag_tests(alloc: Global) -> Result<(), Trouble> {
         even[place] = (number, number);
         odd[place] = (number + 1, number + 1);
     }
-    expect_allowed!(alloc, FlagTest::read(b"FIN", b"FIN"), &odd, &even);
-    expect_allowed!(alloc, FlagTest::read(b"FIN", b"NONE"), &even, &odd);
-    expect_allowed!(alloc, FlagTest::read(b"NONE", b"NONE"), &[(0, 63)], &[]);
-    expect_allowed!(alloc, FlagTest::read(b"NONE", b"SYN"), &[], &[(0, 63)]);
-    expect_allowed!(
-        alloc,
-        FlagTest::read(b"ALL", b"ALL"),
-        &[(63, 63)],
-        &[(0, 62)]
-    );
-    Ok(())
+    expect_flags(alloc, b"FIN", b"FIN", &odd, &even)?;
+    expect_flags(alloc, b"FIN", b"NONE", &even, &odd)?;
+    expect_flags(alloc, b"NONE", b"NONE", &[(0, 63)], &[])?;
+    expect_flags(alloc, b"NONE", b"SYN", &[], &[(0, 63)])?;
+    expect_flags(alloc, b"ALL", b"ALL", &[(63, 63)], &[(0, 62)])
 }
 
 /// `CtSet`, of many runs, of all states, and of one.
