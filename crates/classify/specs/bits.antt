@@ -1,2 +1,1 @@
 pub mod BitRow
-pub mod Rows

@@ -4,27 +4,23 @@ ghost use Rattle.std.specs.Prelude.{◌≡◌, ◌<◌, length, false, slice_ind
 ghost use Rattle.std.specs.Iterator.{YieldsFirst, item_count};
 ghost use Rattle.classify.specs.search.NextMatch.{next_match};
 
-use crate::bits::words::bit_at;
-use crate::line::owned::OwnedLine;
+use crate::bits::bit_row::BitRow;
+use crate::line::owned::OwnedPiece;
 use crate::search;
 use std::marker::Model;
 
 /// The answers of each box in a piece, at the box's place.
 #[derive(Drop)]
 pub struct Row<'a> {
-    len: usize,
-    words: &'a [u64],
+    bits: &'a BitRow,
 }
 
 impl<'a> Model for Row<'a> {
-    ghost use Rattle.std.specs.Prelude.{Bool, List, take};
-    ghost use Rattle.classify.specs.steps.Packing.{IsPacked, all_bits};
+    ghost use Rattle.std.specs.Prelude.{Bool, List};
 
     ghost Value = { List Bool };
 
-    ghost view = { λ r. take r.len (all_bits r.words.now) };
-
-    ghost invariant = { λ r. IsPacked r.words.now r.len };
+    ghost view = { λ r. r.bits.now.bits };
 }
 
 impl<'a> Row<'a> {
@@ -32,7 +28,7 @@ impl<'a> Row<'a> {
     pub fn len(&self) -> usize
         ensures { result ≡ length self.now }
     {
-        self.len
+        self.bits.len()
     }
 
     /// Whether the box at a place allows the numbers of the piece.
@@ -40,8 +36,7 @@ impl<'a> Row<'a> {
         requires { at < length self.now }
         ensures { result ≡ slice_index_or self.now at false }
     {
-        let _len = self.len;
-        bit_at(self.words, at)
+        self.bits.get(at)
     }
 
     /// The least place, at or after `from`, of a box that allows the numbers of the piece; there may be none.
@@ -51,8 +46,7 @@ impl<'a> Row<'a> {
     pub fn next_set(&self, from: usize) -> Option<usize>
         ensures { result ≡ next_match (λ bit. bit) self.now from }
     {
-        let _len = self.len;
-        let words = self.words;
+        let words = self.bits.words();
         search::first_common(&[words], words.len(), from)
     }
 }
@@ -60,18 +54,16 @@ impl<'a> Row<'a> {
 /// A piece of a line: from its start on, up to the next piece, each box answers as its row says.
 #[derive(Drop)]
 pub struct Piece<'a> {
-    line: &'a OwnedLine,
-    place: usize,
+    piece: &'a OwnedPiece,
 }
 
 impl<'a> Model for Piece<'a> {
-    ghost use Rattle.std.specs.Prelude.{Bool, List, ℕ, ◌<◌, length, slice_index_or, []};
+    ghost use Rattle.std.specs.Prelude.{Bool, List, ℕ};
+    ghost use Rattle.classify.specs.steps.Shown.{shown_piece};
 
     ghost Value = { ℕ × List Bool };
 
-    ghost view = { λ p. slice_index_or p.line.now.pieces p.place (0, []) };
-
-    ghost invariant = { λ p. p.place < length p.line.now.pieces };
+    ghost view = { λ p. shown_piece p.piece.now };
 }
 
 impl<'a> Piece<'a> {
@@ -79,18 +71,15 @@ impl<'a> Piece<'a> {
     pub fn start(&self) -> u128
         ensures { result ≡ self.now.0 }
     {
-        self.line.start(self.place)
+        self.piece.start
     }
 
     /// The answers of the boxes; they are lent.
     pub fn row(&self) -> Row<'a>
         ensures { result ≡ self.now.1 }
     {
-        let line = self.line;
-        let place = self.place;
         Row {
-            len: line.bits(place),
-            words: line.words(place),
+            bits: &self.piece.row,
         }
     }
 }
@@ -98,30 +87,33 @@ impl<'a> Piece<'a> {
 /// The line of a list of boxes on one field, from 0 to the field's top, lent by a classifier.
 #[derive(Drop)]
 pub struct Line<'a> {
-    line: &'a OwnedLine,
+    pieces: &'a [OwnedPiece],
 }
 
 impl<'a> Model for Line<'a> {
     ghost use Rattle.std.specs.Prelude.{Bool, List, ℕ};
+    ghost use Rattle.classify.specs.steps.Shown.{shown};
 
     ghost Value = { List (ℕ × List Bool) };
 
-    ghost view = { λ l. l.line.now.pieces };
+    ghost view = { λ l. shown l.pieces.now };
 }
 
 impl<'a> Line<'a> {
-    // The line as it is kept, lent.
-    pub(crate) fn of(line: &'a OwnedLine) -> Line<'a>
-        ensures { result ≡ line.now.pieces }
+    ghost use Rattle.classify.specs.steps.Shown.{shown};
+
+    // The line of these pieces.
+    pub(crate) fn of(pieces: &'a [OwnedPiece]) -> Line<'a>
+        ensures { result ≡ shown pieces.now }
     {
-        Line { line }
+        Line { pieces }
     }
 
     /// How many pieces there are: one at least.
     pub fn len(&self) -> usize
         ensures { result ≡ length self.now }
     {
-        self.line.len()
+        self.pieces.len()
     }
 
     /// The piece at a place: they rise, and the first starts at 0.
@@ -129,36 +121,31 @@ impl<'a> Line<'a> {
         requires { at < length self.now }
         ensures { result ≡ slice_index_or self.now at (0, []) }
     {
-        Piece {
-            line: self.line,
-            place: at,
-        }
+        let pieces = self.pieces;
+        Piece { piece: &pieces[at] }
     }
 
     /// The pieces in rising order; the first starts at 0.
     pub fn pieces(&self) -> Pieces<'a>
         ensures { result ≡ self.now }
     {
-        Pieces {
-            line: self.line,
-            next: 0,
-        }
+        Pieces { rest: self.pieces }
     }
 }
 
 /// The pieces of a line, one after the other.
 #[derive(Drop)]
 pub struct Pieces<'a> {
-    line: &'a OwnedLine,
-    next: usize,
+    rest: &'a [OwnedPiece],
 }
 
 impl<'a> Model for Pieces<'a> {
-    ghost use Rattle.std.specs.Prelude.{Bool, List, ℕ, drop};
+    ghost use Rattle.std.specs.Prelude.{Bool, List, ℕ};
+    ghost use Rattle.classify.specs.steps.Shown.{shown};
 
     ghost Value = { List (ℕ × List Bool) };
 
-    ghost view = { λ p. drop p.next p.line.now.pieces };
+    ghost view = { λ p. shown p.rest.now };
 }
 
 impl<'a> Iterator for Pieces<'a> {
@@ -169,14 +156,8 @@ impl<'a> Iterator for Pieces<'a> {
     ghost remaining = { item_count (λ s. s) };
 
     fn next(&mut self) -> Option<Piece<'a>> {
-        let place = self.next;
-        if place >= self.line.len() {
-            return None;
-        }
-        self.next = place + 1;
-        Some(Piece {
-            line: self.line,
-            place,
-        })
+        let (piece, rest) = self.rest.split_first()?;
+        self.rest = rest;
+        Some(Piece { piece })
     }
 }
