@@ -1,1 +1,2 @@
 pub mod BitRow
+pub mod Rows

@@ -1,4 +1,5 @@
 //! Rows of bits, packed into words.
 
 pub(crate) mod bit_row;
-mod words;
+pub(crate) mod rows;
+pub(crate) mod words;

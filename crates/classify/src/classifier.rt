@@ -10,7 +10,7 @@ ghost use Rattle.rules.specs.rule.Rules.{Rule};
 ghost use Rattle.classify.specs.search.NextMatch.{next_match};
 
 use crate::bits::bit_row::MOST_BITS;
-use crate::line::owned::{self, OwnedLine};
+use crate::line::owned::OwnedLine;
 use crate::line::view::Line;
 use crate::search;
 use fields::{FIELDS, Field};
@@ -24,10 +24,10 @@ pub(crate) mod of_rules;
 
 /// The classifier of a list of boxes: on each field the line of their answers, and no more.
 ///
-/// Places count from 0. An edit touches each row once: put in at the end it costs a row one bit, elsewhere
-/// the words from its place on. Where the number of boxes is a multiple of 64, an insert touches each row
-/// before that, to take its memory. A cut is made or goes only where the box's own answers change; the row
-/// of a piece that is cut is the only one that is copied.
+/// Places count from 0. A box put in at the end costs the pieces that it allows, and one put in elsewhere the words of
+/// all rows from its place on. The rows of a line have one room, which doubles: then its rows are copied. A replacement
+/// looks at each piece of each line, and a removal moves the words of all rows from its place on besides. A cut is made
+/// or goes only where the box's own answers change; it moves the starts after it on that line, and copies one row.
 #[derive(Drop)]
 pub struct Classifier {
     len: usize,
@@ -40,14 +40,14 @@ impl Model for Classifier {
 
     ghost Value = { ClassifiedAndRoom };
 
-    ghost use Rattle.classify.specs.steps.Fields.{shown_line, room_beside, IsKept};
+    ghost use Rattle.classify.specs.steps.Fields.{shown_line, room_beside, EachLine, IsKept, IsWhole};
 
     ghost view = { λ c. record {
       shown = record { len = c.len; lines = map shown_line c.lines };
       room = room_beside c.len c.lines;
     } };
 
-    ghost invariant = { λ c. IsKept (record { len = c.len; lines = map shown_line c.lines }) };
+    ghost invariant = { λ c. IsKept (record { len = c.len; lines = map shown_line c.lines }) × EachLine (IsWhole c.len) c.lines };
 }
 
 impl Classifier {
@@ -71,7 +71,7 @@ impl Classifier {
         Ok(Classifier { len: 0, lines })
     }
 
-    /// A classifier with the same lines. It costs the memory of the rows, and no more room than they need.
+    /// A classifier with the same lines. It costs the memory of the rows and of their room.
     ///
     /// # Errors
     ///
@@ -101,7 +101,7 @@ impl Classifier {
         ensures rules { (rules : List Rule) → IsClassifierOfRules rules self.now.shown → result ≡ lines_of rules field }
     {
         let line = &self.lines[field.index()];
-        Line::of(line.pieces.as_slice())
+        Line::of(line)
     }
 
     /// Puts a box in at a place among the boxes. It takes the box, also where memory is refused. A box that
@@ -179,7 +179,7 @@ impl Classifier {
     {
         let _len = self.len;
         let line = &self.lines[place];
-        owned::row_at(&line.pieces, x)
+        line.words_at(x)
     }
 
     // The words of each field's row at a point; they are lent.

@@ -4,6 +4,7 @@ ghost use Rattle.classify.specs.line.Laws.{BoxesHaveOneLine};
 
 pub(crate) mod edit;
 pub(crate) mod owned;
+pub(crate) mod starts;
 pub(crate) mod view;
 
 /// The law that boxes have one line on a field: its contract is the law, and it does nothing.

@@ -1,5 +1,11 @@
 pub mod BitLaws
 pub mod GetLaws
+pub mod PaddedLaws
+pub mod PlaceLaws
 pub mod RowLaws
+pub mod RowsLaws
 pub mod SameLaws
+pub mod SlotLaws
+pub mod SlotRowLaws
+pub mod WidenLaws
 pub mod WordLaws

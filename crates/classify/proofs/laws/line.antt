@@ -1,4 +1,6 @@
 pub mod ApartLaws
+pub mod AppendLaws
+pub mod BitPlaceLaws
 pub mod BoxLaws
 pub mod EditLaws
 pub mod EndLaws
@@ -8,8 +10,9 @@ pub mod LineLaws
 pub mod LineOfLaws
 pub mod ListLoopLaws
 pub mod LoopLaws
+pub mod PieceLaws
 pub mod PlaceLaws
-pub mod RoomLaws
 pub mod ShownLaws
+pub mod StartLaws
 pub mod StepLaws
 pub mod UnsplitLaws

@@ -6,9 +6,13 @@ use Rattle.fields.specs.numbers.Spans.{has}
 use Rattle.classify.specs.line.Line.{row_at}
 use Rattle.classify.specs.steps.Pieces.{IsRising, StartsAt, SayTheSame, Differ, row_in}
 
--- a new box's answer put into a piece's row
+-- an answer of each number put into a piece's row
+abbrev pub with_test : ℕ → (ℕ → Bool) → ℕ × List Bool → ℕ × List Bool
+with_test at test p = (p.0, insert p.1 at (test p.0))
+
+-- a new box's answer put into it
 abbrev pub with_answer : ℕ → List Interval → ℕ × List Bool → ℕ × List Bool
-with_answer at spans p = (p.0, insert p.1 at (has spans p.0))
+with_answer at spans p = with_test at (has spans) p
 
 -- a box's answer written into it
 abbrev pub with_written : ℕ → List Interval → ℕ × List Bool → ℕ × List Bool

@@ -1,23 +1,19 @@
 -- The lines of all fields at once, each at its field's place.
-use Rattle.std.specs.Prelude.{◌≡◌, ℕ, ◌+◌, ◌*◌, ◌^◌, ◌-◌, ◌≤◌, ◌<◌, min, Bool, List, [], ◌∷◌, map, length, slice_index}
+use Rattle.std.specs.Prelude.{◌≡◌, ℕ, ◌+◌, ◌*◌, ◌^◌, ◌-◌, ◌≤◌, ◌<◌, ◌%◌, min, Bool, List, [], ◌∷◌, map, length, slice_index}
 use Rattle.std.specs.Prelude.{slice_index_or, slice_set, insert, remove}
 use Rattle.fields.specs.declared.numbers.field.TheConstants.{FIELDS}
 use Rattle.fields.specs.declared.numbers.spans.Interval.{Interval}
 use Rattle.fields.specs.numbers.Field.{all_fields, top}
 use Rattle.fields.specs.numbers.Spans.{SpanSet, has}
-use Rattle.classify.specs.declared.line.owned.OwnedPiece.{OwnedPiece}
-use Rattle.classify.specs.declared.line.owned.OwnedLine.{OwnedLine}
-use Rattle.classify.specs.bits.BitRow.{row_room}
 use Rattle.classify.specs.line.Line.{IsLineOf}
-use Rattle.classify.specs.steps.Shown.{shown, HaveRoomFor, KeepsPieces, KeepsChanges}
 use Rattle.classify.specs.steps.Cuts.{CutsStart, IsApart}
 use Rattle.classify.specs.steps.Edits.{IsSound, IsMergeOf, EachRow, Says}
-use Rattle.classify.specs.steps.Pieces.{IsRising, IsSplitOf}
+use Rattle.classify.specs.steps.Pieces.{IsRising, IsSplitOf, PiecesAndRoom}
 use Rattle.classify.specs.classifier.Classifier.{Classified}
 
 -- the cuts and rows of a line
-abbrev pub shown_line : OwnedLine → List (ℕ × List Bool)
-shown_line l = shown l.pieces.items
+abbrev pub shown_line : PiecesAndRoom → List (ℕ × List Bool)
+shown_line l = l.pieces
 
 -- the tops of the fields, in their order
 unfoldable pub tops : List ℕ
@@ -33,145 +29,144 @@ pub record IsKept (c : Classified) : Type 0 where
   pub fields : length c.lines ≡ FIELDS
   pub lines : (k : ℕ) → k < FIELDS → IsSound (slice_index tops k) c.len (slice_index_or c.lines k [])
 
--- the least room of the rows of some pieces, and n at most
-unfoldable pub least_room : ℕ → List OwnedPiece → ℕ
-least_room n [] = n
-least_room n (p ∷ ps) = min (row_room p.row) (least_room n ps)
+-- n bits of each row of a line and its room fill words
+abbrev pub IsWhole : ℕ → PiecesAndRoom → Type 0
+IsWhole n l = (n + l.room) % 64 ≡ 0
 
--- the same of all lines
-unfoldable pub room_of_lines : ℕ → List OwnedLine → ℕ
+-- the least room of some lines, and n at most
+unfoldable pub room_of_lines : ℕ → List PiecesAndRoom → ℕ
 room_of_lines n [] = n
-room_of_lines n (l ∷ ls) = least_room (room_of_lines n ls) l.pieces.items
+room_of_lines n (l ∷ ls) = min l.room (room_of_lines n ls)
 
 -- how many boxes go in before a row has to grow: no more than a classifier may have
-abbrev pub room_beside : ℕ → List OwnedLine → ℕ
+abbrev pub room_beside : ℕ → List PiecesAndRoom → ℕ
 room_beside len lines = room_of_lines (most_boxes - len) lines
 
 -- P holds of each line
-abbrev pub EachLine : (OwnedLine → Type 0) → List OwnedLine → Type 0
-EachLine P lines = (k : ℕ) (l : OwnedLine) → k < length lines → P (slice_index_or lines k l)
+abbrev pub EachLine : (PiecesAndRoom → Type 0) → List PiecesAndRoom → Type 0
+EachLine P lines = (k : ℕ) (l : PiecesAndRoom) → k < length lines → P (slice_index_or lines k l)
 
 -- R holds of each line before and after
-abbrev pub EachEdit : (OwnedLine → OwnedLine → Type 0) → List OwnedLine → List OwnedLine → Type 0
-EachEdit R old new = (k : ℕ) (l : OwnedLine) → k < length old → R (slice_index_or old k l) (slice_index_or new k l)
+abbrev pub EachEdit : (PiecesAndRoom → PiecesAndRoom → Type 0) → List PiecesAndRoom → List PiecesAndRoom → Type 0
+EachEdit R old new = (k : ℕ) (l : PiecesAndRoom) → k < length old → R (slice_index_or old k l) (slice_index_or new k l)
 
 -- each line shows what it showed before
-abbrev pub ShowTheSame : List OwnedLine → List OwnedLine → Type 0
-ShowTheSame = EachEdit (λ l m. shown_line m ≡ shown_line l)
+abbrev pub ShowTheSame : List PiecesAndRoom → List PiecesAndRoom → Type 0
+ShowTheSame = EachEdit (λ l m. m.pieces ≡ l.pieces)
 
 -- each line is that of no box
-abbrev pub AreEmpty : List OwnedLine → List OwnedLine → Type 0
-AreEmpty = EachEdit (λ _ m. shown_line m ≡ (0, []) ∷ [])
+abbrev pub AreEmpty : List PiecesAndRoom → List PiecesAndRoom → Type 0
+AreEmpty = EachEdit (λ _ m. (m.pieces ≡ (0, []) ∷ []) × IsWhole 0 m)
 
 -- each line stands in R to its field's set and to the line of its field before
-abbrev pub EachField : (SpanSet → OwnedLine → OwnedLine → Type 0) → List SpanSet → List OwnedLine → List OwnedLine → Type 0
+abbrev pub EachField : (SpanSet → PiecesAndRoom → PiecesAndRoom → Type 0) → List SpanSet → List PiecesAndRoom → List PiecesAndRoom → Type 0
 EachField R sets old new =
-    (k : ℕ) (s : SpanSet) (l : OwnedLine) → k < length old → R (slice_index_or sets k s) (slice_index_or old k l) (slice_index_or new k l)
+    (k : ℕ) (s : SpanSet) (l : PiecesAndRoom) → k < length old → R (slice_index_or sets k s) (slice_index_or old k l) (slice_index_or new k l)
 
 -- P holds of each line and its field's set
-abbrev pub OnEach : (SpanSet → OwnedLine → Type 0) → List SpanSet → List OwnedLine → Type 0
+abbrev pub OnEach : (SpanSet → PiecesAndRoom → Type 0) → List SpanSet → List PiecesAndRoom → Type 0
 OnEach P sets lines = EachField (λ s l _. P s l) sets lines lines
 
 -- the pieces rise from 0 up to the set's top
-abbrev pub Rises : SpanSet → OwnedLine → Type 0
-Rises s l = IsRising s.top (shown_line l)
+abbrev pub Rises : SpanSet → PiecesAndRoom → Type 0
+Rises s l = IsRising s.top l.pieces
 
 -- pieces start where the set begins or ends
-abbrev pub HasCuts : SpanSet → OwnedLine → Type 0
-HasCuts s l = CutsStart s.top s.intervals (shown_line l)
+abbrev pub HasCuts : SpanSet → PiecesAndRoom → Type 0
+HasCuts s l = CutsStart s.top s.intervals l.pieces
 
 -- pieces start only where the row changes, or the set begins or ends
-abbrev pub HasOnlyCuts : SpanSet → OwnedLine → Type 0
-HasOnlyCuts s l = IsApart s.intervals (shown_line l)
+abbrev pub HasOnlyCuts : SpanSet → PiecesAndRoom → Type 0
+HasOnlyCuts s l = IsApart s.intervals l.pieces
 
--- where pieces start wherever the set begins or ends, the pieces stay as they are, with their room
-abbrev pub IsKeptWithCuts : SpanSet → OwnedLine → OwnedLine → Type 0
-IsKeptWithCuts s l m = HasCuts s l → m.pieces.items ≡ l.pieces.items
+-- where pieces start wherever the set begins or ends, the pieces stay as they are
+abbrev pub IsKeptWithCuts : SpanSet → PiecesAndRoom → PiecesAndRoom → Type 0
+IsKeptWithCuts s l m = HasCuts s l → m.pieces ≡ l.pieces
 
 -- no room is lost
-abbrev pub KeepsRoom : OwnedLine → OwnedLine → Type 0
-KeepsRoom l m = (n : ℕ) → HaveRoomFor n l.pieces.items → HaveRoomFor n m.pieces.items
+abbrev pub KeepsRoom : PiecesAndRoom → PiecesAndRoom → Type 0
+KeepsRoom l m = l.room ≤ m.room
 
--- each piece is still there, with no less room
-abbrev pub KeepsRows : OwnedLine → OwnedLine → Type 0
-KeepsRows l m = KeepsPieces l.pieces.items m.pieces.items
+-- the room is the same
+abbrev pub HasSameRoom : PiecesAndRoom → PiecesAndRoom → Type 0
+HasSameRoom l m = m.room ≡ l.room
 
--- the same of each piece that starts at 0 or where the row changes
-abbrev pub KeepsChangedRows : OwnedLine → OwnedLine → Type 0
-KeepsChangedRows l m = KeepsChanges l.pieces.items m.pieces.items
+-- where m bits and the room filled words, n bits and the new room do
+abbrev pub StaysWhole : ℕ → ℕ → PiecesAndRoom → PiecesAndRoom → Type 0
+StaysWhole m n old new = IsWhole m old → IsWhole n new
 
--- the same line, with no less room
-pub record IsRoomier (l m : OwnedLine) : Type 0 where
-  pub same : shown_line m ≡ shown_line l
-  pub rows : KeepsRows l m
+-- the same line, with no less room, by whole words
+pub record IsRoomier (l m : PiecesAndRoom) : Type 0 where
+  pub same : m.pieces ≡ l.pieces
   pub room : KeepsRoom l m
+  pub whole : m.room % 64 ≡ l.room % 64
 
 -- the room of one bit is used, and no more
-abbrev pub UsesRoom : OwnedLine → OwnedLine → Type 0
-UsesRoom l m = (n : ℕ) → HaveRoomFor (n + 1) l.pieces.items → HaveRoomFor n m.pieces.items
+abbrev pub UsesRoom : PiecesAndRoom → PiecesAndRoom → Type 0
+UsesRoom l m = l.room ≤ m.room + 1
 
 -- each row has room for one bit more than before
-abbrev pub FreesRoom : OwnedLine → OwnedLine → Type 0
-FreesRoom l m = (n : ℕ) → HaveRoomFor n l.pieces.items → HaveRoomFor (n + 1) m.pieces.items
+abbrev pub FreesRoom : PiecesAndRoom → PiecesAndRoom → Type 0
+FreesRoom l m = m.room ≡ l.room + 1
 
 -- each row has room for all bits that it had, beside what it had room for
-abbrev pub FreesAll : OwnedLine → OwnedLine → Type 0
-FreesAll l m = (n len : ℕ) → EachRow len (shown_line l) → HaveRoomFor n l.pieces.items → HaveRoomFor (n + len) m.pieces.items
+abbrev pub FreesAll : PiecesAndRoom → PiecesAndRoom → Type 0
+FreesAll l m = (n : ℕ) → EachRow n l.pieces → m.room ≡ l.room + n
 
 -- a line as it stands between edits, with so many bits a row
-abbrev pub Stands : ℕ → SpanSet → OwnedLine → Type 0
-Stands n s l = IsSound s.top n (shown_line l)
+abbrev pub Stands : ℕ → SpanSet → PiecesAndRoom → Type 0
+Stands n s l = IsSound s.top n l.pieces
 
 -- the line with more cuts, where the set begins or ends
-abbrev pub IsCutMore : SpanSet → OwnedLine → OwnedLine → Type 0
-IsCutMore s l m = IsSplitOf s.top s.intervals (shown_line l) (shown_line m)
+abbrev pub IsCutMore : SpanSet → PiecesAndRoom → PiecesAndRoom → Type 0
+IsCutMore s l m = IsSplitOf s.top s.intervals l.pieces m.pieces
 
 -- the line with equal neighbours joined
-abbrev pub IsJoinedUp : SpanSet → OwnedLine → OwnedLine → Type 0
-IsJoinedUp s l m = IsMergeOf s.top (shown_line l) (shown_line m)
+abbrev pub IsJoinedUp : SpanSet → PiecesAndRoom → PiecesAndRoom → Type 0
+IsJoinedUp s l m = IsMergeOf s.top l.pieces m.pieces
 
 -- the set put in at a place: the line of any sets becomes that of the sets with it
-abbrev pub InsertsSet : ℕ → SpanSet → OwnedLine → OwnedLine → Type 0
+abbrev pub InsertsSet : ℕ → SpanSet → PiecesAndRoom → PiecesAndRoom → Type 0
 InsertsSet at s l m =
-    (sets : List (List Interval)) → IsLineOf has s.top sets (shown_line l) → IsLineOf has s.top (insert sets at s.intervals) (shown_line m)
+    (sets : List (List Interval)) → IsLineOf has s.top sets l.pieces → IsLineOf has s.top (insert sets at s.intervals) m.pieces
 
 -- the set put in the place of another: the line of any sets becomes that of the sets with it
-abbrev pub ReplacesSet : ℕ → SpanSet → OwnedLine → OwnedLine → Type 0
+abbrev pub ReplacesSet : ℕ → SpanSet → PiecesAndRoom → PiecesAndRoom → Type 0
 ReplacesSet at s l m =
-    (sets : List (List Interval)) → IsLineOf has s.top sets (shown_line l)
-    → IsLineOf has s.top (slice_set sets at s.intervals) (shown_line m)
+    (sets : List (List Interval)) → IsLineOf has s.top sets l.pieces
+    → IsLineOf has s.top (slice_set sets at s.intervals) m.pieces
 
 -- all memory for a set's answers is taken, and the line is cut where they change
-pub record IsReady (s : SpanSet) (l : OwnedLine) : Type 0 where
-  pub cuts : CutsStart s.top s.intervals (shown_line l)
-  pub room : HaveRoomFor 1 l.pieces.items
+pub record IsReady (s : SpanSet) (l : PiecesAndRoom) : Type 0 where
+  pub cuts : CutsStart s.top s.intervals l.pieces
+  pub room : 0 < l.room
 
 -- a box's set put in at a place: the line of any sets becomes that of the sets with it, and the rows are longer by one bit
-pub record TakesIn (at : ℕ) (s : SpanSet) (old new : OwnedLine) : Type 0 where
-  pub line : (n : ℕ) (sets : List (List Interval)) → at ≤ n → EachRow n (shown_line old) → Says s.top sets (shown_line old)
-      → IsLineOf has s.top (insert sets at s.intervals) (shown_line new)
-  pub sound : (n : ℕ) → at ≤ n → EachRow n (shown_line old) → IsSound s.top (n + 1) (shown_line new)
-  pub room : UsesRoom old new
+pub record TakesIn (at : ℕ) (s : SpanSet) (old new : PiecesAndRoom) : Type 0 where
+  pub line : (n : ℕ) (sets : List (List Interval)) → at ≤ n → EachRow n old.pieces → Says s.top sets old.pieces
+      → IsLineOf has s.top (insert sets at s.intervals) new.pieces
+  pub sound : (n : ℕ) → at ≤ n → EachRow n old.pieces → IsSound s.top (n + 1) new.pieces
+  pub room : new.room + 1 ≡ old.room
 
 -- nothing need grow for the set's answers: pieces start where they change, and each row has room for a bit
-pub record HasRoom (s : SpanSet) (l : OwnedLine) : Type 0 where
-  pub cuts : CutsStart s.top s.intervals (shown_line l)
-  pub room : HaveRoomFor 1 l.pieces.items
+pub record HasRoom (s : SpanSet) (l : PiecesAndRoom) : Type 0 where
+  pub cuts : CutsStart s.top s.intervals l.pieces
+  pub room : 0 < l.room
 
 -- a box's set put in the place of another: the line of any sets becomes that of the sets with it, and the rows stay as long
-pub record TakesOver (at : ℕ) (s : SpanSet) (old new : OwnedLine) : Type 0 where
-  pub line : (sets : List (List Interval)) → Says s.top sets (shown_line old)
-      → IsLineOf has s.top (slice_set sets at s.intervals) (shown_line new)
-  pub sound : (n : ℕ) → at < n → EachRow n (shown_line old) → IsSound s.top n (shown_line new)
-  pub room : KeepsRoom old new
+pub record TakesOver (at : ℕ) (s : SpanSet) (old new : PiecesAndRoom) : Type 0 where
+  pub line : (sets : List (List Interval)) → Says s.top sets old.pieces
+      → IsLineOf has s.top (slice_set sets at s.intervals) new.pieces
+  pub sound : (n : ℕ) → at < n → EachRow n old.pieces → IsSound s.top n new.pieces
+  pub room : HasSameRoom old new
 
 -- a line as it stands between edits, up to some top, that has a bit at a place in each row
-abbrev pub HasPlace : ℕ → OwnedLine → Type 0
-HasPlace at l = (top : ℕ) × (n : ℕ) × (at < n) × IsSound top n (shown_line l)
+abbrev pub HasPlace : ℕ → PiecesAndRoom → Type 0
+HasPlace at l = (top : ℕ) × (n : ℕ) × (at < n) × IsSound top n l.pieces
 
 -- a box taken out: the line of any sets becomes that of the others, and the rows are shorter by one bit
-pub record LosesBox (at : ℕ) (old new : OwnedLine) : Type 0 where
-  pub line : (top : ℕ) (sets : List (List Interval)) → IsLineOf has top sets (shown_line old)
-      → IsLineOf has top (remove sets at) (shown_line new)
-  pub sound : (top n : ℕ) → at < n → IsSound top n (shown_line old) → IsSound top (n - 1) (shown_line new)
+pub record LosesBox (at : ℕ) (old new : PiecesAndRoom) : Type 0 where
+  pub line : (top : ℕ) (sets : List (List Interval)) → IsLineOf has top sets old.pieces
+      → IsLineOf has top (remove sets at) new.pieces
+  pub sound : (top n : ℕ) → at < n → IsSound top n old.pieces → IsSound top (n - 1) new.pieces
   pub room : FreesRoom old new

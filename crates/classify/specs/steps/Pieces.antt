@@ -3,6 +3,11 @@ use Rattle.fields.specs.declared.numbers.spans.Interval.{Interval}
 use Rattle.fields.specs.numbers.Spans.{has}
 use Rattle.std.specs.Prelude.{◌≡◌, ◌≢◌, ℕ, suc, ◌<◌, ◌≤◌, nat_le, Bool, List, [], ◌∷◌, if◌then◌else◌, ◌⊎◌}
 
+-- what a line shows as it is kept: where each piece starts, with its row; and how many bits more go into each row before memory is needed
+pub record PiecesAndRoom : Type 0 where
+  pub pieces : List (ℕ × List Bool)
+  pub room : ℕ
+
 -- the last piece that starts at or before x, and `first` where there is none
 abbrev pub piece_at : ℕ × List Bool → List (ℕ × List Bool) → ℕ → ℕ × List Bool
 piece_at first [] x = first

@@ -6,12 +6,12 @@ ghost use Rattle.std.specs.Vec.{vec_capacity};
 ghost use Rattle.classify.specs.bits.BitRow.{row_room};
 ghost use Rattle.classify.specs.steps.Packing.{all_bits, IsPacked, IsOpen, room_of};
 
-use crate::bits::words::{set_bit, shift_in, shift_out};
+use crate::bits::words::{bit_at, shift_in, shift_out};
 use std::alloc::{AllocError, Global};
 use std::marker::Model;
 
 // The most words of a row, so that its length is a `usize`.
-const MOST_WORDS: usize = (1 << 58) - 1;
+pub(crate) const MOST_WORDS: usize = (1 << 58) - 1;
 
 // The most bits of a row.
 pub(crate) const MOST_BITS: usize = 64 * MOST_WORDS;
@@ -77,27 +77,7 @@ impl BitRow {
         ensures { result ≡ slice_index_or self.now.bits at false }
     {
         let _len = self.len;
-        (self.words[at / 64] >> (at % 64)) % 2 == 1
-    }
-
-    // Writes the bit at a place.
-    pub(crate) fn set(&mut self, at: usize, bit: bool)
-        requires { at < length self.old.bits }
-        ensures bits { self.new.bits ≡ slice_set self.old.bits at bit }
-        ensures room { self.new.room ≡ self.old.room }
-    {
-        let _len = self.len;
-        let word = self.words[at / 64];
-        self.words[at / 64] = set_bit(word, (at % 64) as u32, bit);
-    }
-
-    // Takes every bit out.
-    pub(crate) fn clear(&mut self)
-        ensures bits { self.new.bits ≡ [] }
-        ensures room { row_room self.old + length self.old.bits ≤ self.new.room }
-    {
-        self.words.clear();
-        self.len = 0;
+        bit_at(&self.words, at)
     }
 
     // Takes the memory that one more bit needs.
@@ -157,41 +137,5 @@ impl BitRow {
         if self.len % 64 == 0 {
             let _ = self.words.pop();
         }
-    }
-
-    // An equal row.
-    pub(crate) fn copy(&self, alloc: Global) -> Result<BitRow, AllocError>
-        ensures { IfOk result (λ row. row.bits ≡ self.now.bits) }
-    {
-        Ok(BitRow {
-            words: Vec::from_slice(alloc, &self.words)?,
-            len: self.len,
-        })
-    }
-
-    // Whether the bits of both are equal.
-    pub(crate) fn same(&self, other: &BitRow) -> bool
-        ensures { IsTrue result ↔ (self.now.bits ≡ other.now.bits) }
-    {
-        if self.len != other.len {
-            return false;
-        }
-        for k in 0..self.words.len() {
-            let word = self.words[k];
-            let others = other.words[k];
-            if word != others {
-                return false;
-            }
-        }
-        true
-    }
-
-    // The words, lent: bit p stands in word p / 64 at p % 64, and no bit past the length is set.
-    pub(crate) fn words(&self) -> &[u64]
-        ensures packed { IsPacked result.now (length self.now.bits) }
-        ensures bits { take (length self.now.bits) (all_bits result.now) ≡ self.now.bits }
-    {
-        let _len = self.len;
-        self.words.as_slice()
     }
 }

@@ -1,7 +1,31 @@
 //! Bits moved within words and from word to word.
 
-ghost use Rattle.std.specs.Prelude.{◌≡◌, ◌++◌, ◌∷◌, [], ◌<◌, ◌≤◌, ◌*◌, length, false, insert, remove, slice_set};
-ghost use Rattle.classify.specs.steps.Packing.{word_bits, all_bits, low_bit, top_bit};
+ghost use Rattle.std.specs.Prelude.{◌≡◌, ◌++◌, ◌∷◌, [], ◌<◌, ◌≤◌, ◌*◌, length, false, insert, remove, slice_set, slice_index_or, take, ℕ, IsTrue, ◌↔◌};
+ghost use Rattle.classify.specs.steps.Packing.{word_bits, all_bits, low_bit, top_bit, IsPacked};
+
+/// The bit at a place of some words.
+pub(crate) fn bit_at(words: &[u64], at: usize) -> bool
+    requires { at < 64 * length words.now }
+    ensures { result ≡ slice_index_or (all_bits words.now) at false }
+{
+    (words[at / 64] >> (at % 64)) % 2 == 1
+}
+
+/// Whether the words of two rows of one length have equal bits.
+pub(crate) fn same_bits(one: &[u64], other: &[u64]) -> bool
+    requires { (len : ℕ) × IsPacked one.now len × IsPacked other.now len }
+    ensures { (len : ℕ) → IsPacked one.now len → IsPacked other.now len
+        → (IsTrue result ↔ (take len (all_bits one.now) ≡ take len (all_bits other.now))) }
+{
+    for k in 0..one.len() {
+        let word = one[k];
+        let others = other[k];
+        if word != others {
+            return false;
+        }
+    }
+    true
+}
 
 // Puts a bit into a word: the later bits move up, and the highest falls out.
 fn insert_bit(word: u64, offset: u32, bit: bool) -> u64

@@ -1,14 +1,13 @@
 //! The lines of all fields: each step on every line in turn.
 
-ghost use Rattle.std.specs.Prelude.{◌≡◌, ◌<◌, ◌≤◌, ◌+◌, ℕ, length, OnOk, OnErr, IsOk, All};
+ghost use Rattle.std.specs.Prelude.{◌≡◌, ◌<◌, ◌≤◌, ◌+◌, ◌%◌, ℕ, length, OnOk, OnErr, IsOk};
 ghost use Rattle.classify.specs.steps.Pieces.{StartsAtZero};
 ghost use Rattle.classify.specs.steps.Edits.{EachRow};
-ghost use Rattle.classify.specs.steps.Fields.{shown_line, EachLine, EachEdit, ShowTheSame, AreEmpty, EachField, OnEach};
+ghost use Rattle.classify.specs.steps.Fields.{EachLine, EachEdit, ShowTheSame, AreEmpty, EachField, OnEach};
 ghost use Rattle.classify.specs.steps.Fields.{Rises, HasCuts, HasOnlyCuts, Stands, IsCutMore, IsJoinedUp, InsertsSet};
 ghost use Rattle.classify.specs.steps.Fields.{ReplacesSet, UsesRoom, FreesAll};
 ghost use Rattle.classify.specs.steps.Fields.{IsReady, HasRoom, TakesIn, TakesOver, HasPlace, LosesBox};
-ghost use Rattle.classify.specs.steps.Fields.{IsKeptWithCuts, KeepsRows, KeepsChangedRows, IsRoomier, KeepsRoom};
-ghost use Rattle.classify.specs.steps.Shown.{HaveRoomFor};
+ghost use Rattle.classify.specs.steps.Fields.{IsKeptWithCuts, HasSameRoom, IsWhole, StaysWhole, IsRoomier, KeepsRoom};
 
 use crate::line::edit;
 use crate::line::owned::OwnedLine;
@@ -32,7 +31,7 @@ pub(crate) fn copy_lines(
     alloc: Global,
 ) -> Result<(), AllocError>
     requires { length others.now ≡ length lines.old }
-    ensures { OnOk result (ShowTheSame others.now lines.new) }
+    ensures { OnOk result (EachEdit (λ l m. m ≡ l) others.now lines.new) }
 {
     for k in 0..lines.len() {
         lines[k] = others[k].copy(alloc)?;
@@ -48,11 +47,11 @@ fn split_lines(lines: &mut [OwnedLine], spans: &[Spans]) -> Result<(), AllocErro
     ensures cuts { OnOk result (EachField (λ s _ m. HasCuts s m) spans.now lines.old lines.new) }
     ensures there { OnEach HasCuts spans.now lines.old → IsOk result }
     ensures kept { EachField IsKeptWithCuts spans.now lines.old lines.new }
-    ensures rows { EachEdit KeepsRows lines.old lines.new }
+    ensures room { EachEdit HasSameRoom lines.old lines.new }
 {
     for k in 0..lines.len() {
         let line = &mut lines[k];
-        edit::split_all(&mut line.pieces, &spans[k])?;
+        edit::split_all(line, &spans[k])?;
     }
     Ok(())
 }
@@ -60,33 +59,28 @@ fn split_lines(lines: &mut [OwnedLine], spans: &[Spans]) -> Result<(), AllocErro
 // Takes the memory that one more bit in each row of every line needs.
 fn reserve_lines(lines: &mut [OwnedLine]) -> Result<(), AllocError>
     ensures more { EachEdit IsRoomier lines.old lines.new }
-    ensures room { OnOk result (EachEdit (λ _ m. HaveRoomFor 1 m.pieces.items) lines.old lines.new) }
-    ensures there { EachLine (λ l. HaveRoomFor 1 l.pieces.items) lines.old → IsOk result }
+    ensures room { OnOk result (EachEdit (λ _ m. 0 < m.room) lines.old lines.new) }
+    ensures there { EachLine (λ l. 0 < l.room) lines.old → IsOk result }
 {
     for k in 0..lines.len() {
         let line = &mut lines[k];
-        edit::reserve_rows(&mut line.pieces)?;
+        line.reserve()?;
     }
     Ok(())
 }
 
-// Takes all memory that a box needs, in every line: rows whose last word has a place left need none.
-fn prepare_lines(lines: &mut [OwnedLine], len: usize, spans: &[Spans]) -> Result<(), AllocError>
+// Takes all memory that a box needs, in every line: rows whose words have a place left need none.
+fn prepare_lines(lines: &mut [OwnedLine], spans: &[Spans]) -> Result<(), AllocError>
     requires as_long { length spans.now ≡ length lines.old }
     requires rising { OnEach Rises spans.now lines.old }
-    requires rows { EachLine (λ l. EachRow len (shown_line l)) lines.old }
     ensures split { EachField IsCutMore spans.now lines.old lines.new }
     ensures ready { OnOk result (EachField (λ s _ m. IsReady s m) spans.now lines.old lines.new) }
     ensures there { OnEach HasRoom spans.now lines.old → IsOk result }
-    ensures room { OnOk result (EachField (λ s l m. HasCuts s l → KeepsRoom l m) spans.now lines.old lines.new) }
-    ensures rows { EachEdit KeepsRows lines.old lines.new }
+    ensures room { EachEdit KeepsRoom lines.old lines.new }
+    ensures whole { EachEdit (λ l m. m.room % 64 ≡ l.room % 64) lines.old lines.new }
 {
     split_lines(lines, spans)?;
-    if len % 64 != 0 {
-        return Ok(());
-    }
-    reserve_lines(lines)?;
-    Ok(())
+    reserve_lines(lines)
 }
 
 // Takes the cuts wherever the box's answers change back, in every line, where the rows are equal.
@@ -95,11 +89,11 @@ fn unsplit_lines(lines: &mut [OwnedLine], spans: &[Spans])
     requires rising { OnEach Rises spans.now lines.old }
     requires apart { OnEach HasOnlyCuts spans.now lines.old }
     ensures joined { EachField IsJoinedUp spans.now lines.old lines.new }
-    ensures rows { EachEdit KeepsChangedRows lines.old lines.new }
+    ensures room { EachEdit HasSameRoom lines.old lines.new }
 {
     for k in 0..lines.len() {
         let line = &mut lines[k];
-        edit::unsplit_all(&mut line.pieces, &spans[k]);
+        edit::unsplit_all(line, &spans[k]);
     }
 }
 
@@ -109,12 +103,12 @@ fn commit_lines(lines: &mut [OwnedLine], at: usize, spans: &[Spans])
     requires rising { OnEach Rises spans.now lines.old }
     requires ready { OnEach IsReady spans.now lines.old }
     requires apart { OnEach HasOnlyCuts spans.now lines.old }
-    requires place { EachLine (λ l. All (λ p. at ≤ length p.row.bits) l.pieces.items) lines.old }
+    requires place { (n : ℕ) × (at ≤ n) × EachLine (λ l. EachRow n l.pieces) lines.old }
     ensures { EachField (TakesIn at) spans.now lines.old lines.new }
 {
     for k in 0..lines.len() {
         let line = &mut lines[k];
-        edit::commit(&mut line.pieces, at, &spans[k]);
+        edit::commit(line, at, &spans[k]);
     }
 }
 
@@ -131,11 +125,14 @@ pub(crate) fn insert_lines(
     ensures ok { OnOk result (EachField (InsertsSet at) spans.now lines.old lines.new) }
     ensures sound { OnOk result (EachField (λ s _ m. Stands (len + 1) s m) spans.now lines.old lines.new) }
     ensures there { OnEach HasRoom spans.now lines.old → IsOk result }
-    ensures room { OnOk result (EachField (λ s l m. HasCuts s l → UsesRoom l m) spans.now lines.old lines.new) }
+    ensures room { OnOk result (EachEdit UsesRoom lines.old lines.new) }
+    ensures whole { OnOk result (EachEdit (StaysWhole len (len + 1)) lines.old lines.new) }
     ensures err { OnErr result (ShowTheSame lines.old lines.new) }
     ensures back { OnErr result (EachEdit KeepsRoom lines.old lines.new) }
+    ensures back_whole { OnErr result (EachEdit (StaysWhole len len) lines.old lines.new) }
 {
-    match prepare_lines(lines, len, spans) {
+    let _len = len;
+    match prepare_lines(lines, spans) {
         Ok(()) => {
             commit_lines(lines, at, spans);
             Ok(())
@@ -153,12 +150,12 @@ fn settle_lines(lines: &mut [OwnedLine], at: usize, spans: &[Spans])
     requires rising { OnEach Rises spans.now lines.old }
     requires cuts { OnEach HasCuts spans.now lines.old }
     requires apart { OnEach HasOnlyCuts spans.now lines.old }
-    requires place { (n : ℕ) × (at < n) × EachLine (λ l. EachRow n (shown_line l)) lines.old }
+    requires place { (n : ℕ) × (at < n) × EachLine (λ l. EachRow n l.pieces) lines.old }
     ensures { EachField (TakesOver at) spans.now lines.old lines.new }
 {
     for k in 0..lines.len() {
         let line = &mut lines[k];
-        edit::replace_box(&mut line.pieces, at, &spans[k]);
+        edit::replace_box(line, at, &spans[k]);
     }
 }
 
@@ -174,10 +171,9 @@ pub(crate) fn replace_lines(
     requires sound { OnEach (Stands len) spans.now lines.old }
     ensures ok { OnOk result (EachField (ReplacesSet at) spans.now lines.old lines.new) }
     ensures sound { OnOk result (EachField (λ s _ m. Stands len s m) spans.now lines.old lines.new) }
-    ensures room { OnOk result (EachField (λ s l m. HasCuts s l → KeepsRoom l m) spans.now lines.old lines.new) }
+    ensures room { EachEdit HasSameRoom lines.old lines.new }
     ensures there { OnEach HasCuts spans.now lines.old → IsOk result }
     ensures err { OnErr result (ShowTheSame lines.old lines.new) }
-    ensures back { OnErr result (EachEdit KeepsRoom lines.old lines.new) }
 {
     match split_lines(lines, spans) {
         Ok(()) => {
@@ -198,18 +194,19 @@ pub(crate) fn remove_lines(lines: &mut [OwnedLine], at: usize)
 {
     for k in 0..lines.len() {
         let line = &mut lines[k];
-        edit::remove_box(&mut line.pieces, at);
+        edit::remove_box(line, at);
     }
 }
 
 // Takes every box out, in every line.
 pub(crate) fn clear_lines(lines: &mut [OwnedLine])
-    requires { EachLine (λ l. StartsAtZero (shown_line l)) lines.old }
+    requires zero { EachLine (λ l. StartsAtZero l.pieces) lines.old }
+    requires whole { (n : ℕ) × EachLine (λ l. EachRow n l.pieces × IsWhole n l) lines.old }
     ensures empty { AreEmpty lines.old lines.new }
     ensures room { EachEdit FreesAll lines.old lines.new }
 {
     for k in 0..lines.len() {
         let line = &mut lines[k];
-        edit::clear(&mut line.pieces);
+        edit::clear(line);
     }
 }

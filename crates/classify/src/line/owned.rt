@@ -1,81 +1,232 @@
-//! A line as the classifier keeps it.
+//! A line as the classifier keeps it: where its pieces start, and their rows.
 
-ghost use Rattle.std.specs.Prelude.{◌≡◌, ◌<◌, ◌≤◌, ◌+◌, length, slice_index, take, IfOk, [], ◌∷◌};
+ghost use Rattle.std.specs.Prelude.{ℕ, ◌≡◌, ◌<◌, ◌≤◌, ◌+◌, ◌%◌, length, map, insert, remove, slice_set, slice_index, slice_index_or, take};
+ghost use Rattle.std.specs.Prelude.{false, IfOk, IsOk, OnOk, OnErr, IsTrue, ◌↔◌, [], ◌∷◌};
 ghost use Rattle.classify.specs.steps.Packing.{all_bits, IsPacked};
 ghost use Rattle.classify.specs.line.Line.{starts};
 ghost use Rattle.classify.specs.steps.Pieces.{IsRisingLine, row_in};
-ghost use Rattle.classify.specs.steps.Shown.{shown};
+ghost use Rattle.classify.specs.steps.Edits.{row_of};
 
-use crate::bits::bit_row::BitRow;
+use crate::bits::rows::Rows;
+use crate::line::starts::Starts;
 use std::alloc::{AllocError, Global};
+use std::marker::Model;
 use std::mem::size_of;
 
-/// How many bytes a piece takes beside the words of its row.
-pub const PIECE_BYTES: usize = size_of::<OwnedPiece>();
+/// How many bytes a piece takes beside the words of its row, where its start has 32 bits: its start, and the slot of its row.
+pub const PIECE_BYTES: usize = size_of::<u32>() + size_of::<u32>();
 
-// A piece: its first number, and the answer of each box, at the box's place.
-#[derive(Drop)]
-pub(crate) struct OwnedPiece {
-    pub(crate) start: u128,
-    pub(crate) row: BitRow,
-}
-
-// The pieces of a line.
+/// The pieces of a line, in rising order: the first number of each, and the answer of each box, at the box's place.
 #[derive(Drop)]
 pub(crate) struct OwnedLine {
-    pub(crate) pieces: Vec<OwnedPiece>,
+    starts: Starts,
+    rows: Rows,
+}
+
+impl Model for OwnedLine {
+    ghost use Rattle.std.specs.Prelude.{◌≡◌, length};
+    ghost use Rattle.std.specs.List.{zip};
+    ghost use Rattle.classify.specs.steps.Pieces.{PiecesAndRoom};
+
+    ghost Value = { PiecesAndRoom };
+
+    ghost view = { λ l. record { pieces = zip l.starts l.rows.rows; room = l.rows.room } };
+
+    ghost invariant = { λ l. length l.rows.rows ≡ length l.starts };
 }
 
 impl OwnedLine {
     // A line without a piece, which no classifier keeps: the place for one.
     pub(crate) fn bare(alloc: Global) -> OwnedLine {
         OwnedLine {
-            pieces: Vec::new(alloc),
+            starts: Starts::new(alloc),
+            rows: Rows::bare(alloc),
         }
     }
 
     // The line of no box: one piece without a bit.
     pub(crate) fn open(alloc: Global) -> Result<OwnedLine, AllocError>
-        ensures { IfOk result (λ line. shown line.pieces.items ≡ (0, []) ∷ []) }
+        ensures { IfOk result (λ line. (line.pieces ≡ (0, []) ∷ []) × (line.room ≡ 0)) }
     {
-        let mut pieces = Vec::new(alloc);
-        pieces.push(OwnedPiece {
-            start: 0,
-            row: BitRow::new(alloc),
-        })?;
-        Ok(OwnedLine { pieces })
+        Ok(OwnedLine {
+            starts: Starts::zero(alloc)?,
+            rows: Rows::open(alloc)?,
+        })
+    }
+
+    // What its memory comes from.
+    pub(crate) fn allocator(&self) -> Global {
+        self.starts.allocator()
+    }
+
+    // How many pieces there are.
+    pub(crate) fn len(&self) -> usize
+        ensures { result ≡ length self.now.pieces }
+    {
+        let _starts = &self.starts;
+        self.rows.count()
+    }
+
+    // The first number of a piece.
+    pub(crate) fn start(&self, k: usize) -> u128
+        requires { k < length self.now.pieces }
+        ensures { result ≡ slice_index (starts self.now.pieces) k }
+    {
+        let _rows = &self.rows;
+        self.starts.get(k)
+    }
+
+    // The place of the piece that a number is in: a binary search.
+    pub(crate) fn place_of(&self, x: u128) -> usize
+        requires { IsRisingLine self.now.pieces }
+        ensures within { result < length self.now.pieces }
+        ensures low { slice_index (starts self.now.pieces) result ≤ x }
+        ensures high { result + 1 < length self.now.pieces → x < slice_index (starts self.now.pieces) (result + 1) }
+    {
+        let _rows = &self.rows;
+        self.starts.count_to(x) - 1
+    }
+
+    // How many bits a row has.
+    pub(crate) fn bits(&self, k: usize) -> usize
+        requires { k < length self.now.pieces }
+        ensures { result ≡ length (row_of self.now.pieces k) }
+    {
+        let _starts = &self.starts;
+        self.rows.bits(k)
+    }
+
+    // The words of a row; they are lent.
+    pub(crate) fn words(&self, k: usize) -> &[u64]
+        requires { k < length self.now.pieces }
+        ensures packed { IsPacked result.now (length (row_of self.now.pieces k)) }
+        ensures bits { take (length (row_of self.now.pieces k)) (all_bits result.now) ≡ row_of self.now.pieces k }
+    {
+        let _starts = &self.starts;
+        self.rows.row(k)
+    }
+
+    // The words of the row of the piece that a number is in; they are lent.
+    pub(crate) fn words_at(&self, x: u128) -> &[u64]
+        requires { IsRisingLine self.now.pieces }
+        ensures packed { IsPacked result.now (length (row_in self.now.pieces x)) }
+        ensures bits { take (length (row_in self.now.pieces x)) (all_bits result.now) ≡ row_in self.now.pieces x }
+    {
+        self.words(self.place_of(x))
+    }
+
+    // The bit at a place of a row.
+    pub(crate) fn get(&self, k: usize, at: usize) -> bool
+        requires piece { k < length self.now.pieces }
+        requires place { at < length (row_of self.now.pieces k) }
+        ensures { result ≡ slice_index_or (row_of self.now.pieces k) at false }
+    {
+        let _starts = &self.starts;
+        self.rows.get(k, at)
+    }
+
+    // Writes the bit at a place of a row.
+    pub(crate) fn set(&mut self, k: usize, at: usize, bit: bool)
+        requires piece { k < length self.old.pieces }
+        requires place { at < length (row_of self.old.pieces k) }
+        ensures pieces { self.new.pieces
+            ≡ slice_set self.old.pieces k (slice_index (starts self.old.pieces) k, slice_set (row_of self.old.pieces k) at bit) }
+        ensures room { self.new.room ≡ self.old.room }
+    {
+        let _starts = &self.starts;
+        self.rows.set(k, at, bit);
+    }
+
+    // Cuts a piece at a number: the new one has its row. Where memory is refused the pieces are as before.
+    pub(crate) fn split_at(&mut self, k: usize, x: u128) -> Result<(), AllocError>
+        requires piece { k < length self.old.pieces }
+        requires below { k + 1 < length self.old.pieces → x < slice_index (starts self.old.pieces) (k + 1) }
+        ensures ok { OnOk result (self.new.pieces ≡ insert self.old.pieces (k + 1) (x, row_of self.old.pieces k)) }
+        ensures err { OnErr result (self.new.pieces ≡ self.old.pieces) }
+        ensures room { self.new.room ≡ self.old.room }
+    {
+        self.rows.double(k)?;
+        match self.starts.insert(k + 1, x) {
+            Ok(()) => Ok(()),
+            Err(refused) => {
+                self.rows.remove(k + 1);
+                Err(refused)
+            }
+        }
+    }
+
+    // Whether a piece has the row of the one after it.
+    pub(crate) fn is_same_after(&self, k: usize) -> bool
+        requires { k + 1 < length self.now.pieces }
+        ensures { IsTrue result ↔ (row_of self.now.pieces k ≡ row_of self.now.pieces (k + 1)) }
+    {
+        let _starts = &self.starts;
+        let _pieces = self.rows.count();
+        self.rows.same(k, k + 1)
+    }
+
+    // Takes a piece out.
+    pub(crate) fn remove(&mut self, k: usize)
+        requires { k < length self.old.pieces }
+        ensures pieces { self.new.pieces ≡ remove self.old.pieces k }
+        ensures room { self.new.room ≡ self.old.room }
+    {
+        self.starts.remove(k);
+        self.rows.remove(k);
+    }
+
+    // Puts a 0 into each row at a place, where there is room: the later bits move up by one.
+    pub(crate) fn open_place(&mut self, at: usize)
+        requires some { 0 < length self.old.pieces }
+        requires place { (k : ℕ) → k < length self.old.pieces → at ≤ length (row_of self.old.pieces k) }
+        requires room { 0 < self.old.room }
+        ensures pieces { self.new.pieces ≡ map (λ p. (p.0, insert p.1 at false)) self.old.pieces }
+        ensures room { self.new.room + 1 ≡ self.old.room }
+    {
+        let _starts = &self.starts;
+        self.rows.open_place(at);
+    }
+
+    // Takes a bit out of each row at a place: the later ones move down by one.
+    pub(crate) fn close_place(&mut self, at: usize)
+        requires some { 0 < length self.old.pieces }
+        requires place { (k : ℕ) → k < length self.old.pieces → at < length (row_of self.old.pieces k) }
+        ensures pieces { self.new.pieces ≡ map (λ p. (p.0, remove p.1 at)) self.old.pieces }
+        ensures room { self.new.room ≡ self.old.room + 1 }
+    {
+        let _starts = &self.starts;
+        self.rows.close_place(at);
+    }
+
+    // Takes the memory that one more bit in each row needs.
+    pub(crate) fn reserve(&mut self) -> Result<(), AllocError>
+        ensures pieces { self.new.pieces ≡ self.old.pieces }
+        ensures more { self.old.room ≤ self.new.room }
+        ensures whole { self.new.room % 64 ≡ self.old.room % 64 }
+        ensures ok { OnOk result (0 < self.new.room) }
+        ensures there { 0 < self.old.room → IsOk result }
+    {
+        let _starts = &self.starts;
+        self.rows.reserve()
+    }
+
+    // Leaves the first piece alone, without a bit.
+    pub(crate) fn clear(&mut self)
+        requires { 0 < length self.old.pieces }
+        ensures pieces { self.new.pieces ≡ (slice_index (starts self.old.pieces) 0, []) ∷ [] }
+        ensures room { self.new.room ≡ self.old.room + length (row_of self.old.pieces 0) }
+    {
+        self.starts.keep_first();
+        self.rows.clear();
     }
 
     // An equal line.
     pub(crate) fn copy(&self, alloc: Global) -> Result<OwnedLine, AllocError>
-        ensures { IfOk result (λ line. shown line.pieces.items ≡ shown self.now.pieces.items) }
+        ensures { IfOk result (λ line. line ≡ self.now) }
     {
-        let mut pieces = Vec::with_capacity(alloc, self.pieces.len())?;
-        for piece in &self.pieces {
-            pieces.push(OwnedPiece {
-                start: piece.start,
-                row: piece.row.copy(alloc)?,
-            })?;
-        }
-        Ok(OwnedLine { pieces })
+        Ok(OwnedLine {
+            starts: self.starts.copy(alloc)?,
+            rows: self.rows.copy(alloc)?,
+        })
     }
-}
-
-// The place of the piece that a number is in: a binary search.
-pub(crate) fn place_of(pieces: &[OwnedPiece], x: u128) -> usize
-    requires { IsRisingLine (shown pieces.now) }
-    ensures within { result < length pieces.now }
-    ensures low { slice_index (starts (shown pieces.now)) result ≤ x }
-    ensures high { result + 1 < length pieces.now → x < slice_index (starts (shown pieces.now)) (result + 1) }
-{
-    pieces.partition_point(|piece| piece.start <= x) - 1
-}
-
-// The words of the row of the piece that a number is in; they are lent.
-pub(crate) fn row_at(pieces: &[OwnedPiece], x: u128) -> &[u64]
-    requires { IsRisingLine (shown pieces.now) }
-    ensures packed { IsPacked result.now (length (row_in (shown pieces.now) x)) }
-    ensures bits { take (length (row_in (shown pieces.now) x)) (all_bits result.now) ≡ row_in (shown pieces.now) x }
-{
-    pieces[place_of(pieces, x)].row.words()
 }

@@ -4,23 +4,27 @@ ghost use Rattle.std.specs.Prelude.{◌≡◌, ◌<◌, length, false, slice_ind
 ghost use Rattle.std.specs.Iterator.{YieldsFirst, item_count};
 ghost use Rattle.classify.specs.search.NextMatch.{next_match};
 
-use crate::bits::bit_row::BitRow;
-use crate::line::owned::OwnedPiece;
+use crate::bits::words::bit_at;
+use crate::line::owned::OwnedLine;
 use crate::search;
 use std::marker::Model;
 
 /// The answers of each box in a piece, at the box's place.
 #[derive(Drop)]
 pub struct Row<'a> {
-    bits: &'a BitRow,
+    len: usize,
+    words: &'a [u64],
 }
 
 impl<'a> Model for Row<'a> {
-    ghost use Rattle.std.specs.Prelude.{Bool, List};
+    ghost use Rattle.std.specs.Prelude.{Bool, List, take};
+    ghost use Rattle.classify.specs.steps.Packing.{IsPacked, all_bits};
 
     ghost Value = { List Bool };
 
-    ghost view = { λ r. r.bits.now.bits };
+    ghost view = { λ r. take r.len (all_bits r.words.now) };
+
+    ghost invariant = { λ r. IsPacked r.words.now r.len };
 }
 
 impl<'a> Row<'a> {
@@ -28,7 +32,7 @@ impl<'a> Row<'a> {
     pub fn len(&self) -> usize
         ensures { result ≡ length self.now }
     {
-        self.bits.len()
+        self.len
     }
 
     /// Whether the box at a place allows the numbers of the piece.
@@ -36,7 +40,8 @@ impl<'a> Row<'a> {
         requires { at < length self.now }
         ensures { result ≡ slice_index_or self.now at false }
     {
-        self.bits.get(at)
+        let _len = self.len;
+        bit_at(self.words, at)
     }
 
     /// The least place, at or after `from`, of a box that allows the numbers of the piece; there may be none.
@@ -46,7 +51,8 @@ impl<'a> Row<'a> {
     pub fn next_set(&self, from: usize) -> Option<usize>
         ensures { result ≡ next_match (λ bit. bit) self.now from }
     {
-        let words = self.bits.words();
+        let _len = self.len;
+        let words = self.words;
         search::first_common(&[words], words.len(), from)
     }
 }
@@ -54,16 +60,18 @@ impl<'a> Row<'a> {
 /// A piece of a line: from its start on, up to the next piece, each box answers as its row says.
 #[derive(Drop)]
 pub struct Piece<'a> {
-    piece: &'a OwnedPiece,
+    line: &'a OwnedLine,
+    place: usize,
 }
 
 impl<'a> Model for Piece<'a> {
-    ghost use Rattle.std.specs.Prelude.{Bool, List, ℕ};
-    ghost use Rattle.classify.specs.steps.Shown.{shown_piece};
+    ghost use Rattle.std.specs.Prelude.{Bool, List, ℕ, ◌<◌, length, slice_index_or, []};
 
     ghost Value = { ℕ × List Bool };
 
-    ghost view = { λ p. shown_piece p.piece.now };
+    ghost view = { λ p. slice_index_or p.line.now.pieces p.place (0, []) };
+
+    ghost invariant = { λ p. p.place < length p.line.now.pieces };
 }
 
 impl<'a> Piece<'a> {
@@ -71,15 +79,18 @@ impl<'a> Piece<'a> {
     pub fn start(&self) -> u128
         ensures { result ≡ self.now.0 }
     {
-        self.piece.start
+        self.line.start(self.place)
     }
 
     /// The answers of the boxes; they are lent.
     pub fn row(&self) -> Row<'a>
         ensures { result ≡ self.now.1 }
     {
+        let line = self.line;
+        let place = self.place;
         Row {
-            bits: &self.piece.row,
+            len: line.bits(place),
+            words: line.words(place),
         }
     }
 }
@@ -87,33 +98,30 @@ impl<'a> Piece<'a> {
 /// The line of a list of boxes on one field, from 0 to the field's top, lent by a classifier.
 #[derive(Drop)]
 pub struct Line<'a> {
-    pieces: &'a [OwnedPiece],
+    line: &'a OwnedLine,
 }
 
 impl<'a> Model for Line<'a> {
     ghost use Rattle.std.specs.Prelude.{Bool, List, ℕ};
-    ghost use Rattle.classify.specs.steps.Shown.{shown};
 
     ghost Value = { List (ℕ × List Bool) };
 
-    ghost view = { λ l. shown l.pieces.now };
+    ghost view = { λ l. l.line.now.pieces };
 }
 
 impl<'a> Line<'a> {
-    ghost use Rattle.classify.specs.steps.Shown.{shown};
-
-    // The line of these pieces.
-    pub(crate) fn of(pieces: &'a [OwnedPiece]) -> Line<'a>
-        ensures { result ≡ shown pieces.now }
+    // The line as it is kept, lent.
+    pub(crate) fn of(line: &'a OwnedLine) -> Line<'a>
+        ensures { result ≡ line.now.pieces }
     {
-        Line { pieces }
+        Line { line }
     }
 
     /// How many pieces there are: one at least.
     pub fn len(&self) -> usize
         ensures { result ≡ length self.now }
     {
-        self.pieces.len()
+        self.line.len()
     }
 
     /// The piece at a place: they rise, and the first starts at 0.
@@ -121,31 +129,36 @@ impl<'a> Line<'a> {
         requires { at < length self.now }
         ensures { result ≡ slice_index_or self.now at (0, []) }
     {
-        let pieces = self.pieces;
-        Piece { piece: &pieces[at] }
+        Piece {
+            line: self.line,
+            place: at,
+        }
     }
 
     /// The pieces in rising order; the first starts at 0.
     pub fn pieces(&self) -> Pieces<'a>
         ensures { result ≡ self.now }
     {
-        Pieces { rest: self.pieces }
+        Pieces {
+            line: self.line,
+            next: 0,
+        }
     }
 }
 
 /// The pieces of a line, one after the other.
 #[derive(Drop)]
 pub struct Pieces<'a> {
-    rest: &'a [OwnedPiece],
+    line: &'a OwnedLine,
+    next: usize,
 }
 
 impl<'a> Model for Pieces<'a> {
-    ghost use Rattle.std.specs.Prelude.{Bool, List, ℕ};
-    ghost use Rattle.classify.specs.steps.Shown.{shown};
+    ghost use Rattle.std.specs.Prelude.{Bool, List, ℕ, drop};
 
     ghost Value = { List (ℕ × List Bool) };
 
-    ghost view = { λ p. shown p.rest.now };
+    ghost view = { λ p. drop p.next p.line.now.pieces };
 }
 
 impl<'a> Iterator for Pieces<'a> {
@@ -156,8 +169,14 @@ impl<'a> Iterator for Pieces<'a> {
     ghost remaining = { item_count (λ s. s) };
 
     fn next(&mut self) -> Option<Piece<'a>> {
-        let (piece, rest) = self.rest.split_first()?;
-        self.rest = rest;
-        Some(Piece { piece })
+        let place = self.next;
+        if place >= self.line.len() {
+            return None;
+        }
+        self.next = place + 1;
+        Some(Piece {
+            line: self.line,
+            place,
+        })
     }
 }

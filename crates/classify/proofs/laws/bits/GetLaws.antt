@@ -1,12 +1,11 @@
 -- One bit of a row, read or written.
-use Rattle.std.proofs.Common.{◌≡◌, ℕ, zero, suc, ◌+◌, ◌-◌, ◌*◌, ◌/◌, ◌%◌, ◌^◌, ◌<◌, ◌≤◌, Bool, false, List, [], ◌∷◌, ◌++◌, length, take, drop, get_or, refl, sym, ◌∙◌, ap, arith, subst, All}
-use Rattle.std.proofs.Math.Seq.{take-set-lt}
+use Rattle.std.proofs.Common.{◌≡◌, ℕ, zero, suc, ◌+◌, ◌-◌, ◌*◌, ◌/◌, ◌^◌, ◌<◌, ◌≤◌, Bool, false, List, [], ◌∷◌, ◌++◌, length, take, get_or, refl, sym, ◌∙◌, ap, arith}
 use Rattle.std.proofs.Math.ListN.{set}
 use Rattle.std.specs.List.{insert, remove}
-use Rattle.std.proofs.lemmas.List.{get_or_append_left, get_or-append_right, get_or-take, set-append_left, set-append_right, drop-set-lt, length-set, take_at, get_or_read}
+use Rattle.std.proofs.lemmas.List.{get_or_append_left, get_or-append_right, set-append_left, set-append_right, length-set, take_at}
 use Rattle.std.proofs.lemmas.List.Edits.{length-remove, insert-append_left}
 use Rattle.std.proofs.lemmas.Nat.{shr-shr}
-use Rattle.classify.specs.steps.Packing.{low_bit, word_bits, all_bits, IsPacked}
+use Rattle.classify.specs.steps.Packing.{low_bit, word_bits, all_bits}
 use Rattle.classify.proofs.laws.bits.BitLaws.{length-word_bits}
 
 pub word_bit_at : (n w i : ℕ) → i < n → get_or (word_bits n w) i false ≡ low_bit (w / 2 ^ i)
@@ -29,16 +28,6 @@ all_bit_at (w ∷ ws) (suc q) r lt in' =
     let past : 64 ≤ 64 * suc q + r = omega arith in
     let e : 64 * suc q + r - 64 ≡ 64 * q + r = omega arith in
     get_or-append_right (word_bits 64 w) (all_bits ws) 64 (64 * suc q + r) false long past ∙ ap (λ k. get_or (all_bits ws) k false) e ∙ all_bit_at ws q r (omega arith) in'
-
-word_read : (ws : List ℕ) (len at w : ℕ) → IsPacked ws len → at < len → w ≡ get_or ws (at / 64) w → w ≡ get_or ws (at / 64) 0
-word_read ws len at w h lt is = let in' : at / 64 < length ws = omega (arith, h.covers) in get_or_read ws (at / 64) w in' is 0
-
--- the bit at a place of a packed row
-pub row_bit_at : (ws : List ℕ) (len at w : ℕ) → IsPacked ws len → at < len → w ≡ get_or ws (at / 64) w → get_or (take len (all_bits ws)) at false ≡ low_bit (w / 2 ^ (at % 64))
-row_bit_at ws len at w h lt is =
-    let e : 64 * (at / 64) + at % 64 ≡ at = omega arith in
-    get_or-take len (all_bits ws) at false lt ∙ ap (λ k. get_or (all_bits ws) k false) (sym e) ∙ all_bit_at ws (at / 64) (at % 64) (omega (arith, h.covers)) (omega arith)
-    ∙ ap (λ v. low_bit (v / 2 ^ (at % 64))) (sym (word_read ws len at w h lt is))
 
 -- ---- a bit written
 
@@ -73,25 +62,3 @@ written_word word cut put off b c lt is made =
     made ∙ ap (λ (bs : List Bool). insert bs off b) is ∙ insert-append_left (remove (word_bits 64 word) off) (false ∷ []) off b left ∙ ap (λ (bs : List Bool). bs ++ false ∷ []) (set_by_edits (word_bits 64 word) off b in') in
     let n : length (set (word_bits 64 word) off b) ≡ 64 = length-set (word_bits 64 word) off b ∙ long in
     sym (take_at (word_bits 64 put) (c ∷ []) 64 (length-word_bits 64 put)) ∙ ap (λ (bs : List Bool). take 64 bs) whole ∙ take_at (set (word_bits 64 word) off b) (false ∷ []) 64 n
-
-row_all_set : (ws : List ℕ) (len at w word : ℕ) (b : Bool) → IsPacked ws len → at < len → word ≡ get_or ws (at / 64) word → word_bits 64 w ≡ set (word_bits 64 word) (at % 64) b
-    → all_bits (set ws (at / 64) w) ≡ set (all_bits ws) at b
-row_all_set ws len at w word b h lt is e =
-    let f : 64 * (at / 64) + at % 64 ≡ at = omega arith in
-    all_bits-set ws (at / 64) (at % 64) w b (omega (arith, h.covers)) (omega arith) (e ∙ ap (λ v. set (word_bits 64 v) (at % 64) b) (word_read ws len at word h lt is)) ∙ ap (λ k. set (all_bits ws) k b) f
-
-pub row_set_bits : (ws : List ℕ) (len at w word : ℕ) (b : Bool) → IsPacked ws len → at < len → word ≡ get_or ws (at / 64) word → word_bits 64 w ≡ set (word_bits 64 word) (at % 64) b
-    → take len (all_bits (set ws (at / 64) w)) ≡ set (take len (all_bits ws)) at b
-row_set_bits ws len at w word b h lt is e = ap (λ (bs : List Bool). take len bs) (row_all_set ws len at w word b h lt is e) ∙ take-set-lt len (all_bits ws) at b lt
-
-pub row_set_packed : (ws : List ℕ) (len at w word : ℕ) (b : Bool) → IsPacked ws len → at < len → word ≡ get_or ws (at / 64) word → word_bits 64 w ≡ set (word_bits 64 word) (at % 64) b
-    → IsPacked (set ws (at / 64) w) len
-row_set_packed ws len at w word b h lt is e =
-    let n : length (set ws (at / 64) w) ≡ length ws = length-set ws (at / 64) w in
-    let P : List Bool → Type 0 = λ bs. All (λ (c : Bool). c ≡ false) bs in
-    record {
-      covers = omega (arith, h.covers);
-      tight = omega (arith, h.tight);
-      few = omega (arith, h.few);
-      padded = subst P (sym (ap (λ (bs : List Bool). drop len bs) (row_all_set ws len at w word b h lt is e) ∙ drop-set-lt len (all_bits ws) at b lt)) h.padded;
-    }

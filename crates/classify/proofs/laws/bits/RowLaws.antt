@@ -1,31 +1,15 @@
 -- Laws of words that hold so many bits.
-use Rattle.std.proofs.Common.{◌≡◌, ◌≢◌, ℕ, zero, suc, ◌+◌, ◌-◌, ◌*◌, ◌%◌, ◌^◌, ◌<◌, ◌≤◌, Bool, false, List, [], ◌∷◌, ◌++◌, length, take, drop, refl, sym, ◌∙◌, ap, arith, append_assoc, length-append, subst, All, drop-drop, length-drop, get_or}
+use Rattle.std.proofs.Common.{◌≡◌, ◌≢◌, ℕ, ◌+◌, ◌-◌, ◌*◌, ◌%◌, ◌^◌, ◌<◌, ◌≤◌, Bool, false, List, [], ◌∷◌, ◌++◌, length, take, drop, sym, ◌∙◌, ap, arith, length-append, subst}
 use Rattle.std.specs.List.{insert, remove}
-use Rattle.std.proofs.lemmas.List.{take-append-drop, length-take-le, take_at, drop_at, drop-append-le, take-append-le, drop_all, take_more, get_or-drop}
-use Rattle.std.proofs.lemmas.List.Edits.{insert-append_left, remove-append_left, length-insert, length-remove, insert_end}
-use Rattle.std.proofs.lemmas.List.Elements.{All-append, All-take, All-same, All-cons, All-nil, All-drop, All-get_or}
+use Rattle.std.proofs.lemmas.List.{length-take-le, take_at, drop_at, take-append-le, drop_all}
+use Rattle.std.proofs.lemmas.List.Elements.{All-same, All-nil}
 use Rattle.classify.specs.bits.BitRow.{BitsAndRoom, places_left, row_room}
 use Rattle.classify.specs.steps.Packing.{word_bits, all_bits, IsPacked, IsOpen, room_of}
+use Rattle.classify.proofs.laws.bits.PaddedLaws.{zeros, put_front, put_padded, remove_front, remove_padded, zero_front, zero_padded, front_size}
 use Rattle.classify.proofs.laws.bits.WordLaws.{all_bits-append, all_bits-one, all_bits-cut, length-all_bits}
 
 abbrev Off : Bool → Type 0
 Off b = b ≡ false
-
--- a bit put in before the end of a beginning
-insert_in_front : (xs : List Bool) (n at : ℕ) (b : Bool) → n ≤ length xs → at ≤ n → insert xs at b ≡ insert (take n xs) at b ++ drop n xs
-insert_in_front xs n at b le in' =
-    let e : length (take n xs) ≡ n = length-take-le n xs le in
-    ap (λ (ys : List Bool). insert ys at b) (sym (take-append-drop n xs)) ∙ insert-append_left (take n xs) (drop n xs) at b (omega arith)
-
-remove_in_front : (xs : List Bool) (n at : ℕ) → n ≤ length xs → at < n → remove xs at ≡ remove (take n xs) at ++ drop n xs
-remove_in_front xs n at le in' =
-    let e : length (take n xs) ≡ n = length-take-le n xs le in
-    ap (λ (ys : List Bool). remove ys at) (sym (take-append-drop n xs)) ∙ remove-append_left (take n xs) (drop n xs) at (omega arith)
-
-zeros : (n : ℕ) → All Off (word_bits n 0)
-unfolding word_bits
-zeros zero = All-nil Off
-zeros (suc n) = All-cons Off false (word_bits n 0) refl (zeros n)
 
 pub open_new : (ws : List ℕ) (len : ℕ) → IsPacked ws len → len % 64 ≡ 0 → length ws + 1 < 2 ^ 58 → IsOpen ws (ws ++ 0 ∷ []) len
 open_new ws len h full small =
@@ -41,83 +25,27 @@ open_new ws len h full small =
       same = ap (λ (bs : List Bool). take len bs) bits ∙ take-append-le len (all_bits ws) (word_bits 64 0) (omega arith);
     }
 
--- the whole after a bit came in
-put_whole : (old ws us : List ℕ) (len at : ℕ) (b c : Bool) → IsOpen old ws len → at ≤ len → all_bits us ++ c ∷ [] ≡ insert (all_bits ws) at b
-    → all_bits us ++ c ∷ [] ≡ insert (take len (all_bits old)) at b ++ drop len (all_bits ws)
-put_whole old ws us len at b c h in' e =
-    let size : length (all_bits ws) ≡ 64 * length ws = length-all_bits ws in
-    let le : len ≤ length (all_bits ws) = omega (arith, h.more) in
-    e ∙ insert_in_front (all_bits ws) len at b le in' ∙ ap (λ (bs : List Bool). insert bs at b ++ drop len (all_bits ws)) h.same
-
-front_length : (old ws : List ℕ) (len at : ℕ) (b : Bool) → IsOpen old ws len → at ≤ len → length (insert (take len (all_bits old)) at b) ≡ len + 1
-front_length old ws len at b h in' =
-    let size : length (all_bits ws) ≡ 64 * length ws = length-all_bits ws in
-    let le : len ≤ length (all_bits ws) = omega (arith, h.more) in
-    let e : length (take len (all_bits old)) ≡ len = sym (ap length h.same) ∙ length-take-le len (all_bits ws) le in
-    let in'' : at ≤ length (take len (all_bits old)) = omega arith in
-    length-insert (take len (all_bits old)) at b in'' ∙ ap (λ k. k + 1) e
-
 pub put_bits : (old ws us : List ℕ) (len at : ℕ) (b c : Bool) → IsOpen old ws len → at ≤ len → all_bits us ++ c ∷ [] ≡ insert (all_bits ws) at b → length us ≡ length ws
     → take (len + 1) (all_bits us) ≡ insert (take len (all_bits old)) at b
-put_bits old ws us len at b c h in' e n =
-    let size : length (all_bits us) ≡ 64 * length us = length-all_bits us in
-    let le : len + 1 ≤ length (all_bits us) = omega (arith, h.more) in
-    sym (take-append-le (len + 1) (all_bits us) (c ∷ []) le) ∙ ap (λ (bs : List Bool). take (len + 1) bs) (put_whole old ws us len at b c h in' e)
-    ∙ take_at (insert (take len (all_bits old)) at b) (drop len (all_bits ws)) (len + 1) (front_length old ws len at b h in')
+put_bits old ws us len at b c h in' e n = put_front ws us len at b c h.more in' e n ∙ ap (λ (bs : List Bool). insert bs at b) h.same
 
 pub put_packed : (old ws us : List ℕ) (len at : ℕ) (b c : Bool) → IsOpen old ws len → at ≤ len → all_bits us ++ c ∷ [] ≡ insert (all_bits ws) at b → length us ≡ length ws
     → IsPacked us (len + 1)
-put_packed old ws us len at b c h in' e n =
-    let size : length (all_bits us) ≡ 64 * length us = length-all_bits us in
-    let le : len + 1 ≤ length (all_bits us) = omega (arith, h.more) in
-    let rest : drop (len + 1) (all_bits us) ++ c ∷ [] ≡ drop len (all_bits ws) =
-    sym (drop-append-le (len + 1) (all_bits us) (c ∷ []) le) ∙ ap (λ (bs : List Bool). drop (len + 1) bs) (put_whole old ws us len at b c h in' e)
-    ∙ drop_at (insert (take len (all_bits old)) at b) (drop len (all_bits ws)) (len + 1) (front_length old ws len at b h in') in
-    let k : ℕ = length (drop (len + 1) (all_bits us)) in
-    let part : drop (len + 1) (all_bits us) ≡ take k (drop len (all_bits ws)) =
-    sym (take_at (drop (len + 1) (all_bits us)) (c ∷ []) k refl) ∙ ap (λ (bs : List Bool). take k bs) rest in
-    record {
-      covers = omega (arith, h.more);
-      tight = omega (arith, h.tight);
-      few = omega (arith, h.few);
-      padded = All-same Off (drop (len + 1) (all_bits us)) (take k (drop len (all_bits ws))) part (All-take Off k (drop len (all_bits ws)) h.padded);
-    }
-
--- after a bit left
-remove_whole : (ws us : List ℕ) (len at : ℕ) → IsPacked ws len → at < len → all_bits us ≡ remove (all_bits ws) at ++ false ∷ []
-    → all_bits us ≡ remove (take len (all_bits ws)) at ++ (drop len (all_bits ws) ++ false ∷ [])
-remove_whole ws us len at h in' e =
-    let size : length (all_bits ws) ≡ 64 * length ws = length-all_bits ws in
-    let le : len ≤ length (all_bits ws) = omega (arith, h.covers) in
-    e ∙ ap (λ (bs : List Bool). bs ++ false ∷ []) (remove_in_front (all_bits ws) len at le in')
-    ∙ append_assoc (remove (take len (all_bits ws)) at) (drop len (all_bits ws)) (false ∷ [])
-
-removed_length : (ws : List ℕ) (len at : ℕ) → IsPacked ws len → at < len → length (remove (take len (all_bits ws)) at) ≡ len - 1
-removed_length ws len at h in' =
-    let size : length (all_bits ws) ≡ 64 * length ws = length-all_bits ws in
-    let le : len ≤ length (all_bits ws) = omega (arith, h.covers) in
-    let e : length (take len (all_bits ws)) ≡ len = length-take-le len (all_bits ws) le in
-    let in'' : at < length (take len (all_bits ws)) = omega arith in
-    omega (arith, length-remove (take len (all_bits ws)) at in'')
-
-pub remove_bits : (ws us : List ℕ) (len at : ℕ) → IsPacked ws len → at < len → all_bits us ≡ remove (all_bits ws) at ++ false ∷ []
-    → take (len - 1) (all_bits us) ≡ remove (take len (all_bits ws)) at
-remove_bits ws us len at h in' e =
-    ap (λ (bs : List Bool). take (len - 1) bs) (remove_whole ws us len at h in' e)
-    ∙ take_at (remove (take len (all_bits ws)) at) (drop len (all_bits ws) ++ false ∷ []) (len - 1) (removed_length ws len at h in')
+put_packed old ws us len at b c h in' e n = record {
+  covers = omega (arith, h.more);
+  tight = omega (arith, h.tight);
+  few = omega (arith, h.few);
+  padded = put_padded ws us len at b c h.more h.padded in' e n;
+}
 
 pub remove_packed : (ws us : List ℕ) (len at : ℕ) → IsPacked ws len → at < len → all_bits us ≡ remove (all_bits ws) at ++ false ∷ [] → length us ≡ length ws
     → (len - 1) % 64 ≢ 0 → IsPacked us (len - 1)
-remove_packed ws us len at h in' e n part =
-    let rest : drop (len - 1) (all_bits us) ≡ drop len (all_bits ws) ++ false ∷ [] =
-    ap (λ (bs : List Bool). drop (len - 1) bs) (remove_whole ws us len at h in' e)
-    ∙ drop_at (remove (take len (all_bits ws)) at) (drop len (all_bits ws) ++ false ∷ []) (len - 1) (removed_length ws len at h in') in
-    record {
-      covers = omega (arith, h.covers);
-      tight = omega (arith, h.covers, h.tight);
-      few = omega (arith, h.few);
-      padded = All-same Off (drop (len - 1) (all_bits us)) (drop len (all_bits ws) ++ false ∷ []) rest (All-append Off (drop len (all_bits ws)) (false ∷ []) h.padded (All-cons Off false [] refl (All-nil Off)));
-    }
+remove_packed ws us len at h in' e n part = record {
+  covers = omega (arith, h.covers);
+  tight = omega (arith, h.covers, h.tight);
+  few = omega (arith, h.few);
+  padded = remove_padded ws us len at h.covers h.padded in' e;
+}
 
 -- the last word is no longer needed
 pub remove_word : (ws us : List ℕ) (len at : ℕ) → IsPacked ws len → at < len → length us ≡ length ws → (len - 1) % 64 ≡ 0
@@ -143,7 +71,7 @@ remove_word_bits ws us len at h in' e n full =
     let size : length (all_bits (take (length us - 1) us)) ≡ len - 1 = length-all_bits (take (length us - 1) us) ∙ ap (λ k. 64 * k) m ∙ sym even in
     sym (ap (λ (bs : List Bool). take (len - 1) bs) (all_bits-cut us (length us - 1))
     ∙ take-append-le (len - 1) (all_bits (take (length us - 1) us)) (all_bits (drop (length us - 1) us)) (omega arith))
-    ∙ remove_bits ws us len at h in' e
+    ∙ remove_front ws us len at h.covers in' e
 
 -- ---- the same over a vector, which a call writes as a slice
 
@@ -151,9 +79,7 @@ whole_write : (n : ℕ) (us ws : List ℕ) → length us ≡ n → take n (us ++
 whole_write n us ws e = take_at us (drop (length us) ws) n e
 
 pub front_len : (ws : List ℕ) (len : ℕ) → IsPacked ws len → length (take len (all_bits ws)) ≡ len
-front_len ws len h =
-    let size : length (all_bits ws) ≡ 64 * length ws = length-all_bits ws in
-    length-take-le len (all_bits ws) (omega (arith, h.covers))
+front_len ws len h = front_size ws len h.covers
 
 pub put_packed_vec : (old ws now us : List ℕ) (n len at : ℕ) (b c : Bool) → now ≡ ws → length now ≡ n → length us ≡ length now → IsOpen old ws len → at ≤ len
     → all_bits us ++ c ∷ [] ≡ insert (all_bits now) at b → IsPacked (take n (us ++ drop (length us) ws)) (len + 1)
@@ -199,19 +125,13 @@ zero_packed ws len h part = record {
   covers = omega (arith, h.covers, h.tight);
   tight = omega (arith, h.tight);
   few = h.few;
-  padded = All-same Off (drop (len + 1) (all_bits ws)) (drop 1 (drop len (all_bits ws))) (sym (drop-drop 1 len (all_bits ws))) (All-drop Off 1 (drop len (all_bits ws)) h.padded);
+  padded = zero_padded ws len h.padded;
 }
 
 pub zero_bits : (ws : List ℕ) (len at : ℕ) (b : Bool) → IsPacked ws len → len % 64 ≢ 0 → at ≡ len → b ≡ false → take (len + 1) (all_bits ws) ≡ insert (take len (all_bits ws)) at b
 zero_bits ws len at b h part is off =
-    let size : length (all_bits ws) ≡ 64 * length ws = length-all_bits ws in
-    let lt : len < length (all_bits ws) = omega (arith, h.covers, h.tight) in
-    let rest : 0 < length (drop len (all_bits ws)) = omega (arith, length-drop len (all_bits ws)) in
-    let z : len + 0 ≡ len = omega arith in
-    let zero_there : get_or (all_bits ws) len false ≡ false =
-    sym (ap (λ k. get_or (all_bits ws) k false) z) ∙ sym (get_or-drop len (all_bits ws) 0 false) ∙ All-get_or Off (drop len (all_bits ws)) 0 false rest h.padded in
-    take_more (all_bits ws) len false lt ∙ ap (λ c. take len (all_bits ws) ++ c ∷ []) (zero_there ∙ sym off) ∙ sym (insert_end (take len (all_bits ws)) b)
-    ∙ ap (λ k. insert (take len (all_bits ws)) k b) (front_len ws len h ∙ sym is)
+    zero_front ws len (omega (arith, h.covers, h.tight)) h.padded
+    ∙ ap (λ k. insert (take len (all_bits ws)) k false) (sym is) ∙ ap (λ c. insert (take len (all_bits ws)) at c) (sym off)
 
 -- ---- how many bits more go in
 
@@ -225,3 +145,5 @@ freed_room r ws capacity len h le n same some =
     let most : places_left len ≤ room_of capacity len = room_covers ws capacity len h le in
     let left : places_left (length r.bits) ≡ places_left len = ap places_left n in
     omega (arith, h.covers, h.few)
+
+-- ---- one bit read or written

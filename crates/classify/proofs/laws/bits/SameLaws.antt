@@ -7,7 +7,6 @@ use Rattle.std.proofs.lemmas.Bool.{cases_Bool, eqb-true, eqb-false}
 use Rattle.classify.specs.steps.Packing.{word_bits, all_bits, IsPacked}
 use Rattle.classify.proofs.laws.bits.BitLaws.{length-word_bits}
 use Rattle.classify.proofs.laws.bits.WordLaws.{length-all_bits}
-use Rattle.classify.proofs.laws.bits.RowLaws.{front_len}
 
 -- a word by its bits
 low_bit_decides : (v w : ℕ) → nat_eq (v % 2) 1 ≡ nat_eq (w % 2) 1 → v % 2 ≡ w % 2
@@ -43,7 +42,7 @@ same_bits_at (v ∷ vs) (w ∷ ws) (suc k) e a b =
 
 -- ---- two rows of one length
 
-same_size : (vs ws : List ℕ) (len : ℕ) → IsPacked vs len → IsPacked ws len → length vs ≡ length ws
+pub same_size : (vs ws : List ℕ) (len : ℕ) → IsPacked vs len → IsPacked ws len → length vs ≡ length ws
 same_size vs ws len g h = omega (arith, g.covers, g.tight, h.covers, h.tight)
 
 same_whole : (vs ws : List ℕ) (len : ℕ) → IsPacked vs len → IsPacked ws len → take len (all_bits vs) ≡ take len (all_bits ws) → all_bits vs ≡ all_bits ws
@@ -52,9 +51,6 @@ same_whole vs ws len g h e =
     let m : length (drop len (all_bits vs)) ≡ length (drop len (all_bits ws)) = length-drop len (all_bits vs) ∙ ap (λ k. k - len) n ∙ sym (length-drop len (all_bits ws)) in
     let rest : drop len (all_bits vs) ≡ drop len (all_bits ws) = same_lists (drop len (all_bits vs)) (drop len (all_bits ws)) m (λ k d lt. g.padded k d lt ∙ sym (h.padded k d (omega arith))) in
     sym (take-append-drop len (all_bits vs)) ∙ ap (λ (bs : List Bool). bs ++ drop len (all_bits vs)) e ∙ ap (λ (bs : List Bool). take len (all_bits ws) ++ bs) rest ∙ take-append-drop len (all_bits ws)
-
-pub same_length : (vs ws : List ℕ) (m n : ℕ) → IsPacked vs m → IsPacked ws n → take m (all_bits vs) ≡ take n (all_bits ws) → m ≡ n
-same_length vs ws m n g h e = sym (front_len vs m g) ∙ ap length e ∙ front_len ws n h
 
 -- at no place do their words differ
 pub same_words_at : (vs ws : List ℕ) (len k v w : ℕ) → IsPacked vs len → IsPacked ws len → take len (all_bits vs) ≡ take len (all_bits ws) → k < length vs

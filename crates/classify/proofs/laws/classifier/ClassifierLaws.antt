@@ -3,7 +3,7 @@ use Rattle.std.proofs.Common.{◌≡◌, ℕ, zero, suc, ◌+◌, ◌-◌, ◌<�
 use Rattle.std.specs.List.{insert, remove, range_with_len}
 use Rattle.std.specs.Prelude.{slice_index, Result, Ok, Err, OnErr}
 use Rattle.std.proofs.Math.Dec.{leb}
-use Rattle.std.proofs.lemmas.List.{map-append, take-map, drop-map, get_or_default, get_or-map, map-set, length-map, length-set}
+use Rattle.std.proofs.lemmas.List.{map-append, take-map, drop-map, get_or_default, map-set, length-map, length-set}
 use Rattle.std.proofs.Math.ListN.{set}
 use Rattle.std.proofs.lemmas.List.Edits.{length-insert, length-remove}
 use Rattle.fields.specs.declared.numbers.field.TheConstants.{FIELDS}
@@ -15,11 +15,10 @@ use Rattle.fields.specs.numbers.Spans.{SpanSet, has}
 use Rattle.rules.specs.boxing.Boxed.{IsBox, set_on}
 use Rattle.rules.proofs.laws.boxing.BoxLaws.{index-lt, box_long}
 use Rattle.rules.proofs.laws.boxing.BoxLaws as box_laws
-use Rattle.classify.specs.declared.line.owned.OwnedLine.{OwnedLine}
 use Rattle.classify.specs.line.Line.{row_at, IsLineOf}
 use Rattle.classify.specs.steps.Cuts.{CutsStart}
 use Rattle.classify.specs.steps.Edits.{IsSound, EachRow}
-use Rattle.classify.specs.steps.Pieces.{piece_at, row_in}
+use Rattle.classify.specs.steps.Pieces.{PiecesAndRoom, piece_at, row_in}
 use Rattle.classify.specs.steps.Fields.{shown_line, tops, IsKept, most_boxes, LosesBox}
 use Rattle.classify.specs.classifier.Classifier.{box_allows, line_on, IsClassifierOf, HasNoNewCut}
 use Rattle.classify.proofs.laws.line.ShownLaws.{row_in_first}
@@ -43,10 +42,6 @@ field_at k lt = let r = places_found ALL 0 refl k lt in (r.0, omega (arith, r.1)
 pub top_at : (field : Field) → slice_index tops (index field) ≡ top field
 unfolding tops
 top_at field = box_laws.top_at field
-
-pub tops_at : (k : ℕ) (d : Field) → k < FIELDS → slice_index tops k ≡ top (get_or ALL k d)
-unfolding tops
-tops_at k d lt = get_or-map top ALL k d 0 lt
 
 -- the sets of a box have the fields' tops
 pub box_tops : (spans : List SpanSet) → IsBox spans → (k : ℕ) (s : SpanSet) → k < FIELDS → (get_or spans k s).top ≡ slice_index tops k
@@ -84,20 +79,20 @@ abbrev pub no_set : SpanSet
 no_set = record { top = 0; intervals = [] }
 
 -- the line of a field, whatever stands for one past the end
-pub line_at : (lines : List OwnedLine) (k : ℕ) → k < length lines → (l : OwnedLine) × ((get_or (map shown_line lines) k [] ≡ shown_line l) × ((d : OwnedLine) → get_or lines k d ≡ l))
+pub line_at : (lines : List PiecesAndRoom) (k : ℕ) → k < length lines → (l : PiecesAndRoom) × ((get_or (map shown_line lines) k [] ≡ shown_line l) × ((d : PiecesAndRoom) → get_or lines k d ≡ l))
 line_at [] k lt = absurd (omega arith)
 line_at (m ∷ ms) zero lt = (m, (refl, λ d. refl))
 line_at (m ∷ ms) (suc k) lt = line_at ms k (omega arith)
 
-pub shown_at_place : (lines : List OwnedLine) (k : ℕ) (d : OwnedLine) → k < length lines → get_or (map shown_line lines) k [] ≡ shown_line (get_or lines k d)
+pub shown_at_place : (lines : List PiecesAndRoom) (k : ℕ) (d : PiecesAndRoom) → k < length lines → get_or (map shown_line lines) k [] ≡ shown_line (get_or lines k d)
 shown_at_place lines k d lt = let a = line_at lines k lt in a.1.0 ∙ ap shown_line (sym (a.1.1 d))
 
-fields_long : (lines : List OwnedLine) → length lines ≡ FIELDS → length (map shown_line lines) ≡ length all_fields
+fields_long : (lines : List PiecesAndRoom) → length lines ≡ FIELDS → length (map shown_line lines) ≡ length all_fields
 fields_long lines n = length-map lines shown_line ∙ n
 
 -- what an edit of every line makes of the classifier, where it makes on each field the line of the boxes as they are then
-pub classifier_after : (old new : List OwnedLine) (boxes after : List (List SpanSet)) (len then : ℕ) → length old ≡ FIELDS → length new ≡ length old → then ≡ length after
-    → ((field : Field) (l : OwnedLine) → IsLineOf has (slice_index tops (index field)) (map (set_on field) boxes) (shown_line (get_or old (index field) l))
+pub classifier_after : (old new : List PiecesAndRoom) (boxes after : List (List SpanSet)) (len then : ℕ) → length old ≡ FIELDS → length new ≡ length old → then ≡ length after
+    → ((field : Field) (l : PiecesAndRoom) → IsLineOf has (slice_index tops (index field)) (map (set_on field) boxes) (shown_line (get_or old (index field) l))
     → IsLineOf has (slice_index tops (index field)) (map (set_on field) after) (shown_line (get_or new (index field) l)))
     → IsClassifierOf boxes (record { len = len; lines = map shown_line old })
     → IsClassifierOf after (record { len = then; lines = map shown_line new })
@@ -118,8 +113,8 @@ classifier_after old new boxes after len then n m size step h =
           (subst S (sym (shown_at_place new (index field) a.0 lt')) (subst R (top_at field) (step field a.0 before))));
     }
 
-pub classifier_with : (old new : List OwnedLine) (spans box : List SpanSet) (boxes : List (List SpanSet)) (len at : ℕ) → length old ≡ FIELDS → length new ≡ length old → spans ≡ box → IsBox box → at ≤ len
-    → ((k : ℕ) (s : SpanSet) (l : OwnedLine) → k < length old → (sets : List (List Interval)) → IsLineOf has (get_or spans k s).top sets (shown_line (get_or old k l))
+pub classifier_with : (old new : List PiecesAndRoom) (spans box : List SpanSet) (boxes : List (List SpanSet)) (len at : ℕ) → length old ≡ FIELDS → length new ≡ length old → spans ≡ box → IsBox box → at ≤ len
+    → ((k : ℕ) (s : SpanSet) (l : PiecesAndRoom) → k < length old → (sets : List (List Interval)) → IsLineOf has (get_or spans k s).top sets (shown_line (get_or old k l))
     → IsLineOf has (get_or spans k s).top (insert sets at (get_or spans k s).intervals) (shown_line (get_or new k l)))
     → IsClassifierOf boxes (record { len = len; lines = map shown_line old })
     → IsClassifierOf (insert boxes at box) (record { len = len + 1; lines = map shown_line new })
@@ -135,8 +130,8 @@ classifier_with old new spans box boxes len at n m same whole le step h =
     subst V (ap (λ (ss : List SpanSet). insert (map (set_on field) boxes) at (set_on field ss)) same ∙ sym (sets-insert field boxes at box))
     (subst U e (step (index field) no_set l lt (map (set_on field) boxes) (subst T (sym e) before))))) h
 
-pub classifier_written : (old new : List OwnedLine) (spans box : List SpanSet) (boxes : List (List SpanSet)) (len at : ℕ) → length old ≡ FIELDS → length new ≡ length old → spans ≡ box → IsBox box
-    → ((k : ℕ) (s : SpanSet) (l : OwnedLine) → k < length old → (sets : List (List Interval)) → IsLineOf has (get_or spans k s).top sets (shown_line (get_or old k l))
+pub classifier_written : (old new : List PiecesAndRoom) (spans box : List SpanSet) (boxes : List (List SpanSet)) (len at : ℕ) → length old ≡ FIELDS → length new ≡ length old → spans ≡ box → IsBox box
+    → ((k : ℕ) (s : SpanSet) (l : PiecesAndRoom) → k < length old → (sets : List (List Interval)) → IsLineOf has (get_or spans k s).top sets (shown_line (get_or old k l))
     → IsLineOf has (get_or spans k s).top (set sets at (get_or spans k s).intervals) (shown_line (get_or new k l)))
     → IsClassifierOf boxes (record { len = len; lines = map shown_line old })
     → IsClassifierOf (set boxes at box) (record { len = len; lines = map shown_line new })
@@ -157,8 +152,8 @@ sets-remove field boxes at =
     ∙ ap (λ (ss : List (List Interval)). ss ++ map (set_on field) (drop (suc at) boxes)) (sym (take-map (set_on field) at boxes))
     ∙ ap (λ (ss : List (List Interval)). take at (map (set_on field) boxes) ++ ss) (sym (drop-map (set_on field) (suc at) boxes))
 
-pub classifier_without : (old new : List OwnedLine) (boxes : List (List SpanSet)) (len at : ℕ) → length old ≡ FIELDS → length new ≡ length old → at < len
-    → ((k : ℕ) (l : OwnedLine) → k < length old → LosesBox at (get_or old k l) (get_or new k l))
+pub classifier_without : (old new : List PiecesAndRoom) (boxes : List (List SpanSet)) (len at : ℕ) → length old ≡ FIELDS → length new ≡ length old → at < len
+    → ((k : ℕ) (l : PiecesAndRoom) → k < length old → LosesBox at (get_or old k l) (get_or new k l))
     → IsClassifierOf boxes (record { len = len; lines = map shown_line old })
     → IsClassifierOf (remove boxes at) (record { len = len - 1; lines = map shown_line new })
 classifier_without old new boxes len at n m lt step h =
@@ -169,15 +164,15 @@ classifier_without old new boxes len at n m lt step h =
     let V : List (List Interval) → Type 0 = λ ss. IsLineOf has (slice_index tops (index field)) ss (shown_line (get_or new (index field) l)) in
     subst V (sym (sets-remove field boxes at)) ((step (index field) l lt').line (slice_index tops (index field)) (map (set_on field) boxes) before))) h
 
-pub line_sound : (old : List OwnedLine) (len : ℕ) → length old ≡ FIELDS → IsKept (record { len = len; lines = map shown_line old })
-    → (k : ℕ) (l : OwnedLine) → k < length old → IsSound (slice_index tops k) len (shown_line (get_or old k l))
+pub line_sound : (old : List PiecesAndRoom) (len : ℕ) → length old ≡ FIELDS → IsKept (record { len = len; lines = map shown_line old })
+    → (k : ℕ) (l : PiecesAndRoom) → k < length old → IsSound (slice_index tops k) len (shown_line (get_or old k l))
 line_sound old len n h k l lt =
     let lt' : k < FIELDS = omega arith in
     let P : List (ℕ × List Bool) → Type 0 = λ line. IsSound (slice_index tops k) len line in
     subst P (shown_at_place old k l lt) (h.lines k lt')
 
-pub still_kept : (new : List OwnedLine) (len : ℕ) → length new ≡ FIELDS → len ≤ most_boxes
-    → ((k : ℕ) (l : OwnedLine) → k < length new → IsSound (slice_index tops k) len (shown_line (get_or new k l))) → IsKept (record { len = len; lines = map shown_line new })
+pub still_kept : (new : List PiecesAndRoom) (len : ℕ) → length new ≡ FIELDS → len ≤ most_boxes
+    → ((k : ℕ) (l : PiecesAndRoom) → k < length new → IsSound (slice_index tops k) len (shown_line (get_or new k l))) → IsKept (record { len = len; lines = map shown_line new })
 still_kept new len n few h =
     record {
       few = few;
@@ -189,7 +184,7 @@ still_kept new len n few h =
           subst P (sym (shown_at_place new k a.0 lt')) (h k a.0 lt'));
     }
 
-pub classifier_empty : (new : List OwnedLine) → length new ≡ FIELDS → ((k : ℕ) (l : OwnedLine) → k < length new → shown_line (get_or new k l) ≡ (0, []) ∷ []) → IsClassifierOf [] (record { len = 0; lines = map shown_line new })
+pub classifier_empty : (new : List PiecesAndRoom) → length new ≡ FIELDS → ((k : ℕ) (l : PiecesAndRoom) → k < length new → shown_line (get_or new k l) ≡ (0, []) ∷ []) → IsClassifierOf [] (record { len = 0; lines = map shown_line new })
 classifier_empty new n h =
     record {
       len = refl;
@@ -201,27 +196,27 @@ classifier_empty new n h =
           subst P (sym (shown_at_place new (index field) a.0 lt ∙ h (index field) a.0 lt)) (empty_line (λ box x. box_allows box field x) (top field)));
     }
 
-pub kept_empty : (new : List OwnedLine) → length new ≡ FIELDS → ((k : ℕ) (l : OwnedLine) → k < length new → shown_line (get_or new k l) ≡ (0, []) ∷ []) → IsKept (record { len = 0; lines = map shown_line new })
+pub kept_empty : (new : List PiecesAndRoom) → length new ≡ FIELDS → ((k : ℕ) (l : PiecesAndRoom) → k < length new → shown_line (get_or new k l) ≡ (0, []) ∷ []) → IsKept (record { len = 0; lines = map shown_line new })
 kept_empty new n h =
     still_kept new 0 n (omega arith) (λ k l lt. (let P : List (ℕ × List Bool) → Type 0 = λ line. IsSound (slice_index tops k) 0 line in subst P (sym (h k l lt)) (empty_sound (slice_index tops k))))
 
-pub sound_lines : (old : List OwnedLine) (spans box : List SpanSet) (len : ℕ) → length old ≡ FIELDS → spans ≡ box → IsBox box → IsKept (record { len = len; lines = map shown_line old })
-    → (k : ℕ) (s : SpanSet) (l : OwnedLine) → k < length old → IsSound (get_or spans k s).top len (shown_line (get_or old k l))
+pub sound_lines : (old : List PiecesAndRoom) (spans box : List SpanSet) (len : ℕ) → length old ≡ FIELDS → spans ≡ box → IsBox box → IsKept (record { len = len; lines = map shown_line old })
+    → (k : ℕ) (s : SpanSet) (l : PiecesAndRoom) → k < length old → IsSound (get_or spans k s).top len (shown_line (get_or old k l))
 sound_lines old spans box len n same whole h k s l lt =
     let lt' : k < FIELDS = omega arith in
     let P : List (ℕ × List Bool) → Type 0 = λ line. IsSound (slice_index tops k) len line in
     let Q : ℕ → Type 0 = λ t. IsSound t len (shown_line (get_or old k l)) in
     subst Q (sym (ap (λ (ss : List SpanSet). (get_or ss k s).top) same ∙ box_tops box whole k s lt')) (subst P (shown_at_place old k l lt) (h.lines k lt'))
 
-pub still_sound : (new : List OwnedLine) (spans box : List SpanSet) (len : ℕ) → length new ≡ FIELDS → spans ≡ box → IsBox box → len ≤ most_boxes
-    → ((k : ℕ) (s : SpanSet) (l : OwnedLine) → k < length new → IsSound (get_or spans k s).top len (shown_line (get_or new k l))) → IsKept (record { len = len; lines = map shown_line new })
+pub still_sound : (new : List PiecesAndRoom) (spans box : List SpanSet) (len : ℕ) → length new ≡ FIELDS → spans ≡ box → IsBox box → len ≤ most_boxes
+    → ((k : ℕ) (s : SpanSet) (l : PiecesAndRoom) → k < length new → IsSound (get_or spans k s).top len (shown_line (get_or new k l))) → IsKept (record { len = len; lines = map shown_line new })
 still_sound new spans box len n same whole few h =
     still_kept new len n few (λ k l lt.
     (let lt' : k < FIELDS = omega arith in
     let Q : ℕ → Type 0 = λ t. IsSound t len (shown_line (get_or new k l)) in
     subst Q (ap (λ (ss : List SpanSet). (get_or ss k no_set).top) same ∙ box_tops box whole k no_set lt') (h k no_set l lt)))
 
-pub same_shown : (old new : List OwnedLine) → length new ≡ length old → ((k : ℕ) (l : OwnedLine) → k < length old → shown_line (get_or new k l) ≡ shown_line (get_or old k l)) → map shown_line new ≡ map shown_line old
+pub same_shown : (old new : List PiecesAndRoom) → length new ≡ length old → ((k : ℕ) (l : PiecesAndRoom) → k < length old → shown_line (get_or new k l) ≡ shown_line (get_or old k l)) → map shown_line new ≡ map shown_line old
 same_shown [] [] n h = refl
 same_shown [] (m ∷ ms) n h = absurd (omega arith)
 same_shown (l ∷ ls) [] n h = absurd (omega arith)
@@ -230,8 +225,8 @@ same_shown (l ∷ ls) (m ∷ ms) n h =
     let tail : map shown_line ms ≡ map shown_line ls = same_shown ls ms (omega arith) (λ k d lt. h (suc k) d (omega arith)) in
     λ i. head i ∷ tail i
 
-pub no_new_cuts : (old : List OwnedLine) (spans box : List SpanSet) (len : ℕ) → length old ≡ FIELDS → spans ≡ box → IsBox box → HasNoNewCut box (record { len = len; lines = map shown_line old })
-    → (k : ℕ) (s : SpanSet) (l : OwnedLine) → k < length old → CutsStart (get_or spans k s).top (get_or spans k s).intervals (shown_line (get_or old k l))
+pub no_new_cuts : (old : List PiecesAndRoom) (spans box : List SpanSet) (len : ℕ) → length old ≡ FIELDS → spans ≡ box → IsBox box → HasNoNewCut box (record { len = len; lines = map shown_line old })
+    → (k : ℕ) (s : SpanSet) (l : PiecesAndRoom) → k < length old → CutsStart (get_or spans k s).top (get_or spans k s).intervals (shown_line (get_or old k l))
 no_new_cuts old spans box len n same whole h k s l lt =
     let lt' : k < FIELDS = omega arith in
     let f = field_at k lt' in

@@ -1,18 +1,15 @@
 -- A box put in or taken out leaves the line of the boxes as they are then.
 use Rattle.fields.specs.declared.numbers.spans.Interval.{Interval}
-use Rattle.std.proofs.Common.{◌≡◌, ◌≢◌, inl, inr, ℕ, suc, ◌+◌, ◌-◌, ◌<◌, ◌≤◌, Bool, List, [], ◌∷◌, ◌++◌, length, take, drop, refl, sym, ◌∙◌, ap, arith, subst, map, All}
+use Rattle.std.proofs.Common.{◌≡◌, ◌≢◌, inl, inr, ℕ, suc, ◌+◌, ◌-◌, ◌<◌, ◌≤◌, Bool, List, [], ◌∷◌, ◌++◌, length, take, drop, refl, sym, ◌∙◌, ap, arith, subst, map}
 use Rattle.std.specs.List.{insert, remove}
 use Rattle.std.proofs.Math.ListN.{set}
 use Rattle.std.proofs.lemmas.List.{map-append, take-map, drop-map, map-set, length-set}
 use Rattle.std.proofs.lemmas.List.Edits.{length-insert, length-remove}
-use Rattle.std.proofs.lemmas.List.Elements.{All-head, All-tail, All-cons, All-nil}
-use Rattle.classify.specs.declared.line.owned.OwnedPiece.{OwnedPiece}
-use Rattle.classify.specs.steps.Shown.{shown}
 use Rattle.classify.specs.line.Line.{row_at, IsLineOf}
 use Rattle.fields.specs.numbers.Spans.{has}
 use Rattle.classify.specs.steps.Cuts.{CutsStart}
 use Rattle.classify.specs.steps.Pieces.{piece_at, row_in, IsRising, Differ, StartsAt, IsSplitOf, SayTheSame}
-use Rattle.classify.specs.steps.Edits.{IsMergeOf, with_answer, with_written, without_answer, Says, EachRow, IsSound}
+use Rattle.classify.specs.steps.Edits.{IsMergeOf, with_answer, with_test, with_written, without_answer, Says, EachRow, IsSound}
 use Rattle.classify.proofs.laws.line.StepLaws.{EachPiece, AreStepsOf, steps_from, says_from_steps, one_list_of_steps, piece_at_each, rows_from, before_all}
 use Rattle.classify.proofs.laws.line.LineLaws.{AreSteps, line_from_steps, steps_from_line, cases_rows}
 use Rattle.classify.proofs.laws.line.EditLaws.{rows_say, rows_rising, same_over_piece}
@@ -55,6 +52,12 @@ same_after_merge top spans (d ∷ ps) now (e ∷ qs) r n s m =
     (steps_of_line f top (e ∷ qs) m.rising m.differ (λ x le. m.same x ∙ s.same x))
     (steps_of_line f top (d ∷ ps) r n (λ x le. refl))
 
+-- what a line says when a function is applied to each row
+pub row_in-map : (f : List Bool → List Bool) (top : ℕ) (line : List Cut) (x : ℕ) → IsRising top line → row_in (map (λ p. (p.0, f p.1)) line) x ≡ f (row_in line x)
+row_in-map f top [] x r = absurd r
+row_in-map f top (d ∷ ps) x r =
+    row_in_first (d.0, f d.1) (map (λ p. (p.0, f p.1)) ps) x r.0 ∙ ap (λ (p : Cut). p.1) (rows_say (λ p. f p.1) d ps x) ∙ ap f (sym (row_in_first d ps x r.0))
+
 -- ---- a box put in
 
 row-insert : (sets : Sets) (at : ℕ) (s : List Interval) (x : ℕ) → row_at has (insert sets at s) x ≡ insert (row_at has sets x) at (has s x)
@@ -84,9 +87,12 @@ answers_say top at s sets (d ∷ ps) r c says x le =
     ∙ ap (λ (bs : List Bool). insert bs at (has s x)) (sym (row_in_first d ps x r.0) ∙ says x le)
     ∙ sym (row-insert sets at s x)
 
+pub tests_rising : (top at : ℕ) (test : ℕ → Bool) (line : List Cut) → IsRising top line → IsRising top (map (with_test at test) line)
+tests_rising top at test [] r = r
+tests_rising top at test (d ∷ ps) r = (r.0, rows_rising top 0 (λ p. insert p.1 at (test p.0)) ps r.1)
+
 pub answers_rising : (top at : ℕ) (s : List Interval) (line : List Cut) → IsRising top line → IsRising top (map (with_answer at s) line)
-answers_rising top at s [] r = r
-answers_rising top at s (d ∷ ps) r = (r.0, rows_rising top 0 (λ p. insert p.1 at (has s p.0)) ps r.1)
+answers_rising top at s line r = tests_rising top at (has s) line r
 
 -- ---- a box in the place of another
 
@@ -140,17 +146,6 @@ rows_kept P top (d ∷ ps) (e ∷ qs) r t s h =
     let le0 : 0 ≤ top = omega arith in
     (subst P (sym first) (old_has 0), weaker P (row_in (d ∷ ps)) qs old_has (rows_from (row_in (d ∷ ps)) top 0 e qs t.1 le0 (λ x _ _. same x)))
 
-each_shown : (P : List Bool → Type 0) (ps : List OwnedPiece) → All (λ (p : OwnedPiece). P p.row.bits) ps → EachPiece (λ p. P p.1) (shown ps)
-each_shown P [] h = tt
-each_shown P (p ∷ ps) h = (All-head (λ (q : OwnedPiece). P q.row.bits) p ps h, each_shown P ps (All-tail (λ (q : OwnedPiece). P q.row.bits) p ps h))
-
-all_shown : (P : List Bool → Type 0) (ps : List OwnedPiece) → EachPiece (λ p. P p.1) (shown ps) → All (λ (p : OwnedPiece). P p.row.bits) ps
-all_shown P [] h = All-nil (λ (q : OwnedPiece). P q.row.bits)
-all_shown P (p ∷ ps) h = All-cons (λ (q : OwnedPiece). P q.row.bits) p ps h.0 (all_shown P ps h.1)
-
-pub all_rows_kept : (P : List Bool → Type 0) (top : ℕ) (spans : List Interval) (old now : List OwnedPiece) → IsRising top (shown old) → IsSplitOf top spans (shown old) (shown now) → All (λ (p : OwnedPiece). P p.row.bits) old → All (λ (p : OwnedPiece). P p.row.bits) now
-all_rows_kept P top spans old now r s h = all_shown P now (rows_kept P top (shown old) (shown now) r s.rising s.same (each_shown P old h))
-
 -- ---- how long the rows are
 
 each_from_rows : (n : ℕ) (line : List Cut) → EachRow n line → EachPiece (λ p. length p.1 ≡ n) line
@@ -174,10 +169,6 @@ shorter n at (p ∷ ps) le h = (let in' : at < length p.1 = omega (arith, h.0) i
 
 pub sound_from_merge : (n top : ℕ) (old new : List Cut) → IsRising top old → EachRow n old → IsMergeOf top old new → IsSound top n new
 sound_from_merge n top old new r h m = record { rising = m.rising; differ = m.differ; rows = long_after n top old new r m.rising m.same h }
-
--- the places of a box in each row
-pub places_from_rows : (n : ℕ) (ps : List OwnedPiece) → EachRow n (shown ps) → All (λ (p : OwnedPiece). length p.row.bits ≡ n) ps
-places_from_rows n ps h = all_shown (λ bs. length bs ≡ n) ps (each_from_rows n (shown ps) h)
 
 -- ---- no box at all
 

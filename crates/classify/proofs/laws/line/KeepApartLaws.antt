@@ -29,7 +29,7 @@ differ_next d [] j h lt = absurd (omega arith)
 differ_next d (p ∷ ps) zero h lt = h.0
 differ_next d (p ∷ ps) (suc j) h lt = differ_next p ps j h.1 (omega arith)
 
-differ_at : (line : List Cut) (j : ℕ) → Differ line → suc j < length line → (get_or line j none).1 ≢ (get_or line (suc j) none).1
+pub differ_at : (line : List Cut) (j : ℕ) → Differ line → suc j < length line → (get_or line j none).1 ≢ (get_or line (suc j) none).1
 differ_at [] j h lt = absurd (omega arith)
 differ_at (d ∷ ps) j h lt = differ_next d ps j h (omega arith)
 
@@ -64,7 +64,7 @@ same_first x y xs ys e = (first x y xs ys e, rest x y xs ys e)
     rest : (x y : Bool) (xs ys : List Bool) → x ∷ xs ≡ y ∷ ys → xs ≡ ys
     rest x y xs ys e = cc
 
-set_tells : (xs ys : List Bool) (at : ℕ) (a b : Bool) → at < length xs → length xs ≡ length ys → get_or xs at false ≡ get_or ys at false → set xs at a ≡ set ys at b → (xs ≡ ys) × (a ≡ b)
+pub set_tells : (xs ys : List Bool) (at : ℕ) (a b : Bool) → at < length xs → length xs ≡ length ys → get_or xs at false ≡ get_or ys at false → set xs at a ≡ set ys at b → (xs ≡ ys) × (a ≡ b)
 set_tells [] ys at a b lt n e r = absurd (omega arith)
 set_tells (x ∷ xs) [] at a b lt n e r = absurd (omega arith)
 set_tells (x ∷ xs) (y ∷ ys) zero a b lt n e r = let s = same_first a b xs ys r in let t = s.1 in (λ i. e i ∷ t i, s.0)

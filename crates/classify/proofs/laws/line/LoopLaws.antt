@@ -1,108 +1,19 @@
 -- The loops over the pieces of a line.
 use Rattle.fields.specs.declared.numbers.spans.Interval.{Interval}
-use Rattle.std.proofs.Common.{◌≡◌, ◌≢◌, ◌⊎◌, inl, inr, ℕ, zero, suc, ◌+◌, ◌-◌, ◌<◌, ◌≤◌, ◌&&◌, ◌||◌, Bool, List, [], ◌∷◌, ◌++◌, length, take, drop, get_or, refl, sym, ◌∙◌, ap, arith, subst, map, All}
-use Rattle.std.proofs.Math.ListN.{set}
+use Rattle.std.proofs.Common.{◌≡◌, ◌≢◌, ◌⊎◌, inl, inr, ℕ, zero, suc, ◌+◌, ◌-◌, ◌<◌, ◌≤◌, ◌&&◌, ◌||◌, Bool, List, [], ◌∷◌, length, take, drop, get_or, refl, sym, ◌∙◌, ap, arith, subst, All}
 use Rattle.std.proofs.Math.Dec.{leb}
 use Rattle.std.specs.List.{remove}
-use Rattle.std.proofs.lemmas.List.{length-set, drop-set-lt, get_or-drop, get_or-set_same, get_or-set_other, map-set, get_or_default, take_all, drop_all, append-nil, set-get_or, drop_more, drop_at, length-take-le}
-use Rattle.std.proofs.lemmas.List.Edits.{map_over_more, get_or-remove_below, length-remove}
-use Rattle.std.proofs.lemmas.List.Elements.{All-weaker, All-more, All-nil}
-use Rattle.std.proofs.lemmas.Grind.{drop_more_same}
+use Rattle.std.proofs.lemmas.List.{take_all, drop_all, drop_more, drop_at, length-take-le}
+use Rattle.std.proofs.lemmas.List.Edits.{get_or-remove_below, length-remove}
+use Rattle.std.proofs.lemmas.List.Elements.{All-weaker, All-more}
 use Rattle.std.proofs.lemmas.Bool.{le-leb, lt-leb, cases_lt, cases_eq}
-use Rattle.classify.specs.declared.line.owned.OwnedPiece.{OwnedPiece}
-use Rattle.classify.specs.bits.BitRow.{row_room}
-use Rattle.classify.specs.steps.Shown.{shown, shown_piece, HaveRoomFor}
 use Rattle.fields.specs.numbers.Spans.{has, in_span, AreSpansFrom}
 use Rattle.classify.specs.steps.Cuts.{CutsStart, EndsStart}
 use Rattle.classify.specs.steps.Pieces.{IsRisingFrom, IsRising, DifferFrom, Differ, StartsAt, StartsAtZero, IsSplitOf, SayTheSame}
 use Rattle.classify.specs.steps.Edits.{IsMergeOf, IsEndOf}
-use Rattle.classify.proofs.laws.line.ShownLaws.{shown_at, length-shown, row_in_first}
+use Rattle.classify.proofs.laws.line.ShownLaws.{Cut, row_in_first}
 use Rattle.classify.proofs.laws.line.EndLaws.{ends_from_cuts, starts_zero}
 use Rattle.classify.proofs.laws.line.EditLaws.{merge_rising, merge_says}
-
-abbrev pub Cut : Type 0
-Cut = ℕ × List Bool
-
--- ---- each row changed, as far as place i
-
-pub record Mapped (g : Cut → Cut) (ps us : List OwnedPiece) (i : ℕ) : Type 0 where
-  pub as_long : length us ≡ length ps
-  pub done : shown us ≡ map g (take i (shown ps)) ++ drop i (shown ps)
-  pub rest : drop i us ≡ drop i ps
-
-pub mapped_first : (g : Cut → Cut) (ps : List OwnedPiece) → Mapped g ps ps 0
-mapped_first g ps = record { as_long = refl; done = refl; rest = refl }
-
-pub mapped_read : (g : Cut → Cut) (ps us : List OwnedPiece) (i : ℕ) (p : OwnedPiece) → Mapped g ps us i → p ≡ get_or us i p → p ≡ get_or ps i p
-mapped_read g ps us i p h e =
-    let z : i + 0 ≡ i = omega arith in
-    e ∙ sym (get_or-drop i us 0 p ∙ ap (λ k. get_or us k p) z) ∙ ap (λ (vs : List OwnedPiece). get_or vs 0 p) h.rest ∙ get_or-drop i ps 0 p ∙ ap (λ k. get_or ps k p) z
-
-pub mapped_more : (g : Cut → Cut) (ps us : List OwnedPiece) (i : ℕ) (p q : OwnedPiece) → Mapped g ps us i → i < length us → p ≡ get_or us i p → shown_piece q ≡ g (shown_piece p) → Mapped g ps (set us i q) (i + 1)
-mapped_more g ps us i p q h lt e is =
-    let lt' : i < length (shown ps) = omega (arith, h.as_long, length-shown ps) in
-    let read : shown_piece p ≡ get_or (shown us) i (shown_piece p) = sym (shown_at us i p (shown_piece p) lt ∙ ap shown_piece (sym e)) in
-    let past : i < i + 1 = omega arith in
-    record {
-      as_long = length-set us i q ∙ h.as_long;
-      done = map-set shown_piece us i q ∙ ap (λ c. set (shown us) i c) is ∙ map_over_more g (shown ps) (shown us) i (shown_piece p) lt' h.done read;
-      rest = drop-set-lt (i + 1) us i q past ∙ drop_more_same us ps i h.rest;
-    }
-
-pub mapped_all : (g : Cut → Cut) (ps us : List OwnedPiece) (i : ℕ) → Mapped g ps us i → length us ≤ i → shown us ≡ map g (shown ps)
-mapped_all g ps us i h le =
-    let le' : length (shown ps) ≤ i = omega (arith, h.as_long, length-shown ps) in
-    h.done ∙ ap (λ (cs : List Cut). map g (take i (shown ps)) ++ cs) (drop_all i (shown ps) le') ∙ append-nil (map g (take i (shown ps))) ∙ ap (λ (cs : List Cut). map g cs) (take_all i (shown ps) le')
-
--- ---- each row with room, as far as place i
-
-pub record Reserved (ps us : List OwnedPiece) (i : ℕ) : Type 0 where
-  pub as_long : length us ≡ length ps
-  pub same : shown us ≡ shown ps
-  pub more : (k : ℕ) (d : OwnedPiece) → k < length ps → row_room (get_or ps k d).row ≤ row_room (get_or us k d).row
-  pub ready : (k : ℕ) (d : OwnedPiece) → k < i → 0 < row_room (get_or us k d).row
-
-pub reserved_kept : (ps us : List OwnedPiece) (i : ℕ) (p q : OwnedPiece) → Reserved ps us i → i < length us → p ≡ get_or us i p → shown_piece q ≡ shown_piece p → shown (set us i q) ≡ shown ps
-reserved_kept ps us i p q h lt e is =
-    let read : shown_piece p ≡ get_or (shown us) i (shown_piece p) = sym (shown_at us i p (shown_piece p) lt ∙ ap shown_piece (sym e)) in
-    map-set shown_piece us i q ∙ ap (λ c. set (shown us) i c) (is ∙ read) ∙ set-get_or (shown us) i (shown_piece p) ∙ h.same
-
-pub reserved_room : (ps us : List OwnedPiece) (i : ℕ) (p q : OwnedPiece) → Reserved ps us i → i < length us → p ≡ get_or us i p → row_room p.row ≤ row_room q.row → (k : ℕ) (d : OwnedPiece) → k < length ps
-    → row_room (get_or ps k d).row ≤ row_room (get_or (set us i q) k d).row
-reserved_room ps us i p q h lt e le k d below =
-    let P : OwnedPiece → Type 0 = λ r. row_room (get_or ps k d).row ≤ row_room r.row in
-    let was : row_room (get_or ps k d).row ≤ row_room (get_or us k d).row = h.more k d below in
-    elim (cases_eq k i) [
-      | inl at ↦ (
-          let here : get_or us k d ≡ p = ap (λ j. get_or us j d) at ∙ get_or_default us i d p lt ∙ sym e in
-          let held : row_room (get_or ps k d).row ≤ row_room p.row = subst P here was in
-          let le' : row_room (get_or ps k d).row ≤ row_room q.row = omega arith in
-          subst P (sym (ap (λ j. get_or (set us i q) j d) at ∙ get_or-set_same us i q d lt)) le')
-      | inr ne ↦ subst P (sym (get_or-set_other us i k q d ne)) was
-    ]
-
-pub reserved_more : (ps us : List OwnedPiece) (i : ℕ) (p q : OwnedPiece) → Reserved ps us i → i < length us → p ≡ get_or us i p → shown_piece q ≡ shown_piece p → row_room p.row ≤ row_room q.row → 0 < row_room q.row
-    → Reserved ps (set us i q) (i + 1)
-reserved_more ps us i p q h lt e is le room =
-    record {
-      as_long = length-set us i q ∙ h.as_long;
-      same = reserved_kept ps us i p q h lt e is;
-      more = reserved_room ps us i p q h lt e le;
-      ready = λ k d below.
-          elim (cases_eq k i) [
-            | inl at ↦ (let P : OwnedPiece → Type 0 = λ r. 0 < row_room r.row in
-                subst P (sym (ap (λ j. get_or (set us i q) j d) at ∙ get_or-set_same us i q d lt)) room)
-            | inr ne ↦ (let P : OwnedPiece → Type 0 = λ r. 0 < row_room r.row in subst P (sym (get_or-set_other us i k q d ne)) (h.ready k d (omega arith)))
-          ];
-    }
-
-pub reserved_there : (ps us : List OwnedPiece) (i : ℕ) (p : OwnedPiece) → Reserved ps us i → i < length us → p ≡ get_or us i p → HaveRoomFor 1 ps → 0 < row_room p.row
-reserved_there ps us i p h lt e room =
-    let lt' : i < length ps = omega (arith, h.as_long) in
-    let was : row_room (get_or ps i p).row ≤ row_room (get_or us i p).row = h.more i p lt' in
-    let P : OwnedPiece → Type 0 = λ q. row_room (get_or ps i p).row ≤ row_room q.row in
-    let now : row_room (get_or ps i p).row ≤ row_room p.row = subst P (sym e) was in
-    omega (arith, room i p lt')
 
 -- ---- a line cut at the ends of the spans, as far as the i-th
 
@@ -166,9 +77,6 @@ ends_kept top a b spans own h all = All-weaker (EndsStart top a) (EndsStart top 
 pub record Split (top : ℕ) (spans : List Interval) (old now : List Cut) (i : ℕ) : Type 0 where
   pub split : IsSplitOf top spans old now
   pub ends : All (EndsStart top now) (take i spans)
-
-pub split_first : (top : ℕ) (spans : List Interval) (old : List Cut) → IsRising top old → Split top spans old old 0
-split_first top spans old r = record { split = record { rising = r; same = λ x. refl; keeps = λ x s. s; only = λ x s. inl s }; ends = All-nil (EndsStart top old) }
 
 pub split_next : (top : ℕ) (spans : List Interval) (old now new : List Cut) (i : ℕ) (d : Interval) → Split top spans old now i → IsSplitOf top spans now new → i < length spans
     → EndsStart top new (get_or spans i d) → Split top spans old new (i + 1)

@@ -4,16 +4,14 @@ use Rattle.std.proofs.Common.{◌≡◌, ◌≢◌, ◌⊎◌, inl, inr, ℕ, ze
 use Rattle.std.specs.List.{remove}
 use Rattle.std.specs.Prelude.{slice_index}
 use Rattle.std.proofs.lemmas.Bool.{cases_lt}
-use Rattle.classify.specs.declared.line.owned.OwnedPiece.{OwnedPiece}
-use Rattle.classify.specs.steps.Shown.{shown}
 use Rattle.classify.specs.line.Line.{starts}
 use Rattle.classify.specs.steps.Cuts.{IsApart}
 use Rattle.classify.specs.steps.Pieces.{row_in, IsRisingFrom, IsRising, Differ, StartsAt}
-use Rattle.classify.specs.steps.Edits.{IsUnsplitAt, IsMergeOf, IsNumber, IsEndOf}
+use Rattle.classify.specs.steps.Edits.{IsUnsplitAt, IsMergeOf, IsNumber, IsEndOf, row_of}
 use Rattle.classify.proofs.laws.line.StepLaws.{starts_above, starts_within}
-use Rattle.classify.proofs.laws.line.LoopLaws.{Cut, no_cut, merge_line_rising, merge_line_says, change_is_end}
+use Rattle.classify.proofs.laws.line.LoopLaws.{merge_line_rising, merge_line_says, change_is_end}
 use Rattle.classify.proofs.laws.line.ApartLaws.{differ_from}
-use Rattle.classify.proofs.laws.line.ShownLaws.{IsIn, row_in_first, row_of_piece, shown-remove, shown_at, length-shown, start_is, split_not_there, no_piece_between, starts_here}
+use Rattle.classify.proofs.laws.line.ShownLaws.{Cut, IsIn, row_in_first, row_of_piece, split_not_there, no_piece_between, starts_here}
 
 pub nothing_unsplit : (P : ℕ → Type 0) (top : ℕ) (line : List Cut) → IsRising top line → ((y : ℕ) → P (suc y) → StartsAt (suc y) line → row_in line y ≢ row_in line (suc y)) → IsUnsplitAt P top line line
 nothing_unsplit P top line r apart = record { rising = r; same = λ x. refl; only = λ x s. s; apart = apart }
@@ -68,92 +66,68 @@ rise top (d ∷ []) j r lt = absurd (omega arith)
 rise top (d ∷ (p ∷ ps)) zero r lt = omega (arith, r.0, r.1.0)
 rise top (d ∷ (p ∷ ps)) (suc j) r lt = rise_from top 0 (p ∷ ps) j r.1 (omega arith)
 
--- ---- what `unsplit` does at x, which is in the piece p at i
+-- ---- what `unsplit` does at x, which is in the piece at i
 
 -- no piece starts there
-pub unsplit_none : (items now : List OwnedPiece) (x i : ℕ) (p : OwnedPiece) → IsIn items now x i p → p.start < x → (top : ℕ) → IsRising top (shown items) → IsUnsplitAt (IsNumber x) top (shown items) (shown items)
-unsplit_none items now x i p h lt top r =
-    let P : ℕ → Type 0 = λ y. StartsAt y (shown items) in
-    nothing_unsplit (IsNumber x) top (shown items) r (λ y e s. absurd (split_not_there items now x i p h lt top r (subst P e s)))
+pub unsplit_none : (line : List Cut) (x i : ℕ) → IsIn line x i → slice_index (starts line) i < x → (top : ℕ) → IsRising top line → IsUnsplitAt (IsNumber x) top line line
+unsplit_none line x i h lt top r =
+    let P : ℕ → Type 0 = λ y. StartsAt y line in
+    nothing_unsplit (IsNumber x) top line r (λ y e s. absurd (split_not_there line x i h lt top r (subst P e s)))
 
 -- x is in the first piece
 zero_first : (top : ℕ) (line : List Cut) → IsRising top line → slice_index (starts line) 0 ≡ 0
 zero_first top [] r = absurd r
 zero_first top (d ∷ ps) r = r.0
 
-first_alone : (x : ℕ) (line : List Cut) → 0 < length line → (0 + 1 < length line → x < slice_index (starts line) (0 + 1)) → (top : ℕ) → IsRising top line → IsUnsplitAt (IsNumber x) top line line
-first_alone x line lt high top r =
+first_alone : (x : ℕ) (line : List Cut) → IsIn line x 0 → (top : ℕ) → IsRising top line → IsUnsplitAt (IsNumber x) top line line
+first_alone x line h top r =
     let P : ℕ → Type 0 = λ v. StartsAt v line in
-    nothing_unsplit (IsNumber x) top line r (λ y e s. absurd (no_piece_between top x line 0 r lt (omega (arith, zero_first top line r, e)) high (subst P e s)))
+    nothing_unsplit (IsNumber x) top line r (λ y e s. absurd (no_piece_between top x line 0 r h.within (omega (arith, zero_first top line r, e)) h.high (subst P e s)))
 
-pub unsplit_first : (items now : List OwnedPiece) (x i : ℕ) → now ≡ items → i < length now → (i + 1 < length now → x < slice_index (starts (shown now)) (i + 1)) → i ≡ 0
-    → (top : ℕ) → IsRising top (shown items) → IsUnsplitAt (IsNumber x) top (shown items) (shown items)
-unsplit_first items now x i same lt high z =
-    let P : List OwnedPiece → Type 0 = λ ps. i + 1 < length ps → x < slice_index (starts (shown ps)) (i + 1) in
-    let Q : ℕ → Type 0 = λ k. k + 1 < length (shown items) → x < slice_index (starts (shown items)) (k + 1) in
-    let there : i + 1 < length items → x < slice_index (starts (shown items)) (i + 1) = subst P same high in
-    first_alone x (shown items) (omega (arith, length-shown items, ap length same)) (subst Q z (λ l. there (omega (arith, length-shown items))))
+pub unsplit_first : (line : List Cut) (x i : ℕ) → IsIn line x i → i ≡ 0 → (top : ℕ) → IsRising top line → IsUnsplitAt (IsNumber x) top line line
+unsplit_first line x i h z = let P : ℕ → Type 0 = λ k. IsIn line x k in first_alone x line (subst P z h)
 
--- one starts there: q is the piece before
-pub record Sides (items now : List OwnedPiece) (x i : ℕ) (p q : OwnedPiece) : Type 0 where
-  pub at : IsIn items now x i p
-  pub start : p.start ≡ x
+-- one starts there, and it isn't the first
+pub record Sides (line : List Cut) (x i : ℕ) : Type 0 where
+  pub at : IsIn line x i
+  pub start : slice_index (starts line) i ≡ x
   pub later : 0 < i
-  pub before : q ≡ get_or items (i - 1) q
 
--- as the code finds them: o is the piece at i too
-pub sides : (items now : List OwnedPiece) (x i : ℕ) (o p q : OwnedPiece) → IsIn items now x i o → IsIn items now x i p → slice_index (starts (shown now)) i ≤ x → x ≤ o.start → i ≢ 0 → q ≡ get_or items (i - 1) q → Sides items now x i p q
-sides items now x i o p q h g low high ne before =
-    let P : List OwnedPiece → Type 0 = λ ps. slice_index (starts (shown ps)) i ≤ x in
-    let low' : slice_index (starts (shown items)) i ≤ x = subst P h.same low in
-    record { at = g; start = omega (arith, start_is items now x i o h, start_is items now x i p g); later = omega arith; before = before }
-
-pub sides_rows : (items now : List OwnedPiece) (x i : ℕ) (p q : OwnedPiece) → Sides items now x i p q → (top : ℕ) → IsRising top (shown items)
-    → (y : ℕ) → suc y ≡ x → (row_in (shown items) y ≡ q.row.bits) × (row_in (shown items) (suc y) ≡ p.row.bits)
-sides_rows items now x i p q h top r y e =
-    let lt : i < length items = omega (arith, h.at.within, ap length h.at.same) in
+-- the rows on its two sides
+sides_rows : (line : List Cut) (x i : ℕ) → Sides line x i → (top : ℕ) → IsRising top line
+    → (y : ℕ) → suc y ≡ x → (row_in line y ≡ row_of line (i - 1)) × (row_in line (suc y) ≡ row_of line i)
+sides_rows line x i h top r y e =
+    let lt : i < length line = h.at.within in
     let back : suc (i - 1) ≡ i = omega (arith, h.later) in
     let next : i - 1 + 1 ≡ i = omega (arith, h.later) in
-    let st : slice_index (starts (shown items)) i ≡ x = start_is items now x i p h.at ∙ h.start in
-    let P : ℕ → Type 0 = λ k. slice_index (starts (shown items)) (i - 1) < slice_index (starts (shown items)) k in
-    let less : slice_index (starts (shown items)) (i - 1) < slice_index (starts (shown items)) i = subst P back (rise top (shown items) (i - 1) r (omega (arith, length-shown items))) in
-    let Q : ℕ → Type 0 = λ k. y < slice_index (starts (shown items)) k in
-    let R : List OwnedPiece → Type 0 = λ ps. x < slice_index (starts (shown ps)) (i + 1) in (
-      row_of_piece top y items (i - 1) q r (omega arith) (omega arith) (λ _. subst Q (sym next) (omega arith)) h.before,
-      row_of_piece top (suc y) items i p r lt (omega arith) (λ l. (let far : x < slice_index (starts (shown items)) (i + 1) = subst R h.at.same (h.at.high (omega (arith, ap length h.at.same))) in omega arith)) h.at.piece,
+    let P : ℕ → Type 0 = λ k. slice_index (starts line) (i - 1) < slice_index (starts line) k in
+    let less : slice_index (starts line) (i - 1) < slice_index (starts line) i = subst P back (rise top line (i - 1) r (omega arith)) in
+    let Q : ℕ → Type 0 = λ k. y < slice_index (starts line) k in (
+      row_of_piece top y line (i - 1) r (omega arith) (omega (arith, h.start)) (λ _. subst Q (sym next) (omega (arith, h.start))),
+      row_of_piece top (suc y) line i r lt (omega (arith, h.start)) (λ l. (let far : x < slice_index (starts line) (i + 1) = h.at.high l in omega arith)),
     )
 
--- there is a piece before x, so x isn't 0
-pub sides_above : (items now : List OwnedPiece) (x i : ℕ) (p q : OwnedPiece) → Sides items now x i p q → (top : ℕ) → IsRising top (shown items) → 0 < x
-sides_above items now x i p q h top r =
-    let lt : i < length items = omega (arith, h.at.within, ap length h.at.same) in
-    let back : suc (i - 1) ≡ i = omega (arith, h.later) in
-    let st : slice_index (starts (shown items)) i ≡ x = start_is items now x i p h.at ∙ h.start in
-    let P : ℕ → Type 0 = λ k. slice_index (starts (shown items)) (i - 1) < slice_index (starts (shown items)) k in
-    let less : slice_index (starts (shown items)) (i - 1) < slice_index (starts (shown items)) i = subst P back (rise top (shown items) (i - 1) r (omega (arith, length-shown items))) in
-    omega arith
+pub unsplit_kept : (line : List Cut) (x i j : ℕ) → Sides line x i → i ≡ j + 1 → (row_of line j ≡ row_of line (j + 1) → ⊥) → (top : ℕ) → IsRising top line → IsUnsplitAt (IsNumber x) top line line
+unsplit_kept line x i j h is ne top r =
+    let before : i - 1 ≡ j = omega arith in
+    nothing_unsplit (IsNumber x) top line r (λ y e s same.
+    (let rows = sides_rows line x i h top r y e in
+    ne (ap (λ k. row_of line k) (sym before) ∙ sym rows.0 ∙ same ∙ rows.1 ∙ ap (λ k. row_of line k) is)))
 
-pub unsplit_kept : (items now : List OwnedPiece) (x i : ℕ) (p q : OwnedPiece) → Sides items now x i p q → (p.row.bits ≡ q.row.bits → ⊥) → (top : ℕ) → IsRising top (shown items) → IsUnsplitAt (IsNumber x) top (shown items) (shown items)
-unsplit_kept items now x i p q h ne top r =
-    nothing_unsplit (IsNumber x) top (shown items) r (λ y e s same. (let rows = sides_rows items now x i p q h top r y e in ne (sym rows.1 ∙ sym same ∙ rows.0)))
-
-pub unsplit_gone : (items now new : List OwnedPiece) (x i : ℕ) (p q : OwnedPiece) → Sides items now x i p q → p.row.bits ≡ q.row.bits → new ≡ remove items i → (top : ℕ) → IsRising top (shown items) → IsUnsplitAt (IsNumber x) top (shown items) (shown new)
-unsplit_gone items now new x i p q h equal is top r =
-    let lt : i < length items = omega (arith, h.at.within, ap length h.at.same) in
-    let j : ℕ = i - 1 in
-    let back : i ≡ suc j = omega (arith, h.later) in
-    let lt' : suc j < length (shown items) = omega (arith, length-shown items) in
-    let st : slice_index (starts (shown items)) (suc j) ≡ x = ap (λ k. slice_index (starts (shown items)) k) (sym back) ∙ start_is items now x i p h.at ∙ h.start in
-    let left : (get_or (shown items) j no_cut).1 ≡ q.row.bits = ap (λ (c : Cut). c.1) (shown_at items j q no_cut (omega arith)) ∙ ap (λ (o : OwnedPiece). o.row.bits) (sym h.before) in
-    let right : (get_or (shown items) (suc j) no_cut).1 ≡ p.row.bits = ap (λ k. (get_or (shown items) k no_cut).1) (sym back) ∙ ap (λ (c : Cut). c.1) (shown_at items i p no_cut lt) ∙ ap (λ (o : OwnedPiece). o.row.bits) (sym h.at.piece) in
-    let P : List Cut → Type 0 = λ line. IsUnsplitAt (IsNumber x) top (shown items) line in
-    let Q : ℕ → Type 0 = λ y. StartsAt y (remove (shown items) (suc j)) in
-    subst P (sym (ap shown is ∙ shown-remove items i ∙ ap (λ k. remove (shown items) k) back))
+pub unsplit_gone : (line new : List Cut) (x i j : ℕ) → Sides line x i → i ≡ j + 1 → row_of line j ≡ row_of line (j + 1) → new ≡ remove line i → (top : ℕ) → IsRising top line → IsUnsplitAt (IsNumber x) top line new
+unsplit_gone line new x i j h at equal is top r =
+    let back : i ≡ suc j = omega arith in
+    let next : j + 1 ≡ suc j = omega arith in
+    let lt : suc j < length line = omega (arith, h.at.within) in
+    let st : slice_index (starts line) (suc j) ≡ x = ap (λ k. slice_index (starts line) k) (sym back) ∙ h.start in
+    let P : List Cut → Type 0 = λ cs. IsUnsplitAt (IsNumber x) top line cs in
+    let Q : ℕ → Type 0 = λ y. StartsAt y (remove line (suc j)) in
+    subst P (sym (is ∙ ap (λ k. remove line k) back))
     (record {
-      rising = merge_line_rising top (shown items) j r;
-      same = merge_line_says top (shown items) j r lt' (left ∙ sym equal ∙ sym right);
-      only = λ y s. starts_left (shown items) (suc j) y s;
-      apart = λ y e s. absurd (gone top (shown items) j r lt' (subst Q (e ∙ sym st) s));
+      rising = merge_line_rising top line j r;
+      same = merge_line_says top line j r lt (equal ∙ ap (λ k. row_of line k) next);
+      only = λ y s. starts_left line (suc j) y s;
+      apart = λ y e s. absurd (gone top line j r lt (subst Q (e ∙ sym st) s));
     })
 
 -- ---- the ends of one interval, and of those below i

@@ -14,12 +14,9 @@ use Rattle.fields.specs.declared.numbers.field.TheConstants.Field.{ALL}
 use Rattle.fields.specs.declared.numbers.field.Field.{Field}
 use Rattle.fields.specs.numbers.Field.{index, top}
 use Rattle.fields.specs.numbers.Spans.{SpanSet}
-use Rattle.classify.specs.declared.line.owned.OwnedLine.{OwnedLine}
-use Rattle.classify.specs.declared.line.owned.OwnedPiece.{OwnedPiece}
 use Rattle.classify.specs.steps.Packing.{all_bits, IsPacked}
 use Rattle.classify.specs.line.Line.{row_at}
-use Rattle.classify.specs.steps.Shown.{shown}
-use Rattle.classify.specs.steps.Pieces.{row_in, IsRising}
+use Rattle.classify.specs.steps.Pieces.{PiecesAndRoom, row_in, IsRising}
 use Rattle.classify.specs.steps.Edits.{IsSound}
 use Rattle.classify.specs.steps.Fields.{shown_line, tops, IsKept}
 use Rattle.classify.specs.steps.CommonPlaces.{IsRowAt, AreRowsAt, AreWide, HaveAll, IsFirst}
@@ -34,17 +31,18 @@ use Rattle.classify.proofs.laws.classifier.ClassifierLaws.{field_at, row_of_sets
 
 -- ---- the row of a field at a number
 
-pub record IsField (lines : List OwnedLine) (len k x : ℕ) (now : List OwnedPiece) : Type 0 where
-  pub rising : IsRising (slice_index tops k) (shown now)
-  pub long : length (row_in (shown now) x) ≡ len
-  pub same : shown now ≡ get_or (map shown_line lines) k []
+pub record IsField (lines : List PiecesAndRoom) (len k x : ℕ) (now : PiecesAndRoom) : Type 0 where
+  pub rising : IsRising (slice_index tops k) now.pieces
+  pub long : length (row_in now.pieces x) ≡ len
+  pub same : now.pieces ≡ get_or (map shown_line lines) k []
 
-pub field_row : (lines : List OwnedLine) (len k x : ℕ) (now : List OwnedPiece) (d : OwnedLine) → length lines ≡ FIELDS → IsKept (record { len = len; lines = map shown_line lines }) → k < FIELDS → now ≡ (get_or lines k d).pieces.items → IsField lines len k x now
-field_row lines len k x now d n h lt is =
-    let same : shown now ≡ get_or (map shown_line lines) k [] = ap shown is ∙ sym (shown_at_place lines k d (omega arith)) in
+pub field_row : (lines : List PiecesAndRoom) (len k x : ℕ) (d : PiecesAndRoom) → length lines ≡ FIELDS → IsKept (record { len = len; lines = map shown_line lines }) → k < FIELDS → IsField lines len k x (get_or lines k d)
+field_row lines len k x d n h lt =
+    let now : PiecesAndRoom = get_or lines k d in
+    let same : now.pieces ≡ get_or (map shown_line lines) k [] = sym (shown_at_place lines k d (omega arith)) in
     let P : List (ℕ × List Bool) → Type 0 = λ line. IsSound (slice_index tops k) len line in
-    let sound : IsSound (slice_index tops k) len (shown now) = subst P (sym same) (h.lines k lt) in
-    record { rising = sound.rising; long = row_long (slice_index tops k) len (shown now) x sound; same = same }
+    let sound : IsSound (slice_index tops k) len now.pieces = subst P (sym same) (h.lines k lt) in
+    record { rising = sound.rising; long = row_long (slice_index tops k) len now.pieces x sound; same = same }
 
 -- ---- all rows
 

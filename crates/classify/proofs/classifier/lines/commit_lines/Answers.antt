@@ -1,35 +1,36 @@
-use Rattle.std.proofs.Common.{arith, ap, length, get_or, ◌<◌, ◌≤◌, subst, ◌≡◌, ◌∙◌, sym, All}
+use Rattle.std.proofs.Common.{arith, ap, length, get_or, ◌<◌, subst, ◌≡◌, ◌∙◌, sym, ℕ}
 use Rattle.std.proofs.lemmas.List.{get_or_default}
-use Rattle.classify.specs.declared.line.owned.OwnedLine.{OwnedLine}
-use Rattle.classify.specs.declared.line.owned.OwnedPiece.{OwnedPiece}
+use Rattle.classify.specs.steps.Pieces.{PiecesAndRoom}
 use Rattle.fields.specs.numbers.Spans.{SpanSet}
 use Rattle.classify.specs.steps.Fields.{shown_line, IsReady, TakesIn}
 use Rattle.classify.specs.steps.Pieces.{IsRising}
 use Rattle.classify.specs.steps.Cuts.{IsApart}
+use Rattle.classify.specs.steps.Edits.{EachRow}
 use Rattle.classify.proofs.laws.line.ListLoopLaws.{edited_more}
 use Rattle.classify.proofs.classifier.lines.commit_lines.Goals as goal
 
 pub commit-requires : goal.commit-requires
 commit-requires c =
     let h = c.loop-k.invariant in
+    let n : ℕ = c.requires.place.0 in
     let lt : c.loop-k.k < length c.args.lines.now = omega (arith, h.as_long) in
     let same = sym (h.rest c.loop-k.k c.index-lines-k.result (omega arith)) in
-    let P : OwnedLine → Type 0 = λ p. IsRising c.index-spans-k.result.top (shown_line p) × IsReady c.index-spans-k.result p × IsApart c.index-spans-k.result.intervals (shown_line p) × All (λ (q : OwnedPiece). c.args.at ≤ length q.row.bits) p.pieces.items in
+    let P : PiecesAndRoom → Type 0 = λ p. IsRising c.index-spans-k.result.top (shown_line p) × IsReady c.index-spans-k.result p × IsApart c.index-spans-k.result.intervals (shown_line p) × EachRow n (shown_line p) in
     let Q : SpanSet → Type 0 = λ s. IsRising s.top (shown_line (get_or c.args.lines.now c.loop-k.k c.index-lines-k.result)) × IsReady s (get_or c.args.lines.now c.loop-k.k c.index-lines-k.result)
-    × IsApart s.intervals (shown_line (get_or c.args.lines.now c.loop-k.k c.index-lines-k.result)) × All (λ (q : OwnedPiece). c.args.at ≤ length q.row.bits) (get_or c.args.lines.now c.loop-k.k c.index-lines-k.result).pieces.items in
+    × IsApart s.intervals (shown_line (get_or c.args.lines.now c.loop-k.k c.index-lines-k.result)) × EachRow n (shown_line (get_or c.args.lines.now c.loop-k.k c.index-lines-k.result)) in
     let all = subst P same (subst Q (sym c.index-spans-k.is)
-    (c.requires.rising c.loop-k.k c.index-spans-k.result c.index-lines-k.result lt, c.requires.ready c.loop-k.k c.index-spans-k.result c.index-lines-k.result lt, c.requires.apart c.loop-k.k c.index-spans-k.result c.index-lines-k.result lt, c.requires.place c.loop-k.k c.index-lines-k.result lt)) in
-    record { rising = all.0; cuts = all.1.cuts; apart = all.2; place = all.3; room = all.1.room }
+    (c.requires.rising c.loop-k.k c.index-spans-k.result c.index-lines-k.result lt, c.requires.ready c.loop-k.k c.index-spans-k.result c.index-lines-k.result lt, c.requires.apart c.loop-k.k c.index-spans-k.result c.index-lines-k.result lt, c.requires.place.2 c.loop-k.k c.index-lines-k.result lt)) in
+    record { rising = all.0; cuts = all.1.cuts; apart = all.2; place = (n, c.requires.place.1, all.3); room = all.1.room }
 
 pub loop-k-preserved : goal.loop-k-preserved
 loop-k-preserved c =
     let h = c.loop-k.invariant in
     let lt : c.loop-k.k < length c.args.spans.now = omega (arith, h.as_long, c.requires.as_long) in
-    edited_more _ _ c.loop-k.lines c.loop-k.k (get_or c.loop-k.lines c.loop-k.k c.index-lines-k.result) (record { pieces = c.commit.new.pieces }) h (omega (arith, h.as_long))
-    (ap (λ (d : OwnedLine). get_or c.loop-k.lines c.loop-k.k d) c.index-lines-k.is)
+    edited_more _ _ c.loop-k.lines c.loop-k.k (get_or c.loop-k.lines c.loop-k.k c.index-lines-k.result) c.commit.new.line h (omega (arith, h.as_long))
+    (ap (λ (d : PiecesAndRoom). get_or c.loop-k.lines c.loop-k.k d) c.index-lines-k.is)
     (λ s.
     (let e : c.index-spans-k.result ≡ get_or c.args.spans.now c.loop-k.k s = c.index-spans-k.is ∙ get_or_default c.args.spans.now c.loop-k.k c.index-spans-k.result s lt in
-    let P : SpanSet → Type 0 = λ t. TakesIn c.args.at t (get_or c.loop-k.lines c.loop-k.k c.index-lines-k.result) (record { pieces = c.commit.new.pieces }) in
+    let P : SpanSet → Type 0 = λ t. TakesIn c.args.at t (get_or c.loop-k.lines c.loop-k.k c.index-lines-k.result) c.commit.new.line in
     subst P e (record { line = c.commit.ensures.line; sound = c.commit.ensures.sound; room = c.commit.ensures.room })))
 
 pub returns : goal.returns

@@ -1,10 +1,8 @@
-use Rattle.std.proofs.Common.{arith, length, ◌<◌, [], ◌∙◌, sym, subst}
+use Rattle.std.proofs.Common.{arith, length, ◌<◌, [], ◌∙◌}
 use Rattle.std.proofs.lemmas.Bool.{false≢true}
 use Rattle.fields.specs.numbers.Spans.{SpanSet}
-use Rattle.classify.specs.steps.Shown.{HaveRoomFor}
 use Rattle.classify.proofs.laws.line.BoxLaws.{says_from_line, long_after, same_after_merge}
 use Rattle.classify.proofs.laws.line.ApartLaws.{apart_after}
-use Rattle.classify.proofs.laws.line.RoomLaws.{room_back}
 use Rattle.classify.proofs.classifier.lines.replace_lines.Goals as goal
 
 abbrev no_set : SpanSet
@@ -66,14 +64,11 @@ pub returns-in-Err-clause-there : goal.returns-in-Err-clause-there
 returns-in-Err-clause-there c cuts = absurd (false≢true (c.in-Err.ensures.there cuts))
 
 pub returns-in-Ok-clause-room : goal.returns-in-Ok-clause-room
-returns-in-Ok-clause-room c k s l lt cuts n room =
+returns-in-Ok-clause-room c k l lt =
     let lt' : k < length c.split_lines.new.lines = omega (arith, c.split_lines.auto.lines) in
-    (c.settle_lines.ensures k s l lt').room n (subst (HaveRoomFor n) (sym (c.split_lines.ensures.kept k s l lt cuts)) room)
+    (c.settle_lines.ensures k no_set l lt').room ∙ c.split_lines.ensures.room k l lt
 
-pub returns-in-Err-clause-back : goal.returns-in-Err-clause-back
-returns-in-Err-clause-back c k l lt =
+pub returns-in-Err-clause-room : goal.returns-in-Err-clause-room
+returns-in-Err-clause-room c k l lt =
     let lt' : k < length c.split_lines.new.lines = omega (arith, c.split_lines.auto.lines) in
-    let sound = c.requires.sound k no_set l lt in
-    let split = c.split_lines.ensures.split k no_set l lt in
-    let same = same_after_merge _ _ _ _ _ sound.rising sound.differ split (c.unsplit_lines.ensures.joined k no_set l lt') in
-    room_back _ _ _ _ _ sound.rising sound.differ split same (c.split_lines.ensures.rows k l lt) (c.unsplit_lines.ensures.rows k l lt')
+    c.unsplit_lines.ensures.room k l lt' ∙ c.split_lines.ensures.room k l lt

@@ -1,6 +1,6 @@
 use Rattle.std.proofs.Common.{arith, ap, length, get_or, ◌<◌, subst, ℕ, ◌≡◌, ◌∙◌, sym}
 use Rattle.std.proofs.lemmas.List.{get_or_default}
-use Rattle.classify.specs.declared.line.owned.OwnedLine.{OwnedLine}
+use Rattle.classify.specs.steps.Pieces.{PiecesAndRoom}
 use Rattle.fields.specs.numbers.Spans.{SpanSet}
 use Rattle.classify.specs.steps.Fields.{shown_line, TakesOver}
 use Rattle.classify.specs.steps.Cuts.{CutsStart, IsApart}
@@ -15,8 +15,8 @@ replace_box-requires c =
     let n : ℕ = c.requires.place.0 in
     let lt : c.loop-k.k < length c.args.lines.now = omega (arith, h.as_long) in
     let same = sym (h.rest c.loop-k.k c.index-lines-k.result (omega arith)) in
-    let P : OwnedLine → Type 0 = λ p. IsRising c.index-spans-k.result.top (shown_line p) × CutsStart c.index-spans-k.result.top c.index-spans-k.result.intervals (shown_line p) × IsApart c.index-spans-k.result.intervals (shown_line p) × EachRow n (shown_line p) in
-    let own : OwnedLine = get_or c.args.lines.now c.loop-k.k c.index-lines-k.result in
+    let P : PiecesAndRoom → Type 0 = λ p. IsRising c.index-spans-k.result.top (shown_line p) × CutsStart c.index-spans-k.result.top c.index-spans-k.result.intervals (shown_line p) × IsApart c.index-spans-k.result.intervals (shown_line p) × EachRow n (shown_line p) in
+    let own : PiecesAndRoom = get_or c.args.lines.now c.loop-k.k c.index-lines-k.result in
     let Q : SpanSet → Type 0 = λ s. IsRising s.top (shown_line own) × CutsStart s.top s.intervals (shown_line own) × IsApart s.intervals (shown_line own) × EachRow n (shown_line own) in
     let all = subst P same (subst Q (sym c.index-spans-k.is)
     (c.requires.rising c.loop-k.k c.index-spans-k.result c.index-lines-k.result lt, c.requires.cuts c.loop-k.k c.index-spans-k.result c.index-lines-k.result lt, c.requires.apart c.loop-k.k c.index-spans-k.result c.index-lines-k.result lt, c.requires.place.2 c.loop-k.k c.index-lines-k.result lt)) in
@@ -26,11 +26,11 @@ pub loop-k-preserved : goal.loop-k-preserved
 loop-k-preserved c =
     let h = c.loop-k.invariant in
     let lt : c.loop-k.k < length c.args.spans.now = omega (arith, h.as_long, c.requires.as_long) in
-    edited_more _ _ c.loop-k.lines c.loop-k.k (get_or c.loop-k.lines c.loop-k.k c.index-lines-k.result) (record { pieces = c.replace_box.new.pieces }) h (omega (arith, h.as_long))
-    (ap (λ (d : OwnedLine). get_or c.loop-k.lines c.loop-k.k d) c.index-lines-k.is)
+    edited_more _ _ c.loop-k.lines c.loop-k.k (get_or c.loop-k.lines c.loop-k.k c.index-lines-k.result) c.replace_box.new.line h (omega (arith, h.as_long))
+    (ap (λ (d : PiecesAndRoom). get_or c.loop-k.lines c.loop-k.k d) c.index-lines-k.is)
     (λ s.
     (let e : c.index-spans-k.result ≡ get_or c.args.spans.now c.loop-k.k s = c.index-spans-k.is ∙ get_or_default c.args.spans.now c.loop-k.k c.index-spans-k.result s lt in
-    let P : SpanSet → Type 0 = λ t. TakesOver c.args.at t (get_or c.loop-k.lines c.loop-k.k c.index-lines-k.result) (record { pieces = c.replace_box.new.pieces }) in
+    let P : SpanSet → Type 0 = λ t. TakesOver c.args.at t (get_or c.loop-k.lines c.loop-k.k c.index-lines-k.result) c.replace_box.new.line in
     subst P e (record { line = c.replace_box.ensures.line; sound = c.replace_box.ensures.sound; room = c.replace_box.ensures.room })))
 
 pub returns : goal.returns

@@ -1,39 +1,50 @@
-use Rattle.std.proofs.Common.{arith, ◌≤◌, ◌<◌, refl, ap, sym, ◌∙◌, length, insert, Bool, subst}
-use Rattle.classify.specs.declared.line.owned.OwnedPiece.{OwnedPiece}
-use Rattle.classify.specs.bits.BitRow.{row_room}
-use Rattle.classify.proofs.laws.line.ListLoopLaws.{edited_more}
-use Rattle.classify.proofs.laws.line.LoopLaws.{mapped_first, mapped_read, mapped_more, mapped_all}
-use Rattle.classify.proofs.laws.line.RoomLaws.{put_room, room_used}
+use Rattle.fields.specs.declared.numbers.spans.Interval.{Interval}
+use Rattle.std.proofs.Common.{arith, ◌≡◌, ◌<◌, ◌∙◌, ap, sym, subst, length, get_or, take, map, List, ℕ}
+use Rattle.std.proofs.lemmas.List.{take_all}
+use Rattle.fields.specs.numbers.Spans.{has}
+use Rattle.classify.specs.steps.Pieces.{IsRising, StartsAt}
+use Rattle.classify.specs.steps.Edits.{with_test, row_of}
+use Rattle.classify.proofs.laws.line.ShownLaws.{Cut}
+use Rattle.classify.proofs.laws.line.BoxLaws.{tests_rising}
+use Rattle.classify.proofs.laws.line.EndLaws.{ends_from_cuts, starts_zero}
+use Rattle.classify.proofs.laws.line.AppendLaws.{answers_more, tests_start, tests_place}
 use Rattle.classify.proofs.line.edit.put_answers.Goals as goal
 
-pub loop-i-init : goal.loop-i-init
-loop-i-init c = record { shown = mapped_first _ _; room = record { as_long = refl; done = λ j l lt. absurd (omega arith); rest = λ j l le. refl } }
+abbrev no_span : Interval
+no_span = record { first = 0; last = 0 }
 
-pub put-requires-clause-place : goal.put-requires-clause-place
-put-requires-clause-place c =
-    let h = c.loop-i.invariant.shown in
-    let P : OwnedPiece → Type 0 = λ p. c.args.at ≤ length p.row.bits in
-    subst P (sym (mapped_read _ _ _ _ _ h c.index_mut-piece.ensures.value)) (c.requires.place c.loop-i.i c.index_mut-piece.result.now (omega (arith, h.as_long)))
+pub put_interval-requires-clause-rising : goal.put_interval-requires-clause-rising
+put_interval-requires-clause-rising c =
+    let P : List Cut → Type 0 = λ line. IsRising c.args.spans.now.top line in
+    (c.args.spans.now.top, subst P (sym c.loop-interval.invariant.answers) (tests_rising _ c.args.at _ c.args.line.now.pieces c.requires.rising))
 
-pub put-requires-clause-room : goal.put-requires-clause-room
-put-requires-clause-room c =
-    let h = c.loop-i.invariant.shown in
-    let P : OwnedPiece → Type 0 = λ p. 0 < row_room p.row in
-    subst P (sym (mapped_read _ _ _ _ _ h c.index_mut-piece.ensures.value)) (c.requires.room c.loop-i.i c.index_mut-piece.result.now (omega (arith, h.as_long)))
+pub put_interval-requires-clause-begins : goal.put_interval-requires-clause-begins
+put_interval-requires-clause-begins c =
+    let items : List Interval = c.intervals-interval-items.result.now in
+    let i : ℕ = c.loop-interval.interval-index in
+    let same : items ≡ c.args.spans.now.intervals = c.intervals-interval-items.ensures.value in
+    let all = ends_from_cuts c.args.spans.now.top 0 c.args.line.now.pieces c.args.spans.now.intervals c.intervals-interval-items.ensures.canonical (λ x _ le ne. c.requires.cuts x le ne) (λ _. starts_zero c.args.spans.now.top c.args.line.now.pieces c.requires.rising) in
+    let P : List Cut → Type 0 = λ line. StartsAt (get_or items i no_span).first line in
+    let Q : Interval → Type 0 = λ s. StartsAt s.first c.args.line.now.pieces in
+    let here = all i no_span (omega (arith, ap length same)) in
+    subst P (sym c.loop-interval.invariant.answers) (tests_start c.args.at _ _ c.args.line.now.pieces (subst Q (ap (λ (ss : List Interval). get_or ss i no_span) (sym same)) here.0))
 
-pub loop-i-preserved : goal.loop-i-preserved
-loop-i-preserved c =
-    let h = c.loop-i.invariant.shown in
-    let P : OwnedPiece → Type 0 = λ p. c.args.at ≤ length p.row.bits in
-    let place = subst P (sym (mapped_read _ _ _ _ _ h c.index_mut-piece.ensures.value)) (c.requires.place c.loop-i.i c.index_mut-piece.result.now (omega (arith, h.as_long))) in
-    let is = c.put.ensures.bits ∙ ap (λ (b : Bool). insert c.index_mut-piece.result.now.row.bits c.args.at b) c.has-bit.ensures in
+pub put_interval-requires-clause-place : goal.put_interval-requires-clause-place
+put_interval-requires-clause-place c =
+    let P : List Cut → Type 0 = λ line. (j : ℕ) → j < length line → c.args.at < length (row_of line j) in
+    subst P (sym c.loop-interval.invariant.answers) (λ j lt. tests_place c.args.at j _ c.args.line.now.pieces c.requires.place lt)
+
+pub loop-interval-preserved : goal.loop-interval-preserved
+loop-interval-preserved c =
+    let i : ℕ = c.loop-interval.interval-index in
     record {
-      shown = mapped_more _ _ _ _ c.index_mut-piece.result.now _ h (omega (arith, h.as_long)) c.index_mut-piece.ensures.value (λ i. (c.index_mut-piece.result.now.start, is i));
-      room = edited_more _ _ _ _ c.index_mut-piece.result.now _ c.loop-i.invariant.room (omega (arith, h.as_long)) c.index_mut-piece.ensures.value (put_room _ _ _ _ place c.put.ensures.bits c.put.ensures.room);
+      answers = answers_more c.args.at i c.intervals-interval-items.result.now no_span c.args.line.now.pieces c.put_interval.new.line.pieces (omega arith)
+          (c.put_interval.ensures.answers (has (take i c.intervals-interval-items.result.now)) c.args.line.now.pieces c.requires.place c.loop-interval.invariant.answers);
+      room = omega (arith, c.put_interval.ensures.room, c.loop-interval.invariant.room);
     }
 
 pub returns-clause-answers : goal.returns-clause-answers
-returns-clause-answers c = mapped_all _ _ _ c.loop-i.i c.loop-i.invariant.shown (omega (arith, c.loop-i.invariant.shown.as_long))
-
-pub returns-clause-room : goal.returns-clause-room
-returns-clause-room c n = room_used n _ _ _ c.loop-i.invariant.room (omega (arith, c.loop-i.invariant.shown.as_long))
+returns-clause-answers c =
+    let spans : List Interval = c.intervals-interval-items.result.now in
+    let whole : take c.loop-interval.interval-index spans ≡ c.args.spans.now.intervals = take_all c.loop-interval.interval-index spans (omega arith) ∙ c.intervals-interval-items.ensures.value in
+    c.loop-interval.invariant.answers ∙ ap (λ (ss : List Interval). map (with_test c.args.at (has ss)) c.args.line.now.pieces) whole

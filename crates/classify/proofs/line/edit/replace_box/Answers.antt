@@ -1,9 +1,7 @@
 use Rattle.fields.specs.declared.numbers.spans.Interval.{Interval}
 use Rattle.std.proofs.Common.{arith, List, ℕ, slice_set}
 use Rattle.classify.proofs.laws.line.BoxLaws.{written_say, written_rising, line_from_merge, as_long, sound_from_merge}
-use Rattle.classify.specs.steps.Shown.{shown}
 use Rattle.classify.proofs.laws.line.LoopLaws.{zero_from_rising}
-use Rattle.classify.proofs.laws.line.ShownLaws.{length-shown}
 use Rattle.classify.proofs.laws.line.KeepApartLaws.{long_at, apart_written}
 use Rattle.classify.proofs.line.edit.replace_box.Goals as goal
 
@@ -11,9 +9,9 @@ pub set_answers-requires : goal.set_answers-requires
 set_answers-requires c =
     let top : ℕ = c.args.spans.now.top in
     record {
-      zero = zero_from_rising top (shown c.args.pieces.now.items) c.requires.rising;
-      place = λ j lt. omega (arith, c.requires.place.1, long_at c.requires.place.0 (shown c.args.pieces.now.items) j c.requires.place.2 (omega (arith, length-shown c.args.pieces.now.items)));
-      keeps_apart = apart_written top c.requires.place.0 c.args.at c.args.spans.now.intervals (shown c.args.pieces.now.items) c.requires.rising c.requires.cuts c.requires.apart c.requires.place.2 c.requires.place.1;
+      zero = zero_from_rising top c.args.line.now.pieces c.requires.rising;
+      place = λ j lt. omega (arith, c.requires.place.1, long_at c.requires.place.0 c.args.line.now.pieces j c.requires.place.2 lt);
+      keeps_apart = apart_written top c.requires.place.0 c.args.at c.args.spans.now.intervals c.args.line.now.pieces c.requires.rising c.requires.cuts c.requires.apart c.requires.place.2 c.requires.place.1;
     }
 
 pub returns-clause-sound : goal.returns-clause-sound

@@ -56,8 +56,8 @@ returns-then-interval-top-clause-kept c e =
 pub returns-clause-kept : goal.returns-clause-kept
 returns-clause-kept c e = c.split.ensures.kept c.args.top c.requires.rising e.0
 
-pub returns-in_err-split-2-clause-rows : goal.returns-in_err-split-2-clause-rows
-returns-in_err-split-2-clause-rows c n x room = c.split-then-interval-top.ensures.rows n x (c.split.ensures.rows n x room)
+pub returns-in_err-split-2-clause-room : goal.returns-in_err-split-2-clause-room
+returns-in_err-split-2-clause-room c = c.split-then-interval-top.ensures.room ∙ c.split.ensures.room
 
-pub returns-then-interval-top-clause-rows : goal.returns-then-interval-top-clause-rows
-returns-then-interval-top-clause-rows c n x room = c.split-then-interval-top.ensures.rows n x (c.split.ensures.rows n x room)
+pub returns-then-interval-top-clause-room : goal.returns-then-interval-top-clause-room
+returns-then-interval-top-clause-room c = c.split-then-interval-top.ensures.room ∙ c.split.ensures.room

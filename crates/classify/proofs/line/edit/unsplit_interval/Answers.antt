@@ -1,5 +1,5 @@
+use Rattle.std.proofs.Common.{◌∙◌}
 use Rattle.classify.proofs.laws.line.UnsplitLaws.{ends_unsplit, end_unsplit}
-use Rattle.classify.proofs.laws.line.RoomLaws.{changes_twice}
 use Rattle.classify.proofs.line.edit.unsplit_interval.Goals as goal
 
 pub unsplit-requires-then-interval-top : goal.unsplit-requires-then-interval-top
@@ -13,5 +13,5 @@ returns-then-interval-top-clause-unsplit c =
 pub returns-else-interval-top-clause-unsplit : goal.returns-else-interval-top-clause-unsplit
 returns-else-interval-top-clause-unsplit c = end_unsplit c.args.top c.args.interval _ _ (c.unsplit.ensures.unsplit c.args.top c.requires) c.if-interval-top.false
 
-pub returns-then-interval-top-clause-rows : goal.returns-then-interval-top-clause-rows
-returns-then-interval-top-clause-rows c = changes_twice _ _ _ (c.unsplit.ensures.unsplit c.args.top c.requires).same c.unsplit.ensures.rows c.unsplit-then-interval-top.ensures.rows
+pub returns-then-interval-top-clause-room : goal.returns-then-interval-top-clause-room
+returns-then-interval-top-clause-room c = c.unsplit-then-interval-top.ensures.room ∙ c.unsplit.ensures.room

@@ -1,7 +1,8 @@
 use Rattle.std.proofs.Common.{sym, ◌∙◌, ◌≡◌, ◌<◌, ◌-◌, ℕ, ap, length, arith, remove, subst, rules, vec_len, vec_capacity}
 use Rattle.classify.specs.bits.BitRow.{BitsAndRoom, row_room}
 use Rattle.classify.specs.steps.Packing.{room_of}
-use Rattle.classify.proofs.laws.bits.RowLaws.{front_len, freed_room, removed_vec, remove_bits, remove_packed, popped_packed, popped_bits}
+use Rattle.classify.proofs.laws.bits.PaddedLaws.{remove_front}
+use Rattle.classify.proofs.laws.bits.RowLaws.{front_len, freed_room, removed_vec, remove_packed, popped_packed, popped_bits}
 use Rattle.classify.proofs.bits.bit_row.BitRow.remove.Goals as goal
 
 pub invariant_of-self : goal.invariant_of-self
@@ -31,7 +32,7 @@ returns-else-self-eq0-clause-bits c =
     let n : length c.args.self.now.bits ≡ c.self.inside.len = sym (ap (λ (r : BitsAndRoom). length r.bits) c.self.view_is) ∙ front_len c.self.inside.words.items c.self.inside.len c.self.invariant in
     let in' : c.args.at < c.self.inside.len = omega (arith, c.requires) in
     let h = removed_vec c.self.inside.words.items c.deref_mut.result.now c.shift_out.new.words c.self.inside.words.len c.self.inside.len c.args.at c.deref_mut.ensures.value c.deref_mut.ensures.len c.shift_out.auto.words c.self.invariant in' c.shift_out.ensures in
-    remove_bits _ _ _ _ h.packed h.within h.bits ∙ ap (λ (r : BitsAndRoom). remove r.bits c.args.at) c.self.view_is
+    remove_front _ _ _ _ h.packed.covers h.within h.bits ∙ ap (λ (r : BitsAndRoom). remove r.bits c.args.at) c.self.view_is
 
 pub returns-else-self-eq0-clause-room : goal.returns-else-self-eq0-clause-room
 returns-else-self-eq0-clause-room c =

@@ -1,9 +1,14 @@
-use Rattle.std.proofs.Common.{◌∙◌, ap, Bool, List}
+use Rattle.std.proofs.Common.{◌∙◌, ap, Bool, List, length, take, sym, ◌≡◌, subst, ℕ}
 use Rattle.classify.specs.search.NextMatch.{next_match}
+use Rattle.classify.specs.steps.Packing.{IsPacked, all_bits}
+use Rattle.classify.proofs.laws.bits.RowLaws.{front_len}
 use Rattle.classify.proofs.laws.search.NextLaws.{next_of_one}
 use Rattle.classify.proofs.line.view.Row.next_set.Goals as goal
 
 pub returns : goal.returns
 returns c =
-    next_of_one c.words-words.result c.self.inside.bits.now.bits c.args.from c.first_common.result c.words-words.ensures.packed c.words-words.ensures.bits c.first_common.ensures
-    ∙ ap (λ (bits : List Bool). next_match (λ bit. bit) bits c.args.from) c.self.view_is
+    let bits : List Bool = take c.self.inside.len (all_bits c.self.inside.words.now) in
+    let n : length bits ≡ c.self.inside.len = front_len c.self.inside.words.now c.self.inside.len c.self.invariant in
+    let P : ℕ → Type 0 = λ k. IsPacked c.self.inside.words.now k in
+    next_of_one c.self.inside.words bits c.args.from c.first_common.result (subst P (sym n) c.self.invariant) (ap (λ (k : ℕ). take k (all_bits c.self.inside.words.now)) n) c.first_common.ensures
+    ∙ ap (λ (b : List Bool). next_match (λ bit. bit) b c.args.from) c.self.view_is

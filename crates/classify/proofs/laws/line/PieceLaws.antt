@@ -1,0 +1,73 @@
+-- Pieces as they are kept: their starts and their rows, apart.
+use Rattle.std.proofs.Common.{◌≡◌, ℕ, zero, suc, ◌<◌, ◌≤◌, Bool, List, [], ◌∷◌, length, get_or, refl, sym, ◌∙◌, ap, arith, subst, map, All}
+use Rattle.std.specs.List.{insert, remove, zip}
+use Rattle.std.proofs.Math.ListN.{set}
+use Rattle.std.proofs.lemmas.List.{get_or_default, length-map}
+use Rattle.std.proofs.lemmas.Slice.Zip.{firsts-zip, get_or-zip}
+use Rattle.classify.specs.line.Line.{starts}
+use Rattle.classify.specs.steps.Pieces.{PiecesAndRoom}
+use Rattle.classify.specs.steps.Edits.{row_of}
+use Rattle.classify.proofs.laws.line.ShownLaws.{Cut}
+
+abbrev Row : Type 0
+Row = List Bool
+
+-- starts and rows that show a line
+abbrev pub Show : List ℕ → List Row → ℕ → PiecesAndRoom → Type 0
+Show ss rs n l = record { pieces = zip ss rs; room = n } ≡ l
+
+pub kept_pieces : (ss : List ℕ) (rs : List Row) (n : ℕ) (l : PiecesAndRoom) → Show ss rs n l → zip ss rs ≡ l.pieces
+kept_pieces ss rs n l v = ap (λ (k : PiecesAndRoom). k.pieces) v
+
+pub kept_starts : (ss : List ℕ) (rs : List Row) (n : ℕ) (l : PiecesAndRoom) → length rs ≡ length ss → Show ss rs n l → starts l.pieces ≡ ss
+kept_starts ss rs n l e v = sym (ap starts (kept_pieces ss rs n l v)) ∙ firsts-zip ss rs e
+
+pub kept_long : (ss : List ℕ) (rs : List Row) (n : ℕ) (l : PiecesAndRoom) → length rs ≡ length ss → Show ss rs n l → length l.pieces ≡ length ss
+kept_long ss rs n l e v = sym (length-map l.pieces (λ (p : Cut). p.0)) ∙ ap length (kept_starts ss rs n l e v)
+
+pub kept_row : (ss : List ℕ) (rs : List Row) (n : ℕ) (l : PiecesAndRoom) (k : ℕ) → length rs ≡ length ss → Show ss rs n l → k < length ss → row_of l.pieces k ≡ get_or rs k []
+kept_row ss rs n l k e v lt =
+    let none : Cut = (0, []) in
+    ap (λ (p : Cut). p.1) (sym (ap (λ (ps : List Cut). get_or ps k none) (kept_pieces ss rs n l v)) ∙ get_or-zip ss rs k none lt (omega arith))
+
+-- what holds of each row of the line holds of the rows
+pub each_row_kept : (P : Row → Type 0) (ss : List ℕ) (rs : List Row) (n : ℕ) (l : PiecesAndRoom) → length rs ≡ length ss → Show ss rs n l → ((k : ℕ) → k < length l.pieces → P (row_of l.pieces k)) → All P rs
+each_row_kept P ss rs n l e v h = λ k d lt.
+    let below : k < length ss = omega arith in
+    subst P (kept_row ss rs n l k e v below ∙ get_or_default rs k [] d lt) (h k (omega (arith, kept_long ss rs n l e v)))
+
+-- ---- edits of both
+
+pub zip-insert : (ss : List ℕ) (rs : List Row) (k x : ℕ) (r : Row) → length rs ≡ length ss → k ≤ length ss → zip (insert ss k x) (insert rs k r) ≡ insert (zip ss rs) k (x, r)
+zip-insert [] [] zero x r e le = refl
+zip-insert [] [] (suc k) x r e le = absurd (omega arith)
+zip-insert [] (q ∷ qs) k x r e le = absurd (omega arith)
+zip-insert (s ∷ ss) [] k x r e le = absurd (omega arith)
+zip-insert (s ∷ ss) (q ∷ qs) zero x r e le = refl
+zip-insert (s ∷ ss) (q ∷ qs) (suc k) x r e le = ap (λ (ps : List Cut). (s, q) ∷ ps) (zip-insert ss qs k x r (omega arith) (omega arith))
+
+pub zip-remove : (ss : List ℕ) (rs : List Row) (k : ℕ) → length rs ≡ length ss → zip (remove ss k) (remove rs k) ≡ remove (zip ss rs) k
+zip-remove [] [] zero e = refl
+zip-remove [] [] (suc k) e = refl
+zip-remove [] (q ∷ qs) k e = absurd (omega arith)
+zip-remove (s ∷ ss) [] k e = absurd (omega arith)
+zip-remove (s ∷ ss) (q ∷ qs) zero e = refl
+zip-remove (s ∷ ss) (q ∷ qs) (suc k) e = ap (λ (ps : List Cut). (s, q) ∷ ps) (zip-remove ss qs k (omega arith))
+
+pub zip-set : (ss : List ℕ) (rs : List Row) (k : ℕ) (r : Row) → length rs ≡ length ss → k < length ss → zip ss (set rs k r) ≡ set (zip ss rs) k (get_or ss k 0, r)
+zip-set [] rs k r e lt = absurd (omega arith)
+zip-set (s ∷ ss) [] k r e lt = absurd (omega arith)
+zip-set (s ∷ ss) (q ∷ qs) zero r e lt = refl
+zip-set (s ∷ ss) (q ∷ qs) (suc k) r e lt = ap (λ (ps : List Cut). (s, q) ∷ ps) (zip-set ss qs k r (omega arith) (omega arith))
+
+pub zip-map : (ss : List ℕ) (rs : List Row) (f : Row → Row) → zip ss (map f rs) ≡ map (λ (p : Cut). (p.0, f p.1)) (zip ss rs)
+zip-map [] rs f = refl
+zip-map (s ∷ ss) [] f = refl
+zip-map (s ∷ ss) (r ∷ rs) f = ap (λ (ps : List Cut). (s, f r) ∷ ps) (zip-map ss rs f)
+
+-- what was put in taken out again
+pub remove-insert : {A : Type 0} (xs : List A) (i : ℕ) (y : A) → i ≤ length xs → remove (insert xs i y) i ≡ xs
+remove-insert [] zero y le = refl
+remove-insert [] (suc i) y le = absurd (omega arith)
+remove-insert (x ∷ xs) zero y le = refl
+remove-insert (x ∷ xs) (suc i) y le = ap (λ ys. x ∷ ys) (remove-insert xs i y (omega arith))

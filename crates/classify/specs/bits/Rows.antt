@@ -1,0 +1,7 @@
+-- What rows of equally many bits show.
+use Rattle.std.specs.Prelude.{ℕ, Bool, List}
+
+-- the rows in their order, and how many bits more go into each before memory is needed
+pub record RowsAndRoom : Type 0 where
+  pub rows : List (List Bool)
+  pub room : ℕ

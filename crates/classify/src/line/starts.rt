@@ -1,0 +1,136 @@
+//! Where the pieces of a line start.
+
+ghost use Rattle.std.specs.Prelude.{ℕ, ◌≡◌, ◌<◌, ◌≤◌, ◌+◌, ◌^◌, ◌∷◌, [], length, insert, remove, take, slice_index, IfOk, OnOk, OnErr};
+ghost use Rattle.std.specs.List.Sorted.{IsNonDecreasingBy};
+
+use std::alloc::{AllocError, Global};
+use std::marker::Model;
+
+/// Rising numbers. The first of them are kept as numbers of 32 bits, and the others, where there are any, as numbers of
+/// 128: so a start needs 4 bytes on the fields whose numbers have no more than 32 bits.
+#[derive(Drop)]
+pub(crate) struct Starts {
+    narrow: Vec<u32>,
+    wide: Vec<u128>,
+}
+
+impl Model for Starts {
+    ghost use Rattle.std.specs.Prelude.{List, ℕ, ◌≤◌, ◌+◌, ◌^◌, ◌++◌, length};
+
+    ghost Value = { List ℕ };
+
+    ghost view = { λ s. s.narrow.items ++ s.wide.items };
+
+    ghost invariant = { λ s. length s.narrow.items + length s.wide.items ≤ 2 ^ 32 };
+}
+
+impl Starts {
+    // No number: it takes no memory.
+    pub(crate) fn new(alloc: Global) -> Starts
+        ensures { result ≡ [] }
+    {
+        Starts {
+            narrow: Vec::new(alloc),
+            wide: Vec::new(alloc),
+        }
+    }
+
+    // The number 0 alone.
+    pub(crate) fn zero(alloc: Global) -> Result<Starts, AllocError>
+        ensures { IfOk result (λ starts. starts ≡ 0 ∷ []) }
+    {
+        let mut narrow = Vec::new(alloc);
+        narrow.push(0)?;
+        Ok(Starts {
+            narrow,
+            wide: Vec::new(alloc),
+        })
+    }
+
+    // What its memory comes from.
+    pub(crate) fn allocator(&self) -> Global {
+        *self.narrow.allocator()
+    }
+
+    // The number at a place.
+    pub(crate) fn get(&self, k: usize) -> u128
+        requires { k < length self.now }
+        ensures { result ≡ slice_index self.now k }
+    {
+        let narrow = self.narrow.len();
+        if k < narrow {
+            return u128::from(self.narrow[k]);
+        }
+        self.wide[k - narrow]
+    }
+
+    // How many of the numbers are x or less: two binary searches.
+    pub(crate) fn count_to(&self, x: u128) -> usize
+        requires { IsNonDecreasingBy (λ (s : ℕ). s) self.now }
+        ensures bound { result ≤ length self.now }
+        ensures low { (k : ℕ) → k < result → slice_index self.now k ≤ x }
+        ensures high { (k : ℕ) → result ≤ k → k < length self.now → x < slice_index self.now k }
+    {
+        let narrow = self.narrow.partition_point(|start| u128::from(*start) <= x);
+        let wide = self.wide.partition_point(|start| *start <= x);
+        narrow + wide
+    }
+
+    // Puts a number in at a place, before a greater one or at the end.
+    pub(crate) fn insert(&mut self, k: usize, x: u128) -> Result<(), AllocError>
+        requires place { k ≤ length self.old }
+        requires below { k < length self.old → x < slice_index self.old k }
+        requires few { length self.old < 2 ^ 32 }
+        ensures ok { OnOk result (self.new ≡ insert self.old k x) }
+        ensures err { OnErr result (self.new ≡ self.old) }
+    {
+        let narrow = self.narrow.len();
+        if k < narrow {
+            let _after = self.narrow[k];
+            self.narrow.insert(k, x as u32)?;
+            return Ok(());
+        }
+        if k == narrow && x <= u128::from(u32::MAX) {
+            self.narrow.insert(k, x as u32)?;
+            return Ok(());
+        }
+        self.wide.insert(k - narrow, x)?;
+        Ok(())
+    }
+
+    // Takes a number out.
+    pub(crate) fn remove(&mut self, k: usize)
+        requires { k < length self.old }
+        ensures { self.new ≡ remove self.old k }
+    {
+        let narrow = self.narrow.len();
+        if k < narrow {
+            let _start = self.narrow.remove(k);
+            return;
+        }
+        let _start = self.wide.remove(k - narrow);
+    }
+
+    // Leaves the first number alone.
+    pub(crate) fn keep_first(&mut self)
+        ensures { self.new ≡ take 1 self.old }
+    {
+        if self.narrow.is_empty() {
+            self.wide.truncate(1);
+            return;
+        }
+        self.narrow.truncate(1);
+        self.wide.clear();
+    }
+
+    // Equal numbers.
+    pub(crate) fn copy(&self, alloc: Global) -> Result<Starts, AllocError>
+        ensures { IfOk result (λ starts. starts ≡ self.now) }
+    {
+        let _len = self.narrow.len();
+        Ok(Starts {
+            narrow: Vec::from_slice(alloc, &self.narrow)?,
+            wide: Vec::from_slice(alloc, &self.wide)?,
+        })
+    }
+}
