@@ -1,3 +1,4 @@
+pub mod Around
 pub mod CommonPlaces
 pub mod Cuts
 pub mod Edits

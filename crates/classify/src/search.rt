@@ -1,6 +1,6 @@
 //! The search for the first place that every row has: rows and-ed word by word.
 
-ghost use Rattle.std.specs.Prelude.{◌≡◌, ◌<◌, ◌≤◌, ◌+◌, ◌*◌, ◌/◌, ◌^◌, ℕ};
+ghost use Rattle.std.specs.Prelude.{IsTrue, ◌≡◌, ◌<◌, ◌≤◌, ◌+◌, ◌*◌, ◌/◌, ◌^◌, ℕ};
 ghost use Rattle.classify.specs.steps.CommonPlaces.{IsAndAt, AreAndsAt, AreWide, HaveAll, Nowhere, IsFirst};
 
 use std::simd::prelude::*;
@@ -18,21 +18,25 @@ fn and_at(rows: &[&[u64]], place: usize) -> u64
     all
 }
 
-// The words at four places of every row, and-ed in lanes.
-fn and_four(rows: &[&[u64]], place: usize) -> u64x4
+// Whether four words at a place are seen to have no place that every row has: their words are and-ed in lanes, row by row,
+// until no bit is left. The addresses come first, which tell most.
+fn is_clear(rows: &[&[u64]], place: usize) -> bool
     requires { (words : ℕ) × AreWide words rows.now × (place + 4 ≤ words) }
-    ensures { AreAndsAt result rows.now place }
+    ensures { IsTrue result → Nowhere (HaveAll rows.now) (64 * place) (64 * (place + 4)) }
 {
     let mut all = u64x4::splat(u64::MAX);
     for row in rows {
         let words: &[u64] = row;
         all &= u64x4::from_slice(&words[place..]);
+        if all.reduce_or() == 0 {
+            return true;
+        }
     }
-    all
+    false
 }
 
-// Passes over words that no such place is in, four at a time, and stops before four that one is in, or
-// where fewer than four are left.
+// Passes over words that no such place is in, four at a time, and stops before four that aren't seen to be so, or where
+// fewer than four are left.
 fn skip(rows: &[&[u64]], start: usize, words: usize) -> usize
     requires wide { AreWide words rows.now }
     requires few { words < 2 ^ 58 }
@@ -42,7 +46,7 @@ fn skip(rows: &[&[u64]], start: usize, words: usize) -> usize
     ensures none { Nowhere (HaveAll rows.now) (64 * start) (64 * result) }
 {
     let mut place = start;
-    while place + 4 <= words && and_four(rows, place).reduce_or() == 0 {
+    while place + 4 <= words && is_clear(rows, place) {
         place += 4;
     }
     place

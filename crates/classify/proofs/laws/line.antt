@@ -1,5 +1,6 @@
 pub mod ApartLaws
 pub mod AppendLaws
+pub mod AroundLaws
 pub mod BitPlaceLaws
 pub mod BoxLaws
 pub mod EditLaws

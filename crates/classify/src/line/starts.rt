@@ -3,6 +3,7 @@
 ghost use Rattle.std.specs.Prelude.{ℕ, ◌≡◌, ◌<◌, ◌≤◌, ◌+◌, ◌^◌, ◌∷◌, [], length, insert, remove, take, slice_index, IfOk, OnOk, OnErr};
 ghost use Rattle.std.specs.List.Sorted.{IsNonDecreasingBy};
 
+use crate::line::places;
 use std::alloc::{AllocError, Global};
 use std::marker::Model;
 
@@ -64,14 +65,14 @@ impl Starts {
         self.wide[k - narrow]
     }
 
-    // How many of the numbers are x or less: two binary searches.
+    // How many of the numbers are x or less: a search of each part.
     pub(crate) fn count_to(&self, x: u128) -> usize
         requires { IsNonDecreasingBy (λ (s : ℕ). s) self.now }
         ensures bound { result ≤ length self.now }
         ensures low { (k : ℕ) → k < result → slice_index self.now k ≤ x }
         ensures high { (k : ℕ) → result ≤ k → k < length self.now → x < slice_index self.now k }
     {
-        let narrow = self.narrow.partition_point(|start| u128::from(*start) <= x);
+        let narrow = places::count_to(&self.narrow, x);
         let wide = self.wide.partition_point(|start| *start <= x);
         narrow + wide
     }

@@ -3,7 +3,7 @@ use Rattle.std.proofs.Common.{◌≡◌, ◌≢◌, ◌↔◌, inl, inr, ℕ, ze
 use Rattle.std.specs.Prelude.{slice_index, bit_and, bit_or, nat_eq, replicate}
 use Rattle.std.specs.Int.{bit_at, w64}
 use Rattle.std.proofs.lemmas.List.{get_or-take, length-take-le}
-use Rattle.std.proofs.lemmas.List.Elements.{All-nil, All-more}
+use Rattle.std.proofs.lemmas.List.Elements.{All-nil, All-more, All-take}
 use Rattle.std.proofs.lemmas.Nat.{shr-shr, pow_pos, le_or_l, le_or_r}
 use Rattle.std.proofs.lemmas.Simd.{length-zip2, get_or-zip2, length-chunk, get_or-chunk, length-replicate, get_or-replicate}
 use lib.Lanes.{zip2, chunk, fold_l}
@@ -163,9 +163,16 @@ four_empty rows from words place lanes wide room h z le before (suc j) in' =
     (whole_marks rows from words (place + j) (get_or lanes j 0) wide (omega arith) (h.each j (omega arith)) (omega arith)) (z j)
     (four_empty rows from words place lanes wide room h z le before j (omega arith)) (omega arith)
 
-pub four_passed : (rows : List Words) (from words place : ℕ) (lanes : List ℕ) → AreWide words rows → place + 4 ≤ words → AreAndsAt lanes rows place → fold_l bit_or 0 lanes ≡ 0 → from ≤ 64 * place
+four_passed : (rows : List Words) (from words place : ℕ) (lanes : List ℕ) → AreWide words rows → place + 4 ≤ words → AreAndsAt lanes rows place → fold_l bit_or 0 lanes ≡ 0 → from ≤ 64 * place
     → Nowhere (HaveAll rows) from (64 * place) → Nowhere (HaveAll rows) from (64 * (place + 4))
 four_passed rows from words place lanes wide room h z le before = four_empty rows from words place lanes wide room h (or_zero 0 lanes z).1 le before 4 (omega arith)
+
+-- what some of the rows lack all of them lack
+pub part_passed : (rows : List Words) (count words place : ℕ) (lanes : List ℕ) → AreWide words rows → place + 4 ≤ words → AreAndsAt lanes (take count rows) place → fold_l bit_or 0 lanes ≡ 0
+    → Nowhere (HaveAll rows) (64 * place) (64 * (place + 4))
+part_passed rows count words place lanes wide room h z k ge below every =
+    four_passed (take count rows) (64 * place) words place lanes (All-take (λ (row : Words). length row.now ≡ words) count rows wide) room h z (omega arith) (λ j low high p. absurd (omega arith)) k ge below
+    (All-take (λ (row : Words). get_or (all_bits row.now) k false ≡ true) count rows every)
 
 -- the word of `from`, without the bits before it
 head_is : (word r : ℕ) → r < 64 → word < 2 ^ 64 → bit_and word ((2 ^ 64 - 1) * 2 ^ r % 2 ^ 64) ≡ word / 2 ^ r * 2 ^ r
