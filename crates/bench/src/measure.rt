@@ -1,208 +1,230 @@
-//! The run that measures.
+//! The run that measures: the kinds of rules side by side.
 
-ghost use Rattle.classify.specs.classifier.Classifier.{IsPoint};
-
-use crate::sample::{self, Rule};
+use crate::asked::Asked;
+use crate::column::{self, Column, Unit, timed};
+use crate::kinds::Kind;
+use crate::questions::Question;
 use crate::script::Script;
-use crate::walk;
+use crate::subject::Subject;
+use crate::{edits, known, load, memory};
 use anyhow::Result;
-use classify::{Classifier, PIECE_BYTES};
-use fields::{FIELDS, Field};
-use rules::Boxed;
+use classify::Classifier;
+use rules::{Boxed, Rule};
 use sessions::Session;
-use std::alloc::Global;
+use std::alloc::AllocError;
 use std::rt::Clock;
-use std::time::Instant;
 
-/// How many different points of one kind are asked in turn.
-const QUESTIONS: usize = 1024;
+/// How many different packets are asked about in turn.
+const QUESTIONS: usize = 4096;
 
-/// How often the classifier is asked all of them.
-const ROUNDS: usize = 200;
+/// How many searches and verdicts are asked for.
+const ASKED: usize = 50 * QUESTIONS;
 
-/// How many boxes the plain walks pass over, all of them together.
-const WALKED: usize = 20_000_000;
-
-/// How many packet lines a session is asked.
+/// How many packet lines a session is given.
 const PACKETS: usize = 1_000_000;
 
-/// Which rule allows the points.
-#[derive(Clone, Copy)]
-enum Match {
-    First,
-    Last,
-    None,
-    EachInTurn,
+/// Up to how many rules all are put in at the front without being asked for.
+const FRONT_RULES: usize = 2048;
+
+/// Notes what a session takes for a script.
+fn note_script<R: Clock + AllocGlobal>(
+    rt: &R,
+    session: &mut Session,
+    label: &'static str,
+    script: &Script,
+    column: &mut Column,
+) -> Result<()> {
+    let (took, is_met) = script.time(rt, session)?;
+    column.note_wrong(usize::from(!is_met));
+    Ok(column.note(label, Unit::Microseconds, took)?)
 }
 
-impl Match {
-    const ALL: [Match; 4] = [Match::First, Match::Last, Match::None, Match::EachInTurn];
-
-    fn name(self) -> &'static str {
-        match self {
-            Match::First => "first",
-            Match::Last => "last",
-            Match::None => "none",
-            Match::EachInTurn => "each in turn",
-        }
-    }
-
-    /// The place of the match in a round, and a rule that allows the point.
-    fn rule(self, count: usize, round: usize) -> (Option<usize>, Rule) {
-        match self {
-            Match::First => (Some(0), Rule::of(0)),
-            Match::Last => {
-                let place = count.saturating_sub(1);
-                (Some(place), Rule::of(place))
-            }
-            Match::None => (None, Rule::of(0).with(Rule::of(1))),
-            Match::EachInTurn => {
-                let place = round.wrapping_mul(2741) % count.max(1);
-                (Some(place), Rule::of(place))
-            }
-        }
-    }
+/// The restore of all rules by a session.
+fn measure_restore<R: Clock + AllocGlobal>(
+    rt: &R,
+    session: &mut Session,
+    texts: &[String],
+    column: &mut Column,
+) -> Result<()> {
+    let script = Script::restore(rt.alloc(), texts)?;
+    let bytes = script.input_bytes() as u128;
+    column.note("text of the rules, bytes", Unit::Count, bytes)?;
+    note_script(rt, session, "restore of the text", &script, column)
 }
 
-/// A point, and the place of the box that is to be found.
-#[derive(Drop)]
-struct Question {
-    point: [u128; FIELDS],
-    wanted: Option<usize>,
-    ghost within: { IsPoint point },
+/// Rules read from their texts.
+fn measure_reading<R: Clock + AllocGlobal>(
+    rt: &R,
+    texts: &[String],
+    column: &mut Column,
+) -> Result<Vec<Rule>> {
+    let alloc = rt.alloc();
+    let (words, took) = timed(rt, || load::words(alloc, texts))?;
+    column.note("lines cut into words", Unit::Microseconds, took)?;
+    let (rules, took) = timed(rt, || load::rules(alloc, &words))?;
+    column.note("rules read from words", Unit::Microseconds, took)?;
+    Ok(rules)
 }
 
-fn questions(alloc: Global, kind: Match, count: usize) -> Result<Vec<Question>> {
-    let mut questions = Vec::with_capacity(alloc, QUESTIONS)?;
-    for round in 0..QUESTIONS {
-        let (wanted, rule) = kind.rule(count, round);
-        let point = rule.point(round);
-        questions.push(Question { point, wanted })?;
-    }
-    Ok(questions)
+/// The classifier of rules.
+fn measure_classifying<R: Clock + AllocGlobal>(
+    rt: &R,
+    rules: &[Rule],
+    column: &mut Column,
+) -> Result<Classifier> {
+    let alloc = rt.alloc();
+    let (boxes, took) = timed(rt, || load::boxes(alloc, rules))?;
+    column.note("boxes made of rules", Unit::Microseconds, took)?;
+    let (classifier, took) = timed(rt, || load::put_last(alloc, boxes))?;
+    column.note("boxes put in, each last", Unit::Microseconds, took)?;
+    Ok(classifier)
 }
 
-/// The nanoseconds that a search takes, and how many answers were wrong.
-fn time_searches(
-    rt: &impl Clock,
+/// Answers about the packets, so many times.
+fn note_asked<R: Clock>(
+    rt: &R,
+    asked: Asked<'_>,
+    label: &'static str,
     questions: &[Question],
-    classifier: &Classifier,
-) -> Result<(u128, usize)> {
-    let start = Instant::now(rt)?;
-    let mut wrong = 0usize;
-    for _ in 0..ROUNDS {
-        for question in questions {
-            if classifier.next(&question.point, 0) != question.wanted {
-                wrong = wrong.saturating_add(1);
-            }
-        }
-    }
-    let took = start.elapsed(rt)?.as_nanos();
-    Ok((took / (ROUNDS * QUESTIONS) as u128, wrong))
+    times: usize,
+    column: &mut Column,
+) -> Result<u128> {
+    let (took, wrong) = asked.time(rt, questions, times)?;
+    column.note_wrong(wrong);
+    column.note(label, Unit::Nanoseconds, took)?;
+    Ok(took)
 }
 
-/// The nanoseconds that a plain walk takes, and how many answers were wrong.
-fn time_walks(rt: &impl Clock, questions: &[Question], boxes: &[Boxed]) -> Result<(u128, usize)> {
-    let rounds = WALKED / boxes.len().max(1);
-    let start = Instant::now(rt)?;
-    let mut wrong = 0usize;
-    for (question, _) in questions.iter().cycle().zip(0..rounds) {
-        if walk::first(boxes, &question.point) != question.wanted {
-            wrong = wrong.saturating_add(1);
-        }
-    }
-    let took = start.elapsed(rt)?.as_nanos();
-    Ok((took / (rounds as u128).max(1), wrong))
-}
-
-fn print_searches<R: Print + Clock + AllocGlobal>(
+/// Answers of the classifier, and of plain walks.
+fn measure_searches<R: Clock>(
     rt: &R,
     classifier: &Classifier,
     boxes: &[Boxed],
+    questions: &[Question],
+    column: &mut Column,
 ) -> Result<()> {
-    println!(rt; "  match at       classifier        a second   plain walk     times")?;
-    for kind in Match::ALL {
-        let questions = questions(rt.alloc(), kind, boxes.len())?;
-        let (search, wrong) = time_searches(rt, &questions, classifier)?;
-        let (walk, walked_wrong) = time_walks(rt, &questions, boxes)?;
-        if wrong > 0 || walked_wrong > 0 {
-            println!(rt; "  {wrong} searches and {walked_wrong} walks went wrong")?;
-        }
-        let name = kind.name();
-        let second = 1_000_000_000 / search.max(1);
-        let tenths = walk.saturating_mul(10) / search.max(1);
-        let (times, tenth) = (tenths / 10, tenths % 10);
-        println!(rt; "  {name:<12} {search:>9} ns {second:>15} {walk:>9} ns {times:>7}.{tenth}")?;
-    }
+    let (searched, walked) = (Asked::Classifier(classifier), Asked::Walk(boxes));
+    let walks = known::WALKED / boxes.len().max(1);
+    note_asked(rt, searched, "search", questions, ASKED, column)?;
+    note_asked(rt, walked, "plain walk", questions, walks, column)?;
     Ok(())
 }
 
-fn print_memory(rt: &impl Print, classifier: &Classifier) -> Result<()> {
-    let mut pieces = 0usize;
-    let mut words = 0usize;
-    for field in Field::ALL {
-        for piece in classifier.line(field).pieces() {
-            pieces = pieces.saturating_add(1);
-            words = words.saturating_add(piece.row().len().div_ceil(64));
-        }
-    }
-    let row_bytes = words.saturating_mul(8);
-    let piece_bytes = pieces.saturating_mul(PIECE_BYTES);
-    println!(rt; "  rows: {words} words, {row_bytes} bytes; {pieces} pieces, {piece_bytes} bytes")?;
-    Ok(())
+/// Verdicts of the table.
+fn measure_verdicts<R: Clock>(
+    rt: &R,
+    session: &Session,
+    questions: &[Question],
+    column: &mut Column,
+) -> Result<()> {
+    let table = Asked::Table(session.table());
+    let took = note_asked(rt, table, "verdict of the table", questions, ASKED, column)?;
+    Ok(column.note("the same, a second", Unit::Count, a_second(took))?)
 }
 
-/// Prints what a script takes in a session, and what it reads and writes.
-fn print_script<R: Print + Clock + AllocGlobal>(
+/// How many go into a second of what takes so many nanoseconds.
+fn a_second(nanoseconds: u128) -> u128 {
+    1_000_000_000 / nanoseconds.max(1)
+}
+
+/// Packet lines.
+fn measure_packets<R: Clock + AllocGlobal>(
     rt: &R,
     session: &mut Session,
-    name: &str,
-    script: &Script,
+    questions: &[Question],
+    column: &mut Column,
 ) -> Result<()> {
-    let room = script.room(rt.alloc())?;
-    let start = Instant::now(rt)?;
-    let writer = script.run(session, room);
-    let took = start.elapsed(rt)?.as_micros();
-    let (read, written) = (script.input_bytes(), script.wanted_bytes());
-    println!(rt; "  {name:<20} {took:>9} us, {read} bytes read, {written} bytes written")?;
-    if !script.is_met(&writer) {
-        println!(rt; "  its output went wrong")?;
-    }
-    Ok(())
+    let script = Script::packets(rt.alloc(), questions, PACKETS)?;
+    let (took, is_met) = script.time(rt, session)?;
+    column.note_wrong(usize::from(!is_met));
+    let each = took / PACKETS as u128;
+    column.note("packet line of a session", Unit::Nanoseconds, each)?;
+    Ok(column.note("the same, a second", Unit::Count, a_second(each))?)
 }
 
-/// Prints what a restore of so many rules, their listing, and packet lines take in a session.
-fn print_session<R: Print + Clock + AllocGlobal>(rt: &R, count: usize) -> Result<()> {
+/// The listing.
+fn measure_listing<R: Clock + AllocGlobal>(
+    rt: &R,
+    session: &mut Session,
+    texts: &[String],
+    column: &mut Column,
+) -> Result<()> {
+    let script = Script::listing(rt.alloc(), texts)?;
+    note_script(rt, session, "listing", &script, column)
+}
+
+/// All rules loaded: by a restore, and then step by step.
+fn load_all<R: Clock + AllocGlobal>(
+    rt: &R,
+    session: &mut Session,
+    texts: &[String],
+    column: &mut Column,
+) -> Result<Classifier> {
+    measure_restore(rt, session, texts, column)?;
+    let rules = measure_reading(rt, texts, column)?;
+    measure_classifying(rt, &rules, column)
+}
+
+/// Packets asked about.
+fn ask_all<R: Clock + AllocGlobal>(
+    rt: &R,
+    session: &mut Session,
+    classifier: &Classifier,
+    subject: &Subject,
+    column: &mut Column,
+) -> Result<()> {
+    let questions = subject.questions.as_slice();
+    let decided = subject.decided() as u128;
+    column.note("packets that a rule decides", Unit::Count, decided)?;
+    measure_searches(rt, classifier, &subject.boxes, questions, column)?;
+    measure_verdicts(rt, session, questions, column)?;
+    measure_packets(rt, session, questions, column)
+}
+
+/// Rules loaded and edited, and then asked about and listed.
+fn measure_all<R: Clock + AllocGlobal>(
+    rt: &R,
+    session: &mut Session,
+    subject: &Subject,
+    column: &mut Column,
+) -> Result<()> {
+    let texts = subject.texts.as_slice();
+    let mut classifier = load_all(rt, session, texts, column)?;
+    edits::measure_session(rt, session, texts, column)?;
+    edits::measure_classifier(rt, &mut classifier, texts, column)?;
+    ask_all(rt, session, &classifier, subject, column)?;
+    measure_listing(rt, session, texts, column)?;
+    memory::measure(&classifier, column)
+}
+
+/// The figures of so many rules of a kind.
+fn measure_kind<R: Clock + AllocGlobal>(rt: &R, kind: Kind, count: usize) -> Result<Column> {
     let alloc = rt.alloc();
-    let rules = sample::rules(alloc, count)?;
+    let subject = Subject::new(alloc, kind, count, QUESTIONS)?;
     let mut session = Session::new(alloc)?;
-    println!(rt; "  in a session")?;
-    let restore = Script::restore(alloc, rules.as_slice())?;
-    print_script(rt, &mut session, "restore", &restore)?;
-    let listing = Script::listing(alloc, rules.as_slice())?;
-    print_script(rt, &mut session, "listing", &listing)?;
-    let packets = Script::packets(alloc, count, PACKETS)?;
-    let name = format!(in alloc; "{PACKETS} packet lines")?;
-    print_script(rt, &mut session, name.as_str(), &packets)
+    let mut column = Column::new(alloc, kind);
+    measure_all(rt, &mut session, &subject, &mut column)?;
+    column.close()?;
+    Ok(column)
 }
 
-/// Prints the times and the memory for so many rules.
-pub(crate) fn run<R: Print + Clock + AllocGlobal>(rt: &R, count: usize) -> Result<()> {
-    let alloc = rt.alloc();
+/// The figures of so many rules of each kind.
+fn print_kinds<R: Print + Clock + AllocGlobal>(rt: &R, count: usize) -> Result<()> {
+    let mut columns = Vec::with_capacity(rt.alloc(), Kind::ALL.len())?;
+    for kind in Kind::ALL {
+        let column = measure_kind(rt, kind, count)?;
+        columns.push(column).map_err(AllocError::from)?;
+    }
+    column::print_all(rt, &columns)
+}
+
+/// Prints the times and the memory for so many rules. Where all put in at the front isn't asked for, it is left out of
+/// a run with many rules.
+pub(crate) fn run<R: Print + Clock + AllocGlobal>(rt: &R, count: usize, front: bool) -> Result<()> {
     println!(rt; "{count} rules")?;
-    let spent = sample::boxes(alloc, count)?;
-    let start = Instant::now(rt)?;
-    let classifier = sample::put_first(alloc, spent)?;
-    let front = start.elapsed(rt)?.as_micros();
-    println!(rt; "  each put first: {front} us")?;
-    drop(classifier);
-    let spent = sample::boxes(alloc, count)?;
-    let start = Instant::now(rt)?;
-    let classifier = sample::appended(alloc, spent)?;
-    let end = start.elapsed(rt)?.as_micros();
-    println!(rt; "  each put last: {end} us")?;
-    print_memory(rt, &classifier)?;
-    let boxes = sample::boxes(alloc, count)?;
-    print_searches(rt, &classifier, &boxes)?;
-    print_session(rt, count)
+    print_kinds(rt, count)?;
+    if front || count <= FRONT_RULES {
+        known::run_front(rt, count)?;
+    }
+    known::run(rt, count)
 }
