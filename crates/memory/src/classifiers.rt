@@ -48,6 +48,25 @@ fn pieces_on(classifier: &Classifier, field: Field) -> usize {
     classifier.line(field).len()
 }
 
+/// Puts a bit in the middle of 100.
+fn put_bit(row: &mut BitRow) -> Result<(), Trouble> {
+    if row.len() != 100 {
+        return Err(Trouble::OtherAnswer);
+    }
+    row.insert(50, true)?;
+    Ok(())
+}
+
+/// Looks at it, and takes it out.
+fn take_bit(row: &mut BitRow) -> Result<(), Trouble> {
+    if row.len() != 101 {
+        return Err(Trouble::OtherAnswer);
+    }
+    expect(row.get(50) && !row.get(49) && !row.get(51) && row.get(52))?;
+    row.remove(50);
+    Ok(())
+}
+
 /// `BitRow::insert` where there is room, `remove`, `get` and `len`.
 pub fn bit_row(alloc: Global, times: u32) -> Result<(), Trouble> {
     let mut row = BitRow::new(alloc);
@@ -55,26 +74,24 @@ pub fn bit_row(alloc: Global, times: u32) -> Result<(), Trouble> {
         row.insert(row.len(), place % 3 == 0)?;
     }
     for _ in 0..times {
-        if row.len() != 100 {
-            return Err(Trouble::OtherAnswer);
-        }
-        row.insert(50, true)?;
-        if row.len() != 101 {
-            return Err(Trouble::OtherAnswer);
-        }
-        expect(row.get(50) && !row.get(49) && !row.get(51) && row.get(52))?;
-        row.remove(50);
+        put_bit(&mut row)?;
+        take_bit(&mut row)?;
     }
     Ok(())
+}
+
+/// Whether this is the next box from a place on that allows the packet.
+fn finds(classifier: &Classifier, from: usize, place: Option<usize>) -> bool {
+    classifier.next(&point(), from) == place
 }
 
 /// `Classifier::next`.
 pub fn next(alloc: Global, times: u32) -> Result<(), Trouble> {
     let classifier = of_two(alloc)?;
     for _ in 0..times {
-        let point = point();
-        expect(classifier.next(&point, 0) == Some(0) && classifier.next(&point, 1) == Some(1))?;
-        expect(classifier.next(&point, 2).is_none())?;
+        expect(finds(&classifier, 0, Some(0)))?;
+        expect(finds(&classifier, 1, Some(1)))?;
+        expect(finds(&classifier, 2, None))?;
     }
     Ok(())
 }
@@ -89,25 +106,51 @@ pub fn lines(alloc: Global, times: u32) -> Result<(), Trouble> {
     Ok(())
 }
 
+/// One of the boxes that were made before.
+fn one_of(boxes: &mut Vec<Boxed>) -> Result<Boxed, Trouble> {
+    match boxes.pop() {
+        Some(boxed) => Ok(boxed),
+        None => Err(Trouble::OtherAnswer),
+    }
+}
+
+/// Puts a box in between two.
+fn put_middle(classifier: &mut Classifier, boxed: Boxed) -> Result<(), Trouble> {
+    if classifier.len() != 2 {
+        return Err(Trouble::OtherAnswer);
+    }
+    classifier.insert(1, boxed)?;
+    Ok(())
+}
+
+/// Looks at the line of the addresses, and takes the middle one of three boxes out.
+fn take_middle(classifier: &mut Classifier) -> Result<(), Trouble> {
+    if classifier.len() != 3 {
+        return Err(Trouble::OtherAnswer);
+    }
+    expect(pieces_on(classifier, Field::Source) == 3)?;
+    classifier.remove(1);
+    Ok(())
+}
+
 /// `Classifier::insert` of a box that brings no new cut, where there is room for its bits, and `remove`.
 pub fn insert(alloc: Global, times: u32) -> Result<(), Trouble> {
     let mut classifier = of_two(alloc)?;
     let mut boxes = boxes_of(alloc, FIRST)?;
     for _ in 0..times {
-        let Some(boxed) = boxes.pop() else {
-            return Err(Trouble::OtherAnswer);
-        };
-        if classifier.len() != 2 {
-            return Err(Trouble::OtherAnswer);
-        }
-        classifier.insert(1, boxed)?;
-        if classifier.len() != 3 {
-            return Err(Trouble::OtherAnswer);
-        }
-        expect(pieces_on(&classifier, Field::Source) == 3)?;
-        classifier.remove(1);
+        put_middle(&mut classifier, one_of(&mut boxes)?)?;
+        take_middle(&mut classifier)?;
     }
     expect(pieces_on(&classifier, Field::DestinationPort) == 3)
+}
+
+/// Puts a box over the last of two.
+fn put_over(classifier: &mut Classifier, boxed: Boxed) -> Result<(), Trouble> {
+    if classifier.len() != 2 {
+        return Err(Trouble::OtherAnswer);
+    }
+    classifier.replace(1, boxed)?;
+    expect(pieces_on(classifier, Field::DestinationPort) == 3)
 }
 
 /// `Classifier::replace` by a box that brings no new cut.
@@ -115,16 +158,23 @@ pub fn replace(alloc: Global, times: u32) -> Result<(), Trouble> {
     let mut classifier = of_two(alloc)?;
     let mut boxes = boxes_of(alloc, SECOND)?;
     for _ in 0..times {
-        let Some(boxed) = boxes.pop() else {
-            return Err(Trouble::OtherAnswer);
-        };
-        if classifier.len() != 2 {
-            return Err(Trouble::OtherAnswer);
-        }
-        classifier.replace(1, boxed)?;
-        expect(pieces_on(&classifier, Field::DestinationPort) == 3)?;
+        put_over(&mut classifier, one_of(&mut boxes)?)?;
     }
     Ok(())
+}
+
+/// Takes the only box out, by `clear` or by `remove`.
+fn take_all(classifier: &mut Classifier, clears: bool) -> Result<(), Trouble> {
+    if classifier.len() != 1 {
+        return Err(Trouble::OtherAnswer);
+    }
+    expect(pieces_on(classifier, Field::Source) == 3)?;
+    if clears {
+        classifier.clear();
+    } else {
+        classifier.remove(0);
+    }
+    expect(classifier.len() == 0 && pieces_on(classifier, Field::Source) == 1)
 }
 
 /// `Classifier::clear`, and `remove` that takes back the cuts of a box.
@@ -134,20 +184,11 @@ pub fn replace(alloc: Global, times: u32) -> Result<(), Trouble> {
 pub fn clear(alloc: Global, times: u32) -> Result<(), Trouble> {
     let mut classifier = Classifier::new(alloc)?;
     let boxes = boxes_of(alloc, FIRST)?;
-    let mut done = 0;
+    let mut done: u32 = 0;
     for boxed in boxes {
         classifier.insert(0, boxed)?;
-        if classifier.len() != 1 {
-            return Err(Trouble::OtherAnswer);
-        }
-        expect(pieces_on(&classifier, Field::Source) == 3)?;
-        if done < times {
-            classifier.clear();
-            done += 1;
-        } else {
-            classifier.remove(0);
-        }
-        expect(classifier.len() == 0 && pieces_on(&classifier, Field::Source) == 1)?;
+        take_all(&mut classifier, done < times)?;
+        done = done.saturating_add(1);
     }
     Ok(())
 }

@@ -11,19 +11,48 @@ pub fn words_of(alloc: Global, line: &[u8]) -> Result<Words, Trouble> {
     }
 }
 
+/// Whether there are four words, the last of which is `a b`.
+fn are_four(words: &Words) -> bool {
+    words.len() == 4
+        && is_text(words.get(3), b"a b")
+        && words.after(1).len() == 3
+        && !words.is_empty()
+}
+
 /// `Words::len`, `is_empty`, `get` and `after`.
 pub fn words(alloc: Global, times: u32) -> Result<(), Trouble> {
     let words = words_of(alloc, b"-m comment --comment \"a b\"")?;
     for _ in 0..times {
-        if words.len() != 4 {
-            return Err(Trouble::OtherAnswer);
-        }
-        expect(is_text(words.get(3), b"a b") && words.after(1).len() == 3 && !words.is_empty())?;
+        expect(are_four(&words))?;
     }
     Ok(())
 }
 
-/// `Packet::read`, `hook` and `point`.
+/// Whether a packet is forwarded to port 22.
+fn is_forwarded(packet: &Packet) -> bool {
+    packet.hook() == Hook::Forward
+        && packet.numbers()[7] == 22
+        && packet.point(Field::DestinationPort) == 22
+        && packet.point(Field::TcpFlags) == 18
+}
+
+/// Whether words are such a packet.
+fn is_read(words: &Words) -> bool {
+    match Packet::read(words, 0) {
+        Ok(packet) => is_forwarded(&packet),
+        Err(_) => false,
+    }
+}
+
+/// Whether words lack a key.
+fn is_refused(words: &Words) -> bool {
+    match Packet::read(words, 0) {
+        Ok(_) => false,
+        Err(fault) => fault == PacketFault::KeyMissing,
+    }
+}
+
+/// `Packet::read`, `hook`, `numbers` and `point`.
 pub fn packet(alloc: Global, times: u32) -> Result<(), Trouble> {
     let line =
         b"FORWARD src=10.0.0.1 dst=10.0.0.2 proto=tcp in=eth0 out=lo frag=0 sport=7 dport=22 \
@@ -31,27 +60,28 @@ pub fn packet(alloc: Global, times: u32) -> Result<(), Trouble> {
     let words = words_of(alloc, line)?;
     let bad = words_of(alloc, b"INPUT src=10.0.0.1 dst=10.0.0.2 proto=icmp")?;
     for _ in 0..times {
-        let Ok(packet) = Packet::read(&words, 0) else {
-            return Err(Trouble::OtherAnswer);
-        };
-        expect(packet.hook() == Hook::Forward)?;
-        expect(packet.numbers()[7] == 22)?;
-        expect(packet.point(Field::DestinationPort) == 22 && packet.point(Field::TcpFlags) == 18)?;
-        match Packet::read(&bad, 0) {
-            Ok(_) => return Err(Trouble::OtherAnswer),
-            Err(fault) => expect(fault == PacketFault::KeyMissing)?,
-        }
+        expect(is_read(&words))?;
+        expect(is_refused(&bad))?;
     }
     Ok(())
+}
+
+/// Whether a set up to 63 has no number.
+fn is_none(none: &Spans) -> bool {
+    none.top() == 63 && none.intervals().is_empty() && !none.has(0)
+}
+
+/// Whether a set has the numbers outside one interval from 5 on.
+fn is_outside(set: &Spans) -> bool {
+    set.has(4) && !set.has(5) && set.has(63) && set.intervals().len() == 2
 }
 
 /// `Spans::none`, `has`, `top` and `intervals`.
 pub fn spans(alloc: Global, times: u32) -> Result<(), Trouble> {
     let set = Spans::one(alloc, 63, 5, 9)?.except(alloc)?;
     for _ in 0..times {
-        let none = Spans::none(alloc, 63);
-        expect(none.top() == 63 && none.intervals().is_empty() && !none.has(0))?;
-        expect(set.has(4) && !set.has(5) && set.has(63) && set.intervals().len() == 2)?;
+        expect(is_none(&Spans::none(alloc, 63)))?;
+        expect(is_outside(&set))?;
     }
     Ok(())
 }

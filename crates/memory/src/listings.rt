@@ -40,10 +40,18 @@ fn expect_rules(table: &Table, chain: Option<&[u8]>, text: &[u8]) -> Result<(), 
     expect(output.into_device().is_whole())
 }
 
+/// Compares the rules of several chains.
+fn expect_all(table: &Table, rows: &[(Option<&[u8]>, &[u8])]) -> Result<(), Trouble> {
+    for (chain, text) in rows {
+        expect_rules(table, *chain, text)?;
+    }
+    Ok(())
+}
+
 /// `write_rules`, of all chains, of a built-in chain, of a user chain, and of one that isn't there.
 pub fn rules(alloc: Global, times: u32) -> Result<(), Trouble> {
     let table = of_rules(alloc)?;
-    let rows: [(Option<&[u8]>, &[u8]); 4] = [
+    const ROWS: &[(Option<&[u8]>, &[u8])] = &[
         (
             None,
             b"-P INPUT ACCEPT\n-P FORWARD ACCEPT\n-P OUTPUT ACCEPT\n-N a\n-N b\n\
@@ -60,9 +68,7 @@ pub fn rules(alloc: Global, times: u32) -> Result<(), Trouble> {
         (Some(b"c"), b""),
     ];
     for _ in 0..times {
-        for (chain, text) in rows {
-            expect_rules(&table, chain, text)?;
-        }
+        expect_all(&table, ROWS)?;
     }
     Ok(())
 }

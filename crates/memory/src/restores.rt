@@ -74,6 +74,15 @@ pub fn ends(alloc: Global, times: u32) -> Result<(), Trouble> {
     Ok(())
 }
 
+/// The restore after each of some lines.
+fn after_each(restore: Restore, table: &mut Table, lines: &[&[u8]]) -> Result<Restore, Trouble> {
+    let mut next = restore;
+    for line in lines {
+        next = after(next, table, line)?;
+    }
+    Ok(next)
+}
+
 /// The restore after each of some lines, so many times.
 fn after_all(
     restore: Restore,
@@ -83,19 +92,17 @@ fn after_all(
 ) -> Result<Restore, Trouble> {
     let mut next = restore;
     for _ in 0..times {
-        for line in lines {
-            next = after(next, table, line)?;
-        }
+        next = after_each(next, table, lines)?;
     }
     Ok(next)
 }
 
 /// Lines that ask nothing.
-const QUIET: [&[u8]; 4] = [b"", b" \t", b"# a \"b", b"\t#COMMIT"];
+const QUIET: &[&[u8]] = &[b"", b" \t", b"# a \"b", b"\t#COMMIT"];
 
 /// The quiet lines between sections.
 fn quiet_between(alloc: Global, table: &mut Table, times: u32) -> Result<(), Trouble> {
-    let restore = after_all(Restore::new(alloc, false, false), table, &QUIET, times)?;
+    let restore = after_all(Restore::new(alloc, false, false), table, QUIET, times)?;
     expect(restore.finish().is_ok())
 }
 
@@ -116,22 +123,22 @@ pub fn quiet_lines(alloc: Global, times: u32) -> Result<(), Trouble> {
     let mut table = Table::new(alloc)?;
     quiet_between(alloc, &mut table, times)?;
     for opening in OPENING {
-        lines_inside(alloc, &mut table, opening, &QUIET, times)?;
+        lines_inside(alloc, &mut table, opening, QUIET, times)?;
     }
     Ok(())
 }
 
 /// `Restore::line` of the lines of a section that is skipped, whatever they are.
 pub fn skipped_lines(alloc: Global, times: u32) -> Result<(), Trouble> {
-    let lines = [
-        b":PREROUTING ACCEPT [0:0]".as_slice(),
+    const LINES: &[&[u8]] = &[
+        b":PREROUTING ACCEPT [0:0]",
         b"-A PREROUTING -j DNAT --to 10.0.0.1",
         b"*filter",
         b"a \"b",
         b"COMMIT x",
     ];
     let mut table = Table::new(alloc)?;
-    lines_inside(alloc, &mut table, b"*nat", &lines, times)
+    lines_inside(alloc, &mut table, b"*nat", LINES, times)
 }
 
 /// Whether a line ends a restore by a fault.

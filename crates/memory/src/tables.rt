@@ -125,6 +125,15 @@ pub fn has_rule(alloc: Global, times: u32) -> Result<(), Trouble> {
     look_often(&table, &rule, &other, times)
 }
 
+/// Takes the rules of INPUT out, by `flush` or else by `flush_all`.
+fn flush_input(table: &mut Table, flushes_one: bool) -> Result<(), TableFault> {
+    if flushes_one {
+        table.flush(b"INPUT")
+    } else {
+        table.flush_all()
+    }
+}
+
 /// Puts the rules in, one at a time, and takes each out: the first ones by the calls, each of which is `flush` or else
 /// `flush_all`, and the others by `delete_at`. So memory is taken as often whatever the number of calls.
 fn emptied(alloc: Global, times: u32, flushes_one: bool) -> Result<(), Trouble> {
@@ -133,10 +142,8 @@ fn emptied(alloc: Global, times: u32, flushes_one: bool) -> Result<(), Trouble> 
         append(alloc, &mut table, b"INPUT", RULE)?;
         accepted(if done >= times {
             table.delete_at(b"INPUT", 1)
-        } else if flushes_one {
-            table.flush(b"INPUT")
         } else {
-            table.flush_all()
+            flush_input(&mut table, flushes_one)
         })?;
         expect(rules_of_input(&table) == 0)?;
     }
@@ -184,7 +191,7 @@ fn packet_of(alloc: Global, line: &[u8]) -> Result<Packet, Trouble> {
 }
 
 /// The rules of a walk that jumps, goes and returns: their chains and lines.
-const WALKED: [(&[u8], &[u8]); 4] = [
+const WALKED: &[(&[u8], &[u8])] = &[
     (b"INPUT", RULE),
     (b"INPUT", b"-p tcp -j DROP"),
     (b"a", b"-g b"),

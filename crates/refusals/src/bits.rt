@@ -28,10 +28,15 @@ fn insert_first(
     Ok(())
 }
 
-/// Fills the word of a row of one bit, in which there is room.
+/// Puts a bit in last, for which there is room.
+fn insert_last(row: &mut BitRow) -> Result<(), Trouble> {
+    expect_given(row.insert(row.len(), false))
+}
+
+/// Fills the word of a row of one bit.
 fn fill(row: &mut BitRow) -> Result<(), Trouble> {
-    for _ in 1..64 {
-        expect_given(row.insert(row.len(), false))?;
+    for _ in 1..64u32 {
+        insert_last(row)?;
     }
     Ok(())
 }

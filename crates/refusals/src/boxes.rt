@@ -2,7 +2,7 @@
 use crate::case::{Refusals, Trouble, again, expect, expect_kept};
 use crate::rulings::{has_text, rule_of};
 use crate::sets::{Ends, has_just};
-use fields::{FIELDS, Field};
+use fields::{FIELDS, Field, Spans};
 use rules::{Boxed, Rule, Work};
 use std::alloc::Global;
 
@@ -13,19 +13,31 @@ pub fn box_of(alloc: Global, refusals: &mut Refusals, line: &[u8]) -> Result<Box
     Ok(again!(refusals, Boxed::of(alloc, &rule, &mut work), true))
 }
 
+/// Whether a box's set on a field has the intervals of its row, or all numbers where there is none.
+fn is_on(set: &Spans, field: Field, rows: &[(Field, &[Ends])]) -> bool {
+    let expected = match rows.iter().find(|row| row.0 == field) {
+        Some(row) => has_just(set, row.1),
+        None => has_just(set, &[(0, field.top())]),
+    };
+    expected && set.top() == field.top()
+}
+
 /// Whether a box has these intervals on these fields, and all numbers on the others.
 fn is_box(boxed: &Boxed, rows: &[(Field, &[Ends])]) -> bool {
     for field in Field::ALL {
-        let set = &boxed.spans()[field.index()];
-        let expected = match rows.iter().find(|row| row.0 == field) {
-            Some(row) => has_just(set, row.1),
-            None => has_just(set, &[(0, field.top())]),
-        };
-        if !expected || set.top() != field.top() {
+        if !is_on(boxed.on(field), field, rows) {
             return false;
         }
     }
     boxed.spans().len() == FIELDS
+}
+
+/// The box of a rule, none where memory was refused: it is counted as one either way.
+fn boxed_once(alloc: Global, rule: &Rule) -> Result<Option<Boxed>, Trouble> {
+    let mut work = Work::new();
+    let boxed = Boxed::of(alloc, rule, &mut work).ok();
+    expect(work.boxes() == 1)?;
+    Ok(boxed)
 }
 
 /// Boxes a rule, and compares its box; a refusal leaves the rule's text.
@@ -36,13 +48,12 @@ fn expect_box(
     text: &[u8],
     sets: &[(Field, &[Ends])],
 ) -> Result<(), Trouble> {
-    let mut work = Work::new();
-    for calls in 1..3 {
-        if let Ok(boxed) = Boxed::of(alloc, rule, &mut work) {
-            return expect(work.boxes() == calls && is_box(&boxed, sets));
+    for _ in 0..2 {
+        if let Some(boxed) = boxed_once(alloc, rule)? {
+            return expect(is_box(&boxed, sets));
         }
         refusals.note();
-        expect_kept(work.boxes() == calls && has_text(alloc, refusals, rule, text)?)?;
+        expect_kept(has_text(alloc, refusals, rule, text)?)?;
     }
     Err(Trouble::RefusedTwice)
 }
@@ -61,7 +72,7 @@ fn expect_box_of(
 
 /// `Boxed::of`.
 pub fn of(alloc: Global, refusals: &mut Refusals) -> Result<(), Trouble> {
-    let rows: [(&[u8], &[u8], &[(Field, &[Ends])]); 3] = [
+    const ROWS: &[(&[u8], &[u8], &[(Field, &[Ends])])] = &[
         (b"-j DROP", b" -j DROP", &[]),
         (
             b"-p tcp ! --dport 80 -j DROP",
@@ -78,7 +89,7 @@ pub fn of(alloc: Global, refusals: &mut Refusals) -> Result<(), Trouble> {
             &[(Field::Source, &[])],
         ),
     ];
-    for (line, text, sets) in rows {
+    for (line, text, sets) in ROWS {
         expect_box_of(alloc, refusals, line, text, sets)?;
     }
     Ok(())

@@ -1,4 +1,5 @@
 //! What every case needs: how it ends, and calls that are made again after a refusal.
+use table::TableFault;
 use thiserror::Error;
 
 /// Why a case isn't as expected.
@@ -64,6 +65,18 @@ pub fn expect_kept(is_kept: bool) -> Result<(), Trouble> {
         Ok(())
     } else {
         Err(Trouble::Changed)
+    }
+}
+
+/// Whether an edit of a table is done: it isn't where memory was refused, which is noted.
+pub fn is_done(refusals: &mut Refusals, answer: Result<(), TableFault>) -> Result<bool, Trouble> {
+    match answer {
+        Ok(()) => Ok(true),
+        Err(TableFault::NoMemory) => {
+            refusals.note();
+            Ok(false)
+        }
+        Err(_) => Err(Trouble::OtherAnswer),
     }
 }
 

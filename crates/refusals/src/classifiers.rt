@@ -18,6 +18,20 @@ const SECOND: &[u8] = b"-p tcp --dport 22 -j DROP";
 
 const ANY: &[u8] = b"-j LOG";
 
+const THIRD: &[u8] = b"-d 10.0.0.0/8 -j RETURN";
+
+/// The line of an address that the first box of two allows in part, and the second wholly.
+const OF_ADDRESS: &[Cut<'static>] = &[(0, &[1]), (167_772_160, &[0, 1]), (184_549_376, &[1])];
+
+/// The line of the destination's port that the second box of two allows in part, and the first wholly.
+const OF_PORT: &[Cut<'static>] = &[(0, &[0]), (22, &[0, 1]), (23, &[0])];
+
+/// The same of the protocol.
+const OF_PROTOCOL: &[Cut<'static>] = &[(0, &[0]), (6, &[0, 1]), (7, &[0])];
+
+/// The same of the fragment.
+const OF_FRAGMENT: &[Cut<'static>] = &[(0, &[0, 1]), (1, &[0])];
+
 /// The lines of the first box alone.
 const OF_FIRST: [Expected<'static>; 1] = [(
     Field::Source,
@@ -33,16 +47,18 @@ const OF_SECOND: [Expected<'static>; 3] = [
 
 /// The lines of the two boxes.
 const OF_BOTH: [Expected<'static>; 4] = [
-    (
-        Field::Source,
-        &[(0, &[1]), (167_772_160, &[0, 1]), (184_549_376, &[1])],
-    ),
-    (Field::Protocol, &[(0, &[0]), (6, &[0, 1]), (7, &[0])]),
-    (Field::Fragment, &[(0, &[0, 1]), (1, &[0])]),
-    (
-        Field::DestinationPort,
-        &[(0, &[0]), (22, &[0, 1]), (23, &[0])],
-    ),
+    (Field::Source, OF_ADDRESS),
+    (Field::Protocol, OF_PROTOCOL),
+    (Field::Fragment, OF_FRAGMENT),
+    (Field::DestinationPort, OF_PORT),
+];
+
+/// The lines of the third box before the second.
+const OF_THIRD: [Expected<'static>; 4] = [
+    (Field::Destination, OF_ADDRESS),
+    (Field::Protocol, OF_PROTOCOL),
+    (Field::Fragment, OF_FRAGMENT),
+    (Field::DestinationPort, OF_PORT),
 ];
 
 /// The lines of a box without conditions before the two.
@@ -112,6 +128,14 @@ fn is_of(classifier: &Classifier, boxes: usize, rows: &[Expected]) -> bool {
     true
 }
 
+/// Whether a box got in at a place.
+fn is_in(classifier: &mut Classifier, place: usize, boxed: Boxed) -> Result<bool, Trouble> {
+    if place > classifier.len() {
+        return Err(Trouble::OtherAnswer);
+    }
+    Ok(classifier.insert(place, boxed).is_ok())
+}
+
 /// Whether the box of a rule got in at a place.
 fn got_in(
     alloc: Global,
@@ -121,10 +145,7 @@ fn got_in(
     line: &[u8],
 ) -> Result<bool, Trouble> {
     let boxed = box_of(alloc, refusals, line)?;
-    if place > classifier.len() {
-        return Err(Trouble::OtherAnswer);
-    }
-    Ok(classifier.insert(place, boxed).is_ok())
+    is_in(classifier, place, boxed)
 }
 
 /// Puts the box of a rule in at a place; a refusal leaves the lines that were there.
@@ -147,22 +168,30 @@ fn put(
     Err(Trouble::RefusedTwice)
 }
 
-fn none(alloc: Global, refusals: &mut Refusals) -> Result<Classifier, Trouble> {
+/// A classifier of no box.
+pub fn none(alloc: Global, refusals: &mut Refusals) -> Result<Classifier, Trouble> {
     Ok(again!(refusals, Classifier::new(alloc), true))
 }
 
-fn of_both(alloc: Global, refusals: &mut Refusals) -> Result<Classifier, Trouble> {
-    let mut classifier = none(alloc, refusals)?;
-    put(alloc, refusals, &mut classifier, 0, FIRST, &[])?;
-    put(alloc, refusals, &mut classifier, 1, SECOND, &OF_FIRST)?;
-    expect(is_of(&classifier, 2, &OF_BOTH))?;
-    Ok(classifier)
+/// Compares the lines of a classifier.
+fn expect_of(classifier: &Classifier, boxes: usize, rows: &[Expected]) -> Result<(), Trouble> {
+    expect(is_of(classifier, boxes, rows))
 }
 
 /// `Classifier::new`.
-pub fn new(alloc: Global, refusals: &mut Refusals) -> Result<(), Trouble> {
-    let classifier = none(alloc, refusals)?;
-    expect(is_of(&classifier, 0, &[]))
+pub fn new(classifier: &Classifier) -> Result<(), Trouble> {
+    expect_of(classifier, 0, &[])
+}
+
+/// `Classifier::insert`, of boxes that bring new cuts, one after another.
+pub fn insert(
+    alloc: Global,
+    refusals: &mut Refusals,
+    classifier: &mut Classifier,
+) -> Result<(), Trouble> {
+    put(alloc, refusals, classifier, 0, FIRST, &[])?;
+    put(alloc, refusals, classifier, 1, SECOND, &OF_FIRST)?;
+    expect_of(classifier, 2, &OF_BOTH)
 }
 
 /// The copy of a classifier of two boxes; a refusal leaves its lines.
@@ -179,19 +208,33 @@ fn copy_of(
 }
 
 /// `Classifier::copy`.
-pub fn copy(alloc: Global, refusals: &mut Refusals) -> Result<(), Trouble> {
-    let classifier = of_both(alloc, refusals)?;
-    let copy = copy_of(alloc, refusals, &classifier)?;
-    expect(is_of(&copy, 2, &OF_BOTH) && is_of(&classifier, 2, &OF_BOTH))
+pub fn copy(
+    alloc: Global,
+    refusals: &mut Refusals,
+    classifier: &Classifier,
+) -> Result<(), Trouble> {
+    let copy = copy_of(alloc, refusals, classifier)?;
+    expect_of(&copy, 2, &OF_BOTH)?;
+    expect_of(classifier, 2, &OF_BOTH)
 }
 
-/// `Classifier::insert`, of boxes that bring new cuts, after another box and before it.
-pub fn insert(alloc: Global, refusals: &mut Refusals) -> Result<(), Trouble> {
-    let _after = of_both(alloc, refusals)?;
-    let mut classifier = none(alloc, refusals)?;
-    put(alloc, refusals, &mut classifier, 0, SECOND, &[])?;
-    put(alloc, refusals, &mut classifier, 0, FIRST, &OF_SECOND)?;
-    expect(is_of(&classifier, 2, &OF_BOTH))
+/// Puts the first box in before the second.
+fn put_before(
+    alloc: Global,
+    refusals: &mut Refusals,
+    classifier: &mut Classifier,
+) -> Result<(), Trouble> {
+    put(alloc, refusals, classifier, 0, SECOND, &[])?;
+    put(alloc, refusals, classifier, 0, FIRST, &OF_SECOND)?;
+    expect_of(classifier, 2, &OF_BOTH)
+}
+
+/// Whether a box got in the place of the first.
+fn is_over(classifier: &mut Classifier, boxed: Boxed) -> Result<bool, Trouble> {
+    if classifier.len() == 0 {
+        return Err(Trouble::OtherAnswer);
+    }
+    Ok(classifier.replace(0, boxed).is_ok())
 }
 
 /// Whether the box of a rule got in the place of the first.
@@ -202,33 +245,41 @@ fn got_over(
     line: &[u8],
 ) -> Result<bool, Trouble> {
     let boxed = box_of(alloc, refusals, line)?;
-    if classifier.len() == 0 {
-        return Err(Trouble::OtherAnswer);
-    }
-    Ok(classifier.replace(0, boxed).is_ok())
+    is_over(classifier, boxed)
 }
 
-/// `Classifier::replace`, by a box that brings new cuts and lacks old ones.
-pub fn replace(alloc: Global, refusals: &mut Refusals) -> Result<(), Trouble> {
-    let mut classifier = none(alloc, refusals)?;
-    put(alloc, refusals, &mut classifier, 0, FIRST, &[])?;
+/// Puts the third box over the first; a refusal leaves the lines that were there.
+fn put_over(
+    alloc: Global,
+    refusals: &mut Refusals,
+    classifier: &mut Classifier,
+) -> Result<(), Trouble> {
     for _ in 0..2 {
-        if got_over(alloc, refusals, &mut classifier, SECOND)? {
-            return expect(is_of(&classifier, 1, &OF_SECOND));
+        if got_over(alloc, refusals, classifier, THIRD)? {
+            return expect_of(classifier, 2, &OF_THIRD);
         }
         refusals.note();
-        expect_kept(is_of(&classifier, 1, &OF_FIRST))?;
+        expect_kept(is_of(classifier, 2, &OF_BOTH))?;
     }
     Err(Trouble::RefusedTwice)
 }
 
+/// `Classifier::insert` of a box before another, and `replace` by a box that brings new cuts and lacks old ones.
+pub fn replace(alloc: Global, refusals: &mut Refusals) -> Result<(), Trouble> {
+    let mut classifier = none(alloc, refusals)?;
+    put_before(alloc, refusals, &mut classifier)?;
+    put_over(alloc, refusals, &mut classifier)
+}
+
+/// Puts a box in where no memory is needed.
+fn give(classifier: &mut Classifier, boxed: Boxed) -> Result<(), Trouble> {
+    expect_given(classifier.insert(0, boxed))
+}
+
 /// Puts a box without conditions first among two.
 fn give_in(classifier: &mut Classifier, put_in: Boxed) -> Result<(), Trouble> {
-    if classifier.len() != 2 {
-        return Err(Trouble::OtherAnswer);
-    }
-    expect_given(classifier.insert(0, put_in))?;
-    expect(is_of(classifier, 3, &OF_ANY_AND_BOTH))
+    give(classifier, put_in)?;
+    expect_of(classifier, 3, &OF_ANY_AND_BOTH)
 }
 
 /// Takes the first of three boxes out.
@@ -241,25 +292,27 @@ fn take_out(classifier: &mut Classifier) -> Result<(), Trouble> {
 }
 
 /// The lines of the first box before one without conditions.
-const OF_FIRST_AND_ANY: [Expected<'static>; 1] = [(
-    Field::Source,
-    &[(0, &[1]), (167_772_160, &[0, 1]), (184_549_376, &[1])],
-)];
+const OF_FIRST_AND_ANY: [Expected<'static>; 1] = [(Field::Source, OF_ADDRESS)];
 
 /// Puts a box without conditions over the last of two.
 fn give_over(classifier: &mut Classifier, put_over: Boxed) -> Result<(), Trouble> {
     if classifier.len() != 2 {
         return Err(Trouble::OtherAnswer);
     }
-    expect_given(classifier.replace(1, put_over))?;
-    expect(is_of(classifier, 2, &OF_FIRST_AND_ANY))
+    expect_given(classifier.replace(1, put_over))
+}
+
+/// The same, and compares the lines.
+fn give_over_last(classifier: &mut Classifier, put_over: Boxed) -> Result<(), Trouble> {
+    give_over(classifier, put_over)?;
+    expect_of(classifier, 2, &OF_FIRST_AND_ANY)
 }
 
 /// Puts a box without conditions in where all were taken out.
 fn give_back(classifier: &mut Classifier, put_back: Boxed) -> Result<(), Trouble> {
     classifier.clear();
-    expect_given(classifier.insert(0, put_back))?;
-    expect(is_of(classifier, 1, &[]))
+    give(classifier, put_back)?;
+    expect_of(classifier, 1, &[])
 }
 
 /// A box without conditions, made before, goes into a classifier of two boxes, takes the place of one, and goes into
@@ -268,13 +321,16 @@ fn give_back(classifier: &mut Classifier, put_back: Boxed) -> Result<(), Trouble
 /// No such call takes memory: the contracts of `insert` and `replace` (`there`) promise success, since there is room
 /// for a third bit in each word, and for the first where others were, and no cut is new. Here each allocation of the
 /// run is refused in turn, and each call has to succeed at once every time.
-pub fn needless(alloc: Global, refusals: &mut Refusals) -> Result<(), Trouble> {
-    let mut classifier = of_both(alloc, refusals)?;
+pub fn needless(
+    alloc: Global,
+    refusals: &mut Refusals,
+    classifier: &mut Classifier,
+) -> Result<(), Trouble> {
     let put_in = box_of(alloc, refusals, ANY)?;
     let put_over = box_of(alloc, refusals, ANY)?;
     let put_back = box_of(alloc, refusals, ANY)?;
-    give_in(&mut classifier, put_in)?;
-    take_out(&mut classifier)?;
-    give_over(&mut classifier, put_over)?;
-    give_back(&mut classifier, put_back)
+    give_in(classifier, put_in)?;
+    take_out(classifier)?;
+    give_over_last(classifier, put_over)?;
+    give_back(classifier, put_back)
 }

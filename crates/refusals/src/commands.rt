@@ -1,8 +1,7 @@
 //! Commands, read from words and done to a table.
-use crate::case::{Refusals, Trouble, expect, expect_kept};
+use crate::case::{Refusals, Trouble, expect, expect_kept, is_done};
 use crate::listings::{WITH_ONE, expect_kept_listing, expect_listing};
 use crate::rulings::{expect_text, rule_of};
-use crate::tables::with_one;
 use crate::words::{are_words, words_of};
 use fields::Words;
 use restore::{Command, CommandFault};
@@ -60,8 +59,8 @@ fn read_append(alloc: Global, refusals: &mut Refusals) -> Result<(), Trouble> {
         refusals,
         b"-A INPUT -m comment --comment \"x y\" -j a",
     )?;
-    let expected = [
-        b"-A".as_slice(),
+    const WORDS: &[&[u8]] = &[
+        b"-A",
         b"INPUT",
         b"-m",
         b"comment",
@@ -71,7 +70,7 @@ fn read_append(alloc: Global, refusals: &mut Refusals) -> Result<(), Trouble> {
         b"a",
     ];
     let text = b" -m comment --comment \"x y\" -j a";
-    expect_append(alloc, refusals, &words, &expected, text)
+    expect_append(alloc, refusals, &words, WORDS, text)
 }
 
 /// Reads a line that writes no command.
@@ -108,22 +107,32 @@ pub fn read(alloc: Global, refusals: &mut Refusals) -> Result<(), Trouble> {
     )
 }
 
+/// Reads a command from words without any memory.
+fn given(alloc: Global, words: &Words) -> Result<(), Trouble> {
+    match Command::read(alloc, words, 0) {
+        Ok(_) => Ok(()),
+        Err(CommandFault::Rule(RuleFault::NoMemory)) => Err(Trouble::Needless),
+        Err(_) => Err(Trouble::OtherAnswer),
+    }
+}
+
+/// The same of the words of a line.
+fn read_needless(alloc: Global, refusals: &mut Refusals, line: &[u8]) -> Result<(), Trouble> {
+    let words = split(alloc, refusals, line)?;
+    given(alloc, &words)
+}
+
 /// `Command::read` of commands without a rule, which take no memory.
 pub fn needless(alloc: Global, refusals: &mut Refusals) -> Result<(), Trouble> {
-    let lines = [
-        b"-N a".as_slice(),
+    const LINES: &[&[u8]] = &[
+        b"-N a",
         b"-D INPUT 1",
         b"-t filter -P INPUT DROP",
         b"-E a b",
         b"-S",
     ];
-    for line in lines {
-        let words = split(alloc, refusals, line)?;
-        match Command::read(alloc, &words, 0) {
-            Ok(_) => {}
-            Err(CommandFault::Rule(RuleFault::NoMemory)) => return Err(Trouble::Needless),
-            Err(_) => return Err(Trouble::OtherAnswer),
-        }
+    for line in LINES {
+        read_needless(alloc, refusals, line)?;
     }
     Ok(())
 }
@@ -133,6 +142,31 @@ pub fn needless(alloc: Global, refusals: &mut Refusals) -> Result<(), Trouble> {
 enum Edit {
     Append,
     NewChain,
+}
+
+/// Appends a rule to INPUT by its command.
+fn append(
+    alloc: Global,
+    refusals: &mut Refusals,
+    table: &mut Table,
+    work: &mut Work,
+) -> Result<Result<(), TableFault>, Trouble> {
+    let rule = rule_of(alloc, refusals, b"-s 10.0.0.0/8 -j DROP")?;
+    Ok(restore::apply(table, Command::Append(b"INPUT", rule), work))
+}
+
+/// The table's answer to the command.
+fn applied(
+    alloc: Global,
+    refusals: &mut Refusals,
+    table: &mut Table,
+    edit: Edit,
+    work: &mut Work,
+) -> Result<Result<(), TableFault>, Trouble> {
+    match edit {
+        Edit::Append => append(alloc, refusals, table, work),
+        Edit::NewChain => Ok(restore::apply(table, Command::NewChain(b"a"), work)),
+    }
 }
 
 /// Does the command; a refusal leaves the listing that was there.
@@ -145,31 +179,18 @@ fn done(
 ) -> Result<(), Trouble> {
     let mut work = Work::new();
     for calls in 1..3 {
-        let answer = match edit {
-            Edit::Append => {
-                let rule = rule_of(alloc, refusals, b"-p tcp --dport 22 -j a")?;
-                restore::apply(table, Command::Append(b"INPUT", rule), &mut work)
-            }
-            Edit::NewChain => restore::apply(table, Command::NewChain(b"b"), &mut work),
-        };
+        let answer = applied(alloc, refusals, table, edit, &mut work)?;
         expect(work.boxes() <= calls)?;
-        match answer {
-            Ok(()) => return Ok(()),
-            Err(TableFault::NoMemory) => refusals.note(),
-            Err(_) => return Err(Trouble::OtherAnswer),
+        if is_done(refusals, answer)? {
+            return Ok(());
         }
         expect_kept_listing(alloc, refusals, table, listing)?;
     }
     Err(Trouble::RefusedTwice)
 }
 
-/// The rest of the listing after a further rule of INPUT.
-const WITH_TWO: &[u8] =
-    b":a - [0:0]\n-A INPUT -s 10.0.0.0/8 -j DROP\n-A INPUT -p tcp -m tcp --dport 22 -j a\nCOMMIT\n";
-
 /// The rest of the listing after a new chain.
-const WITH_CHAIN: &[u8] =
-    b":a - [0:0]\n:b - [0:0]\n-A INPUT -s 10.0.0.0/8 -j DROP\n-A INPUT -p tcp -m tcp --dport 22 -j a\nCOMMIT\n";
+const WITH_CHAIN: &[u8] = b":a - [0:0]\nCOMMIT\n";
 
 /// Does the command, between one listing and another.
 fn expect_done(
@@ -180,28 +201,19 @@ fn expect_done(
     before: &[u8],
     after: &[u8],
 ) -> Result<(), Trouble> {
-    expect_listing(alloc, refusals, table, before)?;
     done(alloc, refusals, table, edit, before)?;
     expect_listing(alloc, refusals, table, after)
 }
 
-/// `apply`, of a rule put last in a chain and of a new chain.
-pub fn apply(alloc: Global, refusals: &mut Refusals) -> Result<(), Trouble> {
-    let mut table = with_one(alloc, refusals)?;
+/// `apply` to a table without a rule: of a new chain, and of a rule put last in a chain.
+pub fn apply(alloc: Global, refusals: &mut Refusals, table: &mut Table) -> Result<(), Trouble> {
     expect_done(
         alloc,
         refusals,
-        &mut table,
-        Edit::Append,
-        WITH_ONE,
-        WITH_TWO,
-    )?;
-    expect_done(
-        alloc,
-        refusals,
-        &mut table,
+        table,
         Edit::NewChain,
-        WITH_TWO,
+        b"COMMIT\n",
         WITH_CHAIN,
-    )
+    )?;
+    expect_done(alloc, refusals, table, Edit::Append, WITH_CHAIN, WITH_ONE)
 }

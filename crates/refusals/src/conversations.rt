@@ -19,22 +19,44 @@ const NO_RULE: &[u8] = b"src 0:{}\n\
     ct 0:{}\n";
 
 /// The lines that make the table with a chain `a` and a rule of INPUT.
-const START: [&[u8]; 2] = [b"iptables -N a", b"iptables -A INPUT -s 10.0.0.0/8 -j DROP"];
+const START: &[&[u8]] = &[b"iptables -N a", b"iptables -A INPUT -s 10.0.0.0/8 -j DROP"];
 
 /// What a line prints that was refused memory: nothing else, and it is the first of its run.
 const REFUSED: &[u8] = b"line 1: M0 no memory\n";
 
-/// What one run of a session printed and answered. The writer has its room beforehand.
+/// What a session does with its lines: each by itself, or all as one restore.
+#[derive(Clone, Copy)]
+enum Given {
+    Lines,
+    Restore,
+}
+
+/// Gives lines to a session.
+fn give(
+    session: &mut Session,
+    given: Given,
+    lines: &[u8],
+    room: Vec<u8>,
+) -> (Vec<u8>, Result<u8, RunFault>) {
+    let mut output = Tap::new(room);
+    let mut input = Tap::new(lines);
+    let answer = match given {
+        Given::Lines => session.run(&mut input, &mut output),
+        Given::Restore => session.restore(true, false, false, &mut input, &mut output),
+    };
+    (output.into_device(), answer)
+}
+
+/// What a session printed and answered to lines. The writer has its room beforehand.
 fn run(
     alloc: Global,
     refusals: &mut Refusals,
     session: &mut Session,
+    given: Given,
     lines: &[u8],
 ) -> Result<(Vec<u8>, Result<u8, RunFault>), Trouble> {
     let room = again!(refusals, Vec::with_capacity(alloc, 1024), true);
-    let mut output = Tap::new(room);
-    let answer = session.run(&mut Tap::new(lines), &mut output);
-    Ok((output.into_device(), answer))
+    Ok(give(session, given, lines, room))
 }
 
 /// Whether a run was refused memory in its first line: it says so, and says nothing else of the line.
@@ -50,7 +72,7 @@ fn make(
     line: &[u8],
 ) -> Result<(), Trouble> {
     for _ in 0..2 {
-        let (printed, answer) = run(alloc, refusals, session, line)?;
+        let (printed, answer) = run(alloc, refusals, session, Given::Lines, line)?;
         if !is_refused(&printed, answer) {
             return expect(printed.is_empty() && answer == Ok(0));
         }
@@ -60,7 +82,7 @@ fn make(
 }
 
 /// A session over a table without a rule.
-fn none(alloc: Global, refusals: &mut Refusals) -> Result<Session, Trouble> {
+pub fn none(alloc: Global, refusals: &mut Refusals) -> Result<Session, Trouble> {
     Ok(again!(refusals, Session::new(alloc), true))
 }
 
@@ -70,13 +92,6 @@ fn start(alloc: Global, refusals: &mut Refusals, session: &mut Session) -> Resul
         make(alloc, refusals, session, line)?;
     }
     expect_listing(alloc, refusals, session.table(), WITH_ONE)
-}
-
-/// A session over the table with one rule.
-fn begun(alloc: Global, refusals: &mut Refusals) -> Result<Session, Trouble> {
-    let mut session = none(alloc, refusals)?;
-    start(alloc, refusals, &mut session)?;
-    Ok(session)
 }
 
 /// Compares what a line that was refused memory printed, and the listing, which it leaves.
@@ -102,7 +117,7 @@ fn line(
     left: &[u8],
 ) -> Result<(), Trouble> {
     for _ in 0..2 {
-        let (printed, answer) = run(alloc, refusals, session, text)?;
+        let (printed, answer) = run(alloc, refusals, session, Given::Lines, text)?;
         if !is_refused(&printed, answer) {
             expect(printed.as_slice() == expected && answer == Ok(status))?;
             return expect_listing(alloc, refusals, session.table(), left);
@@ -113,45 +128,58 @@ fn line(
     Err(Trouble::RefusedTwice)
 }
 
+/// The rest of the listing after a rule of `a`.
+const WITH_TWO: &[u8] =
+    b":a - [0:0]\n-A INPUT -s 10.0.0.0/8 -j DROP\n-A a -p tcp -m tcp --dport 22 -j ACCEPT\nCOMMIT\n";
+
+/// The same after a restore among the lines.
+const RESTORED: &[u8] = b":a - [0:0]\n:b - [0:0]\n-A INPUT -s 10.0.0.0/8 -j DROP\n\
+    -A a -p tcp -m tcp --dport 22 -j ACCEPT\n-A b -j RETURN\nCOMMIT\n";
+
+/// The same after one by itself.
+const RESTORED_TWICE: &[u8] =
+    b":a - [0:0]\n:b - [0:0]\n-A INPUT -s 10.0.0.0/8 -j DROP\n-A a -j LOG\n-A b -j RETURN\nCOMMIT\n";
+
+/// Lines: what each prints, its status, and the listing after it.
+const LINES: &[(&[u8], &[u8], u8, &[u8])] = &[
+    (
+        b"iptables -S INPUT",
+        b"-P INPUT ACCEPT\n-A INPUT -s 10.0.0.0/8 -j DROP\n",
+        0,
+        WITH_ONE,
+    ),
+    (
+        b"iptables-save",
+        b"*filter\n:INPUT ACCEPT [0:0]\n:FORWARD ACCEPT [0:0]\n:OUTPUT ACCEPT [0:0]\n:a - [0:0]\n-A INPUT -s 10.0.0.0/8 -j DROP\nCOMMIT\n",
+        0,
+        WITH_ONE,
+    ),
+    (
+        b"packet INPUT src=10.0.0.1 dst=2.2.2.2 proto=47",
+        b"INPUT 1\nverdict DROP by rule\n",
+        0,
+        WITH_ONE,
+    ),
+    (b"lines a", NO_RULE, 0, WITH_ONE),
+    (
+        b"packet INPUT src=10.0.0.1",
+        b"line 1: F2 key missing\n",
+        2,
+        WITH_ONE,
+    ),
+    (b"# nothing\n \t\n", b"", 0, WITH_ONE),
+    (
+        b"iptables -A a -p tcp --dport 22 -j ACCEPT",
+        b"",
+        0,
+        WITH_TWO,
+    ),
+];
 /// `Session::run`, of each kind of line by itself; the last changes the table.
-pub fn lines(alloc: Global, refusals: &mut Refusals) -> Result<(), Trouble> {
-    let rows: [(&[u8], &[u8], u8, &[u8]); 7] = [
-        (
-            b"iptables -S INPUT",
-            b"-P INPUT ACCEPT\n-A INPUT -s 10.0.0.0/8 -j DROP\n",
-            0,
-            WITH_ONE,
-        ),
-        (
-            b"iptables-save",
-            b"*filter\n:INPUT ACCEPT [0:0]\n:FORWARD ACCEPT [0:0]\n:OUTPUT ACCEPT [0:0]\n:a - [0:0]\n-A INPUT -s 10.0.0.0/8 -j DROP\nCOMMIT\n",
-            0,
-            WITH_ONE,
-        ),
-        (
-            b"packet INPUT src=10.0.0.1 dst=2.2.2.2 proto=47",
-            b"INPUT 1\nverdict DROP by rule\n",
-            0,
-            WITH_ONE,
-        ),
-        (b"lines a", NO_RULE, 0, WITH_ONE),
-        (
-            b"packet INPUT src=10.0.0.1",
-            b"line 1: F2 key missing\n",
-            2,
-            WITH_ONE,
-        ),
-        (b"# nothing\n \t\n", b"", 0, WITH_ONE),
-        (
-            b"iptables -A a -p tcp --dport 22 -j ACCEPT",
-            b"",
-            0,
-            b":a - [0:0]\n-A INPUT -s 10.0.0.0/8 -j DROP\n-A a -p tcp -m tcp --dport 22 -j ACCEPT\nCOMMIT\n",
-        ),
-    ];
-    let mut session = begun(alloc, refusals)?;
-    for (text, expected, status, left) in rows {
-        line(alloc, refusals, &mut session, text, expected, status, left)?;
+pub fn lines(alloc: Global, refusals: &mut Refusals, session: &mut Session) -> Result<(), Trouble> {
+    start(alloc, refusals, session)?;
+    for (text, expected, status, left) in LINES {
+        line(alloc, refusals, session, text, expected, *status, left)?;
     }
     Ok(())
 }
@@ -159,6 +187,15 @@ pub fn lines(alloc: Global, refusals: &mut Refusals) -> Result<(), Trouble> {
 /// What a run printed of a restore in which memory was refused: one line that says so, of any number.
 fn says_refused(printed: &[u8]) -> bool {
     printed.starts_with(b"line ") && printed.ends_with(b": M0 no memory\n")
+}
+
+/// Whether a restore was refused memory. One among the lines of a session may leave its last lines to the session.
+fn is_stopped(given: Given, printed: &[u8], answer: Result<u8, RunFault>) -> bool {
+    let is_said = match given {
+        Given::Lines => true,
+        Given::Restore => says_refused(printed),
+    };
+    is_said && answer == Ok(4)
 }
 
 /// Compares what a restore that is done answers, and the listing.
@@ -173,72 +210,47 @@ fn expect_restored(
     expect_listing(alloc, refusals, session.table(), left)
 }
 
-/// Runs a restore among the lines of a session, again where it was refused memory.
-fn restore_among(
+/// Runs a restore between two listings, again where it was refused memory.
+fn restore(
     alloc: Global,
     refusals: &mut Refusals,
     session: &mut Session,
+    given: Given,
     text: &[u8],
-    left: &[u8],
+    listings: (&[u8], &[u8]),
 ) -> Result<(), Trouble> {
+    let (before, left) = listings;
     for _ in 0..2 {
-        let (printed, answer) = run(alloc, refusals, session, text)?;
+        let (printed, answer) = run(alloc, refusals, session, given, text)?;
         if printed.is_empty() {
             return expect_restored(alloc, refusals, session, answer, left);
         }
         refusals.note();
-        expect(answer == Ok(4))?;
-        expect_kept_listing(alloc, refusals, session.table(), WITH_ONE)?;
+        expect(is_stopped(given, &printed, answer))?;
+        expect_kept_listing(alloc, refusals, session.table(), before)?;
     }
     Err(Trouble::RefusedTwice)
 }
 
 /// A restore among the lines of a session, in which each line may be refused memory: the restore then ends there, and
 /// leaves the table.
-pub fn restores(alloc: Global, refusals: &mut Refusals) -> Result<(), Trouble> {
-    let mut session = begun(alloc, refusals)?;
-    let text = b"iptables-restore -n <<E\n*filter\n:b -\n[1:2] -A b -j RETURN\nCOMMIT\nE\n";
-    let left = b":a - [0:0]\n:b - [0:0]\n-A INPUT -s 10.0.0.0/8 -j DROP\n-A b -j RETURN\nCOMMIT\n";
-    restore_among(alloc, refusals, &mut session, text, left)
-}
-
-/// What a restore by itself printed and answered. The writer has its room beforehand.
-fn run_whole(
+pub fn restores(
     alloc: Global,
     refusals: &mut Refusals,
     session: &mut Session,
-    lines: &[u8],
-) -> Result<(Vec<u8>, Result<u8, RunFault>), Trouble> {
-    let room = again!(refusals, Vec::with_capacity(alloc, 1024), true);
-    let mut output = Tap::new(room);
-    let answer = session.restore(true, false, false, &mut Tap::new(lines), &mut output);
-    Ok((output.into_device(), answer))
-}
-
-/// Runs a restore by itself, again where it was refused memory.
-fn restore_whole(
-    alloc: Global,
-    refusals: &mut Refusals,
-    session: &mut Session,
-    text: &[u8],
-    left: &[u8],
 ) -> Result<(), Trouble> {
-    for _ in 0..2 {
-        let (printed, answer) = run_whole(alloc, refusals, session, text)?;
-        if printed.is_empty() {
-            return expect_restored(alloc, refusals, session, answer, left);
-        }
-        refusals.note();
-        expect(says_refused(&printed) && answer == Ok(4))?;
-        expect_kept_listing(alloc, refusals, session.table(), WITH_ONE)?;
-    }
-    Err(Trouble::RefusedTwice)
+    let text = b"iptables-restore -n <<E\n*filter\n:b -\n[1:2] -A b -j RETURN\nCOMMIT\nE\n";
+    let listings = (WITH_TWO, RESTORED);
+    restore(alloc, refusals, session, Given::Lines, text, listings)
 }
 
 /// `Session::restore`: the first line that is refused memory ends it, and leaves the table.
-pub fn whole_restores(alloc: Global, refusals: &mut Refusals) -> Result<(), Trouble> {
-    let mut session = begun(alloc, refusals)?;
+pub fn whole_restores(
+    alloc: Global,
+    refusals: &mut Refusals,
+    session: &mut Session,
+) -> Result<(), Trouble> {
     let text = b"*filter\n:a -\n-A a -j LOG\nCOMMIT\n";
-    let left = b":a - [0:0]\n-A INPUT -s 10.0.0.0/8 -j DROP\n-A a -j LOG\nCOMMIT\n";
-    restore_whole(alloc, refusals, &mut session, text, left)
+    let listings = (RESTORED, RESTORED_TWICE);
+    restore(alloc, refusals, session, Given::Restore, text, listings)
 }

@@ -24,9 +24,13 @@ mod values;
 mod words;
 
 use crate::case::{Refusals, Trouble};
+use classify::Classifier;
+use fields::Packet;
+use sessions::Session;
 use std::alloc::Global;
 use std::io::{BufRead, BufReader};
 use std::process::ExitCode;
+use table::Table;
 
 /// Takes memory once for each byte of the input, and gives it back.
 fn take_first<R: BufRead>(alloc: Global, input: &mut R) {
@@ -54,7 +58,8 @@ fn tell<R: Print>(rt: &R, name: &str, ended: Result<(), Trouble>) {
     };
 }
 
-fn run<R: Print + AllocGlobal>(rt: &R, refusals: &mut Refusals) {
+/// The cases of words and of sets of numbers.
+fn run_of_sets<R: Print + AllocGlobal>(rt: &R, refusals: &mut Refusals) {
     let alloc = rt.alloc();
     tell(rt, "words", words::split(alloc, refusals));
     tell(rt, "whole sets", sets::whole(alloc, refusals));
@@ -62,85 +67,192 @@ fn run<R: Print + AllocGlobal>(rt: &R, refusals: &mut Refusals) {
     tell(rt, "other numbers", sets::except(alloc, refusals));
     tell(rt, "numbers in both", sets::meet(alloc, refusals));
     tell(rt, "numbers in either", sets::join(alloc, refusals));
+}
+
+/// The cases of values.
+fn run_of_values<R: Print + AllocGlobal>(rt: &R, refusals: &mut Refusals) {
+    let alloc = rt.alloc();
     tell(rt, "addresses", values::addresses(alloc, refusals));
     tell(rt, "interfaces", values::interfaces(alloc, refusals));
     tell(rt, "ports", values::ports(alloc, refusals));
     tell(rt, "icmp types", values::icmp_types(alloc, refusals));
     tell(rt, "flags and states", values::flags(alloc, refusals));
-    tell(rt, "rules read", rulings::read_all(alloc, refusals));
-    tell(rt, "rules copied", rulings::copy_all(alloc, refusals));
-    tell(rt, "boxes", boxes::of(alloc, refusals));
-    tell(rt, "bits", bits::insert(alloc, refusals));
-    tell(rt, "no box", classifiers::new(alloc, refusals));
-    tell(rt, "boxes copied", classifiers::copy(alloc, refusals));
-    tell(rt, "boxes put in", classifiers::insert(alloc, refusals));
-    tell(
-        rt,
-        "boxes put over others",
-        classifiers::replace(alloc, refusals),
-    );
-    tell(
-        rt,
-        "boxes without a new cut",
-        classifiers::needless(alloc, refusals),
-    );
-    tell(rt, "no rule", tables::new(alloc, refusals));
-    tell(rt, "chains", tables::new_chain(alloc, refusals));
-    tell(rt, "rules put in", tables::put_in(alloc, refusals));
-    tell(
-        rt,
-        "rules put over others",
-        tables::put_over(alloc, refusals),
-    );
-    tell(rt, "trails", tables::trail(alloc, refusals));
-    tell(rt, "tables copied", tables::copy(alloc, refusals));
-    tell(rt, "tables emptied", tables::emptied(alloc, refusals));
-    run_of_restores(rt, refusals);
 }
 
-/// The cases of commands and restores.
-fn run_of_restores<R: Print + AllocGlobal>(rt: &R, refusals: &mut Refusals) {
+/// The cases of rules and their boxes, and of words that write no rule and no command.
+fn run_of_rules<R: Print + AllocGlobal>(rt: &R, refusals: &mut Refusals) {
     let alloc = rt.alloc();
+    tell(
+        rt,
+        "rules read and copied",
+        rulings::read_all(alloc, refusals),
+    );
+    tell(rt, "rules refused", rulings::refuse_all(alloc, refusals));
+    tell(rt, "boxes", boxes::of(alloc, refusals));
+    tell(rt, "bits", bits::insert(alloc, refusals));
     tell(rt, "commands read", commands::read(alloc, refusals));
     tell(
         rt,
         "commands without a rule",
         commands::needless(alloc, refusals),
     );
-    tell(rt, "commands done", commands::apply(alloc, refusals));
-    tell(rt, "sections begun", sections::begin(alloc, refusals));
-    tell(rt, "lines of sections", sections::line(alloc, refusals));
+}
+
+/// The cases of one classifier, which each finds as those before it left it.
+fn run_of_boxes<R: Print + AllocGlobal>(
+    rt: &R,
+    refusals: &mut Refusals,
+    classifier: &mut Classifier,
+) {
+    let alloc = rt.alloc();
+    tell(rt, "no box", classifiers::new(classifier));
+    tell(
+        rt,
+        "boxes put in",
+        classifiers::insert(alloc, refusals, classifier),
+    );
+    tell(
+        rt,
+        "boxes copied",
+        classifiers::copy(alloc, refusals, classifier),
+    );
+    tell(
+        rt,
+        "boxes without a new cut",
+        classifiers::needless(alloc, refusals, classifier),
+    );
+}
+
+/// The cases of classifiers.
+fn run_of_classifiers<R: Print + AllocGlobal>(rt: &R, refusals: &mut Refusals) {
+    match classifiers::none(rt.alloc(), refusals) {
+        Ok(mut classifier) => run_of_boxes(rt, refusals, &mut classifier),
+        Err(trouble) => tell(rt, "no box", Err(trouble)),
+    }
+    tell(
+        rt,
+        "boxes put over others",
+        classifiers::replace(rt.alloc(), refusals),
+    );
+}
+
+/// The cases that make a table's first rule, and leave it then.
+fn run_of_sections<R: Print + AllocGlobal>(rt: &R, refusals: &mut Refusals, table: &mut Table) {
+    let alloc = rt.alloc();
+    tell(rt, "commands done", commands::apply(alloc, refusals, table));
+    tell(
+        rt,
+        "sections begun",
+        sections::begin(alloc, refusals, table),
+    );
+    tell(
+        rt,
+        "lines of sections",
+        sections::line(alloc, refusals, table),
+    );
     tell(
         rt,
         "refused lines of sections",
-        sections::refused(alloc, refusals),
+        sections::refused(alloc, refusals, table),
     );
     tell(
         rt,
         "quiet lines of sections",
-        sections::needless(alloc, refusals),
+        sections::needless(alloc, refusals, table),
     );
-    tell(rt, "restores", restores::line(alloc, refusals));
     tell(
         rt,
         "quiet lines of restores",
-        restores::needless(alloc, refusals),
+        restores::needless(alloc, refusals, table),
+    );
+    tell(rt, "restores", restores::line(alloc, refusals, table));
+}
+
+/// The cases of a table with rules.
+fn run_of_edits<R: Print + AllocGlobal>(
+    rt: &R,
+    refusals: &mut Refusals,
+    table: &mut Table,
+    packet: &Packet,
+) {
+    let alloc = rt.alloc();
+    tell(
+        rt,
+        "rules put in",
+        tables::put_in(alloc, refusals, table, packet),
     );
     tell(
         rt,
+        "rules put over others",
+        tables::put_over(alloc, refusals, table, packet),
+    );
+    tell(rt, "trails", tables::trail(alloc, refusals, table, packet));
+    tell(
+        rt,
+        "tables copied",
+        tables::copy(alloc, refusals, table, packet),
+    );
+    tell(
+        rt,
+        "tables emptied",
+        tables::emptied(alloc, refusals, table, packet),
+    );
+    tell(
+        rt,
+        "chains",
+        tables::new_chain(alloc, refusals, table, packet),
+    );
+}
+
+/// The cases of tables, commands and restores, all on one table, which each finds as those before it left it.
+fn run_of_tables<R: Print + AllocGlobal>(rt: &R, refusals: &mut Refusals) {
+    match tables::made(rt.alloc(), refusals) {
+        Ok((mut table, packet)) => {
+            let ended = tables::new(rt.alloc(), refusals, &table, &packet);
+            tell(rt, "no rule", ended);
+            run_of_sections(rt, refusals, &mut table);
+            run_of_edits(rt, refusals, &mut table, &packet);
+        }
+        Err(trouble) => tell(rt, "no rule", Err(trouble)),
+    }
+}
+
+/// The cases of a session, which each finds as those before it left it.
+fn run_of_lines<R: Print + AllocGlobal>(rt: &R, refusals: &mut Refusals, session: &mut Session) {
+    let alloc = rt.alloc();
+    tell(
+        rt,
         "lines of sessions",
-        conversations::lines(alloc, refusals),
+        conversations::lines(alloc, refusals, session),
     );
     tell(
         rt,
         "restores among lines",
-        conversations::restores(alloc, refusals),
+        conversations::restores(alloc, refusals, session),
     );
     tell(
         rt,
         "restores by themselves",
-        conversations::whole_restores(alloc, refusals),
+        conversations::whole_restores(alloc, refusals, session),
     );
+}
+
+/// The cases of sessions.
+fn run_of_sessions<R: Print + AllocGlobal>(rt: &R, refusals: &mut Refusals) {
+    match conversations::none(rt.alloc(), refusals) {
+        Ok(mut session) => run_of_lines(rt, refusals, &mut session),
+        Err(trouble) => tell(rt, "lines of sessions", Err(trouble)),
+    }
+}
+
+/// All cases.
+fn run<R: Print + AllocGlobal>(rt: &R, refusals: &mut Refusals) {
+    run_of_sets(rt, refusals);
+    run_of_values(rt, refusals);
+    run_of_rules(rt, refusals);
+    run_of_classifiers(rt, refusals);
+    run_of_tables(rt, refusals);
+    run_of_sessions(rt, refusals);
 }
 
 /// Prints how the planted cases ended, each by the trouble that it is made to be.

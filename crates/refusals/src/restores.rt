@@ -2,7 +2,6 @@
 use crate::case::{Refusals, Trouble, again, expect, expect_kept};
 use crate::listings::{WITH_ONE, expect_kept_listing, expect_listing, has_listing};
 use crate::sections::{QUIET, TOO_LONG, trouble_of};
-use crate::tables::with_one;
 use restore::{Restore, RestoreFault};
 use rules::Work;
 use std::alloc::Global;
@@ -22,25 +21,37 @@ fn run(
     restore.finish()
 }
 
-/// What a restore of these lines, with one rule at most, comes to; a refusal leaves the table, and the lines are
-/// done by another restore.
+/// What a restore of these lines, with one rule at most, comes to. It makes one box at most.
+fn answer_once(
+    alloc: Global,
+    table: &mut Table,
+    lines: &[&[u8]],
+) -> Result<Result<(), RestoreFault>, Trouble> {
+    let mut work = Work::new();
+    let answer = run(alloc, table, lines, &mut work);
+    expect(work.boxes() <= 1)?;
+    Ok(answer)
+}
+
+/// Whether a restore was refused memory.
+fn is_out_of_memory(answer: &Result<(), RestoreFault>) -> bool {
+    match answer {
+        Ok(()) => false,
+        Err(fault) => fault.is_out_of_memory(),
+    }
+}
+
+/// The same; a refusal leaves the table, and the lines are done by another restore.
 fn answer(
     alloc: Global,
     refusals: &mut Refusals,
     table: &mut Table,
     lines: &[&[u8]],
 ) -> Result<Result<(), RestoreFault>, Trouble> {
-    let mut work = Work::new();
-    for calls in 1..3 {
-        let answer = run(alloc, table, lines, &mut work);
-        expect(work.boxes() <= calls)?;
-        match answer {
-            Ok(()) => return Ok(Ok(())),
-            Err(fault) => {
-                if !fault.is_out_of_memory() {
-                    return Ok(Err(fault));
-                }
-            }
+    for _ in 0..2 {
+        let answer = answer_once(alloc, table, lines)?;
+        if !is_out_of_memory(&answer) {
+            return Ok(answer);
         }
         refusals.note();
         expect_kept_listing(alloc, refusals, table, WITH_ONE)?;
@@ -61,36 +72,37 @@ fn expect_answer(
     expect_listing(alloc, refusals, table, text)
 }
 
+/// Restores: their lines, what they come to, and the listing after them. The last one alone changes the table.
+const RESTORES: &[(&[&[u8]], Result<(), RestoreFault>, &[u8])] = &[
+    (&[b"-A INPUT"], Err(RestoreFault::NotAllowed), WITH_ONE),
+    (
+        &[b"*filter", b":b -"],
+        Err(RestoreFault::EndBeforeCommit),
+        WITH_ONE,
+    ),
+    (
+        &[b"*filter", b"-F", b"-A b -j LOG"],
+        Err(RestoreFault::Table(TableFault::NoSuchChain)),
+        WITH_ONE,
+    ),
+    (
+        &[
+            b"*nat",
+            b"COMMIT",
+            b"*filter",
+            b":b -",
+            b"-A b -p tcp --dport 22 -j a",
+            b"COMMIT",
+        ],
+        Ok(()),
+        b":a - [0:0]\n:b - [0:0]\n-A INPUT -s 10.0.0.0/8 -j DROP\n-A b -p tcp -m tcp --dport 22 -j a\nCOMMIT\n",
+    ),
+];
+
 /// `Restore::line`, of lines that open a section, of chain lines and commands, and of `COMMIT`.
-pub fn line(alloc: Global, refusals: &mut Refusals) -> Result<(), Trouble> {
-    let mut table = with_one(alloc, refusals)?;
-    let rows: [(&[&[u8]], Result<(), RestoreFault>, &[u8]); 4] = [
-        (&[b"-A INPUT"], Err(RestoreFault::NotAllowed), WITH_ONE),
-        (
-            &[b"*filter", b":b -"],
-            Err(RestoreFault::EndBeforeCommit),
-            WITH_ONE,
-        ),
-        (
-            &[b"*filter", b"-F", b"-A b -j LOG"],
-            Err(RestoreFault::Table(TableFault::NoSuchChain)),
-            WITH_ONE,
-        ),
-        (
-            &[
-                b"*nat",
-                b"COMMIT",
-                b"*filter",
-                b":b -",
-                b"-A b -p tcp --dport 22 -j a",
-                b"COMMIT",
-            ],
-            Ok(()),
-            b":a - [0:0]\n:b - [0:0]\n-A INPUT -s 10.0.0.0/8 -j DROP\n-A b -p tcp -m tcp --dport 22 -j a\nCOMMIT\n",
-        ),
-    ];
-    for (lines, expected, text) in rows {
-        expect_answer(alloc, refusals, &mut table, lines, expected, text)?;
+pub fn line(alloc: Global, refusals: &mut Refusals, table: &mut Table) -> Result<(), Trouble> {
+    for (lines, expected, text) in RESTORES {
+        expect_answer(alloc, refusals, table, lines, *expected, text)?;
     }
     Ok(())
 }
@@ -109,14 +121,19 @@ fn inside(
     ))
 }
 
-/// The restore after lines that have to be accepted without any memory.
+/// The restore after a line that has to be accepted without any memory.
+fn after(restore: Restore, table: &mut Table, line: &[u8]) -> Result<Restore, Trouble> {
+    match restore.line(table, line, &mut Work::new()) {
+        Ok(next) => Ok(next),
+        Err(fault) => Err(trouble_of(fault)),
+    }
+}
+
+/// The same after several lines.
 fn after_all(restore: Restore, table: &mut Table, lines: &[&[u8]]) -> Result<Restore, Trouble> {
     let mut next = restore;
     for line in lines {
-        next = match next.line(table, line, &mut Work::new()) {
-            Ok(next) => next,
-            Err(fault) => return Err(trouble_of(fault)),
-        };
+        next = after(next, table, line)?;
     }
     Ok(next)
 }
@@ -139,17 +156,15 @@ fn expect_fault(
     }
 }
 
-/// The faults of a restore between sections, after quiet lines.
-fn needless_between(alloc: Global, table: &mut Table) -> Result<(), Trouble> {
-    let rows: [(&[u8], RestoreFault); 2] = [
-        (b"COMMIT", RestoreFault::NotAllowed),
-        (&TOO_LONG, RestoreFault::LineTooLong),
-    ];
-    for (line, fault) in rows {
-        let between = after_all(Restore::new(alloc, true, false), table, &QUIET)?;
-        expect_fault(between, table, line, fault)?;
-    }
-    Ok(())
+/// The fault of a line between sections, after quiet lines.
+fn needless_between(
+    alloc: Global,
+    table: &mut Table,
+    line: &[u8],
+    fault: RestoreFault,
+) -> Result<(), Trouble> {
+    let between = after_all(Restore::new(alloc, true, false), table, QUIET)?;
+    expect_fault(between, table, line, fault)
 }
 
 /// The fault of a line that is too long, inside a section and after quiet lines.
@@ -160,7 +175,7 @@ fn needless_open(
     opening: &[u8],
 ) -> Result<(), Trouble> {
     let restore = inside(alloc, refusals, table, opening)?;
-    let open = after_all(restore, table, &QUIET)?;
+    let open = after_all(restore, table, QUIET)?;
     expect_fault(open, table, &TOO_LONG, RestoreFault::LineTooLong)
 }
 
@@ -190,7 +205,8 @@ fn needless_inside(
 
 /// All lines that take no memory.
 fn needless_all(alloc: Global, refusals: &mut Refusals, table: &mut Table) -> Result<(), Trouble> {
-    needless_between(alloc, table)?;
+    needless_between(alloc, table, b"COMMIT", RestoreFault::NotAllowed)?;
+    needless_between(alloc, table, &TOO_LONG, RestoreFault::LineTooLong)?;
     needless_inside(alloc, refusals, table, b"*nat")?;
     needless_inside(alloc, refusals, table, b"*filter")?;
     let lines = [b"a \"b".as_slice(), b":a - b", b"*filter", b"COMMIT"];
@@ -198,8 +214,7 @@ fn needless_all(alloc: Global, refusals: &mut Refusals, table: &mut Table) -> Re
 }
 
 /// `Restore::line` of the lines that take no memory: between sections, in one that is skipped, and in one of `filter`.
-pub fn needless(alloc: Global, refusals: &mut Refusals) -> Result<(), Trouble> {
-    let mut table = with_one(alloc, refusals)?;
-    needless_all(alloc, refusals, &mut table)?;
-    expect_listing(alloc, refusals, &table, WITH_ONE)
+pub fn needless(alloc: Global, refusals: &mut Refusals, table: &mut Table) -> Result<(), Trouble> {
+    needless_all(alloc, refusals, table)?;
+    expect_listing(alloc, refusals, table, WITH_ONE)
 }

@@ -46,7 +46,7 @@ pub fn rule_of(alloc: Global, refusals: &mut Refusals, line: &[u8]) -> Result<Ru
 }
 
 /// Rules with their texts: memory is taken for options, matches, comments and the options of targets.
-const RULES: [(&[u8], &[u8]); 4] = [
+const RULES: &[(&[u8], &[u8])] = &[
     (b"-s 10.1.2.3/8 -j ACCEPT", b" -s 10.0.0.0/8 -j ACCEPT"),
     (
         b"-p 6 -m state --state established,NEW -j ACCEPT",
@@ -72,7 +72,33 @@ pub fn expect_text(
     expect(has_text(alloc, refusals, rule, text)?)
 }
 
-/// Reads a rule, and compares its text.
+/// The copy of a rule; a refusal leaves its text.
+fn copy_of(
+    alloc: Global,
+    refusals: &mut Refusals,
+    rule: &Rule,
+    text: &[u8],
+) -> Result<Rule, Trouble> {
+    Ok(again!(
+        refusals,
+        rule.copy(alloc),
+        has_text(alloc, refusals, rule, text)?
+    ))
+}
+
+/// Compares the copy of a rule, and the rule, by their text.
+fn expect_copy(
+    alloc: Global,
+    refusals: &mut Refusals,
+    rule: &Rule,
+    text: &[u8],
+) -> Result<(), Trouble> {
+    let copy = copy_of(alloc, refusals, rule, text)?;
+    expect(copy == *rule)?;
+    expect_text(alloc, refusals, &copy, text)
+}
+
+/// Reads a rule, and compares its text and its copy.
 fn expect_read(
     alloc: Global,
     refusals: &mut Refusals,
@@ -80,7 +106,16 @@ fn expect_read(
     text: &[u8],
 ) -> Result<(), Trouble> {
     let rule = rule_of(alloc, refusals, line)?;
-    expect_text(alloc, refusals, &rule, text)
+    expect_text(alloc, refusals, &rule, text)?;
+    expect_copy(alloc, refusals, &rule, text)
+}
+
+/// `read_rule` and `Rule::copy`.
+pub fn read_all(alloc: Global, refusals: &mut Refusals) -> Result<(), Trouble> {
+    for (line, text) in RULES {
+        expect_read(alloc, refusals, line, text)?;
+    }
+    Ok(())
 }
 
 /// Compares why a line writes no rule.
@@ -99,56 +134,20 @@ fn expect_refused(
     }
 }
 
-/// `read_rule`.
-pub fn read_all(alloc: Global, refusals: &mut Refusals) -> Result<(), Trouble> {
-    for (line, text) in RULES {
-        expect_read(alloc, refusals, line, text)?;
-    }
-    let faults: [(&[u8], Refusal); 3] = [
-        (b"-s 10.0.0.0/8 --dport 22 -j DROP", Refusal::ProtocolNeeded),
-        (
-            b"-m comment --comment x -m comment",
-            Refusal::MatchOptionMissing,
-        ),
-        (b"-p tcp --dport 1 --dport 2", Refusal::RepeatedOption),
-    ];
-    for (line, refusal) in faults {
-        expect_refused(alloc, refusals, line, refusal)?;
-    }
-    Ok(())
-}
+/// Lines that write no rule, and why.
+const REFUSED: &[(&[u8], Refusal)] = &[
+    (b"-s 10.0.0.0/8 --dport 22 -j DROP", Refusal::ProtocolNeeded),
+    (
+        b"-m comment --comment x -m comment",
+        Refusal::MatchOptionMissing,
+    ),
+    (b"-p tcp --dport 1 --dport 2", Refusal::RepeatedOption),
+];
 
-/// The copy of a rule; a refusal leaves its text.
-fn copy_of(
-    alloc: Global,
-    refusals: &mut Refusals,
-    rule: &Rule,
-    text: &[u8],
-) -> Result<Rule, Trouble> {
-    Ok(again!(
-        refusals,
-        rule.copy(alloc),
-        has_text(alloc, refusals, rule, text)?
-    ))
-}
-
-/// Compares the copy of a rule.
-fn expect_copy(
-    alloc: Global,
-    refusals: &mut Refusals,
-    rule: &Rule,
-    text: &[u8],
-) -> Result<(), Trouble> {
-    let copy = copy_of(alloc, refusals, rule, text)?;
-    expect(copy == *rule)?;
-    expect_text(alloc, refusals, &copy, text)
-}
-
-/// `Rule::copy`.
-pub fn copy_all(alloc: Global, refusals: &mut Refusals) -> Result<(), Trouble> {
-    for (line, text) in RULES {
-        let rule = rule_of(alloc, refusals, line)?;
-        expect_copy(alloc, refusals, &rule, text)?;
+/// `read_rule` of lines that write no rule.
+pub fn refuse_all(alloc: Global, refusals: &mut Refusals) -> Result<(), Trouble> {
+    for (line, refusal) in REFUSED {
+        expect_refused(alloc, refusals, line, *refusal)?;
     }
     Ok(())
 }

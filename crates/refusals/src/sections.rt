@@ -1,7 +1,6 @@
 //! Sections of a restore.
 use crate::case::{Refusals, Trouble, again, expect, expect_kept};
 use crate::listings::{WITH_ONE, expect_kept_listing, expect_listing, has_listing};
-use crate::tables::with_one;
 use restore::{CommandFault, RestoreFault, Transaction};
 use rules::Work;
 use std::alloc::Global;
@@ -11,7 +10,7 @@ use table::{Table, TableFault};
 pub const TOO_LONG: [u8; 10_241] = [b'#'; 10_241];
 
 /// Lines that ask nothing.
-pub const QUIET: [&[u8]; 3] = [b"", b" \t", b"\t# a \"b"];
+pub const QUIET: &[&[u8]] = &[b"", b" \t", b"\t# a \"b"];
 
 /// What a fault comes to where a line that takes no memory has to be accepted.
 pub fn trouble_of(fault: RestoreFault) -> Trouble {
@@ -36,6 +35,29 @@ fn begun(
     ))
 }
 
+/// What a section that is begun anew answers to a line. It makes one box at most.
+fn answer_once(
+    alloc: Global,
+    refusals: &mut Refusals,
+    table: &Table,
+    noflush: bool,
+    line: &[u8],
+) -> Result<Result<Transaction, RestoreFault>, Trouble> {
+    let mut work = Work::new();
+    let section = begun(alloc, refusals, table, noflush)?;
+    let answer = section.line(line, &mut work);
+    expect(work.boxes() <= 1)?;
+    Ok(answer)
+}
+
+/// Whether a line was refused memory.
+fn is_out_of_memory(answer: &Result<Transaction, RestoreFault>) -> bool {
+    match answer {
+        Ok(_) => false,
+        Err(fault) => fault.is_out_of_memory(),
+    }
+}
+
 /// What a section of that table answers to a line; a refusal leaves the table, and the line is done by another section.
 fn answer(
     alloc: Global,
@@ -44,18 +66,10 @@ fn answer(
     noflush: bool,
     line: &[u8],
 ) -> Result<Result<Transaction, RestoreFault>, Trouble> {
-    let mut work = Work::new();
-    for calls in 1..3 {
-        let section = begun(alloc, refusals, table, noflush)?;
-        let answer = section.line(line, &mut work);
-        expect(work.boxes() <= calls)?;
-        match answer {
-            Ok(next) => return Ok(Ok(next)),
-            Err(fault) => {
-                if !fault.is_out_of_memory() {
-                    return Ok(Err(fault));
-                }
-            }
+    for _ in 0..2 {
+        let answer = answer_once(alloc, refusals, table, noflush, line)?;
+        if !is_out_of_memory(&answer) {
+            return Ok(answer);
         }
         refusals.note();
         expect_kept_listing(alloc, refusals, table, WITH_ONE)?;
@@ -89,10 +103,9 @@ fn begin_one(
 }
 
 /// `Transaction::begin`, with `noflush` and without.
-pub fn begin(alloc: Global, refusals: &mut Refusals) -> Result<(), Trouble> {
-    let table = with_one(alloc, refusals)?;
-    begin_one(alloc, refusals, &table, true, WITH_ONE)?;
-    begin_one(alloc, refusals, &table, false, b"COMMIT\n")
+pub fn begin(alloc: Global, refusals: &mut Refusals, table: &Table) -> Result<(), Trouble> {
+    begin_one(alloc, refusals, table, true, WITH_ONE)?;
+    begin_one(alloc, refusals, table, false, b"COMMIT\n")
 }
 
 /// A section after a line that it accepts.
@@ -123,7 +136,7 @@ fn line_one(
 }
 
 /// Lines that a section accepts: whether it begins with `noflush`, the line, and the section's listing.
-const ACCEPTED: [(bool, &[u8], &[u8]); 3] = [
+const ACCEPTED: &[(bool, &[u8], &[u8])] = &[
     (
         true,
         b"[3:180] -A INPUT -p tcp --dport 22 -j a",
@@ -134,10 +147,9 @@ const ACCEPTED: [(bool, &[u8], &[u8]); 3] = [
 ];
 
 /// `Transaction::line`, of a command after counters and of chain lines.
-pub fn line(alloc: Global, refusals: &mut Refusals) -> Result<(), Trouble> {
-    let table = with_one(alloc, refusals)?;
+pub fn line(alloc: Global, refusals: &mut Refusals, table: &Table) -> Result<(), Trouble> {
     for (noflush, line, text) in ACCEPTED {
-        line_one(alloc, refusals, &table, noflush, line, text)?;
+        line_one(alloc, refusals, table, *noflush, line, text)?;
     }
     Ok(())
 }
@@ -147,46 +159,58 @@ fn refuse_one(
     alloc: Global,
     refusals: &mut Refusals,
     table: &Table,
+    noflush: bool,
     line: &[u8],
     fault: RestoreFault,
 ) -> Result<(), Trouble> {
-    match answer(alloc, refusals, table, true, line)? {
+    match answer(alloc, refusals, table, noflush, line)? {
         Ok(_) => Err(Trouble::OtherAnswer),
         Err(found) => expect(found == fault),
     }
 }
 
+/// Lines that a section refuses: whether it begins with `noflush`, the line, and the fault.
+const REFUSED: &[(bool, &[u8], RestoreFault)] = &[
+    (false, b"a \"b", RestoreFault::Quoting),
+    (false, b":a ACCEPT", RestoreFault::BadChainLine),
+    (
+        false,
+        b"-A a -f -F",
+        RestoreFault::Command(CommandFault::TwoCommands),
+    ),
+    (true, b"-A a -f -g a", RestoreFault::Table(TableFault::Loop)),
+];
+
 /// `Transaction::line` of lines that are refused whatever memory there is.
-pub fn refused(alloc: Global, refusals: &mut Refusals) -> Result<(), Trouble> {
-    let table = with_one(alloc, refusals)?;
-    let rows: [(&[u8], RestoreFault); 4] = [
-        (b"a \"b", RestoreFault::Quoting),
-        (b":a ACCEPT", RestoreFault::BadChainLine),
-        (
-            b"-A a -f -F",
-            RestoreFault::Command(CommandFault::TwoCommands),
-        ),
-        (b"-A a -f -g a", RestoreFault::Table(TableFault::Loop)),
-    ];
-    for (line, fault) in rows {
-        refuse_one(alloc, refusals, &table, line, fault)?;
+pub fn refused(alloc: Global, refusals: &mut Refusals, table: &Table) -> Result<(), Trouble> {
+    for (noflush, line, fault) in REFUSED {
+        refuse_one(alloc, refusals, table, *noflush, line, *fault)?;
     }
     Ok(())
 }
 
-/// `Transaction::line` of lines that ask nothing, and of one that is too long: they take no memory.
-pub fn needless(alloc: Global, refusals: &mut Refusals) -> Result<(), Trouble> {
-    let table = with_one(alloc, refusals)?;
-    let mut section = begun(alloc, refusals, &table, true)?;
-    for line in QUIET {
-        section = match section.line(line, &mut Work::new()) {
-            Ok(next) => next,
-            Err(fault) => return Err(trouble_of(fault)),
-        };
+/// A section after a line that asks nothing.
+fn after_quiet(section: Transaction, line: &[u8]) -> Result<Transaction, Trouble> {
+    match section.line(line, &mut Work::new()) {
+        Ok(next) => Ok(next),
+        Err(fault) => Err(trouble_of(fault)),
     }
+}
+
+/// A section's answer to a line that is too long.
+fn expect_too_long(section: Transaction) -> Result<(), Trouble> {
     match section.line(&TOO_LONG, &mut Work::new()) {
         Ok(_) => Err(Trouble::OtherAnswer),
         Err(RestoreFault::LineTooLong) => Ok(()),
         Err(fault) => Err(trouble_of(fault)),
     }
+}
+
+/// `Transaction::line` of lines that ask nothing, and of one that is too long: they take no memory.
+pub fn needless(alloc: Global, refusals: &mut Refusals, table: &Table) -> Result<(), Trouble> {
+    let mut section = begun(alloc, refusals, table, false)?;
+    for line in QUIET {
+        section = after_quiet(section, line)?;
+    }
+    expect_too_long(section)
 }

@@ -1,170 +1,171 @@
-//! Tables: their chains and rules.
-use crate::case::{Refusals, Trouble, again, expect, expect_kept};
+//! Tables: their chains and rules. All cases are of one table, which each finds as those before it left it.
+use crate::case::{Refusals, Trouble, again, expect, expect_kept, is_done};
+use crate::listings::has_listing;
 use crate::rulings::rule_of;
 use crate::words::words_of;
 use fields::{Field, Packet};
-use rules::Work;
-use std::alloc::Global;
-use table::{Policy, Table, TableFault, Trail, Verdict};
+use rules::{Rule, Work};
+use std::alloc::{AllocError, Global};
+use table::{Table, TableFault, Trail, Verdict};
 
-/// A chain: its name, the texts of its rules, and how many pieces its classifier's lines have together.
-type Row<'a> = (&'a [u8], &'a [&'a [u8]], usize);
-
-const FROM_TEN: &[u8] = b"-s 10.0.0.0/8 -j DROP";
+/// What a table shows: the rest of its listing, how many pieces the lines of each chain's classifier have together, and
+/// what becomes of a packet to port 22.
+type State<'a> = (&'a [u8], &'a [usize], Verdict);
 
 const TO_SSH: &[u8] = b"-p tcp --dport 22 -j ACCEPT";
 
-const JUMP: &[u8] = b"-j a";
+/// A table of the built-in chains alone.
+const EMPTY: State<'static> = (b"COMMIT\n", &[11, 11, 11], Verdict::Accept);
 
-const EMPTY: [Row<'static>; 3] = [
-    (b"INPUT", &[], 11),
-    (b"FORWARD", &[], 11),
-    (b"OUTPUT", &[], 11),
-];
+/// The table before the edits: with a rule of INPUT, a chain `a`, and a rule of a chain `b`.
+const BEFORE: State<'static> = (
+    b":a - [0:0]\n:b - [0:0]\n\
+    -A INPUT -s 10.0.0.0/8 -j DROP\n\
+    -A b -p tcp -m tcp --dport 22 -j a\nCOMMIT\n",
+    &[13, 11, 11, 11, 16],
+    Verdict::Drop,
+);
 
-/// The chains before the edits.
-const BEFORE: [Row<'static>; 4] = [
-    (b"INPUT", &[JUMP, FROM_TEN], 13),
-    (b"FORWARD", &[], 11),
-    (b"OUTPUT", &[], 11),
-    (b"a", &[TO_SSH], 16),
-];
+/// The same after a rule of `a`.
+const WITH_TWO: State<'static> = (
+    b":a - [0:0]\n:b - [0:0]\n\
+    -A INPUT -s 10.0.0.0/8 -j DROP\n\
+    -A a -p tcp -m tcp --dport 22 -j ACCEPT\n\
+    -A b -p tcp -m tcp --dport 22 -j a\nCOMMIT\n",
+    &[13, 11, 11, 16, 16],
+    Verdict::Drop,
+);
 
-/// The chains of which BEFORE is made, in turn.
-const MADE: [Row<'static>; 4] = [
-    (b"INPUT", &[], 11),
-    (b"FORWARD", &[], 11),
-    (b"OUTPUT", &[], 11),
-    (b"a", &[], 11),
-];
+/// The same after a jump to it, before the rule of INPUT.
+const WITH_A_JUMP: State<'static> = (
+    b":a - [0:0]\n:b - [0:0]\n\
+    -A INPUT -j a\n-A INPUT -s 10.0.0.0/8 -j DROP\n\
+    -A a -p tcp -m tcp --dport 22 -j ACCEPT\n\
+    -A b -p tcp -m tcp --dport 22 -j a\nCOMMIT\n",
+    &[13, 11, 11, 16, 16],
+    Verdict::Accept,
+);
 
-const WITH_ONE: [Row<'static>; 4] = [
-    (b"INPUT", &[FROM_TEN], 13),
-    (b"FORWARD", &[], 11),
-    (b"OUTPUT", &[], 11),
-    (b"a", &[], 11),
-];
-
-const WITH_TWO: [Row<'static>; 4] = [
-    (b"INPUT", &[JUMP, FROM_TEN], 13),
-    (b"FORWARD", &[], 11),
-    (b"OUTPUT", &[], 11),
-    (b"a", &[], 11),
-];
-
-/// The chains after a further one.
-const WITH_A_CHAIN: [Row<'static>; 5] = [
-    (b"INPUT", &[JUMP, FROM_TEN], 13),
-    (b"FORWARD", &[], 11),
-    (b"OUTPUT", &[], 11),
-    (b"B", &[], 11),
-    (b"a", &[TO_SSH], 16),
-];
-
-/// The chains after a further rule of INPUT.
-const WITH_THREE: [Row<'static>; 4] = [
-    (b"INPUT", &[FROM_TEN, JUMP, FROM_TEN], 13),
-    (b"FORWARD", &[], 11),
-    (b"OUTPUT", &[], 11),
-    (b"a", &[TO_SSH], 16),
-];
+/// The same after a further rule of INPUT.
+const WITH_THREE: State<'static> = (
+    b":a - [0:0]\n:b - [0:0]\n\
+    -A INPUT -s 10.0.0.0/8 -j DROP\n-A INPUT -j a\n-A INPUT -s 10.0.0.0/8 -j DROP\n\
+    -A a -p tcp -m tcp --dport 22 -j ACCEPT\n\
+    -A b -p tcp -m tcp --dport 22 -j a\nCOMMIT\n",
+    &[13, 11, 11, 16, 16],
+    Verdict::Drop,
+);
 
 /// The same after one of OUTPUT.
-const WITH_FOUR: [Row<'static>; 4] = [
-    (b"INPUT", &[FROM_TEN, JUMP, FROM_TEN], 13),
-    (b"FORWARD", &[], 11),
-    (b"OUTPUT", &[b"-o lo -g a"], 13),
-    (b"a", &[TO_SSH], 16),
-];
+const WITH_FOUR: State<'static> = (
+    b":a - [0:0]\n:b - [0:0]\n\
+    -A INPUT -s 10.0.0.0/8 -j DROP\n-A INPUT -j a\n-A INPUT -s 10.0.0.0/8 -j DROP\n\
+    -A OUTPUT -o lo -g a\n\
+    -A a -p tcp -m tcp --dport 22 -j ACCEPT\n\
+    -A b -p tcp -m tcp --dport 22 -j a\nCOMMIT\n",
+    &[13, 11, 13, 16, 16],
+    Verdict::Drop,
+);
 
-/// The chains after a rule in the place of another.
-const REPLACED: [Row<'static>; 4] = [
-    (b"INPUT", &[b"-p udp -j LOG", FROM_TEN], 15),
-    (b"FORWARD", &[], 11),
-    (b"OUTPUT", &[], 11),
-    (b"a", &[TO_SSH], 16),
-];
+/// The same after a rule in the place of the first one of INPUT.
+const REPLACED: State<'static> = (
+    b":a - [0:0]\n:b - [0:0]\n\
+    -A INPUT -p udp -j LOG\n-A INPUT -j a\n-A INPUT -s 10.0.0.0/8 -j DROP\n\
+    -A OUTPUT -o lo -g a\n\
+    -A a -p tcp -m tcp --dport 22 -j ACCEPT\n\
+    -A b -p tcp -m tcp --dport 22 -j a\nCOMMIT\n",
+    &[15, 11, 13, 16, 16],
+    Verdict::Accept,
+);
 
+/// The same after a rule in the place of that of OUTPUT.
+const AFTER: State<'static> = (
+    b":a - [0:0]\n:b - [0:0]\n\
+    -A INPUT -p udp -j LOG\n-A INPUT -j a\n-A INPUT -s 10.0.0.0/8 -j DROP\n\
+    -A OUTPUT -p tcp -m tcp --dport 22 -j ACCEPT\n\
+    -A a -p tcp -m tcp --dport 22 -j ACCEPT\n\
+    -A b -p tcp -m tcp --dport 22 -j a\nCOMMIT\n",
+    &[15, 11, 16, 16, 16],
+    Verdict::Accept,
+);
+
+/// The same after a further chain.
+const WITH_A_CHAIN: State<'static> = (
+    b":B - [0:0]\n:a - [0:0]\n:b - [0:0]\n\
+    -A INPUT -p udp -j LOG\n-A INPUT -j a\n-A INPUT -s 10.0.0.0/8 -j DROP\n\
+    -A OUTPUT -p tcp -m tcp --dport 22 -j ACCEPT\n\
+    -A a -p tcp -m tcp --dport 22 -j ACCEPT\n\
+    -A b -p tcp -m tcp --dport 22 -j a\nCOMMIT\n",
+    &[15, 11, 16, 11, 16, 16],
+    Verdict::Accept,
+);
+
+/// How many pieces a line of a chain's classifier has.
+fn pieces_on(table: &Table, place: usize, field: Field) -> usize {
+    if place < table.chain_count() {
+        table.classifier(place).line(field).len()
+    } else {
+        0
+    }
+}
+
+/// How many pieces the lines of a chain's classifier have together.
 fn pieces(table: &Table, place: usize) -> usize {
     let mut count: usize = 0;
-    if place < table.chain_count() {
-        for field in Field::ALL {
-            count = count.saturating_add(table.classifier(place).line(field).len());
-        }
+    for field in Field::ALL {
+        count = count.saturating_add(pieces_on(table, place, field));
     }
     count
 }
 
-/// Whether the chain at a place is as the row says but for its rules: its name, how many rules it has, its classifier
-/// and its policy.
-fn is_chain(table: &Table, place: usize, row: &Row) -> bool {
-    let (name, lines, expected) = *row;
-    let policy = if place < 3 {
-        Some(Policy::Accept)
-    } else {
-        None
-    };
-    place < table.chain_count()
-        && table.chain_name(place) == name
-        && table.rule_count(place) == lines.len()
-        && pieces(table, place) == expected
-        && table.policy(place) == policy
-}
-
-/// Whether a chain has the rule that a line writes.
-fn has_rule(
-    alloc: Global,
-    refusals: &mut Refusals,
-    table: &Table,
-    name: &[u8],
-    line: &[u8],
-) -> Result<bool, Trouble> {
-    let rule = rule_of(alloc, refusals, line)?;
-    Ok(table.has_rule(name, &rule).is_ok())
-}
-
-/// Whether the chain at a place is as the row says: its name, its rules one by one, and its classifier.
-fn is_row(
-    alloc: Global,
-    refusals: &mut Refusals,
-    table: &Table,
-    place: usize,
-    row: &Row,
-) -> Result<bool, Trouble> {
-    if place >= table.chain_count() {
-        return Ok(false);
-    }
-    for line in row.1 {
-        if !has_rule(alloc, refusals, table, row.0, line)? {
-            return Ok(false);
+/// Whether the table has so many chains, and their classifiers so many pieces.
+fn has_pieces(table: &Table, counts: &[usize]) -> bool {
+    for place in 0..counts.len() {
+        if pieces(table, place) != counts[place] {
+            return false;
         }
     }
-    Ok(is_chain(table, place, row))
+    table.chain_count() == counts.len()
 }
 
-/// Whether the table has these chains.
-fn is_of(
+/// Whether this becomes of a packet.
+fn is_judged(table: &Table, packet: &Packet, verdict: Verdict) -> bool {
+    table.verdict(packet) == verdict
+}
+
+/// Whether the table is in a state.
+fn is_in(
     alloc: Global,
     refusals: &mut Refusals,
     table: &Table,
-    rows: &[Row],
+    packet: &Packet,
+    state: State,
 ) -> Result<bool, Trouble> {
-    for (place, row) in rows.iter().enumerate() {
-        if !is_row(alloc, refusals, table, place, row)? {
-            return Ok(false);
-        }
-    }
-    Ok(table.chain_count() == rows.len())
+    let (rest, counts, verdict) = state;
+    let is_listed = has_listing(alloc, refusals, table, rest)?;
+    Ok(is_listed && has_pieces(table, counts) && is_judged(table, packet, verdict))
 }
 
-/// Compares the table's chains.
-fn expect_of(
+/// Compares the table's state.
+fn expect_in(
     alloc: Global,
     refusals: &mut Refusals,
     table: &Table,
-    rows: &[Row],
+    packet: &Packet,
+    state: State,
 ) -> Result<(), Trouble> {
-    expect(is_of(alloc, refusals, table, rows)?)
+    expect(is_in(alloc, refusals, table, packet, state)?)
+}
+
+/// Compares the table's state after a refusal, which leaves it.
+fn expect_kept_in(
+    alloc: Global,
+    refusals: &mut Refusals,
+    table: &Table,
+    packet: &Packet,
+    state: State,
+) -> Result<(), Trouble> {
+    expect_kept(is_in(alloc, refusals, table, packet, state)?)
 }
 
 /// The packet that a line describes.
@@ -178,32 +179,15 @@ fn packet_of(alloc: Global, refusals: &mut Refusals, line: &[u8]) -> Result<Pack
     }
 }
 
-/// What becomes of a packet to port 22.
-fn verdict(alloc: Global, refusals: &mut Refusals, table: &Table) -> Result<Verdict, Trouble> {
+fn none(alloc: Global, refusals: &mut Refusals) -> Result<Table, Trouble> {
+    Ok(again!(refusals, Table::new(alloc), true))
+}
+
+/// The table of the cases, without a rule, and a packet to port 22.
+pub fn made(alloc: Global, refusals: &mut Refusals) -> Result<(Table, Packet), Trouble> {
     let line = b"INPUT src=10.0.0.1 dst=10.0.0.2 proto=tcp sport=7 dport=22";
-    Ok(table.verdict(&packet_of(alloc, refusals, line)?))
-}
-
-/// Compares what becomes of a packet to port 22.
-fn expect_verdict(
-    alloc: Global,
-    refusals: &mut Refusals,
-    table: &Table,
-    expected: Verdict,
-) -> Result<(), Trouble> {
-    expect(verdict(alloc, refusals, table)? == expected)
-}
-
-/// Compares what a refused edit leaves: the chains, and what becomes of a packet.
-fn expect_kept_of(
-    alloc: Global,
-    refusals: &mut Refusals,
-    table: &Table,
-    rows: &[Row],
-    before: Verdict,
-) -> Result<(), Trouble> {
-    expect_kept(is_of(alloc, refusals, table, rows)?)?;
-    expect_kept(verdict(alloc, refusals, table)? == before)
+    let packet = packet_of(alloc, refusals, line)?;
+    Ok((none(alloc, refusals)?, packet))
 }
 
 /// An edit that puts a rule into a chain.
@@ -214,256 +198,138 @@ enum Edit {
     Replace(usize),
 }
 
-/// Makes the edit; a refusal leaves the chains that were there, and what becomes of a packet.
+/// An edit, the chain, and the line of the rule.
+type Change<'a> = (Edit, &'a [u8], &'a [u8]);
+
+/// The table's answer to an edit.
+fn answer(table: &mut Table, edit: Edit, chain: &[u8], rule: Rule) -> Result<(), TableFault> {
+    let mut work = Work::new();
+    match edit {
+        Edit::Append => table.append(chain, rule, &mut work),
+        Edit::Insert(number) => table.insert(chain, number, rule, &mut work),
+        Edit::Replace(number) => table.replace(chain, number, rule, &mut work),
+    }
+}
+
+/// Whether the edit was made: it wasn't where memory was refused.
+fn is_put(
+    alloc: Global,
+    refusals: &mut Refusals,
+    table: &mut Table,
+    put: Change,
+) -> Result<bool, Trouble> {
+    let (edit, chain, line) = put;
+    let rule = rule_of(alloc, refusals, line)?;
+    is_done(refusals, answer(table, edit, chain, rule))
+}
+
+/// Makes the edit between two states; a refusal leaves the first.
 fn put(
     alloc: Global,
     refusals: &mut Refusals,
     table: &mut Table,
-    edit: Edit,
-    chain: &[u8],
-    line: &[u8],
-    rows: &[Row],
+    packet: &Packet,
+    put: Change,
+    states: (State, State),
 ) -> Result<(), Trouble> {
-    let mut work = Work::new();
-    let before = verdict(alloc, refusals, table)?;
     for _ in 0..2 {
-        let rule = rule_of(alloc, refusals, line)?;
-        let answer = match edit {
-            Edit::Append => table.append(chain, rule, &mut work),
-            Edit::Insert(number) => table.insert(chain, number, rule, &mut work),
-            Edit::Replace(number) => table.replace(chain, number, rule, &mut work),
-        };
-        match answer {
-            Ok(()) => return Ok(()),
-            Err(TableFault::NoMemory) => refusals.note(),
-            Err(_) => return Err(Trouble::OtherAnswer),
+        if is_put(alloc, refusals, table, put)? {
+            return expect_in(alloc, refusals, table, packet, states.1);
         }
-        expect_kept_of(alloc, refusals, table, rows, before)?;
+        expect_kept_in(alloc, refusals, table, packet, states.0)?;
     }
     Err(Trouble::RefusedTwice)
 }
 
-/// Makes a chain; a refusal leaves the chains that were there.
-fn make(
+/// Makes edits in turn, each between two states.
+fn put_all(
     alloc: Global,
     refusals: &mut Refusals,
     table: &mut Table,
-    name: &[u8],
-    rows: &[Row],
+    packet: &Packet,
+    rows: &[(Change, State, State)],
 ) -> Result<(), Trouble> {
-    for _ in 0..2 {
-        match table.new_chain(name) {
-            Ok(()) => return Ok(()),
-            Err(TableFault::NoMemory) => refusals.note(),
-            Err(_) => return Err(Trouble::OtherAnswer),
-        }
-        expect_kept(is_of(alloc, refusals, table, rows)?)?;
+    for (edit, from, to) in rows {
+        put(alloc, refusals, table, packet, *edit, (*from, *to))?;
     }
-    Err(Trouble::RefusedTwice)
-}
-
-fn none(alloc: Global, refusals: &mut Refusals) -> Result<Table, Trouble> {
-    Ok(again!(refusals, Table::new(alloc), true))
-}
-
-/// Makes a user chain `a` and one rule of INPUT.
-fn make_one(alloc: Global, refusals: &mut Refusals, table: &mut Table) -> Result<(), Trouble> {
-    make(alloc, refusals, table, b"a", &EMPTY)?;
-    put(
-        alloc,
-        refusals,
-        table,
-        Edit::Append,
-        b"INPUT",
-        FROM_TEN,
-        &MADE,
-    )
-}
-
-/// A table of a user chain `a` and one rule of INPUT.
-pub fn with_one(alloc: Global, refusals: &mut Refusals) -> Result<Table, Trouble> {
-    let mut table = none(alloc, refusals)?;
-    make_one(alloc, refusals, &mut table)?;
-    Ok(table)
-}
-
-/// Puts in the further rules of the table before the edits.
-fn make_rest(alloc: Global, refusals: &mut Refusals, table: &mut Table) -> Result<(), Trouble> {
-    put(
-        alloc,
-        refusals,
-        table,
-        Edit::Insert(1),
-        b"INPUT",
-        JUMP,
-        &WITH_ONE,
-    )?;
-    put(
-        alloc,
-        refusals,
-        table,
-        Edit::Append,
-        b"a",
-        TO_SSH,
-        &WITH_TWO,
-    )
-}
-
-/// The table before the edits.
-fn before(alloc: Global, refusals: &mut Refusals) -> Result<Table, Trouble> {
-    let mut table = with_one(alloc, refusals)?;
-    make_rest(alloc, refusals, &mut table)?;
-    Ok(table)
+    Ok(())
 }
 
 /// `Table::new`.
-pub fn new(alloc: Global, refusals: &mut Refusals) -> Result<(), Trouble> {
-    let table = none(alloc, refusals)?;
-    expect_of(alloc, refusals, &table, &EMPTY)
-}
-
-/// The copy of a table; a refusal leaves its chains.
-fn copy_of(alloc: Global, refusals: &mut Refusals, table: &Table) -> Result<Table, Trouble> {
-    Ok(again!(
-        refusals,
-        table.copy(),
-        is_of(alloc, refusals, table, &BEFORE)?
-    ))
-}
-
-/// Compares the copy of a table, and the table.
-fn expect_copy(
+pub fn new(
     alloc: Global,
     refusals: &mut Refusals,
     table: &Table,
-    copy: &Table,
+    packet: &Packet,
 ) -> Result<(), Trouble> {
-    expect_of(alloc, refusals, copy, &BEFORE)?;
-    expect_verdict(alloc, refusals, copy, Verdict::Accept)?;
-    expect_of(alloc, refusals, table, &BEFORE)
+    expect_in(alloc, refusals, table, packet, EMPTY)
 }
 
-/// `Table::copy`.
-pub fn copy(alloc: Global, refusals: &mut Refusals) -> Result<(), Trouble> {
-    let table = before(alloc, refusals)?;
-    let copy = copy_of(alloc, refusals, &table)?;
-    expect_copy(alloc, refusals, &table, &copy)
-}
+/// Rules put in: the first and the last bring new cuts, and two name a chain.
+const IN: &[(Change, State, State)] = &[
+    ((Edit::Append, b"a", TO_SSH), BEFORE, WITH_TWO),
+    ((Edit::Insert(1), b"INPUT", b"-j a"), WITH_TWO, WITH_A_JUMP),
+    (
+        (Edit::Insert(1), b"INPUT", b"-s 10.0.0.0/8 -j DROP"),
+        WITH_A_JUMP,
+        WITH_THREE,
+    ),
+    (
+        (Edit::Append, b"OUTPUT", b"-o lo -g a"),
+        WITH_THREE,
+        WITH_FOUR,
+    ),
+];
 
-/// A table emptied; a refusal leaves its chains.
-fn emptied_of(alloc: Global, refusals: &mut Refusals, table: &Table) -> Result<Table, Trouble> {
-    Ok(again!(
-        refusals,
-        table.emptied(),
-        is_of(alloc, refusals, table, &BEFORE)?
-    ))
-}
-
-/// Compares a table emptied, and the table.
-fn expect_emptied(
-    alloc: Global,
-    refusals: &mut Refusals,
-    table: &Table,
-    emptied: &Table,
-) -> Result<(), Trouble> {
-    expect_of(alloc, refusals, emptied, &EMPTY)?;
-    expect_of(alloc, refusals, table, &BEFORE)
-}
-
-/// `Table::emptied`.
-pub fn emptied(alloc: Global, refusals: &mut Refusals) -> Result<(), Trouble> {
-    let table = before(alloc, refusals)?;
-    let emptied = emptied_of(alloc, refusals, &table)?;
-    expect_emptied(alloc, refusals, &table, &emptied)
-}
-
-/// `Table::new_chain`, at the end of the listing and before another chain.
-pub fn new_chain(alloc: Global, refusals: &mut Refusals) -> Result<(), Trouble> {
-    let mut table = before(alloc, refusals)?;
-    make(alloc, refusals, &mut table, b"B", &BEFORE)?;
-    expect_of(alloc, refusals, &table, &WITH_A_CHAIN)
-}
-
-/// Puts a rule in first, before which the packet is accepted, and after which it is dropped.
-fn put_first(alloc: Global, refusals: &mut Refusals, table: &mut Table) -> Result<(), Trouble> {
-    expect_verdict(alloc, refusals, table, Verdict::Accept)?;
-    put(
-        alloc,
-        refusals,
-        table,
-        Edit::Insert(1),
-        b"INPUT",
-        FROM_TEN,
-        &BEFORE,
-    )?;
-    expect_verdict(alloc, refusals, table, Verdict::Drop)
-}
-
-/// Puts in a rule that names a chain.
-fn put_naming(alloc: Global, refusals: &mut Refusals, table: &mut Table) -> Result<(), Trouble> {
-    expect_of(alloc, refusals, table, &WITH_THREE)?;
-    put(
-        alloc,
-        refusals,
-        table,
-        Edit::Append,
-        b"OUTPUT",
-        b"-o lo -g a",
-        &WITH_THREE,
-    )?;
-    expect_of(alloc, refusals, table, &WITH_FOUR)
-}
-
-/// `Table::append` and `insert`, of rules that bring new cuts, and of one that names a chain.
-pub fn put_in(alloc: Global, refusals: &mut Refusals) -> Result<(), Trouble> {
-    let mut table = before(alloc, refusals)?;
-    expect_of(alloc, refusals, &table, &BEFORE)?;
-    put_first(alloc, refusals, &mut table)?;
-    put_naming(alloc, refusals, &mut table)
-}
-
-/// Puts a rule over the first one of INPUT.
-fn put_over_first(
+/// `Table::append` and `insert`.
+pub fn put_in(
     alloc: Global,
     refusals: &mut Refusals,
     table: &mut Table,
+    packet: &Packet,
 ) -> Result<(), Trouble> {
-    put(
-        alloc,
-        refusals,
-        table,
-        Edit::Replace(1),
-        b"INPUT",
-        b"-p udp -j LOG",
-        &BEFORE,
-    )?;
-    expect_verdict(alloc, refusals, table, Verdict::Drop)?;
-    expect_of(alloc, refusals, table, &REPLACED)
+    expect_in(alloc, refusals, table, packet, BEFORE)?;
+    put_all(alloc, refusals, table, packet, IN)
 }
 
-/// `Table::replace`, by a rule that brings new cuts and lacks old ones, and that names no chain where the old one did.
-pub fn put_over(alloc: Global, refusals: &mut Refusals) -> Result<(), Trouble> {
-    let mut table = before(alloc, refusals)?;
-    put_over_first(alloc, refusals, &mut table)
+/// Rules put over others: both bring new cuts, and the last lacks old ones, and names no chain where the old one did.
+const OVER: &[(Change, State, State)] = &[
+    (
+        (Edit::Replace(1), b"INPUT", b"-p udp -j LOG"),
+        WITH_FOUR,
+        REPLACED,
+    ),
+    ((Edit::Replace(1), b"OUTPUT", TO_SSH), REPLACED, AFTER),
+];
+
+/// `Table::replace`.
+pub fn put_over(
+    alloc: Global,
+    refusals: &mut Refusals,
+    table: &mut Table,
+    packet: &Packet,
+) -> Result<(), Trouble> {
+    put_all(alloc, refusals, table, packet, OVER)
 }
 
-/// The trail of a packet; a refusal leaves the table's chains.
+/// The trail of a packet; a refusal leaves the table.
 fn trail_of(
     alloc: Global,
     refusals: &mut Refusals,
     table: &Table,
     packet: &Packet,
+    walked: &Packet,
 ) -> Result<Trail, Trouble> {
     Ok(again!(
         refusals,
-        table.trail(packet),
-        is_of(alloc, refusals, table, &BEFORE)?
+        table.trail(walked),
+        is_in(alloc, refusals, table, packet, AFTER)?
     ))
 }
 
-/// Whether a trail is of the first and the second rule of INPUT, the second of which drops the packet.
+/// Whether a trail is of the three rules of INPUT, the last of which drops the packet.
 fn is_trail(trail: &Trail) -> bool {
-    let numbers = [(0, 1), (0, 2)];
+    let numbers = [(0, 1), (0, 2), (0, 3)];
     let steps = trail.steps.as_slice();
     if steps.len() != numbers.len() {
         return false;
@@ -476,22 +342,95 @@ fn is_trail(trail: &Trail) -> bool {
     trail.verdict == Verdict::Drop && !trail.by_policy
 }
 
-/// Compares the trail of a packet, and the table.
-fn expect_trail(
+/// `Table::trail`.
+pub fn trail(
     alloc: Global,
     refusals: &mut Refusals,
     table: &Table,
     packet: &Packet,
 ) -> Result<(), Trouble> {
-    let trail = trail_of(alloc, refusals, table, packet)?;
-    expect(is_trail(&trail))?;
-    expect_of(alloc, refusals, table, &BEFORE)
+    let line = b"INPUT src=10.0.0.1 dst=10.0.0.2 proto=udp sport=7 dport=22";
+    let walked = packet_of(alloc, refusals, line)?;
+    let trail = trail_of(alloc, refusals, table, packet, &walked)?;
+    expect(is_trail(&trail))
 }
 
-/// `Table::trail`.
-pub fn trail(alloc: Global, refusals: &mut Refusals) -> Result<(), Trouble> {
-    let table = before(alloc, refusals)?;
-    let line = b"INPUT src=10.0.0.1 dst=10.0.0.2 proto=udp sport=7 dport=22";
-    let packet = packet_of(alloc, refusals, line)?;
-    expect_trail(alloc, refusals, &table, &packet)
+/// What is made of a table: its copy, or one without its rules and chains.
+#[derive(Clone, Copy)]
+enum Way {
+    Copy,
+    Emptied,
+}
+
+/// What a table makes.
+fn make_of(table: &Table, way: Way) -> Result<Table, AllocError> {
+    match way {
+        Way::Copy => table.copy(),
+        Way::Emptied => table.emptied(),
+    }
+}
+
+/// The same; a refusal leaves the table.
+fn made_of(
+    alloc: Global,
+    refusals: &mut Refusals,
+    table: &Table,
+    packet: &Packet,
+    way: Way,
+) -> Result<Table, Trouble> {
+    Ok(again!(
+        refusals,
+        make_of(table, way),
+        is_in(alloc, refusals, table, packet, AFTER)?
+    ))
+}
+
+/// `Table::copy`.
+pub fn copy(
+    alloc: Global,
+    refusals: &mut Refusals,
+    table: &Table,
+    packet: &Packet,
+) -> Result<(), Trouble> {
+    let copy = made_of(alloc, refusals, table, packet, Way::Copy)?;
+    expect_in(alloc, refusals, &copy, packet, AFTER)
+}
+
+/// `Table::emptied`.
+pub fn emptied(
+    alloc: Global,
+    refusals: &mut Refusals,
+    table: &Table,
+    packet: &Packet,
+) -> Result<(), Trouble> {
+    let emptied = made_of(alloc, refusals, table, packet, Way::Emptied)?;
+    expect_in(alloc, refusals, &emptied, packet, EMPTY)
+}
+
+/// Makes a chain before another; a refusal leaves the table.
+fn make(
+    alloc: Global,
+    refusals: &mut Refusals,
+    table: &mut Table,
+    packet: &Packet,
+) -> Result<(), Trouble> {
+    for _ in 0..2 {
+        if is_done(refusals, table.new_chain(b"B"))? {
+            return Ok(());
+        }
+        expect_kept_in(alloc, refusals, table, packet, AFTER)?;
+    }
+    Err(Trouble::RefusedTwice)
+}
+
+/// `Table::new_chain`, of the table that its copy and its emptied one left as it was.
+pub fn new_chain(
+    alloc: Global,
+    refusals: &mut Refusals,
+    table: &mut Table,
+    packet: &Packet,
+) -> Result<(), Trouble> {
+    expect_in(alloc, refusals, table, packet, AFTER)?;
+    make(alloc, refusals, table, packet)?;
+    expect_in(alloc, refusals, table, packet, WITH_A_CHAIN)
 }

@@ -32,9 +32,31 @@ pub fn are_words(words: &Words, expected: &[&[u8]]) -> bool {
     true
 }
 
+/// Compares the words of a line.
+fn expect_words(
+    alloc: Global,
+    refusals: &mut Refusals,
+    line: &[u8],
+    expected: &[&[u8]],
+) -> Result<(), Trouble> {
+    match words_of(alloc, refusals, line)? {
+        Some(words) => expect(are_words(&words, expected)),
+        None => Err(Trouble::OtherAnswer),
+    }
+}
+
+/// `Words::split` of lines whose quoting is bad.
+fn split_none(alloc: Global, refusals: &mut Refusals) -> Result<(), Trouble> {
+    const LINES: &[&[u8]] = &[b"a \"b", b"a b\"c\"", b"a \"b\"c", b"a \"b\\"];
+    for line in LINES {
+        expect(words_of(alloc, refusals, line)?.is_none())?;
+    }
+    Ok(())
+}
+
 /// `Words::split`.
 pub fn split(alloc: Global, refusals: &mut Refusals) -> Result<(), Trouble> {
-    let lines: [(&[u8], &[&[u8]]); 4] = [
+    const LINES: &[(&[u8], &[&[u8]])] = &[
         (b"", &[]),
         (b" -A\tINPUT  ", &[b"-A", b"INPUT"]),
         (
@@ -43,14 +65,8 @@ pub fn split(alloc: Global, refusals: &mut Refusals) -> Result<(), Trouble> {
         ),
         (b"\"\" a\\b \"c d\"", &[b"", b"a\\b", b"c d"]),
     ];
-    for (line, expected) in lines {
-        match words_of(alloc, refusals, line)? {
-            Some(words) => expect(are_words(&words, expected))?,
-            None => return Err(Trouble::OtherAnswer),
-        }
+    for (line, expected) in LINES {
+        expect_words(alloc, refusals, line, expected)?;
     }
-    for line in [b"a \"b".as_slice(), b"a b\"c\"", b"a \"b\"c", b"a \"b\\"] {
-        expect(words_of(alloc, refusals, line)?.is_none())?;
-    }
-    Ok(())
+    split_none(alloc, refusals)
 }

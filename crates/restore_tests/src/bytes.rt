@@ -127,13 +127,8 @@ fn is_misquoted(rt: &impl Abort, filter: &mut Filter, line: &[u8]) -> Result<(),
 #[test]
 fn no_line_holds_a_newline(rt: HostRuntime) -> Result<(), Fail> {
     let mut filter = Filter::new(rt.alloc())?;
-    let lines = [
-        b"-F\n".as_slice(),
-        b"-N \"a\nb\"",
-        b":a -\n-X a",
-        b"\nCOMMIT",
-    ];
-    for line in lines.iter() {
+    const LINES: &[&[u8]] = &[b"-F\n", b"-N \"a\nb\"", b":a -\n-X a", b"\nCOMMIT"];
+    for line in LINES {
         is_misquoted(&rt, &mut filter, line)?;
     }
     Ok(())
@@ -164,8 +159,8 @@ fn a_long_line_and_the_end(rt: HostRuntime) -> Result<(), Fail> {
     let alloc = rt.alloc();
     let mut filter = Filter::new(alloc)?;
     let long = vec![in alloc; b'#'; 10241]?;
-    let openings = [b"*filter".as_slice(), b"*nat"];
-    for opening in openings.iter() {
+    const OPENINGS: &[&[u8]] = &[b"*filter", b"*nat"];
+    for opening in OPENINGS {
         is_too_long(&rt, &mut filter, opening, &long)?;
         ends(&rt, &mut filter, opening, &long[1..])?;
     }

@@ -18,7 +18,7 @@ fn session(
 
 #[test]
 fn appended_rules(rt: HostRuntime) -> Result<(), Fail> {
-    let rows = [
+    const ROWS: &[(&str, &str)] = &[
         ("-N a", ""),
         ("-N b", ""),
         ("-A a -j b", ""),
@@ -49,12 +49,12 @@ fn appended_rules(rt: HostRuntime) -> Result<(), Fail> {
         -A INPUT\n\
         -A a -j b\n\
         COMMIT\n";
-    session(&rt, rt.alloc(), &rows, listing)
+    session(&rt, rt.alloc(), ROWS, listing)
 }
 
 #[test]
 fn inserted_rules(rt: HostRuntime) -> Result<(), Fail> {
-    let rows = [
+    const ROWS: &[(&str, &str)] = &[
         ("-N a", ""),
         ("-A INPUT -s 1.1.1.1", ""),
         ("-I x 9 -o eth0 -j y", "no such chain"),
@@ -82,12 +82,12 @@ fn inserted_rules(rt: HostRuntime) -> Result<(), Fail> {
         -A INPUT -s 1.1.1.1/32\n\
         -A INPUT -s 2.2.2.2/32\n\
         COMMIT\n";
-    session(&rt, rt.alloc(), &rows, listing)
+    session(&rt, rt.alloc(), ROWS, listing)
 }
 
 #[test]
 fn replaced_rules(rt: HostRuntime) -> Result<(), Fail> {
-    let rows = [
+    const ROWS: &[(&str, &str)] = &[
         ("-R INPUT 1 -j DROP", "number out of range"),
         ("-N a", ""),
         ("-A INPUT -j a", ""),
@@ -109,12 +109,12 @@ fn replaced_rules(rt: HostRuntime) -> Result<(), Fail> {
         ("-S INPUT", "-P INPUT ACCEPT\n-A INPUT -j DROP\n"),
         ("-F", ""),
     ];
-    session(&rt, rt.alloc(), &rows, EMPTY)
+    session(&rt, rt.alloc(), ROWS, EMPTY)
 }
 
 #[test]
 fn rules_taken_out(rt: HostRuntime) -> Result<(), Fail> {
-    let rows = [
+    const ROWS: &[(&str, &str)] = &[
         ("-A INPUT -j DROP", ""),
         ("-D x 1", "no such chain"),
         ("-D INPUT 2", "number out of range"),
@@ -138,7 +138,7 @@ fn rules_taken_out(rt: HostRuntime) -> Result<(), Fail> {
         ("-D INPUT", ""),
         ("-D INPUT 1", ""),
     ];
-    session(&rt, rt.alloc(), &rows, EMPTY)
+    session(&rt, rt.alloc(), ROWS, EMPTY)
 }
 
 // Compares the reply to a command that changes nothing, and the listing after it.
@@ -157,7 +157,7 @@ fn keeps(
 fn rules_asked_for(rt: HostRuntime) -> Result<(), Fail> {
     let mut filter = Filter::after(&rt, rt.alloc(), &["-N a", "-A INPUT -g a", "-A INPUT"])?;
     let before = filter.listing(&rt)?;
-    let rows = [
+    const ROWS: &[(&str, &str)] = &[
         ("-C x -g a", "no such chain"),
         ("-C INPUT -j a", "no such rule"),
         ("-C INPUT -g b", "no such rule"),
@@ -168,7 +168,7 @@ fn rules_asked_for(rt: HostRuntime) -> Result<(), Fail> {
         ("-C INPUT", ""),
         ("-C INPUT -s 0.0.0.0/0 -i + -p all", ""),
     ];
-    for (line, reply) in rows.iter() {
+    for (line, reply) in ROWS {
         keeps(&rt, &mut filter, line, reply, before.as_str())?;
     }
     Ok(())
@@ -176,7 +176,7 @@ fn rules_asked_for(rt: HostRuntime) -> Result<(), Fail> {
 
 #[test]
 fn a_rule_by_other_words(rt: HostRuntime) -> Result<(), Fail> {
-    let rows = [
+    const ROWS: &[(&str, &str)] = &[
         ("-A INPUT -s 10.1.2.3/8 -j ACCEPT", ""),
         ("-A INPUT -p tcp --dport 22 -j DROP", ""),
         ("-C INPUT --protocol 6 --destination-port 22:22 -j DROP", ""),
@@ -198,12 +198,12 @@ fn a_rule_by_other_words(rt: HostRuntime) -> Result<(), Fail> {
 -A INPUT -p icmp -m icmp --icmp-type 8 -j REJECT --reject-with icmp-port-unreachable
 COMMIT
 "#;
-    session(&rt, rt.alloc(), &rows, listing)
+    session(&rt, rt.alloc(), ROWS, listing)
 }
 
 #[test]
 fn chains_made_and_policies(rt: HostRuntime) -> Result<(), Fail> {
-    let rows = [
+    const ROWS: &[(&str, &str)] = &[
         ("-N a", ""),
         ("-N -a", "bad chain name"),
         ("-N ACCEPT", "bad chain name"),
@@ -228,12 +228,12 @@ fn chains_made_and_policies(rt: HostRuntime) -> Result<(), Fail> {
         :A - [0:0]\n\
         :a - [0:0]\n\
         COMMIT\n";
-    session(&rt, rt.alloc(), &rows, listing)
+    session(&rt, rt.alloc(), ROWS, listing)
 }
 
 #[test]
 fn chains_taken_away(rt: HostRuntime) -> Result<(), Fail> {
-    let rows = [
+    const ROWS: &[(&str, &str)] = &[
         ("-N a", ""),
         ("-N b", ""),
         ("-A INPUT -j a", ""),
@@ -252,12 +252,12 @@ fn chains_taken_away(rt: HostRuntime) -> Result<(), Fail> {
         ("-X a", ""),
         ("-X", ""),
     ];
-    session(&rt, rt.alloc(), &rows, EMPTY)
+    session(&rt, rt.alloc(), ROWS, EMPTY)
 }
 
 #[test]
 fn renamed_chains(rt: HostRuntime) -> Result<(), Fail> {
-    let rows = [
+    const ROWS: &[(&str, &str)] = &[
         ("-N a", ""),
         ("-N b", ""),
         ("-A b -g a", ""),
@@ -281,12 +281,12 @@ fn renamed_chains(rt: HostRuntime) -> Result<(), Fail> {
         -A INPUT -j z\n\
         -A b -g z\n\
         COMMIT\n";
-    session(&rt, rt.alloc(), &rows, listing)
+    session(&rt, rt.alloc(), ROWS, listing)
 }
 
 #[test]
 fn a_loop_is_refused(rt: HostRuntime) -> Result<(), Fail> {
-    let rows = [
+    const ROWS: &[(&str, &str)] = &[
         ("-N a", ""),
         ("-N b", ""),
         ("-N c", ""),
@@ -304,7 +304,7 @@ fn a_loop_is_refused(rt: HostRuntime) -> Result<(), Fail> {
         -A a -j b\n\
         -A b -j c\n\
         COMMIT\n";
-    session(&rt, rt.alloc(), &rows, listing)
+    session(&rt, rt.alloc(), ROWS, listing)
 }
 
 // Compares what is listed of a chain that isn't there.
@@ -319,15 +319,15 @@ fn lists_nothing(rt: &impl Abort, filter: &Filter, chain: &str) -> Result<(), Fa
 
 #[test]
 fn listed_rules(rt: HostRuntime) -> Result<(), Fail> {
-    let lines = [
+    const LINES: &[&str] = &[
         "-N b",
         "-N a",
         "-A b -j a",
         "-A INPUT -g b",
         "-P OUTPUT DROP",
     ];
-    let mut filter = Filter::after(&rt, rt.alloc(), &lines)?;
-    let rows = [
+    let mut filter = Filter::after(&rt, rt.alloc(), LINES)?;
+    const ROWS: &[(&str, &str)] = &[
         (
             "-S",
             "-P INPUT ACCEPT\n-P FORWARD ACCEPT\n-P OUTPUT DROP\n-N a\n-N b\n-A INPUT -g b\n-A b -j a\n",
@@ -340,7 +340,7 @@ fn listed_rules(rt: HostRuntime) -> Result<(), Fail> {
         ("-S 1", "no such chain"),
         (r#"-S """#, "no such chain"),
     ];
-    filter.steps(&rt, &rows)?;
+    filter.steps(&rt, ROWS)?;
     for chain in ["x", "input", "", "a b"].iter() {
         lists_nothing(&rt, &filter, chain)?;
     }

@@ -52,7 +52,7 @@ fn refused(rt: &impl Abort, alloc: Global, line: &str, fault: CommandFault) -> R
 #[test]
 fn each_fault(rt: HostRuntime) -> Result<(), Fail> {
     let alloc = rt.alloc();
-    let rows = [
+    const ROWS: &[(&str, CommandFault)] = &[
         ("", CommandFault::NoCommand),
         ("-A INPUT -j DROP -F", CommandFault::TwoCommands),
         ("-N a b", CommandFault::WordCount),
@@ -78,7 +78,7 @@ fn each_fault(rt: HostRuntime) -> Result<(), Fail> {
             CommandFault::Rule(RuleFault::Refused(Refusal::UnknownOption(3))),
         ),
     ];
-    for (line, fault) in rows.iter() {
+    for (line, fault) in ROWS {
         refused(&rt, alloc, line, *fault)?;
     }
     Ok(())
@@ -87,7 +87,7 @@ fn each_fault(rt: HostRuntime) -> Result<(), Fail> {
 #[test]
 fn no_command(rt: HostRuntime) -> Result<(), Fail> {
     let mut filter = Filter::new(rt.alloc())?;
-    let lines = [
+    const LINES: &[&str] = &[
         "",
         " \t ",
         "INPUT -A",
@@ -110,7 +110,7 @@ fn no_command(rt: HostRuntime) -> Result<(), Fail> {
         ":a -",
         "[0:0] -F",
     ];
-    filter.same_steps(&rt, &lines, "no command")
+    filter.same_steps(&rt, LINES, "no command")
 }
 
 // What stands before and after the name of a second command, and the reply.
@@ -156,20 +156,20 @@ fn second_commands(rt: HostRuntime) -> Result<(), Fail> {
     for name in NAMES.iter() {
         second_command_of_each(&rt, &mut filter, name)?;
     }
-    let rows = [
+    const ROWS: &[(&str, &str)] = &[
         ("-A -A -A", "two commands"),
         ("-A -A INPUT", "unknown option"),
         ("-A -F", "no such chain"),
         ("-A INPUT -t filter", "unknown option"),
         ("-A INPUT -Z", "unknown option"),
     ];
-    filter.steps(&rt, &rows)
+    filter.steps(&rt, ROWS)
 }
 
 #[test]
 fn counts_of_words(rt: HostRuntime) -> Result<(), Fail> {
     let mut filter = Filter::after(&rt, rt.alloc(), &["-N a", "-A INPUT -j DROP"])?;
-    let lines = [
+    const LINES: &[&str] = &[
         "-A",
         "-C",
         "-D",
@@ -200,13 +200,13 @@ fn counts_of_words(rt: HostRuntime) -> Result<(), Fail> {
         "-t filter -N",
         "-t filter -F a b",
     ];
-    filter.same_steps(&rt, &lines, "wrong number of words")
+    filter.same_steps(&rt, LINES, "wrong number of words")
 }
 
 #[test]
 fn tables(rt: HostRuntime) -> Result<(), Fail> {
     let mut filter = Filter::new(rt.alloc())?;
-    let rows = [
+    const ROWS: &[(&str, &str)] = &[
         ("-t", "value missing"),
         ("--table", "value missing"),
         ("-t nat -F", "other table"),
@@ -223,13 +223,13 @@ fn tables(rt: HostRuntime) -> Result<(), Fail> {
         ("-t filter --table nat -F", "repeated option"),
         ("--table filter -t filter", "repeated option"),
     ];
-    filter.steps(&rt, &rows)
+    filter.steps(&rt, ROWS)
 }
 
 #[test]
 fn numbers(rt: HostRuntime) -> Result<(), Fail> {
     let mut filter = Filter::after(&rt, rt.alloc(), &["-A INPUT"])?;
-    let rows = [
+    const ROWS: &[(&str, &str)] = &[
         ("-D INPUT 0", "number out of range"),
         ("-D INPUT 2", "number out of range"),
         ("-D INPUT 00", "bad value"),
@@ -264,13 +264,13 @@ fn numbers(rt: HostRuntime) -> Result<(), Fail> {
         ("-C INPUT 1", "unknown option"),
         ("-A INPUT 1", "unknown option"),
     ];
-    filter.steps(&rt, &rows)
+    filter.steps(&rt, ROWS)
 }
 
 #[test]
 fn head_rule_and_table(rt: HostRuntime) -> Result<(), Fail> {
     let mut filter = Filter::new(rt.alloc())?;
-    let rows = [
+    const ROWS: &[(&str, &str)] = &[
         ("-A nowhere --bad", "unknown option"),
         ("-A nowhere -p bad", "bad value"),
         ("-A nowhere -j y", "no such chain"),
@@ -298,5 +298,5 @@ fn head_rule_and_table(rt: HostRuntime) -> Result<(), Fail> {
         ("-A xxxxxxxxxxxxxxxxxxxxxxxxxxxxx", "no such chain"),
         ("-A INPUT -j xxxxxxxxxxxxxxxxxxxxxxxxxxxxx", "bad value"),
     ];
-    filter.steps(&rt, &rows)
+    filter.steps(&rt, ROWS)
 }

@@ -69,6 +69,13 @@ pub(crate) fn text_of(
     }
 }
 
+// The listing of a table.
+pub(crate) fn listing_of(rt: &impl Abort, alloc: Global, table: &Table) -> Result<String, Fail> {
+    let mut output = Tap::new(Vec::new(alloc));
+    write_listing(table, &mut output)?;
+    text_of(rt, alloc, output)
+}
+
 impl Filter {
     pub(crate) fn new(alloc: Global) -> Result<Filter, Fail> {
         Ok(Filter {
@@ -238,9 +245,7 @@ impl Filter {
 
     // The listing of the table.
     pub(crate) fn listing(&self, rt: &impl Abort) -> Result<String, Fail> {
-        let mut output = Tap::new(Vec::new(self.alloc));
-        write_listing(&self.table, &mut output)?;
-        text_of(rt, self.alloc, output)
+        listing_of(rt, self.alloc, &self.table)
     }
 
     // What becomes of the packet that a line describes.

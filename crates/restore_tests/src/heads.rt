@@ -197,7 +197,7 @@ fn short_and_long_names(rt: HostRuntime) -> Result<(), Fail> {
 #[test]
 fn words_from_a_place_on(rt: HostRuntime) -> Result<(), Fail> {
     let alloc = rt.alloc();
-    let rows = [
+    const ROWS: &[(&str, usize, &str)] = &[
         ("x -F INPUT", 1, "flush INPUT"),
         ("-F -F -A -j -f", 2, "append -j: -f"),
         ("-N x -A INPUT 1 -j DROP", 2, "unknown option"),
@@ -207,7 +207,7 @@ fn words_from_a_place_on(rt: HostRuntime) -> Result<(), Fail> {
         ("-F", 1000, "no command"),
         ("", 0, "no command"),
     ];
-    for (line, from, command) in rows.iter() {
+    for (line, from, command) in ROWS {
         describes(&rt, alloc, line, *from, command)?;
     }
     Ok(())

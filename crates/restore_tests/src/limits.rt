@@ -65,21 +65,31 @@ fn fill(rt: &impl Abort, filter: &mut Filter) -> Result<(), Fail> {
     restores(rt, filter, (before, ""), 8192)
 }
 
+// The last rule of a full chain is there.
+fn has_last(rt: &impl Abort, filter: &mut Filter) -> Result<(), Fail> {
+    let last = "-C INPUT -s 10.0.0.0/8 -m comment --comment 8192 -j ACCEPT";
+    filter.run(rt, &[last])
+}
+
+// A restore puts no further rule in.
+fn is_full(rt: &impl Abort, filter: &mut Filter) -> Result<(), Fail> {
+    let text = "*filter\n-A INPUT -j DROP\nCOMMIT";
+    filter.unchanged(rt, Mode::NOFLUSH, text, "line 2: chain full")
+}
+
 #[test]
 fn a_full_chain(rt: HostRuntime) -> Result<(), Fail> {
-    let mut filter = Filter::new(rt.alloc())?;
-    fill(&rt, &mut filter)?;
-    let last = "-C INPUT -s 10.0.0.0/8 -m comment --comment 8192 -j ACCEPT";
-    filter.run(&rt, &[last])?;
-    let text = "*filter\n-A INPUT -j DROP\nCOMMIT";
-    filter.unchanged(&rt, Mode::NOFLUSH, text, "line 2: chain full")?;
-    let rows = [
+    const ROWS: &[(&str, &str)] = &[
         ("-I INPUT 8194 -j DROP", "number out of range"),
         ("-I INPUT 8193 -j DROP", "chain full"),
         ("-R INPUT 8192 -j DROP", ""),
         ("-A INPUT -j DROP", "chain full"),
     ];
-    filter.steps(&rt, &rows)
+    let mut filter = Filter::new(rt.alloc())?;
+    fill(&rt, &mut filter)?;
+    has_last(&rt, &mut filter)?;
+    is_full(&rt, &mut filter)?;
+    filter.steps(&rt, ROWS)
 }
 
 #[test]
@@ -111,11 +121,11 @@ fn many_chains(rt: HostRuntime) -> Result<(), Fail> {
     fill_with_chains(&rt, &mut filter)?;
     restores_as_equal(&rt, &filter)?;
     unchanged(&rt, &mut filter, Mode::NOFLUSH, CHAIN, 1024, "")?;
-    let rows = [
+    const ROWS: &[(&str, &str)] = &[
         ("-N k1025", "too many chains"),
         ("-N k1024", "chain exists"),
     ];
-    filter.steps(&rt, &rows)?;
+    filter.steps(&rt, ROWS)?;
     filter.restored(&rt, Mode::FLUSH, "*filter\nCOMMIT", "", EMPTY)
 }
 
@@ -133,6 +143,20 @@ const LONG: [(&str, &str, char, &str); 9] = [
     ("*nat\n", "", '"', "\nCOMMIT"),
 ];
 
+// Compares the reply to a restore with a line that is too long between two texts.
+fn too_long(
+    rt: &impl Abort,
+    filter: &mut Filter,
+    mode: Mode,
+    parts: (&str, &str, &str),
+) -> Result<(), Fail> {
+    let (before, line, after) = parts;
+    let text = format!(in filter.alloc; "{before}{line}{after}")?;
+    let number = before.split('\n').count();
+    let reply = format!(in filter.alloc; "line {number}: line too long")?;
+    filter.unchanged(rt, mode, text.as_str(), reply.as_str())
+}
+
 // Compares the replies to restores with a line of the most bytes, and with one byte more.
 fn long_line(
     rt: &impl Abort,
@@ -141,14 +165,11 @@ fn long_line(
     row: &(&str, &str, char, &str),
 ) -> Result<(), Fail> {
     let (before, line, byte, after) = *row;
-    let alloc = filter.alloc;
-    let full = padded(alloc, line, byte, LINE)?;
-    let text = format!(in alloc; "{before}{full}{after}")?;
+    let full = padded(filter.alloc, line, byte, LINE)?;
+    let text = format!(in filter.alloc; "{before}{full}{after}")?;
     filter.unchanged(rt, mode, text.as_str(), "")?;
-    let text = format!(in alloc; "{before}{full}{byte}{after}")?;
-    let number = before.split('\n').count();
-    let reply = format!(in alloc; "line {number}: line too long")?;
-    filter.unchanged(rt, mode, text.as_str(), reply.as_str())
+    let longer = padded(filter.alloc, line, byte, LINE + 1)?;
+    too_long(rt, filter, mode, (before, longer.as_str(), after))
 }
 
 // The same in several lines.
@@ -168,21 +189,25 @@ fn long_lines(rt: HostRuntime) -> Result<(), Fail> {
     Ok(())
 }
 
+// Compares the reply to a section whose third line is refused.
+fn third_line(rt: &impl Abort, filter: &mut Filter, line: &str, fault: &str) -> Result<(), Fail> {
+    let text = format!(in filter.alloc; "*filter\n:INPUT -\n{line}\nCOMMIT")?;
+    let reply = format!(in filter.alloc; "line 3: {fault}")?;
+    filter.unchanged(rt, Mode::FLUSH, text.as_str(), reply.as_str())
+}
+
 // Compares the replies to a section whose third line has the most bytes, and one byte more.
 fn length_first(rt: &impl Abort, filter: &mut Filter, line: &str, fault: &str) -> Result<(), Fail> {
-    let alloc = filter.alloc;
-    let full = padded(alloc, line, ' ', LINE)?;
-    let text = format!(in alloc; "*filter\n:INPUT -\n{full}\nCOMMIT")?;
-    let reply = format!(in alloc; "line 3: {fault}")?;
-    filter.unchanged(rt, Mode::FLUSH, text.as_str(), reply.as_str())?;
-    let text = format!(in alloc; "*filter\n:INPUT -\n{full} \nCOMMIT")?;
-    filter.unchanged(rt, Mode::FLUSH, text.as_str(), "line 3: line too long")
+    let full = padded(filter.alloc, line, ' ', LINE)?;
+    third_line(rt, filter, full.as_str(), fault)?;
+    let longer = padded(filter.alloc, line, ' ', LINE + 1)?;
+    third_line(rt, filter, longer.as_str(), "line too long")
 }
 
 #[test]
 fn the_length_is_asked_first(rt: HostRuntime) -> Result<(), Fail> {
     let mut filter = Filter::new(rt.alloc())?;
-    let rows = [
+    const ROWS: &[(&str, &str)] = &[
         ("-Z", "no command"),
         (":a", "bad chain line"),
         (":INPUT - ", "duplicate chain line"),
@@ -191,7 +216,7 @@ fn the_length_is_asked_first(rt: HostRuntime) -> Result<(), Fail> {
         ("-N ", "wrong number of words"),
         ("\" ", "bad quoting"),
     ];
-    for (line, fault) in rows.iter() {
+    for (line, fault) in ROWS {
         length_first(&rt, &mut filter, line, fault)?;
     }
     Ok(())

@@ -130,8 +130,8 @@ fn restored_anew(rt: &impl Abort, filter: &Filter, mode: Mode, text: &str) -> Re
 
 // The same over one with other chains, rules and policies, and over itself.
 fn restored_twice(rt: &impl Abort, filter: &Filter, text: &str) -> Result<(), Fail> {
-    let lines = ["-N zz", "-A zz -j DROP", "-A INPUT -j zz", "-P OUTPUT DROP"];
-    let mut other = Filter::after(rt, filter.alloc, &lines)?;
+    const LINES: &[&str] = &["-N zz", "-A zz -j DROP", "-A INPUT -j zz", "-P OUTPUT DROP"];
+    let mut other = Filter::after(rt, filter.alloc, LINES)?;
     other.unchanged(rt, Mode::TEST, text, "")?;
     restored_over(rt, filter, &mut other, Mode::FLUSH, text)?;
     restored_over(rt, filter, &mut other, Mode::FLUSH, text)
@@ -168,9 +168,9 @@ fn rules_are(
 
 #[test]
 fn rules_that_are_listed(rt: HostRuntime) -> Result<(), Fail> {
-    let lines = ["-N b", "-N a", "-A b -j a", "-A b", "-P INPUT DROP"];
-    let filter = Filter::after(&rt, rt.alloc(), &lines)?;
-    let rows = [
+    const LINES: &[&str] = &["-N b", "-N a", "-A b -j a", "-A b", "-P INPUT DROP"];
+    let filter = Filter::after(&rt, rt.alloc(), LINES)?;
+    const ROWS: &[(Option<&str>, &str)] = &[
         (Some("INPUT"), "-P INPUT DROP\n"),
         (Some("a"), "-N a\n"),
         (Some("b"), "-N b\n-A b -j a\n-A b\n"),
@@ -180,7 +180,7 @@ fn rules_that_are_listed(rt: HostRuntime) -> Result<(), Fail> {
             "-P INPUT DROP\n-P FORWARD ACCEPT\n-P OUTPUT ACCEPT\n-N a\n-N b\n-A b -j a\n-A b\n",
         ),
     ];
-    for (chain, text) in rows.iter() {
+    for (chain, text) in ROWS {
         rules_are(&rt, &filter, *chain, text)?;
     }
     let empty = Filter::new(rt.alloc())?;

@@ -12,8 +12,8 @@ use table::TableFault;
 
 // A table with rules and chains.
 fn filled(rt: &impl Abort, alloc: Global) -> Result<Filter, Fail> {
-    let lines = ["-N a", "-A a -j DROP", "-A INPUT -j a", "-P FORWARD DROP"];
-    Filter::after(rt, alloc, &lines)
+    const LINES: &[&str] = &["-N a", "-A a -j DROP", "-A INPUT -j a", "-P FORWARD DROP"];
+    Filter::after(rt, alloc, LINES)
 }
 
 // Compares the reply to a restore in every mode, which changes nothing.
@@ -53,15 +53,15 @@ fn refused_lines(rt: &impl Abort, alloc: Global, lines: &[&str], fault: &str) ->
 // Compares why a line is refused after a chain line that is accepted.
 fn refused_by(rt: &impl Abort, alloc: Global, line: &str, fault: RestoreFault) -> Result<(), Fail> {
     let mut filter = filled(rt, alloc)?;
-    let before = [b"*filter".as_slice(), b":b -"];
-    let other = fault_after(&mut filter, false, &before, line.as_bytes())?;
+    const BEFORE: &[&[u8]] = &[b"*filter", b":b -"];
+    let other = fault_after(&mut filter, false, BEFORE, line.as_bytes())?;
     assert!(rt; other == Some(fault), "{line}");
     Ok(())
 }
 
 #[test]
 fn each_fault(rt: HostRuntime) -> Result<(), Fail> {
-    let rows = [
+    const ROWS: &[(&str, RestoreFault)] = &[
         ("-Z", RestoreFault::Command(CommandFault::NoCommand)),
         (
             "-A INPUT -F",
@@ -81,7 +81,7 @@ fn each_fault(rt: HostRuntime) -> Result<(), Fail> {
         (":b -", RestoreFault::DuplicateChainLine),
         ("\"", RestoreFault::Quoting),
     ];
-    for (line, fault) in rows.iter() {
+    for (line, fault) in ROWS {
         refused_by(&rt, rt.alloc(), line, *fault)?;
     }
     Ok(())
@@ -89,7 +89,7 @@ fn each_fault(rt: HostRuntime) -> Result<(), Fail> {
 
 #[test]
 fn lines_not_allowed(rt: HostRuntime) -> Result<(), Fail> {
-    let rows = [
+    const ROWS: &[(&str, &str)] = &[
         ("COMMIT", "line 1: line not allowed here"),
         (" COMMIT\t", "line 1: line not allowed here"),
         ("-A INPUT", "line 1: line not allowed here"),
@@ -112,12 +112,12 @@ fn lines_not_allowed(rt: HostRuntime) -> Result<(), Fail> {
         ),
         ("*filter\n*filter\nCOMMIT", "line 2: line not allowed here"),
     ];
-    refused(&rt, rt.alloc(), &rows)
+    refused(&rt, rt.alloc(), ROWS)
 }
 
 #[test]
 fn ends_inside_a_section(rt: HostRuntime) -> Result<(), Fail> {
-    let rows = [
+    const ROWS: &[(&str, &str)] = &[
         ("*filter", "end: end before COMMIT"),
         ("*filter\n-F\n-X\n# COMMIT", "end: end before COMMIT"),
         ("*nat", "end: end before COMMIT"),
@@ -126,12 +126,12 @@ fn ends_inside_a_section(rt: HostRuntime) -> Result<(), Fail> {
         ("*", "end: end before COMMIT"),
         ("*nat\nCOMMIT\n*filter\n", "end: end before COMMIT"),
     ];
-    refused(&rt, rt.alloc(), &rows)
+    refused(&rt, rt.alloc(), ROWS)
 }
 
 #[test]
 fn bad_chain_lines(rt: HostRuntime) -> Result<(), Fail> {
-    let lines = [
+    const LINES: &[&str] = &[
         ":INPUT",
         ":",
         ":INPUT REJECT [0:0]",
@@ -163,12 +163,12 @@ fn bad_chain_lines(rt: HostRuntime) -> Result<(), Fail> {
         ":b ACCEPT",
         ":b - [x:0]",
     ];
-    refused_lines(&rt, rt.alloc(), &lines, "bad chain line")
+    refused_lines(&rt, rt.alloc(), LINES, "bad chain line")
 }
 
 #[test]
 fn bad_names_of_chain_lines(rt: HostRuntime) -> Result<(), Fail> {
-    let lines = [
+    const LINES: &[&str] = &[
         ": -",
         ": - [0:0]",
         ":-x - [0:0]",
@@ -178,12 +178,12 @@ fn bad_names_of_chain_lines(rt: HostRuntime) -> Result<(), Fail> {
         ":ACCEPT - [0:0]",
         ":xxxxxxxxxxxxxxxxxxxxxxxxxxxxx -",
     ];
-    refused_lines(&rt, rt.alloc(), &lines, "bad chain name")
+    refused_lines(&rt, rt.alloc(), LINES, "bad chain name")
 }
 
 #[test]
 fn second_chain_lines(rt: HostRuntime) -> Result<(), Fail> {
-    let rows = [
+    const ROWS: &[(&str, &str)] = &[
         (
             "*filter\n:a -\n:a -\nCOMMIT",
             "line 3: duplicate chain line",
@@ -207,12 +207,12 @@ fn second_chain_lines(rt: HostRuntime) -> Result<(), Fail> {
             "line 5: duplicate chain line",
         ),
     ];
-    refused(&rt, rt.alloc(), &rows)
+    refused(&rt, rt.alloc(), ROWS)
 }
 
 #[test]
 fn no_commands_in_a_section(rt: HostRuntime) -> Result<(), Fail> {
-    let lines = [
+    const LINES: &[&str] = &[
         "[0:0]",
         "[0:0] [0:0] -F",
         "[0:x] -F",
@@ -242,20 +242,20 @@ fn no_commands_in_a_section(rt: HostRuntime) -> Result<(), Fail> {
         "[1:2] -t filter --list-rules a",
         "-t filter",
     ];
-    refused_lines(&rt, rt.alloc(), &lines, "no command")
+    refused_lines(&rt, rt.alloc(), LINES, "no command")
 }
 
 #[test]
 fn bad_quoting(rt: HostRuntime) -> Result<(), Fail> {
-    let rows = [
+    const ROWS: &[(&str, &str)] = &[
         ("foo\"", "line 1: bad quoting"),
         ("*filter \"", "line 1: bad quoting"),
         ("\"*filter\"x", "line 1: bad quoting"),
         ("*nat\"", "line 1: bad quoting"),
         ("COMMIT \"", "line 1: bad quoting"),
     ];
-    refused(&rt, rt.alloc(), &rows)?;
-    let lines = [
+    refused(&rt, rt.alloc(), ROWS)?;
+    const LINES: &[&str] = &[
         "\"",
         "\"\"\"\"",
         ":a \"",
@@ -269,7 +269,7 @@ fn bad_quoting(rt: HostRuntime) -> Result<(), Fail> {
         "-A INPUT -m comment --comment \"x\"y",
         "COMMIT\"",
     ];
-    refused_lines(&rt, rt.alloc(), &lines, "bad quoting")
+    refused_lines(&rt, rt.alloc(), LINES, "bad quoting")
 }
 
 // Compares the reply to a command with the name of another in it.
@@ -287,7 +287,7 @@ fn inverted(rt: &impl Abort, filter: &mut Filter, name: &str) -> Result<(), Fail
 #[test]
 fn faults_of_commands_in_a_section(rt: HostRuntime) -> Result<(), Fail> {
     let mut filter = filled(&rt, rt.alloc())?;
-    let rows = [
+    const ROWS: &[(&str, &str)] = &[
         ("-t nat -S", "other table"),
         ("-t nat -A x -p bad", "other table"),
         ("-t", "value missing"),
@@ -317,7 +317,7 @@ fn faults_of_commands_in_a_section(rt: HostRuntime) -> Result<(), Fail> {
         ("-P INPUT REJECT", "bad policy"),
         ("-E b LOG", "bad chain name"),
     ];
-    for (line, fault) in rows.iter() {
+    for (line, fault) in ROWS {
         refused_line(&rt, &mut filter, line, fault)?;
     }
     for name in NAMES.iter() {
@@ -362,7 +362,7 @@ fn sections_before_a_refusal_stand(rt: HostRuntime) -> Result<(), Fail> {
         :OUTPUT ACCEPT [0:0]\n\
         :a - [0:0]\n\
         COMMIT\n";
-    let rows = [
+    const ROWS: &[(&str, &str)] = &[
         (
             "*filter\n-N a\nCOMMIT\n*filter\n-N b\n-N b\nCOMMIT",
             "line 6: chain exists",
@@ -378,7 +378,7 @@ fn sections_before_a_refusal_stand(rt: HostRuntime) -> Result<(), Fail> {
         ),
         ("*filter\n-N a\nCOMMIT\n*nat", "end: end before COMMIT"),
     ];
-    for row in rows.iter() {
+    for row in ROWS {
         stops(&rt, rt.alloc(), &[Mode::FLUSH, Mode::NOFLUSH], row, listing)?;
         stops(
             &rt,

@@ -71,7 +71,7 @@ fn a_dump(rt: HostRuntime) -> Result<(), Fail> {
 
 #[test]
 fn nothing_to_do(rt: HostRuntime) -> Result<(), Fail> {
-    let texts = [
+    const TEXTS: &[&str] = &[
         "",
         "\n",
         "\n\n# x",
@@ -80,7 +80,7 @@ fn nothing_to_do(rt: HostRuntime) -> Result<(), Fail> {
         "*nat\nCOMMIT",
         "*nat\nCOMMIT\n*filter\nCOMMIT\n*mangle\nCOMMIT",
     ];
-    accepted_each(&rt, rt.alloc(), &Mode::ALL, &texts, EMPTY)
+    accepted_each(&rt, rt.alloc(), &Mode::ALL, TEXTS, EMPTY)
 }
 
 // Compares the listing of a table, made by commands, after a restore that is accepted.
@@ -98,7 +98,7 @@ fn accepted_after(
 
 #[test]
 fn chain_lines(rt: HostRuntime) -> Result<(), Fail> {
-    let lines = ["-P OUTPUT DROP", "-N b", "-A b -j DROP"];
+    const LINES: &[&str] = &["-P OUTPUT DROP", "-N b", "-A b -j DROP"];
     let text = "*filter\n\
         :INPUT DROP\n\
         :FORWARD - [1:2]\n\
@@ -120,14 +120,14 @@ fn chain_lines(rt: HostRuntime) -> Result<(), Fail> {
         :b - [0:0]\n\
         COMMIT\n";
     for mode in IN_PLACE.iter() {
-        accepted_after(&rt, rt.alloc(), &lines, *mode, text, listing)?;
+        accepted_after(&rt, rt.alloc(), LINES, *mode, text, listing)?;
     }
     Ok(())
 }
 
 #[test]
 fn a_chain_line_empties_a_user_chain(rt: HostRuntime) -> Result<(), Fail> {
-    let lines = ["-N a", "-A a -j DROP", "-A INPUT -j a"];
+    const LINES: &[&str] = &["-N a", "-A a -j DROP", "-A INPUT -j a"];
     let listing = "*filter\n\
         :INPUT DROP [0:0]\n\
         :FORWARD ACCEPT [0:0]\n\
@@ -135,7 +135,7 @@ fn a_chain_line_empties_a_user_chain(rt: HostRuntime) -> Result<(), Fail> {
         :a - [0:0]\n\
         -A INPUT -j a\n\
         COMMIT\n";
-    let mut filter = Filter::after(&rt, rt.alloc(), &lines)?;
+    let mut filter = Filter::after(&rt, rt.alloc(), LINES)?;
     let text = "*filter\n:a - [0:0]\n:INPUT DROP [5:300]\nCOMMIT";
     filter.restored(&rt, Mode::NOFLUSH, text, "", listing)?;
     let text = "*filter\n\
@@ -156,13 +156,13 @@ fn names_of_chain_lines(rt: HostRuntime) -> Result<(), Fail> {
         :OUTPUT ACCEPT [0:0]\n\
         :b - [0:0]\n\
         COMMIT\n";
-    let texts = [
+    const TEXTS: &[&str] = &[
         "*filter\n:a -\n-A a\n-E a b\n:b -\nCOMMIT",
         "*filter\n:b -\nCOMMIT\n*filter\n:b -\nCOMMIT",
         "*filter\n-N b\n-A b\n:b -\nCOMMIT",
         "*filter\n:b -\n-X b\n-N b\nCOMMIT",
     ];
-    accepted_each(&rt, rt.alloc(), &IN_PLACE, &texts, one)
+    accepted_each(&rt, rt.alloc(), &IN_PLACE, TEXTS, one)
 }
 
 #[test]
@@ -210,7 +210,7 @@ fn blanks_comments_and_skipped_sections(rt: HostRuntime) -> Result<(), Fail> {
         :OUTPUT ACCEPT [0:0]\n\
         :a - [0:0]\n\
         COMMIT\n";
-    let texts = [
+    const TEXTS: &[&str] = &[
         "# a\n\n \t\n\t # \"\n*filter\n#\n\t\n# COMMIT\n-N a\nCOMMIT\n\n#",
         "*filter\n-N a\n\t COMMIT \t",
         " \t*filter\t \n\t-N a\nCOMMIT",
@@ -219,12 +219,12 @@ fn blanks_comments_and_skipped_sections(rt: HostRuntime) -> Result<(), Fail> {
         "*nat\n-A x -j y\n[1:2\na\"b\"\n\"open\nCOMMIT\n*filter\n-N a\nCOMMIT\n*Filter\n-N b\nCOMMIT",
         "\"*a b\"\n-N b\nCOMMIT\n*filter\r\n-N c\nCOMMIT\n*filter\n-N a\nCOMMIT",
     ];
-    accepted_each(&rt, rt.alloc(), &IN_PLACE, &texts, listing)
+    accepted_each(&rt, rt.alloc(), &IN_PLACE, TEXTS, listing)
 }
 
 #[test]
 fn rules_and_chains_go_unless_noflush(rt: HostRuntime) -> Result<(), Fail> {
-    let lines = ["-N a", "-A INPUT -j a", "-P INPUT DROP"];
+    const LINES: &[&str] = &["-N a", "-A INPUT -j a", "-P INPUT DROP"];
     let emptied = "*filter\n\
         :INPUT DROP [0:0]\n\
         :FORWARD ACCEPT [0:0]\n\
@@ -238,7 +238,7 @@ fn rules_and_chains_go_unless_noflush(rt: HostRuntime) -> Result<(), Fail> {
         -A INPUT -j a\n\
         -A a -j RETURN\n\
         COMMIT\n";
-    let mut filter = Filter::after(&rt, rt.alloc(), &lines)?;
+    let mut filter = Filter::after(&rt, rt.alloc(), LINES)?;
     let text = "*filter\n-A a -j RETURN\nCOMMIT";
     filter.unchanged(&rt, Mode::FLUSH, text, "line 2: no such chain")?;
     filter.unchanged(&rt, Mode::NOFLUSH_TEST, text, "")?;

@@ -1,7 +1,6 @@
 // Sections without a restore round them.
-use crate::filter::{Filter, text_of};
-use fields::Tap;
-use restore::{Transaction, write_listing};
+use crate::filter::{Filter, listing_of};
+use restore::Transaction;
 use std::alloc::Global;
 use std::process::Abort;
 use std::test::Fail;
@@ -26,15 +25,9 @@ fn committed(
     Ok(Ok(section.commit()))
 }
 
-fn listing(rt: &impl Abort, alloc: Global, table: &Table) -> Result<String, Fail> {
-    let mut output = Tap::new(Vec::new(alloc));
-    write_listing(table, &mut output)?;
-    text_of(rt, alloc, output)
-}
-
 // Compares the listing of a table.
 fn lists(rt: &impl Abort, alloc: Global, table: &Table, listed: &str) -> Result<(), Fail> {
-    assert_eq!(rt; listing(rt, alloc, table)?.as_str(), listed);
+    assert_eq!(rt; listing_of(rt, alloc, table)?.as_str(), listed);
     Ok(())
 }
 
@@ -79,15 +72,15 @@ fn begun_and_committed(rt: HostRuntime) -> Result<(), Fail> {
     let copied = filter.listing(&rt)?;
     gives(&rt, &mut filter, false, &[], emptied)?;
     gives(&rt, &mut filter, true, &[], copied.as_str())?;
-    let lines = ["", "# x", "\t"];
-    gives(&rt, &mut filter, false, &lines, emptied)?;
-    gives(&rt, &mut filter, true, &lines, copied.as_str())
+    const LINES: &[&str] = &["", "# x", "\t"];
+    gives(&rt, &mut filter, false, LINES, emptied)?;
+    gives(&rt, &mut filter, true, LINES, copied.as_str())
 }
 
 #[test]
 fn lines_of_a_section(rt: HostRuntime) -> Result<(), Fail> {
     let mut filter = Filter::after(&rt, rt.alloc(), &BEFORE)?;
-    let lines = [
+    const LINES: &[&str] = &[
         ":a - [0:0]",
         "[1:2] -A a -j RETURN",
         ":INPUT DROP",
@@ -111,8 +104,8 @@ fn lines_of_a_section(rt: HostRuntime) -> Result<(), Fail> {
         -A OUTPUT -j a\n\
         -A a -j RETURN\n\
         COMMIT\n";
-    gives(&rt, &mut filter, false, &lines, flushed)?;
-    gives(&rt, &mut filter, true, &lines, kept)
+    gives(&rt, &mut filter, false, LINES, flushed)?;
+    gives(&rt, &mut filter, true, LINES, kept)
 }
 
 // Compares why a line is refused after two that are accepted.
@@ -146,7 +139,7 @@ fn refused_line(
 fn refused_lines(rt: HostRuntime) -> Result<(), Fail> {
     let mut filter = Filter::after(&rt, rt.alloc(), &BEFORE)?;
     let before = filter.listing(&rt)?;
-    let rows = [
+    const ROWS: &[(&str, &str)] = &[
         ("COMMIT", "no command"),
         (" COMMIT ", "no command"),
         ("\"COMMIT\"", "no command"),
@@ -157,7 +150,7 @@ fn refused_lines(rt: HostRuntime) -> Result<(), Fail> {
         ("\"", "bad quoting"),
         ("-A a -j a", "loop"),
     ];
-    for row in rows.iter() {
+    for row in ROWS {
         refused_line(&rt, &mut filter, false, row, before.as_str())?;
         refused_line(&rt, &mut filter, true, row, before.as_str())?;
     }

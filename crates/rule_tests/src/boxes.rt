@@ -3,6 +3,7 @@ use crate::lines::read;
 use fields::{Field, Interval, Spans};
 use rules::{Boxed, Work};
 use std::alloc::Global;
+use std::process::Abort;
 use std::test::Fail;
 
 // Intervals, by their first and last number.
@@ -44,7 +45,7 @@ const NO_SOURCE: (Field, Intervals) = (Field::Source, &[]);
 // A line, and what it allows on the fields on which it doesn't allow all numbers.
 type Row = (&'static str, &'static [(Field, Intervals)]);
 
-const BOXES: [Row; 49] = [
+const BOXES: &[Row] = &[
     ("", &[]),
     ("-j LOG", &[]),
     ("-m comment --comment x -j DROP", &[]),
@@ -224,15 +225,27 @@ fn box_of(alloc: Global, line: &str, work: &mut Work) -> Result<Boxed, Fail> {
     Ok(Boxed::of(alloc, &rule, work)?)
 }
 
+// Compares the box of a line, which is one more than were made before.
+fn is_boxed(
+    rt: &impl Abort,
+    alloc: Global,
+    work: &mut Work,
+    made: usize,
+    row: &Row,
+) -> Result<(), Fail> {
+    let (line, asked) = *row;
+    assert!(rt; work.boxes() == made as u64, "{line}");
+    let boxed = box_of(alloc, line, work)?;
+    assert!(rt; allows(&boxed, asked), "{line}");
+    Ok(())
+}
+
 #[test]
 fn boxes_have_what_rules_allow(rt: HostRuntime) -> Result<(), Fail> {
-    let alloc = rt.alloc();
     let mut work = Work::new();
-    for (made, (line, asked)) in BOXES.iter().enumerate() {
-        assert_eq!(rt; work.boxes(), made as u64, "{line}");
-        let boxed = box_of(alloc, line, &mut work)?;
-        assert!(rt; allows(&boxed, asked), "{line}");
+    for (made, row) in BOXES.iter().enumerate() {
+        is_boxed(&rt, rt.alloc(), &mut work, made, row)?;
     }
-    assert_eq!(rt; work.boxes(), 49);
+    assert!(rt; work.boxes() == 49);
     Ok(())
 }

@@ -2,6 +2,7 @@
 use fields::{Tap, Words};
 use rules::{Refusal, Rule, RuleFault, read_rule, write_rule};
 use std::alloc::Global;
+use std::process::Abort;
 
 // The rule that the line's words write.
 pub(crate) fn read(alloc: Global, line: &str) -> Result<Rule, RuleFault> {
@@ -29,4 +30,14 @@ pub(crate) fn is_refused(alloc: Global, line: &str, refusal: Refusal) -> bool {
         Err(RuleFault::Refused(found)) => found == refusal,
         _ => false,
     }
+}
+
+// Compares what is listed of a line.
+pub(crate) fn lists(rt: &impl Abort, alloc: Global, line: &str, text: &str) {
+    assert!(rt; is_listed(alloc, line, text), "{line}");
+}
+
+// Compares why a line is refused.
+pub(crate) fn refuses(rt: &impl Abort, alloc: Global, line: &str, refusal: Refusal) {
+    assert!(rt; is_refused(alloc, line, refusal), "{line}");
 }

@@ -1,9 +1,10 @@
 // What is listed of lines.
-use crate::lines::is_listed;
+use crate::lines::lists;
+use std::alloc::Global;
 use std::test::Fail;
 
 // Each line, and what is listed of it.
-pub(crate) const LISTED: [(&str, &str); 58] = [
+pub(crate) const LISTED: &[(&str, &str)] = &[
     ("", ""),
     ("-s 10.1.2.3/8 -j ACCEPT", " -s 10.0.0.0/8 -j ACCEPT"),
     (
@@ -192,36 +193,55 @@ pub(crate) const LISTED: [(&str, &str); 58] = [
 
 #[test]
 fn lists_and_reads_what_it_lists(rt: HostRuntime) -> Result<(), Fail> {
-    let alloc = rt.alloc();
-    for (line, text) in &LISTED {
-        assert!(rt; is_listed(alloc, line, text), "{line}");
-        assert!(rt; is_listed(alloc, text, text), "{text}");
+    for (line, text) in LISTED {
+        lists(&rt, rt.alloc(), line, text);
+        lists(&rt, rt.alloc(), text, text);
     }
     Ok(())
 }
 
-// The longest line: each address, each interface, the longest protocol, 16 comments and all of LOG.
-#[test]
-fn longest_line_is_listed(rt: HostRuntime) -> Result<(), Fail> {
-    let alloc = rt.alloc();
-    let mut line = String::new(alloc);
-    line.push_str(" ! -s 255.255.255.255/32 ! -d 255.255.255.255/32")?;
-    line.push_str(" ! -i 123456789012345 ! -o 123456789012345 ! -p ipv6-icmp ! -f")?;
-    for _ in 0..16 {
-        line.push_str(" -m comment --comment \"")?;
-        for _ in 0..256 {
-            line.push_str("\\'")?;
-        }
-        line.push_str("\"")?;
+// Writes a text so many times.
+fn write_times(line: &mut String, text: &str, times: u32) -> Result<(), Fail> {
+    for _ in 0..times {
+        line.push_str(text)?;
     }
+    Ok(())
+}
+
+// Writes a comment of the most bytes.
+fn write_comment(line: &mut String) -> Result<(), Fail> {
+    line.push_str(" -m comment --comment \"")?;
+    write_times(line, "\\'", 256)?;
+    line.push_str("\"")?;
+    Ok(())
+}
+
+// Writes a log with a prefix of the most bytes.
+fn write_log(line: &mut String) -> Result<(), Fail> {
     line.push_str(" -j LOG --log-prefix \"")?;
-    for _ in 0..29 {
-        line.push_str("\\\"")?;
-    }
+    write_times(line, "\\\"", 29)?;
     line.push_str(
         "\" --log-level 7 --log-tcp-sequence --log-tcp-options --log-ip-options --log-uid",
     )?;
+    Ok(())
+}
+
+// The longest line: each address, each interface, the longest protocol, 16 comments and all of LOG.
+fn longest_line(alloc: Global) -> Result<String, Fail> {
+    let mut line = String::new(alloc);
+    line.push_str(" ! -s 255.255.255.255/32 ! -d 255.255.255.255/32")?;
+    line.push_str(" ! -i 123456789012345 ! -o 123456789012345 ! -p ipv6-icmp ! -f")?;
+    for _ in 0..16u32 {
+        write_comment(&mut line)?;
+    }
+    write_log(&mut line)?;
+    Ok(line)
+}
+
+#[test]
+fn longest_line_is_listed(rt: HostRuntime) -> Result<(), Fail> {
+    let line = longest_line(rt.alloc())?;
     assert_eq!(rt; line.len(), 8845);
-    assert!(rt; is_listed(alloc, line.as_str(), line.as_str()));
+    lists(&rt, rt.alloc(), line.as_str(), line.as_str());
     Ok(())
 }

@@ -1,6 +1,8 @@
 // Each name that a value may have, and each number.
-use crate::lines::{is_listed, is_refused};
+use crate::lines::{lists, refuses};
 use rules::Refusal;
+use std::alloc::Global;
+use std::process::Abort;
 use std::test::Fail;
 
 // A name, and what is listed of it.
@@ -132,7 +134,7 @@ const LOG_LEVELS: Names = &[
 ];
 
 // The words before a name, what is listed of them, and the names.
-const NAMED: [(&str, &str, Names); 10] = [
+const NAMED: &[(&str, &str, Names)] = &[
     ("-p ", " -p ", PROTOCOLS),
     ("! -p ", " ! -p ", PROTOCOLS),
     (
@@ -170,7 +172,7 @@ const NAMED: [(&str, &str, Names); 10] = [
 ];
 
 // The words before a name, and texts that are no such name.
-const UNNAMED: [(&str, &[&str]); 8] = [
+const UNNAMED: &[(&str, &[&str])] = &[
     (
         "-p ",
         &["TCP", "ipv6", "256", "06", "-1", "\"\"", "tcp,udp"],
@@ -202,7 +204,7 @@ const UNNAMED: [(&str, &[&str]); 8] = [
 ];
 
 // The numbers of the protocols that have names.
-const NUMBERED: [(u8, &str); 13] = [
+const NUMBERED: &[(u8, &str)] = &[
     (1, "icmp"),
     (2, "igmp"),
     (6, "tcp"),
@@ -218,47 +220,88 @@ const NUMBERED: [(u8, &str); 13] = [
     (136, "udplite"),
 ];
 
+// Compares what is listed of a name after words.
+fn lists_name(
+    rt: &impl Abort,
+    alloc: Global,
+    befores: (&str, &str),
+    names: (&str, &str),
+) -> Result<(), Fail> {
+    let (before, listed_before) = befores;
+    let (name, listed) = names;
+    let line = format!(in alloc; "{before}{name}")?;
+    let text = format!(in alloc; "{listed_before}{listed}")?;
+    lists(rt, alloc, line.as_str(), text.as_str());
+    Ok(())
+}
+
+// The same of several names.
+fn lists_names(
+    rt: &impl Abort,
+    alloc: Global,
+    befores: (&str, &str),
+    names: &[(&str, &str)],
+) -> Result<(), Fail> {
+    for row in names {
+        lists_name(rt, alloc, befores, *row)?;
+    }
+    Ok(())
+}
+
 #[test]
 fn each_name_lists(rt: HostRuntime) -> Result<(), Fail> {
-    let alloc = rt.alloc();
-    for (before, listed_before, names) in &NAMED {
-        for (name, listed) in *names {
-            let line = format!(in alloc; "{before}{name}")?;
-            let text = format!(in alloc; "{listed_before}{listed}")?;
-            assert!(rt; is_listed(alloc, line.as_str(), text.as_str()), "{line}");
-        }
+    for (before, listed_before, names) in NAMED {
+        lists_names(&rt, rt.alloc(), (before, listed_before), names)?;
+    }
+    Ok(())
+}
+
+// Compares why a line with a text is refused that is no name.
+fn refuses_name(rt: &impl Abort, alloc: Global, before: &str, name: &str) -> Result<(), Fail> {
+    let line = format!(in alloc; "{before}{name}")?;
+    refuses(rt, alloc, line.as_str(), Refusal::BadValue);
+    Ok(())
+}
+
+// The same of several texts.
+fn refuses_names(rt: &impl Abort, alloc: Global, before: &str, names: &[&str]) -> Result<(), Fail> {
+    for name in names {
+        refuses_name(rt, alloc, before, name)?;
     }
     Ok(())
 }
 
 #[test]
 fn other_names_are_refused(rt: HostRuntime) -> Result<(), Fail> {
-    let alloc = rt.alloc();
-    for (before, names) in &UNNAMED {
-        for name in *names {
-            let line = format!(in alloc; "{before}{name}")?;
-            assert!(rt;
-                is_refused(alloc, line.as_str(), Refusal::BadValue),
-                "{line}"
-            );
+    for (before, names) in UNNAMED {
+        refuses_names(&rt, rt.alloc(), before, names)?;
+    }
+    Ok(())
+}
+
+// What is listed of a protocol that is given by its number.
+fn listed_protocol(alloc: Global, number: u8) -> Result<String, Fail> {
+    for (named, name) in NUMBERED {
+        if *named == number {
+            return Ok(format!(in alloc; " -p {name}")?);
         }
     }
+    Ok(format!(in alloc; " -p {number}")?)
+}
+
+// Compares what is listed of the number of a protocol.
+fn lists_protocol(rt: &impl Abort, alloc: Global, number: u8) -> Result<(), Fail> {
+    let line = format!(in alloc; "-p {number}")?;
+    let text = listed_protocol(alloc, number)?;
+    lists(rt, alloc, line.as_str(), text.as_str());
     Ok(())
 }
 
 #[test]
 fn each_protocol_number_lists(rt: HostRuntime) -> Result<(), Fail> {
-    let alloc = rt.alloc();
-    assert!(rt; is_listed(alloc, "-p 0", ""));
+    lists(&rt, rt.alloc(), "-p 0", "");
     for number in 1..=255u8 {
-        let line = format!(in alloc; "-p {number}")?;
-        let mut text = format!(in alloc; " -p {number}")?;
-        for (named, name) in &NUMBERED {
-            if *named == number {
-                text = format!(in alloc; " -p {name}")?;
-            }
-        }
-        assert!(rt; is_listed(alloc, line.as_str(), text.as_str()), "{line}");
+        lists_protocol(&rt, rt.alloc(), number)?;
     }
     Ok(())
 }

@@ -1,6 +1,8 @@
 // Each option: its spellings, its values, and to what it belongs.
-use crate::lines::{is_listed, is_refused};
+use crate::lines::{lists, refuses};
 use rules::Refusal;
+use std::alloc::Global;
+use std::process::Abort;
 use std::test::Fail;
 
 // The words before an option, its spellings, its values, whether `!` may stand before it, what is listed of the words
@@ -21,7 +23,7 @@ const PROTOCOL: Option<Refusal> = Some(Refusal::ProtocolNeeded);
 
 const TARGET: Option<Refusal> = Some(Refusal::OtherTarget);
 
-const OPTIONS: [Row; 30] = [
+const OPTIONS: &[Row] = &[
     (
         "",
         &["-s", "--source", "--src"],
@@ -262,49 +264,95 @@ const OPTIONS: [Row; 30] = [
     ),
 ];
 
+// Compares what is listed of an option, in one of its spellings.
+fn lists_option(rt: &impl Abort, alloc: Global, spelling: &str, row: &Row) -> Result<(), Fail> {
+    let (before, _, values, _, listed_before, listed, _) = *row;
+    let line = format!(in alloc; "{before}{spelling}{values}")?;
+    let text = format!(in alloc; "{listed_before} {listed}")?;
+    lists(rt, alloc, line.as_str(), text.as_str());
+    Ok(())
+}
+
+// Compares what is listed of an inverted option.
+fn lists_inverted(rt: &impl Abort, alloc: Global, line: &str, row: &Row) -> Result<(), Fail> {
+    let (_, _, _, _, listed_before, listed, _) = *row;
+    let text = format!(in alloc; "{listed_before} ! {listed}")?;
+    lists(rt, alloc, line, text.as_str());
+    Ok(())
+}
+
+// Compares what an option is listed or refused as after `!`.
+fn inverts_option(rt: &impl Abort, alloc: Global, spelling: &str, row: &Row) -> Result<(), Fail> {
+    let (before, _, values, inverts, _, _, _) = *row;
+    let line = format!(in alloc; "{before}! {spelling}{values}")?;
+    if inverts {
+        return lists_inverted(rt, alloc, line.as_str(), row);
+    }
+    refuses(rt, alloc, line.as_str(), Refusal::InversionNotAllowed);
+    Ok(())
+}
+
+// Compares what is listed of an option in each of its spellings, without `!` and with it.
+fn lists_each(rt: &impl Abort, alloc: Global, row: &Row) -> Result<(), Fail> {
+    for spelling in row.1 {
+        lists_option(rt, alloc, spelling, row)?;
+        inverts_option(rt, alloc, spelling, row)?;
+    }
+    Ok(())
+}
+
 #[test]
 fn each_option_lists(rt: HostRuntime) -> Result<(), Fail> {
-    let alloc = rt.alloc();
-    for (before, spellings, values, inverts, listed_before, listed, _) in &OPTIONS {
-        for spelling in *spellings {
-            let line = format!(in alloc; "{before}{spelling}{values}")?;
-            let text = format!(in alloc; "{listed_before} {listed}")?;
-            assert!(rt; is_listed(alloc, line.as_str(), text.as_str()), "{line}");
-            let line = format!(in alloc; "{before}! {spelling}{values}")?;
-            let text = format!(in alloc; "{listed_before} ! {listed}")?;
-            let is_met = if *inverts {
-                is_listed(alloc, line.as_str(), text.as_str())
-            } else {
-                is_refused(alloc, line.as_str(), Refusal::InversionNotAllowed)
-            };
-            assert!(rt; is_met, "{line}");
-        }
+    for row in OPTIONS {
+        lists_each(&rt, rt.alloc(), row)?;
+    }
+    Ok(())
+}
+
+// Compares why an option is refused without its value, if it has one.
+fn lacks_value(rt: &impl Abort, alloc: Global, spelling: &str, row: &Row) -> Result<(), Fail> {
+    let (before, _, values, _, _, _, _) = *row;
+    if !values.is_empty() {
+        let line = format!(in alloc; "{before}{spelling}")?;
+        refuses(rt, alloc, line.as_str(), Refusal::ValueMissing);
+    }
+    Ok(())
+}
+
+// Compares why an option is refused that stands twice, which a match may.
+fn stands_twice(rt: &impl Abort, alloc: Global, spelling: &str, row: &Row) -> Result<(), Fail> {
+    let (before, _, values, _, _, listed, _) = *row;
+    if spelling != "-m" && spelling != "--match" {
+        let line = format!(in alloc; "{before}{listed} {spelling}{values}")?;
+        refuses(rt, alloc, line.as_str(), Refusal::RepeatedOption);
+    }
+    Ok(())
+}
+
+// Compares why an option is refused where nothing stands before it, if it is.
+fn stands_alone(rt: &impl Abort, alloc: Global, spelling: &str, row: &Row) -> Result<(), Fail> {
+    let (_, _, values, _, _, _, stray) = *row;
+    if let Some(refusal) = stray {
+        let line = format!(in alloc; "{spelling}{values}")?;
+        refuses(rt, alloc, line.as_str(), refusal);
+    }
+    Ok(())
+}
+
+// Compares why an option is refused, in each of its spellings.
+fn refuses_each(rt: &impl Abort, alloc: Global, row: &Row) -> Result<(), Fail> {
+    for spelling in row.1 {
+        lacks_value(rt, alloc, spelling, row)?;
+        stands_twice(rt, alloc, spelling, row)?;
+        stands_alone(rt, alloc, spelling, row)?;
     }
     Ok(())
 }
 
 #[test]
 fn each_option_is_refused(rt: HostRuntime) -> Result<(), Fail> {
-    let alloc = rt.alloc();
-    for (before, spellings, values, _, _, listed, stray) in &OPTIONS {
-        for spelling in *spellings {
-            let line = format!(in alloc; "{before}{spelling}")?;
-            assert!(rt;
-                values.is_empty() || is_refused(alloc, line.as_str(), Refusal::ValueMissing),
-                "{line}"
-            );
-            let line = format!(in alloc; "{before}{listed} {spelling}{values}")?;
-            assert!(rt;
-                *spelling == "-m"
-                    || *spelling == "--match"
-                    || is_refused(alloc, line.as_str(), Refusal::RepeatedOption),
-                "{line}"
-            );
-            let line = format!(in alloc; "{spelling}{values}")?;
-            if let Some(refusal) = stray {
-                assert!(rt; is_refused(alloc, line.as_str(), *refusal), "{line}");
-            }
-        }
+    for row in OPTIONS {
+        refuses_each(&rt, rt.alloc(), row)?;
     }
     Ok(())
 }

@@ -2,12 +2,25 @@
 use crate::lines::{is_listed, read};
 use crate::listing::LISTED;
 use fields::{Name, RejectType, Tap};
-use rules::{Target, write_rule};
+use rules::{Rule, Target, write_rule};
+use std::alloc::Global;
+use std::process::Abort;
 use std::test::Fail;
+
+// Compares the target of the rule of a line.
+fn goes_to(
+    rt: &impl Abort,
+    alloc: Global,
+    line: &str,
+    target: &Option<Target>,
+) -> Result<(), Fail> {
+    let rule = read(alloc, line)?;
+    assert!(rt; rule.target() == *target, "{line}");
+    Ok(())
+}
 
 #[test]
 fn shows_its_target(rt: HostRuntime) -> Result<(), Fail> {
-    let alloc = rt.alloc();
     let rows = [
         ("-s 1.1.1.1", None),
         ("-j ACCEPT", Some(Target::Accept)),
@@ -26,23 +39,23 @@ fn shows_its_target(rt: HostRuntime) -> Result<(), Fail> {
             Some(Target::Reject(RejectType::TcpReset)),
         ),
         ("-j LOG --log-level 1", Some(Target::Log)),
-        (
-            "-j chain",
-            Some(Target::Jump(Name::read(b"chain").ok_or("no name")?)),
-        ),
-        (
-            "-g chain",
-            Some(Target::Goto(Name::read(b"chain").ok_or("no name")?)),
-        ),
     ];
-    for (line, target) in rows {
-        assert_eq!(rt; read(alloc, line)?.target(), target, "{line}");
+    for (line, target) in &rows {
+        goes_to(&rt, rt.alloc(), line, target)?;
     }
     Ok(())
 }
 
+#[test]
+fn shows_its_chain(rt: HostRuntime) -> Result<(), Fail> {
+    let jumped = Target::Jump(Name::read(b"chain").ok_or("no name")?);
+    goes_to(&rt, rt.alloc(), "-j chain", &Some(jumped))?;
+    let gone = Target::Goto(Name::read(b"chain").ok_or("no name")?);
+    goes_to(&rt, rt.alloc(), "-g chain", &Some(gone))
+}
+
 // Each line, and whether it has a condition on the incoming and on the outgoing interface.
-const ON_INTERFACES: [(&str, bool, bool); 6] = [
+const ON_INTERFACES: &[(&str, bool, bool)] = &[
     ("-s 1.1.1.1", false, false),
     ("-i eth0", true, false),
     ("-o eth+", false, true),
@@ -51,19 +64,24 @@ const ON_INTERFACES: [(&str, bool, bool); 6] = [
     ("! -o + -i eth0", true, true),
 ];
 
+// Compares whether the rule of a line has a condition on the incoming and on the outgoing interface.
+fn is_on(rt: &impl Abort, alloc: Global, row: &(&str, bool, bool)) -> Result<(), Fail> {
+    let (line, on_in, on_out) = *row;
+    let rule = read(alloc, line)?;
+    assert!(rt; rule.on_in() == on_in && rule.on_out() == on_out, "{line}");
+    Ok(())
+}
+
 #[test]
 fn shows_its_interfaces(rt: HostRuntime) -> Result<(), Fail> {
-    let alloc = rt.alloc();
-    for (line, on_in, on_out) in &ON_INTERFACES {
-        let rule = read(alloc, line)?;
-        assert_eq!(rt; rule.on_in(), *on_in, "{line}");
-        assert_eq!(rt; rule.on_out(), *on_out, "{line}");
+    for row in ON_INTERFACES {
+        is_on(&rt, rt.alloc(), row)?;
     }
     Ok(())
 }
 
 // Two lines, and whether they are equal rules.
-const EQUAL: [(&str, &str, bool); 16] = [
+const EQUAL: &[(&str, &str, bool)] = &[
     (
         "-p tcp -m tcp --dport 22 -j DROP",
         "--protocol 6 --destination-port 22:22 -j DROP",
@@ -106,55 +124,82 @@ const EQUAL: [(&str, &str, bool); 16] = [
     ("-j LOG --log-uid", "-j LOG --log-ip-options", false),
 ];
 
+// Whether the rules of two lines are equal, asked of the first.
+fn equals(alloc: Global, one: &str, other: &str) -> Result<bool, Fail> {
+    let first = read(alloc, one)?;
+    let second = read(alloc, other)?;
+    Ok(first.equals(&second))
+}
+
+// Compares whether the rules of two lines are equal.
+fn compared(rt: &impl Abort, alloc: Global, row: &(&str, &str, bool)) -> Result<(), Fail> {
+    let (one, other, are_equal) = *row;
+    assert!(rt; equals(alloc, one, other)? == are_equal, "{one}, {other}");
+    assert!(rt; equals(alloc, other, one)? == are_equal, "{other}, {one}");
+    Ok(())
+}
+
 #[test]
 fn compares(rt: HostRuntime) -> Result<(), Fail> {
-    let alloc = rt.alloc();
-    for (one, other, are_equal) in &EQUAL {
-        let first = read(alloc, one)?;
-        let second = read(alloc, other)?;
-        assert_eq!(rt; first.equals(&second), *are_equal, "{one}, {other}");
-        assert_eq!(rt; second.equals(&first), *are_equal, "{other}, {one}");
+    for row in EQUAL {
+        compared(&rt, rt.alloc(), row)?;
     }
     Ok(())
+}
+
+// Whether a rule's text is this.
+fn has_text(alloc: Global, rule: &Rule, text: &str) -> Result<bool, Fail> {
+    let mut output = Tap::new(Vec::new(alloc));
+    write_rule(rule, &mut output)?;
+    Ok(output.into_device().as_slice() == text.as_bytes())
+}
+
+// Whether the copy of the rule of a line has a text, and equals the rule.
+fn is_copied(alloc: Global, line: &str, text: &str) -> Result<bool, Fail> {
+    let rule = read(alloc, line)?;
+    let copy = rule.copy(alloc)?;
+    Ok(has_text(alloc, &copy, text)? && copy.equals(&rule))
 }
 
 #[test]
 fn copies(rt: HostRuntime) -> Result<(), Fail> {
-    let alloc = rt.alloc();
-    for (line, text) in &LISTED {
-        let rule = read(alloc, line)?;
-        let copy = rule.copy(alloc)?;
-        let mut output = Tap::new(Vec::new(alloc));
-        write_rule(&copy, &mut output)?;
-        assert!(rt;
-            output.into_device().as_slice() == text.as_bytes(),
-            "{line}"
-        );
-        assert!(rt; copy.equals(&rule), "{line}");
+    for (line, text) in LISTED {
+        assert!(rt; is_copied(rt.alloc(), line, text)?, "{line}");
     }
     Ok(())
 }
 
+// Gives the chain that a rule names another name.
+fn rename(rule: &mut Rule) -> Result<(), Fail> {
+    let name = Name::read(b"new").ok_or("no name")?;
+    match rule.target() {
+        Some(Target::Goto(_)) => rule.rename_target(&name),
+        Some(Target::Jump(_)) => rule.rename_target(&name),
+        _ => return Err(Fail::new("no chain")),
+    }
+    Ok(())
+}
+
+// Whether the rule of a line has a text after its chain was renamed.
+fn is_renamed(alloc: Global, line: &str, text: &str) -> Result<bool, Fail> {
+    let mut rule = read(alloc, line)?;
+    rename(&mut rule)?;
+    let expected = read(alloc, text)?;
+    Ok(rule.equals(&expected))
+}
+
 #[test]
 fn renames_its_target(rt: HostRuntime) -> Result<(), Fail> {
-    let alloc = rt.alloc();
-    let rows = [
+    const ROWS: &[(&str, &str)] = &[
         (
             "-o eth0 -m comment --comment x -g old",
             " -o eth0 -m comment --comment x -g new",
         ),
         ("-p tcp --dport 1 -j old", " -p tcp -m tcp --dport 1 -j new"),
     ];
-    let name = Name::read(b"new").ok_or("no name")?;
-    for (line, text) in rows {
-        let mut rule = read(alloc, line)?;
-        match rule.target() {
-            Some(Target::Goto(_)) => rule.rename_target(&name),
-            Some(Target::Jump(_)) => rule.rename_target(&name),
-            _ => return Err(Fail::new("no chain")),
-        }
-        assert!(rt; rule.equals(&read(alloc, text)?), "{line}");
-        assert!(rt; is_listed(alloc, text, text), "{text}");
+    for (line, text) in ROWS {
+        assert!(rt; is_renamed(rt.alloc(), line, text)?, "{line}");
+        assert!(rt; is_listed(rt.alloc(), text, text), "{text}");
     }
     Ok(())
 }

@@ -1,11 +1,12 @@
 // Lines that are refused.
-use crate::lines::{is_refused, read};
+use crate::lines::{read, refuses};
 use rules::Refusal;
 use std::alloc::Global;
+use std::process::Abort;
 use std::test::Fail;
 
 // Each line, and the refusal that it meets.
-const REFUSED: [(&str, Refusal); 82] = [
+const REFUSED: &[(&str, Refusal)] = &[
     ("-Z", Refusal::UnknownOption(0)),
     ("-j DROP --comment x", Refusal::UnknownOption(2)),
     ("-p tcp --dports x", Refusal::UnknownOption(2)),
@@ -124,10 +125,9 @@ const REFUSED: [(&str, Refusal); 82] = [
 ];
 
 #[test]
-fn refuses(rt: HostRuntime) -> Result<(), Fail> {
-    let alloc = rt.alloc();
-    for (line, refusal) in &REFUSED {
-        assert!(rt; is_refused(alloc, line, *refusal), "{line}");
+fn each_line_is_refused(rt: HostRuntime) -> Result<(), Fail> {
+    for (line, refusal) in REFUSED {
+        refuses(&rt, rt.alloc(), line, *refusal);
     }
     Ok(())
 }
@@ -142,7 +142,7 @@ fn repeated(alloc: Global, line: &str, part: &str, count: usize) -> Result<Strin
 }
 
 // What is accepted at most, and the refusal of one more: the line, the part that is repeated, and how often it may be.
-const BOUNDS: [(&str, &str, usize, Refusal); 4] = [
+const BOUNDS: &[(&str, &str, usize, Refusal)] = &[
     ("-p tcp", " -m tcp", 16, Refusal::TooManyMatches),
     (
         "-p icmp",
@@ -154,29 +154,58 @@ const BOUNDS: [(&str, &str, usize, Refusal); 4] = [
     ("-j LOG --log-prefix ", "x", 29, Refusal::TextTooLong),
 ];
 
+// Compares why a line is refused with a part after it.
+fn refuses_part(
+    rt: &impl Abort,
+    alloc: Global,
+    line: &str,
+    part: &str,
+    refusal: Refusal,
+) -> Result<(), Fail> {
+    let more = repeated(alloc, line, part, 1)?;
+    refuses(rt, alloc, more.as_str(), refusal);
+    Ok(())
+}
+
+// A line with as many parts as it may have is accepted, and refused with one more.
+fn is_bound(
+    rt: &impl Abort,
+    alloc: Global,
+    row: &(&str, &str, usize, Refusal),
+) -> Result<(), Fail> {
+    let (line, part, count, refusal) = *row;
+    let most = repeated(alloc, line, part, count)?;
+    assert!(rt; read(alloc, most.as_str()).is_ok(), "{most}");
+    refuses_part(rt, alloc, most.as_str(), part, refusal)
+}
+
 #[test]
 fn bounds_are_kept(rt: HostRuntime) -> Result<(), Fail> {
-    let alloc = rt.alloc();
-    for (line, part, count, refusal) in &BOUNDS {
-        let most = repeated(alloc, line, part, *count)?;
-        assert!(rt; read(alloc, most.as_str()).is_ok(), "{most}");
-        let more = repeated(alloc, most.as_str(), part, 1)?;
-        assert!(rt; is_refused(alloc, more.as_str(), *refusal), "{more}");
+    for row in BOUNDS {
+        is_bound(&rt, rt.alloc(), row)?;
     }
-    // With sixteen matches, one that an option starts is one too many, and the name of a match is asked before their
-    // count.
-    let full = repeated(alloc, "-p icmp", " -m comment --comment x", 16)?;
-    let rows = [
+    Ok(())
+}
+
+// With sixteen matches, one that an option starts is one too many, and the name of a match is asked before their count.
+#[test]
+fn parts_after_all_matches(rt: HostRuntime) -> Result<(), Fail> {
+    const PARTS: &[(&str, Refusal)] = &[
         (" --icmp-type nothing", Refusal::TooManyMatches),
         (" -m nothing", Refusal::UnknownMatch),
         (" -m", Refusal::ValueMissing),
     ];
-    for (part, refusal) in rows {
-        let line = repeated(alloc, full.as_str(), part, 1)?;
-        assert!(rt; is_refused(alloc, line.as_str(), refusal), "{line}");
+    let full = repeated(rt.alloc(), "-p icmp", " -m comment --comment x", 16)?;
+    for (part, refusal) in PARTS {
+        refuses_part(&rt, rt.alloc(), full.as_str(), part, *refusal)?;
     }
-    // A comment isn't read where its match isn't started.
-    let line = repeated(alloc, "--comment ", "x", 300)?;
-    assert!(rt; is_refused(alloc, line.as_str(), Refusal::UnknownOption(0)));
+    Ok(())
+}
+
+// A comment isn't read where its match isn't started.
+#[test]
+fn a_comment_without_its_match(rt: HostRuntime) -> Result<(), Fail> {
+    let line = repeated(rt.alloc(), "--comment ", "x", 300)?;
+    refuses(&rt, rt.alloc(), line.as_str(), Refusal::UnknownOption(0));
     Ok(())
 }

@@ -1,10 +1,10 @@
 // Commands for chains: what they do to the table, and which the table refuses.
-use crate::console::each_prints;
+use crate::console::{Row, each_prints};
 use std::test::Fail;
 
 #[test]
 fn emptied_chains(rt: HostRuntime) -> Result<(), Fail> {
-    let rows = [(
+    const ROWS: &[Row] = &[(
         "iptables -N a\n\
                 iptables -A a -j DROP\n\
                 iptables -A INPUT -j a\n\
@@ -32,12 +32,12 @@ fn emptied_chains(rt: HostRuntime) -> Result<(), Fail> {
                 COMMIT\n",
         1,
     )];
-    each_prints(&rt, rt.alloc(), &rows)
+    each_prints(&rt, rt.alloc(), ROWS)
 }
 
 #[test]
 fn new_chains(rt: HostRuntime) -> Result<(), Fail> {
-    let rows = [(
+    const ROWS: &[Row] = &[(
         "iptables -N a\n\
                 iptables -N -a\n\
                 iptables -N INPUT\n\
@@ -56,12 +56,12 @@ fn new_chains(rt: HostRuntime) -> Result<(), Fail> {
                 COMMIT\n",
         1,
     )];
-    each_prints(&rt, rt.alloc(), &rows)
+    each_prints(&rt, rt.alloc(), ROWS)
 }
 
 #[test]
 fn chains_taken_away(rt: HostRuntime) -> Result<(), Fail> {
-    let rows = [
+    const ROWS: &[Row] = &[
         (
             "iptables -N a\n\
                 iptables -N b\n\
@@ -109,12 +109,12 @@ fn chains_taken_away(rt: HostRuntime) -> Result<(), Fail> {
             1,
         ),
     ];
-    each_prints(&rt, rt.alloc(), &rows)
+    each_prints(&rt, rt.alloc(), ROWS)
 }
 
 #[test]
 fn policies(rt: HostRuntime) -> Result<(), Fail> {
-    let rows = [(
+    const ROWS: &[Row] = &[(
         "iptables -N a\n\
                 iptables -P x y\n\
                 iptables -P a y\n\
@@ -142,12 +142,12 @@ fn policies(rt: HostRuntime) -> Result<(), Fail> {
                 COMMIT\n",
         1,
     )];
-    each_prints(&rt, rt.alloc(), &rows)
+    each_prints(&rt, rt.alloc(), ROWS)
 }
 
 #[test]
 fn renamed_chains(rt: HostRuntime) -> Result<(), Fail> {
-    let rows = [
+    const ROWS: &[Row] = &[
         (
             "iptables -N a\n\
                 iptables -N b\n\
@@ -229,12 +229,12 @@ fn renamed_chains(rt: HostRuntime) -> Result<(), Fail> {
             0,
         ),
     ];
-    each_prints(&rt, rt.alloc(), &rows)
+    each_prints(&rt, rt.alloc(), ROWS)
 }
 
 #[test]
 fn a_loop_through_three_chains(rt: HostRuntime) -> Result<(), Fail> {
-    let rows = [(
+    const ROWS: &[Row] = &[(
         "iptables -N a\n\
                 iptables -N b\n\
                 iptables -N c\n\
@@ -266,5 +266,5 @@ fn a_loop_through_three_chains(rt: HostRuntime) -> Result<(), Fail> {
                 COMMIT\n",
         1,
     )];
-    each_prints(&rt, rt.alloc(), &rows)
+    each_prints(&rt, rt.alloc(), ROWS)
 }

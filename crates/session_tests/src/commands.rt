@@ -1,10 +1,10 @@
 // Commands: what they do to the table, and which the table refuses.
-use crate::console::each_prints;
+use crate::console::{Row, each_prints};
 use std::test::Fail;
 
 #[test]
 fn appended_rules(rt: HostRuntime) -> Result<(), Fail> {
-    let rows = [(
+    const ROWS: &[Row] = &[(
         "iptables -N a\n\
                 iptables -N b\n\
                 iptables -A a -j b\n\
@@ -35,12 +35,12 @@ fn appended_rules(rt: HostRuntime) -> Result<(), Fail> {
                 COMMIT\n",
         1,
     )];
-    each_prints(&rt, rt.alloc(), &rows)
+    each_prints(&rt, rt.alloc(), ROWS)
 }
 
 #[test]
 fn an_interface_is_asked_before_the_target(rt: HostRuntime) -> Result<(), Fail> {
-    let rows = [(
+    const ROWS: &[Row] = &[(
         "iptables -A x -o eth0 -j y\n\
                 iptables -A INPUT -o eth0 -j y\n\
                 iptables -A OUTPUT ! -i eth0 -j INPUT\n\
@@ -53,12 +53,12 @@ fn an_interface_is_asked_before_the_target(rt: HostRuntime) -> Result<(), Fail> 
                 line 5: T12 target is built-in\n",
         1,
     )];
-    each_prints(&rt, rt.alloc(), &rows)
+    each_prints(&rt, rt.alloc(), ROWS)
 }
 
 #[test]
 fn inserted_rules(rt: HostRuntime) -> Result<(), Fail> {
-    let rows = [
+    const ROWS: &[Row] = &[
         (
             "iptables -N a\n\
                 iptables -A INPUT -s 1.1.1.1\n\
@@ -100,12 +100,12 @@ fn inserted_rules(rt: HostRuntime) -> Result<(), Fail> {
             1,
         ),
     ];
-    each_prints(&rt, rt.alloc(), &rows)
+    each_prints(&rt, rt.alloc(), ROWS)
 }
 
 #[test]
 fn replaced_rules(rt: HostRuntime) -> Result<(), Fail> {
-    let rows = [(
+    const ROWS: &[Row] = &[(
         "iptables -N a\n\
                 iptables -A INPUT -j a\n\
                 iptables -A a\n\
@@ -137,12 +137,12 @@ fn replaced_rules(rt: HostRuntime) -> Result<(), Fail> {
                 COMMIT\n",
         1,
     )];
-    each_prints(&rt, rt.alloc(), &rows)
+    each_prints(&rt, rt.alloc(), ROWS)
 }
 
 #[test]
 fn deleted_rules(rt: HostRuntime) -> Result<(), Fail> {
-    let rows = [
+    const ROWS: &[Row] = &[
         (
             "iptables -A INPUT -j DROP\n\
                 iptables -D x 1\n\
@@ -196,12 +196,12 @@ fn deleted_rules(rt: HostRuntime) -> Result<(), Fail> {
             0,
         ),
     ];
-    each_prints(&rt, rt.alloc(), &rows)
+    each_prints(&rt, rt.alloc(), ROWS)
 }
 
 #[test]
 fn asked_rules(rt: HostRuntime) -> Result<(), Fail> {
-    let rows = [
+    const ROWS: &[Row] = &[
         (
             "iptables -N a\n\
                 iptables -A INPUT -g a\n\
@@ -229,5 +229,5 @@ fn asked_rules(rt: HostRuntime) -> Result<(), Fail> {
             1,
         ),
     ];
-    each_prints(&rt, rt.alloc(), &rows)
+    each_prints(&rt, rt.alloc(), ROWS)
 }

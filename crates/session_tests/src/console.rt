@@ -62,6 +62,13 @@ pub(crate) struct Ended {
     pub(crate) status: u8,
 }
 
+impl Ended {
+    // Compares the status.
+    pub(crate) fn has_status(&self, rt: &impl Abort, input: &str, status: u8) {
+        assert_eq!(rt; self.status, status, "{input}");
+    }
+}
+
 // A session, and what its memory comes from.
 #[derive(Drop)]
 pub(crate) struct Console {
@@ -69,15 +76,32 @@ pub(crate) struct Console {
     pub(crate) session: Session,
 }
 
+// A text that may grow.
+pub(crate) fn copy_of(alloc: Global, text: &str) -> Result<String, Fail> {
+    let mut copy = String::new(alloc);
+    copy.push_str(text)?;
+    Ok(copy)
+}
+
+// The number of the last line of a text, which has no newline.
+pub(crate) fn last_line_number(text: &str) -> usize {
+    text.split('\n').count()
+}
+
 // The text that was written.
 pub(crate) fn text_of(rt: &impl Abort, alloc: Global, bytes: &[u8]) -> Result<String, Fail> {
     match str::from_utf8(bytes) {
-        Ok(text) => Ok(format!(in alloc; "{text}")?),
+        Ok(text) => copy_of(alloc, text),
         Err(_) => {
             assert!(rt; false, "no text");
             Ok(String::new(alloc))
         }
     }
+}
+
+// Compares what an input printed.
+fn is_output(rt: &impl Abort, input: &str, written: &str, output: &str) {
+    assert_eq!(rt; written, output, "{input}");
 }
 
 impl Console {
@@ -127,8 +151,8 @@ impl Console {
     ) -> Result<(), Fail> {
         let (output, status) = row;
         let written = text_of(rt, self.alloc, &ended.written)?;
-        assert_eq!(rt; written.as_str(), output, "{input}");
-        assert_eq!(rt; ended.status, status, "{input}");
+        is_output(rt, input, written.as_str(), output);
+        ended.has_status(rt, input, status);
         Ok(())
     }
 
@@ -142,6 +166,14 @@ impl Console {
     ) -> Result<(), Fail> {
         let ended = self.run(input.as_bytes())?;
         self.compare(rt, input, &ended, (output, status))
+    }
+
+    // Compares what each input prints, one after another.
+    pub(crate) fn prints_in_turn(&mut self, rt: &impl Abort, rows: &[Row<'_>]) -> Result<(), Fail> {
+        for (input, output, status) in rows {
+            self.prints(rt, input, output, *status)?;
+        }
+        Ok(())
     }
 
     // Compares what a restore prints, and its status.
@@ -163,11 +195,21 @@ impl Console {
     }
 }
 
+// Compares what an input prints on a new session, and its status.
+pub(crate) fn new_prints(
+    rt: &impl Abort,
+    alloc: Global,
+    input: &str,
+    output: &str,
+    status: u8,
+) -> Result<(), Fail> {
+    Console::new(alloc)?.prints(rt, input, output, status)
+}
+
 // Compares what each input prints on a session of its own.
 pub(crate) fn each_prints(rt: &impl Abort, alloc: Global, rows: &[Row<'_>]) -> Result<(), Fail> {
     for (input, output, status) in rows {
-        let mut console = Console::new(alloc)?;
-        console.prints(rt, input, output, *status)?;
+        new_prints(rt, alloc, input, output, *status)?;
     }
     Ok(())
 }

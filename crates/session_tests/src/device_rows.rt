@@ -135,6 +135,40 @@ pub(crate) struct Ran<'a> {
     pub(crate) writer: FusedWriter,
 }
 
+// Runs the lines of a reader.
+fn run_over<'a>(session: &mut Session, reader: FusedReader<'a>, writer: FusedWriter) -> Ran<'a> {
+    let mut reader = Tap::new(reader);
+    let mut writer = Tap::new(writer);
+    let answer = session.run(&mut reader, &mut writer);
+    Ran {
+        answer,
+        reader: reader.into_device(),
+        writer: writer.into_device(),
+    }
+}
+
+// Reads what a reader gives as one restore.
+fn restore_over<'a>(
+    session: &mut Session,
+    mode: Mode,
+    reader: FusedReader<'a>,
+    writer: FusedWriter,
+) -> Ran<'a> {
+    let Mode {
+        noflush,
+        test,
+        list,
+    } = mode;
+    let mut reader = Tap::new(reader);
+    let mut writer = Tap::new(writer);
+    let answer = session.restore(noflush, test, list, &mut reader, &mut writer);
+    Ran {
+        answer,
+        reader: reader.into_device(),
+        writer: writer.into_device(),
+    }
+}
+
 // Calls a session over a reader of the input and a writer.
 pub(crate) fn called<'a>(
     alloc: Global,
@@ -144,38 +178,66 @@ pub(crate) fn called<'a>(
     reads: Fuse,
     writes: Fuse,
 ) -> Result<Ran<'a>, Fail> {
-    let mut reader = Tap::new(FusedReader::new(input, reads));
-    let mut writer = Tap::new(FusedWriter::new(Vec::with_capacity(alloc, ROOM)?, writes));
-    let answer = match call {
-        Call::Run => session.run(&mut reader, &mut writer),
-        Call::Restore(
-            Mode {
-                noflush,
-                test,
-                list,
-            },
-        ) => session.restore(noflush, test, list, &mut reader, &mut writer),
-    };
-    Ok(Ran {
-        answer,
-        reader: reader.into_device(),
-        writer: writer.into_device(),
+    let reader = FusedReader::new(input, reads);
+    let writer = FusedWriter::new(Vec::with_capacity(alloc, ROOM)?, writes);
+    Ok(match call {
+        Call::Run => run_over(session, reader, writer),
+        Call::Restore(mode) => restore_over(session, mode, reader, writer),
     })
 }
 
+// Calls a new session with a script.
+pub(crate) fn called_new<'a>(
+    alloc: Global,
+    call: Call,
+    input: &'a [u8],
+    reads: Fuse,
+    writes: Fuse,
+) -> Result<Ran<'a>, Fail> {
+    let mut session = Session::new(alloc)?;
+    called(alloc, &mut session, call, input, reads, writes)
+}
+
+// A run has a device's fault exactly where the device failed, and calls it no more after that.
+fn fails_with(rt: &impl Abort, has_fault: bool, failed: Option<u32>, calls: u64) {
+    assert_eq!(rt; has_fault, failed.is_some());
+    if let Some(call) = failed {
+        assert_eq!(rt; calls, u64::from(call).saturating_add(1));
+    }
+}
+
 impl Ran<'_> {
+    // Compares how the run ended.
+    pub(crate) fn has_answer(&self, rt: &impl Abort, answer: Result<u8, RunFault>) {
+        assert!(rt; self.answer == answer);
+    }
+
+    // Compares what was written.
+    pub(crate) fn has_written(&self, rt: &impl Abort, written: &[u8]) {
+        assert!(rt; self.writer.written() == written);
+    }
+
+    // Compares the bytes that are left to read.
+    pub(crate) fn leaves(&self, rt: &impl Abort, rest: &[u8]) {
+        assert!(rt; self.reader.rest() == rest);
+    }
+
+    // The run stands or fails with its reader.
+    fn fails_with_its_reader(&self, rt: &impl Abort) {
+        let has_fault = matches!(self.answer, Err(RunFault::ReadFailed));
+        fails_with(rt, has_fault, self.reader.failed_at(), self.reader.calls());
+    }
+
+    // The run stands or fails with its writer.
+    fn fails_with_its_writer(&self, rt: &impl Abort) {
+        let has_fault = matches!(self.answer, Err(RunFault::WriteFailed));
+        fails_with(rt, has_fault, self.writer.failed_at(), self.writer.calls());
+    }
+
     // A run fails exactly where a device does, and calls that device no more.
     pub(crate) fn fails_with_its_device(&self, rt: &impl Abort) {
-        let read = self.reader.failed_at();
-        let write = self.writer.failed_at();
-        assert_eq!(rt; self.answer == Err(RunFault::ReadFailed), read.is_some());
-        assert_eq!(rt; self.answer == Err(RunFault::WriteFailed), write.is_some());
-        if let Some(call) = read {
-            assert_eq!(rt; self.reader.calls(), u64::from(call).saturating_add(1));
-        }
-        if let Some(call) = write {
-            assert_eq!(rt; self.writer.calls(), u64::from(call).saturating_add(1));
-        }
+        self.fails_with_its_reader(rt);
+        self.fails_with_its_writer(rt);
     }
 }
 
@@ -185,14 +247,19 @@ pub(crate) fn line_count(bytes: &[u8]) -> usize {
 }
 
 impl Script {
-    // The lines, each with a newline.
-    pub(crate) fn input(&self, alloc: Global) -> Result<String, Fail> {
+    // The first lines, each with a newline.
+    pub(crate) fn first_lines(&self, alloc: Global, count: usize) -> Result<String, Fail> {
         let mut text = String::new(alloc);
-        for (line, _) in self.lines {
+        for (line, _) in self.lines.iter().take(count) {
             text.push_str(line)?;
             text.push('\n')?;
         }
         Ok(text)
+    }
+
+    // All lines.
+    pub(crate) fn input(&self, alloc: Global) -> Result<String, Fail> {
+        self.first_lines(alloc, self.lines.len())
     }
 
     // The replies to the first lines.

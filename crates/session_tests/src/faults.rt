@@ -1,18 +1,17 @@
 // Each fault with its code, its text and its status.
-use crate::console::{Console, status_of};
+use crate::console::{last_line_number, new_prints, status_of};
 use std::alloc::Global;
-use std::fmt::Write;
 use std::process::Abort;
 use std::test::Fail;
 
 // Compares what lines print of which the last is refused, and no other line prints anything.
 fn is_refused(rt: &impl Abort, alloc: Global, input: &str, fault: &str) -> Result<(), Fail> {
-    let number = input.split('\n').count();
+    let number = last_line_number(input);
     let output = format!(in alloc; "line {number}: {fault}\n")?;
-    let mut console = Console::new(alloc)?;
-    console.prints(rt, input, output.as_str(), status_of(fault))
+    new_prints(rt, alloc, input, output.as_str(), status_of(fault))
 }
 
+// Compares what the lines of each row print.
 fn each_is_refused(rt: &impl Abort, alloc: Global, rows: &[(&str, &str)]) -> Result<(), Fail> {
     for (input, fault) in rows {
         is_refused(rt, alloc, input, fault)?;
@@ -22,7 +21,7 @@ fn each_is_refused(rt: &impl Abort, alloc: Global, rows: &[(&str, &str)]) -> Res
 
 #[test]
 fn commands(rt: HostRuntime) -> Result<(), Fail> {
-    let rows = [
+    const ROWS: &[(&str, &str)] = &[
         ("iptables", "C1 no command"),
         ("iptables -A INPUT -j DROP -F", "C2 two commands"),
         ("iptables -N a b", "C3 wrong number of words"),
@@ -31,12 +30,12 @@ fn commands(rt: HostRuntime) -> Result<(), Fail> {
         ("iptables-save -c", "C3 wrong number of words"),
         ("iptables --table nat -F", "C4 other table"),
     ];
-    each_is_refused(&rt, rt.alloc(), &rows)
+    each_is_refused(&rt, rt.alloc(), ROWS)
 }
 
 #[test]
 fn rules(rt: HostRuntime) -> Result<(), Fail> {
-    let rows = [
+    const ROWS: &[(&str, &str)] = &[
         ("iptables -A INPUT --mark 1", "P1 unknown option"),
         ("iptables -I INPUT \"\"", "P1 unknown option"),
         ("iptables -t", "P2 value missing"),
@@ -72,37 +71,54 @@ fn rules(rt: HostRuntime) -> Result<(), Fail> {
             "P12 match option missing",
         ),
     ];
-    each_is_refused(&rt, rt.alloc(), &rows)
+    each_is_refused(&rt, rt.alloc(), ROWS)
 }
 
-#[test]
-fn too_many_matches(rt: HostRuntime) -> Result<(), Fail> {
-    let mut line = format!(in rt.alloc(); "iptables -A INPUT")?;
-    for _ in 0..16u32 {
-        write!(line, " -m comment --comment x")?;
-    }
-    Console::new(rt.alloc())?.prints(&rt, line.as_str(), "", 0)?;
-    write!(line, " -m comment --comment x")?;
-    is_refused(&rt, rt.alloc(), line.as_str(), "P8 too many matches")
+// A line is accepted, and refused with more at its end.
+fn is_longest(
+    rt: &impl Abort,
+    alloc: Global,
+    line: &mut String,
+    more: &str,
+    fault: &str,
+) -> Result<(), Fail> {
+    new_prints(rt, alloc, line.as_str(), "", 0)?;
+    line.push_str(more)?;
+    is_refused(rt, alloc, line.as_str(), fault)
 }
 
-#[test]
-fn texts_that_are_too_long(rt: HostRuntime) -> Result<(), Fail> {
-    for (option, length) in [("-m comment --comment", 256), ("-j LOG --log-prefix", 29)] {
-        let mut line = format!(in rt.alloc(); "iptables -A INPUT {option} ")?;
-        for _ in 0..length {
-            line.push('x')?;
-        }
-        Console::new(rt.alloc())?.prints(&rt, line.as_str(), "", 0)?;
-        line.push('x')?;
-        is_refused(&rt, rt.alloc(), line.as_str(), "P10 text too long")?;
+// Puts a text at the end of a line so many times.
+fn push_times(line: &mut String, text: &str, count: u32) -> Result<(), Fail> {
+    for _ in 0..count {
+        line.push_str(text)?;
     }
     Ok(())
 }
 
 #[test]
+fn too_many_matches(rt: HostRuntime) -> Result<(), Fail> {
+    let more = " -m comment --comment x";
+    let mut line = format!(in rt.alloc(); "iptables -A INPUT")?;
+    push_times(&mut line, more, 16)?;
+    is_longest(&rt, rt.alloc(), &mut line, more, "P8 too many matches")
+}
+
+// The longest text of an option.
+fn text_is_longest(rt: &impl Abort, alloc: Global, option: &str, length: u32) -> Result<(), Fail> {
+    let mut line = format!(in alloc; "iptables -A INPUT {option} ")?;
+    push_times(&mut line, "x", length)?;
+    is_longest(rt, alloc, &mut line, "x", "P10 text too long")
+}
+
+#[test]
+fn texts_that_are_too_long(rt: HostRuntime) -> Result<(), Fail> {
+    text_is_longest(&rt, rt.alloc(), "-m comment --comment", 256)?;
+    text_is_longest(&rt, rt.alloc(), "-j LOG --log-prefix", 29)
+}
+
+#[test]
 fn tables(rt: HostRuntime) -> Result<(), Fail> {
-    let rows = [
+    const ROWS: &[(&str, &str)] = &[
         ("iptables -F x", "T1 no such chain"),
         ("iptables -N a\nlines a b", "C3 wrong number of words"),
         ("lines a", "T1 no such chain"),
@@ -136,12 +152,12 @@ fn tables(rt: HostRuntime) -> Result<(), Fail> {
         ),
         ("iptables -P INPUT REJECT", "T16 bad policy"),
     ];
-    each_is_refused(&rt, rt.alloc(), &rows)
+    each_is_refused(&rt, rt.alloc(), ROWS)
 }
 
 #[test]
 fn restores(rt: HostRuntime) -> Result<(), Fail> {
-    let rows = [
+    const ROWS: &[(&str, &str)] = &[
         ("iptables-restore <<E\nCOMMIT", "R1 line not allowed here"),
         ("iptables-restore <<E\n*filter\n:", "R2 bad chain line"),
         (
@@ -159,12 +175,12 @@ fn restores(rt: HostRuntime) -> Result<(), Fail> {
         ("iptables-restore <<", "S2 bad restore line"),
         ("iptables-restore <<E", "S3 end word missing"),
     ];
-    each_is_refused(&rt, rt.alloc(), &rows)
+    each_is_refused(&rt, rt.alloc(), ROWS)
 }
 
 #[test]
 fn packets(rt: HostRuntime) -> Result<(), Fail> {
-    let rows = [
+    const ROWS: &[(&str, &str)] = &[
         ("packet", "F1 unknown key"),
         ("packet INPUT mark=1", "F1 unknown key"),
         (
@@ -178,26 +194,53 @@ fn packets(rt: HostRuntime) -> Result<(), Fail> {
         ),
         ("foo", "S1 unknown line"),
     ];
-    each_is_refused(&rt, rt.alloc(), &rows)
+    each_is_refused(&rt, rt.alloc(), ROWS)
+}
+
+// A line and its fault.
+type Faulty<'a> = (&'a str, &'a str);
+
+// Lines of which each is refused in another way.
+const FAULTY: &[Faulty] = &[
+    ("iptables", "C1 no command"),
+    ("iptables -A INPUT -s x", "P3 bad value"),
+    ("iptables -F x", "T1 no such chain"),
+    ("\"", "R5 bad quoting"),
+    ("packet", "F1 unknown key"),
+    ("foo", "S1 unknown line"),
+];
+
+// The output of two lines that are refused, which are the second and the third.
+fn output_of(alloc: Global, fault: &str, other: &str) -> Result<String, Fail> {
+    Ok(format!(in alloc; "line 2: {fault}\nline 3: {other}\n")?)
+}
+
+// Compares what two lines print of which each is refused, and the status, which is that of the first fault.
+fn both_are_refused(
+    rt: &impl Abort,
+    alloc: Global,
+    first: Faulty<'_>,
+    second: Faulty<'_>,
+) -> Result<(), Fail> {
+    let (line, fault) = first;
+    let (next, other) = second;
+    let input = format!(in alloc; "\n{line}\n{next}\n#")?;
+    let output = output_of(alloc, fault, other)?;
+    new_prints(rt, alloc, input.as_str(), output.as_str(), status_of(fault))
+}
+
+// Compares what a line prints with each as the next.
+fn is_first_fault(rt: &impl Abort, alloc: Global, first: Faulty<'_>) -> Result<(), Fail> {
+    for second in FAULTY {
+        both_are_refused(rt, alloc, first, *second)?;
+    }
+    Ok(())
 }
 
 #[test]
 fn the_status_is_that_of_the_first_fault(rt: HostRuntime) -> Result<(), Fail> {
-    let rows = [
-        ("iptables", "C1 no command"),
-        ("iptables -A INPUT -s x", "P3 bad value"),
-        ("iptables -F x", "T1 no such chain"),
-        ("\"", "R5 bad quoting"),
-        ("packet", "F1 unknown key"),
-        ("foo", "S1 unknown line"),
-    ];
-    for (first, fault) in rows {
-        for (second, other) in rows {
-            let input = format!(in rt.alloc(); "\n{first}\n{second}\n#")?;
-            let output = format!(in rt.alloc(); "line 2: {fault}\nline 3: {other}\n")?;
-            let mut console = Console::new(rt.alloc())?;
-            console.prints(&rt, input.as_str(), output.as_str(), status_of(fault))?;
-        }
+    for first in FAULTY {
+        is_first_fault(&rt, rt.alloc(), *first)?;
     }
     Ok(())
 }

@@ -5,7 +5,7 @@ use std::process::Abort;
 use std::test::Fail;
 
 // The codes of faults, with their texts.
-const FAULTS: [(&str, &str); 46] = [
+const FAULTS: &[(&str, &str)] = &[
     ("C1", "no command"),
     ("C2", "two commands"),
     ("C3", "wrong number of words"),
@@ -55,7 +55,7 @@ const FAULTS: [(&str, &str); 46] = [
 ];
 
 // The lines of verdicts.
-const VERDICTS: [&str; 13] = [
+const VERDICTS: &[&str] = &[
     "verdict ACCEPT by rule",
     "verdict DROP by rule",
     "verdict REJECT icmp-net-unreachable by rule",
@@ -72,7 +72,7 @@ const VERDICTS: [&str; 13] = [
 ];
 
 // How lines of listings, rules and classifiers begin.
-const BEGINNINGS: [&str; 15] = [
+const BEGINNINGS: &[&str] = &[
     ":", "-A ", "-P ", "-N ", "src ", "dst ", "in ", "out ", "proto ", "frag ", "sport ", "dport ",
     "flags ", "icmp ", "ct ",
 ];
@@ -117,21 +117,50 @@ fn is_reply(line: &str) -> bool {
         || is_entry(line)
 }
 
-// The faults of a run, of whose output each line has one of the forms, and whose status is that of the first fault.
-pub(crate) fn faults_of(rt: &impl Abort, alloc: Global, ended: &Ended) -> Result<Vec<Fault>, Fail> {
+// The output is whole lines.
+fn is_whole(rt: &impl Abort, written: &[u8]) {
+    assert!(rt; written.is_empty() || written.ends_with(b"\n"));
+}
+
+// Compares the form of a line that is no fault.
+fn has_form(rt: &impl Abort, line: &str) {
+    assert!(rt; line.is_empty() || is_reply(line), "{line}");
+}
+
+// The fault of a line, which has one of the forms.
+fn read_line(rt: &impl Abort, alloc: Global, bytes: &[u8]) -> Result<Option<Fault>, Fail> {
+    let line = String::from_utf8_lossy(alloc, bytes)?;
+    let fault = fault_of(line.as_str());
+    if fault.is_none() {
+        has_form(rt, line.as_str());
+    }
+    Ok(fault)
+}
+
+// The faults of an output, of which each line has one of the forms.
+fn read_lines(rt: &impl Abort, alloc: Global, written: &[u8]) -> Result<Vec<Fault>, Fail> {
     let mut faults = Vec::new(alloc);
-    assert!(rt; ended.written.is_empty() || ended.written.ends_with(b"\n"));
-    for bytes in ended.written.split(|byte| *byte == b'\n') {
-        let line = String::from_utf8_lossy(alloc, bytes)?;
-        match fault_of(line.as_str()) {
-            Some(fault) => faults.push(fault)?,
-            None => assert!(rt; line.is_empty() || is_reply(line.as_str()), "{line}"),
+    for bytes in written.split(|byte| *byte == b'\n') {
+        if let Some(fault) = read_line(rt, alloc, bytes)? {
+            faults.push(fault)?;
         }
     }
-    let status = match faults.first() {
+    Ok(faults)
+}
+
+// Compares a status with that of the first fault.
+fn is_status(rt: &impl Abort, status: u8, faults: &[Fault]) {
+    let expected = match faults.first() {
         Some(fault) => status_of(fault.code),
         None => 0,
     };
-    assert_eq!(rt; ended.status, status);
+    assert_eq!(rt; status, expected);
+}
+
+// The faults of a run, of whose output each line has one of the forms, and whose status is that of the first fault.
+pub(crate) fn faults_of(rt: &impl Abort, alloc: Global, ended: &Ended) -> Result<Vec<Fault>, Fail> {
+    is_whole(rt, &ended.written);
+    let faults = read_lines(rt, alloc, &ended.written)?;
+    is_status(rt, ended.status, &faults);
     Ok(faults)
 }

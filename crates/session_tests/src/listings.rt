@@ -1,10 +1,10 @@
 // Listings of the table, and of its rules.
-use crate::console::each_prints;
+use crate::console::{Row, each_prints};
 use std::test::Fail;
 
 #[test]
 fn an_empty_table(rt: HostRuntime) -> Result<(), Fail> {
-    let rows = [
+    const ROWS: &[Row] = &[
         (
             "iptables-save\n",
             "*filter\n\
@@ -24,12 +24,12 @@ fn an_empty_table(rt: HostRuntime) -> Result<(), Fail> {
             0,
         ),
     ];
-    each_prints(&rt, rt.alloc(), &rows)
+    each_prints(&rt, rt.alloc(), ROWS)
 }
 
 #[test]
 fn the_order_of_a_listing(rt: HostRuntime) -> Result<(), Fail> {
-    let rows = [(
+    const ROWS: &[Row] = &[(
         "iptables -N b\n\
                 iptables -N ab\n\
                 iptables -N a\n\
@@ -64,12 +64,12 @@ fn the_order_of_a_listing(rt: HostRuntime) -> Result<(), Fail> {
                 COMMIT\n",
         0,
     )];
-    each_prints(&rt, rt.alloc(), &rows)
+    each_prints(&rt, rt.alloc(), ROWS)
 }
 
 #[test]
 fn rules_of_one_chain_and_of_all(rt: HostRuntime) -> Result<(), Fail> {
-    let rows = [(
+    const ROWS: &[Row] = &[(
         "iptables -N b\n\
                 iptables -N a\n\
                 iptables -A b -j a\n\
@@ -94,12 +94,12 @@ fn rules_of_one_chain_and_of_all(rt: HostRuntime) -> Result<(), Fail> {
                 line 10: T1 no such chain\n",
         1,
     )];
-    each_prints(&rt, rt.alloc(), &rows)
+    each_prints(&rt, rt.alloc(), ROWS)
 }
 
 #[test]
 fn addresses_have_a_length(rt: HostRuntime) -> Result<(), Fail> {
-    let rows = [(
+    const ROWS: &[Row] = &[(
         "iptables -A INPUT -s 10.1.2.3/8 -j ACCEPT\n\
                 iptables-save\n",
         "*filter\n\
@@ -110,12 +110,12 @@ fn addresses_have_a_length(rt: HostRuntime) -> Result<(), Fail> {
                 COMMIT\n",
         0,
     )];
-    each_prints(&rt, rt.alloc(), &rows)
+    each_prints(&rt, rt.alloc(), ROWS)
 }
 
 #[test]
 fn matches_have_their_options(rt: HostRuntime) -> Result<(), Fail> {
-    let rows = [
+    const ROWS: &[Row] = &[
         (
             "iptables -A INPUT -s 10.1.2.3/8 -j ACCEPT\n\
                 iptables -A INPUT -p tcp --dport 22 -j DROP\n\
@@ -185,12 +185,12 @@ fn matches_have_their_options(rt: HostRuntime) -> Result<(), Fail> {
             0,
         ),
     ];
-    each_prints(&rt, rt.alloc(), &rows)
+    each_prints(&rt, rt.alloc(), ROWS)
 }
 
 #[test]
 fn what_is_no_condition_is_left_out(rt: HostRuntime) -> Result<(), Fail> {
-    let rows = [(
+    const ROWS: &[Row] = &[(
         "iptables -A INPUT -p tcp --dport :\n\
                 iptables-save\n",
         "*filter\n\
@@ -201,12 +201,12 @@ fn what_is_no_condition_is_left_out(rt: HostRuntime) -> Result<(), Fail> {
                 COMMIT\n",
         0,
     )];
-    each_prints(&rt, rt.alloc(), &rows)
+    each_prints(&rt, rt.alloc(), ROWS)
 }
 
 #[test]
 fn texts_stand_in_quotes(rt: HostRuntime) -> Result<(), Fail> {
-    let rows = [
+    const ROWS: &[Row] = &[
         (
             "iptables -A INPUT -m comment --comment \"it's \\\"x\\\"\" -j DROP\n\
                 iptables-save\n",
@@ -225,12 +225,12 @@ fn texts_stand_in_quotes(rt: HostRuntime) -> Result<(), Fail> {
             0,
         ),
     ];
-    each_prints(&rt, rt.alloc(), &rows)
+    each_prints(&rt, rt.alloc(), ROWS)
 }
 
 #[test]
 fn options_of_targets(rt: HostRuntime) -> Result<(), Fail> {
-    let rows = [
+    const ROWS: &[Row] = &[
         (
             "iptables -A INPUT -j LOG --log-prefix \"drop: \" --log-level warning --log-uid\n\
                 iptables-save\n",
@@ -265,5 +265,5 @@ fn options_of_targets(rt: HostRuntime) -> Result<(), Fail> {
             2,
         ),
     ];
-    each_prints(&rt, rt.alloc(), &rows)
+    each_prints(&rt, rt.alloc(), ROWS)
 }

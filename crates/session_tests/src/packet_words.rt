@@ -1,10 +1,10 @@
 // Words of packets, in the order in which they are read.
-use crate::console::each_prints;
+use crate::console::{Row, each_prints};
 use std::test::Fail;
 
 #[test]
 fn packets_that_are_read(rt: HostRuntime) -> Result<(), Fail> {
-    let rows = [(
+    const ROWS: &[Row] = &[(
         "packet INPUT src=1.1.1.1 dst=2.2.2.2 proto=47\n\
                 packet INPUT src=1.1.1.1 dst=2.2.2.2 proto=0\n\
                 packet INPUT src=1.1.1.1 dst=2.2.2.2 proto=255\n\
@@ -51,12 +51,12 @@ fn packets_that_are_read(rt: HostRuntime) -> Result<(), Fail> {
                 verdict ACCEPT by policy\n",
         0,
     )];
-    each_prints(&rt, rt.alloc(), &rows)
+    each_prints(&rt, rt.alloc(), ROWS)
 }
 
 #[test]
 fn keys_that_are_unknown_or_missing(rt: HostRuntime) -> Result<(), Fail> {
-    let rows = [
+    const ROWS: &[Row] = &[
         (
             "packet\n\
                 packet x\n\
@@ -120,12 +120,12 @@ fn keys_that_are_unknown_or_missing(rt: HostRuntime) -> Result<(), Fail> {
             2,
         ),
     ];
-    each_prints(&rt, rt.alloc(), &rows)
+    each_prints(&rt, rt.alloc(), ROWS)
 }
 
 #[test]
 fn values_that_are_not_read(rt: HostRuntime) -> Result<(), Fail> {
-    let rows = [(
+    const ROWS: &[Row] = &[(
         "packet INPUT src=\n\
                 packet INPUT src=1.1.1.1/32\n\
                 packet INPUT src=1.1.1\n\
@@ -230,12 +230,12 @@ fn values_that_are_not_read(rt: HostRuntime) -> Result<(), Fail> {
                 line 51: F3 bad packet value\n",
         2,
     )];
-    each_prints(&rt, rt.alloc(), &rows)
+    each_prints(&rt, rt.alloc(), ROWS)
 }
 
 #[test]
 fn keys_that_a_packet_does_not_carry(rt: HostRuntime) -> Result<(), Fail> {
-    let rows = [
+    const ROWS: &[Row] = &[
         (
             "packet INPUT src=1.1.1.1 dst=2.2.2.2 proto=tcp sport=1 dport=1 icmp=8/0\n\
                 packet INPUT src=1.1.1.1 dst=2.2.2.2 proto=udp sport=1 dport=1 flags=SYN\n\
@@ -285,12 +285,12 @@ fn keys_that_a_packet_does_not_carry(rt: HostRuntime) -> Result<(), Fail> {
             2,
         ),
     ];
-    each_prints(&rt, rt.alloc(), &rows)
+    each_prints(&rt, rt.alloc(), ROWS)
 }
 
 #[test]
 fn words_of_a_packet_are_read_from_left_to_right(rt: HostRuntime) -> Result<(), Fail> {
-    let rows = [(
+    const ROWS: &[Row] = &[(
         "packet INPUT src=bad foo=1\n\
                 packet INPUT foo=1 src=bad\n\
                 packet INPUT src=1.1.1.1 src=1.1.1.1 foo=1\n\
@@ -307,5 +307,5 @@ fn words_of_a_packet_are_read_from_left_to_right(rt: HostRuntime) -> Result<(), 
                 line 7: F3 bad packet value\n",
         2,
     )];
-    each_prints(&rt, rt.alloc(), &rows)
+    each_prints(&rt, rt.alloc(), ROWS)
 }

@@ -1,10 +1,10 @@
 // Packets: their verdicts, and the rules that matched.
-use crate::console::each_prints;
+use crate::console::{Row, each_prints};
 use std::test::Fail;
 
 #[test]
 fn a_verdict_by_rule(rt: HostRuntime) -> Result<(), Fail> {
-    let rows = [(
+    const ROWS: &[Row] = &[(
         "iptables -A INPUT -s 10.1.2.3/8 -j ACCEPT\n\
                 iptables -A INPUT -j DROP\n\
                 packet INPUT src=10.9.9.9 dst=2.2.2.2 proto=47\n\
@@ -23,12 +23,12 @@ fn a_verdict_by_rule(rt: HostRuntime) -> Result<(), Fail> {
                 COMMIT\n",
         0,
     )];
-    each_prints(&rt, rt.alloc(), &rows)
+    each_prints(&rt, rt.alloc(), ROWS)
 }
 
 #[test]
 fn rules_without_a_verdict_stand_on_the_trail(rt: HostRuntime) -> Result<(), Fail> {
-    let rows = [
+    const ROWS: &[Row] = &[
         (
             "iptables -A INPUT\n\
                 iptables -A INPUT -j RETURN\n\
@@ -56,12 +56,12 @@ fn rules_without_a_verdict_stand_on_the_trail(rt: HostRuntime) -> Result<(), Fai
             0,
         ),
     ];
-    each_prints(&rt, rt.alloc(), &rows)
+    each_prints(&rt, rt.alloc(), ROWS)
 }
 
 #[test]
 fn goto_leaves_nothing_on_the_stack(rt: HostRuntime) -> Result<(), Fail> {
-    let rows = [
+    const ROWS: &[Row] = &[
         (
             "iptables -N a\n\
                 iptables -N b\n\
@@ -115,12 +115,12 @@ fn goto_leaves_nothing_on_the_stack(rt: HostRuntime) -> Result<(), Fail> {
             0,
         ),
     ];
-    each_prints(&rt, rt.alloc(), &rows)
+    each_prints(&rt, rt.alloc(), ROWS)
 }
 
 #[test]
 fn a_jump_comes_back(rt: HostRuntime) -> Result<(), Fail> {
-    let rows = [(
+    const ROWS: &[Row] = &[(
         "iptables -N a\n\
                 iptables -A INPUT -j a\n\
                 iptables -A INPUT -j DROP\n\
@@ -135,12 +135,12 @@ fn a_jump_comes_back(rt: HostRuntime) -> Result<(), Fail> {
                 verdict ACCEPT by rule\n",
         0,
     )];
-    each_prints(&rt, rt.alloc(), &rows)
+    each_prints(&rt, rt.alloc(), ROWS)
 }
 
 #[test]
 fn return_in_a_built_in_chain_is_its_policy(rt: HostRuntime) -> Result<(), Fail> {
-    let rows = [(
+    const ROWS: &[Row] = &[(
         "iptables -P INPUT DROP\n\
                 iptables -A INPUT -j RETURN\n\
                 iptables -A INPUT -j ACCEPT\n\
@@ -149,12 +149,12 @@ fn return_in_a_built_in_chain_is_its_policy(rt: HostRuntime) -> Result<(), Fail>
                 verdict DROP by policy\n",
         0,
     )];
-    each_prints(&rt, rt.alloc(), &rows)
+    each_prints(&rt, rt.alloc(), ROWS)
 }
 
 #[test]
 fn each_hook_has_its_chain(rt: HostRuntime) -> Result<(), Fail> {
-    let rows = [(
+    const ROWS: &[Row] = &[(
         "iptables -P FORWARD DROP\n\
                 iptables -A OUTPUT -j DROP\n\
                 packet INPUT src=1.1.1.1 dst=2.2.2.2 proto=47\n\
@@ -166,12 +166,12 @@ fn each_hook_has_its_chain(rt: HostRuntime) -> Result<(), Fail> {
                 verdict DROP by rule\n",
         0,
     )];
-    each_prints(&rt, rt.alloc(), &rows)
+    each_prints(&rt, rt.alloc(), ROWS)
 }
 
 #[test]
 fn flags(rt: HostRuntime) -> Result<(), Fail> {
-    let rows = [(
+    const ROWS: &[Row] = &[(
         "iptables -A INPUT -p tcp --syn -j DROP\n\
                 packet INPUT src=1.1.1.1 dst=2.2.2.2 proto=tcp sport=1000 dport=80 flags=SYN,ACK\n\
                 packet INPUT src=1.1.1.1 dst=2.2.2.2 proto=tcp sport=1000 dport=80 flags=SYN\n",
@@ -180,23 +180,23 @@ fn flags(rt: HostRuntime) -> Result<(), Fail> {
                 verdict DROP by rule\n",
         0,
     )];
-    each_prints(&rt, rt.alloc(), &rows)
+    each_prints(&rt, rt.alloc(), ROWS)
 }
 
 #[test]
 fn a_negated_port_asks_for_the_protocol_and_no_fragment(rt: HostRuntime) -> Result<(), Fail> {
-    let rows = [(
+    const ROWS: &[Row] = &[(
         "iptables -A INPUT -p tcp ! --dport 80 -j DROP\n\
                 packet INPUT src=1.1.1.1 dst=2.2.2.2 proto=tcp frag=1\n",
         "verdict ACCEPT by policy\n",
         0,
     )];
-    each_prints(&rt, rt.alloc(), &rows)
+    each_prints(&rt, rt.alloc(), ROWS)
 }
 
 #[test]
 fn fragments(rt: HostRuntime) -> Result<(), Fail> {
-    let rows = [
+    const ROWS: &[Row] = &[
         (
             "iptables -A INPUT -f -j ACCEPT\n\
                 iptables -A INPUT ! -f -j DROP\n\
@@ -225,24 +225,24 @@ fn fragments(rt: HostRuntime) -> Result<(), Fail> {
             0,
         ),
     ];
-    each_prints(&rt, rt.alloc(), &rows)
+    each_prints(&rt, rt.alloc(), ROWS)
 }
 
 #[test]
 fn a_reject_names_its_type(rt: HostRuntime) -> Result<(), Fail> {
-    let rows = [(
+    const ROWS: &[Row] = &[(
         "iptables -A INPUT -p icmp --icmp-type ping -j REJECT\n\
                 packet INPUT src=1.1.1.1 dst=2.2.2.2 proto=icmp icmp=8/0\n",
         "INPUT 1\n\
                 verdict REJECT icmp-port-unreachable by rule\n",
         0,
     )];
-    each_prints(&rt, rt.alloc(), &rows)
+    each_prints(&rt, rt.alloc(), ROWS)
 }
 
 #[test]
 fn a_missing_interface_has_no_name(rt: HostRuntime) -> Result<(), Fail> {
-    let rows = [(
+    const ROWS: &[Row] = &[(
         "iptables -A INPUT -i eth0 -j DROP\n\
                 iptables -A INPUT ! -i eth0 -j DROP\n\
                 packet INPUT src=1.1.1.1 dst=2.2.2.2 proto=47\n\
@@ -256,12 +256,12 @@ fn a_missing_interface_has_no_name(rt: HostRuntime) -> Result<(), Fail> {
                 verdict DROP by rule\n",
         0,
     )];
-    each_prints(&rt, rt.alloc(), &rows)
+    each_prints(&rt, rt.alloc(), ROWS)
 }
 
 #[test]
 fn fields_that_a_line_leaves_out(rt: HostRuntime) -> Result<(), Fail> {
-    let rows = [(
+    const ROWS: &[Row] = &[(
         "iptables -A INPUT -p tcp ! -f -m tcp --tcp-flags ALL NONE -m conntrack --ctstate INVALID -j DROP\n\
                 packet INPUT src=1.1.1.1 dst=2.2.2.2 proto=tcp sport=1 dport=1\n\
                 packet INPUT src=1.1.1.1 dst=2.2.2.2 proto=tcp sport=1 dport=1 flags=SYN\n\
@@ -274,12 +274,12 @@ fn fields_that_a_line_leaves_out(rt: HostRuntime) -> Result<(), Fail> {
                 verdict ACCEPT by policy\n",
         0,
     )];
-    each_prints(&rt, rt.alloc(), &rows)
+    each_prints(&rt, rt.alloc(), ROWS)
 }
 
 #[test]
 fn states_of_connections(rt: HostRuntime) -> Result<(), Fail> {
-    let rows = [
+    const ROWS: &[Row] = &[
         (
             "iptables -A INPUT -m conntrack --ctstate NEW -j DROP\n\
                 packet INPUT src=1.1.1.1 dst=2.2.2.2 proto=47 ct=NEW\n",
@@ -302,5 +302,5 @@ fn states_of_connections(rt: HostRuntime) -> Result<(), Fail> {
             0,
         ),
     ];
-    each_prints(&rt, rt.alloc(), &rows)
+    each_prints(&rt, rt.alloc(), ROWS)
 }

@@ -110,27 +110,42 @@ impl Dice {
     }
 }
 
+// What a listing that is restored on a new session prints is the listing.
+fn restores_itself(rt: &impl Abort, alloc: Global, listing: &[u8]) -> Result<(), Fail> {
+    let restored = Console::new(alloc)?.restore(Mode::LIST, listing)?;
+    assert_eq!(rt; restored.status, 0);
+    assert!(rt; restored.written.as_slice() == listing);
+    Ok(())
+}
+
 // The listing of a table restores to the same listing.
 fn listing_restores(rt: &impl Abort, console: &mut Console) -> Result<(), Fail> {
-    let Ended { written, status } = console.run(b"iptables-save")?;
-    assert_eq!(rt; status, 0);
-    let mut other = Console::new(console.alloc)?;
-    let restored = other.restore(Mode::LIST, &written)?;
-    assert_eq!(rt; restored.status, 0);
-    assert!(rt; restored.written.as_slice() == written.as_slice());
+    let listed = console.run(b"iptables-save")?;
+    assert_eq!(rt; listed.status, 0);
+    restores_itself(rt, console.alloc, &listed.written)
+}
+
+// Runs an input, by lines or as one restore.
+fn ran(console: &mut Console, input: &[u8], by_lines: bool) -> Result<Ended, Fail> {
+    if by_lines {
+        console.run(input)
+    } else {
+        console.restore(Mode::LIST, input)
+    }
+}
+
+// Each line of the output has one of the forms, and the status is that of the first fault, which isn't of memory.
+fn is_answer(rt: &impl Abort, alloc: Global, ended: &Ended) -> Result<(), Fail> {
+    faults_of(rt, alloc, ended)?;
+    assert!(rt; ended.status != 4);
     Ok(())
 }
 
 // Runs an input: each line of the output has one of the forms, and the status is that of the first fault.
 fn is_served(rt: &impl Abort, alloc: Global, input: &[u8], by_lines: bool) -> Result<(), Fail> {
     let mut console = Console::new(alloc)?;
-    let ended = if by_lines {
-        console.run(input)?
-    } else {
-        console.restore(Mode::LIST, input)?
-    };
-    faults_of(rt, alloc, &ended)?;
-    assert!(rt; ended.status != 4);
+    let ended = ran(&mut console, input, by_lines)?;
+    is_answer(rt, alloc, &ended)?;
     listing_restores(rt, &mut console)
 }
 

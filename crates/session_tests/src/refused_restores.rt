@@ -1,8 +1,20 @@
 // Restores within a session that are refused: the fault is reported once, and the table is as before.
-use crate::console::{Console, EMPTY, each_prints, status_of};
+use crate::console::{EMPTY, last_line_number, new_prints, status_of};
 use std::alloc::Global;
 use std::process::Abort;
 use std::test::Fail;
+
+// Compares the fault of an input, whose line has a number, and the listing of a table without rules after it.
+fn is_refused(
+    rt: &impl Abort,
+    alloc: Global,
+    input: &str,
+    number: usize,
+    fault: &str,
+) -> Result<(), Fail> {
+    let output = format!(in alloc; "line {number}: {fault}\n{EMPTY}")?;
+    new_prints(rt, alloc, input, output.as_str(), status_of(fault))
+}
 
 // Compares what a section of these lines prints, which stand from line 3 of the input on, and the listing after it.
 fn section_is_refused(
@@ -15,9 +27,31 @@ fn section_is_refused(
     let input = format!(in alloc;
         "iptables-restore <<E\n*filter\n{lines}\nCOMMIT\nE\niptables-save\n"
     )?;
-    let output = format!(in alloc; "line {number}: {fault}\n{EMPTY}")?;
-    let mut console = Console::new(alloc)?;
-    console.prints(rt, input.as_str(), output.as_str(), status_of(fault))
+    is_refused(rt, alloc, input.as_str(), number, fault)
+}
+
+// Compares what each of these lines prints as the one line of a section.
+fn each_is_refused(
+    rt: &impl Abort,
+    alloc: Global,
+    lines: &[&str],
+    fault: &str,
+) -> Result<(), Fail> {
+    for line in lines {
+        section_is_refused(rt, alloc, line, 3, fault)?;
+    }
+    Ok(())
+}
+
+// Compares what a section prints whose last line is refused.
+fn last_line_is_refused(
+    rt: &impl Abort,
+    alloc: Global,
+    lines: &str,
+    fault: &str,
+) -> Result<(), Fail> {
+    let number = last_line_number(lines).saturating_add(2);
+    section_is_refused(rt, alloc, lines, number, fault)
 }
 
 // Compares what sections print whose last line is refused.
@@ -27,15 +61,14 @@ fn last_lines_are_refused(
     rows: &[(&str, &str)],
 ) -> Result<(), Fail> {
     for (lines, fault) in rows {
-        let number = lines.split('\n').count().saturating_add(2);
-        section_is_refused(rt, alloc, lines, number, fault)?;
+        last_line_is_refused(rt, alloc, lines, fault)?;
     }
     Ok(())
 }
 
 #[test]
 fn lines_that_are_no_command(rt: HostRuntime) -> Result<(), Fail> {
-    for line in [
+    const LINES: &[&str] = &[
         "[0:0]",
         "[0:0] [0:0] -F",
         "[0:x] -F",
@@ -56,15 +89,13 @@ fn lines_that_are_no_command(rt: HostRuntime) -> Result<(), Fail> {
         "-t filter -S",
         "[0:0] -S",
         "iptables -F",
-    ] {
-        section_is_refused(&rt, rt.alloc(), line, 3, "C1 no command")?;
-    }
-    Ok(())
+    ];
+    each_is_refused(&rt, rt.alloc(), LINES, "C1 no command")
 }
 
 #[test]
 fn chain_lines_of_another_form(rt: HostRuntime) -> Result<(), Fail> {
-    for line in [
+    const LINES: &[&str] = &[
         ":INPUT",
         ":INPUT REJECT [0:0]",
         ":INPUT ACCEPT [0:0] x",
@@ -84,43 +115,39 @@ fn chain_lines_of_another_form(rt: HostRuntime) -> Result<(), Fail> {
         ":a [0:0]",
         ":ACCEPT ACCEPT",
         ":",
-    ] {
-        section_is_refused(&rt, rt.alloc(), line, 3, "R2 bad chain line")?;
-    }
-    Ok(())
+    ];
+    each_is_refused(&rt, rt.alloc(), LINES, "R2 bad chain line")
 }
 
 #[test]
 fn chain_lines_of_bad_names(rt: HostRuntime) -> Result<(), Fail> {
-    for line in [
+    const LINES: &[&str] = &[
         ": - [0:0]",
         ":-x - [0:0]",
         ":!x -",
         "\":a b\" -",
         ":ACCEPT - [0:0]",
         ":xxxxxxxxxxxxxxxxxxxxxxxxxxxxx -",
-    ] {
-        section_is_refused(&rt, rt.alloc(), line, 3, "T3 bad chain name")?;
-    }
-    Ok(())
+    ];
+    each_is_refused(&rt, rt.alloc(), LINES, "T3 bad chain name")
 }
 
 #[test]
 fn second_chain_lines(rt: HostRuntime) -> Result<(), Fail> {
-    let fault = "R3 duplicate chain line";
-    let rows = [
-        (":a - [0:0]\n:a - [0:0]", fault),
-        (":INPUT -\n:INPUT DROP", fault),
-        (":a -\n-X a\n:a -", fault),
-        (":a -\n-E a b\n:a -", fault),
+    const FAULT: &str = "R3 duplicate chain line";
+    const ROWS: &[(&str, &str)] = &[
+        (":a - [0:0]\n:a - [0:0]", FAULT),
+        (":INPUT -\n:INPUT DROP", FAULT),
+        (":a -\n-X a\n:a -", FAULT),
+        (":a -\n-E a b\n:a -", FAULT),
         (":INPUT DROP\n:INPUT foo", "R2 bad chain line"),
     ];
-    last_lines_are_refused(&rt, rt.alloc(), &rows)
+    last_lines_are_refused(&rt, rt.alloc(), ROWS)
 }
 
 #[test]
 fn lines_that_a_section_does_not_allow(rt: HostRuntime) -> Result<(), Fail> {
-    let rows = [
+    const ROWS: &[(&str, &str)] = &[
         ("*nat", "R1 line not allowed here"),
         ("*filter", "R1 line not allowed here"),
         ("*nat x y", "R1 line not allowed here"),
@@ -129,12 +156,12 @@ fn lines_that_a_section_does_not_allow(rt: HostRuntime) -> Result<(), Fail> {
         ("*nat x\"", "R5 bad quoting"),
         ("-A INPUT -m comment --comment \"x", "R5 bad quoting"),
     ];
-    last_lines_are_refused(&rt, rt.alloc(), &rows)
+    last_lines_are_refused(&rt, rt.alloc(), ROWS)
 }
 
 #[test]
 fn commands_that_are_refused(rt: HostRuntime) -> Result<(), Fail> {
-    let rows = [
+    const ROWS: &[(&str, &str)] = &[
         ("-A INPUT -j DROP -F", "C2 two commands"),
         ("-A INPUT -S", "C2 two commands"),
         ("-N", "C3 wrong number of words"),
@@ -152,12 +179,18 @@ fn commands_that_are_refused(rt: HostRuntime) -> Result<(), Fail> {
             "T13 interface not allowed in this chain",
         ),
     ];
-    last_lines_are_refused(&rt, rt.alloc(), &rows)
+    last_lines_are_refused(&rt, rt.alloc(), ROWS)
+}
+
+// Compares the fault of a restore of one line, and the listing after it.
+fn line_is_not_allowed(rt: &impl Abort, alloc: Global, line: &str) -> Result<(), Fail> {
+    let input = format!(in alloc; "iptables-restore <<E\n{line}\nE\niptables-save\n")?;
+    is_refused(rt, alloc, input.as_str(), 2, "R1 line not allowed here")
 }
 
 #[test]
 fn lines_outside_of_sections(rt: HostRuntime) -> Result<(), Fail> {
-    for line in [
+    const LINES: &[&str] = &[
         "COMMIT",
         "-A INPUT",
         ":INPUT ACCEPT",
@@ -166,10 +199,9 @@ fn lines_outside_of_sections(rt: HostRuntime) -> Result<(), Fail> {
         "x",
         "[0:0]",
         "\"\"",
-    ] {
-        let input = format!(in rt.alloc(); "iptables-restore <<E\n{line}\nE\niptables-save\n")?;
-        let output = format!(in rt.alloc(); "line 2: R1 line not allowed here\n{EMPTY}")?;
-        each_prints(&rt, rt.alloc(), &[(input.as_str(), output.as_str(), 1)])?;
+    ];
+    for line in LINES {
+        line_is_not_allowed(&rt, rt.alloc(), line)?;
     }
     Ok(())
 }

@@ -1,10 +1,10 @@
 // Restores within a session, and their listings.
-use crate::console::each_prints;
+use crate::console::{Row, each_prints};
 use std::test::Fail;
 
 #[test]
 fn a_refused_section_leaves_the_table(rt: HostRuntime) -> Result<(), Fail> {
-    let rows = [
+    const ROWS: &[Row] = &[
         (
             "iptables -A INPUT -j DROP\n\
                 iptables-restore <<E\n\
@@ -36,12 +36,12 @@ fn a_refused_section_leaves_the_table(rt: HostRuntime) -> Result<(), Fail> {
             1,
         ),
     ];
-    each_prints(&rt, rt.alloc(), &rows)
+    each_prints(&rt, rt.alloc(), ROWS)
 }
 
 #[test]
 fn a_test_puts_no_table_in_place(rt: HostRuntime) -> Result<(), Fail> {
-    let rows = [
+    const ROWS: &[Row] = &[
         (
             "iptables -A INPUT -j DROP\n\
                 iptables-restore -t <<E\n\
@@ -74,12 +74,12 @@ fn a_test_puts_no_table_in_place(rt: HostRuntime) -> Result<(), Fail> {
             1,
         ),
     ];
-    each_prints(&rt, rt.alloc(), &rows)
+    each_prints(&rt, rt.alloc(), ROWS)
 }
 
 #[test]
 fn built_in_chains_keep_their_rules_without_a_flush(rt: HostRuntime) -> Result<(), Fail> {
-    let rows = [(
+    const ROWS: &[Row] = &[(
         "iptables -N a\n\
                 iptables -A a -j DROP\n\
                 iptables -A INPUT -j a\n\
@@ -99,12 +99,12 @@ fn built_in_chains_keep_their_rules_without_a_flush(rt: HostRuntime) -> Result<(
                 COMMIT\n",
         0,
     )];
-    each_prints(&rt, rt.alloc(), &rows)
+    each_prints(&rt, rt.alloc(), ROWS)
 }
 
 #[test]
 fn a_dump_with_another_table(rt: HostRuntime) -> Result<(), Fail> {
-    let rows = [(
+    const ROWS: &[Row] = &[(
         "iptables-restore <<E\n\
                 # Generated\n\
                 *nat\n\
@@ -120,12 +120,12 @@ fn a_dump_with_another_table(rt: HostRuntime) -> Result<(), Fail> {
                 -A INPUT -p tcp -m tcp --dport 22 -j ACCEPT\n",
         0,
     )];
-    each_prints(&rt, rt.alloc(), &rows)
+    each_prints(&rt, rt.alloc(), ROWS)
 }
 
 #[test]
 fn chain_lines(rt: HostRuntime) -> Result<(), Fail> {
-    let rows = [
+    const ROWS: &[Row] = &[
         (
             "iptables -P OUTPUT DROP\n\
                 iptables-restore <<E\n\
@@ -168,12 +168,12 @@ fn chain_lines(rt: HostRuntime) -> Result<(), Fail> {
             0,
         ),
     ];
-    each_prints(&rt, rt.alloc(), &rows)
+    each_prints(&rt, rt.alloc(), ROWS)
 }
 
 #[test]
 fn commands_in_a_section(rt: HostRuntime) -> Result<(), Fail> {
-    let rows = [
+    const ROWS: &[Row] = &[
         (
             "iptables-restore <<E\n\
                 *filter\n\
@@ -220,12 +220,12 @@ fn commands_in_a_section(rt: HostRuntime) -> Result<(), Fail> {
             0,
         ),
     ];
-    each_prints(&rt, rt.alloc(), &rows)
+    each_prints(&rt, rt.alloc(), ROWS)
 }
 
 #[test]
 fn blank_lines_and_comments(rt: HostRuntime) -> Result<(), Fail> {
-    let rows = [
+    const ROWS: &[Row] = &[
         (
             "iptables-restore <<E\n\
                 # a\n\
@@ -265,12 +265,12 @@ fn blank_lines_and_comments(rt: HostRuntime) -> Result<(), Fail> {
             0,
         ),
     ];
-    each_prints(&rt, rt.alloc(), &rows)
+    each_prints(&rt, rt.alloc(), ROWS)
 }
 
 #[test]
 fn a_flush_keeps_the_policies(rt: HostRuntime) -> Result<(), Fail> {
-    let rows = [
+    const ROWS: &[Row] = &[
         (
             "iptables -N a\n\
                 iptables -A INPUT -j a\n\
@@ -310,12 +310,12 @@ fn a_flush_keeps_the_policies(rt: HostRuntime) -> Result<(), Fail> {
             0,
         ),
     ];
-    each_prints(&rt, rt.alloc(), &rows)
+    each_prints(&rt, rt.alloc(), ROWS)
 }
 
 #[test]
 fn without_a_flush_each_section_goes_on(rt: HostRuntime) -> Result<(), Fail> {
-    let rows = [
+    const ROWS: &[Row] = &[
         (
             "iptables -N a\n\
                 iptables -A INPUT -j a\n\
@@ -360,12 +360,12 @@ fn without_a_flush_each_section_goes_on(rt: HostRuntime) -> Result<(), Fail> {
             0,
         ),
     ];
-    each_prints(&rt, rt.alloc(), &rows)
+    each_prints(&rt, rt.alloc(), ROWS)
 }
 
 #[test]
 fn sections_before_a_fault_stand(rt: HostRuntime) -> Result<(), Fail> {
-    let rows = [(
+    const ROWS: &[Row] = &[(
         "iptables-restore <<E\n\
                 *filter\n\
                 -N a\n\
@@ -385,12 +385,12 @@ fn sections_before_a_fault_stand(rt: HostRuntime) -> Result<(), Fail> {
                 COMMIT\n",
         1,
     )];
-    each_prints(&rt, rt.alloc(), &rows)
+    each_prints(&rt, rt.alloc(), ROWS)
 }
 
 #[test]
 fn in_a_skipped_section_nothing_is_read(rt: HostRuntime) -> Result<(), Fail> {
-    let rows = [
+    const ROWS: &[Row] = &[
         (
             "iptables-restore <<E\n\
                 *nat\n\
@@ -446,12 +446,12 @@ fn in_a_skipped_section_nothing_is_read(rt: HostRuntime) -> Result<(), Fail> {
             1,
         ),
     ];
-    each_prints(&rt, rt.alloc(), &rows)
+    each_prints(&rt, rt.alloc(), ROWS)
 }
 
 #[test]
 fn the_end_of_a_restore_inside_a_section(rt: HostRuntime) -> Result<(), Fail> {
-    let rows = [(
+    const ROWS: &[Row] = &[(
         "iptables-restore <<E\n\
                 *filter\n\
                 E\n\
@@ -464,5 +464,5 @@ fn the_end_of_a_restore_inside_a_section(rt: HostRuntime) -> Result<(), Fail> {
                 COMMIT\n",
         1,
     )];
-    each_prints(&rt, rt.alloc(), &rows)
+    each_prints(&rt, rt.alloc(), ROWS)
 }

@@ -1,20 +1,28 @@
 // One run after another, and runs over devices that move few bytes a call.
-use crate::console::{Console, EMPTY};
-use crate::device_rows::{CUT, Call, DUMP, KEPT, LISTING, OPEN, REFUSED, Script, WALK, called};
+use crate::console::{Console, EMPTY, Row};
+use crate::device_rows::{
+    CUT, Call, DUMP, KEPT, LISTING, OPEN, REFUSED, Ran, Script, WALK, called, called_new,
+};
 use fields::{Failure, Fuse};
 use sessions::{RunFault, Session};
 use std::alloc::Global;
 use std::process::Abort;
 use std::test::Fail;
 
+// How many bytes a line has with its newline.
+fn length_of_line(line: &str) -> u32 {
+    let mut length = 1u32;
+    for _ in line.as_bytes() {
+        length = length.saturating_add(1);
+    }
+    length
+}
+
 // How many bytes the first lines have.
 fn length_of(script: Script, count: usize) -> u32 {
     let mut length = 0u32;
     for (line, _) in script.lines.iter().take(count) {
-        for _ in line.as_bytes() {
-            length = length.saturating_add(1);
-        }
-        length = length.saturating_add(1);
+        length = length.saturating_add(length_of_line(line));
     }
     length
 }
@@ -32,8 +40,8 @@ fn read_fails_after(
     let reads = Fuse::failing(1, length_of(script, count), Failure::Error);
     let never = Fuse::never(usize::MAX);
     let ran = called(alloc, session, script.call, input.as_bytes(), reads, never)?;
-    assert!(rt; ran.answer == Err(RunFault::ReadFailed));
-    assert!(rt; ran.writer.written() == written.as_bytes());
+    ran.has_answer(rt, Err(RunFault::ReadFailed));
+    ran.has_written(rt, written.as_bytes());
     Ok(())
 }
 
@@ -64,77 +72,93 @@ fn a_read_that_fails_after_a_fault(rt: HostRuntime) -> Result<(), Fail> {
     )
 }
 
+// Calls a session with the lines of a script, over a writer that fails: what was written before is given.
+fn write_fails(
+    rt: &impl Abort,
+    alloc: Global,
+    session: &mut Session,
+    script: Script,
+    writes: Fuse,
+    written: &str,
+) -> Result<(), Fail> {
+    let input = script.input(alloc)?;
+    let never = Fuse::never(usize::MAX);
+    let ran = called(alloc, session, script.call, input.as_bytes(), never, writes)?;
+    ran.has_answer(rt, Err(RunFault::WriteFailed));
+    ran.has_written(rt, written.as_bytes());
+    Ok(())
+}
+
 #[test]
 fn a_write_that_fails_within_a_reply(rt: HostRuntime) -> Result<(), Fail> {
     let alloc = rt.alloc();
     let mut console = Console::new(alloc)?;
-    let input = LISTING.input(alloc)?;
-    let never = Fuse::never(usize::MAX);
     let writes = Fuse::failing(3, 1, Failure::Error);
-    let ran = called(
-        alloc,
-        &mut console.session,
-        Call::Run,
-        input.as_bytes(),
-        never,
-        writes,
-    )?;
-    assert!(&rt; ran.answer == Err(RunFault::WriteFailed));
-    assert!(&rt; ran.writer.written() == b"*fi".as_slice());
+    write_fails(&rt, alloc, &mut console.session, LISTING, writes, "*fi")?;
     console.lists(&rt, EMPTY)
+}
+
+// Calls a session whose reader gives so many bytes a call, and whose writer takes none at its first call: the last
+// lines are unread.
+fn leaves_lines(
+    rt: &impl Abort,
+    alloc: Global,
+    session: &mut Session,
+    input: &[u8],
+    most: usize,
+) -> Result<(), Fail> {
+    let writes = Fuse::failing(usize::MAX, 0, Failure::Nothing);
+    let ran = called(alloc, session, Call::Run, input, Fuse::never(most), writes)?;
+    ran.has_answer(rt, Err(RunFault::WriteFailed));
+    ran.has_written(rt, b"");
+    ran.leaves(rt, b"COMMIT\nE\niptables -S INPUT\n");
+    Ok(())
 }
 
 #[test]
 fn later_lines_are_unread_where_a_write_takes_no_byte(rt: HostRuntime) -> Result<(), Fail> {
     let alloc = rt.alloc();
-    let mut console = Console::new(alloc)?;
+    let mut session = Session::new(alloc)?;
     let input = REFUSED.input(alloc)?;
-    let writes = Fuse::failing(usize::MAX, 0, Failure::Nothing);
-    for most in [1, usize::MAX] {
-        let reads = Fuse::never(most);
-        let ran = called(
-            alloc,
-            &mut console.session,
-            Call::Run,
-            input.as_bytes(),
-            reads,
-            writes,
-        )?;
-        assert!(&rt; ran.answer == Err(RunFault::WriteFailed));
-        assert!(&rt; ran.writer.written().is_empty());
-        assert!(&rt; ran.reader.rest() == b"COMMIT\nE\niptables -S INPUT\n".as_slice());
-    }
+    leaves_lines(&rt, alloc, &mut session, input.as_bytes(), 1)?;
+    leaves_lines(&rt, alloc, &mut session, input.as_bytes(), usize::MAX)
+}
+
+// A reader that gives a byte a call was asked for those that were read alone.
+fn is_asked_for_no_more(rt: &impl Abort, input: &[u8], ran: &Ran<'_>) {
+    let given = input.len().saturating_sub(ran.reader.rest().len());
+    assert!(rt; ran.reader.calls() == given as u64);
+}
+
+// A write fails in a way: the lines after it are unread.
+fn next_is_unread(rt: &impl Abort, alloc: Global, failure: Failure) -> Result<(), Fail> {
+    let input = b"\n# x\nfoo\nbar\niptables-save\n";
+    let writes = Fuse::failing(usize::MAX, 0, failure);
+    let ran = called_new(alloc, Call::Run, input, Fuse::never(1), writes)?;
+    ran.has_answer(rt, Err(RunFault::WriteFailed));
+    ran.leaves(rt, b"bar\niptables-save\n");
+    is_asked_for_no_more(rt, input, &ran);
     Ok(())
 }
 
 #[test]
 fn each_line_is_served_before_the_next_is_read(rt: HostRuntime) -> Result<(), Fail> {
-    let alloc = rt.alloc();
-    let input = "\n# x\nfoo\nbar\niptables-save\n";
-    let rest = b"bar\niptables-save\n".as_slice();
-    for failure in [Failure::Error, Failure::Nothing] {
-        let mut session = Session::new(alloc)?;
-        let writes = Fuse::failing(usize::MAX, 0, failure);
-        let ran = called(
-            alloc,
-            &mut session,
-            Call::Run,
-            input.as_bytes(),
-            Fuse::never(1),
-            writes,
-        )?;
-        assert!(&rt; ran.answer == Err(RunFault::WriteFailed));
-        assert!(&rt; ran.reader.rest() == rest);
-        let given = input.as_bytes().len().saturating_sub(rest.len());
-        assert!(&rt; ran.reader.calls() == given as u64);
-    }
+    next_is_unread(&rt, rt.alloc(), Failure::Error)?;
+    next_is_unread(&rt, rt.alloc(), Failure::Nothing)
+}
+
+// A script flushes its writer at least so often.
+fn hands_on(rt: &impl Abort, alloc: Global, script: Script, replies: u64) -> Result<(), Fail> {
+    let input = script.input(alloc)?;
+    let never = Fuse::never(usize::MAX);
+    let ran = called_new(alloc, script.call, input.as_bytes(), never, never)?;
+    assert!(rt; ran.writer.flushes() >= replies, "{input}");
     Ok(())
 }
 
 #[test]
 fn each_reply_is_handed_on(rt: HostRuntime) -> Result<(), Fail> {
-    let alloc = rt.alloc();
-    for (script, replies) in [
+    const ROWS: &[(Script, u64)] = &[
         (LISTING, 1),
         (WALK, 1),
         (REFUSED, 2),
@@ -142,27 +166,41 @@ fn each_reply_is_handed_on(rt: HostRuntime) -> Result<(), Fail> {
         (OPEN, 2),
         (DUMP, 1),
         (CUT, 1),
-    ] {
-        let input = script.input(alloc)?;
-        let mut session = Session::new(alloc)?;
-        let never = Fuse::never(usize::MAX);
-        let ran = called(
-            alloc,
-            &mut session,
-            script.call,
-            input.as_bytes(),
-            never,
-            never,
-        )?;
-        assert!(&rt; ran.writer.flushes() >= replies, "{input}");
+    ];
+    for (script, replies) in ROWS {
+        hands_on(&rt, rt.alloc(), *script, *replies)?;
     }
+    Ok(())
+}
+
+// A script ends with its whole output and a status, over devices that move so many bytes a call at most.
+fn ends_with(
+    rt: &impl Abort,
+    alloc: Global,
+    script: Script,
+    status: u8,
+    mosts: (usize, usize),
+) -> Result<(), Fail> {
+    let (read, write) = mosts;
+    let input = script.input(alloc)?;
+    let (reads, writes) = (Fuse::never(read), Fuse::never(write));
+    let ran = called_new(alloc, script.call, input.as_bytes(), reads, writes)?;
+    ran.has_answer(rt, Ok(status));
+    ran.leaves(rt, b"");
+    has_output(rt, alloc, script, &ran)
+}
+
+// Compares what was written with the whole output.
+fn has_output(rt: &impl Abort, alloc: Global, script: Script, ran: &Ran<'_>) -> Result<(), Fail> {
+    let output = script.output(alloc)?;
+    ran.has_written(rt, output.as_bytes());
     Ok(())
 }
 
 // Each script with its status, over devices that move so many bytes a call at most: all lines are read and all replies
 // are written.
-fn ends_whole(rt: &impl Abort, alloc: Global, read: usize, write: usize) -> Result<(), Fail> {
-    for (script, status) in [
+fn ends_whole(rt: &impl Abort, alloc: Global, mosts: (usize, usize)) -> Result<(), Fail> {
+    const ROWS: &[(Script, u8)] = &[
         (LISTING, 0),
         (WALK, 0),
         (REFUSED, 1),
@@ -170,22 +208,9 @@ fn ends_whole(rt: &impl Abort, alloc: Global, read: usize, write: usize) -> Resu
         (OPEN, 1),
         (DUMP, 0),
         (CUT, 1),
-    ] {
-        let input = script.input(alloc)?;
-        let output = script.output(alloc)?;
-        let mut session = Session::new(alloc)?;
-        let (reads, writes) = (Fuse::never(read), Fuse::never(write));
-        let ran = called(
-            alloc,
-            &mut session,
-            script.call,
-            input.as_bytes(),
-            reads,
-            writes,
-        )?;
-        assert!(rt; ran.answer == Ok(status), "{input}");
-        assert!(rt; ran.writer.written() == output.as_bytes(), "{input}");
-        assert!(rt; ran.reader.rest().is_empty());
+    ];
+    for (script, status) in ROWS {
+        ends_with(rt, alloc, *script, *status, mosts)?;
     }
     Ok(())
 }
@@ -193,39 +218,49 @@ fn ends_whole(rt: &impl Abort, alloc: Global, read: usize, write: usize) -> Resu
 // With ample memory nothing is out of memory.
 #[test]
 fn always_out_of_memory(rt: HostRuntime) -> Result<(), Fail> {
-    ends_whole(&rt, rt.alloc(), usize::MAX, usize::MAX)
+    ends_whole(&rt, rt.alloc(), (usize::MAX, usize::MAX))
 }
 
 // Devices that move few bytes a call don't fail.
 #[test]
 fn tap_says_failed_for_no_cause(rt: HostRuntime) -> Result<(), Fail> {
-    for (read, write) in [(1, usize::MAX), (usize::MAX, 1), (1, 1), (7, 3)] {
-        ends_whole(&rt, rt.alloc(), read, write)?;
+    const ROWS: &[(usize, usize)] = &[(1, usize::MAX), (usize::MAX, 1), (1, 1), (7, 3)];
+    for mosts in ROWS {
+        ends_whole(&rt, rt.alloc(), *mosts)?;
     }
     Ok(())
 }
 
 #[test]
 fn a_second_run_goes_on_with_the_table(rt: HostRuntime) -> Result<(), Fail> {
-    let mut console = Console::new(rt.alloc())?;
-    let fault = "line 2: S1 unknown line\n";
-    console.prints(&rt, "iptables -A INPUT -j DROP\nfoo\n", fault, 2)?;
-    let rules = "-P INPUT ACCEPT\n-A INPUT -j DROP\n";
-    console.prints(&rt, "iptables -S INPUT", rules, 0)?;
-    console.prints(&rt, "iptables -D INPUT 1\nfoo", fault, 2)?;
-    console.lists(&rt, EMPTY)
+    const FAULT: &str = "line 2: S1 unknown line\n";
+    const ROWS: &[Row] = &[
+        ("iptables -A INPUT -j DROP\nfoo\n", FAULT, 2),
+        (
+            "iptables -S INPUT",
+            "-P INPUT ACCEPT\n-A INPUT -j DROP\n",
+            0,
+        ),
+        ("iptables -D INPUT 1\nfoo", FAULT, 2),
+        ("iptables-save", EMPTY, 0),
+    ];
+    Console::new(rt.alloc())?.prints_in_turn(&rt, ROWS)
 }
 
 #[test]
 fn a_restore_that_is_open_at_the_end_is_given_up(rt: HostRuntime) -> Result<(), Fail> {
-    let mut console = Console::new(rt.alloc())?;
-    let input = "iptables-restore <<E\n*filter\n-N a\n";
-    console.prints(&rt, input, "line 3: S3 end word missing\n", 2)?;
-    console.prints(
-        &rt,
-        "COMMIT\nE\n",
-        "line 1: S1 unknown line\nline 2: S1 unknown line\n",
-        2,
-    )?;
-    console.lists(&rt, EMPTY)
+    const ROWS: &[Row] = &[
+        (
+            "iptables-restore <<E\n*filter\n-N a\n",
+            "line 3: S3 end word missing\n",
+            2,
+        ),
+        (
+            "COMMIT\nE\n",
+            "line 1: S1 unknown line\nline 2: S1 unknown line\n",
+            2,
+        ),
+        ("iptables-save", EMPTY, 0),
+    ];
+    Console::new(rt.alloc())?.prints_in_turn(&rt, ROWS)
 }

@@ -1,10 +1,10 @@
 // Lines of a session: their kinds, their numbers and the status.
-use crate::console::each_prints;
+use crate::console::{Row, each_prints};
 use std::test::Fail;
 
 #[test]
 fn no_lines(rt: HostRuntime) -> Result<(), Fail> {
-    let rows = [
+    const ROWS: &[Row] = &[
         ("", "", 0),
         (
             "\n\
@@ -21,12 +21,12 @@ fn no_lines(rt: HostRuntime) -> Result<(), Fail> {
             0,
         ),
     ];
-    each_prints(&rt, rt.alloc(), &rows)
+    each_prints(&rt, rt.alloc(), ROWS)
 }
 
 #[test]
 fn unknown_lines(rt: HostRuntime) -> Result<(), Fail> {
-    let rows = [(
+    const ROWS: &[Row] = &[(
         "foo\n\
                 \"\"\n\
                 IPTABLES -F\n\
@@ -37,12 +37,12 @@ fn unknown_lines(rt: HostRuntime) -> Result<(), Fail> {
                 line 4: S1 unknown line\n",
         2,
     )];
-    each_prints(&rt, rt.alloc(), &rows)
+    each_prints(&rt, rt.alloc(), ROWS)
 }
 
 #[test]
 fn words_after_a_listing_or_a_chain(rt: HostRuntime) -> Result<(), Fail> {
-    let rows = [(
+    const ROWS: &[Row] = &[(
         "lines\n\
                 lines INPUT OUTPUT\n\
                 iptables-save -t filter\n\
@@ -55,12 +55,12 @@ fn words_after_a_listing_or_a_chain(rt: HostRuntime) -> Result<(), Fail> {
                 line 5: C3 wrong number of words\n",
         2,
     )];
-    each_prints(&rt, rt.alloc(), &rows)
+    each_prints(&rt, rt.alloc(), ROWS)
 }
 
 #[test]
 fn the_status_is_that_of_the_first_fault(rt: HostRuntime) -> Result<(), Fail> {
-    let rows = [
+    const ROWS: &[Row] = &[
         (
             "lines x\n\
                 foo\n\
@@ -78,12 +78,12 @@ fn the_status_is_that_of_the_first_fault(rt: HostRuntime) -> Result<(), Fail> {
             2,
         ),
     ];
-    each_prints(&rt, rt.alloc(), &rows)
+    each_prints(&rt, rt.alloc(), ROWS)
 }
 
 #[test]
 fn quotes_are_asked_before_the_kind(rt: HostRuntime) -> Result<(), Fail> {
-    let rows = [(
+    const ROWS: &[Row] = &[(
         "foo \"\n\
                 # \"\n\
                 foo a\"b\n",
@@ -91,12 +91,12 @@ fn quotes_are_asked_before_the_kind(rt: HostRuntime) -> Result<(), Fail> {
                 line 3: R5 bad quoting\n",
         1,
     )];
-    each_prints(&rt, rt.alloc(), &rows)
+    each_prints(&rt, rt.alloc(), ROWS)
 }
 
 #[test]
 fn first_words_may_be_quoted(rt: HostRuntime) -> Result<(), Fail> {
-    let rows = [
+    const ROWS: &[Row] = &[
         (
             "\"iptables-restore\" \"<<E\"\n\
                 \"*filter\"\n\
@@ -160,12 +160,12 @@ fn first_words_may_be_quoted(rt: HostRuntime) -> Result<(), Fail> {
             2,
         ),
     ];
-    each_prints(&rt, rt.alloc(), &rows)
+    each_prints(&rt, rt.alloc(), ROWS)
 }
 
 #[test]
 fn options_of_a_restore(rt: HostRuntime) -> Result<(), Fail> {
-    let rows = [(
+    const ROWS: &[Row] = &[(
         "iptables-restore <<E\n\
                 E\n\
                 iptables-restore -n <<E\n\
@@ -189,12 +189,12 @@ fn options_of_a_restore(rt: HostRuntime) -> Result<(), Fail> {
         "",
         0,
     )];
-    each_prints(&rt, rt.alloc(), &rows)
+    each_prints(&rt, rt.alloc(), ROWS)
 }
 
 #[test]
 fn a_bad_restore_line_opens_no_restore(rt: HostRuntime) -> Result<(), Fail> {
-    let rows = [
+    const ROWS: &[Row] = &[
         (
             "iptables-restore\n\
                 iptables-restore -n\n\
@@ -233,12 +233,12 @@ fn a_bad_restore_line_opens_no_restore(rt: HostRuntime) -> Result<(), Fail> {
             2,
         ),
     ];
-    each_prints(&rt, rt.alloc(), &rows)
+    each_prints(&rt, rt.alloc(), ROWS)
 }
 
 #[test]
 fn the_end_line_equals_its_word(rt: HostRuntime) -> Result<(), Fail> {
-    let rows = [
+    const ROWS: &[Row] = &[
         (
             "iptables-restore <<E\n\
                 \x20E\n\
@@ -282,12 +282,12 @@ fn the_end_line_equals_its_word(rt: HostRuntime) -> Result<(), Fail> {
             0,
         ),
     ];
-    each_prints(&rt, rt.alloc(), &rows)
+    each_prints(&rt, rt.alloc(), ROWS)
 }
 
 #[test]
 fn the_end_line_is_asked_before_all_others(rt: HostRuntime) -> Result<(), Fail> {
-    let rows = [
+    const ROWS: &[Row] = &[
         (
             "iptables-restore <<COMMIT\n\
                 *filter\n\
@@ -326,12 +326,12 @@ fn the_end_line_is_asked_before_all_others(rt: HostRuntime) -> Result<(), Fail> 
             1,
         ),
     ];
-    each_prints(&rt, rt.alloc(), &rows)
+    each_prints(&rt, rt.alloc(), ROWS)
 }
 
 #[test]
 fn two_restores(rt: HostRuntime) -> Result<(), Fail> {
-    let rows = [(
+    const ROWS: &[Row] = &[(
         "iptables-restore <<E\n\
                 x\n\
                 E\n\
@@ -342,12 +342,12 @@ fn two_restores(rt: HostRuntime) -> Result<(), Fail> {
                 line 5: R1 line not allowed here\n",
         1,
     )];
-    each_prints(&rt, rt.alloc(), &rows)
+    each_prints(&rt, rt.alloc(), ROWS)
 }
 
 #[test]
 fn the_input_ends_in_a_restore(rt: HostRuntime) -> Result<(), Fail> {
-    let rows = [
+    const ROWS: &[Row] = &[
         (
             "iptables-restore <<E\n\
                 *filter\n\
@@ -385,24 +385,24 @@ fn the_input_ends_in_a_restore(rt: HostRuntime) -> Result<(), Fail> {
             2,
         ),
     ];
-    each_prints(&rt, rt.alloc(), &rows)
+    each_prints(&rt, rt.alloc(), ROWS)
 }
 
 #[test]
 fn the_input_ends_after_the_fault_of_a_restore(rt: HostRuntime) -> Result<(), Fail> {
-    let rows = [(
+    const ROWS: &[Row] = &[(
         "iptables-restore <<E\n\
                 COMMIT\n\
                 *filter\n",
         "line 2: R1 line not allowed here\n",
         1,
     )];
-    each_prints(&rt, rt.alloc(), &rows)
+    each_prints(&rt, rt.alloc(), ROWS)
 }
 
 #[test]
 fn a_carriage_return_is_no_blank(rt: HostRuntime) -> Result<(), Fail> {
-    let rows = [(
+    const ROWS: &[Row] = &[(
         "\r\n\
                 \r# x\n\
                 iptables-save\r\n\
@@ -419,5 +419,5 @@ fn a_carriage_return_is_no_blank(rt: HostRuntime) -> Result<(), Fail> {
                 line 7: S1 unknown line\n",
         2,
     )];
-    each_prints(&rt, rt.alloc(), &rows)
+    each_prints(&rt, rt.alloc(), ROWS)
 }

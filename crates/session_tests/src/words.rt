@@ -1,10 +1,10 @@
 // Words of commands, in the order in which they are read.
-use crate::console::each_prints;
+use crate::console::{Row, each_prints};
 use std::test::Fail;
 
 #[test]
 fn long_names_of_commands(rt: HostRuntime) -> Result<(), Fail> {
-    let rows = [(
+    const ROWS: &[Row] = &[(
         "iptables --new-chain a\n\
                 iptables --append a -j DROP\n\
                 iptables --insert a 1 -j ACCEPT\n\
@@ -24,12 +24,12 @@ fn long_names_of_commands(rt: HostRuntime) -> Result<(), Fail> {
                 -P OUTPUT ACCEPT\n",
         0,
     )];
-    each_prints(&rt, rt.alloc(), &rows)
+    each_prints(&rt, rt.alloc(), ROWS)
 }
 
 #[test]
 fn words_are_read_from_left_to_right(rt: HostRuntime) -> Result<(), Fail> {
-    let rows = [
+    const ROWS: &[Row] = &[
         (
             "iptables -t nat -t\n\
                 iptables -t nat -t filter -F\n\
@@ -88,12 +88,12 @@ fn words_are_read_from_left_to_right(rt: HostRuntime) -> Result<(), Fail> {
             2,
         ),
     ];
-    each_prints(&rt, rt.alloc(), &rows)
+    each_prints(&rt, rt.alloc(), ROWS)
 }
 
 #[test]
 fn the_table_is_named_before_the_command(rt: HostRuntime) -> Result<(), Fail> {
-    let rows = [(
+    const ROWS: &[Row] = &[(
         "iptables -t filter\n\
                 iptables -t filter -F\n\
                 iptables --table filter -F\n\
@@ -122,12 +122,12 @@ fn the_table_is_named_before_the_command(rt: HostRuntime) -> Result<(), Fail> {
                 line 14: C4 other table\n",
         2,
     )];
-    each_prints(&rt, rt.alloc(), &rows)
+    each_prints(&rt, rt.alloc(), ROWS)
 }
 
 #[test]
 fn words_of_a_command_are_taken_whatever_they_look_like(rt: HostRuntime) -> Result<(), Fail> {
-    let rows = [(
+    const ROWS: &[Row] = &[(
         "iptables -F -t\n\
                 iptables -F -A\n\
                 iptables -S -S\n\
@@ -152,12 +152,12 @@ fn words_of_a_command_are_taken_whatever_they_look_like(rt: HostRuntime) -> Resu
                 line 11: P3 bad value\n",
         1,
     )];
-    each_prints(&rt, rt.alloc(), &rows)
+    each_prints(&rt, rt.alloc(), ROWS)
 }
 
 #[test]
 fn numbers_of_rules(rt: HostRuntime) -> Result<(), Fail> {
-    let rows = [(
+    const ROWS: &[Row] = &[(
         "iptables -A INPUT\n\
                 iptables -R INPUT 01\n\
                 iptables -R INPUT +1\n\
@@ -185,12 +185,12 @@ fn numbers_of_rules(rt: HostRuntime) -> Result<(), Fail> {
                 line 13: P1 unknown option\n",
         2,
     )];
-    each_prints(&rt, rt.alloc(), &rows)
+    each_prints(&rt, rt.alloc(), ROWS)
 }
 
 #[test]
 fn commands_of_too_few_or_too_many_words(rt: HostRuntime) -> Result<(), Fail> {
-    let rows = [(
+    const ROWS: &[Row] = &[(
         "iptables -N a\n\
                 iptables -A\n\
                 iptables -C\n\
@@ -232,12 +232,12 @@ fn commands_of_too_few_or_too_many_words(rt: HostRuntime) -> Result<(), Fail> {
                 line 20: C3 wrong number of words\n",
         2,
     )];
-    each_prints(&rt, rt.alloc(), &rows)
+    each_prints(&rt, rt.alloc(), ROWS)
 }
 
 #[test]
 fn commands_that_are_not_read(rt: HostRuntime) -> Result<(), Fail> {
-    let rows = [
+    const ROWS: &[Row] = &[
         (
             "iptables -Z\n\
                 iptables -L\n\
@@ -279,12 +279,12 @@ fn commands_that_are_not_read(rt: HostRuntime) -> Result<(), Fail> {
             2,
         ),
     ];
-    each_prints(&rt, rt.alloc(), &rows)
+    each_prints(&rt, rt.alloc(), ROWS)
 }
 
 #[test]
 fn targets_that_are_names_of_no_chain(rt: HostRuntime) -> Result<(), Fail> {
-    let rows = [(
+    const ROWS: &[Row] = &[(
         "iptables -A INPUT -j MARK\n\
                 iptables -A INPUT -j NFQUEUE\n\
                 iptables -A INPUT -j CLASSIFY\n\
@@ -305,12 +305,12 @@ fn targets_that_are_names_of_no_chain(rt: HostRuntime) -> Result<(), Fail> {
                 COMMIT\n",
         1,
     )];
-    each_prints(&rt, rt.alloc(), &rows)
+    each_prints(&rt, rt.alloc(), ROWS)
 }
 
 #[test]
 fn names_that_no_chain_has(rt: HostRuntime) -> Result<(), Fail> {
-    let rows = [
+    const ROWS: &[Row] = &[
         (
             "iptables -A xxxxxxxxxxxxxxxxxxxxxxxxxxxxx\n\
                 iptables -A INPUT -j xxxxxxxxxxxxxxxxxxxxxxxxxxxxx\n\
@@ -374,12 +374,12 @@ fn names_that_no_chain_has(rt: HostRuntime) -> Result<(), Fail> {
             1,
         ),
     ];
-    each_prints(&rt, rt.alloc(), &rows)
+    each_prints(&rt, rt.alloc(), ROWS)
 }
 
 #[test]
 fn letters_are_taken_as_written(rt: HostRuntime) -> Result<(), Fail> {
-    let rows = [(
+    const ROWS: &[Row] = &[(
         "iptables -A INPUT -p TCP\n\
                 iptables -A INPUT -p icmp --icmp-type Any\n\
                 iptables -A INPUT -j LOG --log-level Info\n\
@@ -394,5 +394,5 @@ fn letters_are_taken_as_written(rt: HostRuntime) -> Result<(), Fail> {
                 line 6: F1 unknown key\n",
         2,
     )];
-    each_prints(&rt, rt.alloc(), &rows)
+    each_prints(&rt, rt.alloc(), ROWS)
 }

@@ -17,7 +17,7 @@ fn text(rt: &impl Abort, alloc: Global, rule: &Rule) -> Result<String, Fail> {
 
 #[test]
 fn one_chain_taken_away(rt: HostRuntime) -> Result<(), Fail> {
-    let acts = [
+    const ACTS: &[Act] = &[
         Act::Runs("-N b"),
         Act::Runs("-N a"),
         Act::Runs("-A a -j b"),
@@ -36,12 +36,12 @@ fn one_chain_taken_away(rt: HostRuntime) -> Result<(), Fail> {
         Act::Runs("-N a"),
         Act::Lists("INPUT:0 FORWARD:0 OUTPUT:0 a:0"),
     ];
-    play(&rt, rt.alloc(), &acts)
+    play(&rt, rt.alloc(), ACTS)
 }
 
 #[test]
 fn all_user_chains_taken_away(rt: HostRuntime) -> Result<(), Fail> {
-    let acts = [
+    const ACTS: &[Act] = &[
         Act::Runs("-N c"),
         Act::Runs("-N b"),
         Act::Runs("-N a"),
@@ -56,12 +56,12 @@ fn all_user_chains_taken_away(rt: HostRuntime) -> Result<(), Fail> {
         Act::Runs("-X"),
         Act::Lists("INPUT:0 FORWARD:0 OUTPUT:1"),
     ];
-    play(&rt, rt.alloc(), &acts)
+    play(&rt, rt.alloc(), ACTS)
 }
 
 #[test]
 fn a_renamed_chain(rt: HostRuntime) -> Result<(), Fail> {
-    let acts = [
+    const ACTS: &[Act] = &[
         Act::Runs("-N b"),
         Act::Runs("-N c"),
         Act::Runs("-A INPUT -j c"),
@@ -90,7 +90,7 @@ fn a_renamed_chain(rt: HostRuntime) -> Result<(), Fail> {
         Act::Runs("-E b zy"),
         Act::Lists("INPUT:1 FORWARD:0 OUTPUT:0 zy:2 zz:1"),
     ];
-    play(&rt, rt.alloc(), &acts)
+    play(&rt, rt.alloc(), ACTS)
 }
 
 const PACKET: &str = "INPUT src=10.0.0.1 dst=2.2.2.2 proto=udp sport=1 dport=2";
@@ -119,13 +119,13 @@ fn compared(rt: &impl Abort, filter: &Filter, copy: &mut Filter) -> Result<(), F
 
 #[test]
 fn a_copy_and_its_original(rt: HostRuntime) -> Result<(), Fail> {
-    let lines = [
+    const LINES: &[&str] = &[
         "-P FORWARD DROP",
         "-N a",
         "-A INPUT -s 10.0.0.0/8 -j a",
         "-A a -p udp -j DROP",
     ];
-    let filter = Filter::after(&rt, rt.alloc(), &lines)?;
+    let filter = Filter::after(&rt, rt.alloc(), LINES)?;
     let mut copy = filter.copy()?;
     compared(&rt, &filter, &mut copy)?;
     copy.replies(&rt, PACKET, "INPUT 1, verdict DROP by policy")
@@ -143,8 +143,8 @@ fn lends(rt: &impl Abort, filter: &Filter, number: usize, expected: &str) -> Res
 
 #[test]
 fn rules_that_are_lent(rt: HostRuntime) -> Result<(), Fail> {
-    let lines = ["-A FORWARD -j LOG", "-A FORWARD -p icmp -j ACCEPT"];
-    let filter = Filter::after(&rt, rt.alloc(), &lines)?;
+    const LINES: &[&str] = &["-A FORWARD -j LOG", "-A FORWARD -p icmp -j ACCEPT"];
+    let filter = Filter::after(&rt, rt.alloc(), LINES)?;
     lends(&rt, &filter, 1, " -j LOG")?;
     lends(&rt, &filter, 2, " -p icmp -j ACCEPT")
 }

@@ -104,10 +104,8 @@ impl Pair {
     fn append(&mut self, rt: &impl Abort, chain: usize, draft: Draft) -> Result<(), Fail> {
         let fault = self.plain.fault_of_put(chain, 1, 1, &draft);
         self.run(rt, "-A", chain, None, Some(&draft), fault)?;
-        if fault.is_none()
-            && let Some(rules) = self.plain.rules_mut(chain)
-        {
-            rules.push(draft)?;
+        if fault.is_none() {
+            self.plain.append(chain, draft)?;
         }
         Ok(())
     }
@@ -122,11 +120,8 @@ impl Pair {
         let last = self.plain.rules(chain).len().saturating_add(1);
         let fault = self.plain.fault_of_put(chain, number, last, &draft);
         self.run(rt, "-I", chain, Some(number), Some(&draft), fault)?;
-        if fault.is_none()
-            && let Some(rules) = self.plain.rules_mut(chain)
-        {
-            assert!(rt; 0 < number && number - 1 <= rules.len());
-            rules.insert(number - 1, draft)?;
+        if fault.is_none() {
+            self.plain.insert(rt, chain, number, draft)?;
         }
         Ok(())
     }
@@ -141,68 +136,36 @@ impl Pair {
         let last = self.plain.rules(chain).len();
         let fault = self.plain.fault_of_put(chain, number, last, &draft);
         self.run(rt, "-R", chain, Some(number), Some(&draft), fault)?;
-        if fault.is_none()
-            && let Some(rules) = self.plain.rules_mut(chain)
-        {
-            assert!(rt; 0 < number && number - 1 < rules.len());
-            rules[number - 1] = draft;
+        if fault.is_none() {
+            self.plain.replace(rt, chain, number, draft);
         }
         Ok(())
     }
 
     fn delete_at(&mut self, rt: &impl Abort, chain: usize, number: usize) -> Result<(), Fail> {
-        let fault = if !self.plain.has(chain) {
-            Some(TableFault::NoSuchChain)
-        } else if number == 0 || number > self.plain.rules(chain).len() {
-            Some(TableFault::NumberOutOfRange)
-        } else {
-            None
-        };
+        let fault = self.plain.fault_of_number(chain, number);
         self.run(rt, "-D", chain, Some(number), None, fault)?;
-        if fault.is_none()
-            && let Some(rules) = self.plain.rules_mut(chain)
-        {
-            assert!(rt; 0 < number && number - 1 < rules.len());
-            rules.remove(number - 1);
+        if fault.is_none() {
+            self.plain.remove(rt, chain, number);
         }
         Ok(())
     }
 
     // Asks for a rule, and takes it out.
     fn delete_rule(&mut self, rt: &impl Abort, chain: usize, draft: Draft) -> Result<(), Fail> {
-        let place = self
-            .plain
-            .rules(chain)
-            .iter()
-            .position(|rule| *rule == draft);
-        let fault = if !self.plain.has(chain) {
-            Some(TableFault::NoSuchChain)
-        } else if place.is_none() {
-            Some(TableFault::NoSuchRule)
-        } else {
-            None
-        };
+        let fault = self.plain.fault_of_search(chain, &draft);
         self.run(rt, "-C", chain, None, Some(&draft), fault)?;
         self.run(rt, "-D", chain, None, Some(&draft), fault)?;
-        if let Some(place) = place
-            && let Some(rules) = self.plain.rules_mut(chain)
-        {
-            assert!(rt; place < rules.len());
-            rules.remove(place);
+        if fault.is_none() {
+            self.plain.remove_first(rt, chain, &draft);
         }
         Ok(())
     }
 
     fn flush(&mut self, rt: &impl Abort, chain: usize) -> Result<(), Fail> {
-        let fault = if self.plain.has(chain) {
-            None
-        } else {
-            Some(TableFault::NoSuchChain)
-        };
+        let fault = self.plain.fault_of_chain(chain);
         self.run(rt, "-F", chain, None, None, fault)?;
-        if let Some(rules) = self.plain.rules_mut(chain) {
-            rules.clear();
-        }
+        self.plain.clear(chain);
         Ok(())
     }
 
@@ -217,27 +180,59 @@ impl Pair {
         Ok(())
     }
 
+    // Takes the last rule of a chain out, or appends one where there is none.
+    fn delete_last(&mut self, rt: &impl Abort, chain: usize, draft: Draft) -> Result<(), Fail> {
+        match self.plain.last(chain) {
+            Some(last) => self.delete_rule(rt, chain, last),
+            None => self.append(rt, chain, draft),
+        }
+    }
+
+    // One of the edits that take out, or that make a chain.
+    fn take(
+        &mut self,
+        rt: &impl Abort,
+        kind: usize,
+        chain: usize,
+        number: usize,
+        draft: Draft,
+    ) -> Result<(), Fail> {
+        match kind {
+            0 => self.new_chain(rt, chain),
+            1 => self.flush(rt, chain),
+            2..=7 => self.delete_at(rt, chain, number),
+            8..=10 => self.delete_rule(rt, chain, draft),
+            _ => self.delete_last(rt, chain, draft),
+        }
+    }
+
+    // One of the edits that put a rule in.
+    fn put(
+        &mut self,
+        rt: &impl Abort,
+        kind: usize,
+        chain: usize,
+        number: usize,
+        draft: Draft,
+    ) -> Result<(), Fail> {
+        match kind {
+            12..=17 => self.replace(rt, chain, number, draft),
+            18..=24 => self.insert(rt, chain, number, draft),
+            _ => self.append(rt, chain, draft),
+        }
+    }
+
     // One edit that is drawn.
     fn edit(&mut self, rt: &impl Abort, dice: &mut Dice) -> Result<(), Fail> {
         let chain = dice.below(8);
         let draft = dice.draft();
         let count = self.plain.rules(chain).len();
         let number = dice.below(count.saturating_add(3));
-        match dice.below(32) {
-            0 => self.new_chain(rt, chain),
-            1 => self.flush(rt, chain),
-            2..=7 => self.delete_at(rt, chain, number),
-            8..=10 => self.delete_rule(rt, chain, draft),
-            11 => match self.plain.rules(chain).last() {
-                Some(last) => {
-                    let last = *last;
-                    self.delete_rule(rt, chain, last)
-                }
-                None => self.append(rt, chain, draft),
-            },
-            12..=17 => self.replace(rt, chain, number, draft),
-            18..=24 => self.insert(rt, chain, number, draft),
-            _ => self.append(rt, chain, draft),
+        let kind = dice.below(32);
+        if kind < 12 {
+            self.take(rt, kind, chain, number, draft)
+        } else {
+            self.put(rt, kind, chain, number, draft)
         }
     }
 

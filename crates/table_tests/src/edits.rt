@@ -33,7 +33,7 @@ fn steps(rt: &impl Abort, filter: &mut Filter, rows: &[(&str, &str, &str)]) -> R
 #[test]
 fn calls(rt: HostRuntime) -> Result<(), Fail> {
     let mut filter = Filter::new(rt.alloc())?;
-    let rows = [
+    const ROWS: &[(&str, &str, &str)] = &[
         (
             "-F",
             "INPUT:0 FORWARD:0 OUTPUT:0",
@@ -130,19 +130,19 @@ fn calls(rt: HostRuntime) -> Result<(), Fail> {
             "verdict DROP by policy",
         ),
     ];
-    steps(&rt, &mut filter, &rows)
+    steps(&rt, &mut filter, ROWS)
 }
 
 #[test]
 fn only_the_first_equal_rule_is_taken_out(rt: HostRuntime) -> Result<(), Fail> {
-    let lines = [
+    const LINES: &[&str] = &[
         "-A INPUT -j LOG",
         "-A INPUT -s 10.0.0.0/8 -j DROP",
         "-A INPUT -j ACCEPT",
         "-A INPUT -s 10.9.9.9/8 -j DROP",
     ];
-    let mut filter = Filter::after(&rt, rt.alloc(), &lines)?;
-    let rows = [
+    let mut filter = Filter::after(&rt, rt.alloc(), LINES)?;
+    const ROWS: &[(&str, &str, &str)] = &[
         (
             "-C INPUT -s 10.0.0.0/255.0.0.0 -j DROP",
             "INPUT:4 FORWARD:0 OUTPUT:0",
@@ -164,12 +164,12 @@ fn only_the_first_equal_rule_is_taken_out(rt: HostRuntime) -> Result<(), Fail> {
             "INPUT 1, INPUT 2, verdict DROP by rule",
         ),
     ];
-    steps(&rt, &mut filter, &rows)
+    steps(&rt, &mut filter, ROWS)
 }
 
 #[test]
 fn a_loop_is_one_of_the_rules_that_are_there(rt: HostRuntime) -> Result<(), Fail> {
-    let acts = [
+    const ACTS: &[Act] = &[
         Act::Runs("-N a"),
         Act::Runs("-N b"),
         Act::Runs("-N c"),
@@ -186,25 +186,25 @@ fn a_loop_is_one_of_the_rules_that_are_there(rt: HostRuntime) -> Result<(), Fail
         Act::Runs("-F c"),
         Act::Runs("-A a -g b"),
     ];
-    play(&rt, rt.alloc(), &acts)
+    play(&rt, rt.alloc(), ACTS)
 }
 
 // A table with two user chains, and two rules of INPUT.
 fn of_two_rules(rt: &impl Abort, alloc: Global) -> Result<Filter, Fail> {
-    let lines = [
+    const LINES: &[&str] = &[
         "-N b",
         "-N a",
         "-P FORWARD DROP",
         "-A INPUT -s 10.1.2.3/8 -j ACCEPT",
         "-A INPUT -p tcp --dport 22 -j DROP",
     ];
-    Filter::after(rt, alloc, &lines)
+    Filter::after(rt, alloc, LINES)
 }
 
 #[test]
 fn policies_of_chains(rt: HostRuntime) -> Result<(), Fail> {
     let filter = of_two_rules(&rt, rt.alloc())?;
-    let policies = [
+    const POLICIES: &[Option<Policy>] = &[
         Some(Policy::Accept),
         Some(Policy::Drop),
         Some(Policy::Accept),
@@ -212,7 +212,7 @@ fn policies_of_chains(rt: HostRuntime) -> Result<(), Fail> {
         None,
         None,
     ];
-    for (place, policy) in policies.iter().enumerate() {
+    for (place, policy) in POLICIES.iter().enumerate() {
         assert!(rt; filter.table.policy(place) == *policy, "{place}");
     }
     Ok(())
@@ -221,9 +221,9 @@ fn policies_of_chains(rt: HostRuntime) -> Result<(), Fail> {
 #[test]
 fn names_of_chains(rt: HostRuntime) -> Result<(), Fail> {
     let filter = of_two_rules(&rt, rt.alloc())?;
-    let names = ["INPUT", "FORWARD", "OUTPUT", "a", "b"];
-    assert!(rt; filter.table.chain_count() == names.len());
-    for (place, name) in names.iter().enumerate() {
+    const NAMES: &[&str] = &["INPUT", "FORWARD", "OUTPUT", "a", "b"];
+    assert!(rt; filter.table.chain_count() == NAMES.len());
+    for (place, name) in NAMES.iter().enumerate() {
         assert!(rt; filter.name_at(&rt, place) == name.as_bytes(), "{name}");
     }
     Ok(())
@@ -240,7 +240,7 @@ fn starts_at(rt: &impl Abort, line: &Line, starts: &[u128]) {
 #[test]
 fn lines_of_a_chain(rt: HostRuntime) -> Result<(), Fail> {
     let filter = of_two_rules(&rt, rt.alloc())?;
-    let starts: [(Field, &[u128]); 5] = [
+    const STARTS: &[(Field, &[u128])] = &[
         (Field::Source, &[0, 167772160, 184549376]),
         (Field::Destination, &[0]),
         (Field::Protocol, &[0, 6, 7]),
@@ -249,7 +249,7 @@ fn lines_of_a_chain(rt: HostRuntime) -> Result<(), Fail> {
     ];
     assert!(rt; filter.table.chain_count() > 0);
     let classifier = filter.table.classifier(0);
-    for (field, expected) in starts.iter() {
+    for (field, expected) in STARTS {
         starts_at(&rt, &classifier.line(*field), expected);
     }
     Ok(())
@@ -274,7 +274,7 @@ fn makes(rt: &impl Abort, filter: &mut Filter, line: &str, boxes: u64) -> Result
 #[test]
 fn boxes_are_made_once_an_edit(rt: HostRuntime) -> Result<(), Fail> {
     let mut filter = Filter::new(rt.alloc())?;
-    let rows = [
+    const ROWS: &[(&str, u64)] = &[
         ("-N a", 0),
         ("-A INPUT -j a", 1),
         ("-A INPUT -s 10.0.0.0/8 -j DROP", 2),
@@ -287,7 +287,7 @@ fn boxes_are_made_once_an_edit(rt: HostRuntime) -> Result<(), Fail> {
         ("-F a", 4),
         ("-F", 4),
     ];
-    for (line, boxes) in rows.iter() {
+    for (line, boxes) in ROWS {
         makes(&rt, &mut filter, line, *boxes)?;
     }
     Ok(())

@@ -83,7 +83,7 @@ fn refused(rt: &impl Abort, alloc: Global, rows: &[(&str, TableFault)]) -> Resul
 
 #[test]
 fn appended_rules(rt: HostRuntime) -> Result<(), Fail> {
-    let rows = [
+    const ROWS: &[(&str, TableFault)] = &[
         ("-A nowhere -o eth0 -j gone", TableFault::NoSuchChain),
         ("-A input -j DROP", TableFault::NoSuchChain),
         ("-A \"\" -j DROP", TableFault::NoSuchChain),
@@ -103,12 +103,12 @@ fn appended_rules(rt: HostRuntime) -> Result<(), Fail> {
         ("-A c -j b", TableFault::Loop),
         ("-A c -g a", TableFault::Loop),
     ];
-    refused(&rt, rt.alloc(), &rows)
+    refused(&rt, rt.alloc(), ROWS)
 }
 
 #[test]
 fn inserted_rules(rt: HostRuntime) -> Result<(), Fail> {
-    let rows = [
+    const ROWS: &[(&str, TableFault)] = &[
         ("-I nowhere 0 -o eth0 -j gone", TableFault::NoSuchChain),
         ("-I INPUT 0 -o eth0 -j gone", TableFault::NumberOutOfRange),
         ("-I INPUT 4 -j DROP", TableFault::NumberOutOfRange),
@@ -126,12 +126,12 @@ fn inserted_rules(rt: HostRuntime) -> Result<(), Fail> {
         ("-I c 1 -j a", TableFault::Loop),
         ("-I b 2 -g b", TableFault::Loop),
     ];
-    refused(&rt, rt.alloc(), &rows)
+    refused(&rt, rt.alloc(), ROWS)
 }
 
 #[test]
 fn replaced_rules(rt: HostRuntime) -> Result<(), Fail> {
-    let rows = [
+    const ROWS: &[(&str, TableFault)] = &[
         ("-R nowhere 0 -o eth0 -j gone", TableFault::NoSuchChain),
         ("-R INPUT 0 -o eth0 -j gone", TableFault::NumberOutOfRange),
         ("-R INPUT 3 -j DROP", TableFault::NumberOutOfRange),
@@ -145,12 +145,12 @@ fn replaced_rules(rt: HostRuntime) -> Result<(), Fail> {
         ("-R b 1 -j a", TableFault::Loop),
         ("-R a 1 -g a", TableFault::Loop),
     ];
-    refused(&rt, rt.alloc(), &rows)
+    refused(&rt, rt.alloc(), ROWS)
 }
 
 #[test]
 fn rules_taken_out_or_asked_for(rt: HostRuntime) -> Result<(), Fail> {
-    let rows = [
+    const ROWS: &[(&str, TableFault)] = &[
         ("-D nowhere 0", TableFault::NoSuchChain),
         ("-D INPUT 0", TableFault::NumberOutOfRange),
         ("-D INPUT 3", TableFault::NumberOutOfRange),
@@ -164,12 +164,12 @@ fn rules_taken_out_or_asked_for(rt: HostRuntime) -> Result<(), Fail> {
         ("-C INPUT -s 10.0.0.0/9 -j DROP", TableFault::NoSuchRule),
         ("-F nowhere", TableFault::NoSuchChain),
     ];
-    refused(&rt, rt.alloc(), &rows)
+    refused(&rt, rt.alloc(), ROWS)
 }
 
 #[test]
 fn chains_and_policies(rt: HostRuntime) -> Result<(), Fail> {
-    let rows = [
+    const ROWS: &[(&str, TableFault)] = &[
         ("-N \"\"", TableFault::BadChainName),
         ("-N ACCEPT", TableFault::BadChainName),
         ("-N QUEUE", TableFault::BadChainName),
@@ -186,5 +186,5 @@ fn chains_and_policies(rt: HostRuntime) -> Result<(), Fail> {
         ("-P INPUT drop", TableFault::BadPolicy),
         ("-P OUTPUT \"\"", TableFault::BadPolicy),
     ];
-    refused(&rt, rt.alloc(), &rows)
+    refused(&rt, rt.alloc(), ROWS)
 }

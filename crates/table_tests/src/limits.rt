@@ -32,7 +32,7 @@ fn fill(rt: &impl Abort, filter: &mut Filter, line: &str) -> Result<(), Fail> {
 fn a_full_built_in_chain(rt: HostRuntime) -> Result<(), Fail> {
     let mut filter = Filter::after(&rt, rt.alloc(), &["-N a", "-N b"])?;
     fill(&rt, &mut filter, "-A INPUT -s 10.0.0.0/8 -j ACCEPT")?;
-    let acts = [
+    const ACTS: &[Act] = &[
         Act::Refuses("-A INPUT -j DROP", TableFault::ChainFull),
         Act::Refuses("-I INPUT 1 -j DROP", TableFault::ChainFull),
         Act::Refuses("-I INPUT 8193 -j DROP", TableFault::ChainFull),
@@ -55,20 +55,20 @@ fn a_full_built_in_chain(rt: HostRuntime) -> Result<(), Fail> {
         Act::Runs("-F INPUT"),
         Act::Lists("INPUT:0 FORWARD:0 OUTPUT:0 a:0 b:0"),
     ];
-    filter.acts(&rt, &acts)
+    filter.acts(&rt, ACTS)
 }
 
 #[test]
 fn a_loop_is_reported_before_a_full_chain(rt: HostRuntime) -> Result<(), Fail> {
     let mut filter = Filter::after(&rt, rt.alloc(), &["-N a", "-N b", "-A b -j a"])?;
     fill(&rt, &mut filter, "-A a -j LOG")?;
-    let acts = [
+    const ACTS: &[Act] = &[
         Act::Refuses("-A a -j b", TableFault::Loop),
         Act::Refuses("-I a 1 -g a", TableFault::Loop),
         Act::Refuses("-R a 8192 -j b", TableFault::Loop),
         Act::Refuses("-A a -j RETURN", TableFault::ChainFull),
     ];
-    filter.acts(&rt, &acts)
+    filter.acts(&rt, ACTS)
 }
 
 #[test]
@@ -77,13 +77,20 @@ fn matches_past_a_row_of_words(rt: HostRuntime) -> Result<(), Fail> {
     for _ in 0..256u32 {
         filter.accepts(&rt, "-A INPUT -s 10.0.0.0/8 -j ACCEPT")?;
     }
-    let acts = [
+    const ACTS: &[Act] = &[
         Act::Runs("-A INPUT -j DROP"),
         Act::Replies(PACKET, "INPUT 257, verdict DROP by rule"),
         Act::Runs("-D INPUT 1"),
         Act::Replies(PACKET, "INPUT 256, verdict DROP by rule"),
     ];
-    filter.acts(&rt, &acts)
+    filter.acts(&rt, ACTS)
+}
+
+// Appends a rule that jumps to the next chain.
+fn jump_to_next(rt: &impl Abort, filter: &mut Filter, number: u32) -> Result<(), Fail> {
+    let next = number.wrapping_add(1);
+    let text = format!(in filter.alloc; "{next}")?;
+    run_numbered(rt, filter, ("-A d", " -j d"), number, text.as_str())
 }
 
 // 1,024 user chains, each of which jumps to the next, and a rule of INPUT that jumps to the first.
@@ -92,8 +99,7 @@ fn row_of_chains(rt: &impl Abort, filter: &mut Filter) -> Result<(), Fail> {
         run_numbered(rt, filter, ("-N d", ""), number, "")?;
     }
     for number in 1..1024u32 {
-        let next = format!(in filter.alloc; "{}", number + 1)?;
-        run_numbered(rt, filter, ("-A d", " -j d"), number, next.as_str())?;
+        jump_to_next(rt, filter, number)?;
     }
     filter.run_all(rt, &["-A INPUT -j d1"])
 }
@@ -147,23 +153,34 @@ fn passes_each(rt: &impl Abort, filter: &Filter) -> Result<(), Fail> {
     Ok(())
 }
 
-#[test]
-fn a_jump_through_every_chain(rt: HostRuntime) -> Result<(), Fail> {
-    let mut filter = Filter::new(rt.alloc())?;
-    row_of_chains(&rt, &mut filter)?;
-    ends(&rt, &filter, 1024, Verdict::Accept, true)?;
-    passes_each(&rt, &filter)?;
-    let acts = [
+// A chain more is refused, and a loop, of 1,027 chains.
+fn refuses_more(rt: &impl Abort, filter: &mut Filter) -> Result<(), Fail> {
+    const ACTS: &[Act] = &[
         Act::Refuses("-N d1025", TableFault::TooManyChains),
         Act::Refuses("-N d7", TableFault::ChainExists),
         Act::Refuses("-N DROP", TableFault::BadChainName),
         Act::Refuses("-A d1024 -j d1", TableFault::Loop),
         Act::Refuses("-A d1024 -g d1024", TableFault::Loop),
     ];
-    filter.acts(&rt, &acts)?;
+    filter.acts(rt, ACTS)?;
     assert!(rt; filter.table.chain_count() == 1027);
-    filter.accepts(&rt, "-A d1024 -j DROP")?;
-    ends(&rt, &filter, 1025, Verdict::Drop, false)
+    Ok(())
+}
+
+// A rule of the last chain ends the walk.
+fn ends_in_last(rt: &impl Abort, filter: &mut Filter) -> Result<(), Fail> {
+    filter.accepts(rt, "-A d1024 -j DROP")?;
+    ends(rt, filter, 1025, Verdict::Drop, false)
+}
+
+#[test]
+fn a_jump_through_every_chain(rt: HostRuntime) -> Result<(), Fail> {
+    let mut filter = Filter::new(rt.alloc())?;
+    row_of_chains(&rt, &mut filter)?;
+    ends(&rt, &filter, 1024, Verdict::Accept, true)?;
+    passes_each(&rt, &filter)?;
+    refuses_more(&rt, &mut filter)?;
+    ends_in_last(&rt, &mut filter)
 }
 
 // Makes a chain whose name is a letter with a number.
@@ -201,12 +218,12 @@ fn doubling_chains(
 fn forty_doubling_chains(rt: HostRuntime) -> Result<(), Fail> {
     let mut filter = Filter::new(rt.alloc())?;
     doubling_chains(&rt, &mut filter, "e", 1, 40)?;
-    let acts = [
+    const ACTS: &[Act] = &[
         Act::Runs("-A INPUT -j e1"),
         Act::Replies(PACKET, "verdict TOOLONG"),
         Act::Refuses("-A e40 -j e1", TableFault::Loop),
     ];
-    filter.acts(&rt, &acts)?;
+    filter.acts(&rt, ACTS)?;
     ends(&rt, &filter, 0, Verdict::TooLong, false)
 }
 
@@ -225,22 +242,33 @@ fn expect_longest(rt: &impl Abort, filter: &Filter, by_policy: bool) -> Result<(
     Ok(())
 }
 
-#[test]
-fn the_longest_walk(rt: HostRuntime) -> Result<(), Fail> {
-    let mut filter = Filter::new(rt.alloc())?;
-    doubling_chains(&rt, &mut filter, "c", 0, 15)?;
-    filter.run_all(&rt, &["-A INPUT -j c0", "-A INPUT -j ACCEPT"])?;
-    expect_longest(&rt, &filter, false)?;
-    let acts = [
+// A table in which a packet's walk is one of the longest.
+fn of_longest(rt: &impl Abort, alloc: Global) -> Result<Filter, Fail> {
+    let mut filter = Filter::new(alloc)?;
+    doubling_chains(rt, &mut filter, "c", 0, 15)?;
+    filter.run_all(rt, &["-A INPUT -j c0", "-A INPUT -j ACCEPT"])?;
+    Ok(filter)
+}
+
+// A further rule makes the walk too long, and without the last one it ends by the policy.
+fn end_by_policy(rt: &impl Abort, filter: &mut Filter) -> Result<(), Fail> {
+    const ACTS: &[Act] = &[
         Act::Runs("-I INPUT 2"),
         Act::Replies(PACKET, "verdict TOOLONG"),
         Act::Runs("-D INPUT 3"),
     ];
-    filter.acts(&rt, &acts)?;
-    expect_longest(&rt, &filter, true)?;
-    let acts = [
+    filter.acts(rt, ACTS)?;
+    expect_longest(rt, filter, true)
+}
+
+#[test]
+fn the_longest_walk(rt: HostRuntime) -> Result<(), Fail> {
+    const ACTS: &[Act] = &[
         Act::Runs("-A INPUT -j LOG"),
         Act::Replies(PACKET, "verdict TOOLONG"),
     ];
-    filter.acts(&rt, &acts)
+    let mut filter = of_longest(&rt, rt.alloc())?;
+    expect_longest(&rt, &filter, false)?;
+    end_by_policy(&rt, &mut filter)?;
+    filter.acts(&rt, ACTS)
 }

@@ -1,6 +1,7 @@
 // Plain lists of rules, and why an edit of them is refused: what a table has to show.
 use std::alloc::{AllocError, Global};
 use std::fmt::Write;
+use std::process::Abort;
 use table::TableFault;
 
 // The names that chains have, in the order of a listing. A chain is given by its place here.
@@ -88,8 +89,104 @@ impl Plain {
     }
 
     // The rules of a chain that is there, to be edited.
-    pub(crate) fn rules_mut(&mut self, chain: usize) -> Option<&mut Vec<Draft>> {
+    fn rules_mut(&mut self, chain: usize) -> Option<&mut Vec<Draft>> {
         self.rules.get_mut(chain)
+    }
+
+    // The last rule of a chain, if there is one.
+    pub(crate) fn last(&self, chain: usize) -> Option<Draft> {
+        let last = self.rules(chain).last()?;
+        Some(*last)
+    }
+
+    // Puts a rule last in a chain.
+    pub(crate) fn append(&mut self, chain: usize, draft: Draft) -> Result<(), AllocError> {
+        if let Some(rules) = self.rules_mut(chain) {
+            rules.push(draft)?;
+        }
+        Ok(())
+    }
+
+    // Puts a rule in as rule `number` of a chain.
+    pub(crate) fn insert(
+        &mut self,
+        rt: &impl Abort,
+        chain: usize,
+        number: usize,
+        draft: Draft,
+    ) -> Result<(), AllocError> {
+        if let Some(rules) = self.rules_mut(chain) {
+            assert!(rt; 0 < number && number - 1 <= rules.len());
+            rules.insert(number - 1, draft)?;
+        }
+        Ok(())
+    }
+
+    // Puts a rule in the place of rule `number` of a chain.
+    pub(crate) fn replace(&mut self, rt: &impl Abort, chain: usize, number: usize, draft: Draft) {
+        if let Some(rules) = self.rules_mut(chain) {
+            assert!(rt; 0 < number && number - 1 < rules.len());
+            rules[number - 1] = draft;
+        }
+    }
+
+    // Takes rule `number` of a chain out.
+    pub(crate) fn remove(&mut self, rt: &impl Abort, chain: usize, number: usize) {
+        if let Some(rules) = self.rules_mut(chain) {
+            assert!(rt; 0 < number && number - 1 < rules.len());
+            rules.remove(number - 1);
+        }
+    }
+
+    // Takes all rules of a chain out.
+    pub(crate) fn clear(&mut self, chain: usize) {
+        if let Some(rules) = self.rules_mut(chain) {
+            rules.clear();
+        }
+    }
+
+    // The number of the first rule of a chain that is this, if there is one.
+    fn number_of(&self, chain: usize, draft: &Draft) -> Option<usize> {
+        let place = self.rules(chain).iter().position(|rule| *rule == *draft)?;
+        Some(place.saturating_add(1))
+    }
+
+    // Takes the first rule of a chain out that is this, if there is one.
+    pub(crate) fn remove_first(&mut self, rt: &impl Abort, chain: usize, draft: &Draft) {
+        if let Some(number) = self.number_of(chain, draft) {
+            self.remove(rt, chain, number);
+        }
+    }
+
+    // Why a chain isn't there, if it isn't.
+    pub(crate) fn fault_of_chain(&self, chain: usize) -> Option<TableFault> {
+        if self.has(chain) {
+            None
+        } else {
+            Some(TableFault::NoSuchChain)
+        }
+    }
+
+    // Why a rule isn't taken out by its number.
+    pub(crate) fn fault_of_number(&self, chain: usize, number: usize) -> Option<TableFault> {
+        if !self.has(chain) {
+            Some(TableFault::NoSuchChain)
+        } else if number == 0 || number > self.rules(chain).len() {
+            Some(TableFault::NumberOutOfRange)
+        } else {
+            None
+        }
+    }
+
+    // Why a rule isn't found in a chain.
+    pub(crate) fn fault_of_search(&self, chain: usize, draft: &Draft) -> Option<TableFault> {
+        if !self.has(chain) {
+            Some(TableFault::NoSuchChain)
+        } else if self.number_of(chain, draft).is_none() {
+            Some(TableFault::NoSuchRule)
+        } else {
+            None
+        }
     }
 
     pub(crate) fn make(&mut self, chain: usize) {

@@ -26,7 +26,7 @@ fn expect(
 
 #[test]
 fn a_goto_returns_past_its_chain(rt: HostRuntime) -> Result<(), Fail> {
-    let lines = [
+    const LINES: &[&str] = &[
         "-N a",
         "-N b",
         "-A INPUT -j a",
@@ -34,42 +34,37 @@ fn a_goto_returns_past_its_chain(rt: HostRuntime) -> Result<(), Fail> {
         "-A a -g b",
         "-A b -j RETURN",
     ];
-    let replies = [
+    const REPLIES: &[(&str, &str)] = &[
         (INPUT, "INPUT 1, a 1, b 1, INPUT 2, verdict DROP by rule"),
         (FORWARD, "verdict ACCEPT by policy"),
         (OUTPUT, "verdict ACCEPT by policy"),
     ];
-    expect(&rt, rt.alloc(), &lines, &replies)
+    expect(&rt, rt.alloc(), LINES, REPLIES)
 }
 
 #[test]
 fn a_goto_in_a_built_in_chain_ends_at_the_policy(rt: HostRuntime) -> Result<(), Fail> {
-    let alloc = rt.alloc();
-    let lines = ["-N b", "-A INPUT -g b", "-A INPUT -j DROP"];
-    expect(
-        &rt,
-        alloc,
-        &lines,
-        &[(INPUT, "INPUT 1, verdict ACCEPT by policy")],
-    )?;
-    let lines = [
+    const LINES: &[&str] = &["-N b", "-A INPUT -g b", "-A INPUT -j DROP"];
+    const REPLIES: &[(&str, &str)] = &[(INPUT, "INPUT 1, verdict ACCEPT by policy")];
+    expect(&rt, rt.alloc(), LINES, REPLIES)
+}
+
+#[test]
+fn a_return_after_a_goto_ends_at_the_policy(rt: HostRuntime) -> Result<(), Fail> {
+    const LINES: &[&str] = &[
         "-N b",
         "-A INPUT -g b",
         "-A INPUT -j ACCEPT",
         "-A b -j RETURN",
         "-P INPUT DROP",
     ];
-    expect(
-        &rt,
-        alloc,
-        &lines,
-        &[(INPUT, "INPUT 1, b 1, verdict DROP by policy")],
-    )
+    const REPLIES: &[(&str, &str)] = &[(INPUT, "INPUT 1, b 1, verdict DROP by policy")];
+    expect(&rt, rt.alloc(), LINES, REPLIES)
 }
 
 #[test]
 fn a_goto_keeps_the_rests_before_it(rt: HostRuntime) -> Result<(), Fail> {
-    let lines = [
+    const LINES: &[&str] = &[
         "-N a",
         "-N b",
         "-N c",
@@ -81,48 +76,52 @@ fn a_goto_keeps_the_rests_before_it(rt: HostRuntime) -> Result<(), Fail> {
         "-A b -j ACCEPT",
         "-A c",
     ];
-    let reply =
-        "FORWARD 1, a 1, b 1, c 1, a 2, FORWARD 2, verdict REJECT icmp-port-unreachable by rule";
-    expect(&rt, rt.alloc(), &lines, &[(FORWARD, reply)])
+    const REPLIES: &[(&str, &str)] = &[(
+        FORWARD,
+        "FORWARD 1, a 1, b 1, c 1, a 2, FORWARD 2, verdict REJECT icmp-port-unreachable by rule",
+    )];
+    expect(&rt, rt.alloc(), LINES, REPLIES)
 }
 
 #[test]
 fn a_return_in_a_built_in_chain_is_its_policy(rt: HostRuntime) -> Result<(), Fail> {
-    let alloc = rt.alloc();
-    let lines = ["-A INPUT", "-A INPUT -j RETURN", "-A INPUT -j DROP"];
-    expect(
-        &rt,
-        alloc,
-        &lines,
-        &[(INPUT, "INPUT 1, INPUT 2, verdict ACCEPT by policy")],
-    )?;
-    let lines = [
+    const LINES: &[&str] = &["-A INPUT", "-A INPUT -j RETURN", "-A INPUT -j DROP"];
+    const REPLIES: &[(&str, &str)] = &[(INPUT, "INPUT 1, INPUT 2, verdict ACCEPT by policy")];
+    expect(&rt, rt.alloc(), LINES, REPLIES)
+}
+
+#[test]
+fn a_return_in_a_chain_that_drops(rt: HostRuntime) -> Result<(), Fail> {
+    const LINES: &[&str] = &[
         "-P OUTPUT DROP",
         "-A OUTPUT -j RETURN",
         "-A OUTPUT -j ACCEPT",
     ];
-    let replies = [
+    const REPLIES: &[(&str, &str)] = &[
         (OUTPUT, "OUTPUT 1, verdict DROP by policy"),
         (INPUT, "verdict ACCEPT by policy"),
     ];
-    expect(&rt, alloc, &lines, &replies)
+    expect(&rt, rt.alloc(), LINES, REPLIES)
 }
 
 #[test]
 fn logs_and_rules_without_a_target_go_on(rt: HostRuntime) -> Result<(), Fail> {
-    let lines = [
+    const LINES: &[&str] = &[
         "-A INPUT -j LOG",
         "-A INPUT -p udp -j DROP",
         "-A INPUT -s 1.0.0.0/8",
         "-A INPUT -j REJECT --reject-with icmp-host-prohibited",
     ];
-    let reply = "INPUT 1, INPUT 3, INPUT 4, verdict REJECT icmp-host-prohibited by rule";
-    expect(&rt, rt.alloc(), &lines, &[(INPUT, reply)])
+    const REPLIES: &[(&str, &str)] = &[(
+        INPUT,
+        "INPUT 1, INPUT 3, INPUT 4, verdict REJECT icmp-host-prohibited by rule",
+    )];
+    expect(&rt, rt.alloc(), LINES, REPLIES)
 }
 
 #[test]
 fn each_hook_has_its_chain(rt: HostRuntime) -> Result<(), Fail> {
-    let lines = [
+    const LINES: &[&str] = &[
         "-A INPUT -i eth0 -j DROP",
         "-A FORWARD -i eth0 -o eth1 -j DROP",
         "-A OUTPUT -o eth1 -j DROP",
@@ -130,7 +129,7 @@ fn each_hook_has_its_chain(rt: HostRuntime) -> Result<(), Fail> {
         "-P OUTPUT DROP",
         "-P OUTPUT ACCEPT",
     ];
-    let replies = [
+    const REPLIES: &[(&str, &str)] = &[
         (
             "INPUT src=1.1.1.1 dst=2.2.2.2 proto=47 in=eth0",
             "INPUT 1, verdict DROP by rule",
@@ -156,34 +155,49 @@ fn each_hook_has_its_chain(rt: HostRuntime) -> Result<(), Fail> {
             "verdict ACCEPT by policy",
         ),
     ];
-    expect(&rt, rt.alloc(), &lines, &replies)
+    expect(&rt, rt.alloc(), LINES, REPLIES)
 }
 
 #[test]
-fn conditions_of_packets(rt: HostRuntime) -> Result<(), Fail> {
-    let alloc = rt.alloc();
-    let lines = ["-A INPUT -p tcp --syn -j DROP"];
-    let first = "INPUT src=1.1.1.1 dst=2.2.2.2 proto=tcp sport=1000 dport=80 flags=SYN,ACK";
-    let second = "INPUT src=1.1.1.1 dst=2.2.2.2 proto=tcp sport=1000 dport=80 flags=SYN";
-    let replies = [
-        (first, "verdict ACCEPT by policy"),
-        (second, "INPUT 1, verdict DROP by rule"),
+fn flags_of_packets(rt: HostRuntime) -> Result<(), Fail> {
+    const LINES: &[&str] = &["-A INPUT -p tcp --syn -j DROP"];
+    const REPLIES: &[(&str, &str)] = &[
+        (
+            "INPUT src=1.1.1.1 dst=2.2.2.2 proto=tcp sport=1000 dport=80 flags=SYN,ACK",
+            "verdict ACCEPT by policy",
+        ),
+        (
+            "INPUT src=1.1.1.1 dst=2.2.2.2 proto=tcp sport=1000 dport=80 flags=SYN",
+            "INPUT 1, verdict DROP by rule",
+        ),
     ];
-    expect(&rt, alloc, &lines, &replies)?;
-    let lines = ["-A INPUT -p tcp ! --dport 80 -j DROP"];
-    let fragment = "INPUT src=1.1.1.1 dst=2.2.2.2 proto=tcp frag=1";
-    expect(
-        &rt,
-        alloc,
-        &lines,
-        &[(fragment, "verdict ACCEPT by policy")],
-    )?;
-    let lines = ["-A INPUT -p icmp --icmp-type ping -j REJECT"];
-    let ping = "INPUT src=1.1.1.1 dst=2.2.2.2 proto=icmp icmp=8/0";
-    let reply = "INPUT 1, verdict REJECT icmp-port-unreachable by rule";
-    expect(&rt, alloc, &lines, &[(ping, reply)])?;
-    let lines = ["-A INPUT -s 10.1.2.3/8 -j ACCEPT", "-A INPUT -j DROP"];
-    let replies = [
+    expect(&rt, rt.alloc(), LINES, REPLIES)
+}
+
+#[test]
+fn fragments_have_no_port(rt: HostRuntime) -> Result<(), Fail> {
+    const LINES: &[&str] = &["-A INPUT -p tcp ! --dport 80 -j DROP"];
+    const REPLIES: &[(&str, &str)] = &[(
+        "INPUT src=1.1.1.1 dst=2.2.2.2 proto=tcp frag=1",
+        "verdict ACCEPT by policy",
+    )];
+    expect(&rt, rt.alloc(), LINES, REPLIES)
+}
+
+#[test]
+fn types_of_packets(rt: HostRuntime) -> Result<(), Fail> {
+    const LINES: &[&str] = &["-A INPUT -p icmp --icmp-type ping -j REJECT"];
+    const REPLIES: &[(&str, &str)] = &[(
+        "INPUT src=1.1.1.1 dst=2.2.2.2 proto=icmp icmp=8/0",
+        "INPUT 1, verdict REJECT icmp-port-unreachable by rule",
+    )];
+    expect(&rt, rt.alloc(), LINES, REPLIES)
+}
+
+#[test]
+fn addresses_of_packets(rt: HostRuntime) -> Result<(), Fail> {
+    const LINES: &[&str] = &["-A INPUT -s 10.1.2.3/8 -j ACCEPT", "-A INPUT -j DROP"];
+    const REPLIES: &[(&str, &str)] = &[
         (
             "INPUT src=10.9.9.9 dst=2.2.2.2 proto=47",
             "INPUT 1, verdict ACCEPT by rule",
@@ -193,5 +207,5 @@ fn conditions_of_packets(rt: HostRuntime) -> Result<(), Fail> {
             "INPUT 2, verdict DROP by rule",
         ),
     ];
-    expect(&rt, alloc, &lines, &replies)
+    expect(&rt, rt.alloc(), LINES, REPLIES)
 }

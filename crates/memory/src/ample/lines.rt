@@ -29,40 +29,64 @@ fn are_words(words: &Words, count: usize, byte: u8, length: usize) -> bool {
     last.len() == length && last.iter().all(|found| *found == byte)
 }
 
+/// What a line of the most bytes is made of: how it begins, what is repeated, and how it ends.
+type Parts = (&'static [u8], &'static [u8], &'static [u8]);
+
+/// The words of a line of the most bytes, or why it has none.
+fn split(alloc: Global, parts: Parts) -> Result<Result<Words, WordFault>, Trouble> {
+    let (first, part, last) = parts;
+    let line = line_of(alloc, first, part, last)?;
+    Ok(Words::split(alloc, &line))
+}
+
+/// Compares the words of a line of the most bytes.
+fn expect_words(
+    alloc: Global,
+    parts: Parts,
+    count: usize,
+    byte: u8,
+    length: usize,
+) -> Result<(), Trouble> {
+    match split(alloc, parts)? {
+        Ok(words) => expect(are_words(&words, count, byte, length)),
+        Err(_) => Err(Trouble::NoMemory),
+    }
+}
+
 /// Lines with thousands of words, and with words of thousands of bytes.
 pub fn words(alloc: Global) -> Result<(), Trouble> {
-    let rows: [(&[u8], &[u8], &[u8], usize, u8, usize); 5] = [
-        (b"", b"a ", b"", 5120, b'a', 1),
-        (b"", b"\t\"\"", b"", 3413, b'x', 0),
-        (b"", b"a", b"", 1, b'a', 10_240),
-        (b"\"", b"\\\"", b"\"", 1, b'"', 5119),
-        (b"", b" ", b"b", 1, b'b', 1),
+    const ROWS: &[(Parts, usize, u8, usize)] = &[
+        ((b"", b"a ", b""), 5120, b'a', 1),
+        ((b"", b"\t\"\"", b""), 3413, b'x', 0),
+        ((b"", b"a", b""), 1, b'a', 10_240),
+        ((b"\"", b"\\\"", b"\""), 1, b'"', 5119),
+        ((b"", b" ", b"b"), 1, b'b', 1),
     ];
-    for (first, part, last, count, byte, length) in rows {
-        let line = line_of(alloc, first, part, last)?;
-        match Words::split(alloc, &line) {
-            Ok(words) => expect(are_words(&words, count, byte, length))?,
-            Err(_) => return Err(Trouble::NoMemory),
-        }
+    for (parts, count, byte, length) in ROWS {
+        expect_words(alloc, *parts, *count, *byte, *length)?;
     }
     Ok(())
 }
 
+/// Compares why a line of the most bytes has no words.
+fn expect_misquoted(alloc: Global, parts: Parts) -> Result<(), Trouble> {
+    match split(alloc, parts)? {
+        Ok(_) => Err(Trouble::OtherAnswer),
+        Err(fault) => expect(fault == WordFault::Quoting),
+    }
+}
+
 /// Bad quoting at the end of long lines.
 pub fn bad_quoting(alloc: Global) -> Result<(), Trouble> {
-    let rows: [(&[u8], &[u8], &[u8]); 5] = [
+    const ROWS: &[Parts] = &[
         (b"\"", b"a", b""),
         (b"", b"a ", b"b\""),
         (b"", b"\"a\" ", b"\"\"b"),
         (b"\"", b"\\\"", b"\\"),
         (b"", b"a ", b"\"a b"),
     ];
-    for (first, part, last) in rows {
-        let line = line_of(alloc, first, part, last)?;
-        match Words::split(alloc, &line) {
-            Ok(_) => return Err(Trouble::OtherAnswer),
-            Err(fault) => expect(fault == WordFault::Quoting)?,
-        }
+    for parts in ROWS {
+        expect_misquoted(alloc, *parts)?;
     }
     Ok(())
 }
@@ -82,6 +106,16 @@ const OF_TCP: [u128; 11] = [
     13,
 ];
 
+/// Whether a packet has these numbers.
+fn is_of_tcp(packet: &Packet) -> bool {
+    for field in Field::ALL {
+        if packet.point(field) != OF_TCP[field.index()] {
+            return false;
+        }
+    }
+    true
+}
+
 /// Packets with every key.
 pub fn packets(alloc: Global) -> Result<(), Trouble> {
     let line =
@@ -93,11 +127,9 @@ pub fn packets(alloc: Global) -> Result<(), Trouble> {
     if words.len() != 12 {
         return Err(Trouble::OtherAnswer);
     }
-    let Ok(packet) = Packet::read(&words, 1) else {
-        return Err(Trouble::OtherAnswer);
-    };
-    for field in Field::ALL {
-        expect(packet.point(field) == OF_TCP[field.index()])?;
+    expect(is_text(words.get(0), b"packet"))?;
+    match Packet::read(&words, 1) {
+        Ok(packet) => expect(is_of_tcp(&packet)),
+        Err(_) => Err(Trouble::OtherAnswer),
     }
-    expect(is_text(words.get(0), b"packet"))
 }
