@@ -3,7 +3,7 @@ use Rattle.std.proofs.Common.{◌≡◌, ℕ, zero, suc, ◌+◌, ◌-◌, ◌<�
 use Rattle.std.specs.List.{insert, remove, range_with_len}
 use Rattle.std.specs.Prelude.{slice_index, Result, Ok, Err, OnErr}
 use Rattle.std.proofs.Math.Dec.{leb}
-use Rattle.std.proofs.lemmas.List.{map-append, take-map, drop-map, get_or_default, map-set, length-map, length-set}
+use Rattle.std.proofs.lemmas.List.{map-append, take-map, drop-map, get_or_default, get_or-map, map-set, length-map, length-set}
 use Rattle.std.proofs.Math.ListN.{set}
 use Rattle.std.proofs.lemmas.List.Edits.{length-insert, length-remove}
 use Rattle.fields.specs.declared.numbers.field.TheConstants.{FIELDS}
@@ -42,6 +42,11 @@ field_at k lt = let r = places_found ALL 0 refl k lt in (r.0, omega (arith, r.1)
 pub top_at : (field : Field) → slice_index tops (index field) ≡ top field
 unfolding tops
 top_at field = box_laws.top_at field
+
+-- the same by a field's place, for the crates above
+pub tops_at : (k : ℕ) (d : Field) → k < FIELDS → slice_index tops k ≡ top (get_or ALL k d)
+unfolding tops
+tops_at k d lt = get_or-map top ALL k d 0 lt
 
 -- the sets of a box have the fields' tops
 pub box_tops : (spans : List SpanSet) → IsBox spans → (k : ℕ) (s : SpanSet) → k < FIELDS → (get_or spans k s).top ≡ slice_index tops k
