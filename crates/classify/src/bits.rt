@@ -2,4 +2,5 @@
 
 pub(crate) mod bit_row;
 pub(crate) mod rows;
+pub(crate) mod summary;
 pub(crate) mod words;

@@ -7,5 +7,6 @@ pub mod RowsLaws
 pub mod SameLaws
 pub mod SlotLaws
 pub mod SlotRowLaws
+pub mod SummaryLaws
 pub mod WidenLaws
 pub mod WordLaws

@@ -11,7 +11,8 @@ use Rattle.std.proofs.lemmas.Nat.Bits.{bit_at_and, bit_at_ones, bit_at-lt, bit_a
 use Rattle.std.proofs.lemmas.Bool.{cases_lt, eqb-true, eq-eqb}
 use lib.Count.{count_trailing_zeros}
 use Rattle.classify.specs.steps.Packing.{all_bits}
-use Rattle.classify.specs.steps.CommonPlaces.{IsAndAt, AreAndsAt, AreWide, HaveAll, Nowhere, IsFirst}
+use Rattle.classify.specs.steps.CommonPlaces.{IsAndAt, AreWide, HaveAll, Nowhere, IsFirst}
+use Rattle.classify.specs.steps.Summaries.{IsMarked, SumUpAll}
 use Rattle.classify.proofs.laws.bits.GetLaws.{all_bit_at}
 
 abbrev Words : Type 0
@@ -116,64 +117,6 @@ whole_marks rows from words place word wide lt h le i in' =
     let b = bits_mark rows words place word i wide lt h in' in
     (λ one. (omega arith, b.0 one), λ both. b.1 both.1)
 
--- ---- four words at once
-
-pub four_first : (place : ℕ) → AreAndsAt (replicate 4 (2 ^ 64 - 1)) [] place
-four_first place = record {
-  long = length-replicate 4 (2 ^ 64 - 1);
-  each = λ j lt. (let P : ℕ → Type 0 = λ v. IsAndAt v [] (place + j) in subst P (sym (get_or-replicate 4 j (2 ^ 64 - 1) 0 lt)) (and_first (place + j)));
-}
-
-pub four_more : (rows : List Words) (k words place : ℕ) (all : List ℕ) (d : Words) → k < length rows → AreWide words rows → place + 4 ≤ words → AreAndsAt all (take k rows) place
-    → AreAndsAt (zip2 bit_and all (chunk place 4 (get_or rows k d).now)) (take (k + 1) rows) place
-four_more rows k words place all d lt wide room h =
-    let row : List ℕ = (get_or rows k d).now in
-    let long : length row ≡ words = wide k d lt in
-    let room' : place + 4 ≤ length row = omega arith in
-    let four : length (chunk place 4 row) ≡ 4 = length-chunk place 4 row room' in
-    record {
-      long = length-zip2 bit_and all (chunk place 4 row) (h.long ∙ sym four) ∙ h.long;
-      each = λ j in'.
-          (let a : j < length all = omega (arith, h.long) in
-          let b : j < length (chunk place 4 row) = omega arith in
-          let e : get_or (zip2 bit_and all (chunk place 4 row)) j 0 ≡ bit_and (get_or all j 0) (get_or row (place + j) 0) =
-          get_or-zip2 bit_and all (chunk place 4 row) j 0 0 0 a b ∙ ap (λ v. bit_and (get_or all j 0) v) (get_or-chunk place 4 row j 0 in') in
-          let P : ℕ → Type 0 = λ v. IsAndAt v (take (k + 1) rows) (place + j) in
-          subst P (sym e) (and_more rows k (get_or all j 0) (place + j) d lt (h.each j in')));
-    }
-
-zeros : (x : ℕ) (xs : List ℕ) → x ≡ 0 → ((j : ℕ) → get_or xs j 0 ≡ 0) → (j : ℕ) → get_or (x ∷ xs) j 0 ≡ 0
-zeros x xs e h zero = e
-zeros x xs e h (suc j) = h j
-
-or_zero : (a : ℕ) (xs : List ℕ) → fold_l bit_or a xs ≡ 0 → (a ≡ 0) × ((j : ℕ) → get_or xs j 0 ≡ 0)
-or_zero a [] e = (e, λ j. refl)
-or_zero a (x ∷ xs) e =
-    let r = or_zero (bit_or a x) xs e in
-    (omega (arith, le_or_l a x, r.0), zeros x xs (omega (arith, le_or_r a x, r.0)) r.1)
-
-four_empty : (rows : List Words) (from words place : ℕ) (lanes : List ℕ) → AreWide words rows → place + 4 ≤ words → AreAndsAt lanes rows place → ((j : ℕ) → get_or lanes j 0 ≡ 0) → from ≤ 64 * place
-    → Nowhere (HaveAll rows) from (64 * place) → (j : ℕ) → j ≤ 4 → Nowhere (HaveAll rows) from (64 * (place + j))
-four_empty rows from words place lanes wide room h z le before zero in' =
-    let e : place ≡ place + 0 = omega arith in
-    let P : ℕ → Type 0 = λ k. Nowhere (HaveAll rows) from (64 * k) in
-    subst P e before
-four_empty rows from words place lanes wide room h z le before (suc j) in' =
-    word_empty (HaveAll rows) from (64 * (place + j)) (get_or lanes j 0) (64 * (place + suc j))
-    (whole_marks rows from words (place + j) (get_or lanes j 0) wide (omega arith) (h.each j (omega arith)) (omega arith)) (z j)
-    (four_empty rows from words place lanes wide room h z le before j (omega arith)) (omega arith)
-
-four_passed : (rows : List Words) (from words place : ℕ) (lanes : List ℕ) → AreWide words rows → place + 4 ≤ words → AreAndsAt lanes rows place → fold_l bit_or 0 lanes ≡ 0 → from ≤ 64 * place
-    → Nowhere (HaveAll rows) from (64 * place) → Nowhere (HaveAll rows) from (64 * (place + 4))
-four_passed rows from words place lanes wide room h z le before = four_empty rows from words place lanes wide room h (or_zero 0 lanes z).1 le before 4 (omega arith)
-
--- what some of the rows lack all of them lack
-pub part_passed : (rows : List Words) (count words place : ℕ) (lanes : List ℕ) → AreWide words rows → place + 4 ≤ words → AreAndsAt lanes (take count rows) place → fold_l bit_or 0 lanes ≡ 0
-    → Nowhere (HaveAll rows) (64 * place) (64 * (place + 4))
-part_passed rows count words place lanes wide room h z k ge below every =
-    four_passed (take count rows) (64 * place) words place lanes (All-take (λ (row : Words). length row.now ≡ words) count rows wide) room h z (omega arith) (λ j low high p. absurd (omega arith)) k ge below
-    (All-take (λ (row : Words). get_or (all_bits row.now) k false ≡ true) count rows every)
-
 -- the word of `from`, without the bits before it
 head_is : (word r : ℕ) → r < 64 → word < 2 ^ 64 → bit_and word ((2 ^ 64 - 1) * 2 ^ r % 2 ^ 64) ≡ word / 2 ^ r * 2 ^ r
 head_is word r lt fits =
@@ -189,15 +132,34 @@ head_high word r i le =
     let e : r + (i - r) ≡ i = omega arith in
     ap (λ v. bit_at v i) (sym z) ∙ bit_at_cat_high (word / 2 ^ r) r 0 i (pow_pos r) le ∙ ap (λ v. v % 2) (shr-shr word r (i - r) ∙ ap (λ k. word / 2 ^ k) e)
 
-pub head_marks : (rows : List Words) (from words word : ℕ) → AreWide words rows → from / 64 < words → word < 2 ^ 64 → IsAndAt word rows (from / 64)
-    → MarksPlaces (HaveAll rows) from (64 * (from / 64)) (bit_and word ((2 ^ 64 - 1) * 2 ^ (from % 64) % 2 ^ 64))
-head_marks rows from words word wide lt fits h i in' =
-    let b = bits_mark rows words (from / 64) word i wide lt h in' in
+-- of a word that marks places, the bits from one on
+pub masked_marks : (P : ℕ → Type 0) (from word : ℕ) → word < 2 ^ 64 → ((i : ℕ) → i < 64 → (bit_at word i ≡ 1) ↔ P (64 * (from / 64) + i)) → MarksPlaces P from (64 * (from / 64)) (bit_and word ((2 ^ 64 - 1) * 2 ^ (from % 64) % 2 ^ 64))
+masked_marks P from word fits b i in' =
     let r64 : from % 64 < 64 = omega arith in
     let e = ap (λ v. bit_at v i) (head_is word (from % 64) r64 fits) in (
       λ one. elim (cases_lt i (from % 64)) [
         | inl low ↦ absurd (not_one (bit_at (word / 2 ^ (from % 64) * 2 ^ (from % 64)) i) (head_low (word / 2 ^ (from % 64)) (from % 64) i low) (sym e ∙ one))
-        | inr high ↦ (omega arith, b.0 (sym (head_high word (from % 64) i high) ∙ sym e ∙ one))
+        | inr high ↦ (omega arith, (b i in').0 (sym (head_high word (from % 64) i high) ∙ sym e ∙ one))
       ],
-      λ both. (let high : from % 64 ≤ i = omega (arith, both.0) in e ∙ head_high word (from % 64) i high ∙ b.1 both.1),
+      λ both. (let high : from % 64 ≤ i = omega (arith, both.0) in e ∙ head_high word (from % 64) i high ∙ (b i in').1 both.1),
     )
+
+pub head_marks : (rows : List Words) (from words word : ℕ) → AreWide words rows → from / 64 < words → word < 2 ^ 64 → IsAndAt word rows (from / 64)
+    → MarksPlaces (HaveAll rows) from (64 * (from / 64)) (bit_and word ((2 ^ 64 - 1) * 2 ^ (from % 64) % 2 ^ 64))
+head_marks rows from words word wide lt fits h = masked_marks (HaveAll rows) from word fits (λ i in'. bits_mark rows words (from / 64) word i wide lt h in')
+
+-- ---- summaries
+
+-- a summary marks the words of 64, from one of them on
+pub summary_marks : (summary start : ℕ) → summary < 2 ^ 64 → MarksPlaces (IsMarked summary) start (64 * (start / 64)) (bit_and summary ((2 ^ 64 - 1) * 2 ^ (start % 64) % 2 ^ 64))
+summary_marks summary start fits = masked_marks (IsMarked summary) start summary fits (λ i in'.
+    let e : (64 * (start / 64) + i) % 64 ≡ i = omega arith in
+    let read = ap (λ k. bit_at summary k) e in
+    (λ one. read ∙ one, λ on. sym read ∙ on))
+
+pub nowhere_up_to : (P : ℕ → Type 0) (from to less : ℕ) → less ≤ to → Nowhere P from to → Nowhere P from less
+nowhere_up_to P from to less le h k ge below p = h k ge (omega arith) p
+
+-- no row has a place in words that their summary lacks
+pub nowhere_marked : (rows : List Words) (summary words from to : ℕ) → to ≤ words → SumUpAll summary words rows → Nowhere (IsMarked summary) from to → Nowhere (HaveAll rows) (64 * from) (64 * to)
+nowhere_marked rows summary words from to le sum h p ge below every = h (p / 64) (omega arith) (omega arith) (sum p (omega arith) every)
