@@ -1,10 +1,11 @@
 //! The search for the first place that every row has: rows and-ed word by word.
 
-ghost use Rattle.std.specs.Prelude.{◌<◌, ◌≤◌, ◌+◌, ◌*◌, ◌/◌, ◌^◌, ℕ};
-ghost use Rattle.classify.specs.steps.CommonPlaces.{IsAndAt, AreWide, HaveAll, IsFirst};
+ghost use Rattle.std.specs.Prelude.{IsTrue, ◌<◌, ◌≤◌, ◌+◌, ◌*◌, ◌/◌, ◌^◌, ℕ};
+ghost use Rattle.classify.specs.steps.CommonPlaces.{IsAndAt, AreWide, HaveAll, Nowhere, IsFirst};
 ghost use Rattle.classify.specs.steps.Summaries.{SumUpAll};
 
 use crate::bits::summary::next_marked;
+use std::simd::prelude::*;
 
 // The words at a place of every row, and-ed.
 fn and_at(rows: &[&[u64]], place: usize) -> u64
@@ -19,21 +20,52 @@ fn and_at(rows: &[&[u64]], place: usize) -> u64
     all
 }
 
-// The first place that every row has, from a word on: words that their summary lacks are passed over.
-fn scan(rows: &[&[u64]], summary: u64, start: usize, words: usize) -> Option<usize>
+// Whether four words at a place are seen to have no place that every row has: their words are and-ed in lanes, row by row,
+// until no bit is left. The addresses come first, which tell most.
+fn is_clear(rows: &[&[u64]], place: usize) -> bool
+    requires { (words : ℕ) × AreWide words rows.now × (place + 4 ≤ words) }
+    ensures { IsTrue result → Nowhere (HaveAll rows.now) (64 * place) (64 * (place + 4)) }
+{
+    let mut all = u64x4::splat(u64::MAX);
+    for row in rows {
+        let words: &[u64] = row;
+        all &= u64x4::from_slice(&words[place..]);
+        if all.reduce_or() == 0 {
+            return true;
+        }
+    }
+    false
+}
+
+// Passes over words that no such place is in: those that the summary lacks, and of the others four at a time. It stops
+// before four that aren't seen to be so, or where fewer than four are left.
+fn skip(rows: &[&[u64]], summary: u64, start: usize, words: usize) -> usize
     requires wide { AreWide words rows.now }
     requires few { words < 2 ^ 58 }
     requires summed { SumUpAll summary words rows.now }
     requires within { start ≤ words }
-    ensures { IsFirst (HaveAll rows.now) (64 * start) (64 * words) result }
+    ensures low { start ≤ result }
+    ensures high { result ≤ words }
+    ensures none { Nowhere (HaveAll rows.now) (64 * start) (64 * result) }
 {
     let mut place = next_marked(summary, start, words);
-    while place < words {
+    while place + 4 <= words && is_clear(rows, place) {
+        place = next_marked(summary, place + 4, words);
+    }
+    place
+}
+
+// The first place that every row has, from a word on.
+fn scan(rows: &[&[u64]], start: usize, words: usize) -> Option<usize>
+    requires wide { AreWide words rows.now }
+    requires few { words < 2 ^ 58 }
+    ensures { IsFirst (HaveAll rows.now) (64 * start) (64 * words) result }
+{
+    for place in start..words {
         let all = and_at(rows, place);
         if all != 0 {
             return Some(64 * place + all.trailing_zeros() as usize);
         }
-        place = next_marked(summary, place + 1, words);
     }
     None
 }
@@ -69,6 +101,9 @@ pub(crate) fn first_common(
     }
     match head(rows, from) {
         Some(place) => Some(place),
-        None => scan(rows, summary, from / 64 + 1, words),
+        None => {
+            let start = skip(rows, summary, from / 64 + 1, words);
+            scan(rows, start, words)
+        }
     }
 }

@@ -12,6 +12,11 @@ use Rattle.classify.specs.classifier.Classifier.{Classified}
 pub record IsAndAt (word : ℕ) (rows : List (Bor (List ℕ))) (place : ℕ) : Type 0 where
   pub each : (i : ℕ) → i < 64 → (bit_at word i ≡ 1) ↔ All (λ (row : Bor (List ℕ)). bit_at (slice_index row.now place) i ≡ 1) rows
 
+-- the same of four words from a place on
+pub record AreAndsAt (lanes : List ℕ) (rows : List (Bor (List ℕ))) (place : ℕ) : Type 0 where
+  pub long : length lanes ≡ 4
+  pub each : (j : ℕ) → j < 4 → IsAndAt (slice_index lanes j) rows (place + j)
+
 -- each row has so many words
 abbrev pub AreWide : ℕ → List (Bor (List ℕ)) → Type 0
 AreWide words rows = All (λ (row : Bor (List ℕ)). length row.now ≡ words) rows

@@ -14,8 +14,9 @@ use std::alloc::{AllocError, Global};
 use std::marker::Model;
 use std::mem::size_of;
 
-/// How many bytes a piece takes beside the words of its row, where its start has 32 bits: its start, and the slot of its row.
-pub const PIECE_BYTES: usize = size_of::<u32>() + size_of::<u32>();
+/// How many bytes a piece takes beside the words of its row, where its start has 32 bits: its start, and the slot of its row
+/// and its summary.
+pub const PIECE_BYTES: usize = size_of::<u32>() + size_of::<u32>() + size_of::<u64>();
 
 /// The words of a row that its bits need, as they are lent, and its summary.
 #[derive(Clone, Copy)]

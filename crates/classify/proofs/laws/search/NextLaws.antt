@@ -3,7 +3,7 @@ use Rattle.std.proofs.Common.{◌≡◌, ◌↔◌, inl, inr, ℕ, zero, suc, �
 use Rattle.std.specs.Prelude.{◌/◌, ◌%◌, ◌^◌, slice_index, bit_and}
 use Rattle.std.specs.Int.{bit_at}
 use Rattle.std.proofs.lemmas.Nat.Bits.{bit_at_and, bit_at_ones}
-use Rattle.classify.specs.steps.Summaries.{IsMarked, IsSummaryOf, SumUpAll, SumUpPoint}
+use Rattle.classify.specs.steps.Summaries.{IsSummaryOf, SumUpAll, SumUpPoint}
 use Rattle.std.specs.List.{list_all, position_or_len}
 use Rattle.std.specs.Option.{option_map}
 use Rattle.std.proofs.Math.Dec.{ltb}

@@ -11,7 +11,7 @@ use Rattle.std.proofs.lemmas.Nat.Bits.{bit_at_and, bit_at_ones, bit_at-lt, bit_a
 use Rattle.std.proofs.lemmas.Bool.{cases_lt, eqb-true, eq-eqb}
 use lib.Count.{count_trailing_zeros}
 use Rattle.classify.specs.steps.Packing.{all_bits}
-use Rattle.classify.specs.steps.CommonPlaces.{IsAndAt, AreWide, HaveAll, Nowhere, IsFirst}
+use Rattle.classify.specs.steps.CommonPlaces.{IsAndAt, AreAndsAt, AreWide, HaveAll, Nowhere, IsFirst}
 use Rattle.classify.specs.steps.Summaries.{IsMarked, SumUpAll}
 use Rattle.classify.proofs.laws.bits.GetLaws.{all_bit_at}
 
@@ -116,6 +116,64 @@ pub whole_marks : (rows : List Words) (from words place word : ℕ) → AreWide 
 whole_marks rows from words place word wide lt h le i in' =
     let b = bits_mark rows words place word i wide lt h in' in
     (λ one. (omega arith, b.0 one), λ both. b.1 both.1)
+
+-- ---- four words at once
+
+pub four_first : (place : ℕ) → AreAndsAt (replicate 4 (2 ^ 64 - 1)) [] place
+four_first place = record {
+  long = length-replicate 4 (2 ^ 64 - 1);
+  each = λ j lt. (let P : ℕ → Type 0 = λ v. IsAndAt v [] (place + j) in subst P (sym (get_or-replicate 4 j (2 ^ 64 - 1) 0 lt)) (and_first (place + j)));
+}
+
+pub four_more : (rows : List Words) (k words place : ℕ) (all : List ℕ) (d : Words) → k < length rows → AreWide words rows → place + 4 ≤ words → AreAndsAt all (take k rows) place
+    → AreAndsAt (zip2 bit_and all (chunk place 4 (get_or rows k d).now)) (take (k + 1) rows) place
+four_more rows k words place all d lt wide room h =
+    let row : List ℕ = (get_or rows k d).now in
+    let long : length row ≡ words = wide k d lt in
+    let room' : place + 4 ≤ length row = omega arith in
+    let four : length (chunk place 4 row) ≡ 4 = length-chunk place 4 row room' in
+    record {
+      long = length-zip2 bit_and all (chunk place 4 row) (h.long ∙ sym four) ∙ h.long;
+      each = λ j in'.
+          (let a : j < length all = omega (arith, h.long) in
+          let b : j < length (chunk place 4 row) = omega arith in
+          let e : get_or (zip2 bit_and all (chunk place 4 row)) j 0 ≡ bit_and (get_or all j 0) (get_or row (place + j) 0) =
+          get_or-zip2 bit_and all (chunk place 4 row) j 0 0 0 a b ∙ ap (λ v. bit_and (get_or all j 0) v) (get_or-chunk place 4 row j 0 in') in
+          let P : ℕ → Type 0 = λ v. IsAndAt v (take (k + 1) rows) (place + j) in
+          subst P (sym e) (and_more rows k (get_or all j 0) (place + j) d lt (h.each j in')));
+    }
+
+zeros : (x : ℕ) (xs : List ℕ) → x ≡ 0 → ((j : ℕ) → get_or xs j 0 ≡ 0) → (j : ℕ) → get_or (x ∷ xs) j 0 ≡ 0
+zeros x xs e h zero = e
+zeros x xs e h (suc j) = h j
+
+or_zero : (a : ℕ) (xs : List ℕ) → fold_l bit_or a xs ≡ 0 → (a ≡ 0) × ((j : ℕ) → get_or xs j 0 ≡ 0)
+or_zero a [] e = (e, λ j. refl)
+or_zero a (x ∷ xs) e =
+    let r = or_zero (bit_or a x) xs e in
+    (omega (arith, le_or_l a x, r.0), zeros x xs (omega (arith, le_or_r a x, r.0)) r.1)
+
+four_empty : (rows : List Words) (from words place : ℕ) (lanes : List ℕ) → AreWide words rows → place + 4 ≤ words → AreAndsAt lanes rows place → ((j : ℕ) → get_or lanes j 0 ≡ 0) → from ≤ 64 * place
+    → Nowhere (HaveAll rows) from (64 * place) → (j : ℕ) → j ≤ 4 → Nowhere (HaveAll rows) from (64 * (place + j))
+four_empty rows from words place lanes wide room h z le before zero in' =
+    let e : place ≡ place + 0 = omega arith in
+    let P : ℕ → Type 0 = λ k. Nowhere (HaveAll rows) from (64 * k) in
+    subst P e before
+four_empty rows from words place lanes wide room h z le before (suc j) in' =
+    word_empty (HaveAll rows) from (64 * (place + j)) (get_or lanes j 0) (64 * (place + suc j))
+    (whole_marks rows from words (place + j) (get_or lanes j 0) wide (omega arith) (h.each j (omega arith)) (omega arith)) (z j)
+    (four_empty rows from words place lanes wide room h z le before j (omega arith)) (omega arith)
+
+four_passed : (rows : List Words) (from words place : ℕ) (lanes : List ℕ) → AreWide words rows → place + 4 ≤ words → AreAndsAt lanes rows place → fold_l bit_or 0 lanes ≡ 0 → from ≤ 64 * place
+    → Nowhere (HaveAll rows) from (64 * place) → Nowhere (HaveAll rows) from (64 * (place + 4))
+four_passed rows from words place lanes wide room h z le before = four_empty rows from words place lanes wide room h (or_zero 0 lanes z).1 le before 4 (omega arith)
+
+-- what some of the rows lack all of them lack
+pub part_passed : (rows : List Words) (count words place : ℕ) (lanes : List ℕ) → AreWide words rows → place + 4 ≤ words → AreAndsAt lanes (take count rows) place → fold_l bit_or 0 lanes ≡ 0
+    → Nowhere (HaveAll rows) (64 * place) (64 * (place + 4))
+part_passed rows count words place lanes wide room h z k ge below every =
+    four_passed (take count rows) (64 * place) words place lanes (All-take (λ (row : Words). length row.now ≡ words) count rows wide) room h z (omega arith) (λ j low high p. absurd (omega arith)) k ge below
+    (All-take (λ (row : Words). get_or (all_bits row.now) k false ≡ true) count rows every)
 
 -- the word of `from`, without the bits before it
 head_is : (word r : ℕ) → r < 64 → word < 2 ^ 64 → bit_and word ((2 ^ 64 - 1) * 2 ^ r % 2 ^ 64) ≡ word / 2 ^ r * 2 ^ r

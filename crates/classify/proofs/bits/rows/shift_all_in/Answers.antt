@@ -1,4 +1,4 @@
-use Rattle.std.proofs.Common.{◌≡◌, ◌<◌, ◌*◌, ◌∙◌, sym, ap, arith, refl, length, length-set, insert, false, rules, vec_len, subst, take, drop, List, ℕ}
+use Rattle.std.proofs.Common.{◌≡◌, ◌<◌, ◌*◌, ◌∙◌, ap, arith, refl, length, length-set, insert, false, rules, vec_len, subst, take, drop, List, ℕ}
 use Rattle.classify.specs.steps.Packing.{all_bits}
 use Rattle.classify.specs.steps.Held.{TakesIn, words_in}
 use Rattle.classify.specs.steps.Summaries.{IsSummaryOf}

@@ -22,9 +22,10 @@ invariant_of-self c =
     let R : List ℕ → Type 0 = λ ss. AreSummaries c.self.inside.width ss c.fill.new.self.items (length (set c.truncate.new.self.items 0 0)) in
     let S : List ℕ → Type 0 = λ ss. AreSummaries c.self.inside.width (0 ∷ []) c.fill.new.self.items (length ss) in
     let one : List ℕ = 0 ∷ [] in
-    let T : List ℕ → Type 0 = λ ws. AreSummaries c.self.inside.width one ws (length one) in
-    (subst P (sym first) (subst Q (sym filled) (cleared_held c.self.inside.width c.self.invariant.0.few)),
-    subst R (sym summed) (subst S (sym first) (subst T (sym filled) (cleared_summed c.self.inside.width))))
+    let T : List ℕ → Type 0 = λ ws. AreSummaries c.self.inside.width one ws (length one) in (
+      subst P (sym first) (subst Q (sym filled) (cleared_held c.self.inside.width c.self.invariant.0.few)),
+      subst R (sym summed) (subst S (sym first) (subst T (sym filled) (cleared_summed c.self.inside.width))),
+    )
 
 pub returns-clause-room : goal.returns-clause-room
 returns-clause-room c = cleared_room _ _ _ _ c.args.self.now c.self.invariant.0 c.self.view_is c.requires

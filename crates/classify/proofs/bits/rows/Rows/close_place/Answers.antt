@@ -12,8 +12,7 @@ overflow_sub-self c = omega (arith, place_below _ _ c.args.at _ _ c.args.self.no
 pub invariant_of-self : goal.invariant_of-self
 invariant_of-self c =
     let held : vec_len c.self.inside.slots ≡ length c.self.inside.slots.items = search rules in
-    let below = place_below _ _ c.args.at _ _ c.args.self.now c.self.invariant.0 c.self.view_is c.requires.some c.requires.place in
-    (
+    let below = place_below _ _ c.args.at _ _ c.args.self.now c.self.invariant.0 c.self.view_is c.requires.some c.requires.place in (
       closed_held c.self.inside.len c.self.inside.width c.args.at c.self.inside.slots.items c.self.inside.words.items c.shift_all_out.new.words.items c.self.invariant.0 below c.shift_all_out.ensures.len
           (λ slot lt. c.shift_all_out.ensures.rows slot (omega (arith, lt, c.self.invariant.1.counted))),
       record {

@@ -19,8 +19,7 @@ pub invariant_of-self-2 : goal.invariant_of-self-2
 invariant_of-self-2 c =
     let room : 64 * c.self.inside.width - c.self.inside.len ≡ c.args.self.now.room = ap (λ (r : RowsAndRoom). r.room) c.self.view_is in
     let held : vec_len c.self.inside.slots ≡ length c.self.inside.slots.items = search rules in
-    let most = place_at_most _ _ c.args.at _ _ c.args.self.now c.self.invariant.0 c.self.view_is c.requires.some c.requires.place in
-    (
+    let most = place_at_most _ _ c.args.at _ _ c.args.self.now c.self.invariant.0 c.self.view_is c.requires.some c.requires.place in (
       opened_held c.self.inside.len c.self.inside.width c.args.at c.self.inside.slots.items c.self.inside.words.items c.shift_all_in.new.words.items c.self.invariant.0 (omega (arith, c.requires.room)) most c.shift_all_in.ensures.len
           (λ slot lt. c.shift_all_in.ensures.rows slot (omega (arith, lt, c.self.invariant.1.counted))),
       record {

@@ -15,8 +15,7 @@ invariant_of-self c =
     let widened = subst P count (record {
       size = c.in_ok-self-inside.ensures.len;
       rows = λ slot lt. c.in_ok-self-inside.ensures.rows slot lt ∙ ap (λ (ws : List ℕ). words_in c.self.inside.width ws slot ++ replicate (c.twice-wider.result - c.self.inside.width) 0) c.deref.ensures.value;
-    }) in
-    (
+    }) in (
       widened_held c.self.inside.len c.self.inside.width c.twice-wider.result c.self.inside.slots.items c.self.inside.words.items c.in_ok-self-inside.field-0.items c.self.invariant.0 (omega (arith, wide)) (omega (arith, wide)) widened,
       widened_summed c.self.inside.width c.twice-wider.result (length c.self.inside.slots.items) c.self.inside.words.items c.in_ok-self-inside.field-0.items c.self.inside.summaries.items widened c.self.invariant.1,
     )

@@ -22,8 +22,7 @@ pub invariant_of-self : goal.invariant_of-self
 invariant_of-self c =
     let row = row_there _ _ _ _ c.args.self.now c.args.row c.self.view_is c.requires.row in
     let at = bit_there _ _ _ _ c.args.self.now c.args.row c.args.at _ c.self.invariant.0 c.self.view_is row c.index.ensures c.requires.place in
-    let below = slot_below _ _ _ _ c.args.row c.index.result.now c.self.invariant.0 row c.index.ensures in
-    (
+    let below = slot_below _ _ _ _ c.args.row c.index.result.now c.self.invariant.0 row c.index.ensures in (
       written_held _ _ _ _ c.args.row c.index.result.now c.args.at c.index-word.result.now c.set_bit.result c.args.bit
           (record { held = c.self.invariant.0; row = row; slot = c.index.ensures; place = at; read = c.index-word.ensures; bits = c.set_bit.ensures }),
       record {

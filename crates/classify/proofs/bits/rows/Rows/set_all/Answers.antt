@@ -15,8 +15,7 @@ mark_all-requires-clause-summed c = λ slot lt. c.self.invariant.1.each slot (om
 
 pub invariant_of-self : goal.invariant_of-self
 invariant_of-self c =
-    let below = place_below _ _ c.args.at _ _ c.args.self.now c.self.invariant.0 c.self.view_is c.requires.some c.requires.place in
-    (
+    let below = place_below _ _ c.args.at _ _ c.args.self.now c.self.invariant.0 c.self.view_is c.requires.some c.requires.place in (
       gained_held c.self.inside.len c.self.inside.width c.args.at c.self.inside.slots.items c.self.inside.words.items c.mark_all.new.words.items c.self.invariant.0 below c.mark_all.ensures.len
           (λ slot lt. c.mark_all.ensures.rows slot (omega (arith, lt, c.self.invariant.1.counted))),
       record {
