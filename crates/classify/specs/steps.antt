@@ -6,4 +6,3 @@ pub mod Fields
 pub mod Held
 pub mod Packing
 pub mod Pieces
-pub mod Summaries

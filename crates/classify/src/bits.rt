@@ -2,5 +2,4 @@
 
 pub(crate) mod bit_row;
 pub(crate) mod rows;
-pub(crate) mod summary;
 pub(crate) mod words;

@@ -7,6 +7,5 @@ pub mod RowsLaws
 pub mod SameLaws
 pub mod SlotLaws
 pub mod SlotRowLaws
-pub mod SummaryLaws
 pub mod WidenLaws
 pub mod WordLaws

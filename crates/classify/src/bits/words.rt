@@ -52,10 +52,7 @@ pub(crate) fn set_bit(word: u64, offset: u32, bit: bool) -> u64
     requires { offset < 64 }
     ensures { word_bits 64 result ≡ slice_set (word_bits 64 word) offset bit }
 {
-    if bit {
-        return word | 1 << offset;
-    }
-    word & !(1 << offset)
+    insert_bit(remove_bit(word, offset, false), offset, bit)
 }
 
 // Moves the bits of a word up by one: the highest bit of the word below comes in first.
