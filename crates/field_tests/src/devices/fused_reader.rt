@@ -40,14 +40,17 @@ fn fails_by(reader: &mut FusedReader<'_>, kind: ErrorKind) -> bool {
     }
 }
 
+// Whether there were so many calls, and this one failed.
+fn has_calls(reader: &FusedReader<'_>, calls: u64, failed_at: Option<u32>) -> bool {
+    reader.calls() == calls && reader.failed_at() == failed_at
+}
+
 // Whether the second call fails so and takes nothing, and the third goes on.
 fn goes_on(failure: Failure, kind: ErrorKind) -> bool {
     let mut reader = FusedReader::new(b"abc", Fuse::failing(2, 1, failure));
-    let unfailed = reader.fill_buf().is_ok() && reader.failed_at().is_none();
-    let failed = fails_by(&mut reader, kind)
-        && reader.failed_at() == Some(1)
-        && reader.calls() == 2;
-    let shown = shows(&mut reader, b"ab") && reader.failed_at() == Some(1) && reader.calls() == 3;
+    let unfailed = shows(&mut reader, b"ab") && has_calls(&reader, 1, None);
+    let failed = fails_by(&mut reader, kind) && has_calls(&reader, 2, Some(1));
+    let shown = shows(&mut reader, b"ab") && has_calls(&reader, 3, Some(1));
     unfailed && failed && shown
 }
 
@@ -59,7 +62,7 @@ fn gives_bytes_in_chunks(rt: HostRuntime) {
     reader.consume(1);
     reads_on(&rt, &mut reader);
     assert!(rt; reader.rest() == b"ef".as_slice());
-    assert!(rt; reader.calls() == 3 && reader.failed_at().is_none());
+    assert!(rt; has_calls(&reader, 3, None));
     reader.consume(9);
     assert!(rt; is_at_end(&mut reader));
 }
@@ -70,14 +73,17 @@ fn gives_a_byte_where_none_is_asked(rt: HostRuntime) {
     assert!(rt; shows(&mut reader, b"a"));
 }
 
+// Each failure, and the kind of the error by which a read fails so.
+const FAILURES: &[(Failure, ErrorKind)] = &[
+    (Failure::Error, ErrorKind::Other),
+    (Failure::Interrupted, ErrorKind::Interrupted),
+    (Failure::Nothing, ErrorKind::Other),
+];
+
 // The call that fails takes nothing, and the next goes on.
 #[test]
 fn fails_once(rt: HostRuntime) {
-    for (failure, kind) in [
-        (Failure::Error, ErrorKind::Other),
-        (Failure::Interrupted, ErrorKind::Interrupted),
-        (Failure::Nothing, ErrorKind::Other),
-    ] {
-        assert!(rt; goes_on(failure, kind));
+    for (failure, kind) in FAILURES {
+        assert!(rt; goes_on(*failure, *kind));
     }
 }

@@ -11,6 +11,11 @@ fn takes(writer: &mut FusedWriter, bytes: &[u8], count: usize) -> bool {
     }
 }
 
+// Whether a flush goes on.
+fn flushes(writer: &mut FusedWriter) -> bool {
+    writer.flush().is_ok()
+}
+
 // Whether a write fails by an error of the kind, or by taking nothing where there is none.
 fn fails_by(writer: &mut FusedWriter, bytes: &[u8], kind: Option<ErrorKind>) -> bool {
     match writer.write(bytes) {
@@ -19,47 +24,64 @@ fn fails_by(writer: &mut FusedWriter, bytes: &[u8], kind: Option<ErrorKind>) -> 
     }
 }
 
+// Whether these bytes were written, and this call failed.
+fn has(writer: &FusedWriter, bytes: &[u8], failed_at: Option<u32>) -> bool {
+    writer.written() == bytes && writer.failed_at() == failed_at
+}
+
+// Whether there were so many calls, and so many of them flushes.
+fn has_calls(writer: &FusedWriter, calls: u64, flushes: u64) -> bool {
+    writer.calls() == calls && writer.flushes() == flushes
+}
+
 // Whether the second write fails so and takes nothing, and the third goes on.
 fn goes_on(alloc: Global, failure: Failure, kind: Option<ErrorKind>) -> Result<bool, Fail> {
     let room = Vec::with_capacity(alloc, 4)?;
     let mut writer = FusedWriter::new(room, Fuse::failing(2, 1, failure));
     let failed = takes(&mut writer, b"ab", 2) && fails_by(&mut writer, b"cd", kind);
-    let kept = writer.failed_at() == Some(1) && writer.written() == b"ab".as_slice();
-    let taken = takes(&mut writer, b"cd", 2) && writer.written() == b"abcd".as_slice();
-    Ok(failed && kept && taken && writer.calls() == 3)
+    let kept = has(&writer, b"ab", Some(1));
+    let taken = takes(&mut writer, b"cd", 2) && has(&writer, b"abcd", Some(1));
+    Ok(failed && kept && taken && has_calls(&writer, 3, 0))
 }
 
 #[test]
-fn takes_bytes_in_parts_while_there_is_room(rt: HostRuntime) {
-    let room = Vec::with_capacity(rt.alloc(), 3).expect(&rt, "memory");
+fn takes_bytes_in_parts_while_there_is_room(rt: HostRuntime) -> Result<(), Fail> {
+    let room = Vec::with_capacity(rt.alloc(), 3)?;
     let mut writer = FusedWriter::new(room, Fuse::never(2));
     assert!(rt; takes(&mut writer, b"abcd", 2));
-    assert!(rt; writer.flush().is_ok());
+    assert!(rt; flushes(&mut writer));
     assert!(rt; takes(&mut writer, b"cd", 1));
     assert!(rt; takes(&mut writer, b"d", 0));
-    assert!(rt; writer.written() == b"abc".as_slice());
-    assert!(rt; writer.calls() == 4 && writer.flushes() == 1 && writer.failed_at().is_none());
+    assert!(rt; has(&writer, b"abc", None) && has_calls(&writer, 4, 1));
+    Ok(())
 }
+
+// Each failure, and the kind of the error by which a write fails so, where there is one.
+const FAILURES: &[(Failure, Option<ErrorKind>)] = &[
+    (Failure::Error, Some(ErrorKind::Other)),
+    (Failure::Interrupted, Some(ErrorKind::Interrupted)),
+    (Failure::Nothing, None),
+];
 
 // The write that fails takes nothing, and the next goes on.
 #[test]
 fn fails_a_write(rt: HostRuntime) -> Result<(), Fail> {
-    for (failure, kind) in [
-        (Failure::Error, Some(ErrorKind::Other)),
-        (Failure::Interrupted, Some(ErrorKind::Interrupted)),
-        (Failure::Nothing, None),
-    ] {
-        assert!(rt; goes_on(rt.alloc(), failure, kind)?);
+    for (failure, kind) in FAILURES {
+        assert!(rt; goes_on(rt.alloc(), *failure, *kind)?);
     }
     Ok(())
 }
 
+// Whether the first flush fails, and the second goes on.
+fn flushes_on(alloc: Global, failure: Failure) -> bool {
+    let mut writer = FusedWriter::new(Vec::new(alloc), Fuse::failing(2, 0, failure));
+    let failed = !flushes(&mut writer) && has(&writer, b"", Some(0));
+    failed && flushes(&mut writer) && has_calls(&writer, 2, 2)
+}
+
 #[test]
 fn fails_a_flush(rt: HostRuntime) {
-    for failure in [Failure::Error, Failure::Interrupted, Failure::Nothing] {
-        let mut writer = FusedWriter::new(Vec::new(rt.alloc()), Fuse::failing(2, 0, failure));
-        assert!(rt; writer.flush().is_err() && writer.failed_at() == Some(0));
-        assert!(rt; writer.flush().is_ok());
-        assert!(rt; writer.calls() == 2 && writer.flushes() == 2);
+    for (failure, _) in FAILURES {
+        assert!(rt; flushes_on(rt.alloc(), *failure));
     }
 }

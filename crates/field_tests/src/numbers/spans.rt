@@ -148,49 +148,77 @@ fn small_meets_and_joins(rt: HostRuntime) -> Result<(), Fail> {
     Ok(())
 }
 
-#[test]
-fn intervals_of_one(rt: HostRuntime) -> Result<(), Fail> {
-    let alloc = rt.alloc();
-    for (first, last, count) in [
-        (0, 0, 1),
-        (0, 4, 1),
-        (2, 3, 1),
-        (4, 4, 1),
-        (1, 0, 0),
-        (4, 3, 0),
-        (4, 0, 0),
-    ] {
-        let set = Spans::one(alloc, TOP, first, last)?;
-        let want = [Interval { first, last }];
-        assert_eq!(rt; set.intervals(), &want[..count], "{first} to {last}");
-    }
-    Ok(())
-}
-
 // Whether the set's only interval is this.
 fn is_just(set: &Spans, first: u128, last: u128) -> bool {
     set.intervals() == [Interval { first, last }].as_slice()
 }
 
+// A first and a last number, and how many intervals the set from the one to the other has.
+const ENDS: &[(u128, u128, usize)] = &[
+    (0, 0, 1),
+    (0, 4, 1),
+    (2, 3, 1),
+    (4, 4, 1),
+    (1, 0, 0),
+    (4, 3, 0),
+    (4, 0, 0),
+];
+
+// Whether the set from the first to the last number has so many intervals, and no other than this.
+fn has_ends(
+    rt: &impl Abort,
+    alloc: Global,
+    (first, last): (u128, u128),
+    count: usize,
+) -> Result<bool, AllocError> {
+    assert!(rt; first <= TOP && last <= TOP);
+    let set = Spans::one(alloc, TOP, first, last)?;
+    Ok(set.intervals().len() == count && (count == 0 || is_just(&set, first, last)))
+}
+
 #[test]
-fn greatest_top(rt: HostRuntime) -> Result<(), Fail> {
-    let alloc = rt.alloc();
-    let top = u128::MAX;
-    let all = Spans::whole(alloc, top)?;
-    assert!(rt; is_just(&all, 0, top) && all.has(0) && all.has(top));
-    assert!(rt; all.except(alloc)?.intervals().is_empty());
+fn intervals_of_one(rt: HostRuntime) -> Result<(), Fail> {
+    for (first, last, count) in ENDS {
+        assert!(rt;
+            has_ends(&rt, rt.alloc(), (*first, *last), *count)?,
+            "{first} to {last}"
+        );
+    }
     Ok(())
 }
 
 #[test]
-fn end_of_greatest_top(rt: HostRuntime) -> Result<(), Fail> {
+fn greatest_top(rt: HostRuntime) -> Result<(), Fail> {
     let alloc = rt.alloc();
-    let top = u128::MAX;
-    let end = Spans::one(alloc, top, top - 1, top)?;
-    assert!(rt; end.has(top) && !end.has(top - 2));
-    let before = end.except(alloc)?;
-    assert!(rt; is_just(&before, 0, top - 2) && !before.has(top));
-    let again = before.except(alloc)?;
+    let all = Spans::whole(alloc, u128::MAX)?;
+    assert!(rt; is_just(&all, 0, u128::MAX) && all.has(0) && all.has(u128::MAX));
+    assert!(rt; all.except(alloc)?.intervals().is_empty());
+    Ok(())
+}
+
+// The two last numbers of the greatest top.
+fn last_two(alloc: Global) -> Result<Spans, AllocError> {
+    Spans::one(alloc, u128::MAX, u128::MAX - 1, u128::MAX)
+}
+
+#[test]
+fn end_of_greatest_top(rt: HostRuntime) -> Result<(), Fail> {
+    let end = last_two(rt.alloc())?;
+    assert!(rt; end.has(u128::MAX) && !end.has(u128::MAX - 2));
+    Ok(())
+}
+
+#[test]
+fn what_the_end_leaves(rt: HostRuntime) -> Result<(), Fail> {
+    let before = last_two(rt.alloc())?.except(rt.alloc())?;
+    assert!(rt; is_just(&before, 0, u128::MAX - 2) && !before.has(u128::MAX));
+    Ok(())
+}
+
+#[test]
+fn end_is_left_again(rt: HostRuntime) -> Result<(), Fail> {
+    let end = last_two(rt.alloc())?;
+    let again = end.except(rt.alloc())?.except(rt.alloc())?;
     assert!(rt; again.intervals() == end.intervals());
     Ok(())
 }
@@ -198,10 +226,8 @@ fn end_of_greatest_top(rt: HostRuntime) -> Result<(), Fail> {
 #[test]
 fn meet_at_greatest_top(rt: HostRuntime) -> Result<(), Fail> {
     let alloc = rt.alloc();
-    let top = u128::MAX;
-    let end = Spans::one(alloc, top, top - 1, top)?;
-    let last = Spans::one(alloc, top, top, top)?;
-    let both = meet_of(&rt, alloc, &end, &last)?;
-    assert!(rt; is_just(&both, top, top));
+    let last = Spans::one(alloc, u128::MAX, u128::MAX, u128::MAX)?;
+    let both = meet_of(&rt, alloc, &last_two(alloc)?, &last)?;
+    assert!(rt; is_just(&both, u128::MAX, u128::MAX));
     Ok(())
 }

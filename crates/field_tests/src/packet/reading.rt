@@ -4,15 +4,27 @@ use std::process::Abort;
 use std::test::Fail;
 
 // The packet that a line describes, from a place of its words on.
-fn packet_of(alloc: Global, line: &[u8], from: usize) -> Result<Packet, Fail> {
-    let words = Words::split(alloc, line)?;
-    Ok(Packet::read(&words, from)?)
+pub(super) fn packet_of(alloc: Global, line: &[u8], from: usize) -> Option<Packet> {
+    match Words::split(alloc, line) {
+        Ok(words) => Packet::read(&words, from).ok(),
+        Err(_) => None,
+    }
+}
+
+// Whether a line is no packet for the cause.
+pub(super) fn is_at_fault(alloc: Global, line: &[u8], fault: PacketFault) -> bool {
+    match Words::split(alloc, line) {
+        Ok(words) => Packet::read(&words, 0) == Err(fault),
+        Err(_) => false,
+    }
 }
 
 // The number of words of a line.
-fn count_of(alloc: Global, line: &[u8]) -> Result<usize, Fail> {
-    let words = Words::split(alloc, line)?;
-    Ok(words.len())
+fn count_of(alloc: Global, line: &[u8]) -> Option<usize> {
+    match Words::split(alloc, line) {
+        Ok(words) => Some(words.len()),
+        Err(_) => None,
+    }
 }
 
 // The packet has these numbers, and 0 on every other field.
@@ -24,104 +36,109 @@ fn has_points(rt: &impl Abort, packet: &Packet, source: u128, destination: u128,
             Field::Protocol => protocol,
             _ => 0,
         };
-        assert_eq!(rt; packet.point(field), value);
+        assert!(rt; packet.point(field) == value);
     }
 }
 
 #[test]
-fn packets_are_read(rt: HostRuntime) -> Result<(), Fail> {
+fn packets_are_read(rt: HostRuntime) {
     let line = b"packet INPUT src=10.9.9.9 dst=2.2.2.2 proto=47";
-    assert!(rt; count_of(rt.alloc(), line)? == 5);
-    let packet = packet_of(rt.alloc(), line, 1)?;
-    assert_eq!(rt; packet.hook(), Hook::Input);
+    assert!(rt; count_of(rt.alloc(), line) == Some(5));
+    let packet = packet_of(rt.alloc(), line, 1).expect(&rt, "no packet");
+    assert!(rt; packet.hook() == Hook::Input);
     let source = 10 << 24 | 9 << 16 | 9 << 8 | 9;
     has_points(&rt, &packet, source, 0x02020202, 47);
-    Ok(())
 }
 
 #[test]
-fn packets_of_other_keys(rt: HostRuntime) -> Result<(), Fail> {
+fn packets_of_other_keys(rt: HostRuntime) {
     let line = b"OUTPUT proto=0 dst=0.0.0.0 src=255.255.255.255";
-    let packet = packet_of(rt.alloc(), line, 0)?;
-    assert_eq!(rt; packet.hook(), Hook::Output);
-    assert_eq!(rt; packet.point(Field::Source), 4294967295);
-    Ok(())
+    let packet = packet_of(rt.alloc(), line, 0).expect(&rt, "no packet");
+    assert!(rt; packet.hook() == Hook::Output);
+    assert!(rt; packet.point(Field::Source) == 4294967295);
 }
 
+// Each line, and why it is no packet.
+const FAULTS: &[(&[u8], PacketFault)] = &[
+    (b"", PacketFault::UnknownKey),
+    (
+        b"PREROUTING src=1.1.1.1 dst=2.2.2.2 proto=47",
+        PacketFault::UnknownKey,
+    ),
+    (
+        b"input src=1.1.1.1 dst=2.2.2.2 proto=47",
+        PacketFault::UnknownKey,
+    ),
+    (b"src=1.1.1.1 dst=2.2.2.2 proto=47", PacketFault::UnknownKey),
+    (b"INPUT src dst=2.2.2.2 proto=47", PacketFault::UnknownKey),
+    (
+        b"INPUT src=1.1.1.1 dst=2.2.2.2 proto=47 ttl=64",
+        PacketFault::UnknownKey,
+    ),
+    (
+        b"INPUT src=1.1.1.1 dst=2.2.2.2 proto=47 SRC=1.1.1.1",
+        PacketFault::UnknownKey,
+    ),
+    (b"INPUT lo src=1.1.1.1 src=1.1.1.1", PacketFault::UnknownKey),
+    (b"INPUT", PacketFault::KeyMissing),
+    (b"INPUT src=1.1.1.1 dst=2.2.2.2", PacketFault::KeyMissing),
+    (b"INPUT dst=2.2.2.2 proto=47", PacketFault::KeyMissing),
+    (
+        b"INPUT src=1.1.1.1 dst=2.2.2.2 proto=47 src=1.1.1.1",
+        PacketFault::BadValue,
+    ),
+    (b"INPUT src=1.1.1.1 src=1.1.1.1 lo", PacketFault::BadValue),
+    (
+        b"INPUT src=1.1.1.1/32 dst=2.2.2.2 proto=47",
+        PacketFault::BadValue,
+    ),
+    (
+        b"INPUT src=1.1.1.1 dst=2.2.2.2 proto=6",
+        PacketFault::KeyMissing,
+    ),
+    (
+        b"INPUT src=1.1.1.1 dst=2.2.2.2 proto=047",
+        PacketFault::BadValue,
+    ),
+    (
+        b"INPUT src=1.1.1.1 dst=2.2.2.2 proto=256",
+        PacketFault::BadValue,
+    ),
+    (
+        b"INPUT src=1.1.1.1 dst=2.2.2.2 proto=all",
+        PacketFault::BadValue,
+    ),
+    (
+        b"INPUT src=1.1.1.1 dst=2.2.2.2 proto=",
+        PacketFault::BadValue,
+    ),
+];
+
 #[test]
-fn packets_at_fault(rt: HostRuntime) -> Result<(), Fail> {
-    let rows: [(&[u8], PacketFault); 19] = [
-        (b"", PacketFault::UnknownKey),
-        (
-            b"PREROUTING src=1.1.1.1 dst=2.2.2.2 proto=47",
-            PacketFault::UnknownKey,
-        ),
-        (
-            b"input src=1.1.1.1 dst=2.2.2.2 proto=47",
-            PacketFault::UnknownKey,
-        ),
-        (b"src=1.1.1.1 dst=2.2.2.2 proto=47", PacketFault::UnknownKey),
-        (b"INPUT src dst=2.2.2.2 proto=47", PacketFault::UnknownKey),
-        (
-            b"INPUT src=1.1.1.1 dst=2.2.2.2 proto=47 ttl=64",
-            PacketFault::UnknownKey,
-        ),
-        (
-            b"INPUT src=1.1.1.1 dst=2.2.2.2 proto=47 SRC=1.1.1.1",
-            PacketFault::UnknownKey,
-        ),
-        (b"INPUT lo src=1.1.1.1 src=1.1.1.1", PacketFault::UnknownKey),
-        (b"INPUT", PacketFault::KeyMissing),
-        (b"INPUT src=1.1.1.1 dst=2.2.2.2", PacketFault::KeyMissing),
-        (b"INPUT dst=2.2.2.2 proto=47", PacketFault::KeyMissing),
-        (
-            b"INPUT src=1.1.1.1 dst=2.2.2.2 proto=47 src=1.1.1.1",
-            PacketFault::BadValue,
-        ),
-        (b"INPUT src=1.1.1.1 src=1.1.1.1 lo", PacketFault::BadValue),
-        (
-            b"INPUT src=1.1.1.1/32 dst=2.2.2.2 proto=47",
-            PacketFault::BadValue,
-        ),
-        (
-            b"INPUT src=1.1.1.1 dst=2.2.2.2 proto=6",
-            PacketFault::KeyMissing,
-        ),
-        (
-            b"INPUT src=1.1.1.1 dst=2.2.2.2 proto=047",
-            PacketFault::BadValue,
-        ),
-        (
-            b"INPUT src=1.1.1.1 dst=2.2.2.2 proto=256",
-            PacketFault::BadValue,
-        ),
-        (
-            b"INPUT src=1.1.1.1 dst=2.2.2.2 proto=all",
-            PacketFault::BadValue,
-        ),
-        (
-            b"INPUT src=1.1.1.1 dst=2.2.2.2 proto=",
-            PacketFault::BadValue,
-        ),
-    ];
-    for (line, fault) in rows {
-        let words = Words::split(rt.alloc(), line)?;
-        assert_eq!(rt; Packet::read(&words, 0), Err(fault));
+fn packets_at_fault(rt: HostRuntime) {
+    for (line, fault) in FAULTS {
+        assert!(rt; is_at_fault(rt.alloc(), line, *fault));
     }
-    Ok(())
+}
+
+// Each cause, and its text.
+const TEXTS: &[(PacketFault, &str)] = &[
+    (PacketFault::UnknownKey, "unknown key"),
+    (PacketFault::KeyMissing, "key missing"),
+    (PacketFault::BadValue, "bad packet value"),
+    (PacketFault::NotCarried, "field not carried"),
+];
+
+// Whether a cause is shown by the text.
+fn is_shown(alloc: Global, fault: PacketFault, text: &str) -> Result<bool, Fail> {
+    let shown = format!(in alloc; "{fault}")?;
+    Ok(shown.as_str() == text)
 }
 
 #[test]
 fn fault_texts(rt: HostRuntime) -> Result<(), Fail> {
-    let rows = [
-        (PacketFault::UnknownKey, "unknown key"),
-        (PacketFault::KeyMissing, "key missing"),
-        (PacketFault::BadValue, "bad packet value"),
-        (PacketFault::NotCarried, "field not carried"),
-    ];
-    for (fault, text) in rows {
-        let shown = format!(in rt.alloc(); "{fault}")?;
-        assert!(rt; shown.as_str() == text);
+    for (fault, text) in TEXTS {
+        assert!(rt; is_shown(rt.alloc(), *fault, text)?);
     }
     Ok(())
 }

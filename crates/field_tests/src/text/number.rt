@@ -1,22 +1,28 @@
 use fields::{read_number, read_number_to};
 
+// Each text, and its number if it is one.
+const NUMBERS: &[(&[u8], Option<u32>)] = &[
+    (b"0", Some(0)),
+    (b"47", Some(47)),
+    (b"999999999", Some(999999999)),
+    (b"1000000000", None),
+    (b"00", None),
+    (b"047", None),
+    (b"", None),
+    (b"-1", None),
+    (b"4x", None),
+    (b" 4", None),
+];
+
 #[test]
 fn numbers(rt: HostRuntime) {
-    let rows: [(&[u8], Option<u32>); 10] = [
-        (b"0", Some(0)),
-        (b"47", Some(47)),
-        (b"999999999", Some(999999999)),
-        (b"1000000000", None),
-        (b"00", None),
-        (b"047", None),
-        (b"", None),
-        (b"-1", None),
-        (b"4x", None),
-        (b" 4", None),
-    ];
-    for (text, number) in rows {
-        assert_eq!(rt; read_number(text), number);
+    for (text, number) in NUMBERS {
+        assert!(rt; read_number(text) == *number);
     }
-    assert_eq!(rt; read_number_to(b"255", 255), Some(255));
-    assert_eq!(rt; read_number_to(b"256", 255), None);
+}
+
+#[test]
+fn numbers_up_to_one(rt: HostRuntime) {
+    assert!(rt; read_number_to(b"255", 255) == Some(255));
+    assert!(rt; read_number_to(b"256", 255) == None);
 }

@@ -1,38 +1,41 @@
-use fields::{Tap, Text, WriteFailed};
+use super::{new_tap, wrote};
+use fields::Text;
 use std::alloc::Global;
-use std::test::Fail;
 
 // Whether the copy of a text is printed so.
-fn prints(alloc: Global, text: &Text<29>, want: &[u8]) -> Result<bool, WriteFailed> {
-    let mut output = Tap::new(Vec::new(alloc));
-    text.copy().put(&mut output)?;
-    Ok(output.into_device().as_slice() == want)
+fn prints(alloc: Global, text: &Text<29>, want: &[u8]) -> bool {
+    let mut output = new_tap(alloc);
+    text.copy().put(&mut output).is_ok() && wrote(output, want)
 }
 
 // Whether the bytes are a text of just these bytes, which is printed so.
-fn is_read(alloc: Global, bytes: &[u8], want: &[u8]) -> Result<bool, Fail> {
-    let text: Text<29> = Text::read(bytes).ok_or("refused")?;
-    Ok(prints(alloc, &text, want)? && text.bytes() == bytes)
+fn is_read(alloc: Global, bytes: &[u8], want: &[u8]) -> bool {
+    let read: Option<Text<29>> = Text::read(bytes);
+    match read {
+        Some(text) => prints(alloc, &text, want) && text.bytes() == bytes,
+        None => false,
+    }
 }
 
+// Each text, and what is printed of it.
+const TEXTS: &[(&[u8], &[u8])] = &[
+    (b"a-B_9", b"a-B_9"),
+    (b"", b"\"\""),
+    (b"a.b", b"\"a.b\""),
+    (b"it's \"x\"", b"\"it\\'s \\\"x\\\"\""),
+    (b"\\", b"\"\\\\\""),
+    (b"\xe9\r\0", b"\"\xe9\r\0\""),
+    (
+        b"29 bytes are not too many, 30",
+        b"\"29 bytes are not too many, 30\"",
+    ),
+];
+
 #[test]
-fn texts(rt: HostRuntime) -> Result<(), Fail> {
-    let texts = [
-        (b"a-B_9".as_slice(), b"a-B_9".as_slice()),
-        (b"".as_slice(), b"\"\"".as_slice()),
-        (b"a.b".as_slice(), b"\"a.b\"".as_slice()),
-        (b"it's \"x\"".as_slice(), b"\"it\\'s \\\"x\\\"\"".as_slice()),
-        (b"\\".as_slice(), b"\"\\\\\"".as_slice()),
-        (b"\xe9\r\0".as_slice(), b"\"\xe9\r\0\"".as_slice()),
-        (
-            b"29 bytes are not too many, 30".as_slice(),
-            b"\"29 bytes are not too many, 30\"".as_slice(),
-        ),
-    ];
-    for (bytes, want) in texts {
-        assert!(rt; is_read(rt.alloc(), bytes, want)?);
+fn texts(rt: HostRuntime) {
+    for (bytes, want) in TEXTS {
+        assert!(rt; is_read(rt.alloc(), bytes, want));
     }
-    Ok(())
 }
 
 #[test]

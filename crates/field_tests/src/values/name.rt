@@ -1,12 +1,12 @@
-use fields::{Name, Tap, WriteFailed};
+use super::{new_tap, wrote};
+use fields::Name;
 use std::alloc::Global;
 use std::test::Fail;
 
 // Whether a name is printed so.
-fn prints(alloc: Global, name: &Name, want: &[u8]) -> Result<bool, WriteFailed> {
-    let mut output = Tap::new(Vec::new(alloc));
-    name.put(&mut output)?;
-    Ok(output.into_device().as_slice() == want)
+fn prints(alloc: Global, name: &Name, want: &[u8]) -> bool {
+    let mut output = new_tap(alloc);
+    name.put(&mut output).is_ok() && wrote(output, want)
 }
 
 // Whether a name has just these bytes, and is its copy.
@@ -15,44 +15,47 @@ fn is_of(name: &Name, text: &[u8]) -> bool {
 }
 
 // Whether the text is a name of just this text, which is printed so.
-fn is_read(alloc: Global, text: &[u8]) -> Result<bool, Fail> {
-    let name = Name::read(text).ok_or("refused")?;
-    Ok(prints(alloc, &name, text)? && is_of(&name, text))
+fn is_read(alloc: Global, text: &[u8]) -> bool {
+    match Name::read(text) {
+        Some(name) => prints(alloc, &name, text) && is_of(&name, text),
+        None => false,
+    }
 }
 
+const NAMES: &[&[u8]] = &[
+    b"a",
+    b"INPUT",
+    b"accept",
+    b"LOG2",
+    b"a-!/'",
+    b"a234567890123456789012345678",
+];
+
 #[test]
-fn names(rt: HostRuntime) -> Result<(), Fail> {
-    let texts = [
-        b"a".as_slice(),
-        b"INPUT".as_slice(),
-        b"accept".as_slice(),
-        b"LOG2".as_slice(),
-        b"a-!/'".as_slice(),
-        b"a234567890123456789012345678".as_slice(),
-    ];
-    for text in texts {
-        assert!(rt; is_read(rt.alloc(), text)?);
+fn names(rt: HostRuntime) {
+    for text in NAMES {
+        assert!(rt; is_read(rt.alloc(), text));
     }
-    Ok(())
 }
+
+const REFUSED: &[&[u8]] = &[
+    b"",
+    b"a2345678901234567890123456789",
+    b"-a",
+    b"!a",
+    b"a\"",
+    b"a b",
+    b"ACCEPT",
+    b"DROP",
+    b"RETURN",
+    b"QUEUE",
+    b"REJECT",
+    b"LOG",
+];
 
 #[test]
 fn texts_that_are_no_name(rt: HostRuntime) {
-    let refused = [
-        b"".as_slice(),
-        b"a2345678901234567890123456789".as_slice(),
-        b"-a".as_slice(),
-        b"!a".as_slice(),
-        b"a\"".as_slice(),
-        b"a b".as_slice(),
-        b"ACCEPT".as_slice(),
-        b"DROP".as_slice(),
-        b"RETURN".as_slice(),
-        b"QUEUE".as_slice(),
-        b"REJECT".as_slice(),
-        b"LOG".as_slice(),
-    ];
-    for text in refused {
+    for text in REFUSED {
         assert!(rt; Name::read(text).is_none());
     }
 }
