@@ -1,8 +1,8 @@
 //! The walk of a packet.
-ghost use Rattle.std.specs.Prelude.{◌≡◌, ◌<◌, ℕ, List, length, IfSome, IfNone, Option, Some, None};
+ghost use Rattle.std.specs.Prelude.{◌≡◌, ◌<◌, ◌≤◌, ℕ, List, length, IfSome, IfNone, Option, Some, None};
 ghost use Rattle.table.specs.steps.Kept.{IsStored, listed};
 ghost use Rattle.table.specs.steps.Rows.{Row};
-ghost use Rattle.table.specs.steps.Walking.{Follows, HasRoom, IsHit, IsState, LeadsIn, next_by, start, state_of};
+ghost use Rattle.table.specs.steps.Walking.{Follows, IsHit, IsState, LeadsIn, NoRoom, next_by, start, state_of};
 ghost use Rattle.table.specs.steps.Walking.{walk_at};
 ghost use Rattle.table.specs.walk.Walk.{first_hit};
 
@@ -41,18 +41,24 @@ pub(crate) enum Turn {
     Policy,
     // At the rules to go on with.
     Goes,
+    // At a jump, with no place on the stack for what is left of its chain.
+    Full,
 }
 
 // The most rests that wait: there are no more user chains.
 const STACK: usize = 1024;
 
+// So many places does a walk have at first: in most walks few rests wait, and a new stack costs a write for each of its
+// places.
+const SHORT: usize = 16;
+
 // Goes to the first rule that matches.
-pub(crate) fn advance(
+pub(crate) fn advance<const DEPTH: usize>(
     chains: &Slab<Chain>,
     order: &Vec<usize>,
     packet: &Packet,
     at: &mut Pending,
-    stack: &mut ArrayVec<Pending, STACK>,
+    stack: &mut ArrayVec<Pending, DEPTH>,
 ) -> Option<Course>
     requires kept { IsStored chains.now.slots order.now.items }
     requires state { IsState order.now.items at.old stack.old.items }
@@ -77,13 +83,17 @@ pub(crate) fn advance(
     }
 }
 
-// Does what the course of a rule that matched says.
-pub(crate) fn follow(course: Course, at: &mut Pending, stack: &mut ArrayVec<Pending, STACK>) -> Turn
-    requires room { HasRoom course stack.old.items }
+// Does what the course of a rule that matched says, but for a jump that finds no room.
+pub(crate) fn follow<const DEPTH: usize>(
+    course: Course,
+    at: &mut Pending,
+    stack: &mut ArrayVec<Pending, DEPTH>,
+) -> Turn
     ensures follows { (slots : List (Option Row))
         → Follows slots (next_by slots course at.old stack.old.items) result at.new stack.new.items }
     ensures state { (order : List ℕ) → IsState order at.old stack.old.items → LeadsIn order course
         → result ≡ Turn.Goes → IsState order at.new stack.new.items }
+    ensures full { result ≡ Turn.Full → NoRoom DEPTH course stack.old.items }
 {
     match course {
         Course::Ends(verdict) => Turn::Decides(verdict),
@@ -96,6 +106,9 @@ pub(crate) fn follow(course: Course, at: &mut Pending, stack: &mut ArrayVec<Pend
             None => Turn::Policy,
         },
         Course::Jumps(key) => {
+            if stack.is_full() {
+                return Turn::Full;
+            }
             stack.push(*at);
             *at = Pending::start(key);
             Turn::Goes
@@ -110,7 +123,46 @@ pub(crate) fn follow(course: Course, at: &mut Pending, stack: &mut ArrayVec<Pend
 // A walk may match so many rules.
 const LIMIT: u32 = 65536;
 
-// The verdict on a packet, from the first rule of the chain at a place of the listing on.
+// The verdict on a packet, from the first rule of the chain at a place of the listing on, by a walk with room for so
+// many rests that wait. There is none where more would wait. It isn't inlined, so that a walk with few places pays for
+// no more.
+#[inline(never)]
+fn decide_within<const DEPTH: usize>(
+    chains: &Slab<Chain>,
+    order: &Vec<usize>,
+    hook: usize,
+    policy: Verdict,
+    packet: &Packet,
+) -> Option<Verdict>
+    requires depth { DEPTH ≤ 1024 }
+    requires kept { IsStored chains.now.slots order.now.items }
+    requires hook { hook < length order.now.items }
+    ensures some { IfSome result (λ verdict. verdict
+        ≡ (walk_at 65536 chains.now.slots order.now.items hook policy packet.now.values).verdict) }
+    ensures none { IfNone result (DEPTH < 1024) }
+{
+    let mut at = Pending::start(order[hook]);
+    let mut stack: ArrayVec<Pending, DEPTH> = ArrayVec::new();
+    let mut left = LIMIT;
+    'walk: loop {
+        let Some(course) = advance(chains, order, packet, &mut at, &mut stack) else {
+            return Some(policy);
+        };
+        if left == 0 {
+            return Some(Verdict::TooLong);
+        }
+        left -= 1;
+        match follow(course, &mut at, &mut stack) {
+            Turn::Decides(verdict) => return Some(verdict),
+            Turn::Policy => return Some(policy),
+            Turn::Goes => {}
+            Turn::Full => return None,
+        }
+    }
+}
+
+// The verdict on a packet, from the first rule of the chain at a place of the listing on. A walk that needs more places
+// than the short stack has is walked again from its start, with a place for each user chain.
 pub(crate) fn decide(
     chains: &Slab<Chain>,
     order: &Vec<usize>,
@@ -122,21 +174,11 @@ pub(crate) fn decide(
     requires hook { hook < length order.now.items }
     ensures { result ≡ (walk_at 65536 chains.now.slots order.now.items hook policy packet.now.values).verdict }
 {
-    let mut at = Pending::start(order[hook]);
-    let mut stack = ArrayVec::new();
-    let mut left = LIMIT;
-    'walk: loop {
-        let Some(course) = advance(chains, order, packet, &mut at, &mut stack) else {
-            return policy;
-        };
-        if left == 0 {
-            return Verdict::TooLong;
-        }
-        left -= 1;
-        match follow(course, &mut at, &mut stack) {
-            Turn::Decides(verdict) => return verdict,
-            Turn::Policy => return policy,
-            Turn::Goes => {}
-        }
+    if let Some(verdict) = decide_within::<SHORT>(chains, order, hook, policy, packet) {
+        return verdict;
+    }
+    match decide_within::<STACK>(chains, order, hook, policy, packet) {
+        Some(verdict) => verdict,
+        None => unreachable!(),
     }
 }

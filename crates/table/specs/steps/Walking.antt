@@ -1,5 +1,5 @@
 -- How the walk over keys stands for the walk over names.
-use Rattle.std.specs.Prelude.{◌≡◌, ℕ, ◌<◌, List, [], ◌∷◌, length, map, reverse, All}
+use Rattle.std.specs.Prelude.{◌≡◌, ℕ, ◌≤◌, List, [], ◌∷◌, length, map, reverse, All}
 use Rattle.std.specs.Prelude.{Option, Some, unwrap_or}
 use Rattle.table.specs.steps.Kept.{IsIn, row_at, name_at, listed}
 use Rattle.table.specs.steps.Rows.{Row}
@@ -41,10 +41,10 @@ LeadsIn order (course.Jumps key) = IsIn order key
 LeadsIn order (course.Goes key) = IsIn order key
 LeadsIn order c = Unit {0}
 
--- the stack has room for the rest that a course puts there
-abbrev pub HasRoom : Course → List Pending → Type 0
-HasRoom (course.Jumps key) stack = length stack < 1024
-HasRoom c stack = Unit {0}
+-- the course puts a rest on the stack, and so many places are taken already
+abbrev pub NoRoom : ℕ → Course → List Pending → Type 0
+NoRoom places (course.Jumps key) stack = places ≤ length stack
+NoRoom places c stack = ⊥
 
 -- the keys stand in the index
 pub record IsState (order : List ℕ) (at : Pending) (stack : List Pending) : Type 0 where
@@ -65,11 +65,12 @@ pub record IsHit
   pub leads : LeadsIn order course
   pub state : IsState order at stack
 
--- the turn says where the walk was left
+-- the turn says where the walk was left; of a full stack it says nothing
 abbrev pub Follows : List (Option Row) → Next → Turn → Pending → List Pending → Type 0
 Follows slots left (turn.Decides v) at stack = left ≡ Ends v
 Follows slots left turn.Policy at stack = left ≡ GoesOn []
 Follows slots left turn.Goes at stack = left ≡ GoesOn (state_of slots at stack)
+Follows slots left turn.Full at stack = Unit {0}
 
 -- the walk from the first rule of the chain at a place of the index, with room for so many entries
 abbrev pub walk_at : ℕ → List (Option Row) → List ℕ → ℕ → Verdict → List ℕ → Walked

@@ -7,7 +7,7 @@ ghost use Rattle.table.specs.walk.Trail.{Shows, shown};
 use crate::chain::Chain;
 use crate::store::place_of;
 use crate::verdict::Verdict;
-use crate::walk::{LIMIT, Pending, Turn, advance, follow};
+use crate::walk::{LIMIT, Pending, STACK, Turn, advance, follow};
 use arrayvec::ArrayVec;
 use fields::Packet;
 use slab::Slab;
@@ -88,7 +88,7 @@ pub(crate) fn trace(
         (walk_at 65536 chains.now.slots order.now.items hook policy packet.now.values)) }
 {
     let mut at = Pending::start(order[hook]);
-    let mut stack = ArrayVec::new();
+    let mut stack: ArrayVec<Pending, STACK> = ArrayVec::new();
     let mut left = LIMIT;
     let mut steps = Vec::new(alloc);
     'walk: loop {
@@ -104,6 +104,7 @@ pub(crate) fn trace(
             Turn::Decides(verdict) => return Ok(Trail::decided(steps, verdict)),
             Turn::Policy => return Ok(Trail::by_policy(steps, policy)),
             Turn::Goes => {}
+            Turn::Full => unreachable!(),
         }
     }
 }

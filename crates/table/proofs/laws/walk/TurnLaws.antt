@@ -5,7 +5,7 @@ use Rattle.std.proofs.lemmas.List.{get_or_default, length-map, length-reverse}
 use Rattle.table.specs.chains.Table.{Chain, user_chains}
 use Rattle.table.specs.steps.Kept.{row_at, name_at, listed, table_of, IsStored}
 use Rattle.table.specs.steps.Rows.{Row}
-use Rattle.table.specs.steps.Walking.{rest_of, state_of, start, HasRoom, IsState, IsHit}
+use Rattle.table.specs.steps.Walking.{rest_of, state_of, start, NoRoom, IsState, IsHit}
 use Rattle.table.specs.walk.Depth.{stacked, deeper, depth_within}
 use Rattle.table.specs.walk.Walk.{Rest, Entry, Hit, Next, Ends, GoesOn, Walked, first_hit, next_of, whole, at_end, with_entry, followed, walk_within, too_long}
 use Rattle.table.specs.declared.chain.entry.Course.{Course}
@@ -80,17 +80,17 @@ depth_after (suc left) n cs values rests more hit e g lt le =
     let back : depth_within (suc left - 1) cs values more ≡ depth_within left cs values more = ap (λ k. depth_within k cs values more) (let q : suc left - 1 ≡ left = omega arith in q) in
     omega (arith, is, back, le)
 
--- so the stack has room for what a jump puts there
-pub has_room : (left : ℕ) (slots : List (Option Row)) (order values : List ℕ) (rests : List Rest) (found : Option Hit) (way : Course) (at : Pending) (stack : List Pending) → IsHit slots order found way at stack
-    → found ≡ first_hit (listed slots order) values rests → 0 < left → depth_within left (listed slots order) values rests ≤ 1024 → HasRoom way stack
-has_room left slots order values rests found (course.Ends v) at stack h e lt le = tt
-has_room left slots order values rests found course.GoesOn at stack h e lt le = tt
-has_room left slots order values rests found course.Returns at stack h e lt le = tt
-has_room left slots order values rests found (course.Goes key) at stack h e lt le = tt
-has_room left slots order values rests found (course.Jumps key) at stack h e lt le =
+-- so a stack on which a jump finds no room has fewer places than there may be user chains
+pub room_short : (places left : ℕ) (slots : List (Option Row)) (order values : List ℕ) (rests : List Rest) (found : Option Hit) (way : Course) (at : Pending) (stack : List Pending) → IsHit slots order found way at stack
+    → found ≡ first_hit (listed slots order) values rests → 0 < left → depth_within left (listed slots order) values rests ≤ 1024 → NoRoom places way stack → places < 1024
+room_short places left slots order values rests found (course.Ends v) at stack h e lt le full = absurd full
+room_short places left slots order values rests found course.GoesOn at stack h e lt le full = absurd full
+room_short places left slots order values rests found course.Returns at stack h e lt le full = absurd full
+room_short places left slots order values rests found (course.Goes key) at stack h e lt le full = absurd full
+room_short places left slots order values rests found (course.Jumps key) at stack h e lt le full =
     let more : List Rest = rest_of slots (start key) ∷ state_of slots at stack in
     let below : depth_within (left - 1) (listed slots order) values more ≤ 1024 = depth_after left 1024 (listed slots order) values rests more h.hit (sym e ∙ h.is) h.next lt le in
-    omega (arith, below, stacked_in (left - 1) (listed slots order) values more, length-map (reverse stack) (rest_of slots), length-reverse stack)
+    omega (arith, full, below, stacked_in (left - 1) (listed slots order) values more, length-map (reverse stack) (rest_of slots), length-reverse stack)
 
 -- The start
 

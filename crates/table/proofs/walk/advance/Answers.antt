@@ -11,12 +11,12 @@ use Rattle.table.proofs.laws.walk.StackLaws.{rests_pop, state_pop}
 use Rattle.table.proofs.walk.advance.Goals as goal
 
 pub returns-in-Some-clause-some : goal.returns-in-Some-clause-some
-returns-in-Some-clause-some c =
+returns-in-Some-clause-some g c =
     hit_under c.args.chains.now.slots c.args.order.now.items c.args.packet.now.values c.rests.at c.rests.stack.items c.index-chain.result.now c.in-Some.place c.entry.result.now _ _
     c.requires.kept c.rests.invariant.state c.index-chain.ensures (c.in-Some.ensures.next ∙ ap (λ vs. next_match (matches vs) (rules_in c.index-chain.result.now) c.rests.at.passed) c.numbers.ensures.value) c.in-Some.ensures.within c.entry.ensures refl c.rests.invariant.same
 
 pub rests-preserved : goal.rests-preserved
-rests-preserved c = record {
+rests-preserved g c = record {
   same = c.rests.invariant.same
       ∙ past_chain c.args.chains.now.slots c.args.order.now.items c.args.packet.now.values c.rests.at c.rests.stack.items c.index-chain.result.now c.requires.kept c.rests.invariant.state c.index-chain.ensures (c.in-None.ensures.next ∙ ap (λ vs. next_match (matches vs) (rules_in c.index-chain.result.now) c.rests.at.passed) c.numbers.ensures.value)
       ∙ ap (λ (rs : List Rest). first_hit (listed c.args.chains.now.slots c.args.order.now.items) c.args.packet.now.values rs)
@@ -25,7 +25,7 @@ rests-preserved c = record {
 }
 
 pub returns-in-None-pop-clause-none : goal.returns-in-None-pop-clause-none
-returns-in-None-pop-clause-none c =
+returns-in-None-pop-clause-none g c =
     c.rests.invariant.same
     ∙ past_chain c.args.chains.now.slots c.args.order.now.items c.args.packet.now.values c.rests.at c.rests.stack.items c.index-chain.result.now c.requires.kept c.rests.invariant.state c.index-chain.ensures (c.in-None.ensures.next ∙ ap (λ vs. next_match (matches vs) (rules_in c.index-chain.result.now) c.rests.at.passed) c.numbers.ensures.value)
     ∙ ap (λ (xs : List Pending). first_hit (listed c.args.chains.now.slots c.args.order.now.items) c.args.packet.now.values (rests_of c.args.chains.now.slots xs))

@@ -5,9 +5,9 @@ use Rattle.table.proofs.laws.walk.StackLaws.{state_pop, state_push}
 use Rattle.table.proofs.walk.follow.Goals as goal
 
 pub returns-in-Some-clause-state : goal.returns-in-Some-clause-state
-returns-in-Some-clause-state c = λ order s leads goes. state_pop order c.args.at.now c.in-Some.rest c.args.stack.now.items c.pop.new.self.items c.in-Some.ensures.items s
+returns-in-Some-clause-state g c = λ order s leads goes. state_pop order c.args.at.now c.in-Some.rest c.args.stack.now.items c.pop.new.self.items c.in-Some.ensures.items s
 
-pub returns-in-Jumps-clause-state : goal.returns-in-Jumps-clause-state
-returns-in-Jumps-clause-state c = λ order s leads goes.
+pub returns-else-is_full-clause-state : goal.returns-else-is_full-clause-state
+returns-else-is_full-clause-state g c = λ order s leads goes.
     let P : Course → Type 0 = λ (x : Course). LeadsIn order x in
     state_push order c.args.at.now c.start.result c.in-Jumps.key c.args.stack.now.items c.push.new.self.items c.push.ensures.items c.start.ensures (subst P c.in-Jumps.is leads) s

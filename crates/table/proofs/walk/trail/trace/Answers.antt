@@ -1,10 +1,10 @@
-use Rattle.std.proofs.Common.{◌≡◌, ◌∙◌, ◌-◌, ◌++◌, ◌∷◌, refl, arith, sym, ap, map, true, false, List, [], Some, unwrap_or}
+use Rattle.std.proofs.Common.{◌≡◌, ◌<◌, ◌∙◌, ◌-◌, ◌++◌, ◌∷◌, refl, arith, sym, ap, map, true, false, List, [], Some, unwrap_or}
 use Rattle.table.specs.steps.Kept.{listed}
 use Rattle.table.specs.steps.Walking.{state_of}
 use Rattle.table.specs.walk.Trail.{shown}
 use Rattle.table.specs.walk.Walk.{Rest, Ends, GoesOn, at_end, decided, with_entry, walk_within, too_long}
 use Rattle.table.specs.declared.verdict.Verdict.TheVariants as verdict
-use Rattle.table.proofs.laws.walk.TurnLaws.{within_end, within_long, within_hit, within_policy, depth_after, has_room, start_state, start_rests, start_depth}
+use Rattle.table.proofs.laws.walk.TurnLaws.{within_end, within_long, within_hit, within_policy, depth_after, room_short, start_state, start_rests, start_depth}
 use Rattle.table.proofs.laws.walk.TrailLaws.{after, after_none, after_one, shown_end, shown_one, shows_end, shows_long}
 use Rattle.table.proofs.walk.trail.trace.Goals as goal
 
@@ -30,12 +30,6 @@ returns-then-left-eq0 c =
     shows_long (listed c.args.chains.now.slots c.args.order.now.items) c.walk.invariant.entries (walk_within c.walk.left (listed c.args.chains.now.slots c.args.order.now.items) c.args.policy c.args.packet.now.values (state_of c.args.chains.now.slots c.walk.at c.walk.stack.items)) _ (record { steps = c.new.result; verdict = verdict.TooLong; by_policy = false }) c.decided.result
     (within_long c.walk.left (listed c.args.chains.now.slots c.args.order.now.items) c.args.policy c.args.packet.now.values (state_of c.args.chains.now.slots c.walk.at c.walk.stack.items) c.in-Some.ensures.some.hit c.in-Some.ensures.some.is c.if-left-eq0.true) c.walk.invariant.same c.new.ensures.items refl refl c.decided.ensures
 
-pub follow-requires : goal.follow-requires
-follow-requires c = record {
-  room = has_room c.walk.left c.args.chains.now.slots c.args.order.now.items c.args.packet.now.values (state_of c.args.chains.now.slots c.walk.at c.walk.stack.items) _ c.in-Some.course c.advance.new.at
-      c.advance.new.stack.items c.in-Some.ensures.some refl (omega arith) c.walk.invariant.depth;
-}
-
 pub returns-in-Decides : goal.returns-in-Decides
 returns-in-Decides c =
     shows_end (listed c.args.chains.now.slots c.args.order.now.items) c.walk.invariant.entries (walk_within c.walk.left (listed c.args.chains.now.slots c.args.order.now.items) c.args.policy c.args.packet.now.values (state_of c.args.chains.now.slots c.walk.at c.walk.stack.items)) (decided c.in-Some.ensures.some.hit.entry c.in-Decides.verdict) _ (record { steps = c.push.new.self; verdict = c.in-Decides.verdict; by_policy = false }) c.decided-in-Decides.result
@@ -47,6 +41,12 @@ returns-in-Policy c =
     shows_end (listed c.args.chains.now.slots c.args.order.now.items) c.walk.invariant.entries (walk_within c.walk.left (listed c.args.chains.now.slots c.args.order.now.items) c.args.policy c.args.packet.now.values (state_of c.args.chains.now.slots c.walk.at c.walk.stack.items)) (with_entry c.in-Some.ensures.some.hit.entry (at_end c.args.policy)) _ (record { steps = c.push.new.self; verdict = c.args.policy; by_policy = true }) c.by_policy-in-Policy.result
     (within_policy c.walk.left (listed c.args.chains.now.slots c.args.order.now.items) c.args.policy c.args.packet.now.values (state_of c.args.chains.now.slots c.walk.at c.walk.stack.items) c.in-Some.ensures.some.hit c.in-Some.ensures.some.is (c.in-Some.ensures.some.next ∙ c.in-Policy.ensures.follows c.args.chains.now.slots) (omega arith)) c.walk.invariant.same
     (shown_one (listed c.args.chains.now.slots c.args.order.now.items) c.walk.invariant.entries c.walk.steps.items c.push.new.self.items c.in-Some.ensures.some.hit.entry c.step_before.result c.walk.invariant.shown (ap (shown (listed c.args.chains.now.slots c.args.order.now.items)) c.in-Some.ensures.some.entry ∙ c.step_before.ensures) c.in_ok-push.ensures.items) refl refl c.by_policy-in-Policy.ensures
+
+pub unreachable-requires : goal.unreachable-requires
+unreachable-requires c =
+    let short : 1024 < 1024 = room_short 1024 c.walk.left c.args.chains.now.slots c.args.order.now.items c.args.packet.now.values (state_of c.args.chains.now.slots c.walk.at c.walk.stack.items) _ c.in-Some.course c.advance.new.at
+    c.advance.new.stack.items c.in-Some.ensures.some refl (omega arith) c.walk.invariant.depth (c.in-Full.ensures.full refl) in
+    omega (arith, short)
 
 pub walk-preserved : goal.walk-preserved
 walk-preserved c =

@@ -2,11 +2,11 @@ use Rattle.std.proofs.Common.{◌≡◌, ◌∙◌, ◌-◌, refl, arith, sym, a
 use Rattle.table.specs.steps.Kept.{listed}
 use Rattle.table.specs.steps.Walking.{state_of}
 use Rattle.table.specs.walk.Walk.{Rest, Ends, GoesOn, walk_within}
-use Rattle.table.proofs.laws.walk.TurnLaws.{within_end, within_long, within_hit, within_policy, verdict_in, verdict_after, depth_after, has_room, start_state, start_rests, start_depth}
-use Rattle.table.proofs.walk.decide.Goals as goal
+use Rattle.table.proofs.laws.walk.TurnLaws.{within_end, within_long, within_hit, within_policy, verdict_in, verdict_after, depth_after, room_short, start_state, start_rests, start_depth}
+use Rattle.table.proofs.walk.decide_within.Goals as goal
 
 pub walk-init : goal.walk-init
-walk-init c =
+walk-init g c =
     let rests = start_rests c.args.chains.now.slots c.args.order.now.items c.args.hook c.index.result.now c.start-at.result c.new-stack.result.items c.requires.hook c.index.ensures c.start-at.ensures c.new-stack.ensures in
     record {
       same = ap (λ (rs : List Rest). verdict_in (walk_within 65536 (listed c.args.chains.now.slots c.args.order.now.items) c.args.policy c.args.packet.now.values rs)) rests;
@@ -14,37 +14,36 @@ walk-init c =
       depth = start_depth 65536 c.args.chains.now.slots c.args.order.now.items c.args.packet.now.values _ _ c.requires.kept rests;
     }
 
-pub returns-in_default : goal.returns-in_default
-returns-in_default c =
+pub returns-in_default-clause-some : goal.returns-in_default-clause-some
+returns-in_default-clause-some g c =
     sym (ap verdict_in (within_end c.walk.left (listed c.args.chains.now.slots c.args.order.now.items) c.args.policy c.args.packet.now.values (state_of c.args.chains.now.slots c.walk.at c.walk.stack.items) c.in_default.ensures.none))
     ∙ c.walk.invariant.same
 
-pub returns-then-left-eq0 : goal.returns-then-left-eq0
-returns-then-left-eq0 c =
+pub returns-then-left-eq0-clause-some : goal.returns-then-left-eq0-clause-some
+returns-then-left-eq0-clause-some g c =
     sym (ap verdict_in (within_long c.walk.left (listed c.args.chains.now.slots c.args.order.now.items) c.args.policy c.args.packet.now.values (state_of c.args.chains.now.slots c.walk.at c.walk.stack.items)
     c.in-Some.ensures.some.hit c.in-Some.ensures.some.is c.if-left-eq0.true))
     ∙ c.walk.invariant.same
 
-pub follow-requires : goal.follow-requires
-follow-requires c = record {
-  room = has_room c.walk.left c.args.chains.now.slots c.args.order.now.items c.args.packet.now.values (state_of c.args.chains.now.slots c.walk.at c.walk.stack.items) _ c.in-Some.course c.advance.new.at
-      c.advance.new.stack.items c.in-Some.ensures.some refl (omega arith) c.walk.invariant.depth;
-}
-
-pub returns-in-Decides : goal.returns-in-Decides
-returns-in-Decides c =
+pub returns-in-Decides-clause-some : goal.returns-in-Decides-clause-some
+returns-in-Decides-clause-some g c =
     sym (ap verdict_in (within_hit c.walk.left (listed c.args.chains.now.slots c.args.order.now.items) c.args.policy c.args.packet.now.values (state_of c.args.chains.now.slots c.walk.at c.walk.stack.items)
     c.in-Some.ensures.some.hit (Ends c.in-Decides.verdict) c.in-Some.ensures.some.is (c.in-Some.ensures.some.next ∙ c.in-Decides.ensures.follows c.args.chains.now.slots) (omega arith)))
     ∙ c.walk.invariant.same
 
-pub returns-in-Policy : goal.returns-in-Policy
-returns-in-Policy c =
+pub returns-in-Policy-clause-some : goal.returns-in-Policy-clause-some
+returns-in-Policy-clause-some g c =
     sym (ap verdict_in (within_policy c.walk.left (listed c.args.chains.now.slots c.args.order.now.items) c.args.policy c.args.packet.now.values (state_of c.args.chains.now.slots c.walk.at c.walk.stack.items)
     c.in-Some.ensures.some.hit c.in-Some.ensures.some.is (c.in-Some.ensures.some.next ∙ c.in-Policy.ensures.follows c.args.chains.now.slots) (omega arith)))
     ∙ c.walk.invariant.same
 
+pub returns-in-Full-clause-none : goal.returns-in-Full-clause-none
+returns-in-Full-clause-none g c =
+    room_short _ c.walk.left c.args.chains.now.slots c.args.order.now.items c.args.packet.now.values (state_of c.args.chains.now.slots c.walk.at c.walk.stack.items) _ c.in-Some.course c.advance.new.at
+    c.advance.new.stack.items c.in-Some.ensures.some refl (omega arith) c.walk.invariant.depth (c.in-Full.ensures.full refl)
+
 pub walk-preserved : goal.walk-preserved
-walk-preserved c =
+walk-preserved g c =
     let goes : _ ≡ GoesOn (state_of c.args.chains.now.slots c.follow.new.at c.follow.new.stack.items) = c.in-Some.ensures.some.next ∙ c.in-Goes.ensures.follows c.args.chains.now.slots in
     record {
       same = sym (verdict_after c.in-Some.ensures.some.hit.entry

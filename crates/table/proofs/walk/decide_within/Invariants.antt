@@ -4,10 +4,10 @@ use Rattle.table.specs.steps.Walking.{state_of, IsState, walk_at}
 use Rattle.table.specs.walk.Depth.{depth_within}
 use Rattle.table.specs.walk.Walk.{walk_within}
 use Rattle.table.proofs.laws.walk.TurnLaws.{verdict_in}
-use Rattle.table.proofs.walk.decide.Given as goal
+use Rattle.table.proofs.walk.decide_within.Given as goal
 
 abbrev pub invariant-walk : goal.invariant-walk
-invariant-walk l = record {
+invariant-walk g l = record {
   same : verdict_in (walk_within l.left (listed l.chains.slots l.order.items) l.policy l.packet.values (state_of l.chains.slots l.at l.stack.items))
       ≡ (walk_at 65536 l.chains.slots l.order.items l.hook l.policy l.packet.values).verdict;
   state : IsState l.order.items l.at l.stack.items;
@@ -15,4 +15,4 @@ invariant-walk l = record {
 }
 
 abbrev pub decreases-walk : goal.decreases-walk
-decreases-walk l = l.left
+decreases-walk g l = l.left
