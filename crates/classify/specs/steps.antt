@@ -6,3 +6,4 @@ pub mod Fields
 pub mod Held
 pub mod Packing
 pub mod Pieces
+pub mod Summaries

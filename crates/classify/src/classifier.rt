@@ -10,7 +10,7 @@ ghost use Rattle.rules.specs.rule.Rules.{Rule};
 ghost use Rattle.classify.specs.search.NextMatch.{next_match};
 
 use crate::bits::bit_row::MOST_BITS;
-use crate::line::owned::OwnedLine;
+use crate::line::owned::{LentRow, OwnedLine};
 use crate::line::view::Line;
 use crate::search;
 use fields::{FIELDS, Field};
@@ -22,12 +22,19 @@ use std::marker::Model;
 pub(crate) mod lines;
 pub(crate) mod of_rules;
 
+// The words of each field's row at a point, and a summary of what all these rows have.
+struct PointRows<'a> {
+    words: [&'a [u64]; FIELDS],
+    summary: u64,
+}
+
 /// The classifier of a list of boxes: on each field the line of their answers, and no more.
 ///
-/// Places count from 0. A box put in at the end costs the pieces that it allows, and one put in elsewhere the words of
-/// all rows from its place on. The rows of a line have one room, which doubles: then its rows are copied. A replacement
-/// looks at each piece of each line, and a removal moves the words of all rows from its place on besides. A cut is made
-/// or goes only where the box's own answers change; it moves the starts after it on that line, and copies one row.
+/// Places count from 0. A box put in at the end costs the pieces that it allows. One put in elsewhere moves the words of
+/// all rows from its place on, but passes over words that allow nothing. The rows of a line have one room, which
+/// doubles: then its rows are copied. A replacement looks at each piece of each line, and a removal moves words besides,
+/// as an insert does. A cut is made or goes only where the box's own answers change; it moves the starts after it on
+/// that line, and copies one row.
 #[derive(Drop)]
 pub struct Classifier {
     len: usize,
@@ -54,7 +61,10 @@ impl Classifier {
     ghost use Rattle.classify.specs.classifier.Classifier.{IsClassifierOf, IsClassifierOfRules, EditsBoxes, EditsRules};
     ghost use Rattle.classify.specs.classifier.OfRules.{lines_of};
     ghost use Rattle.classify.specs.classifier.Classifier.{HasNoNewCut, line_on, IsPoint, box_matches};
+    ghost use Rattle.std.specs.Prelude.{slice_index_or};
+    ghost use Rattle.classify.specs.steps.Pieces.{row_in};
     ghost use Rattle.classify.specs.steps.CommonPlaces.{IsRowAt, AreRowsAt};
+    ghost use Rattle.classify.specs.steps.Summaries.{IsSummaryOf, SumUpPoint};
     ghost use Rattle.classify.specs.steps.Fields.{shown_line};
 
     /// The classifier of no box.
@@ -172,33 +182,39 @@ impl Classifier {
         self.len = 0;
     }
 
-    // The words of the row of a field's line at a number; they are lent.
-    fn row(&self, place: usize, x: u128) -> &[u64]
+    // The row of a field's line at a number; it is lent.
+    fn row(&self, place: usize, x: u128) -> LentRow<'_>
         requires { place < FIELDS }
-        ensures { IsRowAt self.now.shown place x result.now }
+        ensures row { IsRowAt self.now.shown place x result.words.now }
+        ensures summed { IsSummaryOf result.summary (row_in (slice_index_or self.now.shown.lines place []) x) }
     {
         let _len = self.len;
         let line = &self.lines[place];
-        line.words_at(x)
+        line.row_at(x)
     }
 
-    // The words of each field's row at a point; they are lent.
-    pub(crate) fn rows(&self, point: &[u128; FIELDS]) -> [&[u64]; FIELDS]
-        ensures { AreRowsAt self.now.shown point.now result FIELDS }
+    // The rows of all fields at a point; they are lent.
+    fn rows(&self, point: &[u128; FIELDS]) -> PointRows<'_>
+        ensures rows { AreRowsAt self.now.shown point.now result.words FIELDS }
+        ensures summed { SumUpPoint self.now.shown point.now result.summary FIELDS }
     {
         let none: &[u64] = &[];
-        let mut rows = [none; FIELDS];
+        let mut words = [none; FIELDS];
+        let mut summary = u64::MAX;
         for place in 0..FIELDS {
-            rows[place] = self.row(place, point[place]);
+            let row = self.row(place, point[place]);
+            words[place] = row.words;
+            summary &= row.summary;
         }
-        rows
+        PointRows { words, summary }
     }
 
     /// The least place, at or after `from`, of a box that allows the point; there may be none. The point has
     /// a number for each field, in the order of `Field::ALL`.
     ///
-    /// It takes no memory and copies no row. A search costs a binary search on each line, and then a word of
-    /// each row for 64 boxes that it passes over.
+    /// It takes no memory and copies no row. A search costs a search for a place on each line, and then a word of each
+    /// row where all rows may have a box: a row has a summary of 64 bits, one for two words, which says which words to
+    /// pass over. Up to 8,192 boxes no two pairs of words share a bit.
     pub fn next(&self, point: &[u128; FIELDS], from: usize) -> Option<usize>
         requires { IsPoint point.now }
         ensures boxes { (boxes : List (List SpanSet)) → IsClassifierOf boxes self.now.shown
@@ -206,7 +222,7 @@ impl Classifier {
         ensures rules { (rules : List Rule) → IsClassifierOfRules rules self.now.shown
             → result ≡ next_match (matches point.now) rules from }
     {
-        let rows = self.rows(point);
-        search::first_common(&rows, self.len.div_ceil(64), from)
+        let PointRows { words, summary } = self.rows(point);
+        search::first_common(&words, summary, self.len.div_ceil(64), from)
     }
 }

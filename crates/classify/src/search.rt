@@ -1,8 +1,10 @@
 //! The search for the first place that every row has: rows and-ed word by word.
 
-ghost use Rattle.std.specs.Prelude.{IsTrue, ◌≡◌, ◌<◌, ◌≤◌, ◌+◌, ◌*◌, ◌/◌, ◌^◌, ℕ};
-ghost use Rattle.classify.specs.steps.CommonPlaces.{IsAndAt, AreAndsAt, AreWide, HaveAll, Nowhere, IsFirst};
+ghost use Rattle.std.specs.Prelude.{IsTrue, ◌<◌, ◌≤◌, ◌+◌, ◌*◌, ◌/◌, ◌^◌, ℕ};
+ghost use Rattle.classify.specs.steps.CommonPlaces.{IsAndAt, AreWide, HaveAll, Nowhere, IsFirst};
+ghost use Rattle.classify.specs.steps.Summaries.{SumUpAll};
 
+use crate::bits::summary::{is_marked, next_marked};
 use std::simd::prelude::*;
 
 // The words at a place of every row, and-ed.
@@ -35,19 +37,20 @@ fn is_clear(rows: &[&[u64]], place: usize) -> bool
     false
 }
 
-// Passes over words that no such place is in, four at a time, and stops before four that aren't seen to be so, or where
-// fewer than four are left.
-fn skip(rows: &[&[u64]], start: usize, words: usize) -> usize
+// Passes over words that no such place is in: those that the summary lacks, and of the others four at a time. It stops
+// before four that aren't seen to be so, or where fewer than four are left.
+fn skip(rows: &[&[u64]], summary: u64, start: usize, words: usize) -> usize
     requires wide { AreWide words rows.now }
     requires few { words < 2 ^ 58 }
+    requires summed { SumUpAll summary words rows.now }
     requires within { start ≤ words }
     ensures low { start ≤ result }
     ensures high { result ≤ words }
     ensures none { Nowhere (HaveAll rows.now) (64 * start) (64 * result) }
 {
-    let mut place = start;
+    let mut place = next_marked(summary, start, words);
     while place + 4 <= words && is_clear(rows, place) {
-        place += 4;
+        place = next_marked(summary, place + 4, words);
     }
     place
 }
@@ -67,12 +70,16 @@ fn scan(rows: &[&[u64]], start: usize, words: usize) -> Option<usize>
     None
 }
 
-// The first place at or after `from` that every row has and that is in the word of `from`.
-fn head(rows: &[&[u64]], from: usize) -> Option<usize>
-    requires { (words : ℕ) × AreWide words rows.now × (from / 64 < words) × (words < 2 ^ 58) }
+// The first place at or after `from` that every row has and that is in the word of `from`. The rows aren't looked at where
+// their summary lacks that word.
+fn head(rows: &[&[u64]], summary: u64, from: usize) -> Option<usize>
+    requires { (words : ℕ) × AreWide words rows.now × (from / 64 < words) × (words < 2 ^ 58) × SumUpAll summary words rows.now }
     ensures { IsFirst (HaveAll rows.now) from (64 * (from / 64 + 1)) result }
 {
     let place = from / 64;
+    if !is_marked(summary, place) {
+        return None;
+    }
     let all = and_at(rows, place) & (u64::MAX << (from % 64));
     if all != 0 {
         return Some(64 * place + all.trailing_zeros() as usize);
@@ -80,19 +87,26 @@ fn head(rows: &[&[u64]], from: usize) -> Option<usize>
     None
 }
 
-// The first place at or after `from` that every row has.
-pub(crate) fn first_common(rows: &[&[u64]], words: usize, from: usize) -> Option<usize>
+/// The first place at or after `from` that every row has. The rows have one summary, with the bit of each word in which all
+/// of them have a place.
+pub(crate) fn first_common(
+    rows: &[&[u64]],
+    summary: u64,
+    words: usize,
+    from: usize,
+) -> Option<usize>
     requires wide { AreWide words rows.now }
     requires few { words < 2 ^ 58 }
+    requires summed { SumUpAll summary words rows.now }
     ensures { IsFirst (HaveAll rows.now) from (64 * words) result }
 {
     if from / 64 >= words {
         return None;
     }
-    match head(rows, from) {
+    match head(rows, summary, from) {
         Some(place) => Some(place),
         None => {
-            let start = skip(rows, from / 64 + 1, words);
+            let start = skip(rows, summary, from / 64 + 1, words);
             scan(rows, start, words)
         }
     }

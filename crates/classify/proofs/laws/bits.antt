@@ -5,7 +5,9 @@ pub mod PlaceLaws
 pub mod RowLaws
 pub mod RowsLaws
 pub mod SameLaws
+pub mod ShiftLaws
 pub mod SlotLaws
 pub mod SlotRowLaws
+pub mod SummaryLaws
 pub mod WidenLaws
 pub mod WordLaws

@@ -1,13 +1,16 @@
 //! Rows of equally many bits, packed 64 to a word, all in one vector of words.
 
 ghost use Rattle.std.specs.Prelude.{◌≡◌, ◌<◌, ◌≤◌, ◌+◌, ◌-◌, ◌*◌, ◌^◌, [], ◌∷◌, length, map, insert, remove, slice_set, slice_index_or};
-ghost use Rattle.std.specs.Prelude.{false, take, drop, IfOk, OnOk, OnErr, IsOk, IsTrue, ◌↔◌, ◌%◌};
+ghost use Rattle.std.specs.Prelude.{false, true, take, drop, IfOk, OnOk, OnErr, IsOk, IsTrue, ◌↔◌, ◌%◌};
 ghost use Rattle.std.specs.Prelude.{ℕ, All, replicate, ◌++◌};
 ghost use Rattle.classify.specs.steps.Packing.{all_bits, IsPacked};
-ghost use Rattle.classify.specs.steps.Held.{redirected, words_in, EachSlot, TakesIn, GivesUp};
+ghost use Rattle.classify.specs.steps.Held.{redirected, words_in, EachSlot, TakesIn, GivesUp, Gains};
+ghost use Rattle.classify.specs.steps.Summaries.{IsSummaryOf, SumUp};
 
 use crate::bits::bit_row::MOST_WORDS;
-use crate::bits::words::{bit_at, same_bits, set_bit, shift_in, shift_out};
+use crate::bits::sparse::{give_up, take_in};
+use crate::bits::summary::{is_marked, marked};
+use crate::bits::words::{bit_at, same_bits, set_bit};
 use std::alloc::{AllocError, Global};
 use std::marker::Model;
 
@@ -61,29 +64,59 @@ fn redirect(slots: &mut [u32], from: u32, to: u32)
     }
 }
 
-// Puts a 0 in at a place of so many rows of so many words: the later bits move up by one, and the last falls out.
-fn shift_all_in(words: &mut Vec<u64>, count: usize, width: usize, at: usize)
+// Puts a 0 in at a place of each row of so many words: the later bits move up by one, and the last falls out.
+fn shift_all_in(words: &mut Vec<u64>, summaries: &mut Vec<u64>, width: usize, at: usize)
     requires place { at ≤ 64 * width }
-    requires whole { length words.old.items ≡ count * width }
+    requires whole { length words.old.items ≡ length summaries.old.items * width }
+    requires few { width < 2 ^ 58 }
+    requires summed { SumUp width summaries.old.items words.old.items (length summaries.old.items) }
     ensures len { length words.new.items ≡ length words.old.items }
-    ensures rows { EachSlot (TakesIn at) width words.old.items words.new.items count }
+    ensures rows { EachSlot (TakesIn at) width words.old.items words.new.items (length summaries.old.items) }
+    ensures counted { length summaries.new.items ≡ length summaries.old.items }
+    ensures summed { SumUp width summaries.new.items words.new.items (length summaries.old.items) }
 {
-    for slot in 0..count {
+    for slot in 0..summaries.len() {
         let start = slot * width;
-        let _last = shift_in(words.slice_mut(start..start + width), at, false);
+        let mut summary = summaries[slot];
+        take_in(words.slice_mut(start..start + width), &mut summary, at);
+        summaries[slot] = summary;
     }
 }
 
-// Takes the bit at a place out of so many rows of so many words: the later bits move down by one, and a 0 comes in last.
-fn shift_all_out(words: &mut Vec<u64>, count: usize, width: usize, at: usize)
+// Takes the bit at a place out of each row of so many words: the later bits move down by one, and a 0 comes in last.
+fn shift_all_out(words: &mut Vec<u64>, summaries: &mut Vec<u64>, width: usize, at: usize)
     requires place { at < 64 * width }
-    requires whole { length words.old.items ≡ count * width }
+    requires whole { length words.old.items ≡ length summaries.old.items * width }
+    requires few { width < 2 ^ 58 }
+    requires summed { SumUp width summaries.old.items words.old.items (length summaries.old.items) }
     ensures len { length words.new.items ≡ length words.old.items }
-    ensures rows { EachSlot (GivesUp at) width words.old.items words.new.items count }
+    ensures rows { EachSlot (GivesUp at) width words.old.items words.new.items (length summaries.old.items) }
+    ensures counted { length summaries.new.items ≡ length summaries.old.items }
+    ensures summed { SumUp width summaries.new.items words.new.items (length summaries.old.items) }
 {
-    for slot in 0..count {
+    for slot in 0..summaries.len() {
         let start = slot * width;
-        shift_out(words.slice_mut(start..start + width), at);
+        let mut summary = summaries[slot];
+        give_up(words.slice_mut(start..start + width), &mut summary, at);
+        summaries[slot] = summary;
+    }
+}
+
+// Writes a 1 at a place of each row of so many words.
+fn mark_all(words: &mut Vec<u64>, summaries: &mut Vec<u64>, width: usize, at: usize)
+    requires place { at < 64 * width }
+    requires whole { length words.old.items ≡ length summaries.old.items * width }
+    requires summed { SumUp width summaries.old.items words.old.items (length summaries.old.items) }
+    ensures len { length words.new.items ≡ length words.old.items }
+    ensures rows { EachSlot (Gains at) width words.old.items words.new.items (length summaries.old.items) }
+    ensures counted { length summaries.new.items ≡ length summaries.old.items }
+    ensures summed { SumUp width summaries.new.items words.new.items (length summaries.old.items) }
+{
+    for slot in 0..summaries.len() {
+        let place = slot * width + at / 64;
+        let word = words[place];
+        words[place] = set_bit(word, (at % 64) as u32, true);
+        summaries[slot] = marked(summaries[slot], at / 64, true);
     }
 }
 
@@ -113,19 +146,22 @@ fn widen(
     Ok(wide)
 }
 
-/// Rows of equally many bits, in an order: the bit at p is bit p mod 64 of the row's word p div 64.
+/// Rows of equally many bits, in an order: the bit at p is bit p mod 64 of the row's word p div 64. A row's slot is where
+/// its words are, and where its summary is.
 #[derive(Drop)]
 pub(crate) struct Rows {
     len: usize,
     width: usize,
     slots: Vec<u32>,
+    summaries: Vec<u64>,
     words: Vec<u64>,
 }
 
 impl Model for Rows {
-    ghost use Rattle.std.specs.Prelude.{map, ◌*◌, ◌-◌};
+    ghost use Rattle.std.specs.Prelude.{map, length, ◌*◌, ◌-◌};
     ghost use Rattle.classify.specs.bits.Rows.{RowsAndRoom};
     ghost use Rattle.classify.specs.steps.Held.{AreHeld, bits_in};
+    ghost use Rattle.classify.specs.steps.Summaries.{AreSummaries};
 
     ghost Value = { RowsAndRoom };
 
@@ -134,7 +170,8 @@ impl Model for Rows {
       room = 64 * r.width - r.len;
     } };
 
-    ghost invariant = { λ r. AreHeld r.len r.width r.slots.items r.words.items };
+    ghost invariant = { λ r. AreHeld r.len r.width r.slots.items r.words.items
+        × AreSummaries r.width r.summaries.items r.words.items (length r.slots.items) };
 }
 
 impl Rows {
@@ -146,6 +183,7 @@ impl Rows {
             len: 0,
             width: 0,
             slots: Vec::new(alloc),
+            summaries: Vec::new(alloc),
             words: Vec::new(alloc),
         }
     }
@@ -156,10 +194,13 @@ impl Rows {
     {
         let mut slots = Vec::new(alloc);
         slots.push(0)?;
+        let mut summaries = Vec::new(alloc);
+        summaries.push(0)?;
         Ok(Rows {
             len: 0,
             width: 0,
             slots,
+            summaries,
             words: Vec::new(alloc),
         })
     }
@@ -190,6 +231,15 @@ impl Rows {
         part(&self.words, start, self.len.div_ceil(64))
     }
 
+    /// A row's summary.
+    pub(crate) fn summary(&self, row: usize) -> u64
+        requires { row < length self.now.rows }
+        ensures { IsSummaryOf result (slice_index_or self.now.rows row []) }
+    {
+        let _len = self.len;
+        self.summaries[self.slots[row] as usize]
+    }
+
     /// The bit at a place of a row.
     pub(crate) fn get(&self, row: usize, at: usize) -> bool
         requires row { row < length self.now.rows }
@@ -197,7 +247,7 @@ impl Rows {
         ensures { result ≡ slice_index_or (slice_index_or self.now.rows row []) at false }
     {
         let _len = self.len;
-        bit_at(self.row(row), at)
+        is_marked(self.summary(row), at / 64) && bit_at(self.row(row), at)
     }
 
     // Writes the bit at a place of a row.
@@ -208,9 +258,22 @@ impl Rows {
         ensures room { self.new.room ≡ self.old.room }
     {
         let _len = self.len;
-        let place = self.slots[row] as usize * self.width + at / 64;
+        let slot = self.slots[row] as usize;
+        let place = slot * self.width + at / 64;
         let word = self.words[place];
         self.words[place] = set_bit(word, (at % 64) as u32, bit);
+        self.summaries[slot] = marked(self.summaries[slot], at / 64, bit);
+    }
+
+    // Writes a 1 at a place of each row: it goes from slot to slot.
+    pub(crate) fn set_all(&mut self, at: usize)
+        requires some { 0 < length self.old.rows }
+        requires place { All (λ row. at < length row) self.old.rows }
+        ensures rows { self.new.rows ≡ map (λ row. slice_set row at true) self.old.rows }
+        ensures room { self.new.room ≡ self.old.room }
+    {
+        let _len = self.len;
+        mark_all(&mut self.words, &mut self.summaries, self.width, at);
     }
 
     // Whether two rows are equal.
@@ -233,9 +296,12 @@ impl Rows {
     {
         let slot = slot_after(self.slots.len())?;
         self.slots.reserve(1)?;
-        let start = self.slots[row] as usize * self.width;
+        self.summaries.reserve(1)?;
+        let from = self.slots[row] as usize;
+        let start = from * self.width;
         self.words.extend_from_within(start..start + self.width)?;
         let _ = self.slots.insert(row + 1, slot);
+        let _ = self.summaries.push(self.summaries[from]);
         Ok(())
     }
 
@@ -252,6 +318,8 @@ impl Rows {
         self.words
             .copy_within(start..start + self.width, slot as usize * self.width);
         self.words.truncate(start);
+        self.summaries[slot as usize] = self.summaries[last];
+        self.summaries.truncate(last);
         redirect(&mut self.slots, last as u32, slot);
     }
 
@@ -268,7 +336,7 @@ impl Rows {
             self.len += 1;
             return;
         }
-        shift_all_in(&mut self.words, self.slots.len(), self.width, at);
+        shift_all_in(&mut self.words, &mut self.summaries, self.width, at);
         self.len += 1;
     }
 
@@ -279,7 +347,7 @@ impl Rows {
         ensures rows { self.new.rows ≡ map (λ row. remove row at) self.old.rows }
         ensures room { self.new.room ≡ self.old.room + 1 }
     {
-        shift_all_out(&mut self.words, self.slots.len(), self.width, at);
+        shift_all_out(&mut self.words, &mut self.summaries, self.width, at);
         self.len -= 1;
     }
 
@@ -314,6 +382,8 @@ impl Rows {
         let _len = self.len;
         self.slots.truncate(1);
         self.slots[0] = 0;
+        self.summaries.truncate(1);
+        self.summaries[0] = 0;
         self.words.truncate(self.width);
         self.words.fill(0);
         self.len = 0;
@@ -327,6 +397,7 @@ impl Rows {
             len: self.len,
             width: self.width,
             slots: Vec::from_slice(alloc, &self.slots)?,
+            summaries: Vec::from_slice(alloc, &self.summaries)?,
             words: Vec::from_slice(alloc, &self.words)?,
         })
     }

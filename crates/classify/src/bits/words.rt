@@ -28,7 +28,7 @@ pub(crate) fn same_bits(one: &[u64], other: &[u64]) -> bool
 }
 
 // Puts a bit into a word: the later bits move up, and the highest falls out.
-fn insert_bit(word: u64, offset: u32, bit: bool) -> u64
+pub(crate) fn insert_bit(word: u64, offset: u32, bit: bool) -> u64
     requires { offset < 64 }
     ensures { word_bits 64 result ++ top_bit word ∷ [] ≡ insert (word_bits 64 word) offset bit }
 {
@@ -38,7 +38,7 @@ fn insert_bit(word: u64, offset: u32, bit: bool) -> u64
 }
 
 // Takes a bit out of a word: the later bits move down, and `top` comes in as the highest.
-fn remove_bit(word: u64, offset: u32, top: bool) -> u64
+pub(crate) fn remove_bit(word: u64, offset: u32, top: bool) -> u64
     requires { offset < 64 }
     ensures { word_bits 64 result ≡ remove (word_bits 64 word) offset ++ top ∷ [] }
 {
@@ -52,18 +52,21 @@ pub(crate) fn set_bit(word: u64, offset: u32, bit: bool) -> u64
     requires { offset < 64 }
     ensures { word_bits 64 result ≡ slice_set (word_bits 64 word) offset bit }
 {
-    insert_bit(remove_bit(word, offset, false), offset, bit)
+    if bit {
+        return word | 1 << offset;
+    }
+    word & !(1 << offset)
 }
 
 // Moves the bits of a word up by one: the highest bit of the word below comes in first.
-fn shift_up(word: u64, below: u64) -> u64
+pub(crate) fn shift_up(word: u64, below: u64) -> u64
     ensures { word_bits 64 result ++ top_bit word ∷ [] ≡ top_bit below ∷ word_bits 64 word }
 {
     (word << 1) | (below >> 63)
 }
 
 // Moves the bits of a word down by one: the lowest bit of the word above comes in last.
-fn shift_down(word: u64, above: u64) -> u64
+pub(crate) fn shift_down(word: u64, above: u64) -> u64
     ensures { word_bits 64 result ≡ remove (word_bits 64 word) 0 ++ low_bit above ∷ [] }
 {
     (above << 63) | (word >> 1)

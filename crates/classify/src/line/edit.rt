@@ -113,8 +113,8 @@ pub(crate) fn unsplit_all(line: &mut OwnedLine, spans: &Spans)
 }
 
 // Writes 1s into the rows of the pieces in an interval, the first of which starts where it begins.
-fn put_interval(line: &mut OwnedLine, at: usize, interval: Interval)
-    requires rising { IsRisingLine line.old.pieces }
+fn put_interval(line: &mut OwnedLine, top: u128, at: usize, interval: Interval)
+    requires rising { IsRising top line.old.pieces }
     requires begins { StartsAt interval.first line.old.pieces }
     requires place { (j : ℕ) → j < length line.old.pieces → at < length (row_of line.old.pieces j) }
     ensures answers { (test : ℕ → Bool) (pieces : List (ℕ × List Bool))
@@ -122,6 +122,10 @@ fn put_interval(line: &mut OwnedLine, at: usize, interval: Interval)
         → line.new.pieces ≡ map (with_test at (λ x. test x || in_span x interval)) pieces }
     ensures room { line.new.room ≡ line.old.room }
 {
+    if interval.first == 0 && interval.last >= top {
+        line.set_all(at);
+        return;
+    }
     let from = line.place_of(interval.first);
     for k in from..line.len() {
         if line.start(k) > interval.last {
@@ -132,7 +136,7 @@ fn put_interval(line: &mut OwnedLine, at: usize, interval: Interval)
 }
 
 // Puts a box's answers into the rows of a line that is cut wherever they change. Beside the place that is opened in each
-// row, it touches the pieces alone that the box allows.
+// row, it touches the pieces alone that the box allows: all of them in the order of their slots.
 fn put_answers(line: &mut OwnedLine, at: usize, spans: &Spans)
     requires rising { IsRising spans.now.top line.old.pieces }
     requires cuts { CutsStart spans.now.top spans.now.intervals line.old.pieces }
@@ -142,8 +146,9 @@ fn put_answers(line: &mut OwnedLine, at: usize, spans: &Spans)
     ensures room { line.new.room + 1 ≡ line.old.room }
 {
     line.open_place(at);
+    let top = spans.top();
     for interval in spans.intervals() {
-        put_interval(line, at, *interval);
+        put_interval(line, top, at, *interval);
     }
 }
 
@@ -158,7 +163,9 @@ fn write_in(line: &mut OwnedLine, k: usize, at: usize, spans: &Spans) -> bool
 {
     let bit = line.get(k, at);
     let answer = spans.has(line.start(k));
-    line.set(k, at, answer);
+    if answer != bit {
+        line.set(k, at, answer);
+    }
     bit
 }
 

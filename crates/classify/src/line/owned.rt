@@ -1,11 +1,12 @@
 //! A line as the classifier keeps it: where its pieces start, and their rows.
 
 ghost use Rattle.std.specs.Prelude.{ℕ, ◌≡◌, ◌<◌, ◌≤◌, ◌+◌, ◌%◌, length, map, insert, remove, slice_set, slice_index, slice_index_or, take};
-ghost use Rattle.std.specs.Prelude.{false, IfOk, IsOk, OnOk, OnErr, IsTrue, ◌↔◌, [], ◌∷◌};
+ghost use Rattle.std.specs.Prelude.{false, true, IfOk, IsOk, OnOk, OnErr, IsTrue, ◌↔◌, [], ◌∷◌};
 ghost use Rattle.classify.specs.steps.Packing.{all_bits, IsPacked};
 ghost use Rattle.classify.specs.line.Line.{starts};
 ghost use Rattle.classify.specs.steps.Pieces.{IsRisingLine, row_in};
 ghost use Rattle.classify.specs.steps.Edits.{row_of};
+ghost use Rattle.classify.specs.steps.Summaries.{IsSummaryOf};
 
 use crate::bits::rows::Rows;
 use crate::line::starts::Starts;
@@ -13,8 +14,16 @@ use std::alloc::{AllocError, Global};
 use std::marker::Model;
 use std::mem::size_of;
 
-/// How many bytes a piece takes beside the words of its row, where its start has 32 bits: its start, and the slot of its row.
-pub const PIECE_BYTES: usize = size_of::<u32>() + size_of::<u32>();
+/// How many bytes a piece takes beside the words of its row, where its start has 32 bits: its start, and the slot of its row
+/// and its summary.
+pub const PIECE_BYTES: usize = size_of::<u32>() + size_of::<u32>() + size_of::<u64>();
+
+/// The words of a row that its bits need, as they are lent, and its summary.
+#[derive(Clone, Copy)]
+pub(crate) struct LentRow<'a> {
+    pub(crate) words: &'a [u64],
+    pub(crate) summary: u64,
+}
 
 /// The pieces of a line, in rising order: the first number of each, and the answer of each box, at the box's place.
 #[derive(Drop)]
@@ -106,13 +115,27 @@ impl OwnedLine {
         self.rows.row(k)
     }
 
-    // The words of the row of the piece that a number is in; they are lent.
-    pub(crate) fn words_at(&self, x: u128) -> &[u64]
-        requires { IsRisingLine self.now.pieces }
-        ensures packed { IsPacked result.now (length (row_in self.now.pieces x)) }
-        ensures bits { take (length (row_in self.now.pieces x)) (all_bits result.now) ≡ row_in self.now.pieces x }
+    // The summary of a row.
+    pub(crate) fn summary(&self, k: usize) -> u64
+        requires { k < length self.now.pieces }
+        ensures { IsSummaryOf result (row_of self.now.pieces k) }
     {
-        self.words(self.place_of(x))
+        let _starts = &self.starts;
+        self.rows.summary(k)
+    }
+
+    // The row of the piece that a number is in; it is lent.
+    pub(crate) fn row_at(&self, x: u128) -> LentRow<'_>
+        requires { IsRisingLine self.now.pieces }
+        ensures packed { IsPacked result.words.now (length (row_in self.now.pieces x)) }
+        ensures bits { take (length (row_in self.now.pieces x)) (all_bits result.words.now) ≡ row_in self.now.pieces x }
+        ensures summed { IsSummaryOf result.summary (row_in self.now.pieces x) }
+    {
+        let place = self.place_of(x);
+        LentRow {
+            words: self.words(place),
+            summary: self.summary(place),
+        }
     }
 
     // The bit at a place of a row.
@@ -135,6 +158,17 @@ impl OwnedLine {
     {
         let _starts = &self.starts;
         self.rows.set(k, at, bit);
+    }
+
+    // Writes a 1 at a place of each row.
+    pub(crate) fn set_all(&mut self, at: usize)
+        requires some { 0 < length self.old.pieces }
+        requires place { (k : ℕ) → k < length self.old.pieces → at < length (row_of self.old.pieces k) }
+        ensures pieces { self.new.pieces ≡ map (λ p. (p.0, slice_set p.1 at true)) self.old.pieces }
+        ensures room { self.new.room ≡ self.old.room }
+    {
+        let _starts = &self.starts;
+        self.rows.set_all(at);
     }
 
     // Cuts a piece at a number: the new one has its row. Where memory is refused the pieces are as before.

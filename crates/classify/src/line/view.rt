@@ -14,17 +14,19 @@ use std::marker::Model;
 pub struct Row<'a> {
     len: usize,
     words: &'a [u64],
+    summary: u64,
 }
 
 impl<'a> Model for Row<'a> {
     ghost use Rattle.std.specs.Prelude.{Bool, List, take};
     ghost use Rattle.classify.specs.steps.Packing.{IsPacked, all_bits};
+    ghost use Rattle.classify.specs.steps.Summaries.{IsSummaryOf};
 
     ghost Value = { List Bool };
 
     ghost view = { λ r. take r.len (all_bits r.words.now) };
 
-    ghost invariant = { λ r. IsPacked r.words.now r.len };
+    ghost invariant = { λ r. IsPacked r.words.now r.len × IsSummaryOf r.summary (take r.len (all_bits r.words.now)) };
 }
 
 impl<'a> Row<'a> {
@@ -46,14 +48,14 @@ impl<'a> Row<'a> {
 
     /// The least place, at or after `from`, of a box that allows the numbers of the piece; there may be none.
     ///
-    /// It takes no memory. It costs a word for 64 boxes that it passes over, so a walk from one such box to
-    /// the next costs the words of the row and the boxes that it finds.
+    /// It takes no memory. It passes over words without such a box, mostly many at a time, so a walk from one such box to
+    /// the next costs no more than the words of the row and the boxes that it finds.
     pub fn next_set(&self, from: usize) -> Option<usize>
         ensures { result ≡ next_match (λ bit. bit) self.now from }
     {
         let _len = self.len;
         let words = self.words;
-        search::first_common(&[words], words.len(), from)
+        search::first_common(&[words], self.summary, words.len(), from)
     }
 }
 
@@ -91,6 +93,7 @@ impl<'a> Piece<'a> {
         Row {
             len: line.bits(place),
             words: line.words(place),
+            summary: line.summary(place),
         }
     }
 }

@@ -1,9 +1,10 @@
 -- One bit of a row, read or written.
-use Rattle.std.proofs.Common.{◌≡◌, ℕ, zero, suc, ◌+◌, ◌-◌, ◌*◌, ◌/◌, ◌^◌, ◌<◌, ◌≤◌, Bool, false, List, [], ◌∷◌, ◌++◌, length, take, get_or, refl, sym, ◌∙◌, ap, arith}
+use Rattle.std.proofs.Common.{◌≡◌, ◌≢◌, inl, inr, ℕ, zero, suc, ◌+◌, ◌-◌, ◌*◌, ◌/◌, ◌^◌, ◌<◌, ◌≤◌, Bool, false, List, [], ◌∷◌, ◌++◌, length, get_or, sym, ◌∙◌, ap, arith}
+use Rattle.std.specs.Prelude.{nat_eq}
+use Rattle.std.specs.Int.{bit_at}
 use Rattle.std.proofs.Math.ListN.{set}
-use Rattle.std.specs.List.{insert, remove}
-use Rattle.std.proofs.lemmas.List.{get_or_append_left, get_or-append_right, set-append_left, set-append_right, length-set, take_at}
-use Rattle.std.proofs.lemmas.List.Edits.{length-remove, insert-append_left}
+use Rattle.std.proofs.lemmas.Bool.{cases_eq}
+use Rattle.std.proofs.lemmas.List.{get_or_append_left, get_or-append_right, set-append_left, set-append_right, length-set, same_lists, get_or_default, get_or-set_same, get_or-set_other}
 use Rattle.std.proofs.lemmas.Nat.{shr-shr}
 use Rattle.classify.specs.steps.Packing.{low_bit, word_bits, all_bits}
 use Rattle.classify.proofs.laws.bits.BitLaws.{length-word_bits}
@@ -45,20 +46,17 @@ all_bits-set (v ∷ ws) (suc q) r w b lt in' e =
     ap (λ (bs : List Bool). word_bits 64 v ++ bs) (all_bits-set ws q r w b (omega arith) in' e ∙ ap (λ k. set (all_bits ws) k b) (sym f))
     ∙ sym (set-append_right (word_bits 64 v) (all_bits ws) 64 (64 * suc q + r) b long past)
 
--- a bit taken out, and another put in at its place
-pub set_by_edits : (xs : List Bool) (i : ℕ) (b : Bool) → i < length xs → insert (remove xs i) i b ≡ set xs i b
-set_by_edits [] i b lt = absurd (omega arith)
-set_by_edits (x ∷ xs) zero b lt = refl
-set_by_edits (x ∷ xs) (suc i) b lt = ap (λ (ys : List Bool). x ∷ ys) (set_by_edits xs i b (omega arith))
-
--- what the code of `set_bit` makes
-pub written_word : (word cut put off : ℕ) (b c : Bool) → off < 64 → word_bits 64 cut ≡ remove (word_bits 64 word) off ++ false ∷ [] → word_bits 64 put ++ c ∷ [] ≡ insert (word_bits 64 cut) off b
-    → word_bits 64 put ≡ set (word_bits 64 word) off b
-written_word word cut put off b c lt is made =
-    let long : length (word_bits 64 word) ≡ 64 = length-word_bits 64 word in
-    let in' : off < length (word_bits 64 word) = omega arith in
-    let left : off ≤ length (remove (word_bits 64 word) off) = omega (arith, length-remove (word_bits 64 word) off in') in
-    let whole : word_bits 64 put ++ c ∷ [] ≡ set (word_bits 64 word) off b ++ false ∷ [] =
-    made ∙ ap (λ (bs : List Bool). insert bs off b) is ∙ insert-append_left (remove (word_bits 64 word) off) (false ∷ []) off b left ∙ ap (λ (bs : List Bool). bs ++ false ∷ []) (set_by_edits (word_bits 64 word) off b in') in
-    let n : length (set (word_bits 64 word) off b) ≡ 64 = length-set (word_bits 64 word) off b ∙ long in
-    sym (take_at (word_bits 64 put) (c ∷ []) 64 (length-word_bits 64 put)) ∙ ap (λ (bs : List Bool). take 64 bs) whole ∙ take_at (set (word_bits 64 word) off b) (false ∷ []) 64 n
+-- a word with one bit written
+pub bit_written : (v word off : ℕ) (b : Bool) → off < 64 → low_bit (v / 2 ^ off) ≡ b → ((i : ℕ) → i < 64 → i ≢ off → bit_at v i ≡ bit_at word i) → word_bits 64 v ≡ set (word_bits 64 word) off b
+bit_written v word off b lt here others =
+    let bits : List Bool = word_bits 64 word in
+    let long : length bits ≡ 64 = length-word_bits 64 word in
+    let long' : length (word_bits 64 v) ≡ 64 = length-word_bits 64 v in
+    same_lists (word_bits 64 v) (set bits off b) (long' ∙ sym (length-set bits off b ∙ long)) (λ i d in'.
+    let i64 : i < 64 = omega (arith, in', long') in
+    get_or_default (word_bits 64 v) i d false in' ∙ word_bit_at 64 v i i64
+    ∙ elim (cases_eq i off) [
+      | inl e ↦ (ap (λ k. low_bit (v / 2 ^ k)) e ∙ here ∙ sym (get_or-set_same bits off b d (omega (arith, long, lt))) ∙ ap (λ k. get_or (set bits off b) k d) (sym e))
+      | inr ne ↦ (
+          ap (λ x. nat_eq x 1) (others i i64 ne) ∙ sym (word_bit_at 64 word i i64) ∙ sym (get_or_default bits i d false (omega (arith, long, i64))) ∙ sym (get_or-set_other bits off i b d ne))
+    ])

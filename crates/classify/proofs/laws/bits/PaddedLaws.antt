@@ -109,7 +109,7 @@ bit_at ws len at w le lt is =
     get_or-take len (all_bits ws) at false lt ∙ ap (λ k. get_or (all_bits ws) k false) (sym e) ∙ all_bit_at ws (at / 64) (at % 64) in' (omega arith)
     ∙ ap (λ v. low_bit (v / 2 ^ (at % 64))) (sym (get_or_read ws (at / 64) w in' is 0))
 
-set_whole : (ws : List ℕ) (at w word : ℕ) (b : Bool) → at < 64 * length ws → word ≡ get_or ws (at / 64) word → word_bits 64 w ≡ set (word_bits 64 word) (at % 64) b
+pub set_whole : (ws : List ℕ) (at w word : ℕ) (b : Bool) → at < 64 * length ws → word ≡ get_or ws (at / 64) word → word_bits 64 w ≡ set (word_bits 64 word) (at % 64) b
     → all_bits (set ws (at / 64) w) ≡ set (all_bits ws) at b
 set_whole ws at w word b lt is e =
     let f : 64 * (at / 64) + at % 64 ≡ at = omega arith in

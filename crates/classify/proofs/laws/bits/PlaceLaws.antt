@@ -82,7 +82,7 @@ closed_shown len w at slots ws us h in' each =
 
 -- ---- more room
 
-all_zeros : (n : ℕ) → All Off (all_bits (replicate n 0))
+pub all_zeros : (n : ℕ) → All Off (all_bits (replicate n 0))
 all_zeros zero = All-nil Off
 all_zeros (suc n) = All-append Off (word_bits 64 0) (all_bits (replicate n 0)) (zeros 64) (all_zeros n)
 
@@ -132,11 +132,17 @@ pub one_slot : (slots : List ℕ) → 0 < length slots → set (take 1 slots) 0 
 one_slot [] lt = absurd (omega arith)
 one_slot (s ∷ ss) lt = refl
 
+pub cleared_row : (w : ℕ) → words_in w (replicate w 0) 0 ≡ replicate w 0
+cleared_row w =
+    let zeros : List ℕ = replicate w 0 in
+    let long : length zeros ≡ w = length-replicate w 0 in
+    let e : 0 * w ≡ 0 = omega arith in
+    ap (λ k. take w (drop k zeros)) e ∙ take_all w zeros (omega (arith, long))
+
 pub cleared_held : (w : ℕ) → w < 2 ^ 58 → AreHeld 0 w (0 ∷ []) (replicate w 0)
 cleared_held w few =
     let ws : List ℕ = replicate w 0 in
     let long : length ws ≡ w = length-replicate w 0 in
-    let here : words_in w ws 0 ≡ ws = (let e : 0 * w ≡ 0 = omega arith in ap (λ k. take w (drop k ws)) e ∙ take_all w ws (omega (arith, long))) in
     record {
       covers = omega arith;
       few = few;
@@ -147,7 +153,7 @@ cleared_held w few =
       padded = λ slot lt.
           let e : slot ≡ 0 = omega arith in
           let P : ℕ → Type 0 = λ s. IsPadded (words_in w ws s) 0 in
-          subst P (sym e) (let Q : List ℕ → Type 0 = λ row. IsPadded row 0 in subst Q (sym here) (all_zeros w));
+          subst P (sym e) (let Q : List ℕ → Type 0 = λ row. IsPadded row 0 in subst Q (sym (cleared_row w)) (all_zeros w));
     }
 
 pub first_row_within : (len w : ℕ) (slots ws : List ℕ) → AreHeld len w slots ws → 0 < length slots → w ≤ length ws

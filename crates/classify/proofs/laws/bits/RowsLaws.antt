@@ -261,27 +261,32 @@ pub record Changed (R : List ℕ → List ℕ → Type 0) (w n : ℕ) (old now :
 pub changed_first : (R : List ℕ → List ℕ → Type 0) (w n : ℕ) (old : List ℕ) → Changed R w n old old 0
 changed_first R w n old = record { as_long = refl; done = λ t lt. absurd (omega arith); rest = λ t ge lt. refl }
 
+-- row i changed, and no other
+pub changed_by : (R : List ℕ → List ℕ → Type 0) (w n : ℕ) (old now new row : List ℕ) (i : ℕ) → Changed R w n old now i → i < n → length new ≡ length now → R (words_in w now i) row
+    → words_in w new i ≡ row → ((t : ℕ) → t < n → t ≢ i → words_in w new t ≡ words_in w now t) → Changed R w n old new (i + 1)
+changed_by R w n old now new row i h lt same r here others =
+    let P : List ℕ → Type 0 = λ vs. R (words_in w old i) vs in
+    let Q : List ℕ → Type 0 = λ vs. R vs row in
+    record {
+      as_long = same ∙ h.as_long;
+      done = λ t lt'. elim (cases_eq t i) [
+        | inl e ↦ (
+            let changed : R (words_in w old i) (words_in w new i) = subst P (sym here) (subst Q (h.rest i (omega arith) lt) r) in
+            let T : ℕ → Type 0 = λ x. R (words_in w old x) (words_in w new x) in subst T (sym e) changed)
+        | inr ne ↦ (
+            let below : t < i = omega (arith, lt', ne) in
+            let U : List ℕ → Type 0 = λ vs. R (words_in w old t) vs in
+            subst U (sym (others t (omega (arith, below, lt)) ne)) (h.done t below))
+      ];
+      rest = λ t ge lt'. (let ne : t ≢ i = λ e. absurd (omega (arith, e, ge)) in others t lt' ne ∙ h.rest t (omega (arith, ge)) lt');
+    }
+
 pub changed_more : (R : List ℕ → List ℕ → Type 0) (w n : ℕ) (old now new row : List ℕ) (i : ℕ) → Changed R w n old now i → length old ≡ n * w → i < n → length row ≡ w → R (words_in w now i) row
     → IsRowWritten w i row now new → Changed R w n old new (i + 1)
 changed_more R w n old now new row i h size lt long r is =
     let size' : length now ≡ n * w = h.as_long ∙ size in
-    let P : List ℕ → Type 0 = λ vs. R (words_in w old i) vs in
-    let Q : List ℕ → Type 0 = λ vs. R vs row in
-    record {
-      as_long = row_written_size w n i row now new size' lt long is ∙ h.as_long;
-      done = λ t lt'. elim (cases_eq t i) [
-        | inl e ↦ (
-            let here : R (words_in w old i) (words_in w new i) = subst P (sym (row_written_here w n i row now new size' lt long is)) (subst Q (h.rest i (omega arith) lt) r) in
-            let T : ℕ → Type 0 = λ x. R (words_in w old x) (words_in w new x) in subst T (sym e) here)
-        | inr ne ↦ (
-            let below : t < i = omega (arith, lt', ne) in
-            let U : List ℕ → Type 0 = λ vs. R (words_in w old t) vs in
-            subst U (sym (row_written_other w n i t row now new size' lt (omega (arith, below, lt)) long ne is)) (h.done t below))
-      ];
-      rest = λ t ge lt'. (
-          let ne : t ≢ i = λ e. absurd (omega (arith, e, ge)) in
-          row_written_other w n i t row now new size' lt lt' long ne is ∙ h.rest t (omega (arith, ge)) lt');
-    }
+    changed_by R w n old now new row i h lt (row_written_size w n i row now new size' lt long is) r (row_written_here w n i row now new size' lt long is)
+    (λ t lt' ne. row_written_other w n i t row now new size' lt lt' long ne is)
 
 -- a row's words are within all words
 pub row_within : (len w : ℕ) (slots ws : List ℕ) (k s : ℕ) → AreHeld len w slots ws → k < length slots → s ≡ get_or slots k s → s * w + w ≤ length ws

@@ -31,13 +31,13 @@ pub record IsDoubled (len w : ℕ) (slots ws : List ℕ) (k s : ℕ) (slots' ws'
   pub slots_are : slots' ≡ insert slots (k + 1) (length slots)
   pub words_are : ws' ≡ ws ++ words_in w ws s
 
-doubled_size : (len w : ℕ) (slots ws : List ℕ) (k s : ℕ) (slots' ws' : List ℕ) → IsDoubled len w slots ws k s slots' ws' → length slots' ≡ length slots + 1
+pub doubled_size : (len w : ℕ) (slots ws : List ℕ) (k s : ℕ) (slots' ws' : List ℕ) → IsDoubled len w slots ws k s slots' ws' → length slots' ≡ length slots + 1
 doubled_size len w slots ws k s slots' ws' h = ap (λ (ss : List ℕ). length ss) h.slots_are ∙ length-insert slots (k + 1) (length slots) (omega (arith, h.row))
 
-doubled_other : (len w : ℕ) (slots ws : List ℕ) (k s : ℕ) (slots' ws' : List ℕ) → IsDoubled len w slots ws k s slots' ws' → (t : ℕ) → t < length slots → words_in w ws' t ≡ words_in w ws t
+pub doubled_other : (len w : ℕ) (slots ws : List ℕ) (k s : ℕ) (slots' ws' : List ℕ) → IsDoubled len w slots ws k s slots' ws' → (t : ℕ) → t < length slots → words_in w ws' t ≡ words_in w ws t
 doubled_other len w slots ws k s slots' ws' h t lt = ap (λ (us : List ℕ). words_in w us t) h.words_are ∙ appended_other w (length slots) t ws (words_in w ws s) h.held.wide lt
 
-doubled_here : (len w : ℕ) (slots ws : List ℕ) (k s : ℕ) (slots' ws' : List ℕ) → IsDoubled len w slots ws k s slots' ws' → words_in w ws' (length slots) ≡ words_in w ws s
+pub doubled_here : (len w : ℕ) (slots ws : List ℕ) (k s : ℕ) (slots' ws' : List ℕ) → IsDoubled len w slots ws k s slots' ws' → words_in w ws' (length slots) ≡ words_in w ws s
 doubled_here len w slots ws k s slots' ws' h =
     let lt : s < length slots = slot_below len w slots ws k s h.held h.row h.slot in
     ap (λ (us : List ℕ). words_in w us (length slots)) h.words_are ∙ appended_here w (length slots) ws (words_in w ws s) h.held.wide (length-words_in w (length slots) s ws h.held.wide lt)
@@ -114,20 +114,23 @@ moved_size len w slots ws k s last us slots' ws' h =
     omega (arith, row_written_size w (length slots) s (words_in w ws last) ws us h.held.wide (taken_below len w slots ws k s last us slots' ws' h) (last_long len w slots ws k s last us slots' ws' h) h.moved, h.held.wide)
 
 -- the words in the slots that are left
-taken_other : (len w : ℕ) (slots ws : List ℕ) (k s last : ℕ) (us slots' ws' : List ℕ) → IsTakenOut len w slots ws k s last us slots' ws' → (t : ℕ) → t < last → t ≢ s → words_in w ws' t ≡ words_in w ws t
+pub taken_other : (len w : ℕ) (slots ws : List ℕ) (k s last : ℕ) (us slots' ws' : List ℕ) → IsTakenOut len w slots ws k s last us slots' ws' → (t : ℕ) → t < last → t ≢ s → words_in w ws' t ≡ words_in w ws t
 taken_other len w slots ws k s last us slots' ws' h t lt ne =
     ap (λ (vs : List ℕ). words_in w vs t) h.words_are ∙ truncated w last t us lt (moved_size len w slots ws k s last us slots' ws' h)
     ∙ row_written_other w (length slots) s t (words_in w ws last) ws us h.held.wide (taken_below len w slots ws k s last us slots' ws' h) (omega (arith, h.count)) (last_long len w slots ws k s last us slots' ws' h) ne h.moved
 
-taken_here : (len w : ℕ) (slots ws : List ℕ) (k s last : ℕ) (us slots' ws' : List ℕ) → IsTakenOut len w slots ws k s last us slots' ws' → s < last → words_in w ws' s ≡ words_in w ws last
+pub taken_here : (len w : ℕ) (slots ws : List ℕ) (k s last : ℕ) (us slots' ws' : List ℕ) → IsTakenOut len w slots ws k s last us slots' ws' → s < last → words_in w ws' s ≡ words_in w ws last
 taken_here len w slots ws k s last us slots' ws' h lt =
     ap (λ (vs : List ℕ). words_in w vs s) h.words_are ∙ truncated w last s us lt (moved_size len w slots ws k s last us slots' ws' h)
     ∙ row_written_here w (length slots) s (words_in w ws last) ws us h.held.wide (taken_below len w slots ws k s last us slots' ws' h) (last_long len w slots ws k s last us slots' ws' h) h.moved
 
+pub taken_size : (len w : ℕ) (slots ws : List ℕ) (k s last : ℕ) (us slots' ws' : List ℕ) → IsTakenOut len w slots ws k s last us slots' ws' → length slots' ≡ last
+taken_size len w slots ws k s last us slots' ws' h =
+    ap (λ (ss : List ℕ). length ss) h.slots_are ∙ length-map (remove slots k) (redirected last s) ∙ (let m = length-remove slots k h.row in omega (arith, m, h.count))
+
 pub taken_held : (len w : ℕ) (slots ws : List ℕ) (k s last : ℕ) (us slots' ws' : List ℕ) → IsTakenOut len w slots ws k s last us slots' ws' → AreHeld len w slots' ws'
 taken_held len w slots ws k s last us slots' ws' h =
-    let n : length slots' ≡ last =
-    ap (λ (ss : List ℕ). length ss) h.slots_are ∙ length-map (remove slots k) (redirected last s) ∙ (let m = length-remove slots k h.row in omega (arith, m, h.count)) in
+    let n : length slots' ≡ last = taken_size len w slots ws k s last us slots' ws' h in
     let lt : s < last + 1 = omega (arith, taken_below len w slots ws k s last us slots' ws' h, h.count) in
     let le : last ≤ length slots = omega (arith, h.count) in
     let P : List ℕ → Type 0 = λ row. IsPadded row len in

@@ -53,7 +53,7 @@ shift_in_more ws k off w' c c' lt le e =
     left ∙ append_assoc (all_bits (take k ws)) (word_bits 64 w') (c' ∷ rest) ∙ sym (ap (λ (bs : List Bool). all_bits (take k ws) ++ bs) right)
 
 -- a bit leaves: the words above its own, from the last down
-word_first : (w : ℕ) → word_bits 64 w ≡ low_bit w ∷ drop 1 (word_bits 64 w)
+pub word_first : (w : ℕ) → word_bits 64 w ≡ low_bit w ∷ drop 1 (word_bits 64 w)
 unfolding word_bits
 word_first w = refl
 

@@ -16,7 +16,7 @@ use Rattle.classify.specs.steps.Edits.{with_test, row_of}
 use Rattle.classify.proofs.laws.line.ShownLaws.{Cut, IsIn, start_in, no_piece_between}
 use Rattle.classify.proofs.laws.line.BitPlaceLaws.{set-insert}
 use Rattle.classify.proofs.laws.line.ListLoopLaws.{Edited, edited_more}
-use Rattle.classify.proofs.laws.line.PlaceLaws.{rise_before, rise_all}
+use Rattle.classify.proofs.laws.line.PlaceLaws.{rise_before, rise_all, start_within}
 
 -- a piece with a 1 written into its row, from the j-th piece on
 abbrev pub marked_from : ℕ → ℕ → ℕ → Cut → Cut
@@ -96,12 +96,16 @@ or_false : (a b : Bool) → b ≡ false → (a || b) ≡ a
 or_false true b e = refl
 or_false false b e = e
 
--- a marked piece answers as before, and also within the interval
+-- a piece with a 1 written in answers as before, and also within the interval
+written_answer : (at : ℕ) (test : ℕ → Bool) (s : Interval) (p : Cut) → at ≤ length p.1 → in_span p.0 s ≡ true → (p.0, set (insert p.1 at (test p.0)) at true) ≡ with_test at (λ x. test x || in_span x s) p
+written_answer at test s p le is =
+    let row : set (insert p.1 at (test p.0)) at true ≡ insert p.1 at (test p.0 || in_span p.0 s) = set-insert p.1 at (test p.0) true le ∙ ap (λ (b : Bool). insert p.1 at b) (sym (or_true (test p.0) (in_span p.0 s) is)) in
+    λ i. (p.0, row i)
+
 marked_answer : (at from j : ℕ) (test : ℕ → Bool) (s : Interval) (p : Cut) → at ≤ length p.1 → from ≤ j → in_span p.0 s ≡ true
     → marked_from at from j (with_test at test p) ≡ with_test at (λ x. test x || in_span x s) p
 marked_answer at from j test s p le ge is =
-    let row : set (insert p.1 at (test p.0)) at true ≡ insert p.1 at (test p.0 || in_span p.0 s) = set-insert p.1 at (test p.0) true le ∙ ap (λ (b : Bool). insert p.1 at b) (sym (or_true (test p.0) (in_span p.0 s) is)) in
-    ap (λ (b : Bool). cond b (p.0, set (insert p.1 at (test p.0)) at true) (with_test at test p)) (le-leb from j ge) ∙ (λ i. (p.0, row i))
+    ap (λ (b : Bool). cond b (p.0, set (insert p.1 at (test p.0)) at true) (with_test at test p)) (le-leb from j ge) ∙ written_answer at test s p le is
 
 other_answer : (at : ℕ) (test : ℕ → Bool) (s : Interval) (p : Cut) → in_span p.0 s ≡ false → with_test at test p ≡ with_test at (λ x. test x || in_span x s) p
 other_answer at test s p is = let same = sym (or_false (test p.0) (in_span p.0 s) is) in λ i. (p.0, insert p.1 at (same i))
@@ -136,6 +140,24 @@ marked_all top at from k test s pieces old now h r here first stop le place is =
           let up : slice_index (starts old) k ≤ slice_index (starts old) j = rise_all top old k j 0 r past (omega (arith, length-map old (λ (c : Cut). c.0))) in
           h.edited.rest j d past ∙ was ∙ other_answer at test s p (above_it s p.0 (omega (arith, stop (omega arith)))) ∙ sym goal)
     ]))
+
+-- the same at once, where the interval is the whole line
+pub whole_marked : (top at : ℕ) (test : ℕ → Bool) (s : Interval) (pieces old now : List Cut) → IsRising top old → s.first ≡ 0 → top ≤ s.last → ((j : ℕ) → j < length pieces → at ≤ length (row_of pieces j)) → old ≡ map (with_test at test) pieces
+    → now ≡ map (λ (p : Cut). (p.0, set p.1 at true)) old → now ≡ map (with_test at (λ x. test x || in_span x s)) pieces
+whole_marked top at test s pieces old now r low high place is made =
+    let none : Cut = (0, []) in
+    let after : Cut → Cut = with_test at (λ x. test x || in_span x s) in
+    let write : Cut → Cut = λ p. (p.0, set p.1 at true) in
+    let long : length old ≡ length pieces = ap length is ∙ length-map pieces (with_test at test) in
+    same_lists now (map after pieces) (ap length made ∙ length-map old write ∙ long ∙ sym (length-map pieces after)) (λ j d lt.
+    let in'' : j < length old = omega (arith, ap length made, length-map old write) in
+    let in' : j < length pieces = omega arith in
+    let p : Cut = get_or pieces j none in
+    let q : Cut = with_test at test p in
+    let was : get_or old j none ≡ q = ap (λ (line : List Cut). get_or line j none) is ∙ get_or-map (with_test at test) pieces j none none in' in
+    let start : slice_index (starts old) j ≡ p.0 = start_in old j none in'' ∙ ap (λ (c : Cut). c.0) was in
+    let within : slice_index (starts old) j ≤ top = start_within top old j r in'' in
+    ap (λ (line : List Cut). get_or line j d) made ∙ get_or-map write old j none d in'' ∙ ap write was ∙ written_answer at test s p (place j in') (in_it s p.0 (omega arith) (omega (arith, start, within))) ∙ sym (get_or-map after pieces j none d in'))
 
 -- one interval more
 pub has_more : (spans : List Interval) (i x : ℕ) (d : Interval) → i < length spans → has (take (i + 1) spans) x ≡ (has (take i spans) x || in_span x (get_or spans i d))

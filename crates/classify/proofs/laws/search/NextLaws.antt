@@ -1,6 +1,9 @@
 -- The first place that every row has is the next box that box_allows the point.
 use Rattle.std.proofs.Common.{◌≡◌, ◌↔◌, inl, inr, ℕ, zero, suc, ◌+◌, ◌-◌, ◌*◌, ◌<◌, ◌≤◌, Bool, true, false, cond, not, List, [], ◌∷◌, length, drop, take, get_or, map, refl, sym, ◌∙◌, ap, arith, subst, lit<, Option, Some, None, Bor}
-use Rattle.std.specs.Prelude.{slice_index}
+use Rattle.std.specs.Prelude.{◌/◌, ◌%◌, ◌^◌, slice_index, bit_and}
+use Rattle.std.specs.Int.{bit_at}
+use Rattle.std.proofs.lemmas.Nat.Bits.{bit_at_and, bit_at_ones}
+use Rattle.classify.specs.steps.Summaries.{IsSummaryOf, SumUpAll, SumUpPoint}
 use Rattle.std.specs.List.{list_all, position_or_len}
 use Rattle.std.specs.Option.{option_map}
 use Rattle.std.proofs.Math.Dec.{ltb}
@@ -119,6 +122,31 @@ have_within c point rows words p n are wide lt every =
           absurd (true≢false (sym (every 0 none first) ∙ none_past (get_or rows 0 none).now c.len p (are 0 none some).packed le room)))
     ]
 
+-- ---- the summary of all rows
+
+pub point_first : (c : Classified) (point : List ℕ) → SumUpPoint c point (2 ^ 64 - 1) 0
+point_first c point p each = bit_at_ones 64 (p / 64 / 2 % 64) (omega arith)
+
+pub point_more : (c : Classified) (point : List ℕ) (summary s k : ℕ) → SumUpPoint c point summary k → IsSummaryOf s (row_in (get_or c.lines k []) (slice_index point k)) → SumUpPoint c point (bit_and summary s) (k + 1)
+point_more c point summary s k h one p each =
+    let all : bit_at summary (p / 64 / 2 % 64) ≡ 1 = h p (λ j lt. each j (omega arith)) in
+    let last : bit_at s (p / 64 / 2 % 64) ≡ 1 = one p (each k (omega arith)) in
+    bit_at_and summary s (p / 64 / 2 % 64) ∙ omega arith
+
+-- each row has the words that so many boxes need
+pub rows_wide : (c : Classified) (point : List ℕ) (rows : List (Bor (List ℕ))) (words : ℕ) → AreRowsAt c point rows FIELDS → c.len ≤ 64 * words → 64 * words < c.len + 64 → AreWide words rows
+rows_wide c point rows words h covers tight k d lt =
+    let row = (h.are k d (omega (arith, h.long))).packed in
+    omega (arith, row.covers, row.tight)
+
+pub point_sums_up : (c : Classified) (point : List ℕ) (rows : List (Bor (List ℕ))) (words summary : ℕ) → length rows ≡ FIELDS → ((j : ℕ) (d : Bor (List ℕ)) → j < FIELDS → IsRowAt c j (slice_index point j) (get_or rows j d).now)
+    → AreWide words rows → SumUpPoint c point summary FIELDS → SumUpAll summary words rows
+point_sums_up c point rows words summary n are wide sum p lt every =
+    let none : Bor (List ℕ) = record { ref_ptr = (0, 0); now = [] } in
+    let within : p < c.len = have_within c point rows words p n are wide lt every in
+    sum p (λ j below.
+    sym (ap (λ (bs : List Bool). get_or bs p false) (are j none below).bits) ∙ get_or-take c.len (all_bits (get_or rows j none).now) p false within ∙ every j none (omega arith))
+
 -- ---- the first place is the next match
 
 found_at : {B : Type 0} (test : B → Bool) (xs : List B) (n : ℕ) (d : B) → n < length xs → test (get_or xs n d) ≡ true → ((k : ℕ) → k < n → test (get_or xs k d) ≡ false) → position_or_len test xs ≡ n
@@ -195,3 +223,6 @@ next_of_one row bits from (Some m) h e first =
       one_has row bits m e in' ∙ one_is row m first.2,
       λ k ge lt t. first.3 k ge lt (have_one row k (sym (one_has row bits k e (omega arith)) ∙ t)),
     )
+
+pub one_sums_up : (row : Bor (List ℕ)) (bits : List Bool) (summary : ℕ) → IsPacked row.now (length bits) → take (length bits) (all_bits row.now) ≡ bits → IsSummaryOf summary bits → SumUpAll summary (length row.now) (row ∷ [])
+one_sums_up row bits summary h e sum p lt have = sum p (one_has row bits p e (one_within row (length bits) p h lt have) ∙ one_is row p have)

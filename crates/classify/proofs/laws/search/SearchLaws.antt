@@ -1,5 +1,5 @@
 -- The search for the first place that every row has.
-use Rattle.std.proofs.Common.{◌≡◌, ◌≢◌, ◌↔◌, inl, inr, ℕ, zero, suc, ◌+◌, ◌-◌, ◌*◌, ◌/◌, ◌%◌, ◌^◌, ◌<◌, ◌≤◌, true, false, List, [], ◌∷◌, length, take, get_or, refl, sym, ◌∙◌, ap, arith, subst, min, All, Option, Some, None, Bor}
+use Rattle.std.proofs.Common.{◌≡◌, ◌≢◌, ◌↔◌, inl, inr, ℕ, zero, suc, ◌+◌, ◌-◌, ◌*◌, ◌/◌, ◌%◌, ◌^◌, ◌<◌, ◌≤◌, true, false, List, [], ◌∷◌, length, take, get_or, refl, sym, ◌∙◌, ap, arith, subst, min, max, All, Option, Some, None, Bor}
 use Rattle.std.specs.Prelude.{slice_index, bit_and, bit_or, nat_eq, replicate}
 use Rattle.std.specs.Int.{bit_at, w64}
 use Rattle.std.proofs.lemmas.List.{get_or-take, length-take-le}
@@ -12,6 +12,7 @@ use Rattle.std.proofs.lemmas.Bool.{cases_lt, eqb-true, eq-eqb}
 use lib.Count.{count_trailing_zeros}
 use Rattle.classify.specs.steps.Packing.{all_bits}
 use Rattle.classify.specs.steps.CommonPlaces.{IsAndAt, AreAndsAt, AreWide, HaveAll, Nowhere, IsFirst}
+use Rattle.classify.specs.steps.Summaries.{HasPair, IsMarked, SumUpAll}
 use Rattle.classify.proofs.laws.bits.GetLaws.{all_bit_at}
 
 abbrev Words : Type 0
@@ -189,15 +190,38 @@ head_high word r i le =
     let e : r + (i - r) ≡ i = omega arith in
     ap (λ v. bit_at v i) (sym z) ∙ bit_at_cat_high (word / 2 ^ r) r 0 i (pow_pos r) le ∙ ap (λ v. v % 2) (shr-shr word r (i - r) ∙ ap (λ k. word / 2 ^ k) e)
 
-pub head_marks : (rows : List Words) (from words word : ℕ) → AreWide words rows → from / 64 < words → word < 2 ^ 64 → IsAndAt word rows (from / 64)
-    → MarksPlaces (HaveAll rows) from (64 * (from / 64)) (bit_and word ((2 ^ 64 - 1) * 2 ^ (from % 64) % 2 ^ 64))
-head_marks rows from words word wide lt fits h i in' =
-    let b = bits_mark rows words (from / 64) word i wide lt h in' in
+-- of a word that marks places, the bits from one on
+pub masked_marks : (P : ℕ → Type 0) (from word : ℕ) → word < 2 ^ 64 → ((i : ℕ) → i < 64 → (bit_at word i ≡ 1) ↔ P (64 * (from / 64) + i)) → MarksPlaces P from (64 * (from / 64)) (bit_and word ((2 ^ 64 - 1) * 2 ^ (from % 64) % 2 ^ 64))
+masked_marks P from word fits b i in' =
     let r64 : from % 64 < 64 = omega arith in
     let e = ap (λ v. bit_at v i) (head_is word (from % 64) r64 fits) in (
       λ one. elim (cases_lt i (from % 64)) [
         | inl low ↦ absurd (not_one (bit_at (word / 2 ^ (from % 64) * 2 ^ (from % 64)) i) (head_low (word / 2 ^ (from % 64)) (from % 64) i low) (sym e ∙ one))
-        | inr high ↦ (omega arith, b.0 (sym (head_high word (from % 64) i high) ∙ sym e ∙ one))
+        | inr high ↦ (omega arith, (b i in').0 (sym (head_high word (from % 64) i high) ∙ sym e ∙ one))
       ],
-      λ both. (let high : from % 64 ≤ i = omega (arith, both.0) in e ∙ head_high word (from % 64) i high ∙ b.1 both.1),
+      λ both. (let high : from % 64 ≤ i = omega (arith, both.0) in e ∙ head_high word (from % 64) i high ∙ (b i in').1 both.1),
     )
+
+pub head_marks : (rows : List Words) (from words word : ℕ) → AreWide words rows → from / 64 < words → word < 2 ^ 64 → IsAndAt word rows (from / 64)
+    → MarksPlaces (HaveAll rows) from (64 * (from / 64)) (bit_and word ((2 ^ 64 - 1) * 2 ^ (from % 64) % 2 ^ 64))
+head_marks rows from words word wide lt fits h = masked_marks (HaveAll rows) from word fits (λ i in'. bits_mark rows words (from / 64) word i wide lt h in')
+
+-- ---- summaries
+
+-- a summary marks the pairs of 64, from one of them on
+pub summary_marks : (summary start : ℕ) → summary < 2 ^ 64 → MarksPlaces (HasPair summary) start (64 * (start / 64)) (bit_and summary ((2 ^ 64 - 1) * 2 ^ (start % 64) % 2 ^ 64))
+summary_marks summary start fits = masked_marks (HasPair summary) start summary fits (λ i in'.
+    let e : (64 * (start / 64) + i) % 64 ≡ i = omega arith in
+    let read = ap (λ k. bit_at summary k) e in
+    (λ one. read ∙ one, λ on. sym read ∙ on))
+
+-- a word is marked where its pair is
+pub pairs_passed : (summary start to less : ℕ) → less ≤ max start (2 * to) → Nowhere (HasPair summary) (start / 2) to → Nowhere (IsMarked summary) start less
+pairs_passed summary start to less le h k ge below p = h (k / 2) (omega arith) (omega arith) p
+
+pub nowhere_up_to : (P : ℕ → Type 0) (from to less : ℕ) → less ≤ to → Nowhere P from to → Nowhere P from less
+nowhere_up_to P from to less le h k ge below p = h k ge (omega arith) p
+
+-- no row has a place in words that their summary lacks
+pub nowhere_marked : (rows : List Words) (summary words from to : ℕ) → to ≤ words → SumUpAll summary words rows → Nowhere (IsMarked summary) from to → Nowhere (HaveAll rows) (64 * from) (64 * to)
+nowhere_marked rows summary words from to le sum h p ge below every = h (p / 64) (omega arith) (omega arith) (sum p (omega arith) every)

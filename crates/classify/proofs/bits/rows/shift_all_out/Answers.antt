@@ -1,18 +1,27 @@
-use Rattle.std.proofs.Common.{◌≡◌, ◌*◌, ◌∙◌, ◌++◌, ◌∷◌, [], ap, length, remove, false, rules, List, ℕ}
+use Rattle.std.proofs.Common.{◌≡◌, ◌<◌, ◌*◌, ◌∙◌, ◌++◌, ◌∷◌, [], ap, arith, length, length-set, remove, false, rules, sym, vec_len, subst, List, ℕ}
 use Rattle.classify.specs.steps.Packing.{all_bits}
 use Rattle.classify.specs.steps.Held.{GivesUp, words_in}
-use Rattle.classify.proofs.laws.bits.RowsLaws.{changed_first, changed_more, slice_written, row_lent_size, whole_row}
+use Rattle.classify.specs.steps.Summaries.{IsSummaryOf}
+use Rattle.classify.proofs.laws.bits.RowsLaws.{changed_more, slice_written, row_lent_size, row_written_here, whole_row}
+use Rattle.classify.proofs.laws.bits.SummaryLaws.{row_summed}
 use Rattle.classify.proofs.bits.rows.shift_all_out.Goals as goal
-
-pub loop-slot-init : goal.loop-slot-init
-loop-slot-init c = changed_first (GivesUp c.args.at) c.args.width c.args.count c.args.words.now.items
 
 pub loop-slot-preserved : goal.loop-slot-preserved
 loop-slot-preserved c =
+    let h = c.loop-slot.invariant in
+    let n : ℕ = length c.args.summaries.now.items in
+    let count : vec_len c.args.summaries.now ≡ length c.args.summaries.now.items = search rules in
+    let lt : c.loop-slot.slot < n = omega (arith, count, c.loop-slot-test.true, c.len-slot-end.ensures) in
     let held : c.loop-slot.words.len ≡ length c.loop-slot.words.items = search rules in
-    let size : length c.loop-slot.words.items ≡ c.args.count * c.args.width = c.loop-slot.invariant.as_long ∙ c.requires.whole in
-    let long = row_lent_size c.args.width c.args.count c.loop-slot.slot c.loop-slot.words.items c.slice_mut.result.now c.shift_out.new.words size c.loop-slot-test.true c.slice_mut.ensures.value c.shift_out.auto.words in
+    let size : length c.loop-slot.words.items ≡ n * c.args.width = h.changed.as_long ∙ c.requires.whole in
+    let long = row_lent_size c.args.width n c.loop-slot.slot c.loop-slot.words.items c.slice_mut.result.now c.give_up.new.words size lt c.slice_mut.ensures.value c.give_up.auto.words in
     let lent : c.slice_mut.result.now ≡ words_in c.args.width c.loop-slot.words.items c.loop-slot.slot = c.slice_mut.ensures.value ∙ whole_row c.args.width c.loop-slot.slot c.loop-slot.words.items in
-    changed_more (GivesUp c.args.at) c.args.width c.args.count c.args.words.now.items c.loop-slot.words.items _ c.shift_out.new.words c.loop-slot.slot c.loop-slot.invariant c.requires.whole c.loop-slot-test.true long
-    (c.shift_out.ensures ∙ ap (λ (ws : List ℕ). remove (all_bits ws) c.args.at ++ false ∷ []) lent)
-    (slice_written c.args.width c.args.count c.loop-slot.slot c.loop-slot.words.len c.shift_out.new.words c.loop-slot.words.items size c.loop-slot-test.true long held)
+    let written = slice_written c.args.width n c.loop-slot.slot c.loop-slot.words.len c.give_up.new.words c.loop-slot.words.items size lt long held in
+    let P : List ℕ → Type 0 = λ ws. IsSummaryOf c.give_up.new.summary (all_bits ws) in
+    record {
+      changed = changed_more (GivesUp c.args.at) c.args.width n c.args.words.now.items c.loop-slot.words.items _ c.give_up.new.words c.loop-slot.slot h.changed c.requires.whole lt long
+          (c.give_up.ensures.given ∙ ap (λ (ws : List ℕ). remove (all_bits ws) c.args.at ++ false ∷ []) lent) written;
+      counted = length-set c.loop-slot.summaries.items c.loop-slot.slot c.give_up.new.summary ∙ h.counted;
+      summed = row_summed c.args.width n c.loop-slot.slot c.give_up.new.summary c.loop-slot.words.items _ c.give_up.new.words c.loop-slot.summaries.items size lt long written h.counted h.summed
+          (subst P (sym (row_written_here c.args.width n c.loop-slot.slot c.give_up.new.words c.loop-slot.words.items _ size lt long written)) c.give_up.ensures.summed);
+    }

@@ -16,7 +16,8 @@ no_span = record { first = 0; last = 0 }
 pub put_interval-requires-clause-rising : goal.put_interval-requires-clause-rising
 put_interval-requires-clause-rising c =
     let P : List Cut → Type 0 = λ line. IsRising c.args.spans.now.top line in
-    (c.args.spans.now.top, subst P (sym c.loop-interval.invariant.answers) (tests_rising _ c.args.at _ c.args.line.now.pieces c.requires.rising))
+    let Q : ℕ → Type 0 = λ top. IsRising top c.loop-interval.line.pieces in
+    subst Q (sym c.top-top.ensures) (subst P (sym c.loop-interval.invariant.answers) (tests_rising _ c.args.at _ c.args.line.now.pieces c.requires.rising))
 
 pub put_interval-requires-clause-begins : goal.put_interval-requires-clause-begins
 put_interval-requires-clause-begins c =

@@ -4,28 +4,33 @@ use Rattle.classify.proofs.laws.bits.PlaceLaws.{place_below, closed_held, closed
 use Rattle.classify.proofs.bits.rows.Rows.close_place.Goals as goal
 
 pub shift_all_out-requires-clause-place : goal.shift_all_out-requires-clause-place
-shift_all_out-requires-clause-place c = omega (arith, place_below _ _ c.args.at _ _ c.args.self.now c.self.invariant c.self.view_is c.requires.some c.requires.place, c.self.invariant.covers)
+shift_all_out-requires-clause-place c = omega (arith, place_below _ _ c.args.at _ _ c.args.self.now c.self.invariant.0 c.self.view_is c.requires.some c.requires.place, c.self.invariant.0.covers)
 
 pub overflow_sub-self : goal.overflow_sub-self
-overflow_sub-self c = omega (arith, place_below _ _ c.args.at _ _ c.args.self.now c.self.invariant c.self.view_is c.requires.some c.requires.place)
+overflow_sub-self c = omega (arith, place_below _ _ c.args.at _ _ c.args.self.now c.self.invariant.0 c.self.view_is c.requires.some c.requires.place)
 
 pub invariant_of-self : goal.invariant_of-self
 invariant_of-self c =
     let held : vec_len c.self.inside.slots ≡ length c.self.inside.slots.items = search rules in
-    let below = place_below _ _ c.args.at _ _ c.args.self.now c.self.invariant c.self.view_is c.requires.some c.requires.place in
-    closed_held c.self.inside.len c.self.inside.width c.args.at c.self.inside.slots.items c.self.inside.words.items c.shift_all_out.new.words.items c.self.invariant below c.shift_all_out.ensures.len
-    (λ slot lt. c.shift_all_out.ensures.rows slot (omega (arith, lt, c.len.ensures)))
+    let below = place_below _ _ c.args.at _ _ c.args.self.now c.self.invariant.0 c.self.view_is c.requires.some c.requires.place in (
+      closed_held c.self.inside.len c.self.inside.width c.args.at c.self.inside.slots.items c.self.inside.words.items c.shift_all_out.new.words.items c.self.invariant.0 below c.shift_all_out.ensures.len
+          (λ slot lt. c.shift_all_out.ensures.rows slot (omega (arith, lt, c.self.invariant.1.counted))),
+      record {
+        counted = c.shift_all_out.ensures.counted ∙ c.self.invariant.1.counted;
+        each = λ slot lt. c.shift_all_out.ensures.summed slot (omega (arith, lt, c.self.invariant.1.counted));
+      },
+    )
 
 pub returns-clause-rows : goal.returns-clause-rows
 returns-clause-rows c =
     let held : vec_len c.self.inside.slots ≡ length c.self.inside.slots.items = search rules in
-    let below = place_below _ _ c.args.at _ _ c.args.self.now c.self.invariant c.self.view_is c.requires.some c.requires.place in
-    closed_shown c.self.inside.len c.self.inside.width c.args.at c.self.inside.slots.items c.self.inside.words.items c.shift_all_out.new.words.items c.self.invariant below
-    (λ slot lt. c.shift_all_out.ensures.rows slot (omega (arith, lt, c.len.ensures)))
+    let below = place_below _ _ c.args.at _ _ c.args.self.now c.self.invariant.0 c.self.view_is c.requires.some c.requires.place in
+    closed_shown c.self.inside.len c.self.inside.width c.args.at c.self.inside.slots.items c.self.inside.words.items c.shift_all_out.new.words.items c.self.invariant.0 below
+    (λ slot lt. c.shift_all_out.ensures.rows slot (omega (arith, lt, c.self.invariant.1.counted)))
     ∙ ap (λ (r : RowsAndRoom). map (λ (row : List Bool). remove row c.args.at) r.rows) c.self.view_is
 
 pub returns-clause-room : goal.returns-clause-room
 returns-clause-room c =
     let room : 64 * c.self.inside.width - c.self.inside.len ≡ c.args.self.now.room = ap (λ (r : RowsAndRoom). r.room) c.self.view_is in
-    let below = place_below _ _ c.args.at _ _ c.args.self.now c.self.invariant c.self.view_is c.requires.some c.requires.place in
-    omega (arith, room, below, c.self.invariant.covers)
+    let below = place_below _ _ c.args.at _ _ c.args.self.now c.self.invariant.0 c.self.view_is c.requires.some c.requires.place in
+    omega (arith, room, below, c.self.invariant.0.covers)

@@ -5,16 +5,16 @@ use Rattle.classify.proofs.bits.rows.Rows.same.Goals as goal
 
 pub same_bits-requires : goal.same_bits-requires
 same_bits-requires c =
-    let one = row_len _ _ _ _ c.args.self.now c.args.one c.self.invariant c.self.view_is c.requires.one in
-    let other = row_len _ _ _ _ c.args.self.now c.args.other c.self.invariant c.self.view_is c.requires.other in
+    let one = row_len _ _ _ _ c.args.self.now c.args.one c.self.invariant.0 c.self.view_is c.requires.one in
+    let other = row_len _ _ _ _ c.args.self.now c.args.other c.self.invariant.0 c.self.view_is c.requires.other in
     let P : ℕ → Type 0 = λ n. IsPacked c.row.result.now n in
     let Q : ℕ → Type 0 = λ n. IsPacked c.row-2.result.now n in
     (c.self.inside.len, subst P one c.row.ensures.packed, subst Q other c.row-2.ensures.packed)
 
 pub returns : goal.returns
 returns c =
-    let one = row_len _ _ _ _ c.args.self.now c.args.one c.self.invariant c.self.view_is c.requires.one in
-    let other = row_len _ _ _ _ c.args.self.now c.args.other c.self.invariant c.self.view_is c.requires.other in
+    let one = row_len _ _ _ _ c.args.self.now c.args.one c.self.invariant.0 c.self.view_is c.requires.one in
+    let other = row_len _ _ _ _ c.args.self.now c.args.other c.self.invariant.0 c.self.view_is c.requires.other in
     let P : ℕ → Type 0 = λ n. IsPacked c.row.result.now n in
     let Q : ℕ → Type 0 = λ n. IsPacked c.row-2.result.now n in
     let same = c.same_bits.ensures c.self.inside.len (subst P one c.row.ensures.packed) (subst Q other c.row-2.ensures.packed) in

@@ -5,9 +5,9 @@ use Rattle.classify.proofs.laws.bits.RowLaws.{front_len}
 use Rattle.classify.proofs.line.view.Row.get.Goals as goal
 
 pub bit_at-requires : goal.bit_at-requires
-bit_at-requires c = omega (arith, c.requires, ap length c.self.view_is, front_len c.self.inside.words.now c.self.inside.len c.self.invariant, c.self.invariant.covers)
+bit_at-requires c = omega (arith, c.requires, ap length c.self.view_is, front_len c.self.inside.words.now c.self.inside.len c.self.invariant.0, c.self.invariant.0.covers)
 
 pub returns : goal.returns
 returns c =
-    let lt : c.args.at < c.self.inside.len = omega (arith, c.requires, ap length c.self.view_is, front_len c.self.inside.words.now c.self.inside.len c.self.invariant) in
+    let lt : c.args.at < c.self.inside.len = omega (arith, c.requires, ap length c.self.view_is, front_len c.self.inside.words.now c.self.inside.len c.self.invariant.0) in
     c.bit_at.ensures ∙ sym (get_or-take c.self.inside.len (all_bits c.self.inside.words.now) c.args.at false lt) ∙ ap (λ (bits : List Bool). get_or bits c.args.at false) c.self.view_is
