@@ -1,2 +1,3 @@
 pub mod BoxLaws
+pub mod MetLaws
 pub mod NarrowLaws

@@ -1,8 +1,8 @@
 //! What a rule allows on each field.
-ghost use Rattle.std.specs.Prelude.{◌≡◌, ◌+◌, ◌-◌, ◌^◌, ◌<◌, ℕ, min, length, slice_index_or, IfOk, OnOk};
+ghost use Rattle.std.specs.Prelude.{◌≡◌, ◌+◌, ◌-◌, ◌^◌, ◌<◌, ◌&&◌, ℕ, min, nat_le, length, slice_index_or, IfOk, IsTrue, OnOk};
 ghost use Rattle.std.specs.List.{list_all};
 ghost use Rattle.fields.specs.numbers.Field.{top};
-ghost use Rattle.fields.specs.numbers.Spans.{SpanSet};
+ghost use Rattle.fields.specs.numbers.Spans.{SpanSet, has};
 ghost use Rattle.rules.specs.rule.Allows.{setting_allows, match_allows, fragment_allows};
 ghost use Rattle.rules.specs.boxing.Boxed.{IsBox, IsBoxOf, set_on};
 ghost use Rattle.rules.specs.steps.Conditions.{HasAllNumbers, Narrows, condition_allows};
@@ -50,15 +50,37 @@ fn open(alloc: Global, spans: &mut [Spans]) -> Result<(), AllocError>
     Ok(())
 }
 
+// Whether a set has all numbers up to its top.
+fn has_all(set: &Spans) -> bool
+    ensures { IsTrue result → (x : ℕ) → has set.now.intervals x ≡ nat_le x set.now.top }
+{
+    let intervals = set.intervals();
+    intervals.len() == 1 && intervals[0].first == 0 && intervals[0].last == set.top()
+}
+
+// The numbers that are in both of two sets with one top. Where the first has all they are the second's, and no memory is
+// taken.
+fn met(alloc: Global, before: &Spans, asked: Spans) -> Result<Spans, AllocError>
+    requires { before.now.top ≡ asked.top }
+    ensures top { IfOk result (λ set. set.top ≡ before.now.top) }
+    ensures members { IfOk result (λ set. (x : ℕ) → has set.intervals x ≡ (has before.now.intervals x && has asked.intervals x)) }
+{
+    let _within = asked.intervals();
+    if has_all(before) {
+        return Ok(asked);
+    }
+    before.meet(alloc, &asked)
+}
+
 // Leaves on the condition's field the numbers that the condition has too.
-fn keep(alloc: Global, spans: &mut [Spans], asked: &Condition) -> Result<(), AllocError>
+fn keep(alloc: Global, spans: &mut [Spans], asked: Condition) -> Result<(), AllocError>
     requires boxed { IsBox spans.old }
-    requires top { asked.now.set.top ≡ top asked.now.field }
+    requires top { asked.set.top ≡ top asked.field }
     ensures boxed { IsBox spans.new }
-    ensures narrows { OnOk result (Narrows (λ f x. condition_allows f x asked.now) spans.old spans.new) }
+    ensures narrows { OnOk result (Narrows (λ f x. condition_allows f x asked) spans.old spans.new) }
 {
     let place = asked.field.index();
-    let both = spans[place].meet(alloc, &asked.set)?;
+    let both = met(alloc, &spans[place], asked.set)?;
     spans[place] = both;
     Ok(())
 }
@@ -71,7 +93,7 @@ fn narrow(alloc: Global, spans: &mut [Spans], setting: &Setting) -> Result<(), A
 {
     match setting.condition(alloc)? {
         None => Ok(()),
-        Some(asked) => keep(alloc, spans, &asked),
+        Some(asked) => keep(alloc, spans, asked),
     }
 }
 
@@ -98,7 +120,7 @@ fn narrow_fragment(alloc: Global, spans: &mut [Spans], kind: MatchKind) -> Resul
     }
     let field = Field::Fragment;
     let set = Spans::one(alloc, field.top(), 0, 0)?;
-    keep(alloc, spans, &Condition { field, set })
+    keep(alloc, spans, Condition { field, set })
 }
 
 // Leaves on each field the numbers that the match allows.
@@ -127,8 +149,9 @@ impl Boxed {
     /// The box of a rule: on each field exactly the numbers that the rule allows there. It counts as one in `work`,
     /// also when memory is refused.
     ///
-    /// It costs a small allocation for each field and some for each condition. A condition costs time linear in the
-    /// intervals of its set, at most 32, and of the box's on its field; a list of ports makes its set port by port.
+    /// It costs a small allocation for each field and some for each condition. The first condition on a field gives its
+    /// set; each further one costs time linear in the intervals of its set, at most 32, and of the box's on its field. A
+    /// list of ports makes its set port by port.
     ///
     /// # Errors
     ///
