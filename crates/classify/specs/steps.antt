@@ -6,4 +6,6 @@ pub mod Fields
 pub mod Held
 pub mod Packing
 pub mod Pieces
+pub mod Runs
+pub mod Shifts
 pub mod Summaries

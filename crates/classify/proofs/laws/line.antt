@@ -1,5 +1,4 @@
 pub mod ApartLaws
-pub mod AppendLaws
 pub mod AroundLaws
 pub mod BitPlaceLaws
 pub mod BoxLaws
@@ -13,6 +12,8 @@ pub mod ListLoopLaws
 pub mod LoopLaws
 pub mod PieceLaws
 pub mod PlaceLaws
+pub mod PutLaws
+pub mod RunLaws
 pub mod ShownLaws
 pub mod StartLaws
 pub mod StepLaws

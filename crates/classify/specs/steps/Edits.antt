@@ -14,9 +14,13 @@ with_test at test p = (p.0, insert p.1 at (test p.0))
 abbrev pub with_answer : ℕ → List Interval → ℕ × List Bool → ℕ × List Bool
 with_answer at spans p = with_test at (has spans) p
 
+-- an answer of each number written into it
+abbrev pub with_bit : ℕ → (ℕ → Bool) → ℕ × List Bool → ℕ × List Bool
+with_bit at test p = (p.0, slice_set p.1 at (test p.0))
+
 -- a box's answer written into it
 abbrev pub with_written : ℕ → List Interval → ℕ × List Bool → ℕ × List Bool
-with_written at spans p = (p.0, slice_set p.1 at (has spans p.0))
+with_written at spans p = with_bit at (has spans) p
 
 -- a box's answer taken out of it
 abbrev pub without_answer : ℕ → ℕ × List Bool → ℕ × List Bool

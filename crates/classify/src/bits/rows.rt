@@ -4,11 +4,12 @@ ghost use Rattle.std.specs.Prelude.{◌≡◌, ◌<◌, ◌≤◌, ◌+◌, ◌-
 ghost use Rattle.std.specs.Prelude.{false, true, take, drop, IfOk, OnOk, OnErr, IsOk, IsTrue, ◌↔◌, ◌%◌};
 ghost use Rattle.std.specs.Prelude.{ℕ, All, replicate, ◌++◌};
 ghost use Rattle.classify.specs.steps.Packing.{all_bits, IsPacked};
-ghost use Rattle.classify.specs.steps.Held.{redirected, words_in, EachSlot, TakesIn, GivesUp, Gains};
+ghost use Rattle.classify.specs.steps.Held.{redirected, words_in, EachSlot, Gains};
+ghost use Rattle.classify.specs.steps.Shifts.{Shifts};
 ghost use Rattle.classify.specs.steps.Summaries.{IsSummaryOf, SumUp};
 
 use crate::bits::bit_row::MOST_WORDS;
-use crate::bits::sparse::{give_up, take_in};
+use crate::bits::sparse::{Way, shift};
 use crate::bits::summary::{is_marked, marked};
 use crate::bits::words::{bit_at, same_bits, set_bit};
 use std::alloc::{AllocError, Global};
@@ -64,40 +65,21 @@ fn redirect(slots: &mut [u32], from: u32, to: u32)
     }
 }
 
-// Puts a 0 in at a place of each row of so many words: the later bits move up by one, and the last falls out.
-fn shift_all_in(words: &mut Vec<u64>, summaries: &mut Vec<u64>, width: usize, at: usize)
-    requires place { at ≤ 64 * width }
-    requires whole { length words.old.items ≡ length summaries.old.items * width }
-    requires few { width < 2 ^ 58 }
-    requires summed { SumUp width summaries.old.items words.old.items (length summaries.old.items) }
-    ensures len { length words.new.items ≡ length words.old.items }
-    ensures rows { EachSlot (TakesIn at) width words.old.items words.new.items (length summaries.old.items) }
-    ensures counted { length summaries.new.items ≡ length summaries.old.items }
-    ensures summed { SumUp width summaries.new.items words.new.items (length summaries.old.items) }
-{
-    for slot in 0..summaries.len() {
-        let start = slot * width;
-        let mut summary = summaries[slot];
-        take_in(words.slice_mut(start..start + width), &mut summary, at);
-        summaries[slot] = summary;
-    }
-}
-
-// Takes the bit at a place out of each row of so many words: the later bits move down by one, and a 0 comes in last.
-fn shift_all_out(words: &mut Vec<u64>, summaries: &mut Vec<u64>, width: usize, at: usize)
+// Moves the bits from a place on in each row of so many words.
+fn shift_all(words: &mut Vec<u64>, summaries: &mut Vec<u64>, width: usize, at: usize, way: Way)
     requires place { at < 64 * width }
     requires whole { length words.old.items ≡ length summaries.old.items * width }
     requires few { width < 2 ^ 58 }
     requires summed { SumUp width summaries.old.items words.old.items (length summaries.old.items) }
     ensures len { length words.new.items ≡ length words.old.items }
-    ensures rows { EachSlot (GivesUp at) width words.old.items words.new.items (length summaries.old.items) }
+    ensures rows { EachSlot (Shifts way at) width words.old.items words.new.items (length summaries.old.items) }
     ensures counted { length summaries.new.items ≡ length summaries.old.items }
     ensures summed { SumUp width summaries.new.items words.new.items (length summaries.old.items) }
 {
     for slot in 0..summaries.len() {
         let start = slot * width;
         let mut summary = summaries[slot];
-        give_up(words.slice_mut(start..start + width), &mut summary, at);
+        shift(words.slice_mut(start..start + width), &mut summary, at, way);
         summaries[slot] = summary;
     }
 }
@@ -336,7 +318,13 @@ impl Rows {
             self.len += 1;
             return;
         }
-        shift_all_in(&mut self.words, &mut self.summaries, self.width, at);
+        shift_all(
+            &mut self.words,
+            &mut self.summaries,
+            self.width,
+            at,
+            Way::In,
+        );
         self.len += 1;
     }
 
@@ -347,7 +335,13 @@ impl Rows {
         ensures rows { self.new.rows ≡ map (λ row. remove row at) self.old.rows }
         ensures room { self.new.room ≡ self.old.room + 1 }
     {
-        shift_all_out(&mut self.words, &mut self.summaries, self.width, at);
+        shift_all(
+            &mut self.words,
+            &mut self.summaries,
+            self.width,
+            at,
+            Way::Out,
+        );
         self.len -= 1;
     }
 

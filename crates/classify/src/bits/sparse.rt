@@ -4,10 +4,19 @@ ghost use Rattle.std.specs.Prelude.{◌≡◌, ◌<◌, ◌≤◌, ◌*◌, ◌^
 ghost use Rattle.classify.specs.steps.CommonPlaces.{Nowhere};
 ghost use Rattle.classify.specs.steps.Held.{TakesIn, GivesUp};
 ghost use Rattle.classify.specs.steps.Packing.{all_bits};
+ghost use Rattle.classify.specs.steps.Shifts.{Shifts};
 ghost use Rattle.classify.specs.steps.Summaries.{IsMarked, IsSummaryOf, HidesNoWord, StayBlank};
 
 use crate::bits::summary::{kept, marked, next_marked};
 use crate::bits::words::{insert_bit, remove_bit, shift_down, shift_in, shift_out, shift_up};
+
+/// How the bits from a place on move: a 0 comes in there and the later ones move up, so that the last falls out; or the bit
+/// goes out and they move down, and a 0 comes in last.
+#[derive(Clone, Copy)]
+pub(crate) enum Way {
+    In,
+    Out,
+}
 
 // The next of so many words, from one on, that a bit moves into or that may have one: where none moves on, blank words stay.
 fn next_up(summary: u64, carry: bool, start: usize, words: usize) -> usize
@@ -109,36 +118,34 @@ fn is_dense(summary: u64, words: usize) -> bool {
     summary.count_ones() as usize >= words.div_ceil(8) * 3
 }
 
-/// Puts a 0 in at a place: the later bits move up, from word to word, and the last falls out. The summary fits the words
-/// before and after.
-pub(crate) fn take_in(words: &mut [u64], summary: &mut u64, at: usize)
-    requires few { length words.old < 2 ^ 58 }
-    requires place { at ≤ 64 * length words.old }
-    requires summed { IsSummaryOf summary.old (all_bits words.old) }
-    ensures taken { TakesIn at words.old words.new }
-    ensures summed { IsSummaryOf summary.new (all_bits words.new) }
+// Moves the bits from a place on in all words.
+fn shift_dense(words: &mut [u64], at: usize, way: Way)
+    requires { at < 64 * length words.old }
+    ensures { Shifts way at words.old words.new }
 {
-    if is_dense(*summary, words.len()) {
-        *summary = kept(u64::MAX, words.len());
-        let _last = shift_in(words, at, false);
-        return;
+    match way {
+        Way::In => {
+            let _last = shift_in(words, at, false);
+        }
+        Way::Out => shift_out(words, at),
     }
-    take_in_marked(words, summary, at);
 }
 
-/// Takes the bit at a place out: the later bits move down, from word to word, and a 0 comes in last. The summary fits the
-/// words before and after.
-pub(crate) fn give_up(words: &mut [u64], summary: &mut u64, at: usize)
+/// Moves the bits from a place on, from word to word. The summary fits the words before and after.
+pub(crate) fn shift(words: &mut [u64], summary: &mut u64, at: usize, way: Way)
     requires few { length words.old < 2 ^ 58 }
     requires place { at < 64 * length words.old }
     requires summed { IsSummaryOf summary.old (all_bits words.old) }
-    ensures given { GivesUp at words.old words.new }
+    ensures shifted { Shifts way at words.old words.new }
     ensures summed { IsSummaryOf summary.new (all_bits words.new) }
 {
     if is_dense(*summary, words.len()) {
         *summary = kept(u64::MAX, words.len());
-        shift_out(words, at);
+        shift_dense(words, at, way);
         return;
     }
-    give_up_marked(words, summary, at);
+    match way {
+        Way::In => take_in_marked(words, summary, at),
+        Way::Out => give_up_marked(words, summary, at),
+    }
 }

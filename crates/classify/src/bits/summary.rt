@@ -1,9 +1,8 @@
 //! Summaries of words: 64 bits that say which pairs of words have none, so that a search passes over them.
 
-ghost use Rattle.std.specs.Prelude.{ℕ, Bool, ◌≡◌, ◌<◌, ◌≤◌, ◌^◌, true, IsTrue, ◌↔◌};
+ghost use Rattle.std.specs.Prelude.{ℕ, ◌≡◌, ◌<◌, ◌≤◌, ◌^◌, true, IsTrue, ◌↔◌};
 ghost use Rattle.classify.specs.steps.CommonPlaces.{Nowhere};
-ghost use Rattle.classify.specs.steps.Packing.{all_bits};
-ghost use Rattle.classify.specs.steps.Summaries.{IsMarked, IsSummaryOf};
+ghost use Rattle.classify.specs.steps.Summaries.{IsMarked};
 
 /// Whether a summary has the bit of a word: else no bit is in the word.
 pub(crate) fn is_marked(summary: u64, word: usize) -> bool
@@ -23,7 +22,8 @@ pub(crate) fn marked(summary: u64, word: usize, bit: bool) -> u64
     summary
 }
 
-/// A summary with the bits of the first so many words alone, and of one more where that shares its bit with them.
+/// A summary with the bits of the first so many words alone, and of one more where that shares its bit with them; of more
+/// than 126 words it is the summary as it was.
 pub(crate) fn kept(summary: u64, words: usize) -> u64
     ensures { (k : ℕ) → k < words → IsMarked summary k → IsMarked result k }
 {

@@ -1,16 +1,17 @@
 //! The steps of an edit on one line: all memory first, then what cannot fail.
 
 ghost use Rattle.fields.specs.declared.numbers.spans.Interval.{Interval};
-ghost use Rattle.std.specs.Prelude.{◌≡◌, ◌≢◌, ◌<◌, ◌≤◌, ◌+◌, ◌-◌, ◌||◌, ℕ, Bool, length, OnOk, IsOk, List, map, insert};
+ghost use Rattle.std.specs.Prelude.{◌≡◌, ◌<◌, ◌≤◌, ◌+◌, ◌-◌, ℕ, length, OnOk, IsOk, List, map, insert};
 ghost use Rattle.std.specs.Prelude.{remove, slice_set, slice_index_or, false, [], ◌∷◌};
 ghost use Rattle.classify.specs.line.Line.{IsLineOf};
 ghost use Rattle.classify.specs.steps.Pieces.{IsRising, IsRisingLine, IsSplitOf, StartsAt, StartsAtZero};
-ghost use Rattle.fields.specs.numbers.Spans.{has, in_span};
+ghost use Rattle.fields.specs.numbers.Spans.{has};
 ghost use Rattle.classify.specs.steps.Cuts.{CutsStart, EndsStart, ChangesAt, IsApart};
-ghost use Rattle.classify.specs.steps.Edits.{with_answer, with_test, with_written, IsMergeOf, IsUnsplitAt};
+ghost use Rattle.classify.specs.steps.Edits.{with_written, IsMergeOf, IsUnsplitAt};
 ghost use Rattle.classify.specs.steps.Edits.{IsNumber, IsEndOf, IsJoined, KeepsApart, Says, EachRow, IsSound, row_of};
 
 use crate::line::owned::OwnedLine;
+use crate::line::put::put_answers;
 use fields::{Interval, Spans};
 use std::alloc::AllocError;
 
@@ -109,46 +110,6 @@ pub(crate) fn unsplit_all(line: &mut OwnedLine, spans: &Spans)
     let top = spans.top();
     for interval in spans.intervals() {
         unsplit_interval(line, top, *interval);
-    }
-}
-
-// Writes 1s into the rows of the pieces in an interval, the first of which starts where it begins.
-fn put_interval(line: &mut OwnedLine, top: u128, at: usize, interval: Interval)
-    requires rising { IsRising top line.old.pieces }
-    requires begins { StartsAt interval.first line.old.pieces }
-    requires place { (j : ℕ) → j < length line.old.pieces → at < length (row_of line.old.pieces j) }
-    ensures answers { (test : ℕ → Bool) (pieces : List (ℕ × List Bool))
-        → ((j : ℕ) → j < length pieces → at ≤ length (row_of pieces j)) → line.old.pieces ≡ map (with_test at test) pieces
-        → line.new.pieces ≡ map (with_test at (λ x. test x || in_span x interval)) pieces }
-    ensures room { line.new.room ≡ line.old.room }
-{
-    if interval.first == 0 && interval.last >= top {
-        line.set_all(at);
-        return;
-    }
-    let from = line.place_of(interval.first);
-    for k in from..line.len() {
-        if line.start(k) > interval.last {
-            return;
-        }
-        line.set(k, at, true);
-    }
-}
-
-// Puts a box's answers into the rows of a line that is cut wherever they change. Beside the place that is opened in each
-// row, it touches the pieces alone that the box allows: all of them in the order of their slots.
-fn put_answers(line: &mut OwnedLine, at: usize, spans: &Spans)
-    requires rising { IsRising spans.now.top line.old.pieces }
-    requires cuts { CutsStart spans.now.top spans.now.intervals line.old.pieces }
-    requires place { (j : ℕ) → j < length line.old.pieces → at ≤ length (row_of line.old.pieces j) }
-    requires room { 0 < line.old.room }
-    ensures answers { line.new.pieces ≡ map (with_answer at spans.now.intervals) line.old.pieces }
-    ensures room { line.new.room + 1 ≡ line.old.room }
-{
-    line.open_place(at);
-    let top = spans.top();
-    for interval in spans.intervals() {
-        put_interval(line, top, at, *interval);
     }
 }
 

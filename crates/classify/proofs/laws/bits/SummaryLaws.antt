@@ -251,3 +251,7 @@ pub gained_shown : (len w at : ℕ) (slots ws us : List ℕ) → AreHeld len w s
 gained_shown len w at slots ws us h in' each =
     all_mapped (λ (row : List Bool). set row at true) (bits_in len w ws) (bits_in len w us) (length slots) slots h.below
     (λ t lt. ap (λ (bs : List Bool). take len bs) (each t lt) ∙ take-set-lt len (all_bits (words_in w ws t)) at true in')
+
+-- a summary for each slot still, after each was made anew
+pub summed_again : (width n : ℕ) (summaries words summaries' words' : List ℕ) → AreSummaries width summaries words n → length summaries' ≡ length summaries → SumUp width summaries' words' (length summaries) → AreSummaries width summaries' words' n
+summed_again width n summaries words summaries' words' h same each = record { counted = same ∙ h.counted; each = λ slot lt. each slot (omega (arith, lt, h.counted)) }

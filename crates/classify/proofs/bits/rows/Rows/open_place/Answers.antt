@@ -1,6 +1,7 @@
 use Rattle.std.proofs.Common.{◌≡◌, ◌-◌, ◌*◌, ◌∙◌, ap, arith, length, map, insert, false, rules, vec_len, List, Bool}
 use Rattle.classify.specs.bits.Rows.{RowsAndRoom}
 use Rattle.classify.proofs.laws.bits.PlaceLaws.{place_at_most, opened_held, opened_shown, appended_held, appended_shown}
+use Rattle.classify.proofs.laws.bits.SummaryLaws.{summed_again}
 use Rattle.classify.proofs.bits.rows.Rows.open_place.Goals as goal
 
 pub invariant_of-self : goal.invariant_of-self
@@ -20,12 +21,9 @@ invariant_of-self-2 c =
     let room : 64 * c.self.inside.width - c.self.inside.len ≡ c.args.self.now.room = ap (λ (r : RowsAndRoom). r.room) c.self.view_is in
     let held : vec_len c.self.inside.slots ≡ length c.self.inside.slots.items = search rules in
     let most = place_at_most _ _ c.args.at _ _ c.args.self.now c.self.invariant.0 c.self.view_is c.requires.some c.requires.place in (
-      opened_held c.self.inside.len c.self.inside.width c.args.at c.self.inside.slots.items c.self.inside.words.items c.shift_all_in.new.words.items c.self.invariant.0 (omega (arith, c.requires.room)) most c.shift_all_in.ensures.len
-          (λ slot lt. c.shift_all_in.ensures.rows slot (omega (arith, lt, c.self.invariant.1.counted))),
-      record {
-        counted = c.shift_all_in.ensures.counted ∙ c.self.invariant.1.counted;
-        each = λ slot lt. c.shift_all_in.ensures.summed slot (omega (arith, lt, c.self.invariant.1.counted));
-      },
+      opened_held c.self.inside.len c.self.inside.width c.args.at c.self.inside.slots.items c.self.inside.words.items c.shift_all.new.words.items c.self.invariant.0 (omega (arith, c.requires.room)) most c.shift_all.ensures.len
+          (λ slot lt. c.shift_all.ensures.rows slot (omega (arith, lt, c.self.invariant.1.counted))),
+      summed_again _ _ _ _ _ _ c.self.invariant.1 c.shift_all.ensures.counted c.shift_all.ensures.summed,
     )
 
 pub returns-clause-rows : goal.returns-clause-rows
@@ -33,6 +31,6 @@ returns-clause-rows c =
     let room : 64 * c.self.inside.width - c.self.inside.len ≡ c.args.self.now.room = ap (λ (r : RowsAndRoom). r.room) c.self.view_is in
     let held : vec_len c.self.inside.slots ≡ length c.self.inside.slots.items = search rules in
     let most = place_at_most _ _ c.args.at _ _ c.args.self.now c.self.invariant.0 c.self.view_is c.requires.some c.requires.place in
-    opened_shown c.self.inside.len c.self.inside.width c.args.at c.self.inside.slots.items c.self.inside.words.items c.shift_all_in.new.words.items c.self.invariant.0 (omega (arith, c.requires.room)) most c.shift_all_in.ensures.len
-    (λ slot lt. c.shift_all_in.ensures.rows slot (omega (arith, lt, c.self.invariant.1.counted)))
+    opened_shown c.self.inside.len c.self.inside.width c.args.at c.self.inside.slots.items c.self.inside.words.items c.shift_all.new.words.items c.self.invariant.0 (omega (arith, c.requires.room)) most c.shift_all.ensures.len
+    (λ slot lt. c.shift_all.ensures.rows slot (omega (arith, lt, c.self.invariant.1.counted)))
     ∙ ap (λ (r : RowsAndRoom). map (λ (row : List Bool). insert row c.args.at false) r.rows) c.self.view_is

@@ -1,7 +1,7 @@
 use Rattle.std.proofs.Common.{◌∙◌, ◌*◌, ap, arith, map, set, sym, true, Bool, List, ℕ}
 use Rattle.classify.specs.bits.Rows.{RowsAndRoom}
 use Rattle.classify.proofs.laws.bits.PlaceLaws.{place_below}
-use Rattle.classify.proofs.laws.bits.SummaryLaws.{gained_held, gained_shown}
+use Rattle.classify.proofs.laws.bits.SummaryLaws.{gained_held, gained_shown, summed_again}
 use Rattle.classify.proofs.bits.rows.Rows.set_all.Goals as goal
 
 pub mark_all-requires-clause-place : goal.mark_all-requires-clause-place
@@ -18,10 +18,7 @@ invariant_of-self c =
     let below = place_below _ _ c.args.at _ _ c.args.self.now c.self.invariant.0 c.self.view_is c.requires.some c.requires.place in (
       gained_held c.self.inside.len c.self.inside.width c.args.at c.self.inside.slots.items c.self.inside.words.items c.mark_all.new.words.items c.self.invariant.0 below c.mark_all.ensures.len
           (λ slot lt. c.mark_all.ensures.rows slot (omega (arith, lt, c.self.invariant.1.counted))),
-      record {
-        counted = c.mark_all.ensures.counted ∙ c.self.invariant.1.counted;
-        each = λ slot lt. c.mark_all.ensures.summed slot (omega (arith, lt, c.self.invariant.1.counted));
-      },
+      summed_again _ _ _ _ _ _ c.self.invariant.1 c.mark_all.ensures.counted c.mark_all.ensures.summed,
     )
 
 pub returns-clause-rows : goal.returns-clause-rows

@@ -1,0 +1,264 @@
+-- A box's answers written into the rows of a line, interval by interval.
+use Rattle.fields.specs.declared.numbers.spans.Interval.{Interval}
+use Rattle.std.proofs.Common.{◌≡◌, inl, inr, ℕ, zero, suc, ◌+◌, ◌<◌, ◌≤◌, ◌||◌, ◌&&◌, Bool, true, false, List, [], ◌∷◌, take, length, get_or, refl, sym, ◌∙◌, ap, arith, subst, map}
+use Rattle.std.specs.List.{insert, list_all}
+use Rattle.std.specs.Prelude.{slice_index}
+use Rattle.std.proofs.Math.ListN.{set}
+use Rattle.std.proofs.Math.Dec.{leb}
+use Rattle.std.proofs.lemmas.Bool.{le-leb, lt-leb, leb-true, cases_lt}
+use Rattle.std.proofs.lemmas.List.{length-map, get_or-map, same_lists, set-get_or, take_all, take_more}
+use Rattle.std.proofs.lemmas.List.Edits.{length-insert, get_or-insert_at}
+use Rattle.std.proofs.lemmas.List.Folds.{list_all-append, list_any-append}
+use Rattle.fields.specs.numbers.Spans.{has, in_span, AreSpansFrom}
+use Rattle.fields.proofs.laws.numbers.SpanLaws.{in_it, out_above, out_below}
+use Rattle.classify.specs.line.Line.{starts}
+use Rattle.classify.specs.steps.Cuts.{CutsStart}
+use Rattle.classify.specs.steps.Pieces.{IsRising, StartsAt}
+use Rattle.classify.specs.steps.Edits.{with_answer, with_bit, with_test, with_written, row_of}
+use Rattle.classify.specs.steps.Runs.{IsRunIn, IsRunWritten}
+use Rattle.classify.proofs.laws.line.ShownLaws.{Cut}
+use Rattle.classify.proofs.laws.line.BitPlaceLaws.{set-insert}
+use Rattle.classify.proofs.laws.line.BoxLaws.{tests_rising}
+use Rattle.classify.proofs.laws.line.EndLaws.{ends_from_cuts, starts_zero}
+use Rattle.classify.proofs.laws.line.RunLaws.{bits_place, bits_rising, bits_start, bits_written, start_was}
+
+abbrev none : Cut
+none = (0, [])
+
+-- ---- tests of a number
+
+or_true : (a b : Bool) → b ≡ true → (a || b) ≡ true
+or_true true b e = refl
+or_true false b e = e
+
+or_false : (a b : Bool) → b ≡ false → (a || b) ≡ a
+or_false true b e = refl
+or_false false b e = e
+
+and_false : (a b : Bool) → b ≡ false → (a && b) ≡ false
+and_false true b e = e
+and_false false b e = refl
+
+both : (a b : Bool) → a ≡ true → (a && b) ≡ b
+both a b e = ap (λ (c : Bool). c && b) e
+
+first_of : (a b : Bool) → (a && b) ≡ true → a ≡ true
+first_of true b e = refl
+first_of false b e = e
+
+second_of : (a b : Bool) → (a && b) ≡ true → b ≡ true
+second_of true b e = e
+second_of false b e = absurd_of e
+  where
+    absurd_of : false ≡ true → b ≡ true
+    absurd_of e = ap (λ (c : Bool). c || b) e ∙ refl
+
+-- one interval more
+has_more : (spans : List Interval) (i x : ℕ) (d : Interval) → i < length spans → has (take (i + 1) spans) x ≡ (has (take i spans) x || in_span x (get_or spans i d))
+has_more spans i x d lt =
+    ap (λ (ss : List Interval). has ss x) (take_more spans i d lt) ∙ list_any-append (in_span x) (take i spans) (get_or spans i d ∷ []) ∙ ap (λ (b : Bool). has (take i spans) x || b) (or_false (in_span x (get_or spans i d)) false refl)
+
+-- whether a number is above each of some intervals
+abbrev pub is_past : List Interval → ℕ → Bool
+is_past spans x = list_all (λ s. leb (s.last + 1) x) spans
+
+past_more : (spans : List Interval) (i x : ℕ) (d : Interval) → i < length spans → is_past (take (i + 1) spans) x ≡ (is_past (take i spans) x && leb ((get_or spans i d).last + 1) x)
+past_more spans i x d lt =
+    ap (λ (ss : List Interval). is_past ss x) (take_more spans i d lt) ∙ list_all-append (λ (s : Interval). leb (s.last + 1) x) (take i spans) (get_or spans i d ∷ [])
+    ∙ ap (λ (b : Bool). is_past (take i spans) x && b) (and_true (leb ((get_or spans i d).last + 1) x))
+  where
+    and_true : (b : Bool) → (b && true) ≡ b
+    and_true true = refl
+    and_true false = refl
+
+past_none : (spans : List Interval) (x : ℕ) → is_past spans x ≡ true → has spans x ≡ false
+past_none [] x e = refl
+past_none (s ∷ ss) x e =
+    let lt : s.last + 1 ≤ x = leb-true (s.last + 1) x (first_of (leb (s.last + 1) x) (is_past ss x) e) in
+    ap (λ (b : Bool). b || has ss x) (out_above s x (omega arith)) ∙ past_none ss x (second_of (leb (s.last + 1) x) (is_past ss x) e)
+
+-- intervals rise: where one begins is past those before it
+first_low : (top low : ℕ) (spans : List Interval) (i : ℕ) (d : Interval) → AreSpansFrom top low spans → i < length spans → low ≤ (get_or spans i d).first
+first_low top low [] i d h lt = absurd (omega arith)
+first_low top low (s ∷ ss) zero d h lt = h.0
+first_low top low (s ∷ ss) (suc i) d h lt = omega (arith, h.0, h.1, first_low top (s.last + 2) ss i d h.3 (omega arith))
+
+pub past_first : (top low : ℕ) (spans : List Interval) (i : ℕ) (d : Interval) → AreSpansFrom top low spans → i < length spans → is_past (take i spans) (get_or spans i d).first ≡ true
+past_first top low spans zero d h lt = refl
+past_first top low [] (suc i) d h lt = absurd (omega arith)
+past_first top low (s ∷ ss) (suc i) d h lt =
+    both (leb (s.last + 1) (get_or ss i d).first) (is_past (take i ss) (get_or ss i d).first) (le-leb (s.last + 1) (get_or ss i d).first (omega (arith, first_low top (s.last + 2) ss i d h.3 (omega arith))))
+    ∙ past_first top (s.last + 2) ss i d h.3 (omega arith)
+
+pub interval_some : (top low : ℕ) (spans : List Interval) (i : ℕ) (d : Interval) → AreSpansFrom top low spans → i < length spans → (get_or spans i d).first ≤ (get_or spans i d).last
+interval_some top low [] i d h lt = absurd (omega arith)
+interval_some top low (s ∷ ss) zero d h lt = h.1
+interval_some top low (s ∷ ss) (suc i) d h lt = interval_some top (s.last + 2) ss i d h.3 (omega arith)
+
+-- ---- what holds of the line while answers are written
+
+pub now_rising : (top at : ℕ) (test : ℕ → Bool) (old now : List Cut) → now ≡ map (with_bit at test) old → IsRising top old → IsRising top now
+now_rising top at test old now is r = let P : List Cut → Type 0 = λ line. IsRising top line in subst P (sym is) (bits_rising top at test old r)
+
+pub now_place : (at : ℕ) (test : ℕ → Bool) (old now : List Cut) → now ≡ map (with_bit at test) old → ((j : ℕ) → j < length old → at < length (row_of old j)) → (j : ℕ) → j < length now → at < length (row_of now j)
+now_place at test old now is place = let P : List Cut → Type 0 = λ line. (j : ℕ) → j < length line → at < length (row_of line j) in subst P (sym is) (λ j lt. bits_place at j test old place lt)
+
+pub now_begins : (top at i : ℕ) (test : ℕ → Bool) (spans own : List Interval) (d : Interval) (old now : List Cut) → now ≡ map (with_bit at test) old → spans ≡ own → AreSpansFrom top 0 own → IsRising top old → CutsStart top own old → i < length spans
+    → StartsAt (get_or spans i d).first now
+now_begins top at i test spans own d old now is same canonical r cuts lt =
+    let all = ends_from_cuts top 0 old own canonical (λ x _ le ne. cuts x le ne) (λ _. starts_zero top old r) in
+    let P : List Cut → Type 0 = λ line. StartsAt (get_or spans i d).first line in
+    let Q : Interval → Type 0 = λ s. StartsAt s.first old in
+    subst P (sym is) (bits_start at _ test old (subst Q (ap (λ (ss : List Interval). get_or ss i d) (sym same)) (all i d (omega (arith, ap length same))).0))
+
+-- ---- a 1 written within each interval
+
+pub few_first : (at : ℕ) (line : List Cut) → ((j : ℕ) → j < length line → get_or (row_of line j) at false ≡ false) → line ≡ map (with_bit at (λ _. false)) line
+few_first at line zeros =
+    same_lists line (map (with_bit at (λ _. false)) line) (sym (length-map line (with_bit at (λ _. false)))) (λ j d lt.
+    (let p : Cut = get_or line j none in
+    let row : set p.1 at false ≡ p.1 = ap (λ (b : Bool). set p.1 at b) (sym (zeros j lt)) ∙ set-get_or p.1 at false in
+    sym (get_or-map (with_bit at (λ _. false)) line j d d lt ∙ ap (λ (q : Cut). with_bit at (λ _. false) q) (default_at line j d lt) ∙ (λ i. (p.0, row i)) ∙ sym (default_at line j d lt))))
+  where
+    default_at : (cs : List Cut) (j : ℕ) (d : Cut) → j < length cs → get_or cs j d ≡ get_or cs j none
+    default_at [] j d lt = absurd (omega arith)
+    default_at (c ∷ cs) zero d lt = refl
+    default_at (c ∷ cs) (suc j) d lt = default_at cs j d (omega arith)
+
+pub few_more : (at i : ℕ) (spans : List Interval) (d : Interval) (from to : ℕ) (old now new : List Cut) → i < length spans → now ≡ map (with_bit at (has (take i spans))) old
+    → IsRunIn (get_or spans i d) from to now → IsRunWritten at true from to now new → new ≡ map (with_bit at (has (take (i + 1) spans))) old
+few_more at i spans d from to old now new lt is run h =
+    let s : Interval = get_or spans i d in
+    let f : ℕ → Bool = has (take i spans) in
+    let g : ℕ → Bool = has (take (i + 1) spans) in
+    let start : (j : ℕ) → j < length old → slice_index (starts now) j ≡ (get_or old j none).0 = λ j in'. start_was at f old now j is in' in
+    let long : length now ≡ length old = ap (λ (l : List Cut). length l) is ∙ length-map old (with_bit at f) in
+    bits_written at true from to f g old now new is h
+    (λ j in' ge below. (let x : ℕ = (get_or old j none).0 in
+    has_more spans i x d lt ∙ or_true (f x) (in_span x s) (in_it s x (omega (arith, start j in', run.low j ge (omega arith))) (omega (arith, start j in', run.high j below)))))
+    (λ j in' less. (let x : ℕ = (get_or old j none).0 in has_more spans i x d lt ∙ or_false (f x) (in_span x s) (out_below s x (omega (arith, start j in', run.below j less)))))
+    (λ j in' past. (let x : ℕ = (get_or old j none).0 in has_more spans i x d lt ∙ or_false (f x) (in_span x s) (out_above s x (omega (arith, start j in', run.above j past (omega arith))))))
+
+-- ---- a 1 written everywhere, and a 0 between the intervals
+
+-- a number is in one of the first intervals, or above them all
+abbrev pub is_open : List Interval → ℕ → Bool
+is_open spans x = has spans x || is_past spans x
+
+-- the pieces past the first intervals are those from a place on
+abbrev pub ArePast : List Interval → List Cut → ℕ → Type 0
+ArePast spans line next = (j : ℕ) → j < length line → is_past spans (get_or line j none).0 ≡ leb next j
+
+pub past_next : (at i : ℕ) (spans : List Interval) (d : Interval) (next from to : ℕ) (old now : List Cut) → i < length spans → now ≡ map (with_bit at (is_open (take i spans))) old
+    → IsRunIn (get_or spans i d) from to now → next ≤ from → ArePast (take i spans) old next → ArePast (take (i + 1) spans) old to
+past_next at i spans d next from to old now lt is run order h j in' =
+    let s : Interval = get_or spans i d in
+    let x : ℕ = (get_or old j none).0 in
+    let start : slice_index (starts now) j ≡ x = start_was at (is_open (take i spans)) old now j is in' in
+    let long : length now ≡ length old = ap (λ (l : List Cut). length l) is ∙ length-map old (with_bit at (is_open (take i spans))) in
+    past_more spans i x d lt
+    ∙ elim (cases_lt j to) [
+      | inl below ↦ and_false (is_past (take i spans) x) (leb (s.last + 1) x) (lt-leb (s.last + 1) x (omega (arith, run.high j below))) ∙ sym (lt-leb to j below)
+      | inr ge ↦ (both (is_past (take i spans) x) (leb (s.last + 1) x) (h j in' ∙ le-leb next j (omega (arith, run.some))) ∙ le-leb (s.last + 1) x (omega (arith, run.above j ge (omega arith))) ∙ sym (le-leb to j ge))
+    ]
+
+-- the next interval's pieces are not among those passed
+pub next_before : (top at i : ℕ) (spans : List Interval) (d : Interval) (next from to : ℕ) (old now : List Cut) → AreSpansFrom top 0 spans → i < length spans → now ≡ map (with_bit at (is_open (take i spans))) old
+    → IsRunIn (get_or spans i d) from to now → ArePast (take i spans) old next → next ≤ from
+next_before top at i spans d next from to old now canonical lt is run h =
+    let long : length now ≡ length old = ap (λ (l : List Cut). length l) is ∙ length-map old (with_bit at (is_open (take i spans))) in
+    let in' : from < length old = omega (arith, run.some, run.ends) in
+    let x : ℕ = (get_or old from none).0 in
+    let start : x ≡ (get_or spans i d).first = sym (start_was at (is_open (take i spans)) old now from is in') ∙ run.start in
+    leb-true next from (sym (h from in') ∙ ap (is_past (take i spans)) start ∙ past_first top 0 spans i d canonical lt)
+
+pub most_more : (at i : ℕ) (spans : List Interval) (d : Interval) (next from to : ℕ) (old now new : List Cut) → i < length spans → now ≡ map (with_bit at (is_open (take i spans))) old
+    → IsRunIn (get_or spans i d) from to now → next ≤ from → ArePast (take i spans) old next → IsRunWritten at false next from now new → new ≡ map (with_bit at (is_open (take (i + 1) spans))) old
+most_more at i spans d next from to old now new lt is run order h w =
+    let s : Interval = get_or spans i d in
+    let before : ℕ → Bool = has (take i spans) in
+    let past : ℕ → Bool = is_past (take i spans) in
+    let f : ℕ → Bool = is_open (take i spans) in
+    let g : ℕ → Bool = is_open (take (i + 1) spans) in
+    let start : (j : ℕ) → j < length old → slice_index (starts now) j ≡ (get_or old j none).0 = λ j in'. start_was at f old now j is in' in
+    let long : length now ≡ length old = ap (λ (l : List Cut). length l) is ∙ length-map old (with_bit at f) in
+    let parts : (x : ℕ) (a b : Bool) → in_span x s ≡ a → leb (s.last + 1) x ≡ b → g x ≡ ((before x || a) || (past x && b)) =
+    λ x a b e e'. (let one = has_more spans i x d lt ∙ ap (λ (c : Bool). before x || c) e in let two = past_more spans i x d lt ∙ ap (λ (c : Bool). past x && c) e' in λ k. one k || two k) in
+    bits_written at false next from f g old now new is w
+    (λ j in' ge below. (let x : ℕ = (get_or old j none).0 in
+    let is_past' : past x ≡ true = h j in' ∙ le-leb next j ge in
+    let lt' : x < s.first = omega (arith, start j in', run.below j below) in
+    let lt'' : x ≤ s.last = omega (arith, start j in', run.high j (omega (arith, run.some))) in
+    parts x false false (out_below s x lt') (lt-leb (s.last + 1) x (omega arith)) ∙ or_false (before x || false) (past x && false) (and_false (past x) false refl) ∙ or_false (before x) false refl ∙ past_none (take i spans) x is_past'))
+    (λ j in' less. (let x : ℕ = (get_or old j none).0 in
+    let not_past : past x ≡ false = h j in' ∙ lt-leb next j less in
+    let lt' : x < s.first = omega (arith, start j in', run.below j (omega arith)) in
+    let lt'' : x ≤ s.last = omega (arith, start j in', run.high j (omega (arith, run.some))) in
+    parts x false false (out_below s x lt') (lt-leb (s.last + 1) x (omega arith)) ∙ or_false (before x || false) (past x && false) (and_false (past x) false refl) ∙ or_false (before x) false refl
+    ∙ sym (or_false (before x) (past x) not_past)))
+    (λ j in' ge. (let x : ℕ = (get_or old j none).0 in
+    let is_past' : past x ≡ true = h j in' ∙ le-leb next j (omega arith) in
+    let was : f x ≡ true = or_true (before x) (past x) is_past' in
+    elim (cases_lt j to) [
+      | inl below ↦ (
+          let inside : in_span x s ≡ true = in_it s x (omega (arith, start j in', run.low j ge (omega arith))) (omega (arith, start j in', run.high j below)) in
+          parts x true false inside (lt-leb (s.last + 1) x (omega (arith, start j in', run.high j below)))
+          ∙ ap (λ (c : Bool). c || (past x && false)) (or_true (before x) true refl) ∙ sym was)
+      | inr past_it ↦ (
+          let above : s.last < x = omega (arith, start j in', run.above j past_it (omega arith)) in
+          parts x false true (out_above s x above) (le-leb (s.last + 1) x (omega arith))
+          ∙ or_true (before x || false) (past x && true) (both (past x) true is_past') ∙ sym was)
+    ]))
+
+-- the pieces past the last interval
+pub most_last : (at i : ℕ) (spans own : List Interval) (next end : ℕ) (old now new : List Cut) → length spans ≤ i → spans ≡ own → end ≡ length now → now ≡ map (with_bit at (is_open (take i spans))) old
+    → ArePast (take i spans) old next → IsRunWritten at false next end now new → new ≡ map (with_bit at (has own)) old
+most_last at i spans own next end old now new ge same is_end is h w =
+    let f : ℕ → Bool = is_open (take i spans) in
+    let all : take i spans ≡ own = take_all i spans ge ∙ same in
+    let long : length now ≡ length old = ap (λ (l : List Cut). length l) is ∙ length-map old (with_bit at f) in
+    let g_is : (x : ℕ) → has own x ≡ has (take i spans) x = λ x. ap (λ (ss : List Interval). has ss x) (sym all) in
+    bits_written at false next end f (has own) old now new is w
+    (λ j in' ge' below. (let x : ℕ = (get_or old j none).0 in g_is x ∙ past_none (take i spans) x (h j in' ∙ le-leb next j ge')))
+    (λ j in' less. (let x : ℕ = (get_or old j none).0 in g_is x ∙ sym (or_false (has (take i spans) x) (is_past (take i spans) x) (h j in' ∙ lt-leb next j less))))
+    (λ j in' past. absurd (omega arith))
+
+-- ---- a place opened, and answers written into it
+
+abbrev pub IsOpened : ℕ → List Cut → List Cut → Type 0
+IsOpened at old now = now ≡ map (with_test at (λ _. false)) old
+
+pub opened_rising : (top at : ℕ) (old now : List Cut) → IsOpened at old now → IsRising top old → IsRising top now
+opened_rising top at old now is r = let P : List Cut → Type 0 = λ line. IsRising top line in subst P (sym is) (tests_rising top at (λ _. false) old r)
+
+tests_start : (at x : ℕ) (test : ℕ → Bool) (line : List Cut) → StartsAt x line → StartsAt x (map (with_test at test) line)
+tests_start at x test [] s = s
+tests_start at x test (p ∷ ps) s = elim s [ inl e ↦ inl e | inr t ↦ inr (tests_start at x test ps t) ]
+
+pub opened_cuts : (top at : ℕ) (spans : List Interval) (old now : List Cut) → IsOpened at old now → CutsStart top spans old → CutsStart top spans now
+opened_cuts top at spans old now is cuts x le ne = let P : List Cut → Type 0 = λ line. StartsAt (suc x) line in subst P (sym is) (tests_start at (suc x) (λ _. false) old (cuts x le ne))
+
+opened_row : (at j : ℕ) (old now : List Cut) → IsOpened at old now → j < length now → (j < length old) × (row_of now j ≡ insert (row_of old j) at false)
+opened_row at j old now is lt =
+    let in' : j < length old = omega (arith, ap (λ (l : List Cut). length l) is, length-map old (with_test at (λ _. false))) in
+    (in', ap (λ (l : List Cut). row_of l j) is ∙ ap (λ (p : Cut). p.1) (get_or-map (with_test at (λ _. false)) old j none none in'))
+
+pub opened_place : (at : ℕ) (old now : List Cut) → IsOpened at old now → ((j : ℕ) → j < length old → at ≤ length (row_of old j)) → (j : ℕ) → j < length now → at < length (row_of now j)
+opened_place at old now is place j lt =
+    let row = opened_row at j old now is lt in
+    omega (arith, ap (λ (bs : List Bool). length bs) row.1, length-insert (row_of old j) at false (place j row.0), place j row.0)
+
+pub opened_none : (at : ℕ) (old now : List Cut) → IsOpened at old now → ((j : ℕ) → j < length old → at ≤ length (row_of old j)) → (j : ℕ) → j < length now → get_or (row_of now j) at false ≡ false
+opened_none at old now is place j lt =
+    let row = opened_row at j old now is lt in
+    ap (λ (bs : List Bool). get_or bs at false) row.1 ∙ get_or-insert_at (row_of old j) at false false (place j row.0)
+
+written_again : (at : ℕ) (test : ℕ → Bool) (line : List Cut) → ((j : ℕ) → j < length line → at ≤ length (row_of line j)) → map (with_bit at test) (map (with_test at (λ _. false)) line) ≡ map (with_test at test) line
+written_again at test [] place = refl
+written_again at test (p ∷ ps) place =
+    let row : set (insert p.1 at false) at (test p.0) ≡ insert p.1 at (test p.0) = set-insert p.1 at false (test p.0) (place 0 (omega arith)) in
+    let rest = written_again at test ps (λ j lt. place (suc j) (omega arith)) in
+    λ i. (p.0, row i) ∷ rest i
+
+pub opened_written : (at : ℕ) (spans : List Interval) (old now new : List Cut) → IsOpened at old now → ((j : ℕ) → j < length old → at ≤ length (row_of old j)) → new ≡ map (with_written at spans) now → new ≡ map (with_answer at spans) old
+opened_written at spans old now new is place made = made ∙ ap (λ (line : List Cut). map (with_written at spans) line) is ∙ written_again at (has spans) old place

@@ -1,0 +1,132 @@
+//! A box's answers put into a line that is cut wherever they change.
+
+ghost use Rattle.std.specs.Prelude.{◌≡◌, ◌<◌, ◌≤◌, ◌+◌, ℕ, length, map, false, slice_index_or};
+ghost use Rattle.classify.specs.steps.Cuts.{CutsStart};
+ghost use Rattle.classify.specs.steps.Edits.{row_of, with_answer, with_written};
+ghost use Rattle.classify.specs.steps.Pieces.{IsRising, IsRisingLine, StartsAt};
+ghost use Rattle.classify.specs.steps.Runs.{IsRunIn, IsRunWritten};
+
+use crate::line::owned::OwnedLine;
+use fields::{Interval, Spans};
+
+/// Pieces side by side: from one place up to another, which is not among them.
+#[derive(Clone, Copy)]
+struct Run {
+    from: usize,
+    to: usize,
+}
+
+// The pieces in an interval, where one starts where it begins.
+fn run_in(line: &OwnedLine, interval: Interval) -> Run
+    requires rising { IsRisingLine line.now.pieces }
+    requires begins { StartsAt interval.first line.now.pieces }
+    requires some { interval.first ≤ interval.last }
+    ensures { IsRunIn interval result.from result.to line.now.pieces }
+{
+    let _pieces = line.len();
+    Run {
+        from: line.place_of(interval.first),
+        to: line.place_of(interval.last) + 1,
+    }
+}
+
+// Writes one answer into the rows of some pieces.
+fn write_run(line: &mut OwnedLine, at: usize, run: Run, bit: bool)
+    requires order { run.from ≤ run.to }
+    requires within { run.to ≤ length line.old.pieces }
+    requires place { (j : ℕ) → j < length line.old.pieces → at < length (row_of line.old.pieces j) }
+    ensures written { IsRunWritten at bit run.from run.to line.old.pieces line.new.pieces }
+    ensures room { line.new.room ≡ line.old.room }
+{
+    for k in run.from..run.to {
+        line.set(k, at, bit);
+    }
+}
+
+// Writes a 1 for each piece that a box allows, interval by interval, where a 0 stands for all.
+fn put_few(line: &mut OwnedLine, at: usize, spans: &Spans)
+    requires rising { IsRising spans.now.top line.old.pieces }
+    requires cuts { CutsStart spans.now.top spans.now.intervals line.old.pieces }
+    requires place { (j : ℕ) → j < length line.old.pieces → at < length (row_of line.old.pieces j) }
+    requires none { (j : ℕ) → j < length line.old.pieces → slice_index_or (row_of line.old.pieces j) at false ≡ false }
+    ensures answers { line.new.pieces ≡ map (with_written at spans.now.intervals) line.old.pieces }
+    ensures room { line.new.room ≡ line.old.room }
+{
+    for interval in spans.intervals() {
+        let run = run_in(line, *interval);
+        write_run(line, at, run, true);
+    }
+}
+
+// Writes a 1 for all pieces, in the order of their slots, and then a 0 for those between a box's intervals.
+fn put_most(line: &mut OwnedLine, at: usize, spans: &Spans)
+    requires rising { IsRising spans.now.top line.old.pieces }
+    requires cuts { CutsStart spans.now.top spans.now.intervals line.old.pieces }
+    requires place { (j : ℕ) → j < length line.old.pieces → at < length (row_of line.old.pieces j) }
+    ensures answers { line.new.pieces ≡ map (with_written at spans.now.intervals) line.old.pieces }
+    ensures room { line.new.room ≡ line.old.room }
+{
+    line.set_all(at);
+    let mut next = 0;
+    for interval in spans.intervals() {
+        let Run { from, to } = run_in(line, *interval);
+        write_run(
+            line,
+            at,
+            Run {
+                from: next,
+                to: from,
+            },
+            false,
+        );
+        next = to;
+    }
+    let end = line.len();
+    write_run(
+        line,
+        at,
+        Run {
+            from: next,
+            to: end,
+        },
+        false,
+    );
+}
+
+// Whether a box allows more than half of a line's pieces; of a single interval, whether it is the whole line.
+fn allows_most(line: &OwnedLine, spans: &Spans) -> bool
+    requires { IsRisingLine line.now.pieces }
+{
+    let intervals = spans.intervals();
+    if intervals.len() < 2 {
+        return spans.has(0) && spans.has(spans.top());
+    }
+    let mut allowed: usize = 0;
+    for interval in intervals {
+        let last = line.place_of(interval.last);
+        let before = line.place_of(interval.first);
+        allowed = allowed
+            .saturating_add(last.saturating_sub(before))
+            .saturating_add(1);
+    }
+    allowed > line.len() / 2
+}
+
+// Puts a box's answers into the rows of a line that is cut wherever they change. Beside the place that is opened in each
+// row, it touches the pieces alone that the box allows; where these are most, all pieces in the order of their slots, and
+// then those alone that it doesn't allow.
+pub(crate) fn put_answers(line: &mut OwnedLine, at: usize, spans: &Spans)
+    requires rising { IsRising spans.now.top line.old.pieces }
+    requires cuts { CutsStart spans.now.top spans.now.intervals line.old.pieces }
+    requires place { (j : ℕ) → j < length line.old.pieces → at ≤ length (row_of line.old.pieces j) }
+    requires room { 0 < line.old.room }
+    ensures answers { line.new.pieces ≡ map (with_answer at spans.now.intervals) line.old.pieces }
+    ensures room { line.new.room + 1 ≡ line.old.room }
+{
+    line.open_place(at);
+    if allows_most(line, spans) {
+        put_most(line, at, spans);
+    } else {
+        put_few(line, at, spans);
+    }
+}
