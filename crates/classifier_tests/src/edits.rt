@@ -1,299 +1,121 @@
-//! Edits drawn at random, against what the rules say of each number.
+//! Edits drawn by lot, against what the rules say of each number.
 
-ghost use Rattle.std.specs.Prelude.{◌<◌};
-
-use crate::searches::next_of;
-use crate::texts::boxed;
-use classify::{Classifier, Line};
-use fields::{FIELDS, Field};
-use std::alloc::{AllocError, Global};
-use std::fmt::Write;
+use crate::dice::Dice;
+use crate::drafts::numbers;
+use crate::drawn::{Kind, some_field};
+use crate::pair::Pair;
+use std::alloc::Global;
 use std::process::Abort;
 use std::test::Fail;
 
-// Numbers that look random, and are always the same.
-#[derive(Drop)]
-struct Dice {
-    state: u64,
-}
-
-impl Dice {
-    fn below(&mut self, bound: u64) -> u64
-        requires { 0 < bound }
-        ensures { result < bound }
-    {
-        self.state = self
-            .state
-            .wrapping_mul(6364136223846793005)
-            .wrapping_add(1442695040888963407);
-        (self.state >> 33) % bound
-    }
-
-    fn flip(&mut self) -> bool {
-        self.below(2) == 0
-    }
-}
-
-// The fields that the rules ask.
-const ASKED: [Field; 5] = [
-    Field::Protocol,
-    Field::Fragment,
-    Field::TcpFlags,
-    Field::IcmpType,
-    Field::ConnectionState,
-];
-
-// How many numbers of a field are tried: all, or all up to the last at which a rule's answer changes.
-fn numbers(field: Field) -> u64
-    ensures { 0 < result }
-{
-    (field.top().min(1100) as u64).saturating_add(1)
-}
-
-const FLAGS: [&str; 6] = ["FIN", "SYN", "RST", "PSH", "ACK", "URG"];
-
-const STATES: [&str; 5] = ["INVALID", "UNTRACKED", "NEW", "RELATED", "ESTABLISHED"];
-
-// What a rule says.
-#[derive(Clone, Copy)]
-struct Draft {
-    // A protocol, and whether it is meant or all others.
-    protocol: Option<(u8, bool)>,
-    // Whether second and further fragments are meant, or the first ones.
-    fragment: Option<bool>,
-    // Which flags are looked at, and which of these are set.
-    flags: Option<(u8, u8)>,
-    // A type, and a code.
-    icmp: Option<(u8, Option<u8>)>,
-    // One bit for each state, and whether these are meant or all others.
-    states: Option<(u8, bool)>,
-}
-
-fn drafted(dice: &mut Dice) -> Draft {
-    let mut draft = Draft {
-        protocol: None,
-        fragment: None,
-        flags: None,
-        icmp: None,
-        states: None,
-    };
-    match dice.below(4) {
-        0 => {
-            let looked = dice.below(64) as u8;
-            draft.protocol = Some((6, true));
-            draft.flags = Some((looked, looked & dice.below(64) as u8));
-        }
-        1 => {
-            let kind = dice.below(4) as u8;
-            let code = dice.below(256) as u8;
-            draft.protocol = Some((1, true));
-            draft.icmp = Some((kind, if dice.flip() { Some(code) } else { None }));
-        }
-        _ => {
-            let number = dice.below(20) as u8 + 1;
-            let meant = dice.flip();
-            draft.protocol = if dice.flip() {
-                Some((number, meant))
-            } else {
-                None
-            };
-            let further = dice.flip();
-            draft.fragment = if dice.flip() { Some(further) } else { None };
-        }
-    }
-    if dice.flip() {
-        let meant = dice.flip();
-        draft.states = Some((dice.below(31) as u8 + 1, meant));
-    }
-    draft
-}
-
-fn write_inverted(text: &mut String, meant: bool) -> Result<(), AllocError> {
-    text.push_str(if meant { " " } else { " ! " })
-}
-
-// Writes the names of the bits that are set, separated by commas.
-fn write_names(text: &mut String, names: &[&str], bits: u8) -> Result<(), AllocError> {
-    let mut before = ' ';
-    for (place, name) in names.iter().enumerate() {
-        if place < 8 && bits >> place & 1 == 1 {
-            text.push(before)?;
-            text.push_str(name)?;
-            before = ',';
-        }
-    }
-    if before == ' ' {
-        text.push_str(" NONE")?;
-    }
-    Ok(())
-}
-
-fn text_of(alloc: Global, draft: &Draft) -> Result<String, AllocError> {
-    let mut text = String::new(alloc);
-    if let Some((number, meant)) = draft.protocol {
-        write_inverted(&mut text, meant)?;
-        write!(text, "-p {number}")?;
-    }
-    if let Some(further) = draft.fragment {
-        write_inverted(&mut text, further)?;
-        text.push_str("-f")?;
-    }
-    if let Some((looked, set)) = draft.flags {
-        text.push_str(" --tcp-flags")?;
-        write_names(&mut text, FLAGS.as_slice(), looked)?;
-        write_names(&mut text, FLAGS.as_slice(), set)?;
-    }
-    match draft.icmp {
-        Some((kind, Some(code))) => write!(text, " --icmp-type {kind}/{code}")?,
-        Some((kind, None)) => write!(text, " --icmp-type {kind}")?,
-        None => {}
-    }
-    if let Some((states, meant)) = draft.states {
-        text.push_str(" -m conntrack")?;
-        write_inverted(&mut text, meant)?;
-        text.push_str("--ctstate")?;
-        write_names(&mut text, STATES.as_slice(), states)?;
-    }
-    text.push_str(" -j DROP")?;
-    Ok(text)
-}
-
-// The bit of a connection's state: four numbers for each of the last three states, one for the others.
-fn state_bit(x: u64) -> u8 {
-    match x {
-        0 => 1,
-        1 => 2,
-        2..=5 => 4,
-        6..=9 => 8,
-        _ => 16,
-    }
-}
-
-// Whether the rule allows a number on a field.
-fn allows(draft: &Draft, field: Field, x: u64) -> bool {
-    match field {
-        Field::Protocol => match draft.protocol {
-            Some((number, meant)) => (x == u64::from(number)) == meant,
-            None => true,
-        },
-        Field::Fragment => match draft.fragment {
-            Some(further) => (x == 1) == further,
-            None => x == 0 || draft.flags.is_none() && draft.icmp.is_none(),
-        },
-        Field::TcpFlags => match draft.flags {
-            Some((looked, set)) => x & u64::from(looked) == u64::from(set),
-            None => true,
-        },
-        Field::IcmpType => match draft.icmp {
-            Some((kind, Some(code))) => x / 256 == u64::from(kind) && x % 256 == u64::from(code),
-            Some((kind, None)) => x / 256 == u64::from(kind),
-            None => true,
-        },
-        Field::ConnectionState => match draft.states {
-            Some((states, meant)) => (states & state_bit(x) != 0) == meant,
-            None => true,
-        },
-        _ => true,
-    }
-}
-
-// Compares a line with what the rules say of each number that is tried.
-fn agree(rt: &impl Abort, line: &Line, drafts: &[Draft], field: Field) {
-    let mut pieces = line.pieces();
-    for x in 0..numbers(field) {
-        let before = x.saturating_sub(1);
-        let changes = drafts.iter().any(|draft| allows(draft, field, before)
-            != allows(draft, field, x));
-        if x == 0 || changes {
-            match pieces.next() {
-                None => assert!(rt; false, "no piece starts at {x}"),
-                Some(piece) => {
-                    let row = piece.row();
-                    assert_eq!(rt; piece.start(), u128::from(x));
-                    assert_eq!(rt; row.len(), drafts.len());
-                    for (place, draft) in drafts.iter().enumerate() {
-                        assert!(rt; place < row.len());
-                        assert_eq!(rt; row.get(place), allows(draft, field, x));
-                    }
-                }
-            }
-        }
-    }
-    assert!(rt; pieces.next().is_none());
-}
-
-// The first rule from a place on that allows the number of each field.
-fn first_of(drafts: &[Draft], drawn: &[u64; 5], from: usize) -> Option<usize> {
-    for (place, draft) in drafts.iter().enumerate() {
-        if place >= from && (0..5usize).all(|k| allows(draft, ASKED[k], drawn[k])) {
-            return Some(place);
-        }
-    }
-    None
-}
-
-// Searches for a point drawn at random, and compares the answer with what the rules say.
-fn same_search(rt: &impl Abort, classifier: &Classifier, drafts: &[Draft], dice: &mut Dice) {
-    let mut drawn = [0; 5];
-    let mut point = [0; FIELDS];
-    for k in 0..5usize {
-        drawn[k] = dice.below(numbers(ASKED[k]));
-        point[ASKED[k].index()] = u128::from(drawn[k]);
-    }
-    let from = dice.below(4) as usize;
-    assert_eq!(rt;
-        next_of(rt, classifier, &point, from),
-        first_of(drafts, &drawn, from)
-    );
-}
-
-// One edit, drawn at random, of a classifier and of the drafts of its rules.
+// An edit: mostly one towards so many rules, else a replacement or one the other way.
 fn edit(
     rt: &impl Abort,
     alloc: Global,
-    classifier: &mut Classifier,
-    drafts: &mut Vec<Draft>,
+    pair: &mut Pair,
+    kind: Kind,
+    target: usize,
     dice: &mut Dice,
 ) -> Result<(), Fail> {
-    let count = drafts.len();
-    assert_eq!(rt; classifier.len(), count);
-    let draft = drafted(dice);
-    let text = text_of(alloc, &draft)?;
-    let boxed = boxed(alloc, text.as_str())?;
-    let kind = dice.below(8);
-    if count == 0 || kind < 4 {
-        let at = dice.below((count as u64).saturating_add(1)) as usize;
-        assert!(rt; at <= drafts.len());
-        drafts.insert(at, draft)?;
-        classifier.insert(at, boxed)?;
-        return Ok(());
+    let count = pair.len();
+    let draft = kind.draw(dice);
+    let choice = dice.below(8);
+    let grows = (count < target) == (choice > 1);
+    if count == 0 || choice > 0 && grows {
+        return pair.insert(rt, alloc, dice.place(count), draft);
     }
-    let at = dice.below(count as u64) as usize;
-    assert!(rt; at < drafts.len());
-    if kind < 6 {
-        drafts[at] = draft;
-        classifier.replace(at, boxed)?;
-    } else if count < 70 {
-        drafts.remove(at);
-        classifier.remove(at);
-    } else {
-        drafts.clear();
-        classifier.clear();
+    let at = dice.place(count - 1);
+    if choice == 0 {
+        return pair.replace(rt, alloc, at, draft);
+    }
+    pair.remove(rt, at);
+    Ok(())
+}
+
+// Whether three searches and the row of a number, drawn by lot, are what the rules say; and now and then the whole line of
+// a field: always where there are few rules, and where a word is full or has one bit.
+pub(crate) fn is_right(pair: &Pair, dice: &mut Dice) -> bool {
+    let count = pair.len();
+    let field = some_field(dice);
+    let is_whole = count < 66 || count % 64 < 2 || dice.once_in(8);
+    if is_whole && !pair.has_line(field) {
+        return false;
+    }
+    let x = dice.below(numbers(field));
+    for _ in 0..3u32 {
+        if !pair.finds_one(dice) {
+            return false;
+        }
+    }
+    pair.has_row(field, x)
+}
+
+// Edits until there are so many rules.
+pub(crate) fn edit_towards(
+    rt: &impl Abort,
+    alloc: Global,
+    pair: &mut Pair,
+    kind: Kind,
+    target: usize,
+    dice: &mut Dice,
+) -> Result<(), Fail> {
+    for _ in 0..8000u32 {
+        if pair.len() == target {
+            break;
+        }
+        edit(rt, alloc, pair, kind, target, dice)?;
+        assert!(rt; is_right(pair, dice), "at {} rules", pair.len());
+    }
+    assert_eq!(rt; pair.len(), target);
+    Ok(())
+}
+
+// Edits until there are as many rules as each count in turn says, and goes on with a copy.
+fn edit_through(
+    rt: &impl Abort,
+    alloc: Global,
+    kind: Kind,
+    seed: u64,
+    counts: &[usize],
+) -> Result<(), Fail> {
+    let mut dice = Dice::new(seed);
+    let mut pair = Pair::new(alloc)?;
+    for count in counts {
+        edit_towards(rt, alloc, &mut pair, kind, *count, &mut dice)?;
+        assert!(rt; pair.has_lines(), "at {count} rules");
+        pair.change_to_copy(alloc)?;
     }
     Ok(())
 }
 
 #[test]
 fn random_edits(rt: HostRuntime) -> Result<(), Fail> {
-    let alloc = rt.alloc();
-    let mut dice = Dice { state: 1 };
-    let mut classifier = Classifier::new(alloc)?;
-    let mut drafts = Vec::new(alloc);
-    for _ in 0..2000 {
-        edit(&rt, alloc, &mut classifier, &mut drafts, &mut dice)?;
-        let field = ASKED[dice.below(5) as usize];
-        agree(&rt, &classifier.line(field), &drafts, field);
-        same_search(&rt, &classifier, &drafts, &mut dice);
-    }
-    Ok(())
+    let counts = [70, 0, 130, 60, 70, 3, 90, 1, 66];
+    edit_through(&rt, rt.alloc(), Kind::Mixed, 1, counts.as_slice())
+}
+
+#[test]
+fn edits_where_rows_have_few_rules(rt: HostRuntime) -> Result<(), Fail> {
+    let counts = [
+        70, 60, 135, 120, 260, 250, 520, 500, 1080, 1000, 1030, 505, 515, 120, 62, 70,
+    ];
+    edit_through(&rt, rt.alloc(), Kind::Narrow(1000), 2, counts.as_slice())
+}
+
+#[test]
+fn edits_where_rows_have_rules_in_most_words(rt: HostRuntime) -> Result<(), Fail> {
+    let counts = [520, 250, 1030, 760, 1080, 500];
+    edit_through(&rt, rt.alloc(), Kind::Narrow(200), 3, counts.as_slice())
+}
+
+#[test]
+fn edits_where_rows_have_most_rules(rt: HostRuntime) -> Result<(), Fail> {
+    let counts = [135, 120, 520, 380, 1450, 1380, 600];
+    edit_through(&rt, rt.alloc(), Kind::Narrow(2), 4, counts.as_slice())
+}
+
+#[test]
+fn edits_that_cut_every_row(rt: HostRuntime) -> Result<(), Fail> {
+    let counts = [3, 0, 5, 1, 66, 2, 8, 0, 135, 60, 70, 0];
+    edit_through(&rt, rt.alloc(), Kind::Combs, 5, counts.as_slice())
 }

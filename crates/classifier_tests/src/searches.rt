@@ -10,7 +10,7 @@ use std::alloc::Global;
 use std::process::Abort;
 use std::test::Fail;
 
-fn is_point(point: &[u128; FIELDS]) -> bool
+pub(crate) fn is_point(point: &[u128; FIELDS]) -> bool
     ensures { IsTrue result → IsPoint point.now }
 {
     for place in 0..FIELDS {
@@ -47,7 +47,7 @@ fn next_plain(classifier: &Classifier, point: &[u128; FIELDS], from: usize) -> O
 }
 
 // Asks for the next match, and compares it with the plain search.
-pub(crate) fn next_of(
+fn next_of(
     rt: &impl Abort,
     classifier: &Classifier,
     point: &[u128; FIELDS],
