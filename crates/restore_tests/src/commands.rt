@@ -17,29 +17,32 @@ fn session(
 }
 
 #[test]
-fn appended_rules(rt: HostRuntime) -> Result<(), Fail> {
-    const ROWS: &[(&str, &str)] = &[
-        ("-N a", ""),
-        ("-N b", ""),
-        ("-A a -j b", ""),
-        ("-A x -o eth0 -j y", "no such chain"),
+fn commands_are_done(rt: HostRuntime) -> Result<(), Fail> {
+    const CASES: &[(&[(&str, &str)], &str)] = &[
+        // Appended rules.
         (
-            "-A INPUT -o eth0 -j y",
-            "interface not allowed in this chain",
-        ),
-        (
-            "-A OUTPUT -i eth0 -j INPUT",
-            "interface not allowed in this chain",
-        ),
-        ("-A INPUT -j y", "target chain missing"),
-        ("-A a -j INPUT", "target is built-in"),
-        ("-A b -j a", "loop"),
-        ("-A b -g a", "loop"),
-        ("-A a -g a", "loop"),
-        ("-A INPUT -s 10.1.2.3/8 -o + -j ACCEPT", ""),
-        ("-A INPUT", ""),
-    ];
-    let listing = "*filter\n\
+            &[
+                ("-N a", ""),
+                ("-N b", ""),
+                ("-A a -j b", ""),
+                ("-A x -o eth0 -j y", "no such chain"),
+                (
+                    "-A INPUT -o eth0 -j y",
+                    "interface not allowed in this chain",
+                ),
+                (
+                    "-A OUTPUT -i eth0 -j INPUT",
+                    "interface not allowed in this chain",
+                ),
+                ("-A INPUT -j y", "target chain missing"),
+                ("-A a -j INPUT", "target is built-in"),
+                ("-A b -j a", "loop"),
+                ("-A b -g a", "loop"),
+                ("-A a -g a", "loop"),
+                ("-A INPUT -s 10.1.2.3/8 -o + -j ACCEPT", ""),
+                ("-A INPUT", ""),
+            ],
+            "*filter\n\
         :INPUT ACCEPT [0:0]\n\
         :FORWARD ACCEPT [0:0]\n\
         :OUTPUT ACCEPT [0:0]\n\
@@ -48,31 +51,29 @@ fn appended_rules(rt: HostRuntime) -> Result<(), Fail> {
         -A INPUT -s 10.0.0.0/8 -j ACCEPT\n\
         -A INPUT\n\
         -A a -j b\n\
-        COMMIT\n";
-    session(&rt, rt.alloc(), ROWS, listing)
-}
-
-#[test]
-fn inserted_rules(rt: HostRuntime) -> Result<(), Fail> {
-    const ROWS: &[(&str, &str)] = &[
-        ("-N a", ""),
-        ("-A INPUT -s 1.1.1.1", ""),
-        ("-I x 9 -o eth0 -j y", "no such chain"),
-        ("-I INPUT 3 -o eth0", "number out of range"),
-        ("-I INPUT 0 -o eth0", "number out of range"),
-        (
-            "-I INPUT 2 -o eth0 -j y",
-            "interface not allowed in this chain",
+        COMMIT\n",
         ),
-        ("-I INPUT 2 -j y", "target chain missing"),
-        ("-I INPUT 2 -j OUTPUT", "target is built-in"),
-        ("-I a 1 -j a", "loop"),
-        ("-I a 2 -j a", "number out of range"),
-        ("-I INPUT 2 -s 2.2.2.2", ""),
-        ("-I INPUT -s 3.3.3.3", ""),
-        ("-I INPUT 2 -s 4.4.4.4", ""),
-    ];
-    let listing = "*filter\n\
+        // Inserted rules.
+        (
+            &[
+                ("-N a", ""),
+                ("-A INPUT -s 1.1.1.1", ""),
+                ("-I x 9 -o eth0 -j y", "no such chain"),
+                ("-I INPUT 3 -o eth0", "number out of range"),
+                ("-I INPUT 0 -o eth0", "number out of range"),
+                (
+                    "-I INPUT 2 -o eth0 -j y",
+                    "interface not allowed in this chain",
+                ),
+                ("-I INPUT 2 -j y", "target chain missing"),
+                ("-I INPUT 2 -j OUTPUT", "target is built-in"),
+                ("-I a 1 -j a", "loop"),
+                ("-I a 2 -j a", "number out of range"),
+                ("-I INPUT 2 -s 2.2.2.2", ""),
+                ("-I INPUT -s 3.3.3.3", ""),
+                ("-I INPUT 2 -s 4.4.4.4", ""),
+            ],
+            "*filter\n\
         :INPUT ACCEPT [0:0]\n\
         :FORWARD ACCEPT [0:0]\n\
         :OUTPUT ACCEPT [0:0]\n\
@@ -81,64 +82,191 @@ fn inserted_rules(rt: HostRuntime) -> Result<(), Fail> {
         -A INPUT -s 4.4.4.4/32\n\
         -A INPUT -s 1.1.1.1/32\n\
         -A INPUT -s 2.2.2.2/32\n\
-        COMMIT\n";
-    session(&rt, rt.alloc(), ROWS, listing)
-}
-
-#[test]
-fn replaced_rules(rt: HostRuntime) -> Result<(), Fail> {
-    const ROWS: &[(&str, &str)] = &[
-        ("-R INPUT 1 -j DROP", "number out of range"),
-        ("-N a", ""),
-        ("-A INPUT -j a", ""),
-        ("-A a", ""),
-        ("-R x 9 -j y", "no such chain"),
-        ("-R INPUT 2 -o eth0", "number out of range"),
-        ("-R INPUT 0", "number out of range"),
-        (
-            "-R INPUT 1 -o eth0 -j y",
-            "interface not allowed in this chain",
+        COMMIT\n",
         ),
-        ("-R INPUT 1 -j y", "target chain missing"),
-        ("-R INPUT 1 -j INPUT", "target is built-in"),
-        ("-R a 1 -j a", "loop"),
-        ("-R INPUT 1 -j DROP", ""),
-        ("-X", "chain not empty"),
-        ("-F a", ""),
-        ("-X", ""),
-        ("-S INPUT", "-P INPUT ACCEPT\n-A INPUT -j DROP\n"),
-        ("-F", ""),
-    ];
-    session(&rt, rt.alloc(), ROWS, EMPTY)
-}
-
-#[test]
-fn rules_taken_out(rt: HostRuntime) -> Result<(), Fail> {
-    const ROWS: &[(&str, &str)] = &[
-        ("-A INPUT -j DROP", ""),
-        ("-D x 1", "no such chain"),
-        ("-D INPUT 2", "number out of range"),
-        ("-D x -j DROP", "no such chain"),
-        ("-D INPUT -j nowhere", "no such rule"),
-        ("-D INPUT -o eth0", "no such rule"),
-        ("-D INPUT", "no such rule"),
-        ("-A INPUT -j ACCEPT", ""),
-        ("-A INPUT -j DROP", ""),
-        ("-D INPUT -j DROP", ""),
+        // Replaced rules.
         (
-            "-S INPUT",
-            "-P INPUT ACCEPT\n-A INPUT -j ACCEPT\n-A INPUT -j DROP\n",
+            &[
+                ("-R INPUT 1 -j DROP", "number out of range"),
+                ("-N a", ""),
+                ("-A INPUT -j a", ""),
+                ("-A a", ""),
+                ("-R x 9 -j y", "no such chain"),
+                ("-R INPUT 2 -o eth0", "number out of range"),
+                ("-R INPUT 0", "number out of range"),
+                (
+                    "-R INPUT 1 -o eth0 -j y",
+                    "interface not allowed in this chain",
+                ),
+                ("-R INPUT 1 -j y", "target chain missing"),
+                ("-R INPUT 1 -j INPUT", "target is built-in"),
+                ("-R a 1 -j a", "loop"),
+                ("-R INPUT 1 -j DROP", ""),
+                ("-X", "chain not empty"),
+                ("-F a", ""),
+                ("-X", ""),
+                ("-S INPUT", "-P INPUT ACCEPT\n-A INPUT -j DROP\n"),
+                ("-F", ""),
+            ],
+            EMPTY,
         ),
-        ("-D INPUT 1", ""),
-        ("-D INPUT -j DROP", ""),
-        ("-D INPUT -j DROP", "no such rule"),
-        ("-D INPUT 1", "number out of range"),
-        ("-A INPUT -s 1.1.1.1", ""),
-        ("-A INPUT", ""),
-        ("-D INPUT", ""),
-        ("-D INPUT 1", ""),
+        // Rules taken out.
+        (
+            &[
+                ("-A INPUT -j DROP", ""),
+                ("-D x 1", "no such chain"),
+                ("-D INPUT 2", "number out of range"),
+                ("-D x -j DROP", "no such chain"),
+                ("-D INPUT -j nowhere", "no such rule"),
+                ("-D INPUT -o eth0", "no such rule"),
+                ("-D INPUT", "no such rule"),
+                ("-A INPUT -j ACCEPT", ""),
+                ("-A INPUT -j DROP", ""),
+                ("-D INPUT -j DROP", ""),
+                (
+                    "-S INPUT",
+                    "-P INPUT ACCEPT\n-A INPUT -j ACCEPT\n-A INPUT -j DROP\n",
+                ),
+                ("-D INPUT 1", ""),
+                ("-D INPUT -j DROP", ""),
+                ("-D INPUT -j DROP", "no such rule"),
+                ("-D INPUT 1", "number out of range"),
+                ("-A INPUT -s 1.1.1.1", ""),
+                ("-A INPUT", ""),
+                ("-D INPUT", ""),
+                ("-D INPUT 1", ""),
+            ],
+            EMPTY,
+        ),
+        // A rule by other words.
+        (
+            &[
+                ("-A INPUT -s 10.1.2.3/8 -j ACCEPT", ""),
+                ("-A INPUT -p tcp --dport 22 -j DROP", ""),
+                ("-C INPUT --protocol 6 --destination-port 22:22 -j DROP", ""),
+                (r#"-A INPUT -m comment --comment "it's \"x\"" -j DROP"#, ""),
+                (
+                    "-A INPUT -p 6 -m state --state established,NEW -j ACCEPT",
+                    "",
+                ),
+                ("-A INPUT -p icmp --icmp-type ping -j REJECT", ""),
+            ],
+            r#"*filter
+:INPUT ACCEPT [0:0]
+:FORWARD ACCEPT [0:0]
+:OUTPUT ACCEPT [0:0]
+-A INPUT -s 10.0.0.0/8 -j ACCEPT
+-A INPUT -p tcp -m tcp --dport 22 -j DROP
+-A INPUT -m comment --comment "it\'s \"x\"" -j DROP
+-A INPUT -p tcp -m state --state NEW,ESTABLISHED -j ACCEPT
+-A INPUT -p icmp -m icmp --icmp-type 8 -j REJECT --reject-with icmp-port-unreachable
+COMMIT
+"#,
+        ),
+        // Chains made and policies.
+        (
+            &[
+                ("-N a", ""),
+                ("-N -a", "bad chain name"),
+                ("-N ACCEPT", "bad chain name"),
+                (r#"-N """#, "bad chain name"),
+                ("-N xxxxxxxxxxxxxxxxxxxxxxxxxxxxx", "bad chain name"),
+                ("-N INPUT", "chain exists"),
+                ("-N a", "chain exists"),
+                ("-N A", ""),
+                ("-P x y", "no such chain"),
+                ("-P a y", "not a built-in chain"),
+                ("-P FORWARD -", "bad policy"),
+                ("-P FORWARD accept", "bad policy"),
+                ("-P FORWARD REJECT", "bad policy"),
+                ("-P FORWARD DROP", ""),
+                ("-P OUTPUT DROP", ""),
+                ("-P OUTPUT ACCEPT", ""),
+            ],
+            "*filter\n\
+        :INPUT ACCEPT [0:0]\n\
+        :FORWARD DROP [0:0]\n\
+        :OUTPUT ACCEPT [0:0]\n\
+        :A - [0:0]\n\
+        :a - [0:0]\n\
+        COMMIT\n",
+        ),
+        // Chains taken away.
+        (
+            &[
+                ("-N a", ""),
+                ("-N b", ""),
+                ("-A INPUT -j a", ""),
+                ("-A a -j b", ""),
+                ("-X x", "no such chain"),
+                ("-X OUTPUT", "built-in chain"),
+                ("-X a", "chain not empty"),
+                ("-X b", "chain referenced"),
+                ("-X", "chain not empty"),
+                ("-F x", "no such chain"),
+                ("-F a", ""),
+                ("-X", "chain referenced"),
+                ("-X a", "chain referenced"),
+                ("-X b", ""),
+                ("-F INPUT", ""),
+                ("-X a", ""),
+                ("-X", ""),
+            ],
+            EMPTY,
+        ),
+        // Renamed chains.
+        (
+            &[
+                ("-N a", ""),
+                ("-N b", ""),
+                ("-A b -g a", ""),
+                ("-A INPUT -j a", ""),
+                ("-E x LOG", "no such chain"),
+                ("-E OUTPUT LOG", "built-in chain"),
+                ("-E a LOG", "bad chain name"),
+                ("-E a INPUT", "chain exists"),
+                ("-E a b", "chain exists"),
+                ("-E a a", "chain exists"),
+                ("-E a z", ""),
+                ("-X a", "no such chain"),
+                ("-A z -j b", "loop"),
+            ],
+            "*filter\n\
+        :INPUT ACCEPT [0:0]\n\
+        :FORWARD ACCEPT [0:0]\n\
+        :OUTPUT ACCEPT [0:0]\n\
+        :b - [0:0]\n\
+        :z - [0:0]\n\
+        -A INPUT -j z\n\
+        -A b -g z\n\
+        COMMIT\n",
+        ),
+        // A loop is refused.
+        (
+            &[
+                ("-N a", ""),
+                ("-N b", ""),
+                ("-N c", ""),
+                ("-A a -j b", ""),
+                ("-A b -j c", ""),
+                ("-A c -j a", "loop"),
+            ],
+            "*filter\n\
+        :INPUT ACCEPT [0:0]\n\
+        :FORWARD ACCEPT [0:0]\n\
+        :OUTPUT ACCEPT [0:0]\n\
+        :a - [0:0]\n\
+        :b - [0:0]\n\
+        :c - [0:0]\n\
+        -A a -j b\n\
+        -A b -j c\n\
+        COMMIT\n",
+        ),
     ];
-    session(&rt, rt.alloc(), ROWS, EMPTY)
+    for (rows, listing) in CASES {
+        session(&rt, rt.alloc(), rows, listing)?;
+    }
+    Ok(())
 }
 
 // Compares the reply to a command that changes nothing, and the listing after it.
@@ -172,139 +300,6 @@ fn rules_asked_for(rt: HostRuntime) -> Result<(), Fail> {
         keeps(&rt, &mut filter, line, reply, before.as_str())?;
     }
     Ok(())
-}
-
-#[test]
-fn a_rule_by_other_words(rt: HostRuntime) -> Result<(), Fail> {
-    const ROWS: &[(&str, &str)] = &[
-        ("-A INPUT -s 10.1.2.3/8 -j ACCEPT", ""),
-        ("-A INPUT -p tcp --dport 22 -j DROP", ""),
-        ("-C INPUT --protocol 6 --destination-port 22:22 -j DROP", ""),
-        (r#"-A INPUT -m comment --comment "it's \"x\"" -j DROP"#, ""),
-        (
-            "-A INPUT -p 6 -m state --state established,NEW -j ACCEPT",
-            "",
-        ),
-        ("-A INPUT -p icmp --icmp-type ping -j REJECT", ""),
-    ];
-    let listing = r#"*filter
-:INPUT ACCEPT [0:0]
-:FORWARD ACCEPT [0:0]
-:OUTPUT ACCEPT [0:0]
--A INPUT -s 10.0.0.0/8 -j ACCEPT
--A INPUT -p tcp -m tcp --dport 22 -j DROP
--A INPUT -m comment --comment "it\'s \"x\"" -j DROP
--A INPUT -p tcp -m state --state NEW,ESTABLISHED -j ACCEPT
--A INPUT -p icmp -m icmp --icmp-type 8 -j REJECT --reject-with icmp-port-unreachable
-COMMIT
-"#;
-    session(&rt, rt.alloc(), ROWS, listing)
-}
-
-#[test]
-fn chains_made_and_policies(rt: HostRuntime) -> Result<(), Fail> {
-    const ROWS: &[(&str, &str)] = &[
-        ("-N a", ""),
-        ("-N -a", "bad chain name"),
-        ("-N ACCEPT", "bad chain name"),
-        (r#"-N """#, "bad chain name"),
-        ("-N xxxxxxxxxxxxxxxxxxxxxxxxxxxxx", "bad chain name"),
-        ("-N INPUT", "chain exists"),
-        ("-N a", "chain exists"),
-        ("-N A", ""),
-        ("-P x y", "no such chain"),
-        ("-P a y", "not a built-in chain"),
-        ("-P FORWARD -", "bad policy"),
-        ("-P FORWARD accept", "bad policy"),
-        ("-P FORWARD REJECT", "bad policy"),
-        ("-P FORWARD DROP", ""),
-        ("-P OUTPUT DROP", ""),
-        ("-P OUTPUT ACCEPT", ""),
-    ];
-    let listing = "*filter\n\
-        :INPUT ACCEPT [0:0]\n\
-        :FORWARD DROP [0:0]\n\
-        :OUTPUT ACCEPT [0:0]\n\
-        :A - [0:0]\n\
-        :a - [0:0]\n\
-        COMMIT\n";
-    session(&rt, rt.alloc(), ROWS, listing)
-}
-
-#[test]
-fn chains_taken_away(rt: HostRuntime) -> Result<(), Fail> {
-    const ROWS: &[(&str, &str)] = &[
-        ("-N a", ""),
-        ("-N b", ""),
-        ("-A INPUT -j a", ""),
-        ("-A a -j b", ""),
-        ("-X x", "no such chain"),
-        ("-X OUTPUT", "built-in chain"),
-        ("-X a", "chain not empty"),
-        ("-X b", "chain referenced"),
-        ("-X", "chain not empty"),
-        ("-F x", "no such chain"),
-        ("-F a", ""),
-        ("-X", "chain referenced"),
-        ("-X a", "chain referenced"),
-        ("-X b", ""),
-        ("-F INPUT", ""),
-        ("-X a", ""),
-        ("-X", ""),
-    ];
-    session(&rt, rt.alloc(), ROWS, EMPTY)
-}
-
-#[test]
-fn renamed_chains(rt: HostRuntime) -> Result<(), Fail> {
-    const ROWS: &[(&str, &str)] = &[
-        ("-N a", ""),
-        ("-N b", ""),
-        ("-A b -g a", ""),
-        ("-A INPUT -j a", ""),
-        ("-E x LOG", "no such chain"),
-        ("-E OUTPUT LOG", "built-in chain"),
-        ("-E a LOG", "bad chain name"),
-        ("-E a INPUT", "chain exists"),
-        ("-E a b", "chain exists"),
-        ("-E a a", "chain exists"),
-        ("-E a z", ""),
-        ("-X a", "no such chain"),
-        ("-A z -j b", "loop"),
-    ];
-    let listing = "*filter\n\
-        :INPUT ACCEPT [0:0]\n\
-        :FORWARD ACCEPT [0:0]\n\
-        :OUTPUT ACCEPT [0:0]\n\
-        :b - [0:0]\n\
-        :z - [0:0]\n\
-        -A INPUT -j z\n\
-        -A b -g z\n\
-        COMMIT\n";
-    session(&rt, rt.alloc(), ROWS, listing)
-}
-
-#[test]
-fn a_loop_is_refused(rt: HostRuntime) -> Result<(), Fail> {
-    const ROWS: &[(&str, &str)] = &[
-        ("-N a", ""),
-        ("-N b", ""),
-        ("-N c", ""),
-        ("-A a -j b", ""),
-        ("-A b -j c", ""),
-        ("-A c -j a", "loop"),
-    ];
-    let listing = "*filter\n\
-        :INPUT ACCEPT [0:0]\n\
-        :FORWARD ACCEPT [0:0]\n\
-        :OUTPUT ACCEPT [0:0]\n\
-        :a - [0:0]\n\
-        :b - [0:0]\n\
-        :c - [0:0]\n\
-        -A a -j b\n\
-        -A b -j c\n\
-        COMMIT\n";
-    session(&rt, rt.alloc(), ROWS, listing)
 }
 
 // Compares what is listed of a chain that isn't there.

@@ -116,8 +116,9 @@ fn lines_not_allowed(rt: HostRuntime) -> Result<(), Fail> {
 }
 
 #[test]
-fn ends_inside_a_section(rt: HostRuntime) -> Result<(), Fail> {
+fn refused_texts(rt: HostRuntime) -> Result<(), Fail> {
     const ROWS: &[(&str, &str)] = &[
+        // Ends inside a section.
         ("*filter", "end: end before COMMIT"),
         ("*filter\n-F\n-X\n# COMMIT", "end: end before COMMIT"),
         ("*nat", "end: end before COMMIT"),
@@ -125,65 +126,7 @@ fn ends_inside_a_section(rt: HostRuntime) -> Result<(), Fail> {
         ("*nat\n\"COMMIT\"\n*filter", "end: end before COMMIT"),
         ("*", "end: end before COMMIT"),
         ("*nat\nCOMMIT\n*filter\n", "end: end before COMMIT"),
-    ];
-    refused(&rt, rt.alloc(), ROWS)
-}
-
-#[test]
-fn bad_chain_lines(rt: HostRuntime) -> Result<(), Fail> {
-    const LINES: &[&str] = &[
-        ":INPUT",
-        ":",
-        ":INPUT REJECT [0:0]",
-        ":INPUT ACCEPT [0:0] x",
-        ":INPUT ACCEPT 0:0",
-        ":INPUT ACCEPT [:0]",
-        ":INPUT ACCEPT [0:]",
-        ":INPUT ACCEPT [0]",
-        ":INPUT ACCEPT []",
-        ":INPUT ACCEPT [",
-        ":INPUT ACCEPT [0:0:0]",
-        ":INPUT ACCEPT [-1:0]",
-        ":INPUT ACCEPT [ 0:0]",
-        ":INPUT ACCEPT \"[0:0 ]\"",
-        ":INPUT ACCEPT [0:0]x",
-        ":INPUT DROP [0:x]",
-        ":INPUT accept",
-        ":INPUT \"\"",
-        ": INPUT ACCEPT",
-        ":a",
-        ":a DROP",
-        ":a ACCEPT [0:0]",
-        ":a [0:0]",
-        ":a - - [0:0]",
-        ":input ACCEPT",
-        ":ACCEPT ACCEPT",
-        ":ACCEPT DROP [0:0]",
-        ":b",
-        ":b ACCEPT",
-        ":b - [x:0]",
-    ];
-    refused_lines(&rt, rt.alloc(), LINES, "bad chain line")
-}
-
-#[test]
-fn bad_names_of_chain_lines(rt: HostRuntime) -> Result<(), Fail> {
-    const LINES: &[&str] = &[
-        ": -",
-        ": - [0:0]",
-        ":-x - [0:0]",
-        ":!x -",
-        "\":a b\" -",
-        ":QUEUE -",
-        ":ACCEPT - [0:0]",
-        ":xxxxxxxxxxxxxxxxxxxxxxxxxxxxx -",
-    ];
-    refused_lines(&rt, rt.alloc(), LINES, "bad chain name")
-}
-
-#[test]
-fn second_chain_lines(rt: HostRuntime) -> Result<(), Fail> {
-    const ROWS: &[(&str, &str)] = &[
+        // Second chain lines.
         (
             "*filter\n:a -\n:a -\nCOMMIT",
             "line 3: duplicate chain line",
@@ -211,38 +154,97 @@ fn second_chain_lines(rt: HostRuntime) -> Result<(), Fail> {
 }
 
 #[test]
-fn no_commands_in_a_section(rt: HostRuntime) -> Result<(), Fail> {
-    const LINES: &[&str] = &[
-        "[0:0]",
-        "[0:0] [0:0] -F",
-        "[0:x] -F",
-        "[ 0:0] -F",
-        "[0:0",
-        "0:0 -F",
-        "[0:0] COMMIT",
-        "[0:0] :a -",
-        "[0:0] *nat",
-        "COMMIT x",
-        "commit",
-        "\"COMMIT\"",
-        "\"# x\"",
-        "x",
-        "\"\"",
-        "-Z",
-        "iptables -F",
-        "-S",
-        "-S INPUT",
-        "-S a b",
-        "-S nowhere",
-        "--list-rules",
-        "--list-rules INPUT",
-        "-t filter -S",
-        "--table filter -S a b",
-        "[0:0] -S",
-        "[1:2] -t filter --list-rules a",
-        "-t filter",
+fn refused_lines_of_a_section(rt: HostRuntime) -> Result<(), Fail> {
+    const CASES: &[(&[&str], &str)] = &[
+        // Bad chain lines.
+        (
+            &[
+                ":INPUT",
+                ":",
+                ":INPUT REJECT [0:0]",
+                ":INPUT ACCEPT [0:0] x",
+                ":INPUT ACCEPT 0:0",
+                ":INPUT ACCEPT [:0]",
+                ":INPUT ACCEPT [0:]",
+                ":INPUT ACCEPT [0]",
+                ":INPUT ACCEPT []",
+                ":INPUT ACCEPT [",
+                ":INPUT ACCEPT [0:0:0]",
+                ":INPUT ACCEPT [-1:0]",
+                ":INPUT ACCEPT [ 0:0]",
+                ":INPUT ACCEPT \"[0:0 ]\"",
+                ":INPUT ACCEPT [0:0]x",
+                ":INPUT DROP [0:x]",
+                ":INPUT accept",
+                ":INPUT \"\"",
+                ": INPUT ACCEPT",
+                ":a",
+                ":a DROP",
+                ":a ACCEPT [0:0]",
+                ":a [0:0]",
+                ":a - - [0:0]",
+                ":input ACCEPT",
+                ":ACCEPT ACCEPT",
+                ":ACCEPT DROP [0:0]",
+                ":b",
+                ":b ACCEPT",
+                ":b - [x:0]",
+            ],
+            "bad chain line",
+        ),
+        // Bad names of chain lines.
+        (
+            &[
+                ": -",
+                ": - [0:0]",
+                ":-x - [0:0]",
+                ":!x -",
+                "\":a b\" -",
+                ":QUEUE -",
+                ":ACCEPT - [0:0]",
+                ":xxxxxxxxxxxxxxxxxxxxxxxxxxxxx -",
+            ],
+            "bad chain name",
+        ),
+        // No commands in a section.
+        (
+            &[
+                "[0:0]",
+                "[0:0] [0:0] -F",
+                "[0:x] -F",
+                "[ 0:0] -F",
+                "[0:0",
+                "0:0 -F",
+                "[0:0] COMMIT",
+                "[0:0] :a -",
+                "[0:0] *nat",
+                "COMMIT x",
+                "commit",
+                "\"COMMIT\"",
+                "\"# x\"",
+                "x",
+                "\"\"",
+                "-Z",
+                "iptables -F",
+                "-S",
+                "-S INPUT",
+                "-S a b",
+                "-S nowhere",
+                "--list-rules",
+                "--list-rules INPUT",
+                "-t filter -S",
+                "--table filter -S a b",
+                "[0:0] -S",
+                "[1:2] -t filter --list-rules a",
+                "-t filter",
+            ],
+            "no command",
+        ),
     ];
-    refused_lines(&rt, rt.alloc(), LINES, "no command")
+    for (lines, fault) in CASES {
+        refused_lines(&rt, rt.alloc(), lines, fault)?;
+    }
+    Ok(())
 }
 
 #[test]

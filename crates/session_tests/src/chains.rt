@@ -3,9 +3,11 @@ use crate::console::{Row, each_prints};
 use std::test::Fail;
 
 #[test]
-fn emptied_chains(rt: HostRuntime) -> Result<(), Fail> {
-    const ROWS: &[Row] = &[(
-        "iptables -N a\n\
+fn chains_are_edited(rt: HostRuntime) -> Result<(), Fail> {
+    const ROWS: &[Row] = &[
+        // Emptied chains.
+        (
+            "iptables -N a\n\
                 iptables -A a -j DROP\n\
                 iptables -A INPUT -j a\n\
                 iptables -A OUTPUT\n\
@@ -15,7 +17,7 @@ fn emptied_chains(rt: HostRuntime) -> Result<(), Fail> {
                 iptables-save\n\
                 iptables -F\n\
                 iptables-save\n",
-        "line 6: T1 no such chain\n\
+            "line 6: T1 no such chain\n\
                 *filter\n\
                 :INPUT ACCEPT [0:0]\n\
                 :FORWARD ACCEPT [0:0]\n\
@@ -30,21 +32,17 @@ fn emptied_chains(rt: HostRuntime) -> Result<(), Fail> {
                 :OUTPUT DROP [0:0]\n\
                 :a - [0:0]\n\
                 COMMIT\n",
-        1,
-    )];
-    each_prints(&rt, rt.alloc(), ROWS)
-}
-
-#[test]
-fn new_chains(rt: HostRuntime) -> Result<(), Fail> {
-    const ROWS: &[Row] = &[(
-        "iptables -N a\n\
+            1,
+        ),
+        // New chains.
+        (
+            "iptables -N a\n\
                 iptables -N -a\n\
                 iptables -N INPUT\n\
                 iptables -N a\n\
                 iptables -N A\n\
                 iptables-save\n",
-        "line 2: T3 bad chain name\n\
+            "line 2: T3 bad chain name\n\
                 line 3: T2 chain exists\n\
                 line 4: T2 chain exists\n\
                 *filter\n\
@@ -54,14 +52,9 @@ fn new_chains(rt: HostRuntime) -> Result<(), Fail> {
                 :A - [0:0]\n\
                 :a - [0:0]\n\
                 COMMIT\n",
-        1,
-    )];
-    each_prints(&rt, rt.alloc(), ROWS)
-}
-
-#[test]
-fn chains_taken_away(rt: HostRuntime) -> Result<(), Fail> {
-    const ROWS: &[Row] = &[
+            1,
+        ),
+        // Chains taken away.
         (
             "iptables -N a\n\
                 iptables -N b\n\
@@ -108,14 +101,9 @@ fn chains_taken_away(rt: HostRuntime) -> Result<(), Fail> {
                 COMMIT\n",
             1,
         ),
-    ];
-    each_prints(&rt, rt.alloc(), ROWS)
-}
-
-#[test]
-fn policies(rt: HostRuntime) -> Result<(), Fail> {
-    const ROWS: &[Row] = &[(
-        "iptables -N a\n\
+        // Policies.
+        (
+            "iptables -N a\n\
                 iptables -P x y\n\
                 iptables -P a y\n\
                 iptables -P FORWARD -\n\
@@ -124,7 +112,7 @@ fn policies(rt: HostRuntime) -> Result<(), Fail> {
                 iptables-save\n\
                 iptables -P FORWARD ACCEPT\n\
                 iptables-save\n",
-        "line 2: T1 no such chain\n\
+            "line 2: T1 no such chain\n\
                 line 3: T9 not a built-in chain\n\
                 line 4: T16 bad policy\n\
                 line 5: T16 bad policy\n\
@@ -140,14 +128,9 @@ fn policies(rt: HostRuntime) -> Result<(), Fail> {
                 :OUTPUT ACCEPT [0:0]\n\
                 :a - [0:0]\n\
                 COMMIT\n",
-        1,
-    )];
-    each_prints(&rt, rt.alloc(), ROWS)
-}
-
-#[test]
-fn renamed_chains(rt: HostRuntime) -> Result<(), Fail> {
-    const ROWS: &[Row] = &[
+            1,
+        ),
+        // Renamed chains.
         (
             "iptables -N a\n\
                 iptables -N b\n\
@@ -228,14 +211,9 @@ fn renamed_chains(rt: HostRuntime) -> Result<(), Fail> {
                 COMMIT\n",
             0,
         ),
-    ];
-    each_prints(&rt, rt.alloc(), ROWS)
-}
-
-#[test]
-fn a_loop_through_three_chains(rt: HostRuntime) -> Result<(), Fail> {
-    const ROWS: &[Row] = &[(
-        "iptables -N a\n\
+        // A loop through three chains.
+        (
+            "iptables -N a\n\
                 iptables -N b\n\
                 iptables -N c\n\
                 iptables -A a -j b\n\
@@ -243,7 +221,7 @@ fn a_loop_through_three_chains(rt: HostRuntime) -> Result<(), Fail> {
                 iptables-save\n\
                 iptables -A c -j a\n\
                 iptables-save\n",
-        "*filter\n\
+            "*filter\n\
                 :INPUT ACCEPT [0:0]\n\
                 :FORWARD ACCEPT [0:0]\n\
                 :OUTPUT ACCEPT [0:0]\n\
@@ -264,7 +242,8 @@ fn a_loop_through_three_chains(rt: HostRuntime) -> Result<(), Fail> {
                 -A a -j b\n\
                 -A b -j c\n\
                 COMMIT\n",
-        1,
-    )];
+            1,
+        ),
+    ];
     each_prints(&rt, rt.alloc(), ROWS)
 }

@@ -3,9 +3,11 @@ use crate::console::{Row, each_prints};
 use std::test::Fail;
 
 #[test]
-fn appended_rules(rt: HostRuntime) -> Result<(), Fail> {
-    const ROWS: &[Row] = &[(
-        "iptables -N a\n\
+fn rules_are_edited(rt: HostRuntime) -> Result<(), Fail> {
+    const ROWS: &[Row] = &[
+        // Appended rules.
+        (
+            "iptables -N a\n\
                 iptables -N b\n\
                 iptables -A a -j b\n\
                 iptables -A x -o eth0 -j y\n\
@@ -17,7 +19,7 @@ fn appended_rules(rt: HostRuntime) -> Result<(), Fail> {
                 iptables -A b -g a\n\
                 iptables -A a -g a\n\
                 iptables-save\n",
-        "line 4: T1 no such chain\n\
+            "line 4: T1 no such chain\n\
                 line 5: T13 interface not allowed in this chain\n\
                 line 6: T13 interface not allowed in this chain\n\
                 line 7: T11 target chain missing\n\
@@ -33,32 +35,23 @@ fn appended_rules(rt: HostRuntime) -> Result<(), Fail> {
                 :b - [0:0]\n\
                 -A a -j b\n\
                 COMMIT\n",
-        1,
-    )];
-    each_prints(&rt, rt.alloc(), ROWS)
-}
-
-#[test]
-fn an_interface_is_asked_before_the_target(rt: HostRuntime) -> Result<(), Fail> {
-    const ROWS: &[Row] = &[(
-        "iptables -A x -o eth0 -j y\n\
+            1,
+        ),
+        // An interface is asked before the target.
+        (
+            "iptables -A x -o eth0 -j y\n\
                 iptables -A INPUT -o eth0 -j y\n\
                 iptables -A OUTPUT ! -i eth0 -j INPUT\n\
                 iptables -A FORWARD -i eth0 -o eth0 -j y\n\
                 iptables -A FORWARD -g FORWARD\n",
-        "line 1: T1 no such chain\n\
+            "line 1: T1 no such chain\n\
                 line 2: T13 interface not allowed in this chain\n\
                 line 3: T13 interface not allowed in this chain\n\
                 line 4: T11 target chain missing\n\
                 line 5: T12 target is built-in\n",
-        1,
-    )];
-    each_prints(&rt, rt.alloc(), ROWS)
-}
-
-#[test]
-fn inserted_rules(rt: HostRuntime) -> Result<(), Fail> {
-    const ROWS: &[Row] = &[
+            1,
+        ),
+        // Inserted rules.
         (
             "iptables -N a\n\
                 iptables -A INPUT -s 1.1.1.1\n\
@@ -99,14 +92,9 @@ fn inserted_rules(rt: HostRuntime) -> Result<(), Fail> {
             "line 1: T4 number out of range\n",
             1,
         ),
-    ];
-    each_prints(&rt, rt.alloc(), ROWS)
-}
-
-#[test]
-fn replaced_rules(rt: HostRuntime) -> Result<(), Fail> {
-    const ROWS: &[Row] = &[(
-        "iptables -N a\n\
+        // Replaced rules.
+        (
+            "iptables -N a\n\
                 iptables -A INPUT -j a\n\
                 iptables -A a\n\
                 iptables -R x 9 -j y\n\
@@ -121,7 +109,7 @@ fn replaced_rules(rt: HostRuntime) -> Result<(), Fail> {
                 iptables -F a\n\
                 iptables -X\n\
                 iptables-save\n",
-        "line 4: T1 no such chain\n\
+            "line 4: T1 no such chain\n\
                 line 5: T4 number out of range\n\
                 line 6: T4 number out of range\n\
                 line 7: T13 interface not allowed in this chain\n\
@@ -135,14 +123,9 @@ fn replaced_rules(rt: HostRuntime) -> Result<(), Fail> {
                 :OUTPUT ACCEPT [0:0]\n\
                 -A INPUT -j DROP\n\
                 COMMIT\n",
-        1,
-    )];
-    each_prints(&rt, rt.alloc(), ROWS)
-}
-
-#[test]
-fn deleted_rules(rt: HostRuntime) -> Result<(), Fail> {
-    const ROWS: &[Row] = &[
+            1,
+        ),
+        // Deleted rules.
         (
             "iptables -A INPUT -j DROP\n\
                 iptables -D x 1\n\
@@ -195,13 +178,7 @@ fn deleted_rules(rt: HostRuntime) -> Result<(), Fail> {
                 -A INPUT -j DROP\n",
             0,
         ),
-    ];
-    each_prints(&rt, rt.alloc(), ROWS)
-}
-
-#[test]
-fn asked_rules(rt: HostRuntime) -> Result<(), Fail> {
-    const ROWS: &[Row] = &[
+        // Asked rules.
         (
             "iptables -N a\n\
                 iptables -A INPUT -g a\n\

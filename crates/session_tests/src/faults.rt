@@ -20,8 +20,9 @@ fn each_is_refused(rt: &impl Abort, alloc: Global, rows: &[(&str, &str)]) -> Res
 }
 
 #[test]
-fn commands(rt: HostRuntime) -> Result<(), Fail> {
+fn each_fault_is_reported(rt: HostRuntime) -> Result<(), Fail> {
     const ROWS: &[(&str, &str)] = &[
+        // Commands.
         ("iptables", "C1 no command"),
         ("iptables -A INPUT -j DROP -F", "C2 two commands"),
         ("iptables -N a b", "C3 wrong number of words"),
@@ -29,13 +30,7 @@ fn commands(rt: HostRuntime) -> Result<(), Fail> {
         ("lines", "C3 wrong number of words"),
         ("iptables-save -c", "C3 wrong number of words"),
         ("iptables --table nat -F", "C4 other table"),
-    ];
-    each_is_refused(&rt, rt.alloc(), ROWS)
-}
-
-#[test]
-fn rules(rt: HostRuntime) -> Result<(), Fail> {
-    const ROWS: &[(&str, &str)] = &[
+        // Rules.
         ("iptables -A INPUT --mark 1", "P1 unknown option"),
         ("iptables -I INPUT \"\"", "P1 unknown option"),
         ("iptables -t", "P2 value missing"),
@@ -70,6 +65,69 @@ fn rules(rt: HostRuntime) -> Result<(), Fail> {
             "iptables -A INPUT -p tcp -m multiport -j DROP",
             "P12 match option missing",
         ),
+        // Tables.
+        ("iptables -F x", "T1 no such chain"),
+        ("iptables -N a\nlines a b", "C3 wrong number of words"),
+        ("lines a", "T1 no such chain"),
+        ("iptables -N a\niptables -N a", "T2 chain exists"),
+        ("iptables -N a\niptables -E a a", "T2 chain exists"),
+        ("iptables -N a\niptables -N ACCEPT", "T3 bad chain name"),
+        ("iptables -R INPUT 1 -j DROP", "T4 number out of range"),
+        ("iptables -D INPUT 0", "T4 number out of range"),
+        ("iptables -I INPUT 2 -j DROP", "T4 number out of range"),
+        ("iptables -C INPUT -j DROP", "T5 no such rule"),
+        (
+            "iptables -N a\niptables -A a\niptables -X a",
+            "T6 chain not empty",
+        ),
+        (
+            "iptables -N a\niptables -A INPUT -j a\niptables -X a",
+            "T7 chain referenced",
+        ),
+        ("iptables -X INPUT", "T8 built-in chain"),
+        ("iptables -E INPUT b", "T8 built-in chain"),
+        (
+            "iptables -N a\niptables -P a DROP",
+            "T9 not a built-in chain",
+        ),
+        ("iptables -N a\niptables -A a -j a", "T10 loop"),
+        ("iptables -A INPUT -j nowhere", "T11 target chain missing"),
+        ("iptables -A INPUT -g OUTPUT", "T12 target is built-in"),
+        (
+            "iptables -A INPUT -o eth0 -j DROP",
+            "T13 interface not allowed in this chain",
+        ),
+        ("iptables -P INPUT REJECT", "T16 bad policy"),
+        // Restores.
+        ("iptables-restore <<E\nCOMMIT", "R1 line not allowed here"),
+        ("iptables-restore <<E\n*filter\n:", "R2 bad chain line"),
+        (
+            "iptables-restore <<E\n*filter\n:INPUT -\n:INPUT -",
+            "R3 duplicate chain line",
+        ),
+        ("iptables-restore <<E\n*filter\nE", "R4 end before COMMIT"),
+        ("a\"b\"", "R5 bad quoting"),
+        (
+            "iptables -A INPUT -m comment --comment \"x",
+            "R5 bad quoting",
+        ),
+        ("iptables-restore", "S2 bad restore line"),
+        ("iptables-restore -n -n <<E", "S2 bad restore line"),
+        ("iptables-restore <<", "S2 bad restore line"),
+        ("iptables-restore <<E", "S3 end word missing"),
+        // Packets.
+        ("packet", "F1 unknown key"),
+        ("packet INPUT mark=1", "F1 unknown key"),
+        (
+            "packet INPUT src=1.1.1.1 dst=2.2.2.2 proto=udp sport=1",
+            "F2 key missing",
+        ),
+        ("packet INPUT src=1.2.3", "F3 bad packet value"),
+        (
+            "packet INPUT src=1.1.1.1 dst=2.2.2.2 proto=udp sport=1 dport=2 out=eth0",
+            "F4 field not carried",
+        ),
+        ("foo", "S1 unknown line"),
     ];
     each_is_refused(&rt, rt.alloc(), ROWS)
 }
@@ -114,87 +172,6 @@ fn text_is_longest(rt: &impl Abort, alloc: Global, option: &str, length: u32) ->
 fn texts_that_are_too_long(rt: HostRuntime) -> Result<(), Fail> {
     text_is_longest(&rt, rt.alloc(), "-m comment --comment", 256)?;
     text_is_longest(&rt, rt.alloc(), "-j LOG --log-prefix", 29)
-}
-
-#[test]
-fn tables(rt: HostRuntime) -> Result<(), Fail> {
-    const ROWS: &[(&str, &str)] = &[
-        ("iptables -F x", "T1 no such chain"),
-        ("iptables -N a\nlines a b", "C3 wrong number of words"),
-        ("lines a", "T1 no such chain"),
-        ("iptables -N a\niptables -N a", "T2 chain exists"),
-        ("iptables -N a\niptables -E a a", "T2 chain exists"),
-        ("iptables -N a\niptables -N ACCEPT", "T3 bad chain name"),
-        ("iptables -R INPUT 1 -j DROP", "T4 number out of range"),
-        ("iptables -D INPUT 0", "T4 number out of range"),
-        ("iptables -I INPUT 2 -j DROP", "T4 number out of range"),
-        ("iptables -C INPUT -j DROP", "T5 no such rule"),
-        (
-            "iptables -N a\niptables -A a\niptables -X a",
-            "T6 chain not empty",
-        ),
-        (
-            "iptables -N a\niptables -A INPUT -j a\niptables -X a",
-            "T7 chain referenced",
-        ),
-        ("iptables -X INPUT", "T8 built-in chain"),
-        ("iptables -E INPUT b", "T8 built-in chain"),
-        (
-            "iptables -N a\niptables -P a DROP",
-            "T9 not a built-in chain",
-        ),
-        ("iptables -N a\niptables -A a -j a", "T10 loop"),
-        ("iptables -A INPUT -j nowhere", "T11 target chain missing"),
-        ("iptables -A INPUT -g OUTPUT", "T12 target is built-in"),
-        (
-            "iptables -A INPUT -o eth0 -j DROP",
-            "T13 interface not allowed in this chain",
-        ),
-        ("iptables -P INPUT REJECT", "T16 bad policy"),
-    ];
-    each_is_refused(&rt, rt.alloc(), ROWS)
-}
-
-#[test]
-fn restores(rt: HostRuntime) -> Result<(), Fail> {
-    const ROWS: &[(&str, &str)] = &[
-        ("iptables-restore <<E\nCOMMIT", "R1 line not allowed here"),
-        ("iptables-restore <<E\n*filter\n:", "R2 bad chain line"),
-        (
-            "iptables-restore <<E\n*filter\n:INPUT -\n:INPUT -",
-            "R3 duplicate chain line",
-        ),
-        ("iptables-restore <<E\n*filter\nE", "R4 end before COMMIT"),
-        ("a\"b\"", "R5 bad quoting"),
-        (
-            "iptables -A INPUT -m comment --comment \"x",
-            "R5 bad quoting",
-        ),
-        ("iptables-restore", "S2 bad restore line"),
-        ("iptables-restore -n -n <<E", "S2 bad restore line"),
-        ("iptables-restore <<", "S2 bad restore line"),
-        ("iptables-restore <<E", "S3 end word missing"),
-    ];
-    each_is_refused(&rt, rt.alloc(), ROWS)
-}
-
-#[test]
-fn packets(rt: HostRuntime) -> Result<(), Fail> {
-    const ROWS: &[(&str, &str)] = &[
-        ("packet", "F1 unknown key"),
-        ("packet INPUT mark=1", "F1 unknown key"),
-        (
-            "packet INPUT src=1.1.1.1 dst=2.2.2.2 proto=udp sport=1",
-            "F2 key missing",
-        ),
-        ("packet INPUT src=1.2.3", "F3 bad packet value"),
-        (
-            "packet INPUT src=1.1.1.1 dst=2.2.2.2 proto=udp sport=1 dport=2 out=eth0",
-            "F4 field not carried",
-        ),
-        ("foo", "S1 unknown line"),
-    ];
-    each_is_refused(&rt, rt.alloc(), ROWS)
 }
 
 // A line and its fault.

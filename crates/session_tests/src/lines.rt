@@ -236,8 +236,9 @@ fn addresses(rt: HostRuntime) -> Result<(), Fail> {
 }
 
 #[test]
-fn interfaces(rt: HostRuntime) -> Result<(), Fail> {
+fn rules_show_their_numbers(rt: HostRuntime) -> Result<(), Fail> {
     const ROWS: &[RuleRow] = &[
+        // Interfaces.
         (
             "-i eth+ -j DROP",
             &[(
@@ -254,42 +255,28 @@ fn interfaces(rt: HostRuntime) -> Result<(), Fail> {
                 6c6f0000000000000000000000000001:{}",
             )],
         ),
-    ];
-    each_rule_shows(&rt, rt.alloc(), ROWS)
-}
-
-#[test]
-fn flags(rt: HostRuntime) -> Result<(), Fail> {
-    const ROWS: &[RuleRow] = &[(
-        "-p tcp --syn -j DROP",
-        &[
-            TCP,
-            WHOLE,
-            (
-                "flags",
-                "0:{} 2:{1} 3:{} 10:{1} 11:{} 34:{1} 35:{} 42:{1} 43:{}",
-            ),
-        ],
-    )];
-    each_rule_shows(&rt, rt.alloc(), ROWS)
-}
-
-#[test]
-fn types_of_icmp(rt: HostRuntime) -> Result<(), Fail> {
-    const ROWS: &[RuleRow] = &[(
-        "-p icmp --icmp-type ping -j REJECT",
-        &[
-            ("proto", "0:{} 1:{1} 2:{}"),
-            WHOLE,
-            ("icmp", "0:{} 2048:{1} 2304:{}"),
-        ],
-    )];
-    each_rule_shows(&rt, rt.alloc(), ROWS)
-}
-
-#[test]
-fn lists_of_ports(rt: HostRuntime) -> Result<(), Fail> {
-    const ROWS: &[RuleRow] = &[
+        // Flags.
+        (
+            "-p tcp --syn -j DROP",
+            &[
+                TCP,
+                WHOLE,
+                (
+                    "flags",
+                    "0:{} 2:{1} 3:{} 10:{1} 11:{} 34:{1} 35:{} 42:{1} 43:{}",
+                ),
+            ],
+        ),
+        // Types of icmp.
+        (
+            "-p icmp --icmp-type ping -j REJECT",
+            &[
+                ("proto", "0:{} 1:{1} 2:{}"),
+                WHOLE,
+                ("icmp", "0:{} 2048:{1} 2304:{}"),
+            ],
+        ),
+        // Lists of ports.
         (
             "-p tcp -m multiport --dports 80,22,100:110 -j ACCEPT",
             &[

@@ -3,8 +3,9 @@ use crate::console::{Row, each_prints};
 use std::test::Fail;
 
 #[test]
-fn an_empty_table(rt: HostRuntime) -> Result<(), Fail> {
+fn tables_are_listed(rt: HostRuntime) -> Result<(), Fail> {
     const ROWS: &[Row] = &[
+        // An empty table.
         (
             "iptables-save\n",
             "*filter\n\
@@ -23,14 +24,9 @@ fn an_empty_table(rt: HostRuntime) -> Result<(), Fail> {
                 COMMIT\n",
             0,
         ),
-    ];
-    each_prints(&rt, rt.alloc(), ROWS)
-}
-
-#[test]
-fn the_order_of_a_listing(rt: HostRuntime) -> Result<(), Fail> {
-    const ROWS: &[Row] = &[(
-        "iptables -N b\n\
+        // The order of a listing.
+        (
+            "iptables -N b\n\
                 iptables -N ab\n\
                 iptables -N a\n\
                 iptables -N B\n\
@@ -44,7 +40,7 @@ fn the_order_of_a_listing(rt: HostRuntime) -> Result<(), Fail> {
                 iptables -A a -j b\n\
                 iptables -A OUTPUT\n\
                 iptables-save\n",
-        "*filter\n\
+            "*filter\n\
                 :INPUT ACCEPT [0:0]\n\
                 :FORWARD ACCEPT [0:0]\n\
                 :OUTPUT ACCEPT [0:0]\n\
@@ -62,15 +58,11 @@ fn the_order_of_a_listing(rt: HostRuntime) -> Result<(), Fail> {
                 -A a -j b\n\
                 -A ab -j b\n\
                 COMMIT\n",
-        0,
-    )];
-    each_prints(&rt, rt.alloc(), ROWS)
-}
-
-#[test]
-fn rules_of_one_chain_and_of_all(rt: HostRuntime) -> Result<(), Fail> {
-    const ROWS: &[Row] = &[(
-        "iptables -N b\n\
+            0,
+        ),
+        // Rules of one chain and of all.
+        (
+            "iptables -N b\n\
                 iptables -N a\n\
                 iptables -A b -j a\n\
                 iptables -A INPUT -g b\n\
@@ -80,7 +72,7 @@ fn rules_of_one_chain_and_of_all(rt: HostRuntime) -> Result<(), Fail> {
                 iptables -S a\n\
                 iptables -S OUTPUT\n\
                 iptables -S x\n",
-        "-P INPUT ACCEPT\n\
+            "-P INPUT ACCEPT\n\
                 -P FORWARD ACCEPT\n\
                 -P OUTPUT DROP\n\
                 -N a\n\
@@ -92,30 +84,21 @@ fn rules_of_one_chain_and_of_all(rt: HostRuntime) -> Result<(), Fail> {
                 -N a\n\
                 -P OUTPUT DROP\n\
                 line 10: T1 no such chain\n",
-        1,
-    )];
-    each_prints(&rt, rt.alloc(), ROWS)
-}
-
-#[test]
-fn addresses_have_a_length(rt: HostRuntime) -> Result<(), Fail> {
-    const ROWS: &[Row] = &[(
-        "iptables -A INPUT -s 10.1.2.3/8 -j ACCEPT\n\
+            1,
+        ),
+        // Addresses have a length.
+        (
+            "iptables -A INPUT -s 10.1.2.3/8 -j ACCEPT\n\
                 iptables-save\n",
-        "*filter\n\
+            "*filter\n\
                 :INPUT ACCEPT [0:0]\n\
                 :FORWARD ACCEPT [0:0]\n\
                 :OUTPUT ACCEPT [0:0]\n\
                 -A INPUT -s 10.0.0.0/8 -j ACCEPT\n\
                 COMMIT\n",
-        0,
-    )];
-    each_prints(&rt, rt.alloc(), ROWS)
-}
-
-#[test]
-fn matches_have_their_options(rt: HostRuntime) -> Result<(), Fail> {
-    const ROWS: &[Row] = &[
+            0,
+        ),
+        // Matches have their options.
         (
             "iptables -A INPUT -s 10.1.2.3/8 -j ACCEPT\n\
                 iptables -A INPUT -p tcp --dport 22 -j DROP\n\
@@ -184,29 +167,19 @@ fn matches_have_their_options(rt: HostRuntime) -> Result<(), Fail> {
                 COMMIT\n",
             0,
         ),
-    ];
-    each_prints(&rt, rt.alloc(), ROWS)
-}
-
-#[test]
-fn what_is_no_condition_is_left_out(rt: HostRuntime) -> Result<(), Fail> {
-    const ROWS: &[Row] = &[(
-        "iptables -A INPUT -p tcp --dport :\n\
+        // What is no condition is left out.
+        (
+            "iptables -A INPUT -p tcp --dport :\n\
                 iptables-save\n",
-        "*filter\n\
+            "*filter\n\
                 :INPUT ACCEPT [0:0]\n\
                 :FORWARD ACCEPT [0:0]\n\
                 :OUTPUT ACCEPT [0:0]\n\
                 -A INPUT -p tcp -m tcp\n\
                 COMMIT\n",
-        0,
-    )];
-    each_prints(&rt, rt.alloc(), ROWS)
-}
-
-#[test]
-fn texts_stand_in_quotes(rt: HostRuntime) -> Result<(), Fail> {
-    const ROWS: &[Row] = &[
+            0,
+        ),
+        // Texts stand in quotes.
         (
             "iptables -A INPUT -m comment --comment \"it's \\\"x\\\"\" -j DROP\n\
                 iptables-save\n",
@@ -224,13 +197,7 @@ fn texts_stand_in_quotes(rt: HostRuntime) -> Result<(), Fail> {
             "",
             0,
         ),
-    ];
-    each_prints(&rt, rt.alloc(), ROWS)
-}
-
-#[test]
-fn options_of_targets(rt: HostRuntime) -> Result<(), Fail> {
-    const ROWS: &[Row] = &[
+        // Options of targets.
         (
             "iptables -A INPUT -j LOG --log-prefix \"drop: \" --log-level warning --log-uid\n\
                 iptables-save\n",

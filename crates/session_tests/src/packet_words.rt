@@ -3,9 +3,11 @@ use crate::console::{Row, each_prints};
 use std::test::Fail;
 
 #[test]
-fn packets_that_are_read(rt: HostRuntime) -> Result<(), Fail> {
-    const ROWS: &[Row] = &[(
-        "packet INPUT src=1.1.1.1 dst=2.2.2.2 proto=47\n\
+fn words_of_packets(rt: HostRuntime) -> Result<(), Fail> {
+    const ROWS: &[Row] = &[
+        // Packets that are read.
+        (
+            "packet INPUT src=1.1.1.1 dst=2.2.2.2 proto=47\n\
                 packet INPUT src=1.1.1.1 dst=2.2.2.2 proto=0\n\
                 packet INPUT src=1.1.1.1 dst=2.2.2.2 proto=255\n\
                 packet INPUT src=1.1.1.1 dst=2.2.2.2 proto=gre\n\
@@ -27,7 +29,7 @@ fn packets_that_are_read(rt: HostRuntime) -> Result<(), Fail> {
                 packet OUTPUT src=1.1.1.1 dst=2.2.2.2 proto=47 out=a=b\n\
                 packet INPUT frag=0 proto=tcp dport=1 dst=2.2.2.2 sport=2 src=1.1.1.1\n\
                 \"packet\" \"INPUT\" \"src=1.1.1.1\" dst=2.2.2.2 proto=2\n",
-        "verdict ACCEPT by policy\n\
+            "verdict ACCEPT by policy\n\
                 verdict ACCEPT by policy\n\
                 verdict ACCEPT by policy\n\
                 verdict ACCEPT by policy\n\
@@ -49,14 +51,9 @@ fn packets_that_are_read(rt: HostRuntime) -> Result<(), Fail> {
                 verdict ACCEPT by policy\n\
                 verdict ACCEPT by policy\n\
                 verdict ACCEPT by policy\n",
-        0,
-    )];
-    each_prints(&rt, rt.alloc(), ROWS)
-}
-
-#[test]
-fn keys_that_are_unknown_or_missing(rt: HostRuntime) -> Result<(), Fail> {
-    const ROWS: &[Row] = &[
+            0,
+        ),
+        // Keys that are unknown or missing.
         (
             "packet\n\
                 packet x\n\
@@ -119,14 +116,9 @@ fn keys_that_are_unknown_or_missing(rt: HostRuntime) -> Result<(), Fail> {
                 line 14: F2 key missing\n",
             2,
         ),
-    ];
-    each_prints(&rt, rt.alloc(), ROWS)
-}
-
-#[test]
-fn values_that_are_not_read(rt: HostRuntime) -> Result<(), Fail> {
-    const ROWS: &[Row] = &[(
-        "packet INPUT src=\n\
+        // Values that are not read.
+        (
+            "packet INPUT src=\n\
                 packet INPUT src=1.1.1.1/32\n\
                 packet INPUT src=1.1.1\n\
                 packet INPUT src=01.1.1.1\n\
@@ -177,7 +169,7 @@ fn values_that_are_not_read(rt: HostRuntime) -> Result<(), Fail> {
                 packet INPUT frag=0 frag=0\n\
                 packet INPUT sport==1\n\
                 packet INPUT ct=,NEW\n",
-        "line 1: F3 bad packet value\n\
+            "line 1: F3 bad packet value\n\
                 line 2: F3 bad packet value\n\
                 line 3: F3 bad packet value\n\
                 line 4: F3 bad packet value\n\
@@ -228,14 +220,9 @@ fn values_that_are_not_read(rt: HostRuntime) -> Result<(), Fail> {
                 line 49: F3 bad packet value\n\
                 line 50: F3 bad packet value\n\
                 line 51: F3 bad packet value\n",
-        2,
-    )];
-    each_prints(&rt, rt.alloc(), ROWS)
-}
-
-#[test]
-fn keys_that_a_packet_does_not_carry(rt: HostRuntime) -> Result<(), Fail> {
-    const ROWS: &[Row] = &[
+            2,
+        ),
+        // Keys that a packet does not carry.
         (
             "packet INPUT src=1.1.1.1 dst=2.2.2.2 proto=tcp sport=1 dport=1 icmp=8/0\n\
                 packet INPUT src=1.1.1.1 dst=2.2.2.2 proto=udp sport=1 dport=1 flags=SYN\n\
@@ -284,28 +271,24 @@ fn keys_that_a_packet_does_not_carry(rt: HostRuntime) -> Result<(), Fail> {
                 line 7: F2 key missing\n",
             2,
         ),
-    ];
-    each_prints(&rt, rt.alloc(), ROWS)
-}
-
-#[test]
-fn words_of_a_packet_are_read_from_left_to_right(rt: HostRuntime) -> Result<(), Fail> {
-    const ROWS: &[Row] = &[(
-        "packet INPUT src=bad foo=1\n\
+        // Words of a packet are read from left to right.
+        (
+            "packet INPUT src=bad foo=1\n\
                 packet INPUT foo=1 src=bad\n\
                 packet INPUT src=1.1.1.1 src=1.1.1.1 foo=1\n\
                 packet x src=bad\n\
                 packet INPUT dport=1 foo\n\
                 packet INPUT sport=x\n\
                 packet INPUT out=eth0 src=bad\n",
-        "line 1: F3 bad packet value\n\
+            "line 1: F3 bad packet value\n\
                 line 2: F1 unknown key\n\
                 line 3: F3 bad packet value\n\
                 line 4: F1 unknown key\n\
                 line 5: F1 unknown key\n\
                 line 6: F3 bad packet value\n\
                 line 7: F3 bad packet value\n",
-        2,
-    )];
+            2,
+        ),
+    ];
     each_prints(&rt, rt.alloc(), ROWS)
 }

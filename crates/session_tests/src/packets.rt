@@ -3,14 +3,16 @@ use crate::console::{Row, each_prints};
 use std::test::Fail;
 
 #[test]
-fn a_verdict_by_rule(rt: HostRuntime) -> Result<(), Fail> {
-    const ROWS: &[Row] = &[(
-        "iptables -A INPUT -s 10.1.2.3/8 -j ACCEPT\n\
+fn packets_are_walked(rt: HostRuntime) -> Result<(), Fail> {
+    const ROWS: &[Row] = &[
+        // A verdict by rule.
+        (
+            "iptables -A INPUT -s 10.1.2.3/8 -j ACCEPT\n\
                 iptables -A INPUT -j DROP\n\
                 packet INPUT src=10.9.9.9 dst=2.2.2.2 proto=47\n\
                 packet INPUT src=11.0.0.1 dst=2.2.2.2 proto=47\n\
                 iptables-save\n",
-        "INPUT 1\n\
+            "INPUT 1\n\
                 verdict ACCEPT by rule\n\
                 INPUT 2\n\
                 verdict DROP by rule\n\
@@ -21,14 +23,9 @@ fn a_verdict_by_rule(rt: HostRuntime) -> Result<(), Fail> {
                 -A INPUT -s 10.0.0.0/8 -j ACCEPT\n\
                 -A INPUT -j DROP\n\
                 COMMIT\n",
-        0,
-    )];
-    each_prints(&rt, rt.alloc(), ROWS)
-}
-
-#[test]
-fn rules_without_a_verdict_stand_on_the_trail(rt: HostRuntime) -> Result<(), Fail> {
-    const ROWS: &[Row] = &[
+            0,
+        ),
+        // Rules without a verdict stand on the trail.
         (
             "iptables -A INPUT\n\
                 iptables -A INPUT -j RETURN\n\
@@ -55,13 +52,7 @@ fn rules_without_a_verdict_stand_on_the_trail(rt: HostRuntime) -> Result<(), Fai
                 verdict ACCEPT by rule\n",
             0,
         ),
-    ];
-    each_prints(&rt, rt.alloc(), ROWS)
-}
-
-#[test]
-fn goto_leaves_nothing_on_the_stack(rt: HostRuntime) -> Result<(), Fail> {
-    const ROWS: &[Row] = &[
+        // Goto leaves nothing on the stack.
         (
             "iptables -N a\n\
                 iptables -N b\n\
@@ -114,89 +105,63 @@ fn goto_leaves_nothing_on_the_stack(rt: HostRuntime) -> Result<(), Fail> {
                 verdict DROP by rule\n",
             0,
         ),
-    ];
-    each_prints(&rt, rt.alloc(), ROWS)
-}
-
-#[test]
-fn a_jump_comes_back(rt: HostRuntime) -> Result<(), Fail> {
-    const ROWS: &[Row] = &[(
-        "iptables -N a\n\
+        // A jump comes back.
+        (
+            "iptables -N a\n\
                 iptables -A INPUT -j a\n\
                 iptables -A INPUT -j DROP\n\
                 iptables -A a -s 9.9.9.9 -j ACCEPT\n\
                 packet INPUT src=1.1.1.1 dst=2.2.2.2 proto=47\n\
                 packet INPUT src=9.9.9.9 dst=2.2.2.2 proto=47\n",
-        "INPUT 1\n\
+            "INPUT 1\n\
                 INPUT 2\n\
                 verdict DROP by rule\n\
                 INPUT 1\n\
                 a 1\n\
                 verdict ACCEPT by rule\n",
-        0,
-    )];
-    each_prints(&rt, rt.alloc(), ROWS)
-}
-
-#[test]
-fn return_in_a_built_in_chain_is_its_policy(rt: HostRuntime) -> Result<(), Fail> {
-    const ROWS: &[Row] = &[(
-        "iptables -P INPUT DROP\n\
+            0,
+        ),
+        // Return in a built in chain is its policy.
+        (
+            "iptables -P INPUT DROP\n\
                 iptables -A INPUT -j RETURN\n\
                 iptables -A INPUT -j ACCEPT\n\
                 packet INPUT src=1.1.1.1 dst=2.2.2.2 proto=47\n",
-        "INPUT 1\n\
+            "INPUT 1\n\
                 verdict DROP by policy\n",
-        0,
-    )];
-    each_prints(&rt, rt.alloc(), ROWS)
-}
-
-#[test]
-fn each_hook_has_its_chain(rt: HostRuntime) -> Result<(), Fail> {
-    const ROWS: &[Row] = &[(
-        "iptables -P FORWARD DROP\n\
+            0,
+        ),
+        // Each hook has its chain.
+        (
+            "iptables -P FORWARD DROP\n\
                 iptables -A OUTPUT -j DROP\n\
                 packet INPUT src=1.1.1.1 dst=2.2.2.2 proto=47\n\
                 packet FORWARD src=1.1.1.1 dst=2.2.2.2 proto=47\n\
                 packet OUTPUT src=1.1.1.1 dst=2.2.2.2 proto=47\n",
-        "verdict ACCEPT by policy\n\
+            "verdict ACCEPT by policy\n\
                 verdict DROP by policy\n\
                 OUTPUT 1\n\
                 verdict DROP by rule\n",
-        0,
-    )];
-    each_prints(&rt, rt.alloc(), ROWS)
-}
-
-#[test]
-fn flags(rt: HostRuntime) -> Result<(), Fail> {
-    const ROWS: &[Row] = &[(
-        "iptables -A INPUT -p tcp --syn -j DROP\n\
+            0,
+        ),
+        // Flags.
+        (
+            "iptables -A INPUT -p tcp --syn -j DROP\n\
                 packet INPUT src=1.1.1.1 dst=2.2.2.2 proto=tcp sport=1000 dport=80 flags=SYN,ACK\n\
                 packet INPUT src=1.1.1.1 dst=2.2.2.2 proto=tcp sport=1000 dport=80 flags=SYN\n",
-        "verdict ACCEPT by policy\n\
+            "verdict ACCEPT by policy\n\
                 INPUT 1\n\
                 verdict DROP by rule\n",
-        0,
-    )];
-    each_prints(&rt, rt.alloc(), ROWS)
-}
-
-#[test]
-fn a_negated_port_asks_for_the_protocol_and_no_fragment(rt: HostRuntime) -> Result<(), Fail> {
-    const ROWS: &[Row] = &[(
-        "iptables -A INPUT -p tcp ! --dport 80 -j DROP\n\
+            0,
+        ),
+        // A negated port asks for the protocol and no fragment.
+        (
+            "iptables -A INPUT -p tcp ! --dport 80 -j DROP\n\
                 packet INPUT src=1.1.1.1 dst=2.2.2.2 proto=tcp frag=1\n",
-        "verdict ACCEPT by policy\n",
-        0,
-    )];
-    each_prints(&rt, rt.alloc(), ROWS)
-}
-
-#[test]
-fn fragments(rt: HostRuntime) -> Result<(), Fail> {
-    const ROWS: &[Row] = &[
+            "verdict ACCEPT by policy\n",
+            0,
+        ),
+        // Fragments.
         (
             "iptables -A INPUT -f -j ACCEPT\n\
                 iptables -A INPUT ! -f -j DROP\n\
@@ -224,62 +189,44 @@ fn fragments(rt: HostRuntime) -> Result<(), Fail> {
                 verdict DROP by rule\n",
             0,
         ),
-    ];
-    each_prints(&rt, rt.alloc(), ROWS)
-}
-
-#[test]
-fn a_reject_names_its_type(rt: HostRuntime) -> Result<(), Fail> {
-    const ROWS: &[Row] = &[(
-        "iptables -A INPUT -p icmp --icmp-type ping -j REJECT\n\
+        // A reject names its type.
+        (
+            "iptables -A INPUT -p icmp --icmp-type ping -j REJECT\n\
                 packet INPUT src=1.1.1.1 dst=2.2.2.2 proto=icmp icmp=8/0\n",
-        "INPUT 1\n\
+            "INPUT 1\n\
                 verdict REJECT icmp-port-unreachable by rule\n",
-        0,
-    )];
-    each_prints(&rt, rt.alloc(), ROWS)
-}
-
-#[test]
-fn a_missing_interface_has_no_name(rt: HostRuntime) -> Result<(), Fail> {
-    const ROWS: &[Row] = &[(
-        "iptables -A INPUT -i eth0 -j DROP\n\
+            0,
+        ),
+        // A missing interface has no name.
+        (
+            "iptables -A INPUT -i eth0 -j DROP\n\
                 iptables -A INPUT ! -i eth0 -j DROP\n\
                 packet INPUT src=1.1.1.1 dst=2.2.2.2 proto=47\n\
                 packet INPUT src=1.1.1.1 dst=2.2.2.2 proto=47 in=eth0\n\
                 packet INPUT src=1.1.1.1 dst=2.2.2.2 proto=47 in=eth00\n",
-        "INPUT 2\n\
+            "INPUT 2\n\
                 verdict DROP by rule\n\
                 INPUT 1\n\
                 verdict DROP by rule\n\
                 INPUT 2\n\
                 verdict DROP by rule\n",
-        0,
-    )];
-    each_prints(&rt, rt.alloc(), ROWS)
-}
-
-#[test]
-fn fields_that_a_line_leaves_out(rt: HostRuntime) -> Result<(), Fail> {
-    const ROWS: &[Row] = &[(
-        "iptables -A INPUT -p tcp ! -f -m tcp --tcp-flags ALL NONE -m conntrack --ctstate INVALID -j DROP\n\
+            0,
+        ),
+        // Fields that a line leaves out.
+        (
+            "iptables -A INPUT -p tcp ! -f -m tcp --tcp-flags ALL NONE -m conntrack --ctstate INVALID -j DROP\n\
                 packet INPUT src=1.1.1.1 dst=2.2.2.2 proto=tcp sport=1 dport=1\n\
                 packet INPUT src=1.1.1.1 dst=2.2.2.2 proto=tcp sport=1 dport=1 flags=SYN\n\
                 packet INPUT src=1.1.1.1 dst=2.2.2.2 proto=tcp sport=1 dport=1 ct=NEW\n\
                 packet INPUT src=1.1.1.1 dst=2.2.2.2 proto=tcp frag=1\n",
-        "INPUT 1\n\
+            "INPUT 1\n\
                 verdict DROP by rule\n\
                 verdict ACCEPT by policy\n\
                 verdict ACCEPT by policy\n\
                 verdict ACCEPT by policy\n",
-        0,
-    )];
-    each_prints(&rt, rt.alloc(), ROWS)
-}
-
-#[test]
-fn states_of_connections(rt: HostRuntime) -> Result<(), Fail> {
-    const ROWS: &[Row] = &[
+            0,
+        ),
+        // States of connections.
         (
             "iptables -A INPUT -m conntrack --ctstate NEW -j DROP\n\
                 packet INPUT src=1.1.1.1 dst=2.2.2.2 proto=47 ct=NEW\n",

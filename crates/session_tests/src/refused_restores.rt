@@ -146,8 +146,9 @@ fn second_chain_lines(rt: HostRuntime) -> Result<(), Fail> {
 }
 
 #[test]
-fn lines_that_a_section_does_not_allow(rt: HostRuntime) -> Result<(), Fail> {
+fn last_lines_of_sections_are_refused(rt: HostRuntime) -> Result<(), Fail> {
     const ROWS: &[(&str, &str)] = &[
+        // Lines that a section does not allow.
         ("*nat", "R1 line not allowed here"),
         ("*filter", "R1 line not allowed here"),
         ("*nat x y", "R1 line not allowed here"),
@@ -155,13 +156,7 @@ fn lines_that_a_section_does_not_allow(rt: HostRuntime) -> Result<(), Fail> {
         (":a \"", "R5 bad quoting"),
         ("*nat x\"", "R5 bad quoting"),
         ("-A INPUT -m comment --comment \"x", "R5 bad quoting"),
-    ];
-    last_lines_are_refused(&rt, rt.alloc(), ROWS)
-}
-
-#[test]
-fn commands_that_are_refused(rt: HostRuntime) -> Result<(), Fail> {
-    const ROWS: &[(&str, &str)] = &[
+        // Commands that are refused.
         ("-A INPUT -j DROP -F", "C2 two commands"),
         ("-A INPUT -S", "C2 two commands"),
         ("-N", "C3 wrong number of words"),

@@ -3,8 +3,9 @@ use crate::console::{Row, each_prints};
 use std::test::Fail;
 
 #[test]
-fn a_refused_section_leaves_the_table(rt: HostRuntime) -> Result<(), Fail> {
+fn restores_among_lines(rt: HostRuntime) -> Result<(), Fail> {
     const ROWS: &[Row] = &[
+        // A refused section leaves the table.
         (
             "iptables -A INPUT -j DROP\n\
                 iptables-restore <<E\n\
@@ -35,13 +36,7 @@ fn a_refused_section_leaves_the_table(rt: HostRuntime) -> Result<(), Fail> {
                 -A INPUT -j DROP\n",
             1,
         ),
-    ];
-    each_prints(&rt, rt.alloc(), ROWS)
-}
-
-#[test]
-fn a_test_puts_no_table_in_place(rt: HostRuntime) -> Result<(), Fail> {
-    const ROWS: &[Row] = &[
+        // A test puts no table in place.
         (
             "iptables -A INPUT -j DROP\n\
                 iptables-restore -t <<E\n\
@@ -73,14 +68,9 @@ fn a_test_puts_no_table_in_place(rt: HostRuntime) -> Result<(), Fail> {
                 COMMIT\n",
             1,
         ),
-    ];
-    each_prints(&rt, rt.alloc(), ROWS)
-}
-
-#[test]
-fn built_in_chains_keep_their_rules_without_a_flush(rt: HostRuntime) -> Result<(), Fail> {
-    const ROWS: &[Row] = &[(
-        "iptables -N a\n\
+        // Built in chains keep their rules without a flush.
+        (
+            "iptables -N a\n\
                 iptables -A a -j DROP\n\
                 iptables -A INPUT -j a\n\
                 iptables-restore -n <<E\n\
@@ -90,22 +80,18 @@ fn built_in_chains_keep_their_rules_without_a_flush(rt: HostRuntime) -> Result<(
                 COMMIT\n\
                 E\n\
                 iptables-save\n",
-        "*filter\n\
+            "*filter\n\
                 :INPUT DROP [0:0]\n\
                 :FORWARD ACCEPT [0:0]\n\
                 :OUTPUT ACCEPT [0:0]\n\
                 :a - [0:0]\n\
                 -A INPUT -j a\n\
                 COMMIT\n",
-        0,
-    )];
-    each_prints(&rt, rt.alloc(), ROWS)
-}
-
-#[test]
-fn a_dump_with_another_table(rt: HostRuntime) -> Result<(), Fail> {
-    const ROWS: &[Row] = &[(
-        "iptables-restore <<E\n\
+            0,
+        ),
+        // A dump with another table.
+        (
+            "iptables-restore <<E\n\
                 # Generated\n\
                 *nat\n\
                 :PREROUTING ACCEPT [0:0]\n\
@@ -116,16 +102,11 @@ fn a_dump_with_another_table(rt: HostRuntime) -> Result<(), Fail> {
                 COMMIT\n\
                 E\n\
                 iptables -S INPUT\n",
-        "-P INPUT DROP\n\
+            "-P INPUT DROP\n\
                 -A INPUT -p tcp -m tcp --dport 22 -j ACCEPT\n",
-        0,
-    )];
-    each_prints(&rt, rt.alloc(), ROWS)
-}
-
-#[test]
-fn chain_lines(rt: HostRuntime) -> Result<(), Fail> {
-    const ROWS: &[Row] = &[
+            0,
+        ),
+        // Chain lines.
         (
             "iptables -P OUTPUT DROP\n\
                 iptables-restore <<E\n\
@@ -167,13 +148,7 @@ fn chain_lines(rt: HostRuntime) -> Result<(), Fail> {
                 COMMIT\n",
             0,
         ),
-    ];
-    each_prints(&rt, rt.alloc(), ROWS)
-}
-
-#[test]
-fn commands_in_a_section(rt: HostRuntime) -> Result<(), Fail> {
-    const ROWS: &[Row] = &[
+        // Commands in a section.
         (
             "iptables-restore <<E\n\
                 *filter\n\
@@ -219,13 +194,7 @@ fn commands_in_a_section(rt: HostRuntime) -> Result<(), Fail> {
                 COMMIT\n",
             0,
         ),
-    ];
-    each_prints(&rt, rt.alloc(), ROWS)
-}
-
-#[test]
-fn blank_lines_and_comments(rt: HostRuntime) -> Result<(), Fail> {
-    const ROWS: &[Row] = &[
+        // Blank lines and comments.
         (
             "iptables-restore <<E\n\
                 # a\n\
@@ -264,13 +233,7 @@ fn blank_lines_and_comments(rt: HostRuntime) -> Result<(), Fail> {
                 COMMIT\n",
             0,
         ),
-    ];
-    each_prints(&rt, rt.alloc(), ROWS)
-}
-
-#[test]
-fn a_flush_keeps_the_policies(rt: HostRuntime) -> Result<(), Fail> {
-    const ROWS: &[Row] = &[
+        // A flush keeps the policies.
         (
             "iptables -N a\n\
                 iptables -A INPUT -j a\n\
@@ -309,13 +272,7 @@ fn a_flush_keeps_the_policies(rt: HostRuntime) -> Result<(), Fail> {
                 COMMIT\n",
             0,
         ),
-    ];
-    each_prints(&rt, rt.alloc(), ROWS)
-}
-
-#[test]
-fn without_a_flush_each_section_goes_on(rt: HostRuntime) -> Result<(), Fail> {
-    const ROWS: &[Row] = &[
+        // Without a flush each section goes on.
         (
             "iptables -N a\n\
                 iptables -A INPUT -j a\n\
@@ -359,14 +316,9 @@ fn without_a_flush_each_section_goes_on(rt: HostRuntime) -> Result<(), Fail> {
                 COMMIT\n",
             0,
         ),
-    ];
-    each_prints(&rt, rt.alloc(), ROWS)
-}
-
-#[test]
-fn sections_before_a_fault_stand(rt: HostRuntime) -> Result<(), Fail> {
-    const ROWS: &[Row] = &[(
-        "iptables-restore <<E\n\
+        // Sections before a fault stand.
+        (
+            "iptables-restore <<E\n\
                 *filter\n\
                 -N a\n\
                 COMMIT\n\
@@ -376,21 +328,16 @@ fn sections_before_a_fault_stand(rt: HostRuntime) -> Result<(), Fail> {
                 COMMIT\n\
                 E\n\
                 iptables-save\n",
-        "line 7: T2 chain exists\n\
+            "line 7: T2 chain exists\n\
                 *filter\n\
                 :INPUT ACCEPT [0:0]\n\
                 :FORWARD ACCEPT [0:0]\n\
                 :OUTPUT ACCEPT [0:0]\n\
                 :a - [0:0]\n\
                 COMMIT\n",
-        1,
-    )];
-    each_prints(&rt, rt.alloc(), ROWS)
-}
-
-#[test]
-fn in_a_skipped_section_nothing_is_read(rt: HostRuntime) -> Result<(), Fail> {
-    const ROWS: &[Row] = &[
+            1,
+        ),
+        // In a skipped section nothing is read.
         (
             "iptables-restore <<E\n\
                 *nat\n\
@@ -445,24 +392,20 @@ fn in_a_skipped_section_nothing_is_read(rt: HostRuntime) -> Result<(), Fail> {
                 COMMIT\n",
             1,
         ),
-    ];
-    each_prints(&rt, rt.alloc(), ROWS)
-}
-
-#[test]
-fn the_end_of_a_restore_inside_a_section(rt: HostRuntime) -> Result<(), Fail> {
-    const ROWS: &[Row] = &[(
-        "iptables-restore <<E\n\
+        // The end of a restore inside a section.
+        (
+            "iptables-restore <<E\n\
                 *filter\n\
                 E\n\
                 iptables-save\n",
-        "line 3: R4 end before COMMIT\n\
+            "line 3: R4 end before COMMIT\n\
                 *filter\n\
                 :INPUT ACCEPT [0:0]\n\
                 :FORWARD ACCEPT [0:0]\n\
                 :OUTPUT ACCEPT [0:0]\n\
                 COMMIT\n",
-        1,
-    )];
+            1,
+        ),
+    ];
     each_prints(&rt, rt.alloc(), ROWS)
 }

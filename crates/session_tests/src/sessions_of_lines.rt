@@ -3,8 +3,9 @@ use crate::console::{Row, each_prints};
 use std::test::Fail;
 
 #[test]
-fn no_lines(rt: HostRuntime) -> Result<(), Fail> {
+fn lines_of_each_kind(rt: HostRuntime) -> Result<(), Fail> {
     const ROWS: &[Row] = &[
+        // No lines.
         ("", "", 0),
         (
             "\n\
@@ -20,47 +21,33 @@ fn no_lines(rt: HostRuntime) -> Result<(), Fail> {
                 COMMIT\n",
             0,
         ),
-    ];
-    each_prints(&rt, rt.alloc(), ROWS)
-}
-
-#[test]
-fn unknown_lines(rt: HostRuntime) -> Result<(), Fail> {
-    const ROWS: &[Row] = &[(
-        "foo\n\
+        // Unknown lines.
+        (
+            "foo\n\
                 \"\"\n\
                 IPTABLES -F\n\
                 iptables-Save\n",
-        "line 1: S1 unknown line\n\
+            "line 1: S1 unknown line\n\
                 line 2: S1 unknown line\n\
                 line 3: S1 unknown line\n\
                 line 4: S1 unknown line\n",
-        2,
-    )];
-    each_prints(&rt, rt.alloc(), ROWS)
-}
-
-#[test]
-fn words_after_a_listing_or_a_chain(rt: HostRuntime) -> Result<(), Fail> {
-    const ROWS: &[Row] = &[(
-        "lines\n\
+            2,
+        ),
+        // Words after a listing or a chain.
+        (
+            "lines\n\
                 lines INPUT OUTPUT\n\
                 iptables-save -t filter\n\
                 lines x\n\
                 lines nowhere else\n",
-        "line 1: C3 wrong number of words\n\
+            "line 1: C3 wrong number of words\n\
                 line 2: C3 wrong number of words\n\
                 line 3: C3 wrong number of words\n\
                 line 4: T1 no such chain\n\
                 line 5: C3 wrong number of words\n",
-        2,
-    )];
-    each_prints(&rt, rt.alloc(), ROWS)
-}
-
-#[test]
-fn the_status_is_that_of_the_first_fault(rt: HostRuntime) -> Result<(), Fail> {
-    const ROWS: &[Row] = &[
+            2,
+        ),
+        // The status is that of the first fault.
         (
             "lines x\n\
                 foo\n\
@@ -77,26 +64,16 @@ fn the_status_is_that_of_the_first_fault(rt: HostRuntime) -> Result<(), Fail> {
                 line 2: T1 no such chain\n",
             2,
         ),
-    ];
-    each_prints(&rt, rt.alloc(), ROWS)
-}
-
-#[test]
-fn quotes_are_asked_before_the_kind(rt: HostRuntime) -> Result<(), Fail> {
-    const ROWS: &[Row] = &[(
-        "foo \"\n\
+        // Quotes are asked before the kind.
+        (
+            "foo \"\n\
                 # \"\n\
                 foo a\"b\n",
-        "line 1: R5 bad quoting\n\
+            "line 1: R5 bad quoting\n\
                 line 3: R5 bad quoting\n",
-        1,
-    )];
-    each_prints(&rt, rt.alloc(), ROWS)
-}
-
-#[test]
-fn first_words_may_be_quoted(rt: HostRuntime) -> Result<(), Fail> {
-    const ROWS: &[Row] = &[
+            1,
+        ),
+        // First words may be quoted.
         (
             "\"iptables-restore\" \"<<E\"\n\
                 \"*filter\"\n\
@@ -159,14 +136,9 @@ fn first_words_may_be_quoted(rt: HostRuntime) -> Result<(), Fail> {
                 COMMIT\n",
             2,
         ),
-    ];
-    each_prints(&rt, rt.alloc(), ROWS)
-}
-
-#[test]
-fn options_of_a_restore(rt: HostRuntime) -> Result<(), Fail> {
-    const ROWS: &[Row] = &[(
-        "iptables-restore <<E\n\
+        // Options of a restore.
+        (
+            "iptables-restore <<E\n\
                 E\n\
                 iptables-restore -n <<E\n\
                 E\n\
@@ -186,15 +158,10 @@ fn options_of_a_restore(rt: HostRuntime) -> Result<(), Fail> {
                 E\n\
                 iptables-restore -t\t--noflush  <<E\n\
                 E\n",
-        "",
-        0,
-    )];
-    each_prints(&rt, rt.alloc(), ROWS)
-}
-
-#[test]
-fn a_bad_restore_line_opens_no_restore(rt: HostRuntime) -> Result<(), Fail> {
-    const ROWS: &[Row] = &[
+            "",
+            0,
+        ),
+        // A bad restore line opens no restore.
         (
             "iptables-restore\n\
                 iptables-restore -n\n\
@@ -232,13 +199,7 @@ fn a_bad_restore_line_opens_no_restore(rt: HostRuntime) -> Result<(), Fail> {
                 line 4: S1 unknown line\n",
             2,
         ),
-    ];
-    each_prints(&rt, rt.alloc(), ROWS)
-}
-
-#[test]
-fn the_end_line_equals_its_word(rt: HostRuntime) -> Result<(), Fail> {
-    const ROWS: &[Row] = &[
+        // The end line equals its word.
         (
             "iptables-restore <<E\n\
                 \x20E\n\
@@ -281,13 +242,7 @@ fn the_end_line_equals_its_word(rt: HostRuntime) -> Result<(), Fail> {
                 COMMIT\n",
             0,
         ),
-    ];
-    each_prints(&rt, rt.alloc(), ROWS)
-}
-
-#[test]
-fn the_end_line_is_asked_before_all_others(rt: HostRuntime) -> Result<(), Fail> {
-    const ROWS: &[Row] = &[
+        // The end line is asked before all others.
         (
             "iptables-restore <<COMMIT\n\
                 *filter\n\
@@ -325,29 +280,19 @@ fn the_end_line_is_asked_before_all_others(rt: HostRuntime) -> Result<(), Fail> 
                 COMMIT\n",
             1,
         ),
-    ];
-    each_prints(&rt, rt.alloc(), ROWS)
-}
-
-#[test]
-fn two_restores(rt: HostRuntime) -> Result<(), Fail> {
-    const ROWS: &[Row] = &[(
-        "iptables-restore <<E\n\
+        // Two restores.
+        (
+            "iptables-restore <<E\n\
                 x\n\
                 E\n\
                 iptables-restore <<E\n\
                 y\n\
                 E\n",
-        "line 2: R1 line not allowed here\n\
+            "line 2: R1 line not allowed here\n\
                 line 5: R1 line not allowed here\n",
-        1,
-    )];
-    each_prints(&rt, rt.alloc(), ROWS)
-}
-
-#[test]
-fn the_input_ends_in_a_restore(rt: HostRuntime) -> Result<(), Fail> {
-    const ROWS: &[Row] = &[
+            1,
+        ),
+        // The input ends in a restore.
         (
             "iptables-restore <<E\n\
                 *filter\n\
@@ -384,40 +329,32 @@ fn the_input_ends_in_a_restore(rt: HostRuntime) -> Result<(), Fail> {
             "line 3: S3 end word missing\n",
             2,
         ),
-    ];
-    each_prints(&rt, rt.alloc(), ROWS)
-}
-
-#[test]
-fn the_input_ends_after_the_fault_of_a_restore(rt: HostRuntime) -> Result<(), Fail> {
-    const ROWS: &[Row] = &[(
-        "iptables-restore <<E\n\
+        // The input ends after the fault of a restore.
+        (
+            "iptables-restore <<E\n\
                 COMMIT\n\
                 *filter\n",
-        "line 2: R1 line not allowed here\n",
-        1,
-    )];
-    each_prints(&rt, rt.alloc(), ROWS)
-}
-
-#[test]
-fn a_carriage_return_is_no_blank(rt: HostRuntime) -> Result<(), Fail> {
-    const ROWS: &[Row] = &[(
-        "\r\n\
+            "line 2: R1 line not allowed here\n",
+            1,
+        ),
+        // A carriage return is no blank.
+        (
+            "\r\n\
                 \r# x\n\
                 iptables-save\r\n\
                 \"iptables-save\"\r\n\
                 iptables-save \r\n\
                 \u{c}\n\
                 \u{b}#\n",
-        "line 1: S1 unknown line\n\
+            "line 1: S1 unknown line\n\
                 line 2: S1 unknown line\n\
                 line 3: S1 unknown line\n\
                 line 4: R5 bad quoting\n\
                 line 5: C3 wrong number of words\n\
                 line 6: S1 unknown line\n\
                 line 7: S1 unknown line\n",
-        2,
-    )];
+            2,
+        ),
+    ];
     each_prints(&rt, rt.alloc(), ROWS)
 }

@@ -3,9 +3,11 @@ use crate::console::{Row, each_prints};
 use std::test::Fail;
 
 #[test]
-fn long_names_of_commands(rt: HostRuntime) -> Result<(), Fail> {
-    const ROWS: &[Row] = &[(
-        "iptables --new-chain a\n\
+fn words_of_commands(rt: HostRuntime) -> Result<(), Fail> {
+    const ROWS: &[Row] = &[
+        // Long names of commands.
+        (
+            "iptables --new-chain a\n\
                 iptables --append a -j DROP\n\
                 iptables --insert a 1 -j ACCEPT\n\
                 iptables --replace a 1 -j RETURN\n\
@@ -17,19 +19,14 @@ fn long_names_of_commands(rt: HostRuntime) -> Result<(), Fail> {
                 iptables --flush b\n\
                 iptables --delete-chain b\n\
                 iptables --list-rules\n",
-        "-N b\n\
+            "-N b\n\
                 -A b -j RETURN\n\
                 -P INPUT DROP\n\
                 -P FORWARD ACCEPT\n\
                 -P OUTPUT ACCEPT\n",
-        0,
-    )];
-    each_prints(&rt, rt.alloc(), ROWS)
-}
-
-#[test]
-fn words_are_read_from_left_to_right(rt: HostRuntime) -> Result<(), Fail> {
-    const ROWS: &[Row] = &[
+            0,
+        ),
+        // Words are read from left to right.
         (
             "iptables -t nat -t\n\
                 iptables -t nat -t filter -F\n\
@@ -87,14 +84,9 @@ fn words_are_read_from_left_to_right(rt: HostRuntime) -> Result<(), Fail> {
                 line 11: C2 two commands\n",
             2,
         ),
-    ];
-    each_prints(&rt, rt.alloc(), ROWS)
-}
-
-#[test]
-fn the_table_is_named_before_the_command(rt: HostRuntime) -> Result<(), Fail> {
-    const ROWS: &[Row] = &[(
-        "iptables -t filter\n\
+        // The table is named before the command.
+        (
+            "iptables -t filter\n\
                 iptables -t filter -F\n\
                 iptables --table filter -F\n\
                 iptables -t filter -t filter -F\n\
@@ -108,7 +100,7 @@ fn the_table_is_named_before_the_command(rt: HostRuntime) -> Result<(), Fail> {
                 iptables -t nat\n\
                 iptables -t \"\"\n\
                 iptables -t Filter -F\n",
-        "line 1: C1 no command\n\
+            "line 1: C1 no command\n\
                 line 4: P4 repeated option\n\
                 line 5: P4 repeated option\n\
                 line 6: P2 value missing\n\
@@ -120,15 +112,11 @@ fn the_table_is_named_before_the_command(rt: HostRuntime) -> Result<(), Fail> {
                 line 12: C4 other table\n\
                 line 13: C4 other table\n\
                 line 14: C4 other table\n",
-        2,
-    )];
-    each_prints(&rt, rt.alloc(), ROWS)
-}
-
-#[test]
-fn words_of_a_command_are_taken_whatever_they_look_like(rt: HostRuntime) -> Result<(), Fail> {
-    const ROWS: &[Row] = &[(
-        "iptables -F -t\n\
+            2,
+        ),
+        // Words of a command are taken whatever they look like.
+        (
+            "iptables -F -t\n\
                 iptables -F -A\n\
                 iptables -S -S\n\
                 iptables -X !\n\
@@ -139,7 +127,7 @@ fn words_of_a_command_are_taken_whatever_they_look_like(rt: HostRuntime) -> Resu
                 iptables -R INPUT x\n\
                 iptables -F \"\"\n\
                 iptables -R -R -R\n",
-        "line 1: T1 no such chain\n\
+            "line 1: T1 no such chain\n\
                 line 2: T1 no such chain\n\
                 line 3: T1 no such chain\n\
                 line 4: T1 no such chain\n\
@@ -150,15 +138,11 @@ fn words_of_a_command_are_taken_whatever_they_look_like(rt: HostRuntime) -> Resu
                 line 9: P3 bad value\n\
                 line 10: T1 no such chain\n\
                 line 11: P3 bad value\n",
-        1,
-    )];
-    each_prints(&rt, rt.alloc(), ROWS)
-}
-
-#[test]
-fn numbers_of_rules(rt: HostRuntime) -> Result<(), Fail> {
-    const ROWS: &[Row] = &[(
-        "iptables -A INPUT\n\
+            1,
+        ),
+        // Numbers of rules.
+        (
+            "iptables -A INPUT\n\
                 iptables -R INPUT 01\n\
                 iptables -R INPUT +1\n\
                 iptables -R INPUT -1\n\
@@ -171,7 +155,7 @@ fn numbers_of_rules(rt: HostRuntime) -> Result<(), Fail> {
                 iptables -A INPUT 1\n\
                 iptables -R x 01 --bad\n\
                 iptables -R x 9 --bad\n",
-        "line 2: P3 bad value\n\
+            "line 2: P3 bad value\n\
                 line 3: P3 bad value\n\
                 line 4: P3 bad value\n\
                 line 5: P3 bad value\n\
@@ -183,15 +167,11 @@ fn numbers_of_rules(rt: HostRuntime) -> Result<(), Fail> {
                 line 11: P1 unknown option\n\
                 line 12: P3 bad value\n\
                 line 13: P1 unknown option\n",
-        2,
-    )];
-    each_prints(&rt, rt.alloc(), ROWS)
-}
-
-#[test]
-fn commands_of_too_few_or_too_many_words(rt: HostRuntime) -> Result<(), Fail> {
-    const ROWS: &[Row] = &[(
-        "iptables -N a\n\
+            2,
+        ),
+        // Commands of too few or too many words.
+        (
+            "iptables -N a\n\
                 iptables -A\n\
                 iptables -C\n\
                 iptables -D\n\
@@ -211,7 +191,7 @@ fn commands_of_too_few_or_too_many_words(rt: HostRuntime) -> Result<(), Fail> {
                 iptables -D INPUT 0 x\n\
                 iptables -N a -A INPUT\n\
                 iptables -F INPUT -A INPUT\n",
-        "line 2: C3 wrong number of words\n\
+            "line 2: C3 wrong number of words\n\
                 line 3: C3 wrong number of words\n\
                 line 4: C3 wrong number of words\n\
                 line 5: C3 wrong number of words\n\
@@ -230,14 +210,9 @@ fn commands_of_too_few_or_too_many_words(rt: HostRuntime) -> Result<(), Fail> {
                 line 18: C3 wrong number of words\n\
                 line 19: C3 wrong number of words\n\
                 line 20: C3 wrong number of words\n",
-        2,
-    )];
-    each_prints(&rt, rt.alloc(), ROWS)
-}
-
-#[test]
-fn commands_that_are_not_read(rt: HostRuntime) -> Result<(), Fail> {
-    const ROWS: &[Row] = &[
+            2,
+        ),
+        // Commands that are not read.
         (
             "iptables -Z\n\
                 iptables -L\n\
@@ -278,21 +253,16 @@ fn commands_that_are_not_read(rt: HostRuntime) -> Result<(), Fail> {
                 line 7: C1 no command\n",
             2,
         ),
-    ];
-    each_prints(&rt, rt.alloc(), ROWS)
-}
-
-#[test]
-fn targets_that_are_names_of_no_chain(rt: HostRuntime) -> Result<(), Fail> {
-    const ROWS: &[Row] = &[(
-        "iptables -A INPUT -j MARK\n\
+        // Targets that are names of no chain.
+        (
+            "iptables -A INPUT -j MARK\n\
                 iptables -A INPUT -j NFQUEUE\n\
                 iptables -A INPUT -j CLASSIFY\n\
                 iptables -A INPUT -j DNAT\n\
                 iptables -A INPUT -j SET\n\
                 iptables -A INPUT -j TCPMSS\n\
                 iptables-save\n",
-        "line 1: T11 target chain missing\n\
+            "line 1: T11 target chain missing\n\
                 line 2: T11 target chain missing\n\
                 line 3: T11 target chain missing\n\
                 line 4: T11 target chain missing\n\
@@ -303,14 +273,9 @@ fn targets_that_are_names_of_no_chain(rt: HostRuntime) -> Result<(), Fail> {
                 :FORWARD ACCEPT [0:0]\n\
                 :OUTPUT ACCEPT [0:0]\n\
                 COMMIT\n",
-        1,
-    )];
-    each_prints(&rt, rt.alloc(), ROWS)
-}
-
-#[test]
-fn names_that_no_chain_has(rt: HostRuntime) -> Result<(), Fail> {
-    const ROWS: &[Row] = &[
+            1,
+        ),
+        // Names that no chain has.
         (
             "iptables -A xxxxxxxxxxxxxxxxxxxxxxxxxxxxx\n\
                 iptables -A INPUT -j xxxxxxxxxxxxxxxxxxxxxxxxxxxxx\n\
@@ -373,26 +338,22 @@ fn names_that_no_chain_has(rt: HostRuntime) -> Result<(), Fail> {
                 COMMIT\n",
             1,
         ),
-    ];
-    each_prints(&rt, rt.alloc(), ROWS)
-}
-
-#[test]
-fn letters_are_taken_as_written(rt: HostRuntime) -> Result<(), Fail> {
-    const ROWS: &[Row] = &[(
-        "iptables -A INPUT -p TCP\n\
+        // Letters are taken as written.
+        (
+            "iptables -A INPUT -p TCP\n\
                 iptables -A INPUT -p icmp --icmp-type Any\n\
                 iptables -A INPUT -j LOG --log-level Info\n\
                 iptables -A INPUT -j REJECT --reject-with TCP-RESET\n\
                 packet INPUT src=1.1.1.1 dst=2.2.2.2 proto=GRE\n\
                 packet input\n",
-        "line 1: P3 bad value\n\
+            "line 1: P3 bad value\n\
                 line 2: P3 bad value\n\
                 line 3: P3 bad value\n\
                 line 4: P3 bad value\n\
                 line 5: F3 bad packet value\n\
                 line 6: F1 unknown key\n",
-        2,
-    )];
+            2,
+        ),
+    ];
     each_prints(&rt, rt.alloc(), ROWS)
 }

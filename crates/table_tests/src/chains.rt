@@ -16,81 +16,79 @@ fn text(rt: &impl Abort, alloc: Global, rule: &Rule) -> Result<String, Fail> {
 }
 
 #[test]
-fn one_chain_taken_away(rt: HostRuntime) -> Result<(), Fail> {
-    const ACTS: &[Act] = &[
-        Act::Runs("-N b"),
-        Act::Runs("-N a"),
-        Act::Runs("-A a -j b"),
-        Act::Runs("-A INPUT -j a"),
-        Act::Keeps("-X c", TableFault::NoSuchChain),
-        Act::Keeps("-X OUTPUT", TableFault::BuiltInChain),
-        Act::Keeps("-X INPUT", TableFault::BuiltInChain),
-        Act::Keeps("-X a", TableFault::ChainNotEmpty),
-        Act::Keeps("-X b", TableFault::ChainReferenced),
-        Act::Runs("-F a"),
-        Act::Keeps("-X a", TableFault::ChainReferenced),
-        Act::Runs("-X b"),
-        Act::Lists("INPUT:1 FORWARD:0 OUTPUT:0 a:0"),
-        Act::Runs("-D INPUT 1"),
-        Act::Runs("-X a"),
-        Act::Runs("-N a"),
-        Act::Lists("INPUT:0 FORWARD:0 OUTPUT:0 a:0"),
+fn edits_of_chains(rt: HostRuntime) -> Result<(), Fail> {
+    const CASES: &[&[Act]] = &[
+        // One chain taken away.
+        &[
+            Act::Runs("-N b"),
+            Act::Runs("-N a"),
+            Act::Runs("-A a -j b"),
+            Act::Runs("-A INPUT -j a"),
+            Act::Keeps("-X c", TableFault::NoSuchChain),
+            Act::Keeps("-X OUTPUT", TableFault::BuiltInChain),
+            Act::Keeps("-X INPUT", TableFault::BuiltInChain),
+            Act::Keeps("-X a", TableFault::ChainNotEmpty),
+            Act::Keeps("-X b", TableFault::ChainReferenced),
+            Act::Runs("-F a"),
+            Act::Keeps("-X a", TableFault::ChainReferenced),
+            Act::Runs("-X b"),
+            Act::Lists("INPUT:1 FORWARD:0 OUTPUT:0 a:0"),
+            Act::Runs("-D INPUT 1"),
+            Act::Runs("-X a"),
+            Act::Runs("-N a"),
+            Act::Lists("INPUT:0 FORWARD:0 OUTPUT:0 a:0"),
+        ],
+        // All user chains taken away.
+        &[
+            Act::Runs("-N c"),
+            Act::Runs("-N b"),
+            Act::Runs("-N a"),
+            Act::Runs("-A a -j DROP"),
+            Act::Runs("-A OUTPUT -j c"),
+            Act::Keeps("-X", TableFault::ChainNotEmpty),
+            Act::Runs("-F a"),
+            Act::Keeps("-X", TableFault::ChainReferenced),
+            Act::Runs("-F OUTPUT"),
+            Act::Runs("-A OUTPUT -j ACCEPT"),
+            Act::Runs("-X"),
+            Act::Runs("-X"),
+            Act::Lists("INPUT:0 FORWARD:0 OUTPUT:1"),
+        ],
+        // A renamed chain.
+        &[
+            Act::Runs("-N b"),
+            Act::Runs("-N c"),
+            Act::Runs("-A INPUT -j c"),
+            Act::Runs("-A b -g c"),
+            Act::Runs("-A b -j RETURN"),
+            Act::Runs("-A c -j DROP"),
+            Act::Keeps("-E x y", TableFault::NoSuchChain),
+            Act::Keeps("-E INPUT ACCEPT", TableFault::BuiltInChain),
+            Act::Keeps("-E c ACCEPT", TableFault::BadChainName),
+            Act::Keeps("-E c b", TableFault::ChainExists),
+            Act::Keeps("-E c c", TableFault::ChainExists),
+            Act::Keeps("-E c FORWARD", TableFault::ChainExists),
+            Act::Runs("-E c a"),
+            Act::Lists("INPUT:1 FORWARD:0 OUTPUT:0 a:1 b:2"),
+            Act::Replies(
+                "INPUT src=10.0.0.1 dst=2.2.2.2 proto=47",
+                "INPUT 1, a 1, verdict DROP by rule",
+            ),
+            Act::Runs("-C INPUT -j a"),
+            Act::Runs("-C b -g a"),
+            Act::Runs("-C b -j RETURN"),
+            Act::Keeps("-C INPUT -j c", TableFault::NoSuchRule),
+            Act::Keeps("-A INPUT -j c", TableFault::TargetMissing),
+            Act::Keeps("-A a -j b", TableFault::Loop),
+            Act::Runs("-E a zz"),
+            Act::Runs("-E b zy"),
+            Act::Lists("INPUT:1 FORWARD:0 OUTPUT:0 zy:2 zz:1"),
+        ],
     ];
-    play(&rt, rt.alloc(), ACTS)
-}
-
-#[test]
-fn all_user_chains_taken_away(rt: HostRuntime) -> Result<(), Fail> {
-    const ACTS: &[Act] = &[
-        Act::Runs("-N c"),
-        Act::Runs("-N b"),
-        Act::Runs("-N a"),
-        Act::Runs("-A a -j DROP"),
-        Act::Runs("-A OUTPUT -j c"),
-        Act::Keeps("-X", TableFault::ChainNotEmpty),
-        Act::Runs("-F a"),
-        Act::Keeps("-X", TableFault::ChainReferenced),
-        Act::Runs("-F OUTPUT"),
-        Act::Runs("-A OUTPUT -j ACCEPT"),
-        Act::Runs("-X"),
-        Act::Runs("-X"),
-        Act::Lists("INPUT:0 FORWARD:0 OUTPUT:1"),
-    ];
-    play(&rt, rt.alloc(), ACTS)
-}
-
-#[test]
-fn a_renamed_chain(rt: HostRuntime) -> Result<(), Fail> {
-    const ACTS: &[Act] = &[
-        Act::Runs("-N b"),
-        Act::Runs("-N c"),
-        Act::Runs("-A INPUT -j c"),
-        Act::Runs("-A b -g c"),
-        Act::Runs("-A b -j RETURN"),
-        Act::Runs("-A c -j DROP"),
-        Act::Keeps("-E x y", TableFault::NoSuchChain),
-        Act::Keeps("-E INPUT ACCEPT", TableFault::BuiltInChain),
-        Act::Keeps("-E c ACCEPT", TableFault::BadChainName),
-        Act::Keeps("-E c b", TableFault::ChainExists),
-        Act::Keeps("-E c c", TableFault::ChainExists),
-        Act::Keeps("-E c FORWARD", TableFault::ChainExists),
-        Act::Runs("-E c a"),
-        Act::Lists("INPUT:1 FORWARD:0 OUTPUT:0 a:1 b:2"),
-        Act::Replies(
-            "INPUT src=10.0.0.1 dst=2.2.2.2 proto=47",
-            "INPUT 1, a 1, verdict DROP by rule",
-        ),
-        Act::Runs("-C INPUT -j a"),
-        Act::Runs("-C b -g a"),
-        Act::Runs("-C b -j RETURN"),
-        Act::Keeps("-C INPUT -j c", TableFault::NoSuchRule),
-        Act::Keeps("-A INPUT -j c", TableFault::TargetMissing),
-        Act::Keeps("-A a -j b", TableFault::Loop),
-        Act::Runs("-E a zz"),
-        Act::Runs("-E b zy"),
-        Act::Lists("INPUT:1 FORWARD:0 OUTPUT:0 zy:2 zz:1"),
-    ];
-    play(&rt, rt.alloc(), ACTS)
+    for acts in CASES {
+        play(&rt, rt.alloc(), acts)?;
+    }
+    Ok(())
 }
 
 const PACKET: &str = "INPUT src=10.0.0.1 dst=2.2.2.2 proto=udp sport=1 dport=2";

@@ -82,8 +82,9 @@ fn refused(rt: &impl Abort, alloc: Global, rows: &[(&str, TableFault)]) -> Resul
 }
 
 #[test]
-fn appended_rules(rt: HostRuntime) -> Result<(), Fail> {
+fn faults_of_each_call(rt: HostRuntime) -> Result<(), Fail> {
     const ROWS: &[(&str, TableFault)] = &[
+        // Appended rules.
         ("-A nowhere -o eth0 -j gone", TableFault::NoSuchChain),
         ("-A input -j DROP", TableFault::NoSuchChain),
         ("-A \"\" -j DROP", TableFault::NoSuchChain),
@@ -102,13 +103,7 @@ fn appended_rules(rt: HostRuntime) -> Result<(), Fail> {
         ("-A a -j a", TableFault::Loop),
         ("-A c -j b", TableFault::Loop),
         ("-A c -g a", TableFault::Loop),
-    ];
-    refused(&rt, rt.alloc(), ROWS)
-}
-
-#[test]
-fn inserted_rules(rt: HostRuntime) -> Result<(), Fail> {
-    const ROWS: &[(&str, TableFault)] = &[
+        // Inserted rules.
         ("-I nowhere 0 -o eth0 -j gone", TableFault::NoSuchChain),
         ("-I INPUT 0 -o eth0 -j gone", TableFault::NumberOutOfRange),
         ("-I INPUT 4 -j DROP", TableFault::NumberOutOfRange),
@@ -125,13 +120,7 @@ fn inserted_rules(rt: HostRuntime) -> Result<(), Fail> {
         ("-I INPUT 1 -j FORWARD", TableFault::TargetBuiltIn),
         ("-I c 1 -j a", TableFault::Loop),
         ("-I b 2 -g b", TableFault::Loop),
-    ];
-    refused(&rt, rt.alloc(), ROWS)
-}
-
-#[test]
-fn replaced_rules(rt: HostRuntime) -> Result<(), Fail> {
-    const ROWS: &[(&str, TableFault)] = &[
+        // Replaced rules.
         ("-R nowhere 0 -o eth0 -j gone", TableFault::NoSuchChain),
         ("-R INPUT 0 -o eth0 -j gone", TableFault::NumberOutOfRange),
         ("-R INPUT 3 -j DROP", TableFault::NumberOutOfRange),
@@ -144,13 +133,7 @@ fn replaced_rules(rt: HostRuntime) -> Result<(), Fail> {
         ("-R INPUT 1 -g INPUT", TableFault::TargetBuiltIn),
         ("-R b 1 -j a", TableFault::Loop),
         ("-R a 1 -g a", TableFault::Loop),
-    ];
-    refused(&rt, rt.alloc(), ROWS)
-}
-
-#[test]
-fn rules_taken_out_or_asked_for(rt: HostRuntime) -> Result<(), Fail> {
-    const ROWS: &[(&str, TableFault)] = &[
+        // Rules taken out or asked for.
         ("-D nowhere 0", TableFault::NoSuchChain),
         ("-D INPUT 0", TableFault::NumberOutOfRange),
         ("-D INPUT 3", TableFault::NumberOutOfRange),
@@ -163,13 +146,7 @@ fn rules_taken_out_or_asked_for(rt: HostRuntime) -> Result<(), Fail> {
         ("-C FORWARD -j a", TableFault::NoSuchRule),
         ("-C INPUT -s 10.0.0.0/9 -j DROP", TableFault::NoSuchRule),
         ("-F nowhere", TableFault::NoSuchChain),
-    ];
-    refused(&rt, rt.alloc(), ROWS)
-}
-
-#[test]
-fn chains_and_policies(rt: HostRuntime) -> Result<(), Fail> {
-    const ROWS: &[(&str, TableFault)] = &[
+        // Chains and policies.
         ("-N \"\"", TableFault::BadChainName),
         ("-N ACCEPT", TableFault::BadChainName),
         ("-N QUEUE", TableFault::BadChainName),

@@ -25,187 +25,173 @@ fn expect(
 }
 
 #[test]
-fn a_goto_returns_past_its_chain(rt: HostRuntime) -> Result<(), Fail> {
-    const LINES: &[&str] = &[
-        "-N a",
-        "-N b",
-        "-A INPUT -j a",
-        "-A INPUT -j DROP",
-        "-A a -g b",
-        "-A b -j RETURN",
-    ];
-    const REPLIES: &[(&str, &str)] = &[
-        (INPUT, "INPUT 1, a 1, b 1, INPUT 2, verdict DROP by rule"),
-        (FORWARD, "verdict ACCEPT by policy"),
-        (OUTPUT, "verdict ACCEPT by policy"),
-    ];
-    expect(&rt, rt.alloc(), LINES, REPLIES)
-}
-
-#[test]
-fn a_goto_in_a_built_in_chain_ends_at_the_policy(rt: HostRuntime) -> Result<(), Fail> {
-    const LINES: &[&str] = &["-N b", "-A INPUT -g b", "-A INPUT -j DROP"];
-    const REPLIES: &[(&str, &str)] = &[(INPUT, "INPUT 1, verdict ACCEPT by policy")];
-    expect(&rt, rt.alloc(), LINES, REPLIES)
-}
-
-#[test]
-fn a_return_after_a_goto_ends_at_the_policy(rt: HostRuntime) -> Result<(), Fail> {
-    const LINES: &[&str] = &[
-        "-N b",
-        "-A INPUT -g b",
-        "-A INPUT -j ACCEPT",
-        "-A b -j RETURN",
-        "-P INPUT DROP",
-    ];
-    const REPLIES: &[(&str, &str)] = &[(INPUT, "INPUT 1, b 1, verdict DROP by policy")];
-    expect(&rt, rt.alloc(), LINES, REPLIES)
-}
-
-#[test]
-fn a_goto_keeps_the_rests_before_it(rt: HostRuntime) -> Result<(), Fail> {
-    const LINES: &[&str] = &[
-        "-N a",
-        "-N b",
-        "-N c",
-        "-A FORWARD -j a",
-        "-A FORWARD -j REJECT",
-        "-A a -j b",
-        "-A a -j LOG",
-        "-A b -g c",
-        "-A b -j ACCEPT",
-        "-A c",
-    ];
-    const REPLIES: &[(&str, &str)] = &[(
-        FORWARD,
-        "FORWARD 1, a 1, b 1, c 1, a 2, FORWARD 2, verdict REJECT icmp-port-unreachable by rule",
-    )];
-    expect(&rt, rt.alloc(), LINES, REPLIES)
-}
-
-#[test]
-fn a_return_in_a_built_in_chain_is_its_policy(rt: HostRuntime) -> Result<(), Fail> {
-    const LINES: &[&str] = &["-A INPUT", "-A INPUT -j RETURN", "-A INPUT -j DROP"];
-    const REPLIES: &[(&str, &str)] = &[(INPUT, "INPUT 1, INPUT 2, verdict ACCEPT by policy")];
-    expect(&rt, rt.alloc(), LINES, REPLIES)
-}
-
-#[test]
-fn a_return_in_a_chain_that_drops(rt: HostRuntime) -> Result<(), Fail> {
-    const LINES: &[&str] = &[
-        "-P OUTPUT DROP",
-        "-A OUTPUT -j RETURN",
-        "-A OUTPUT -j ACCEPT",
-    ];
-    const REPLIES: &[(&str, &str)] = &[
-        (OUTPUT, "OUTPUT 1, verdict DROP by policy"),
-        (INPUT, "verdict ACCEPT by policy"),
-    ];
-    expect(&rt, rt.alloc(), LINES, REPLIES)
-}
-
-#[test]
-fn logs_and_rules_without_a_target_go_on(rt: HostRuntime) -> Result<(), Fail> {
-    const LINES: &[&str] = &[
-        "-A INPUT -j LOG",
-        "-A INPUT -p udp -j DROP",
-        "-A INPUT -s 1.0.0.0/8",
-        "-A INPUT -j REJECT --reject-with icmp-host-prohibited",
-    ];
-    const REPLIES: &[(&str, &str)] = &[(
-        INPUT,
-        "INPUT 1, INPUT 3, INPUT 4, verdict REJECT icmp-host-prohibited by rule",
-    )];
-    expect(&rt, rt.alloc(), LINES, REPLIES)
-}
-
-#[test]
-fn each_hook_has_its_chain(rt: HostRuntime) -> Result<(), Fail> {
-    const LINES: &[&str] = &[
-        "-A INPUT -i eth0 -j DROP",
-        "-A FORWARD -i eth0 -o eth1 -j DROP",
-        "-A OUTPUT -o eth1 -j DROP",
-        "-P FORWARD DROP",
-        "-P OUTPUT DROP",
-        "-P OUTPUT ACCEPT",
-    ];
-    const REPLIES: &[(&str, &str)] = &[
+fn small_tables(rt: HostRuntime) -> Result<(), Fail> {
+    const CASES: &[(&[&str], &[(&str, &str)])] = &[
+        // A goto returns past its chain.
         (
-            "INPUT src=1.1.1.1 dst=2.2.2.2 proto=47 in=eth0",
-            "INPUT 1, verdict DROP by rule",
+            &[
+                "-N a",
+                "-N b",
+                "-A INPUT -j a",
+                "-A INPUT -j DROP",
+                "-A a -g b",
+                "-A b -j RETURN",
+            ],
+            &[
+                (INPUT, "INPUT 1, a 1, b 1, INPUT 2, verdict DROP by rule"),
+                (FORWARD, "verdict ACCEPT by policy"),
+                (OUTPUT, "verdict ACCEPT by policy"),
+            ],
         ),
+        // A goto in a built in chain ends at the policy.
         (
-            "INPUT src=1.1.1.1 dst=2.2.2.2 proto=47 in=eth1",
-            "verdict ACCEPT by policy",
+            &["-N b", "-A INPUT -g b", "-A INPUT -j DROP"],
+            &[(INPUT, "INPUT 1, verdict ACCEPT by policy")],
         ),
+        // A return after a goto ends at the policy.
         (
-            "FORWARD src=1.1.1.1 dst=2.2.2.2 proto=47 in=eth0 out=eth1",
-            "FORWARD 1, verdict DROP by rule",
+            &[
+                "-N b",
+                "-A INPUT -g b",
+                "-A INPUT -j ACCEPT",
+                "-A b -j RETURN",
+                "-P INPUT DROP",
+            ],
+            &[(INPUT, "INPUT 1, b 1, verdict DROP by policy")],
         ),
+        // A goto keeps the rests before it.
         (
-            "FORWARD src=1.1.1.1 dst=2.2.2.2 proto=47 in=eth0 out=eth0",
-            "verdict DROP by policy",
+            &[
+                "-N a",
+                "-N b",
+                "-N c",
+                "-A FORWARD -j a",
+                "-A FORWARD -j REJECT",
+                "-A a -j b",
+                "-A a -j LOG",
+                "-A b -g c",
+                "-A b -j ACCEPT",
+                "-A c",
+            ],
+            &[(
+                FORWARD,
+                "FORWARD 1, a 1, b 1, c 1, a 2, FORWARD 2, verdict REJECT icmp-port-unreachable by rule",
+            )],
         ),
+        // A return in a built in chain is its policy.
         (
-            "OUTPUT src=1.1.1.1 dst=2.2.2.2 proto=47 out=eth1",
-            "OUTPUT 1, verdict DROP by rule",
+            &["-A INPUT", "-A INPUT -j RETURN", "-A INPUT -j DROP"],
+            &[(INPUT, "INPUT 1, INPUT 2, verdict ACCEPT by policy")],
         ),
+        // A return in a chain that drops.
         (
-            "OUTPUT src=1.1.1.1 dst=2.2.2.2 proto=47 out=eth0",
-            "verdict ACCEPT by policy",
+            &[
+                "-P OUTPUT DROP",
+                "-A OUTPUT -j RETURN",
+                "-A OUTPUT -j ACCEPT",
+            ],
+            &[
+                (OUTPUT, "OUTPUT 1, verdict DROP by policy"),
+                (INPUT, "verdict ACCEPT by policy"),
+            ],
         ),
-    ];
-    expect(&rt, rt.alloc(), LINES, REPLIES)
-}
-
-#[test]
-fn flags_of_packets(rt: HostRuntime) -> Result<(), Fail> {
-    const LINES: &[&str] = &["-A INPUT -p tcp --syn -j DROP"];
-    const REPLIES: &[(&str, &str)] = &[
+        // Logs and rules without a target go on.
         (
-            "INPUT src=1.1.1.1 dst=2.2.2.2 proto=tcp sport=1000 dport=80 flags=SYN,ACK",
-            "verdict ACCEPT by policy",
+            &[
+                "-A INPUT -j LOG",
+                "-A INPUT -p udp -j DROP",
+                "-A INPUT -s 1.0.0.0/8",
+                "-A INPUT -j REJECT --reject-with icmp-host-prohibited",
+            ],
+            &[(
+                INPUT,
+                "INPUT 1, INPUT 3, INPUT 4, verdict REJECT icmp-host-prohibited by rule",
+            )],
         ),
+        // Each hook has its chain.
         (
-            "INPUT src=1.1.1.1 dst=2.2.2.2 proto=tcp sport=1000 dport=80 flags=SYN",
-            "INPUT 1, verdict DROP by rule",
+            &[
+                "-A INPUT -i eth0 -j DROP",
+                "-A FORWARD -i eth0 -o eth1 -j DROP",
+                "-A OUTPUT -o eth1 -j DROP",
+                "-P FORWARD DROP",
+                "-P OUTPUT DROP",
+                "-P OUTPUT ACCEPT",
+            ],
+            &[
+                (
+                    "INPUT src=1.1.1.1 dst=2.2.2.2 proto=47 in=eth0",
+                    "INPUT 1, verdict DROP by rule",
+                ),
+                (
+                    "INPUT src=1.1.1.1 dst=2.2.2.2 proto=47 in=eth1",
+                    "verdict ACCEPT by policy",
+                ),
+                (
+                    "FORWARD src=1.1.1.1 dst=2.2.2.2 proto=47 in=eth0 out=eth1",
+                    "FORWARD 1, verdict DROP by rule",
+                ),
+                (
+                    "FORWARD src=1.1.1.1 dst=2.2.2.2 proto=47 in=eth0 out=eth0",
+                    "verdict DROP by policy",
+                ),
+                (
+                    "OUTPUT src=1.1.1.1 dst=2.2.2.2 proto=47 out=eth1",
+                    "OUTPUT 1, verdict DROP by rule",
+                ),
+                (
+                    "OUTPUT src=1.1.1.1 dst=2.2.2.2 proto=47 out=eth0",
+                    "verdict ACCEPT by policy",
+                ),
+            ],
         ),
-    ];
-    expect(&rt, rt.alloc(), LINES, REPLIES)
-}
-
-#[test]
-fn fragments_have_no_port(rt: HostRuntime) -> Result<(), Fail> {
-    const LINES: &[&str] = &["-A INPUT -p tcp ! --dport 80 -j DROP"];
-    const REPLIES: &[(&str, &str)] = &[(
-        "INPUT src=1.1.1.1 dst=2.2.2.2 proto=tcp frag=1",
-        "verdict ACCEPT by policy",
-    )];
-    expect(&rt, rt.alloc(), LINES, REPLIES)
-}
-
-#[test]
-fn types_of_packets(rt: HostRuntime) -> Result<(), Fail> {
-    const LINES: &[&str] = &["-A INPUT -p icmp --icmp-type ping -j REJECT"];
-    const REPLIES: &[(&str, &str)] = &[(
-        "INPUT src=1.1.1.1 dst=2.2.2.2 proto=icmp icmp=8/0",
-        "INPUT 1, verdict REJECT icmp-port-unreachable by rule",
-    )];
-    expect(&rt, rt.alloc(), LINES, REPLIES)
-}
-
-#[test]
-fn addresses_of_packets(rt: HostRuntime) -> Result<(), Fail> {
-    const LINES: &[&str] = &["-A INPUT -s 10.1.2.3/8 -j ACCEPT", "-A INPUT -j DROP"];
-    const REPLIES: &[(&str, &str)] = &[
+        // Flags of packets.
         (
-            "INPUT src=10.9.9.9 dst=2.2.2.2 proto=47",
-            "INPUT 1, verdict ACCEPT by rule",
+            &["-A INPUT -p tcp --syn -j DROP"],
+            &[
+                (
+                    "INPUT src=1.1.1.1 dst=2.2.2.2 proto=tcp sport=1000 dport=80 flags=SYN,ACK",
+                    "verdict ACCEPT by policy",
+                ),
+                (
+                    "INPUT src=1.1.1.1 dst=2.2.2.2 proto=tcp sport=1000 dport=80 flags=SYN",
+                    "INPUT 1, verdict DROP by rule",
+                ),
+            ],
         ),
+        // Fragments have no port.
         (
-            "INPUT src=11.0.0.1 dst=2.2.2.2 proto=47",
-            "INPUT 2, verdict DROP by rule",
+            &["-A INPUT -p tcp ! --dport 80 -j DROP"],
+            &[(
+                "INPUT src=1.1.1.1 dst=2.2.2.2 proto=tcp frag=1",
+                "verdict ACCEPT by policy",
+            )],
+        ),
+        // Types of packets.
+        (
+            &["-A INPUT -p icmp --icmp-type ping -j REJECT"],
+            &[(
+                "INPUT src=1.1.1.1 dst=2.2.2.2 proto=icmp icmp=8/0",
+                "INPUT 1, verdict REJECT icmp-port-unreachable by rule",
+            )],
+        ),
+        // Addresses of packets.
+        (
+            &["-A INPUT -s 10.1.2.3/8 -j ACCEPT", "-A INPUT -j DROP"],
+            &[
+                (
+                    "INPUT src=10.9.9.9 dst=2.2.2.2 proto=47",
+                    "INPUT 1, verdict ACCEPT by rule",
+                ),
+                (
+                    "INPUT src=11.0.0.1 dst=2.2.2.2 proto=47",
+                    "INPUT 2, verdict DROP by rule",
+                ),
+            ],
         ),
     ];
-    expect(&rt, rt.alloc(), LINES, REPLIES)
+    for (lines, replies) in CASES {
+        expect(&rt, rt.alloc(), lines, replies)?;
+    }
+    Ok(())
 }
