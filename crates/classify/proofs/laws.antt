@@ -1,4 +1,3 @@
-pub mod bits
 pub mod classifier
 pub mod line
 pub mod search

@@ -3,9 +3,6 @@ pub mod CommonPlaces
 pub mod Cuts
 pub mod Edits
 pub mod Fields
-pub mod Held
-pub mod Packing
 pub mod Pieces
 pub mod Runs
-pub mod Shifts
 pub mod Summaries

@@ -9,10 +9,10 @@ ghost use Rattle.rules.specs.rule.Allows.{matches};
 ghost use Rattle.rules.specs.rule.Rules.{Rule};
 ghost use Rattle.classify.specs.search.NextMatch.{next_match};
 
-use crate::bits::bit_row::MOST_BITS;
 use crate::line::owned::{LentRow, OwnedLine};
 use crate::line::view::Line;
 use crate::search;
+use bits::MOST_BITS;
 use fields::{FIELDS, Field};
 use rules::Boxed;
 use std::alloc::{AllocError, Global};
@@ -64,7 +64,8 @@ impl Classifier {
     ghost use Rattle.std.specs.Prelude.{slice_index_or};
     ghost use Rattle.classify.specs.steps.Pieces.{row_in};
     ghost use Rattle.classify.specs.steps.CommonPlaces.{IsRowAt, AreRowsAt};
-    ghost use Rattle.classify.specs.steps.Summaries.{IsSummaryOf, SumUpPoint};
+    ghost use Rattle.bits.specs.steps.Summaries.{IsSummaryOf};
+    ghost use Rattle.classify.specs.steps.Summaries.{SumUpPoint};
     ghost use Rattle.classify.specs.steps.Fields.{shown_line};
 
     /// The classifier of no box.

@@ -2,12 +2,11 @@
 //! and the search for the next box that allows a point.
 #![tactic(auto)]
 
-mod bits;
 mod classifier;
 mod line;
 mod search;
 
-pub use bits::bit_row::BitRow;
+pub use bits::BitRow;
 pub use classifier::Classifier;
 pub use classifier::of_rules::{
     boxes_stand_for_their_rules, rules_have_one_classifier, rules_have_the_computed_line,

@@ -1,10 +1,11 @@
 //! The search for the first place that every row has: rows and-ed word by word.
 
 ghost use Rattle.std.specs.Prelude.{IsTrue, ◌<◌, ◌≤◌, ◌+◌, ◌*◌, ◌/◌, ◌^◌, ℕ};
-ghost use Rattle.classify.specs.steps.CommonPlaces.{IsAndAt, AreWide, HaveAll, Nowhere, IsFirst};
+ghost use Rattle.bits.specs.steps.First.{Nowhere, IsFirst};
+ghost use Rattle.classify.specs.steps.CommonPlaces.{IsAndAt, AreWide, HaveAll};
 ghost use Rattle.classify.specs.steps.Summaries.{SumUpAll};
 
-use crate::bits::summary::{is_marked, next_marked};
+use bits::{is_marked, next_marked};
 use std::simd::prelude::*;
 
 // The words at a place of every row, and-ed.

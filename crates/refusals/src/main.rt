@@ -5,6 +5,9 @@
 //! first case, so that with the Nth allocation of the run refused, the length of the input says which one of the
 //! cases it is. What is printed is the same whether one was refused or not. The status is 0 where no call was
 //! refused, and 4 where one was.
+//!
+//! With a word it makes the cases of that group alone, each group from nothing: `sets`, `values`, `rules`, `classifiers`,
+//! `tables` or `sessions`.
 #![tactic(auto)]
 
 mod bits;
@@ -28,9 +31,21 @@ use classify::Classifier;
 use fields::Packet;
 use sessions::Session;
 use std::alloc::Global;
+use std::env;
 use std::io::{BufRead, BufReader};
 use std::process::ExitCode;
+use std::rt::Env;
 use table::Table;
+
+/// The names of the groups, in the order in which they are made.
+const GROUPS: &[&str] = &[
+    "sets",
+    "values",
+    "rules",
+    "classifiers",
+    "tables",
+    "sessions",
+];
 
 /// Takes memory once for each byte of the input, and gives it back.
 fn take_first<R: BufRead>(alloc: Global, input: &mut R) {
@@ -245,14 +260,24 @@ fn run_of_sessions<R: Print + AllocGlobal>(rt: &R, refusals: &mut Refusals) {
     }
 }
 
+/// The cases of a group, by its name; none of another name.
+fn run_of<R: Print + AllocGlobal>(rt: &R, refusals: &mut Refusals, group: &str) {
+    match group {
+        "sets" => run_of_sets(rt, refusals),
+        "values" => run_of_values(rt, refusals),
+        "rules" => run_of_rules(rt, refusals),
+        "classifiers" => run_of_classifiers(rt, refusals),
+        "tables" => run_of_tables(rt, refusals),
+        "sessions" => run_of_sessions(rt, refusals),
+        _ => {}
+    }
+}
+
 /// All cases.
 fn run<R: Print + AllocGlobal>(rt: &R, refusals: &mut Refusals) {
-    run_of_sets(rt, refusals);
-    run_of_values(rt, refusals);
-    run_of_rules(rt, refusals);
-    run_of_classifiers(rt, refusals);
-    run_of_tables(rt, refusals);
-    run_of_sessions(rt, refusals);
+    for group in GROUPS {
+        run_of(rt, refusals, group);
+    }
 }
 
 /// Prints how the planted cases ended, each by the trouble that it is made to be.
@@ -272,12 +297,25 @@ fn run_planted<R: Print + AllocGlobal>(rt: &R) {
     tell(rt, "planted: refused once", planted::refused_once());
 }
 
+/// The word after the program's name.
+fn word_given<R: Env + AllocGlobal>(rt: &R) -> Option<String> {
+    let mut words = env::args(rt).ok()?;
+    let _name = words.next();
+    words.next()
+}
+
 fn main(rt: HostRuntime) -> ExitCode {
+    let word = word_given(&rt);
     if let Ok(mut input) = BufReader::new(rt.alloc(), rt.reader()) {
         take_first(rt.alloc(), &mut input);
     }
     let mut refusals = Refusals::new();
-    run(&rt, &mut refusals);
-    run_planted(&rt);
+    match &word {
+        Some(group) => run_of(&rt, &mut refusals, group.as_str()),
+        None => {
+            run(&rt, &mut refusals);
+            run_planted(&rt);
+        }
+    }
     ExitCode::from(if refusals.any() { 4 } else { 0 })
 }

@@ -1,3 +1,2 @@
-pub mod replies
 pub mod runs
 pub mod turns

@@ -7,14 +7,10 @@ ghost use Rattle.sessions.specs.runs.Session.{reply_text, status_after};
 ghost use Rattle.sessions.specs.steps.Served.{HasPlace, IsPlace, IsReply, name_at};
 ghost use Rattle.restore.specs.listings.Listing.{rules_listing};
 
-mod lines;
-mod walk;
-
 use crate::fault::Fault;
-use crate::reply::lines::write_lines;
-use crate::reply::walk::write_walk;
 use fields::{Tap, WriteFailed};
 use itoa::Buffer;
+use replies::{write_lines, write_walk};
 use restore::{write_listing, write_rules};
 use std::io::Write;
 use table::{Table, Trail};

@@ -1,10 +1,10 @@
--- Places that several rows of bits have, and the first of them.
-use Rattle.std.specs.Prelude.{◌≡◌, ℕ, ◌+◌, ◌<◌, ◌≤◌, ◌↔◌, List, length, slice_index, slice_index_or, [], take, Option, MatchOption, All}
+-- Places that several rows of bits have.
+use Rattle.std.specs.Prelude.{◌≡◌, ℕ, ◌+◌, ◌<◌, ◌≤◌, ◌↔◌, List, length, slice_index, slice_index_or, [], take, All}
 use Rattle.std.specs.Prelude.{false, true}
 use Rattle.std.specs.Borrow.{Bor}
 use Rattle.std.specs.Int.{bit_at}
 use Rattle.fields.specs.declared.numbers.field.TheConstants.{FIELDS}
-use Rattle.classify.specs.steps.Packing.{all_bits, IsPacked}
+use Rattle.bits.specs.steps.Packing.{all_bits, IsPacked}
 use Rattle.classify.specs.steps.Pieces.{row_in}
 use Rattle.classify.specs.classifier.Classifier.{Classified}
 
@@ -24,14 +24,6 @@ AreWide words rows = All (λ (row : Bor (List ℕ)). length row.now ≡ words) r
 -- each row has the bit at a place
 abbrev pub HaveAll : List (Bor (List ℕ)) → ℕ → Type 0
 HaveAll rows place = All (λ (row : Bor (List ℕ)). slice_index_or (all_bits row.now) place false ≡ true) rows
-
--- P holds nowhere from one place up to another
-abbrev pub Nowhere : (ℕ → Type 0) → ℕ → ℕ → Type 0
-Nowhere P from to = (k : ℕ) → from ≤ k → k < to → P k → ⊥
-
--- the first place, from one up to another, at which P holds
-abbrev pub IsFirst : (ℕ → Type 0) → ℕ → ℕ → Option ℕ → Type 0
-IsFirst P from to first = MatchOption first (Nowhere P from to) (λ n. (from ≤ n) × (n < to) × P n × Nowhere P from n)
 
 -- the words of the row of a field's line at a number
 pub record IsRowAt (c : Classified) (place x : ℕ) (row : List ℕ) : Type 0 where

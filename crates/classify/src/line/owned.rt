@@ -2,14 +2,14 @@
 
 ghost use Rattle.std.specs.Prelude.{ℕ, ◌≡◌, ◌<◌, ◌≤◌, ◌+◌, ◌%◌, length, map, insert, remove, slice_set, slice_index, slice_index_or, take};
 ghost use Rattle.std.specs.Prelude.{false, true, IfOk, IsOk, OnOk, OnErr, IsTrue, ◌↔◌, [], ◌∷◌};
-ghost use Rattle.classify.specs.steps.Packing.{all_bits, IsPacked};
+ghost use Rattle.bits.specs.steps.Packing.{all_bits, IsPacked};
 ghost use Rattle.classify.specs.line.Line.{starts};
 ghost use Rattle.classify.specs.steps.Pieces.{IsRisingLine, row_in};
 ghost use Rattle.classify.specs.steps.Edits.{row_of};
-ghost use Rattle.classify.specs.steps.Summaries.{IsSummaryOf};
+ghost use Rattle.bits.specs.steps.Summaries.{IsSummaryOf};
 
-use crate::bits::rows::Rows;
 use crate::line::starts::Starts;
+use bits::Rows;
 use std::alloc::{AllocError, Global};
 use std::marker::Model;
 use std::mem::size_of;

@@ -4,9 +4,9 @@ ghost use Rattle.std.specs.Prelude.{◌≡◌, ◌<◌, length, false, slice_ind
 ghost use Rattle.std.specs.Iterator.{YieldsFirst, item_count};
 ghost use Rattle.classify.specs.search.NextMatch.{next_match};
 
-use crate::bits::words::bit_at;
 use crate::line::owned::OwnedLine;
 use crate::search;
+use bits::bit_at;
 use std::marker::Model;
 
 /// The answers of each box in a piece, at the box's place.
@@ -19,8 +19,8 @@ pub struct Row<'a> {
 
 impl<'a> Model for Row<'a> {
     ghost use Rattle.std.specs.Prelude.{Bool, List, take};
-    ghost use Rattle.classify.specs.steps.Packing.{IsPacked, all_bits};
-    ghost use Rattle.classify.specs.steps.Summaries.{IsSummaryOf};
+    ghost use Rattle.bits.specs.steps.Packing.{IsPacked, all_bits};
+    ghost use Rattle.bits.specs.steps.Summaries.{IsSummaryOf};
 
     ghost Value = { List Bool };
 

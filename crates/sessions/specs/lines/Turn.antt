@@ -16,8 +16,8 @@ use Rattle.restore.specs.declared.fault.RestoreFault.TheVariants.{Table as OfTab
 use Rattle.sessions.specs.lines.Fault.{Fault, EndWordMissing, NoMemory, of_line}
 use Rattle.sessions.specs.lines.Opening.{Opening}
 use Rattle.sessions.specs.lines.Request.{Request, Nothing, Run, Save, Open, Ask, Show, request_on}
-use Rattle.sessions.specs.replies.Walked.{packet_reply}
-use Rattle.sessions.specs.replies.Lines.{lines_reply}
+use Rattle.replies.specs.Walked.{packet_reply}
+use Rattle.replies.specs.Lines.{lines_reply}
 pub use Rattle.sessions.specs.declared.spot.Spot.{Spot}
 pub use Rattle.sessions.specs.declared.spot.Spot.TheVariants.{Outside, Within, Passing}
 

@@ -12,7 +12,7 @@ use Rattle.restore.specs.sections.Restore.{restored}
 use Rattle.sessions.specs.lines.Fault.{Fault}
 use Rattle.sessions.specs.lines.Request.{Ask, request_on}
 use Rattle.sessions.specs.lines.Turn.{Line, Reply, Says, Fails, Outside, turn}
-use Rattle.sessions.specs.replies.Walked.{packet_reply}
+use Rattle.replies.specs.Walked.{packet_reply}
 use Rattle.sessions.specs.runs.Run.{RunFault, Runs}
 use Rattle.sessions.specs.runs.Session.{State, step}
 use Rattle.sessions.specs.runs.Accepted.{accepted, changed_by}

@@ -9,8 +9,8 @@ use Rattle.restore.specs.listings.Listing.{listing, rules_listing}
 use Rattle.sessions.specs.lines.Fault.{Fault, NoMemory}
 use Rattle.sessions.specs.lines.Request.{Request, Run, Save, Open, Ask, Show}
 use Rattle.sessions.specs.lines.Turn.{Reply, Says, Fails, Spot, Turn, after_fault, turn}
-use Rattle.sessions.specs.replies.Walked.{packet_reply}
-use Rattle.sessions.specs.replies.Lines.{lines_reply}
+use Rattle.replies.specs.Walked.{packet_reply}
+use Rattle.replies.specs.Lines.{lines_reply}
 use Rattle.sessions.specs.declared.line.request.Request as code
 use Rattle.sessions.specs.declared.line.request.Request.TheVariants as requests
 use Rattle.sessions.specs.declared.reply.Answer.{Answer}

@@ -3,7 +3,8 @@ use Rattle.std.proofs.Common.{◌≡◌, ◌↔◌, inl, inr, ℕ, zero, suc, �
 use Rattle.std.specs.Prelude.{◌/◌, ◌%◌, ◌^◌, slice_index, bit_and}
 use Rattle.std.specs.Int.{bit_at}
 use Rattle.std.proofs.lemmas.Nat.Bits.{bit_at_and, bit_at_ones}
-use Rattle.classify.specs.steps.Summaries.{IsSummaryOf, SumUpAll, SumUpPoint}
+use Rattle.bits.specs.steps.Summaries.{IsSummaryOf}
+use Rattle.classify.specs.steps.Summaries.{SumUpAll, SumUpPoint}
 use Rattle.std.specs.List.{list_all, position_or_len}
 use Rattle.std.specs.Option.{option_map}
 use Rattle.std.proofs.Math.Dec.{ltb}
@@ -17,19 +18,20 @@ use Rattle.fields.specs.declared.numbers.field.TheConstants.Field.{ALL}
 use Rattle.fields.specs.declared.numbers.field.Field.{Field}
 use Rattle.fields.specs.numbers.Field.{index, top}
 use Rattle.fields.specs.numbers.Spans.{SpanSet}
-use Rattle.classify.specs.steps.Packing.{all_bits, IsPacked}
+use Rattle.bits.specs.steps.Packing.{all_bits, IsPacked}
 use Rattle.classify.specs.line.Line.{row_at}
 use Rattle.classify.specs.steps.Pieces.{PiecesAndRoom, row_in, IsRising}
 use Rattle.classify.specs.steps.Edits.{IsSound}
 use Rattle.classify.specs.steps.Fields.{shown_line, tops, IsKept}
-use Rattle.classify.specs.steps.CommonPlaces.{IsRowAt, AreRowsAt, AreWide, HaveAll, IsFirst}
+use Rattle.bits.specs.steps.First.{IsFirst}
+use Rattle.classify.specs.steps.CommonPlaces.{IsRowAt, AreRowsAt, AreWide, HaveAll}
 use Rattle.rules.specs.boxing.Boxed.{set_on}
 use Rattle.rules.proofs.laws.boxing.BoxLaws.{index-lt, here_is}
 use Rattle.classify.specs.classifier.Classifier.{box_allows, line_on, Classified, IsClassifierOf, IsPoint, box_matches}
 use Rattle.fields.specs.numbers.Field.{number_on}
 use Rattle.classify.specs.search.NextMatch.{next_match}
 use Rattle.classify.proofs.laws.line.BoxLaws.{says_from_line}
-use Rattle.classify.proofs.laws.bits.WordLaws.{length-all_bits}
+use Rattle.bits.proofs.laws.WordLaws.{length-all_bits}
 use Rattle.classify.proofs.laws.classifier.ClassifierLaws.{field_at, row_of_sets, line_of_sets, shown_at_place, row_long}
 
 -- ---- the row of a field at a number

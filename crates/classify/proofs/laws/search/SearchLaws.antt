@@ -1,19 +1,21 @@
 -- The search for the first place that every row has.
 use Rattle.std.proofs.Common.{◌≡◌, ◌≢◌, ◌↔◌, inl, inr, ℕ, zero, suc, ◌+◌, ◌-◌, ◌*◌, ◌/◌, ◌%◌, ◌^◌, ◌<◌, ◌≤◌, true, false, List, [], ◌∷◌, length, take, get_or, refl, sym, ◌∙◌, ap, arith, subst, min, max, All, Option, Some, None, Bor}
 use Rattle.std.specs.Prelude.{slice_index, bit_and, bit_or, nat_eq, replicate}
-use Rattle.std.specs.Int.{bit_at, w64}
+use Rattle.std.specs.Int.{bit_at}
 use Rattle.std.proofs.lemmas.List.{get_or-take, length-take-le}
 use Rattle.std.proofs.lemmas.List.Elements.{All-nil, All-more, All-take}
-use Rattle.std.proofs.lemmas.Nat.{shr-shr, pow_pos, le_or_l, le_or_r}
+use Rattle.std.proofs.lemmas.Nat.{le_or_l, le_or_r}
 use Rattle.std.proofs.lemmas.Simd.{length-zip2, get_or-zip2, length-chunk, get_or-chunk, length-replicate, get_or-replicate}
 use lib.Lanes.{zip2, chunk, fold_l}
-use Rattle.std.proofs.lemmas.Nat.Bits.{bit_at_and, bit_at_ones, bit_at-lt, bit_at-zero, bit_at-trailing_zeros, bit_at_cat_low, bit_at_cat_high, ones_shl, and_high_mask}
+use Rattle.std.proofs.lemmas.Nat.Bits.{bit_at_and, bit_at_ones, bit_at-lt}
 use Rattle.std.proofs.lemmas.Bool.{cases_lt, eqb-true, eq-eqb}
-use lib.Count.{count_trailing_zeros}
-use Rattle.classify.specs.steps.Packing.{all_bits}
-use Rattle.classify.specs.steps.CommonPlaces.{IsAndAt, AreAndsAt, AreWide, HaveAll, Nowhere, IsFirst}
-use Rattle.classify.specs.steps.Summaries.{HasPair, IsMarked, SumUpAll}
-use Rattle.classify.proofs.laws.bits.GetLaws.{all_bit_at}
+use Rattle.bits.specs.steps.Packing.{all_bits}
+use Rattle.bits.specs.steps.First.{Nowhere, IsFirst}
+use Rattle.classify.specs.steps.CommonPlaces.{IsAndAt, AreAndsAt, AreWide, HaveAll}
+use Rattle.bits.specs.steps.Summaries.{IsMarked}
+use Rattle.classify.specs.steps.Summaries.{SumUpAll}
+use Rattle.bits.proofs.laws.GetLaws.{all_bit_at}
+use Rattle.bits.proofs.laws.MarkLaws.{MarksPlaces, word_empty, masked_marks}
 
 abbrev Words : Type 0
 Words = Bor (List ℕ)
@@ -62,46 +64,7 @@ bits_mark rows words place word i wide lt h in' = (
   λ every. (h.each i in').1 (λ k d below. (row_has (get_or rows k d).now place i words (wide k d below) lt in').1 (every k d below)),
 )
 
--- ---- the first bit of a word
-
-abbrev pub MarksPlaces : (ℕ → Type 0) → ℕ → ℕ → ℕ → Type 0
-MarksPlaces P from base word = (i : ℕ) → i < 64 → (bit_at word i ≡ 1) ↔ ((from ≤ base + i) × P (base + i))
-
-not_one : (a : ℕ) → a ≡ 0 → a ≡ 1 → ⊥
-not_one a z o = absurd (omega arith)
-
-pub word_found : (P : ℕ → Type 0) (from to base word : ℕ) → MarksPlaces P from base word → word ≢ 0 → word < 2 ^ 64 → Nowhere P from base → base + 64 ≤ to → IsFirst P from to (Some (base + count_trailing_zeros 64 word))
-word_found P from to base word marks ne fits before room =
-    let n : ℕ = count_trailing_zeros 64 word in
-    let positive : 0 < word = omega arith in
-    let t = bit_at-trailing_zeros w64 word positive fits in
-    let here = (marks n t.0).0 t.1 in (
-      here.0,
-      (let in' : n < 64 = t.0 in omega arith),
-      here.1,
-      λ k ge below p.
-          elim (cases_lt k base) [
-            | inl lt ↦ before k ge lt p
-            | inr le ↦ (
-                let e : base + (k - base) ≡ k = omega arith in
-                let in' : n < 64 = t.0 in
-                let small : k - base < n = omega arith in
-                let i64 : k - base < 64 = omega arith in
-                let Q : ℕ → Type 0 = λ j. (from ≤ j) × P j in
-                not_one (bit_at word (k - base)) (t.2 (k - base) small) ((marks (k - base) i64).1 (subst Q (sym e) (ge, p))))
-          ],
-    )
-
-pub word_empty : (P : ℕ → Type 0) (from base word next : ℕ) → MarksPlaces P from base word → word ≡ 0 → Nowhere P from base → next ≡ base + 64 → Nowhere P from next
-word_empty P from base word next marks z before is k ge below p =
-    elim (cases_lt k base) [
-      | inl lt ↦ before k ge lt p
-      | inr le ↦ (
-          let e : base + (k - base) ≡ k = omega arith in
-          let i64 : k - base < 64 = omega arith in
-          let Q : ℕ → Type 0 = λ j. (from ≤ j) × P j in
-          not_one (bit_at word (k - base)) (ap (λ v. bit_at v (k - base)) z ∙ bit_at-zero (k - base)) ((marks (k - base) i64).1 (subst Q (sym e) (ge, p))))
-    ]
+-- ---- the first place that is later
 
 pub first_later : (P : ℕ → Type 0) (from mid to : ℕ) (r : Option ℕ) → from ≤ mid → Nowhere P from mid → IsFirst P mid to r → IsFirst P from to r
 first_later P from mid to None le before h =
@@ -175,49 +138,11 @@ part_passed rows count words place lanes wide room h z k ge below every =
     four_passed (take count rows) (64 * place) words place lanes (All-take (λ (row : Words). length row.now ≡ words) count rows wide) room h z (omega arith) (λ j low high p. absurd (omega arith)) k ge below
     (All-take (λ (row : Words). get_or (all_bits row.now) k false ≡ true) count rows every)
 
--- the word of `from`, without the bits before it
-head_is : (word r : ℕ) → r < 64 → word < 2 ^ 64 → bit_and word ((2 ^ 64 - 1) * 2 ^ r % 2 ^ 64) ≡ word / 2 ^ r * 2 ^ r
-head_is word r lt fits =
-    let le : r ≤ 64 = omega arith in
-    ap (λ m. bit_and word m) (ones_shl 64 r le) ∙ and_high_mask 64 r le word fits
-
-head_low : (a r i : ℕ) → i < r → bit_at (a * 2 ^ r) i ≡ 0
-head_low a r i lt = let z : a * 2 ^ r + 0 ≡ a * 2 ^ r = omega arith in ap (λ v. bit_at v i) (sym z) ∙ bit_at_cat_low a r 0 i lt ∙ bit_at-zero i
-
-head_high : (word r i : ℕ) → r ≤ i → bit_at (word / 2 ^ r * 2 ^ r) i ≡ bit_at word i
-head_high word r i le =
-    let z : word / 2 ^ r * 2 ^ r + 0 ≡ word / 2 ^ r * 2 ^ r = omega arith in
-    let e : r + (i - r) ≡ i = omega arith in
-    ap (λ v. bit_at v i) (sym z) ∙ bit_at_cat_high (word / 2 ^ r) r 0 i (pow_pos r) le ∙ ap (λ v. v % 2) (shr-shr word r (i - r) ∙ ap (λ k. word / 2 ^ k) e)
-
--- of a word that marks places, the bits from one on
-pub masked_marks : (P : ℕ → Type 0) (from word : ℕ) → word < 2 ^ 64 → ((i : ℕ) → i < 64 → (bit_at word i ≡ 1) ↔ P (64 * (from / 64) + i)) → MarksPlaces P from (64 * (from / 64)) (bit_and word ((2 ^ 64 - 1) * 2 ^ (from % 64) % 2 ^ 64))
-masked_marks P from word fits b i in' =
-    let r64 : from % 64 < 64 = omega arith in
-    let e = ap (λ v. bit_at v i) (head_is word (from % 64) r64 fits) in (
-      λ one. elim (cases_lt i (from % 64)) [
-        | inl low ↦ absurd (not_one (bit_at (word / 2 ^ (from % 64) * 2 ^ (from % 64)) i) (head_low (word / 2 ^ (from % 64)) (from % 64) i low) (sym e ∙ one))
-        | inr high ↦ (omega arith, (b i in').0 (sym (head_high word (from % 64) i high) ∙ sym e ∙ one))
-      ],
-      λ both. (let high : from % 64 ≤ i = omega (arith, both.0) in e ∙ head_high word (from % 64) i high ∙ (b i in').1 both.1),
-    )
-
 pub head_marks : (rows : List Words) (from words word : ℕ) → AreWide words rows → from / 64 < words → word < 2 ^ 64 → IsAndAt word rows (from / 64)
     → MarksPlaces (HaveAll rows) from (64 * (from / 64)) (bit_and word ((2 ^ 64 - 1) * 2 ^ (from % 64) % 2 ^ 64))
 head_marks rows from words word wide lt fits h = masked_marks (HaveAll rows) from word fits (λ i in'. bits_mark rows words (from / 64) word i wide lt h in')
 
 -- ---- summaries
-
--- a summary marks the pairs of 64, from one of them on
-pub summary_marks : (summary start : ℕ) → summary < 2 ^ 64 → MarksPlaces (HasPair summary) start (64 * (start / 64)) (bit_and summary ((2 ^ 64 - 1) * 2 ^ (start % 64) % 2 ^ 64))
-summary_marks summary start fits = masked_marks (HasPair summary) start summary fits (λ i in'.
-    let e : (64 * (start / 64) + i) % 64 ≡ i = omega arith in
-    let read = ap (λ k. bit_at summary k) e in
-    (λ one. read ∙ one, λ on. sym read ∙ on))
-
--- a word is marked where its pair is
-pub pairs_passed : (summary start to less : ℕ) → less ≤ max start (2 * to) → Nowhere (HasPair summary) (start / 2) to → Nowhere (IsMarked summary) start less
-pairs_passed summary start to less le h k ge below p = h (k / 2) (omega arith) (omega arith) p
 
 pub nowhere_up_to : (P : ℕ → Type 0) (from to less : ℕ) → less ≤ to → Nowhere P from to → Nowhere P from less
 nowhere_up_to P from to less le h k ge below p = h k ge (omega arith) p

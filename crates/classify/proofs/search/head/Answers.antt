@@ -2,8 +2,9 @@ use Rattle.std.proofs.Common.{◌≡◌, subst, ◌∙◌, sym, arith, ◌*◌, 
 use Rattle.std.proofs.lemmas.Bool.{true≢false}
 use Rattle.std.proofs.lemmas.Nat.{and_le_l}
 use Rattle.classify.specs.steps.CommonPlaces.{HaveAll}
-use Rattle.classify.specs.steps.Summaries.{IsMarked}
-use Rattle.classify.proofs.laws.search.SearchLaws.{word_found, word_empty, head_marks}
+use Rattle.bits.specs.steps.Summaries.{IsMarked}
+use Rattle.bits.proofs.laws.MarkLaws.{word_found, word_empty}
+use Rattle.classify.proofs.laws.search.SearchLaws.{head_marks}
 use Rattle.classify.proofs.search.head.Goals as goal
 
 pub returns-then-all-ne0 : goal.returns-then-all-ne0

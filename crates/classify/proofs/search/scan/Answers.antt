@@ -1,6 +1,7 @@
 use Rattle.std.proofs.Common.{arith, ◌<◌, ◌≤◌, ◌*◌, ◌+◌}
 use Rattle.classify.specs.steps.CommonPlaces.{HaveAll}
-use Rattle.classify.proofs.laws.search.SearchLaws.{word_found, word_empty, whole_marks}
+use Rattle.bits.proofs.laws.MarkLaws.{word_found, word_empty}
+use Rattle.classify.proofs.laws.search.SearchLaws.{whole_marks}
 use Rattle.classify.proofs.search.scan.Goals as goal
 
 pub returns-then-all-ne0 : goal.returns-then-all-ne0

@@ -1,5 +1,6 @@
 use Rattle.std.proofs.Common.{◌*◌}
-use Rattle.classify.specs.steps.CommonPlaces.{Nowhere, HaveAll}
+use Rattle.bits.specs.steps.First.{Nowhere}
+use Rattle.classify.specs.steps.CommonPlaces.{HaveAll}
 use Rattle.classify.proofs.search.scan.Given as goal
 
 abbrev pub invariant-loop-place : goal.invariant-loop-place

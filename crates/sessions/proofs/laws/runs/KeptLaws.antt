@@ -13,7 +13,7 @@ use Rattle.restore.specs.sections.Restore.{Restore, Restoring, ended_at, restore
 use Rattle.sessions.specs.lines.Fault.{Fault}
 use Rattle.sessions.specs.lines.Request.{Request, Nothing, Run, Save, Open, Ask, Show, request_on}
 use Rattle.sessions.specs.lines.Turn.{Line, Spot, Outside, Within, Passing, Reply, Says, Fails, Turn, edit_turn, on_chain, serve, ended, restore_turn, served, is_end, needs_no_memory, turn}
-use Rattle.sessions.specs.replies.Walked.{packet_reply}
+use Rattle.replies.specs.Walked.{packet_reply}
 
 -- what holds of both arms holds of the whole
 pub of_both : {A : Type 0} (P : A → Type 0) (b : Bool) {x y : A} → P x → P y → P (if b then x else y)

@@ -12,7 +12,7 @@ use Rattle.restore.specs.listings.Listing.{rules_listing}
 use Rattle.sessions.specs.lines.Fault.{Fault, of_line}
 use Rattle.sessions.specs.lines.Request.{Run}
 use Rattle.sessions.specs.lines.Turn.{Says, Spot, Outside, Turn, after_fault, edit_turn, fails, on_chain, serve, silent, turn_with}
-use Rattle.sessions.specs.replies.Lines.{lines_reply}
+use Rattle.replies.specs.Lines.{lines_reply}
 use Rattle.sessions.specs.steps.Served.{Comes, HasPlace, IsReply, IsTurn}
 use Rattle.sessions.specs.declared.reply.Answer.{Answer}
 use Rattle.sessions.specs.declared.reply.Answer.TheVariants as answers

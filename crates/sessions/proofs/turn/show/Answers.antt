@@ -1,5 +1,5 @@
 use Rattle.table.specs.chains.Table.{rules_of}
-use Rattle.sessions.specs.replies.Lines.{lines_reply}
+use Rattle.replies.specs.Lines.{lines_reply}
 use Rattle.sessions.proofs.laws.turns.TurnLaws.{lines_comes, on_none}
 use Rattle.sessions.proofs.turn.show.Goals as goal
 

@@ -1,9 +1,9 @@
 use Rattle.std.proofs.Common.{◌≡◌, ap, get_or, List, [], ℕ, subst, ◌∙◌, sym, rules, Bool, take}
 use Rattle.std.specs.Prelude.{slice_index}
-use Rattle.classify.specs.steps.Packing.{IsPacked, all_bits}
+use Rattle.bits.specs.steps.Packing.{IsPacked, all_bits}
 use Rattle.classify.specs.steps.Fields.{tops}
 use Rattle.classify.specs.steps.Pieces.{row_in}
-use Rattle.classify.specs.steps.Summaries.{IsSummaryOf}
+use Rattle.bits.specs.steps.Summaries.{IsSummaryOf}
 use Rattle.classify.specs.classifier.Classifier.{ClassifiedAndRoom}
 use Rattle.classify.proofs.laws.search.NextLaws.{field_row}
 use Rattle.classify.proofs.classifier.Classifier.row.Goals as goal

@@ -1,6 +1,6 @@
 use Rattle.std.proofs.Common.{◌≡◌, sym, length, subst, take, List, Bool}
-use Rattle.classify.specs.steps.Packing.{IsPacked, all_bits}
-use Rattle.classify.specs.steps.Summaries.{IsSummaryOf}
+use Rattle.bits.specs.steps.Packing.{IsPacked, all_bits}
+use Rattle.bits.specs.steps.Summaries.{IsSummaryOf}
 use Rattle.classify.proofs.laws.line.ShownLaws.{row_of_piece}
 use Rattle.classify.proofs.line.owned.OwnedLine.row_at.Goals as goal
 

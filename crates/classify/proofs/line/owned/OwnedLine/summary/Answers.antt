@@ -1,5 +1,5 @@
 use Rattle.std.proofs.Common.{◌<◌, sym, arith, length, subst, List, Bool}
-use Rattle.classify.specs.steps.Summaries.{IsSummaryOf}
+use Rattle.bits.specs.steps.Summaries.{IsSummaryOf}
 use Rattle.classify.proofs.laws.line.PieceLaws.{kept_long, kept_row}
 use Rattle.classify.proofs.line.owned.OwnedLine.summary.Goals as goal
 

@@ -1,5 +1,5 @@
 use Rattle.std.proofs.Common.{◌<◌, ◌≡◌, sym, arith, length, subst, take, List, Bool}
-use Rattle.classify.specs.steps.Packing.{IsPacked, all_bits}
+use Rattle.bits.specs.steps.Packing.{IsPacked, all_bits}
 use Rattle.classify.proofs.laws.line.PieceLaws.{kept_long, kept_row}
 use Rattle.classify.proofs.line.owned.OwnedLine.words.Goals as goal
 

@@ -1,7 +1,7 @@
 use Rattle.std.proofs.Common.{◌<◌, ◌∙◌, sym, ap, arith, length, get_or, false, List, Bool}
 use Rattle.std.proofs.lemmas.List.{get_or-take}
-use Rattle.classify.specs.steps.Packing.{all_bits}
-use Rattle.classify.proofs.laws.bits.RowLaws.{front_len}
+use Rattle.bits.specs.steps.Packing.{all_bits}
+use Rattle.bits.proofs.laws.RowLaws.{front_len}
 use Rattle.classify.proofs.line.view.Row.get.Goals as goal
 
 pub bit_at-requires : goal.bit_at-requires

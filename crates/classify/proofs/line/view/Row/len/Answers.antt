@@ -1,5 +1,5 @@
 use Rattle.std.proofs.Common.{◌∙◌, sym, ap, length}
-use Rattle.classify.proofs.laws.bits.RowLaws.{front_len}
+use Rattle.bits.proofs.laws.RowLaws.{front_len}
 use Rattle.classify.proofs.line.view.Row.len.Goals as goal
 
 pub returns : goal.returns

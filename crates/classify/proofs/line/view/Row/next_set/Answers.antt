@@ -1,7 +1,7 @@
 use Rattle.std.proofs.Common.{◌∙◌, ap, Bool, List, length, take, sym, ◌≡◌, subst, ℕ}
 use Rattle.classify.specs.search.NextMatch.{next_match}
-use Rattle.classify.specs.steps.Packing.{IsPacked, all_bits}
-use Rattle.classify.proofs.laws.bits.RowLaws.{front_len}
+use Rattle.bits.specs.steps.Packing.{IsPacked, all_bits}
+use Rattle.bits.proofs.laws.RowLaws.{front_len}
 use Rattle.classify.proofs.laws.search.NextLaws.{next_of_one, one_sums_up}
 use Rattle.classify.proofs.line.view.Row.next_set.Goals as goal
 

@@ -1,0 +1,14 @@
+pub mod BitLaws
+pub mod GetLaws
+pub mod MarkLaws
+pub mod PaddedLaws
+pub mod PlaceLaws
+pub mod RowLaws
+pub mod RowsLaws
+pub mod SameLaws
+pub mod ShiftLaws
+pub mod SlotLaws
+pub mod SlotRowLaws
+pub mod SummaryLaws
+pub mod WidenLaws
+pub mod WordLaws

@@ -1,0 +1,318 @@
+-- Rows of equally many bits in one list of words: what a change of one row leaves of the others.
+use Rattle.std.proofs.Common.{append_assoc, ◌≡◌, ◌≢◌, inl, inr, ℕ, suc, ◌+◌, ◌-◌, ◌*◌, ◌/◌, ◌%◌, ◌^◌, ◌<◌, ◌≤◌, Bool, false, List, [], ◌++◌, length, take, drop, get_or, refl, sym, ◌∙◌, ap, arith, subst, map}
+use Rattle.std.proofs.Math.ListN.{set}
+use Rattle.std.proofs.Math.Seq.{take-set-lt}
+use Rattle.std.proofs.lemmas.Nat.{mul-le}
+use Rattle.std.proofs.lemmas.Bool.{cases_lt, cases_eq}
+use Rattle.std.proofs.lemmas.List.{get_or_default, length-take-le, length-drop, length-set, length-append, get_or-take, get_or-drop, get_or-set_other, same_lists, drop-set-add, get_or_append_left, get_or-append_right, take_at, drop_at, get_or-map, length-map, take-append-le, drop-append-le, take-take, drop-drop}
+use Rattle.std.specs.Int.{div_ceil}
+use Rattle.std.proofs.lemmas.List.Elements.{All-same, All-take}
+use Rattle.bits.specs.steps.Packing.{all_bits, word_bits, IsPacked}
+use Rattle.bits.proofs.laws.WordLaws.{length-all_bits, all_bits-cut}
+use Rattle.bits.specs.steps.Held.{words_in, bits_in, IsPadded, AreHeld}
+use Rattle.bits.specs.Rows.{RowsAndRoom}
+use Rattle.bits.proofs.laws.PaddedLaws.{set_padded, set_front, front_size}
+use Rattle.bits.proofs.laws.SlotLaws.{below_at, one_written}
+
+-- a slot's words end where the next slot's begin
+pub slots_in_order : (w s t : ℕ) → s < t → s * w + w ≤ t * w
+slots_in_order w s t lt =
+    let le : suc s * w ≤ t * w = mul-le (suc s) w t w lt (omega arith) in
+    let more : suc s * w ≡ s * w + w = omega arith in
+    omega arith
+
+pub length-words_in : (w n s : ℕ) (ws : List ℕ) → length ws ≡ n * w → s < n → length (words_in w ws s) ≡ w
+length-words_in w n s ws size lt =
+    let le : s * w + w ≤ n * w = slots_in_order w s n lt in
+    length-take-le w (drop (s * w) ws) (omega (arith, length-drop (s * w) ws))
+
+pub word_in : (w s i d : ℕ) (ws : List ℕ) → i < w → get_or (words_in w ws s) i d ≡ get_or ws (s * w + i) d
+word_in w s i d ws lt = get_or-take w (drop (s * w) ws) i d lt ∙ get_or-drop (s * w) ws i d
+
+-- slots agree where their words do
+agree : (w n m s t : ℕ) (us ws : List ℕ) → length us ≡ m * w → length ws ≡ n * w → s < m → t < n
+    → ((i d : ℕ) → i < w → get_or us (s * w + i) d ≡ get_or ws (t * w + i) d) → words_in w us s ≡ words_in w ws t
+agree w n m s t us ws a b lt lt' e =
+    let x : length (words_in w us s) ≡ w = length-words_in w m s us a lt in
+    let y : length (words_in w ws t) ≡ w = length-words_in w n t ws b lt' in
+    same_lists (words_in w us s) (words_in w ws t) (x ∙ sym y) (λ i d below.
+    let in' : i < w = omega (arith, x, below) in
+    word_in w s i d us in' ∙ e i d in' ∙ sym (word_in w t i d ws in'))
+
+-- ---- one word written
+
+pub word_set_here : (w s i v : ℕ) (ws : List ℕ) → i < w → words_in w (set ws (s * w + i) v) s ≡ set (words_in w ws s) i v
+word_set_here w s i v ws lt = ap (λ (us : List ℕ). take w us) (drop-set-add (s * w) ws i v) ∙ take-set-lt w (drop (s * w) ws) i v lt
+
+pub word_set_other : (w n s t i v : ℕ) (ws : List ℕ) → length ws ≡ n * w → s < n → t < n → t ≢ s → i < w → words_in w (set ws (s * w + i) v) t ≡ words_in w ws t
+word_set_other w n s t i v ws size in' lt ne small =
+    agree w n n t t (set ws (s * w + i) v) ws (length-set ws (s * w + i) v ∙ size) size lt lt (λ j d below.
+    get_or-set_other ws (s * w + i) (t * w + j) v d (elim (cases_lt t s) [
+      | inl less ↦ (let o = slots_in_order w t s less in λ e. absurd (omega (arith, o, e, below)))
+      | inr more ↦ (let more' : s < t = omega (arith, more, ne) in let o = slots_in_order w s t more' in λ e. absurd (omega (arith, o, e, small)))
+    ]))
+
+-- ---- rows as they are held
+
+pub covers_row : (len w : ℕ) (slots ws : List ℕ) (s : ℕ) → AreHeld len w slots ws → s < length slots → len ≤ 64 * length (words_in w ws s)
+covers_row len w slots ws s h lt = omega (arith, h.covers, length-words_in w (length slots) s ws h.wide lt)
+
+pub slot_below : (len w : ℕ) (slots ws : List ℕ) (k s : ℕ) → AreHeld len w slots ws → k < length slots → s ≡ get_or slots k s → s < length slots
+slot_below len w slots ws k s h lt is = let P : ℕ → Type 0 = λ x. x < length slots in subst P (sym is) (below_at (length slots) slots k s h.below lt)
+
+-- where the word of a bit is
+pub word_place : (len w at : ℕ) → len ≤ 64 * w → at < len → at / 64 < w
+word_place len w at le lt = omega arith
+
+pub place_within : (len w : ℕ) (slots ws : List ℕ) (k s at : ℕ) → AreHeld len w slots ws → k < length slots → s ≡ get_or slots k s → at < len → s * w + at / 64 < length ws
+place_within len w slots ws k s at h lt is in' =
+    let below : s < length slots = slot_below len w slots ws k s h lt is in
+    omega (arith, slots_in_order w s (length slots) below, word_place len w at h.covers in', h.wide)
+
+pub shown_at : (len w : ℕ) (slots ws : List ℕ) (k s : ℕ) (e : List Bool) → k < length slots → s ≡ get_or slots k s → get_or (map (bits_in len w ws) slots) k e ≡ bits_in len w ws s
+shown_at len w slots ws k s e lt is = get_or-map (bits_in len w ws) slots k s e lt ∙ ap (bits_in len w ws) (sym is)
+
+-- ---- one bit written
+
+-- the bit of a slot's row that was written, and the word that it is in
+pub record IsWritten (len w : ℕ) (slots ws : List ℕ) (k s at word v : ℕ) (b : Bool) : Type 0 where
+  pub held : AreHeld len w slots ws
+  pub row : k < length slots
+  pub slot : s ≡ get_or slots k s
+  pub place : at < len
+  pub read : word ≡ get_or ws (s * w + at / 64) word
+  pub bits : word_bits 64 v ≡ set (word_bits 64 word) (at % 64) b
+
+written_below : (len w : ℕ) (slots ws : List ℕ) (k s at word v : ℕ) (b : Bool) → IsWritten len w slots ws k s at word v b → s < length slots
+written_below len w slots ws k s at word v b h =
+    slot_below len w slots ws k s h.held h.row h.slot
+
+written_word : (len w : ℕ) (slots ws : List ℕ) (k s at word v : ℕ) (b : Bool) → IsWritten len w slots ws k s at word v b → word ≡ get_or (words_in w ws s) (at / 64) word
+written_word len w slots ws k s at word v b h = h.read ∙ sym (word_in w s (at / 64) word ws (word_place len w at h.held.covers h.place))
+
+written_here : (len w : ℕ) (slots ws : List ℕ) (k s at word v : ℕ) (b : Bool) → IsWritten len w slots ws k s at word v b → words_in w (set ws (s * w + at / 64) v) s ≡ set (words_in w ws s) (at / 64) v
+written_here len w slots ws k s at word v b h = word_set_here w s (at / 64) v ws (word_place len w at h.held.covers h.place)
+
+written_other : (len w : ℕ) (slots ws : List ℕ) (k s at word v : ℕ) (b : Bool) → IsWritten len w slots ws k s at word v b → (t : ℕ) → t < length slots → t ≢ s
+    → words_in w (set ws (s * w + at / 64) v) t ≡ words_in w ws t
+written_other len w slots ws k s at word v b h t lt ne =
+    word_set_other w (length slots) s t (at / 64) v ws h.held.wide (written_below len w slots ws k s at word v b h) lt ne (word_place len w at h.held.covers h.place)
+
+pub written_held : (len w : ℕ) (slots ws : List ℕ) (k s at word v : ℕ) (b : Bool) → IsWritten len w slots ws k s at word v b → AreHeld len w slots (set ws (s * w + at / 64) v)
+written_held len w slots ws k s at word v b h =
+    let P : List ℕ → Type 0 = λ row. IsPadded row len in
+    let lt : s < length slots = written_below len w slots ws k s at word v b h in
+    record {
+      covers = h.held.covers;
+      few = h.held.few;
+      counted = h.held.counted;
+      wide = length-set ws (s * w + at / 64) v ∙ h.held.wide;
+      below = h.held.below;
+      apart = h.held.apart;
+      padded = λ t lt'. elim (cases_eq t s) [
+        | inl e ↦ (let Q : ℕ → Type 0 = λ x. IsPadded (words_in w (set ws (s * w + at / 64) v) x) len in
+            subst Q (sym e) (subst P (sym (written_here len w slots ws k s at word v b h))
+            (set_padded (words_in w ws s) len at v word b (covers_row len w slots ws s h.held lt) (h.held.padded s lt) h.place (written_word len w slots ws k s at word v b h) h.bits)))
+        | inr ne ↦ subst P (sym (written_other len w slots ws k s at word v b h t lt' ne)) (h.held.padded t lt')
+      ];
+    }
+
+pub written_shown : (len w : ℕ) (slots ws : List ℕ) (k s at word v : ℕ) (b : Bool) → IsWritten len w slots ws k s at word v b
+    → map (bits_in len w (set ws (s * w + at / 64) v)) slots ≡ set (map (bits_in len w ws) slots) k (set (get_or (map (bits_in len w ws) slots) k []) at b)
+written_shown len w slots ws k s at word v b h =
+    let lt : s < length slots = written_below len w slots ws k s at word v b h in
+    let f : ℕ → List Bool = bits_in len w ws in
+    let g : ℕ → List Bool = bits_in len w (set ws (s * w + at / 64) v) in
+    let here : g s ≡ set (f s) at b =
+    ap (λ (row : List ℕ). take len (all_bits row)) (written_here len w slots ws k s at word v b h)
+    ∙ set_front (words_in w ws s) len at v word b (covers_row len w slots ws s h.held lt) h.place (written_word len w slots ws k s at word v b h) h.bits in
+    one_written f g (length slots) slots k s (set (get_or (map f slots) k []) at b) h.held.below h.held.apart h.row
+    (λ t lt' ne. ap (λ (row : List ℕ). take len (all_bits row)) (written_other len w slots ws k s at word v b h t lt' (λ e. ne (e ∙ h.slot))))
+    (ap g (sym h.slot) ∙ here ∙ ap (λ (row : List Bool). set row at b) (sym (shown_at len w slots ws k s [] h.row h.slot)))
+
+-- ---- what a call asks of a row, asked of the slots
+
+pub row_there : (len w : ℕ) (slots ws : List ℕ) (shown : RowsAndRoom) (k : ℕ) → record { rows = map (bits_in len w ws) slots; room = 64 * w - len } ≡ shown → k < length shown.rows → k < length slots
+row_there len w slots ws shown k is lt =
+    let n : length (map (bits_in len w ws) slots) ≡ length shown.rows = ap (λ (r : RowsAndRoom). length r.rows) is in
+    omega (arith, n, length-map slots (bits_in len w ws))
+
+pub bit_there : (len w : ℕ) (slots ws : List ℕ) (shown : RowsAndRoom) (k at s : ℕ) → AreHeld len w slots ws → record { rows = map (bits_in len w ws) slots; room = 64 * w - len } ≡ shown → k < length slots
+    → s ≡ get_or slots k s → at < length (get_or shown.rows k []) → at < len
+bit_there len w slots ws shown k at s h is lt slot in' =
+    let below : s < length slots = slot_below len w slots ws k s h lt slot in
+    let same : length (get_or shown.rows k []) ≡ len =
+    sym (ap (λ (r : RowsAndRoom). length (get_or r.rows k [])) is) ∙ ap (λ (row : List Bool). length row) (shown_at len w slots ws k s [] lt slot)
+    ∙ front_size (words_in w ws s) len (covers_row len w slots ws s h below) in
+    omega arith
+
+-- ---- a row read
+
+-- the words of a row that its bits need
+pub need_within : (len w : ℕ) (slots ws : List ℕ) (k s used : ℕ) → AreHeld len w slots ws → k < length slots → s ≡ get_or slots k s → used ≡ div_ceil len 64 → s * w + used ≤ length ws
+need_within len w slots ws k s used h lt slot is =
+    let below : s < length slots = slot_below len w slots ws k s h lt slot in
+    omega (arith, slots_in_order w s (length slots) below, h.covers, h.wide)
+
+front_words : (row : List ℕ) (used len : ℕ) → len ≤ 64 * used → used ≤ length row → take len (all_bits (take used row)) ≡ take len (all_bits row)
+front_words row used len le lt =
+    let n : length (all_bits (take used row)) ≡ 64 * used = length-all_bits (take used row) ∙ ap (λ k. 64 * k) (length-take-le used row lt) in
+    let le' : len ≤ length (all_bits (take used row)) = omega arith in
+    sym (ap (λ (bs : List Bool). take len bs) (all_bits-cut row used) ∙ take-append-le len (all_bits (take used row)) (all_bits (drop used row)) le')
+
+pub front_packed : (row : List ℕ) (used len : ℕ) → len ≤ 64 * used → 64 * used < len + 64 → used < 2 ^ 58 → used ≤ length row → IsPadded row len → IsPacked (take used row) len
+front_packed row used len le tight few lt h =
+    let n : length (take used row) ≡ used = length-take-le used row lt in
+    let m : length (all_bits (take used row)) ≡ 64 * used = length-all_bits (take used row) ∙ ap (λ k. 64 * k) n in
+    let le' : len ≤ length (all_bits (take used row)) = omega arith in
+    let cut : drop len (all_bits row) ≡ drop len (all_bits (take used row)) ++ all_bits (drop used row) =
+    ap (λ (bs : List Bool). drop len bs) (all_bits-cut row used) ∙ drop-append-le len (all_bits (take used row)) (all_bits (drop used row)) le' in
+    let k : ℕ = length (drop len (all_bits (take used row))) in
+    let Off : Bool → Type 0 = λ b. b ≡ false in
+    record {
+      covers = omega arith;
+      tight = omega arith;
+      few = omega arith;
+      padded = All-same Off (drop len (all_bits (take used row))) (take k (drop len (all_bits row)))
+          (sym (ap (λ (bs : List Bool). take k bs) cut ∙ take_at (drop len (all_bits (take used row))) (all_bits (drop used row)) k refl)) (All-take Off k (drop len (all_bits row)) h);
+    }
+
+part_is : (w s used : ℕ) (ws : List ℕ) → used ≤ w → take used (drop (s * w) ws) ≡ take used (words_in w ws s)
+part_is w s used ws le = sym (take-take used w (drop (s * w) ws) le)
+
+pub lent_packed : (len w : ℕ) (slots ws : List ℕ) (k s used : ℕ) → AreHeld len w slots ws → k < length slots → s ≡ get_or slots k s → used ≡ div_ceil len 64 → IsPacked (take used (drop (s * w) ws)) len
+lent_packed len w slots ws k s used h lt slot is =
+    let below : s < length slots = slot_below len w slots ws k s h lt slot in
+    let n : length (words_in w ws s) ≡ w = length-words_in w (length slots) s ws h.wide below in
+    let le : used ≤ w = omega (arith, h.covers) in
+    let P : List ℕ → Type 0 = λ row. IsPacked row len in
+    subst P (sym (part_is w s used ws le)) (front_packed (words_in w ws s) used len (omega arith) (omega arith) (omega (arith, h.few)) (omega arith) (h.padded s below))
+
+pub lent_bits : (len w : ℕ) (slots ws : List ℕ) (k s used : ℕ) → AreHeld len w slots ws → k < length slots → s ≡ get_or slots k s → used ≡ div_ceil len 64
+    → take len (all_bits (take used (drop (s * w) ws))) ≡ get_or (map (bits_in len w ws) slots) k []
+lent_bits len w slots ws k s used h lt slot is =
+    let below : s < length slots = slot_below len w slots ws k s h lt slot in
+    let n : length (words_in w ws s) ≡ w = length-words_in w (length slots) s ws h.wide below in
+    let le : used ≤ w = omega (arith, h.covers) in
+    ap (λ (row : List ℕ). take len (all_bits row)) (part_is w s used ws le) ∙ front_words (words_in w ws s) used len (omega arith) (omega arith) ∙ sym (shown_at len w slots ws k s [] lt slot)
+
+-- a row has so many bits
+pub row_size : (len w : ℕ) (slots ws : List ℕ) (shown : RowsAndRoom) (k s : ℕ) → AreHeld len w slots ws → record { rows = map (bits_in len w ws) slots; room = 64 * w - len } ≡ shown → k < length slots
+    → s ≡ get_or slots k s → length (get_or shown.rows k []) ≡ len
+row_size len w slots ws shown k s h is lt slot =
+    sym (ap (λ (r : RowsAndRoom). length (get_or r.rows k [])) is) ∙ ap (λ (row : List Bool). length row) (shown_at len w slots ws k s [] lt slot)
+    ∙ front_size (words_in w ws s) len (covers_row len w slots ws s h (slot_below len w slots ws k s h lt slot))
+
+-- ---- a row written over another
+
+-- us has another row's words in slot s
+abbrev pub IsRowWritten : ℕ → ℕ → List ℕ → List ℕ → List ℕ → Type 0
+IsRowWritten w s row ws us = us ≡ (take (s * w) ws ++ row) ++ drop (s * w + w) ws
+
+front_length : (w n s : ℕ) (row ws : List ℕ) → length ws ≡ n * w → s < n → length row ≡ w → length (take (s * w) ws ++ row) ≡ s * w + w
+front_length w n s row ws size lt long =
+    let o : s * w + w ≤ n * w = slots_in_order w s n lt in
+    length-append (take (s * w) ws) row ∙ ap (λ m. m + length row) (length-take-le (s * w) ws (omega arith)) ∙ ap (λ m. s * w + m) long
+
+pub row_written_size : (w n s : ℕ) (row ws us : List ℕ) → length ws ≡ n * w → s < n → length row ≡ w → IsRowWritten w s row ws us → length us ≡ length ws
+row_written_size w n s row ws us size lt long h =
+    let o : s * w + w ≤ n * w = slots_in_order w s n lt in
+    let n' = front_length w n s row ws size lt long in
+    omega (arith, ap (λ (vs : List ℕ). length vs) h, length-append (take (s * w) ws ++ row) (drop (s * w + w) ws), length-drop (s * w + w) ws)
+
+pub row_written_here : (w n s : ℕ) (row ws us : List ℕ) → length ws ≡ n * w → s < n → length row ≡ w → IsRowWritten w s row ws us → words_in w us s ≡ row
+row_written_here w n s row ws us size lt long h =
+    let o : s * w + w ≤ n * w = slots_in_order w s n lt in
+    let low : length (take (s * w) ws) ≡ s * w = length-take-le (s * w) ws (omega arith) in
+    let rest : List ℕ = drop (s * w + w) ws in
+    ap (λ (vs : List ℕ). words_in w vs s) (h ∙ append_assoc (take (s * w) ws) row rest)
+    ∙ ap (λ (vs : List ℕ). take w vs) (drop_at (take (s * w) ws) (row ++ rest) (s * w) low) ∙ take_at row rest w long
+
+pub row_written_other : (w n s t : ℕ) (row ws us : List ℕ) → length ws ≡ n * w → s < n → t < n → length row ≡ w → t ≢ s → IsRowWritten w s row ws us → words_in w us t ≡ words_in w ws t
+row_written_other w n s t row ws us size lt lt' long ne h =
+    let o : s * w + w ≤ n * w = slots_in_order w s n lt in
+    let low : length (take (s * w) ws) ≡ s * w = length-take-le (s * w) ws (omega arith) in
+    let rest : List ℕ = drop (s * w + w) ws in
+    agree w n n t t us ws (row_written_size w n s row ws us size lt long h ∙ size) size lt' lt' (λ i d below.
+    ap (λ (vs : List ℕ). get_or vs (t * w + i) d) h
+    ∙ elim (cases_lt t s) [
+      | inl less ↦ (
+          let o' = slots_in_order w t s less in
+          let in1 : t * w + i < length (take (s * w) ws) = omega (arith, low, o', below) in
+          let in2 : t * w + i < length (take (s * w) ws ++ row) = omega (arith, length-append (take (s * w) ws) row, in1) in
+          let in3 : t * w + i < s * w = omega (arith, o', below) in
+          get_or_append_left (take (s * w) ws ++ row) rest d (t * w + i) in2 ∙ get_or_append_left (take (s * w) ws) row d (t * w + i) in1 ∙ get_or-take (s * w) ws (t * w + i) d in3)
+      | inr more ↦ (
+          let more' : s < t = omega (arith, more, ne) in
+          let o' = slots_in_order w s t more' in
+          let past : s * w + w ≤ t * w + i = omega (arith, o') in
+          let back : s * w + w + (t * w + i - (s * w + w)) ≡ t * w + i = omega (arith, past) in
+          get_or-append_right (take (s * w) ws ++ row) rest (s * w + w) (t * w + i) d (front_length w n s row ws size lt long) past
+          ∙ get_or-drop (s * w + w) ws (t * w + i - (s * w + w)) d ∙ ap (λ m. get_or ws m d) back)
+    ])
+
+-- ---- each row changed, as far as slot i
+
+pub record Changed (R : List ℕ → List ℕ → Type 0) (w n : ℕ) (old now : List ℕ) (i : ℕ) : Type 0 where
+  pub as_long : length now ≡ length old
+  pub done : (t : ℕ) → t < i → R (words_in w old t) (words_in w now t)
+  pub rest : (t : ℕ) → i ≤ t → t < n → words_in w now t ≡ words_in w old t
+
+pub changed_first : (R : List ℕ → List ℕ → Type 0) (w n : ℕ) (old : List ℕ) → Changed R w n old old 0
+changed_first R w n old = record { as_long = refl; done = λ t lt. absurd (omega arith); rest = λ t ge lt. refl }
+
+-- row i changed, and no other
+pub changed_by : (R : List ℕ → List ℕ → Type 0) (w n : ℕ) (old now new row : List ℕ) (i : ℕ) → Changed R w n old now i → i < n → length new ≡ length now → R (words_in w now i) row
+    → words_in w new i ≡ row → ((t : ℕ) → t < n → t ≢ i → words_in w new t ≡ words_in w now t) → Changed R w n old new (i + 1)
+changed_by R w n old now new row i h lt same r here others =
+    let P : List ℕ → Type 0 = λ vs. R (words_in w old i) vs in
+    let Q : List ℕ → Type 0 = λ vs. R vs row in
+    record {
+      as_long = same ∙ h.as_long;
+      done = λ t lt'. elim (cases_eq t i) [
+        | inl e ↦ (
+            let changed : R (words_in w old i) (words_in w new i) = subst P (sym here) (subst Q (h.rest i (omega arith) lt) r) in
+            let T : ℕ → Type 0 = λ x. R (words_in w old x) (words_in w new x) in subst T (sym e) changed)
+        | inr ne ↦ (
+            let below : t < i = omega (arith, lt', ne) in
+            let U : List ℕ → Type 0 = λ vs. R (words_in w old t) vs in
+            subst U (sym (others t (omega (arith, below, lt)) ne)) (h.done t below))
+      ];
+      rest = λ t ge lt'. (let ne : t ≢ i = λ e. absurd (omega (arith, e, ge)) in others t lt' ne ∙ h.rest t (omega (arith, ge)) lt');
+    }
+
+pub changed_more : (R : List ℕ → List ℕ → Type 0) (w n : ℕ) (old now new row : List ℕ) (i : ℕ) → Changed R w n old now i → length old ≡ n * w → i < n → length row ≡ w → R (words_in w now i) row
+    → IsRowWritten w i row now new → Changed R w n old new (i + 1)
+changed_more R w n old now new row i h size lt long r is =
+    let size' : length now ≡ n * w = h.as_long ∙ size in
+    changed_by R w n old now new row i h lt (row_written_size w n i row now new size' lt long is) r (row_written_here w n i row now new size' lt long is)
+    (λ t lt' ne. row_written_other w n i t row now new size' lt lt' long ne is)
+
+-- a row's words are within all words
+pub row_within : (len w : ℕ) (slots ws : List ℕ) (k s : ℕ) → AreHeld len w slots ws → k < length slots → s ≡ get_or slots k s → s * w + w ≤ length ws
+row_within len w slots ws k s h lt slot = omega (arith, slots_in_order w s (length slots) (slot_below len w slots ws k s h lt slot), h.wide)
+
+-- the words between a slot's first and the next slot's
+pub whole_row : (w s : ℕ) (ws : List ℕ) → take (s * w + w - s * w) (drop (s * w) ws) ≡ words_in w ws s
+whole_row w s ws = let e : s * w + w - s * w ≡ w = omega arith in ap (λ m. take m (drop (s * w) ws)) e
+
+-- ---- a row that a call wrote, in the vector of all words
+
+pub row_lent_size : (w n s : ℕ) (ws now row : List ℕ) → length ws ≡ n * w → s < n → now ≡ take (s * w + w - s * w) (drop (s * w) ws) → length row ≡ length now → length row ≡ w
+row_lent_size w n s ws now row size lt is same = same ∙ ap (λ (vs : List ℕ). length vs) (is ∙ whole_row w s ws) ∙ length-words_in w n s ws size lt
+
+pub slice_written : (w n s l : ℕ) (row ws : List ℕ) → length ws ≡ n * w → s < n → length row ≡ w → l ≡ length ws
+    → IsRowWritten w s row ws (take l (take (s * w) ws ++ (row ++ drop (length row) (drop (s * w) ws)) ++ drop (length (take (s * w) ws ++ (row ++ drop (length row) (drop (s * w) ws)))) ws))
+slice_written w n s l row ws size lt long e =
+    let whole : List ℕ = take (s * w) ws ++ (row ++ drop (length row) (drop (s * w) ws)) in
+    let is : whole ≡ (take (s * w) ws ++ row) ++ drop (s * w + w) ws =
+    ap (λ m. take (s * w) ws ++ (row ++ drop m (drop (s * w) ws))) long ∙ ap (λ (vs : List ℕ). take (s * w) ws ++ (row ++ vs)) (drop-drop w (s * w) ws)
+    ∙ sym (append_assoc (take (s * w) ws) row (drop (s * w + w) ws)) in
+    let m : length whole ≡ l = row_written_size w n s row ws whole size lt long is ∙ sym e in
+    take_at whole (drop (length whole) ws) l m ∙ is
+
+-- how many bits each row has
+pub row_len : (len w : ℕ) (slots ws : List ℕ) (shown : RowsAndRoom) (k : ℕ) → AreHeld len w slots ws → record { rows = map (bits_in len w ws) slots; room = 64 * w - len } ≡ shown → k < length shown.rows → length (get_or shown.rows k []) ≡ len
+row_len len w slots ws shown k h v lt =
+    let there : k < length slots = row_there len w slots ws shown k v lt in
+    row_size len w slots ws shown k (get_or slots k 0) h v there (get_or_default slots k 0 (get_or slots k 0) there)

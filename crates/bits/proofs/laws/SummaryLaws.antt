@@ -1,0 +1,257 @@
+-- Summaries of words: which bits they have, and what a change of the words leaves of them.
+use Rattle.std.proofs.Common.{◌≡◌, ◌≢◌, inl, inr, ℕ, ◌+◌, ◌-◌, ◌*◌, ◌/◌, ◌%◌, ◌^◌, ◌<◌, ◌≤◌, Bool, true, false, List, [], ◌∷◌, ◌++◌, length, take, drop, get_or, refl, sym, ◌∙◌, ap, arith, subst, map, replicate}
+use Rattle.std.specs.Prelude.{bit_or, cond}
+use Rattle.std.specs.Int.{bit_at, w64}
+use Rattle.std.proofs.Math.ListN.{set}
+use Rattle.std.proofs.Math.Seq.{take-set-lt}
+use Rattle.std.proofs.lemmas.Bool.{cases_lt, cases_eq, true≢false}
+use Rattle.std.proofs.lemmas.List.{get_or-take, get_or_append_left, get_or-append_right, get_or_past, length-take, get_or-set_same, get_or-set_other, get_or_read, drop-set-lt, length-set, length-append, length-take-le}
+use Rattle.std.proofs.lemmas.List.Elements.{All-get_or, All-same}
+use Rattle.std.proofs.lemmas.Nat.Bits.{bit_at_set_same, bit_at_set_other}
+use Rattle.bits.specs.steps.Packing.{all_bits, word_bits}
+use Rattle.bits.specs.Rows.{RowsAndRoom}
+use Rattle.bits.specs.steps.Held.{words_in, bits_in, AreHeld, Gains, EachSlot}
+use Rattle.bits.specs.steps.Summaries.{IsMarked, IsSummaryOf, SumUp, AreSummaries}
+use Rattle.bits.proofs.laws.PaddedLaws.{set_whole}
+use Rattle.bits.proofs.laws.PlaceLaws.{all_zeros, cleared_row}
+use Rattle.bits.proofs.laws.RowsLaws.{Changed, changed_by, IsRowWritten, row_written_other, length-words_in, word_in, word_set_here, word_set_other, shown_at, slot_below}
+use Rattle.bits.proofs.laws.SlotRowLaws.{IsDoubled, doubled_held, doubled_here, doubled_other, doubled_size, IsTakenOut, taken_held, taken_here, taken_other, taken_size}
+use Rattle.bits.proofs.laws.SlotLaws.{all_mapped}
+use Rattle.bits.proofs.laws.WidenLaws.{Widened}
+use Rattle.bits.proofs.laws.WordLaws.{length-all_bits, all_bits-append}
+
+-- ---- the bit of a word
+
+pub mark_same : (summary word : ℕ) → IsMarked (bit_or summary (1 * 2 ^ (word / 2 % 64) % 2 ^ 64)) word
+mark_same summary word = bit_at_set_same w64 summary (word / 2 % 64) (omega arith)
+
+pub mark_other : (summary word k : ℕ) → IsMarked summary k → IsMarked (bit_or summary (1 * 2 ^ (word / 2 % 64) % 2 ^ 64)) k
+mark_other summary word k h =
+    elim (cases_eq (k / 2 % 64) (word / 2 % 64)) [
+      | inl e ↦ (let P : ℕ → Type 0 = λ i. bit_at (bit_or summary (1 * 2 ^ (word / 2 % 64) % 2 ^ 64)) i ≡ 1 in subst P (sym e) (mark_same summary word))
+      | inr ne ↦ bit_at_set_other w64 summary (word / 2 % 64) (omega arith) (k / 2 % 64) ne ∙ h
+    ]
+
+-- ---- a summary of words
+
+-- of the front of a row
+pub front_sums_up : (summary n : ℕ) (bits : List Bool) → IsSummaryOf summary bits → IsSummaryOf summary (take n bits)
+front_sums_up summary n bits h p on =
+    elim (cases_lt p n) [
+      | inl lt ↦ h p (sym (get_or-take n bits p false lt) ∙ on)
+      | inr ge ↦ absurd (true≢false (sym on ∙ past n bits p ge))
+    ]
+  where
+    past : (n : ℕ) (bits : List Bool) (p : ℕ) → n ≤ p → get_or (take n bits) p false ≡ false
+    past n bits p le = get_or_past (take n bits) p false (omega (arith, length-take n bits))
+
+-- a bit of a row written
+pub bit_sums_up : (summary after at : ℕ) (b : Bool) (bits new : List Bool) → at < length bits → new ≡ set bits at b → IsSummaryOf summary bits → ((k : ℕ) → IsMarked summary k → IsMarked after k) → (b ≡ true → IsMarked after (at / 64))
+    → IsSummaryOf after new
+bit_sums_up summary after at b bits new in' is h kept more p on =
+    elim (cases_eq p at) [
+      | inl e ↦ (
+          let P : ℕ → Type 0 = λ k. IsMarked after (k / 64) in
+          subst P (sym e) (more (sym (get_or-set_same bits at b false in') ∙ sym (ap (λ (bs : List Bool). get_or bs at false) is) ∙ sym (ap (λ k. get_or new k false) e) ∙ on)))
+      | inr ne ↦ kept (p / 64) (h p (sym (get_or-set_other bits at p b false ne) ∙ sym (ap (λ (bs : List Bool). get_or bs p false) is) ∙ on))
+    ]
+
+-- a word of 0 has no bit
+off : (n p : ℕ) → get_or (all_bits (replicate n 0)) p false ≡ false
+off n p =
+    elim (cases_lt p (length (all_bits (replicate n 0)))) [
+      | inl lt ↦ All-get_or (λ (b : Bool). b ≡ false) (all_bits (replicate n 0)) p false lt (all_zeros n)
+      | inr ge ↦ get_or_past (all_bits (replicate n 0)) p false ge
+    ]
+
+-- words of 0 after a row
+pub zeros_sum_up : (summary n : ℕ) (row : List ℕ) → IsSummaryOf summary (all_bits row) → IsSummaryOf summary (all_bits (row ++ replicate n 0))
+zeros_sum_up summary n row h p on =
+    let bits : List Bool = all_bits row in
+    let rest : List Bool = all_bits (replicate n 0) in
+    let on' : get_or (bits ++ rest) p false ≡ true = sym (ap (λ (bs : List Bool). get_or bs p false) (all_bits-append row (replicate n 0))) ∙ on in
+    elim (cases_lt p (length bits)) [
+      | inl lt ↦ h p (sym (get_or_append_left bits rest false p lt) ∙ on')
+      | inr ge ↦ absurd (true≢false (sym on' ∙ get_or-append_right bits rest (length bits) p false refl ge ∙ off n (p - length bits)))
+    ]
+
+-- ---- the summaries of slots
+
+pub summed_at : (w m n i v : ℕ) (now new ss : List ℕ) → i < length ss → SumUp w ss now m → ((t : ℕ) → t < n → t ≢ i → (t < m) × (words_in w new t ≡ words_in w now t)) → IsSummaryOf v (all_bits (words_in w new i))
+    → SumUp w (set ss i v) new n
+summed_at w m n i v now new ss in' h others here t lt =
+    let P : ℕ → Type 0 = λ s. IsSummaryOf s (all_bits (words_in w new t)) in
+    elim (cases_eq t i) [
+      | inl e ↦ (
+          let Q : ℕ → Type 0 = λ x. IsSummaryOf (get_or (set ss i v) x 0) (all_bits (words_in w new x)) in
+          let R : ℕ → Type 0 = λ s. IsSummaryOf s (all_bits (words_in w new i)) in
+          subst Q (sym e) (subst R (sym (get_or-set_same ss i v 0 in')) here))
+      | inr ne ↦ (
+          let o = others t lt ne in
+          let S : List ℕ → Type 0 = λ row. IsSummaryOf (get_or ss t 0) (all_bits row) in
+          subst P (sym (get_or-set_other ss i t v 0 ne)) (subst S (sym o.1) (h t o.0)))
+    ]
+
+-- a row that a call changed, with the summary that it then has
+pub row_summed : (w n i v : ℕ) (now new row ss : List ℕ) → length now ≡ n * w → i < n → length row ≡ w → IsRowWritten w i row now new → length ss ≡ n → SumUp w ss now n → IsSummaryOf v (all_bits (words_in w new i)) → SumUp w (set ss i v) new n
+row_summed w n i v now new row ss size lt long is count h here =
+    summed_at w n n i v now new ss (omega arith) h (λ t below ne. (below, row_written_other w n i t row now new size lt below long ne is)) here
+
+-- one bit written into the word of a slot
+pub word_summed : (w n s at v word x y : ℕ) (b : Bool) (ws ss : List ℕ) → length ws ≡ n * w → s < n → at < 64 * w → length ss ≡ n → SumUp w ss ws n → word ≡ get_or ws (s * w + at / 64) word → word_bits 64 v ≡ set (word_bits 64 word) (at % 64) b
+    → y ≡ get_or ss s y → ((k : ℕ) → IsMarked y k → IsMarked x k) → (b ≡ true → IsMarked x (at / 64)) → SumUp w (set ss s x) (set ws (s * w + at / 64) v) n
+word_summed w n s at v word x y b ws ss size lt in' count h read bits was kept more =
+    let P : ℕ → Type 0 = λ z. IsSummaryOf z (all_bits (words_in w ws s)) in
+    let before : IsSummaryOf y (all_bits (words_in w ws s)) = subst P (sym (get_or_read ss s y (omega arith) was 0)) (h s lt) in
+    let q : at / 64 < w = omega arith in
+    let long : length (words_in w ws s) ≡ w = length-words_in w n s ws size lt in
+    let there : at < length (all_bits (words_in w ws s)) = omega (arith, length-all_bits (words_in w ws s)) in
+    let here : all_bits (words_in w (set ws (s * w + at / 64) v) s) ≡ set (all_bits (words_in w ws s)) at b =
+    ap all_bits (word_set_here w s (at / 64) v ws q) ∙ set_whole (words_in w ws s) at v word b (omega arith) (read ∙ sym (word_in w s (at / 64) word ws q)) bits in
+    summed_at w n n s x ws (set ws (s * w + at / 64) v) ss (omega arith) h (λ t lt' ne. (lt', word_set_other w n s t (at / 64) v ws size lt lt' ne q))
+    (bit_sums_up y x at b (all_bits (words_in w ws s)) (all_bits (words_in w (set ws (s * w + at / 64) v) s)) there here before kept more)
+
+-- each row changed as far as slot i, while each summary fits its row
+pub record ChangedAndSummed (R : List ℕ → List ℕ → Type 0) (w n : ℕ) (old now ss : List ℕ) (i : ℕ) : Type 0 where
+  pub changed : Changed R w n old now i
+  pub counted : length ss ≡ n
+  pub summed : SumUp w ss now n
+
+pub marked_more : (at w n : ℕ) (old now ss : List ℕ) (s v word x y : ℕ) → ChangedAndSummed (Gains at) w n old now ss s → length old ≡ n * w → s < n → at < 64 * w → word ≡ get_or now (s * w + at / 64) word → word_bits 64 v ≡ set (word_bits 64 word) (at % 64) true
+    → y ≡ get_or ss s y → ((k : ℕ) → IsMarked y k → IsMarked x k) → IsMarked x (at / 64) → ChangedAndSummed (Gains at) w n old (set now (s * w + at / 64) v) (set ss s x) (s + 1)
+marked_more at w n old now ss s v word x y h size lt in' read bits was kept more =
+    let size' : length now ≡ n * w = h.changed.as_long ∙ size in
+    let q : at / 64 < w = omega arith in
+    let long : length (words_in w now s) ≡ w = length-words_in w n s now size' lt in
+    let word' : word ≡ get_or (words_in w now s) (at / 64) word = read ∙ sym (word_in w s (at / 64) word now q) in
+    record {
+      changed = changed_by (Gains at) w n old now (set now (s * w + at / 64) v) (set (words_in w now s) (at / 64) v) s h.changed lt (length-set now (s * w + at / 64) v)
+          (set_whole (words_in w now s) at v word true (omega arith) word' bits) (word_set_here w s (at / 64) v now q) (λ t lt' ne. word_set_other w n s t (at / 64) v now size' lt lt' ne q);
+      counted = length-set ss s x ∙ h.counted;
+      summed = word_summed w n s at v word x y true now ss size' lt in' h.counted h.summed read bits was kept (λ _. more);
+    }
+
+-- ---- the summaries of rows as they are held
+
+pub doubled_summed : (len w : ℕ) (slots ws : List ℕ) (k s : ℕ) (slots' ws' ss : List ℕ) (x : ℕ) → IsDoubled len w slots ws k s slots' ws' → AreSummaries w ss ws (length slots) → x ≡ get_or ss s x → s < length slots → length slots' ≡ length slots + 1
+    → AreSummaries w (ss ++ x ∷ []) ws' (length slots')
+doubled_summed len w slots ws k s slots' ws' ss x h sum is lt n =
+    let last : length ss ≡ length slots = sum.counted in
+    let here : x ≡ get_or ss s 0 = get_or_read ss s x (omega arith) is 0 in
+    record {
+      counted = length-append ss (x ∷ []) ∙ omega (arith, n, last);
+      each = λ t lt'. elim (cases_lt t (length slots)) [
+        | inl old ↦ (
+            let P : ℕ → Type 0 = λ y. IsSummaryOf y (all_bits (words_in w ws' t)) in
+            let Q : List ℕ → Type 0 = λ row. IsSummaryOf (get_or ss t 0) (all_bits row) in
+            subst P (sym (get_or_append_left ss (x ∷ []) 0 t (omega arith))) (subst Q (sym (doubled_other len w slots ws k s slots' ws' h t old)) (sum.each t old)))
+        | inr new ↦ (
+            let e : t ≡ length slots = omega (arith, new, lt', n) in
+            let z : t - length ss ≡ 0 = omega (arith, e, last) in
+            let read : get_or (ss ++ x ∷ []) t 0 ≡ x = get_or-append_right ss (x ∷ []) (length ss) t 0 refl (omega (arith, e, last)) ∙ ap (λ i. get_or (x ∷ []) i 0) z in
+            let P : ℕ → Type 0 = λ y. IsSummaryOf y (all_bits (words_in w ws' t)) in
+            let Q : ℕ → Type 0 = λ j. IsSummaryOf x (all_bits (words_in w ws' j)) in
+            let R : List ℕ → Type 0 = λ row. IsSummaryOf x (all_bits row) in
+            let S : ℕ → Type 0 = λ y. IsSummaryOf y (all_bits (words_in w ws s)) in
+            subst P (sym read) (subst Q (sym e) (subst R (sym (doubled_here len w slots ws k s slots' ws' h)) (subst S (sym here) (sum.each s lt)))))
+      ];
+    }
+
+pub doubled_both : (len w : ℕ) (slots ws : List ℕ) (k s : ℕ) (slots' ws' ss : List ℕ) (x : ℕ) → IsDoubled len w slots ws k s slots' ws' → AreSummaries w ss ws (length slots) → x ≡ get_or ss s x
+    → (ss' : List ℕ) → ss' ≡ ss ++ x ∷ [] → AreHeld len w slots' ws' × AreSummaries w ss' ws' (length slots')
+doubled_both len w slots ws k s slots' ws' ss x h sum is ss' made =
+    let P : List ℕ → Type 0 = λ vs. AreSummaries w vs ws' (length slots') in (
+      doubled_held len w slots ws k s slots' ws' h,
+      subst P (sym made) (doubled_summed len w slots ws k s slots' ws' ss x h sum is (slot_below len w slots ws k s h.held h.row h.slot) (doubled_size len w slots ws k s slots' ws' h)),
+    )
+
+-- what a vector with room for one more has after it
+pub pushed : (new now old : List ℕ) (x : ℕ) (b : Bool) → now ≡ old → new ≡ cond b (now ++ x ∷ []) now → b ≡ true → new ≡ old ++ x ∷ []
+pushed new now old x b same e t = e ∙ ap (λ (c : Bool). cond c (now ++ x ∷ []) now) t ∙ ap (λ (ss : List ℕ). ss ++ x ∷ []) same
+
+pub taken_summed : (len w : ℕ) (slots ws : List ℕ) (k s last : ℕ) (us slots' ws' ss : List ℕ) (x : ℕ) → IsTakenOut len w slots ws k s last us slots' ws' → AreSummaries w ss ws (length slots) → x ≡ get_or ss last x → s < length slots → length slots' ≡ last
+    → AreSummaries w (take last (set ss s x)) ws' (length slots')
+taken_summed len w slots ws k s last us slots' ws' ss x h sum is below n =
+    let count : length ss ≡ last + 1 = sum.counted ∙ h.count in
+    let size : length (set ss s x) ≡ last + 1 = length-set ss s x ∙ count in
+    let here : x ≡ get_or ss last 0 = get_or_read ss last x (omega arith) is 0 in
+    record {
+      counted = length-take-le last (set ss s x) (omega arith) ∙ sym n;
+      each = λ t lt. (
+          let in' : t < last = omega (arith, lt, n) in
+          let P : ℕ → Type 0 = λ y. IsSummaryOf y (all_bits (words_in w ws' t)) in
+          subst P (sym (get_or-take last (set ss s x) t 0 in'))
+          (elim (cases_eq t s) [
+            | inl e ↦ (
+                let Q : ℕ → Type 0 = λ j. IsSummaryOf (get_or (set ss s x) j 0) (all_bits (words_in w ws' j)) in
+                let R : ℕ → Type 0 = λ y. IsSummaryOf y (all_bits (words_in w ws' s)) in
+                let S : List ℕ → Type 0 = λ row. IsSummaryOf x (all_bits row) in
+                let T : ℕ → Type 0 = λ y. IsSummaryOf y (all_bits (words_in w ws last)) in
+                subst Q (sym e) (subst R (sym (get_or-set_same ss s x 0 (omega (arith, below, sum.counted))))
+                (subst S (sym (taken_here len w slots ws k s last us slots' ws' h (omega (arith, e, in')))) (subst T (sym here) (sum.each last (omega (arith, h.count)))))))
+            | inr ne ↦ (
+                let S : List ℕ → Type 0 = λ row. IsSummaryOf (get_or ss t 0) (all_bits row) in
+                subst P (sym (get_or-set_other ss s t x 0 ne)) (subst S (sym (taken_other len w slots ws k s last us slots' ws' h t in' ne)) (sum.each t (omega (arith, in', h.count)))))
+          ]));
+    }
+
+pub taken_both : (len w : ℕ) (slots ws : List ℕ) (k s last : ℕ) (us slots' ws' ss : List ℕ) (x : ℕ) → IsTakenOut len w slots ws k s last us slots' ws' → AreSummaries w ss ws (length slots) → x ≡ get_or ss last x
+    → (ss' : List ℕ) → ss' ≡ take last (set ss s x) → AreHeld len w slots' ws' × AreSummaries w ss' ws' (length slots')
+taken_both len w slots ws k s last us slots' ws' ss x h sum is ss' made =
+    let P : List ℕ → Type 0 = λ vs. AreSummaries w vs ws' (length slots') in (
+      taken_held len w slots ws k s last us slots' ws' h,
+      subst P (sym made) (taken_summed len w slots ws k s last us slots' ws' ss x h sum is (slot_below len w slots ws k s h.held h.row h.slot) (taken_size len w slots ws k s last us slots' ws' h)),
+    )
+
+pub widened_summed : (w v count : ℕ) (ws us ss : List ℕ) → Widened w v ws us count → AreSummaries w ss ws count → AreSummaries v ss us count
+widened_summed w v count ws us ss h sum = record {
+  counted = sum.counted;
+  each = λ t lt.
+      let P : List ℕ → Type 0 = λ row. IsSummaryOf (get_or ss t 0) (all_bits row) in
+      subst P (sym (h.rows t lt)) (zeros_sum_up (get_or ss t 0) (v - w) (words_in w ws t) (sum.each t lt));
+}
+
+pub cleared_summed : (w : ℕ) → AreSummaries w (0 ∷ []) (replicate w 0) 1
+cleared_summed w = record {
+  counted = refl;
+  each = λ t lt. (
+      let e : t ≡ 0 = omega arith in
+      let P : ℕ → Type 0 = λ j. IsSummaryOf (get_or (0 ∷ []) j 0) (all_bits (words_in w (replicate w 0) j)) in
+      let Q : List ℕ → Type 0 = λ row. IsSummaryOf 0 (all_bits row) in
+      subst P (sym e) (subst Q (sym (cleared_row w)) (λ p on. absurd (true≢false (sym on ∙ off w p)))));
+}
+
+-- a row's summary, as the row is shown
+pub shown_summed : (len w : ℕ) (slots ws : List ℕ) (shown : RowsAndRoom) (k s x : ℕ) (ss : List ℕ) → AreHeld len w slots ws → record { rows = map (bits_in len w ws) slots; room = 64 * w - len } ≡ shown → AreSummaries w ss ws (length slots) → k < length slots → s ≡ get_or slots k s
+    → x ≡ get_or ss s x → IsSummaryOf x (get_or shown.rows k [])
+shown_summed len w slots ws shown k s x ss h is sum lt slot read =
+    let below : s < length slots = slot_below len w slots ws k s h lt slot in
+    let here : x ≡ get_or ss s 0 = get_or_read ss s x (omega (arith, below, sum.counted)) read 0 in
+    let P : ℕ → Type 0 = λ y. IsSummaryOf y (all_bits (words_in w ws s)) in
+    let Q : List Bool → Type 0 = λ row. IsSummaryOf x row in
+    subst Q (sym (shown_at len w slots ws k s [] lt slot) ∙ ap (λ (r : RowsAndRoom). get_or r.rows k []) is) (front_sums_up x len (all_bits (words_in w ws s)) (subst P (sym here) (sum.each s below)))
+
+-- ---- a 1 at a place of each row
+
+pub gained_held : (len w at : ℕ) (slots ws us : List ℕ) → AreHeld len w slots ws → at < len → length us ≡ length ws → EachSlot (Gains at) w ws us (length slots) → AreHeld len w slots us
+gained_held len w at slots ws us h in' same each = record {
+  covers = h.covers;
+  few = h.few;
+  counted = h.counted;
+  wide = same ∙ h.wide;
+  below = h.below;
+  apart = h.apart;
+  padded = λ t lt.
+      All-same (λ (b : Bool). b ≡ false) (drop len (all_bits (words_in w us t))) (drop len (all_bits (words_in w ws t)))
+      (ap (λ (bs : List Bool). drop len bs) (each t lt) ∙ drop-set-lt len (all_bits (words_in w ws t)) at true in') (h.padded t lt);
+}
+
+pub gained_shown : (len w at : ℕ) (slots ws us : List ℕ) → AreHeld len w slots ws → at < len → EachSlot (Gains at) w ws us (length slots)
+    → map (bits_in len w us) slots ≡ map (λ (row : List Bool). set row at true) (map (bits_in len w ws) slots)
+gained_shown len w at slots ws us h in' each =
+    all_mapped (λ (row : List Bool). set row at true) (bits_in len w ws) (bits_in len w us) (length slots) slots h.below
+    (λ t lt. ap (λ (bs : List Bool). take len bs) (each t lt) ∙ take-set-lt len (all_bits (words_in w ws t)) at true in')
+
+-- a summary for each slot still, after each was made anew
+pub summed_again : (width n : ℕ) (summaries words summaries' words' : List ℕ) → AreSummaries width summaries words n → length summaries' ≡ length summaries → SumUp width summaries' words' (length summaries) → AreSummaries width summaries' words' n
+summed_again width n summaries words summaries' words' h same each = record { counted = same ∙ h.counted; each = λ slot lt. each slot (omega (arith, lt, h.counted)) }

@@ -1,0 +1,3 @@
+pub mod BitRow
+pub mod Rows
+pub mod steps

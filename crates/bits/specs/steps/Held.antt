@@ -1,0 +1,60 @@
+-- Rows of equally many bits as they are held: each has a slot, and a slot has as many words as any other.
+use Rattle.std.specs.Prelude.{◌≡◌, ◌≢◌, ℕ, ◌*◌, ◌^◌, ◌<◌, ◌≤◌, ◌==◌, Bool, false, true, List, [], ◌∷◌, length, take, drop, All, if◌then◌else◌, ◌++◌, insert, remove, slice_set}
+use Rattle.bits.specs.steps.Packing.{all_bits}
+
+-- the words in a slot
+abbrev pub words_in : ℕ → List ℕ → ℕ → List ℕ
+words_in width words slot = take width (drop (slot * width) words)
+
+-- the bits of the row in a slot
+abbrev pub bits_in : ℕ → ℕ → List ℕ → ℕ → List Bool
+bits_in len width words slot = take len (all_bits (words_in width words slot))
+
+-- no bit is set past the first len
+abbrev pub IsPadded : List ℕ → ℕ → Type 0
+IsPadded words len = All (λ (b : Bool). b ≡ false) (drop len (all_bits words))
+
+-- each slot is below n
+abbrev pub AreBelow : ℕ → List ℕ → Type 0
+AreBelow n [] = Unit {0}
+AreBelow n (s ∷ ss) = (s < n) × AreBelow n ss
+
+-- a slot that is none of these
+abbrev pub IsNoneOf : ℕ → List ℕ → Type 0
+IsNoneOf slot [] = Unit {0}
+IsNoneOf slot (s ∷ ss) = (s ≢ slot) × IsNoneOf slot ss
+
+-- no slot is there twice
+abbrev pub AreApart : List ℕ → Type 0
+AreApart [] = Unit {0}
+AreApart (s ∷ ss) = IsNoneOf s ss × AreApart ss
+
+-- rows of len bits, each in a slot of its own, in words of which each slot has `width`
+pub record AreHeld (len width : ℕ) (slots words : List ℕ) : Type 0 where
+  pub covers : len ≤ 64 * width
+  pub few : width < 2 ^ 58
+  pub counted : length slots ≤ 2 ^ 32
+  pub wide : length words ≡ length slots * width
+  pub below : AreBelow (length slots) slots
+  pub apart : AreApart slots
+  pub padded : (slot : ℕ) → slot < length slots → IsPadded (words_in width words slot) len
+
+-- one slot in the place of another
+abbrev pub redirected : ℕ → ℕ → ℕ → ℕ
+redirected from to slot = if slot == from then to else slot
+
+-- a 0 put into a row's words at a place: the highest bit falls out
+abbrev pub TakesIn : ℕ → List ℕ → List ℕ → Type 0
+TakesIn at old new = (top : Bool) × (all_bits new ++ top ∷ [] ≡ insert (all_bits old) at false)
+
+-- the bit at a place taken out of a row's words: a 0 comes in as the highest
+abbrev pub GivesUp : ℕ → List ℕ → List ℕ → Type 0
+GivesUp at old new = all_bits new ≡ remove (all_bits old) at ++ false ∷ []
+
+-- a 1 written at a place of a row's words
+abbrev pub Gains : ℕ → List ℕ → List ℕ → Type 0
+Gains at old new = all_bits new ≡ slice_set (all_bits old) at true
+
+-- R holds of the words in each slot before and after
+abbrev pub EachSlot : (List ℕ → List ℕ → Type 0) → ℕ → List ℕ → List ℕ → ℕ → Type 0
+EachSlot R width old new count = (slot : ℕ) → slot < count → R (words_in width old slot) (words_in width new slot)

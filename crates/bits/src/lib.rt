@@ -1,0 +1,13 @@
+//! Rows of bits, packed into words: one row by itself, and rows of equally many bits that are edited together.
+#![tactic(auto)]
+
+mod bit_row;
+mod rows;
+mod sparse;
+mod summary;
+mod words;
+
+pub use bit_row::{BitRow, MOST_BITS};
+pub use rows::Rows;
+pub use summary::{is_marked, next_marked};
+pub use words::bit_at;

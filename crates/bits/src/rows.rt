@@ -1,0 +1,398 @@
+//! Rows of equally many bits, packed 64 to a word, all in one vector of words.
+
+ghost use Rattle.std.specs.Prelude.{◌≡◌, ◌<◌, ◌≤◌, ◌+◌, ◌-◌, ◌*◌, ◌^◌, [], ◌∷◌, length, map, insert, remove, slice_set, slice_index_or};
+ghost use Rattle.std.specs.Prelude.{false, true, take, drop, IfOk, OnOk, OnErr, IsOk, IsTrue, ◌↔◌, ◌%◌};
+ghost use Rattle.std.specs.Prelude.{ℕ, All, replicate, ◌++◌};
+ghost use Rattle.bits.specs.steps.Packing.{all_bits, IsPacked};
+ghost use Rattle.bits.specs.steps.Held.{redirected, words_in, EachSlot, Gains};
+ghost use Rattle.bits.specs.steps.Shifts.{Shifts};
+ghost use Rattle.bits.specs.steps.Summaries.{IsSummaryOf, SumUp};
+
+use crate::bit_row::MOST_WORDS;
+use crate::sparse::{Way, shift};
+use crate::summary::{is_marked, marked};
+use crate::words::{bit_at, same_bits, set_bit};
+use std::alloc::{AllocError, Global};
+use std::marker::Model;
+
+// Twice as many words, and one where there is none.
+fn twice(width: usize) -> usize
+    requires { width < 2 ^ 58 }
+    ensures none { width ≡ 0 → result ≡ 1 }
+    ensures some { 0 < width → result ≡ 2 * width }
+{
+    if width == 0 {
+        return 1;
+    }
+    2 * width
+}
+
+// So many words from a place on; they are lent.
+fn part(words: &[u64], start: usize, count: usize) -> &[u64]
+    requires { start + count ≤ length words.now }
+    ensures { result.now ≡ take count (drop start words.now) }
+{
+    &words[start..start + count]
+}
+
+// The slot after so many: refused where it is no `u32`.
+fn slot_after(count: usize) -> Result<u32, AllocError>
+    ensures slot { IfOk result (λ slot. slot ≡ count) }
+    ensures there { count < 2 ^ 32 → IsOk result }
+{
+    match u32::try_from(count) {
+        Ok(slot) => Ok(slot),
+        Err(_) => Err(AllocError),
+    }
+}
+
+// A slot, or another where it is `from`.
+fn redirected(slot: u32, from: u32, to: u32) -> u32
+    ensures { result ≡ redirected from to slot }
+{
+    if slot == from {
+        return to;
+    }
+    slot
+}
+
+// Writes one slot wherever another stands.
+fn redirect(slots: &mut [u32], from: u32, to: u32)
+    ensures { slots.new ≡ map (redirected from to) slots.old }
+{
+    for k in 0..slots.len() {
+        slots[k] = redirected(slots[k], from, to);
+    }
+}
+
+// Moves the bits from a place on in each row of so many words.
+fn shift_all(words: &mut Vec<u64>, summaries: &mut Vec<u64>, width: usize, at: usize, way: Way)
+    requires place { at < 64 * width }
+    requires whole { length words.old.items ≡ length summaries.old.items * width }
+    requires few { width < 2 ^ 58 }
+    requires summed { SumUp width summaries.old.items words.old.items (length summaries.old.items) }
+    ensures len { length words.new.items ≡ length words.old.items }
+    ensures rows { EachSlot (Shifts way at) width words.old.items words.new.items (length summaries.old.items) }
+    ensures counted { length summaries.new.items ≡ length summaries.old.items }
+    ensures summed { SumUp width summaries.new.items words.new.items (length summaries.old.items) }
+{
+    for slot in 0..summaries.len() {
+        let start = slot * width;
+        let mut summary = summaries[slot];
+        shift(words.slice_mut(start..start + width), &mut summary, at, way);
+        summaries[slot] = summary;
+    }
+}
+
+// Writes a 1 at a place of each row of so many words.
+fn mark_all(words: &mut Vec<u64>, summaries: &mut Vec<u64>, width: usize, at: usize)
+    requires place { at < 64 * width }
+    requires whole { length words.old.items ≡ length summaries.old.items * width }
+    requires summed { SumUp width summaries.old.items words.old.items (length summaries.old.items) }
+    ensures len { length words.new.items ≡ length words.old.items }
+    ensures rows { EachSlot (Gains at) width words.old.items words.new.items (length summaries.old.items) }
+    ensures counted { length summaries.new.items ≡ length summaries.old.items }
+    ensures summed { SumUp width summaries.new.items words.new.items (length summaries.old.items) }
+{
+    for slot in 0..summaries.len() {
+        let place = slot * width + at / 64;
+        let word = words[place];
+        words[place] = set_bit(word, (at % 64) as u32, true);
+        summaries[slot] = marked(summaries[slot], at / 64, true);
+    }
+}
+
+// The words of so many rows, each with words of zeros after it.
+fn widen(
+    words: &[u64],
+    count: usize,
+    width: usize,
+    wider: usize,
+    alloc: Global,
+) -> Result<Vec<u64>, AllocError>
+    requires whole { length words.now ≡ count * width }
+    requires more { width ≤ wider }
+    requires some { 0 < wider }
+    ensures len { IfOk result (λ wide. length wide.items ≡ count * wider) }
+    ensures rows { IfOk result (λ wide. (slot : ℕ) → slot < count
+        → words_in wider wide.items slot ≡ words_in width words.now slot ++ replicate (wider - width) 0) }
+{
+    let Some(size) = count.checked_mul(wider) else {
+        return Err(AllocError);
+    };
+    let mut wide = Vec::with_capacity(alloc, size)?;
+    for slot in 0..count {
+        wide.extend_from_slice(part(words, slot * width, width))?;
+        wide.resize((slot + 1) * wider, 0)?;
+    }
+    Ok(wide)
+}
+
+/// Rows of equally many bits, in an order: the bit at p is bit p mod 64 of the row's word p div 64. A row's slot is where
+/// its words are, and where its summary is.
+#[derive(Drop)]
+pub struct Rows {
+    len: usize,
+    width: usize,
+    slots: Vec<u32>,
+    summaries: Vec<u64>,
+    words: Vec<u64>,
+}
+
+impl Model for Rows {
+    ghost use Rattle.std.specs.Prelude.{map, length, ◌*◌, ◌-◌};
+    ghost use Rattle.bits.specs.Rows.{RowsAndRoom};
+    ghost use Rattle.bits.specs.steps.Held.{AreHeld, bits_in};
+    ghost use Rattle.bits.specs.steps.Summaries.{AreSummaries};
+
+    ghost Value = { RowsAndRoom };
+
+    ghost view = { λ r. record {
+      rows = map (bits_in r.len r.width r.words.items) r.slots.items;
+      room = 64 * r.width - r.len;
+    } };
+
+    ghost invariant = { λ r. AreHeld r.len r.width r.slots.items r.words.items
+        × AreSummaries r.width r.summaries.items r.words.items (length r.slots.items) };
+}
+
+impl Rows {
+    /// No row: it takes no memory.
+    pub fn bare(alloc: Global) -> Rows
+        ensures { result.rows ≡ [] }
+    {
+        Rows {
+            len: 0,
+            width: 0,
+            slots: Vec::new(alloc),
+            summaries: Vec::new(alloc),
+            words: Vec::new(alloc),
+        }
+    }
+
+    /// One row without a bit.
+    pub fn open(alloc: Global) -> Result<Rows, AllocError>
+        ensures { IfOk result (λ rows. (rows.rows ≡ [] ∷ []) × (rows.room ≡ 0)) }
+    {
+        let mut slots = Vec::new(alloc);
+        slots.push(0)?;
+        let mut summaries = Vec::new(alloc);
+        summaries.push(0)?;
+        Ok(Rows {
+            len: 0,
+            width: 0,
+            slots,
+            summaries,
+            words: Vec::new(alloc),
+        })
+    }
+
+    /// How many rows there are.
+    pub fn count(&self) -> usize
+        ensures { result ≡ length self.now.rows }
+    {
+        self.slots.len()
+    }
+
+    /// How many bits a row has: as many as any other.
+    pub fn bits(&self, row: usize) -> usize
+        requires { row < length self.now.rows }
+        ensures { result ≡ length (slice_index_or self.now.rows row []) }
+    {
+        let _slot = self.slots[row];
+        self.len
+    }
+
+    /// The words of a row that its bits need; they are lent.
+    pub fn row(&self, row: usize) -> &[u64]
+        requires { row < length self.now.rows }
+        ensures packed { IsPacked result.now (length (slice_index_or self.now.rows row [])) }
+        ensures bits { take (length (slice_index_or self.now.rows row [])) (all_bits result.now) ≡ slice_index_or self.now.rows row [] }
+    {
+        let start = self.slots[row] as usize * self.width;
+        part(&self.words, start, self.len.div_ceil(64))
+    }
+
+    /// A row's summary.
+    pub fn summary(&self, row: usize) -> u64
+        requires { row < length self.now.rows }
+        ensures { IsSummaryOf result (slice_index_or self.now.rows row []) }
+    {
+        let _len = self.len;
+        self.summaries[self.slots[row] as usize]
+    }
+
+    /// The bit at a place of a row.
+    pub fn get(&self, row: usize, at: usize) -> bool
+        requires row { row < length self.now.rows }
+        requires place { at < length (slice_index_or self.now.rows row []) }
+        ensures { result ≡ slice_index_or (slice_index_or self.now.rows row []) at false }
+    {
+        let _len = self.len;
+        is_marked(self.summary(row), at / 64) && bit_at(self.row(row), at)
+    }
+
+    /// Writes the bit at a place of a row.
+    pub fn set(&mut self, row: usize, at: usize, bit: bool)
+        requires row { row < length self.old.rows }
+        requires place { at < length (slice_index_or self.old.rows row []) }
+        ensures rows { self.new.rows ≡ slice_set self.old.rows row (slice_set (slice_index_or self.old.rows row []) at bit) }
+        ensures room { self.new.room ≡ self.old.room }
+    {
+        let _len = self.len;
+        let slot = self.slots[row] as usize;
+        let place = slot * self.width + at / 64;
+        let word = self.words[place];
+        self.words[place] = set_bit(word, (at % 64) as u32, bit);
+        self.summaries[slot] = marked(self.summaries[slot], at / 64, bit);
+    }
+
+    /// Writes a 1 at a place of each row: it goes from slot to slot.
+    pub fn set_all(&mut self, at: usize)
+        requires some { 0 < length self.old.rows }
+        requires place { All (λ row. at < length row) self.old.rows }
+        ensures rows { self.new.rows ≡ map (λ row. slice_set row at true) self.old.rows }
+        ensures room { self.new.room ≡ self.old.room }
+    {
+        let _len = self.len;
+        mark_all(&mut self.words, &mut self.summaries, self.width, at);
+    }
+
+    /// Whether two rows are equal.
+    pub fn same(&self, one: usize, other: usize) -> bool
+        requires one { one < length self.now.rows }
+        requires other { other < length self.now.rows }
+        ensures { IsTrue result ↔ (slice_index_or self.now.rows one [] ≡ slice_index_or self.now.rows other []) }
+    {
+        let _len = self.len;
+        same_bits(self.row(one), self.row(other))
+    }
+
+    /// Puts a copy of a row after it. Where memory is refused the rows are as before.
+    pub fn double(&mut self, row: usize) -> Result<(), AllocError>
+        requires { row < length self.old.rows }
+        ensures ok { OnOk result (self.new.rows ≡ insert self.old.rows (row + 1) (slice_index_or self.old.rows row [])) }
+        ensures err { OnErr result (self.new.rows ≡ self.old.rows) }
+        ensures few { OnOk result (length self.new.rows ≤ 2 ^ 32) }
+        ensures room { self.new.room ≡ self.old.room }
+    {
+        let slot = slot_after(self.slots.len())?;
+        self.slots.reserve(1)?;
+        self.summaries.reserve(1)?;
+        let from = self.slots[row] as usize;
+        let start = from * self.width;
+        self.words.extend_from_within(start..start + self.width)?;
+        let _ = self.slots.insert(row + 1, slot);
+        let _ = self.summaries.push(self.summaries[from]);
+        Ok(())
+    }
+
+    /// Takes a row out: the row in the last slot moves into its slot.
+    pub fn remove(&mut self, row: usize)
+        requires { row < length self.old.rows }
+        ensures rows { self.new.rows ≡ remove self.old.rows row }
+        ensures room { self.new.room ≡ self.old.room }
+    {
+        let _len = self.len;
+        let slot = self.slots.remove(row);
+        let last = self.slots.len();
+        let start = last * self.width;
+        self.words
+            .copy_within(start..start + self.width, slot as usize * self.width);
+        self.words.truncate(start);
+        self.summaries[slot as usize] = self.summaries[last];
+        self.summaries.truncate(last);
+        redirect(&mut self.slots, last as u32, slot);
+    }
+
+    /// Puts a 0 into each row at a place, where there is room: the later bits move up by one.
+    pub fn open_place(&mut self, at: usize)
+        requires some { 0 < length self.old.rows }
+        requires place { All (λ row. at ≤ length row) self.old.rows }
+        requires room { 0 < self.old.room }
+        ensures rows { self.new.rows ≡ map (λ row. insert row at false) self.old.rows }
+        ensures room { self.new.room + 1 ≡ self.old.room }
+    {
+        if at >= self.len {
+            // The bit after the last is 0 already.
+            self.len += 1;
+            return;
+        }
+        shift_all(
+            &mut self.words,
+            &mut self.summaries,
+            self.width,
+            at,
+            Way::In,
+        );
+        self.len += 1;
+    }
+
+    /// Takes a bit out of each row at a place: the later ones move down by one.
+    pub fn close_place(&mut self, at: usize)
+        requires some { 0 < length self.old.rows }
+        requires place { All (λ row. at < length row) self.old.rows }
+        ensures rows { self.new.rows ≡ map (λ row. remove row at) self.old.rows }
+        ensures room { self.new.room ≡ self.old.room + 1 }
+    {
+        shift_all(
+            &mut self.words,
+            &mut self.summaries,
+            self.width,
+            at,
+            Way::Out,
+        );
+        self.len -= 1;
+    }
+
+    /// Takes the memory that one more bit in each row needs: all rows move where there is no room.
+    pub fn reserve(&mut self) -> Result<(), AllocError>
+        ensures rows { self.new.rows ≡ self.old.rows }
+        ensures more { self.old.room ≤ self.new.room }
+        ensures whole { self.new.room % 64 ≡ self.old.room % 64 }
+        ensures ok { OnOk result (0 < self.new.room) }
+        ensures there { 0 < self.old.room → IsOk result }
+    {
+        if self.len < 64 * self.width {
+            return Ok(());
+        }
+        let wider = twice(self.width);
+        if wider > MOST_WORDS {
+            return Err(AllocError);
+        }
+        let alloc = *self.words.allocator();
+        let count = self.slots.len();
+        self.words = widen(&self.words, count, self.width, wider, alloc)?;
+        self.width = wider;
+        Ok(())
+    }
+
+    /// Leaves the first row alone, without a bit.
+    pub fn clear(&mut self)
+        requires { 0 < length self.old.rows }
+        ensures rows { self.new.rows ≡ [] ∷ [] }
+        ensures room { self.new.room ≡ self.old.room + length (slice_index_or self.old.rows 0 []) }
+    {
+        let _len = self.len;
+        self.slots.truncate(1);
+        self.slots[0] = 0;
+        self.summaries.truncate(1);
+        self.summaries[0] = 0;
+        self.words.truncate(self.width);
+        self.words.fill(0);
+        self.len = 0;
+    }
+
+    /// Equal rows.
+    pub fn copy(&self, alloc: Global) -> Result<Rows, AllocError>
+        ensures { IfOk result (λ rows. rows ≡ self.now) }
+    {
+        Ok(Rows {
+            len: self.len,
+            width: self.width,
+            slots: Vec::from_slice(alloc, &self.slots)?,
+            summaries: Vec::from_slice(alloc, &self.summaries)?,
+            words: Vec::from_slice(alloc, &self.words)?,
+        })
+    }
+}

@@ -1,0 +1,151 @@
+//! Bits moved within the words that a summary has: words without a bit are passed over.
+
+ghost use Rattle.std.specs.Prelude.{◌≡◌, ◌<◌, ◌≤◌, ◌*◌, ◌^◌, length, true, slice_index};
+ghost use Rattle.bits.specs.steps.First.{Nowhere};
+ghost use Rattle.bits.specs.steps.Held.{TakesIn, GivesUp};
+ghost use Rattle.bits.specs.steps.Packing.{all_bits};
+ghost use Rattle.bits.specs.steps.Shifts.{Shifts};
+ghost use Rattle.bits.specs.steps.Summaries.{IsMarked, IsSummaryOf, HidesNoWord, StayBlank};
+
+use crate::summary::{kept, marked, next_marked};
+use crate::words::{insert_bit, remove_bit, shift_down, shift_in, shift_out, shift_up};
+
+/// How the bits from a place on move: a 0 comes in there and the later ones move up, so that the last falls out; or the bit
+/// goes out and they move down, and a 0 comes in last.
+#[derive(Clone, Copy)]
+pub(crate) enum Way {
+    In,
+    Out,
+}
+
+// The next of so many words, from one on, that a bit moves into or that may have one: where none moves on, blank words stay.
+fn next_up(summary: u64, carry: bool, start: usize, words: usize) -> usize
+    requires few { words < 2 ^ 58 }
+    requires within { start ≤ words }
+    ensures low { start ≤ result }
+    ensures high { result ≤ words }
+    ensures none { Nowhere (IsMarked summary) start result }
+    ensures next { carry ≡ true → result ≡ start }
+{
+    if carry {
+        return start;
+    }
+    next_marked(summary, start, words)
+}
+
+// Puts a 0 in at a place: the later bits move up, and the last falls out. Words that the summary lacks are passed over.
+fn take_in_marked(words: &mut [u64], summary: &mut u64, at: usize)
+    requires few { length words.old < 2 ^ 58 }
+    requires place { at ≤ 64 * length words.old }
+    requires summed { IsSummaryOf summary.old (all_bits words.old) }
+    ensures taken { TakesIn at words.old words.new }
+    ensures summed { IsSummaryOf summary.new (all_bits words.new) }
+{
+    let first = at / 64;
+    if first >= words.len() {
+        return;
+    }
+    let old = *summary;
+    let mut below = words[first];
+    let moved = insert_bit(below, (at % 64) as u32, false);
+    words[first] = moved;
+    let mut new = marked(kept(old, first), first, moved != 0);
+    let mut k = next_up(old, below >> 63 == 1, first + 1, words.len());
+    while k < words.len() {
+        let word = words[k];
+        let moved = shift_up(word, below);
+        words[k] = moved;
+        new = marked(new, k, moved != 0);
+        below = word;
+        k = next_up(old, below >> 63 == 1, k + 1, words.len());
+    }
+    *summary = new;
+}
+
+// The word at a place, or 0 past the last.
+fn word_at(words: &[u64], place: usize) -> u64
+    ensures { result ≡ slice_index words.now place }
+{
+    match words.get(place) {
+        Some(word) => *word,
+        None => 0,
+    }
+}
+
+// The next word, from one on, that a bit moves into or that may have one.
+fn next_down(words: &[u64], summary: u64, start: usize) -> usize
+    requires few { length words.now < 2 ^ 58 }
+    requires within { start ≤ length words.now }
+    requires summed { HidesNoWord summary words.now start }
+    ensures low { start ≤ result }
+    ensures high { result ≤ length words.now }
+    ensures blank { StayBlank words.now start result }
+{
+    let next = next_marked(summary, start, words.len());
+    if start < next && word_at(words, next) % 2 == 1 {
+        return next - 1;
+    }
+    next
+}
+
+// Takes the bit at a place out: the later bits move down, and a 0 comes in last. Words that the summary lacks are passed
+// over.
+fn give_up_marked(words: &mut [u64], summary: &mut u64, at: usize)
+    requires few { length words.old < 2 ^ 58 }
+    requires place { at < 64 * length words.old }
+    requires summed { IsSummaryOf summary.old (all_bits words.old) }
+    ensures given { GivesUp at words.old words.new }
+    ensures summed { IsSummaryOf summary.new (all_bits words.new) }
+{
+    let first = at / 64;
+    let old = *summary;
+    let above = word_at(words, first + 1);
+    let moved = remove_bit(words[first], (at % 64) as u32, above % 2 == 1);
+    words[first] = moved;
+    let mut new = marked(kept(old, first), first, moved != 0);
+    let mut k = next_down(words, old, first + 1);
+    while k < words.len() {
+        let moved = shift_down(words[k], word_at(words, k + 1));
+        words[k] = moved;
+        new = marked(new, k, moved != 0);
+        k = next_down(words, old, k + 1);
+    }
+    *summary = new;
+}
+
+// Whether a summary has so many words that to pass over the others isn't worth it: three quarters of them or more.
+fn is_dense(summary: u64, words: usize) -> bool {
+    summary.count_ones() as usize >= words.div_ceil(8) * 3
+}
+
+// Moves the bits from a place on in all words.
+fn shift_dense(words: &mut [u64], at: usize, way: Way)
+    requires { at < 64 * length words.old }
+    ensures { Shifts way at words.old words.new }
+{
+    match way {
+        Way::In => {
+            let _last = shift_in(words, at, false);
+        }
+        Way::Out => shift_out(words, at),
+    }
+}
+
+/// Moves the bits from a place on, from word to word. The summary fits the words before and after.
+pub(crate) fn shift(words: &mut [u64], summary: &mut u64, at: usize, way: Way)
+    requires few { length words.old < 2 ^ 58 }
+    requires place { at < 64 * length words.old }
+    requires summed { IsSummaryOf summary.old (all_bits words.old) }
+    ensures shifted { Shifts way at words.old words.new }
+    ensures summed { IsSummaryOf summary.new (all_bits words.new) }
+{
+    if is_dense(*summary, words.len()) {
+        *summary = kept(u64::MAX, words.len());
+        shift_dense(words, at, way);
+        return;
+    }
+    match way {
+        Way::In => take_in_marked(words, summary, at),
+        Way::Out => give_up_marked(words, summary, at),
+    }
+}

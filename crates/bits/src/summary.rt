@@ -1,0 +1,52 @@
+//! Summaries of words: 64 bits that say which pairs of words have none, so that a search passes over them.
+
+ghost use Rattle.std.specs.Prelude.{ℕ, ◌≡◌, ◌<◌, ◌≤◌, ◌^◌, true, IsTrue, ◌↔◌};
+ghost use Rattle.bits.specs.steps.First.{Nowhere};
+ghost use Rattle.bits.specs.steps.Summaries.{IsMarked};
+
+/// Whether a summary has the bit of a word: else no bit is in the word.
+pub fn is_marked(summary: u64, word: usize) -> bool
+    ensures { IsTrue result ↔ IsMarked summary word }
+{
+    (summary >> (word / 2 % 64)) % 2 == 1
+}
+
+/// A summary with the bit of a word as well, where a bit came into that word.
+pub(crate) fn marked(summary: u64, word: usize, bit: bool) -> u64
+    ensures kept { (k : ℕ) → IsMarked summary k → IsMarked result k }
+    ensures more { bit ≡ true → IsMarked result word }
+{
+    if bit {
+        return summary | 1 << (word / 2 % 64);
+    }
+    summary
+}
+
+/// A summary with the bits of the first so many words alone, and of one more where that shares its bit with them; of more
+/// than 126 words it is the summary as it was.
+pub(crate) fn kept(summary: u64, words: usize) -> u64
+    ensures { (k : ℕ) → k < words → IsMarked summary k → IsMarked result k }
+{
+    if words > 126 {
+        return summary;
+    }
+    summary & ((1 << words.div_ceil(2)) - 1)
+}
+
+/// The next of so many words, from one on, that a summary has or before which it was looked at no further.
+pub fn next_marked(summary: u64, start: usize, words: usize) -> usize
+    requires few { words < 2 ^ 58 }
+    requires within { start ≤ words }
+    ensures low { start ≤ result }
+    ensures high { result ≤ words }
+    ensures none { Nowhere (IsMarked summary) start result }
+{
+    let pair = start / 2;
+    let first = 64 * (pair / 64);
+    let ahead = summary & (u64::MAX << (pair % 64));
+    if ahead == 0 {
+        return words.min(2 * (first + 64));
+    }
+    let marked = first + ahead.trailing_zeros() as usize;
+    words.min(start.max(2 * marked))
+}

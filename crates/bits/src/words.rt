@@ -1,0 +1,109 @@
+//! Bits moved within words and from word to word.
+
+ghost use Rattle.std.specs.Prelude.{◌≡◌, ◌++◌, ◌∷◌, [], ◌<◌, ◌≤◌, ◌*◌, length, false, insert, remove, slice_set, slice_index_or, take, ℕ, IsTrue, ◌↔◌};
+ghost use Rattle.bits.specs.steps.Packing.{word_bits, all_bits, low_bit, top_bit, IsPacked};
+
+/// The bit at a place of some words.
+pub fn bit_at(words: &[u64], at: usize) -> bool
+    requires { at < 64 * length words.now }
+    ensures { result ≡ slice_index_or (all_bits words.now) at false }
+{
+    (words[at / 64] >> (at % 64)) % 2 == 1
+}
+
+/// Whether the words of two rows of one length have equal bits.
+pub(crate) fn same_bits(one: &[u64], other: &[u64]) -> bool
+    requires { (len : ℕ) × IsPacked one.now len × IsPacked other.now len }
+    ensures { (len : ℕ) → IsPacked one.now len → IsPacked other.now len
+        → (IsTrue result ↔ (take len (all_bits one.now) ≡ take len (all_bits other.now))) }
+{
+    for k in 0..one.len() {
+        let word = one[k];
+        let others = other[k];
+        if word != others {
+            return false;
+        }
+    }
+    true
+}
+
+// Puts a bit into a word: the later bits move up, and the highest falls out.
+pub(crate) fn insert_bit(word: u64, offset: u32, bit: bool) -> u64
+    requires { offset < 64 }
+    ensures { word_bits 64 result ++ top_bit word ∷ [] ≡ insert (word_bits 64 word) offset bit }
+{
+    let low = word & ((1 << offset) - 1);
+    let high = ((word >> offset) << 1) | u64::from(bit);
+    (high << offset) | low
+}
+
+// Takes a bit out of a word: the later bits move down, and `top` comes in as the highest.
+pub(crate) fn remove_bit(word: u64, offset: u32, top: bool) -> u64
+    requires { offset < 64 }
+    ensures { word_bits 64 result ≡ remove (word_bits 64 word) offset ++ top ∷ [] }
+{
+    let low = word & ((1 << offset) - 1);
+    let high = (word >> offset) >> 1;
+    (u64::from(top) << 63) | ((high << offset) | low)
+}
+
+// Writes a bit of a word.
+pub(crate) fn set_bit(word: u64, offset: u32, bit: bool) -> u64
+    requires { offset < 64 }
+    ensures { word_bits 64 result ≡ slice_set (word_bits 64 word) offset bit }
+{
+    if bit {
+        return word | 1 << offset;
+    }
+    word & !(1 << offset)
+}
+
+// Moves the bits of a word up by one: the highest bit of the word below comes in first.
+pub(crate) fn shift_up(word: u64, below: u64) -> u64
+    ensures { word_bits 64 result ++ top_bit word ∷ [] ≡ top_bit below ∷ word_bits 64 word }
+{
+    (word << 1) | (below >> 63)
+}
+
+// Moves the bits of a word down by one: the lowest bit of the word above comes in last.
+pub(crate) fn shift_down(word: u64, above: u64) -> u64
+    ensures { word_bits 64 result ≡ remove (word_bits 64 word) 0 ++ low_bit above ∷ [] }
+{
+    (above << 63) | (word >> 1)
+}
+
+// Puts a bit in at a place: the later bits move up, from word to word, and the last falls out.
+pub(crate) fn shift_in(words: &mut [u64], at: usize, bit: bool) -> bool
+    requires { at ≤ 64 * length words.old }
+    ensures { all_bits words.new ++ result ∷ [] ≡ insert (all_bits words.old) at bit }
+{
+    let first = at / 64;
+    if first >= words.len() {
+        return bit;
+    }
+    let mut below = words[first];
+    words[first] = insert_bit(below, (at % 64) as u32, bit);
+    for k in first + 1..words.len() {
+        let word = words[k];
+        words[k] = shift_up(word, below);
+        below = word;
+    }
+    below >> 63 == 1
+}
+
+// Takes the bit at a place out: the later bits move down, from word to word, and a 0 comes in last.
+pub(crate) fn shift_out(words: &mut [u64], at: usize)
+    requires { at < 64 * length words.old }
+    ensures { all_bits words.new ≡ remove (all_bits words.old) at ++ false ∷ [] }
+{
+    let first = at / 64;
+    let mut above = 0;
+    let mut k = words.len() - 1;
+    while k > first {
+        let word = words[k];
+        words[k] = shift_down(word, above);
+        above = word;
+        k -= 1;
+    }
+    words[first] = remove_bit(words[first], (at % 64) as u32, above % 2 == 1);
+}

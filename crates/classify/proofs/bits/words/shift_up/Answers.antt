@@ -1,5 +1,0 @@
-use Rattle.classify.proofs.laws.bits.BitLaws.{moved_up}
-use Rattle.classify.proofs.bits.words.shift_up.Goals as goal
-
-pub returns : goal.returns
-returns c = moved_up c.args.word c.args.below c.ranges.word.fits c.ranges.below.fits

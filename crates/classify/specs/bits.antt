@@ -1,2 +1,0 @@
-pub mod BitRow
-pub mod Rows
