@@ -1,5 +1,5 @@
 -- Places that several rows of bits have.
-use Rattle.std.specs.Prelude.{◌≡◌, ℕ, ◌+◌, ◌<◌, ◌≤◌, ◌↔◌, List, length, slice_index, slice_index_or, [], take, All}
+use Rattle.std.specs.Prelude.{◌≡◌, ℕ, ◌+◌, ◌<◌, ◌↔◌, List, length, slice_index, slice_index_or, [], take, All}
 use Rattle.std.specs.Prelude.{false, true}
 use Rattle.std.specs.Borrow.{Bor}
 use Rattle.std.specs.Int.{bit_at}

@@ -1,5 +1,5 @@
 -- The search for the first place that every row has.
-use Rattle.std.proofs.Common.{◌≡◌, ◌≢◌, ◌↔◌, inl, inr, ℕ, zero, suc, ◌+◌, ◌-◌, ◌*◌, ◌/◌, ◌%◌, ◌^◌, ◌<◌, ◌≤◌, true, false, List, [], ◌∷◌, length, take, get_or, refl, sym, ◌∙◌, ap, arith, subst, min, max, All, Option, Some, None, Bor}
+use Rattle.std.proofs.Common.{◌≡◌, ◌↔◌, inl, inr, ℕ, zero, suc, ◌+◌, ◌-◌, ◌*◌, ◌/◌, ◌%◌, ◌^◌, ◌<◌, ◌≤◌, true, false, List, [], ◌∷◌, length, take, get_or, refl, sym, ◌∙◌, ap, arith, subst, min, All, Option, Some, None, Bor}
 use Rattle.std.specs.Prelude.{slice_index, bit_and, bit_or, nat_eq, replicate}
 use Rattle.std.specs.Int.{bit_at}
 use Rattle.std.proofs.lemmas.List.{get_or-take, length-take-le}
