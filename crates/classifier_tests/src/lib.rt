@@ -3,7 +3,7 @@
 #![tactic(auto)]
 
 #[cfg(test)]
-mod bits;
+mod bit_rows;
 #[cfg(test)]
 mod dice;
 #[cfg(test)]

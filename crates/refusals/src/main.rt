@@ -10,7 +10,7 @@
 //! `tables` or `sessions`.
 #![tactic(auto)]
 
-mod bits;
+mod bit_rows;
 mod boxes;
 mod case;
 mod classifiers;
@@ -104,7 +104,7 @@ fn run_of_rules<R: Print + AllocGlobal>(rt: &R, refusals: &mut Refusals) {
     );
     tell(rt, "rules refused", rulings::refuse_all(alloc, refusals));
     tell(rt, "boxes", boxes::of(alloc, refusals));
-    tell(rt, "bits", bits::insert(alloc, refusals));
+    tell(rt, "bits", bit_rows::insert(alloc, refusals));
     tell(rt, "commands read", commands::read(alloc, refusals));
     tell(
         rt,

@@ -1,6 +1,6 @@
 //! Planted faults: each case has to end by its trouble, which shows that the program reports it. They take no memory
 //! that a refusal could reach, and what they count as refused isn't counted in the run.
-use crate::bits::has_bits;
+use crate::bit_rows::has_bits;
 use crate::case::{Refusals, Trouble, again, expect, expect_given, expect_kept};
 use classify::BitRow;
 use std::alloc::{AllocError, Global};
