@@ -171,6 +171,10 @@ impl Rows {
     }
 
     /// One row without a bit.
+    ///
+    /// # Errors
+    ///
+    /// `AllocError` where memory was refused.
     pub fn open(alloc: Global) -> Result<Rows, AllocError>
         ensures { IfOk result (λ rows. (rows.rows ≡ [] ∷ []) × (rows.room ≡ 0)) }
     {
@@ -268,7 +272,11 @@ impl Rows {
         same_bits(self.row(one), self.row(other))
     }
 
-    /// Puts a copy of a row after it. Where memory is refused the rows are as before.
+    /// Puts a copy of a row after it.
+    ///
+    /// # Errors
+    ///
+    /// `AllocError` where memory was refused, or there are 2 to the 32 rows: the rows are as before.
     pub fn double(&mut self, row: usize) -> Result<(), AllocError>
         requires { row < length self.old.rows }
         ensures ok { OnOk result (self.new.rows ≡ insert self.old.rows (row + 1) (slice_index_or self.old.rows row [])) }
@@ -346,6 +354,10 @@ impl Rows {
     }
 
     /// Takes the memory that one more bit in each row needs: all rows move where there is no room.
+    ///
+    /// # Errors
+    ///
+    /// `AllocError` where memory was refused, never where there is room: the rows are as before.
     pub fn reserve(&mut self) -> Result<(), AllocError>
         ensures rows { self.new.rows ≡ self.old.rows }
         ensures more { self.old.room ≤ self.new.room }
@@ -384,6 +396,10 @@ impl Rows {
     }
 
     /// Equal rows.
+    ///
+    /// # Errors
+    ///
+    /// `AllocError` where memory was refused.
     pub fn copy(&self, alloc: Global) -> Result<Rows, AllocError>
         ensures { IfOk result (λ rows. rows ≡ self.now) }
     {
