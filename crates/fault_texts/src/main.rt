@@ -1,4 +1,4 @@
-//! The program `fault_texts`: prints every fault that the public calls of `fields`, `rules`, `table` and `restore`
+//! The program `fault_texts`: prints every fault that the public calls of `fields`, `rules`, `table`, `restore` and `turns`
 //! answer, with its text. What it has to print stands beside it, as the table of faults has it; a fault that holds
 //! another one has the text of that one.
 #![tactic(auto)]
@@ -8,6 +8,7 @@ use restore::{CommandFault, RestoreFault};
 use rules::{Refusal, RuleFault};
 use std::io;
 use table::TableFault;
+use turns::Fault;
 
 const REFUSALS: [Refusal; 12] = [
     Refusal::UnknownOption(0),
@@ -75,6 +76,15 @@ const RESTORE_FAULTS: [RestoreFault; 12] = [
     RestoreFault::NoMemory,
 ];
 
+const LINE_FAULTS: [Fault; 6] = [
+    Fault::Line(RestoreFault::Quoting),
+    Fault::Packet(PacketFault::NotCarried),
+    Fault::UnknownLine,
+    Fault::BadRestoreLine,
+    Fault::EndWordMissing,
+    Fault::NoMemory,
+];
+
 fn print_faults_of_rules(rt: &impl Print) -> io::Result<()> {
     for refusal in REFUSALS {
         println!(rt; "{refusal:?}: {refusal}")?;
@@ -113,9 +123,17 @@ fn print_faults_of_restores(rt: &impl Print) -> io::Result<()> {
     Ok(())
 }
 
+fn print_faults_of_lines(rt: &impl Print) -> io::Result<()> {
+    for fault in LINE_FAULTS {
+        println!(rt; "{fault:?}: {fault}")?;
+    }
+    Ok(())
+}
+
 fn main(rt: HostRuntime) -> io::Result<()> {
     print_faults_of_rules(&rt)?;
     print_faults_of_fields(&rt)?;
     print_faults_of_tables(&rt)?;
-    print_faults_of_restores(&rt)
+    print_faults_of_restores(&rt)?;
+    print_faults_of_lines(&rt)
 }

@@ -1,2 +1,1 @@
 pub mod runs
-pub mod turns

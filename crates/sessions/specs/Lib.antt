@@ -1,4 +1,3 @@
 pub mod Views
-pub mod lines
 pub mod runs
 pub mod steps

@@ -1,13 +1,8 @@
 //! Sessions with the table `filter`: lines in, replies out (iptables(8), iptables-save(8), iptables-restore(8)).
 #![tactic(auto)]
 
-mod fault;
 mod headline;
-mod line;
-mod reply;
 mod session;
-mod spot;
-mod turn;
 
 pub use headline::runs_leave_what_they_accept;
 pub use session::{RunFault, Session};

@@ -3,14 +3,9 @@ ghost use Rattle.std.specs.Prelude.{◌≡◌, ◌+◌, ◌^◌, ◌<◌, ◌≤
 ghost use Rattle.fields.specs.text.Tap.{has_failed, known, turns_left, Puts};
 ghost use Rattle.fields.specs.text.Line.{IsHeld, EndsAt};
 ghost use Rattle.table.specs.chains.Table.{Table as TableOf};
-ghost use Rattle.sessions.specs.lines.Turn.{Reply, last_turn, restore_end};
-ghost use Rattle.sessions.specs.runs.Session.{reply_text, status_after};
-ghost use Rattle.sessions.specs.steps.Served.{HasPlace, IsReply};
+ghost use Rattle.turns.specs.Turn.{Reply, has_ended, reply_text, status_after};
+ghost use Rattle.turns.specs.steps.Served.{HasPlace, IsReply};
 
-use crate::fault::Fault;
-use crate::reply::{Answer, write_reply};
-use crate::spot::Spot;
-use crate::turn::{Turn, take_line};
 use fields::{LineEnd, Tap, WriteFailed};
 use restore::{Restore, listings_restore, restores_leave_what_they_accept};
 use rules::Work;
@@ -19,6 +14,7 @@ use std::io::{BufRead, Write};
 use std::mem;
 use table::Table;
 use thiserror::Error;
+use turns::{Answer, Fault, Spot, Turn, last_reply, restore_reply, take_line, write_reply};
 
 /// Why a run stopped before it had a status.
 #[derive(Clone, Copy, Debug, PartialEq, Eq, Drop, Error)]
@@ -90,38 +86,6 @@ impl Progress {
     }
 }
 
-// What is printed at the end of a session's input.
-fn last_reply(spot: Spot) -> Result<Answer, Fault>
-    ensures reply { (t : TableOf) → IsReply t result (last_turn t spot).reply }
-    ensures place { (t : TableOf) → HasPlace t result }
-{
-    match spot {
-        Spot::Outside => Ok(Answer::Nothing),
-        Spot::Within(_word, _restore) => Err(Fault::EndWordMissing),
-        Spot::Passing(_word) => Ok(Answer::Nothing),
-    }
-}
-
-// What is printed at the end of the input of a restore from the command line.
-fn restore_reply(list: bool, spot: Spot) -> Result<Answer, Fault>
-    ensures reply { (t : TableOf) → IsReply t result (restore_end list t spot).reply }
-    ensures place { (t : TableOf) → HasPlace t result }
-{
-    match spot {
-        Spot::Outside => Ok(Answer::Nothing),
-        Spot::Within(_word, restore) => match restore.finish() {
-            Ok(()) => {
-                if list {
-                    return Ok(Answer::Listing);
-                }
-                Ok(Answer::Nothing)
-            }
-            Err(fault) => Err(Fault::of_line(fault)),
-        },
-        Spot::Passing(_word) => Ok(Answer::Nothing),
-    }
-}
-
 impl Progress {
     ghost use Rattle.sessions.specs.runs.Session.{restore_finish, session_finish};
     ghost use Rattle.sessions.specs.steps.Lines.{Ends, Finishes};
@@ -187,7 +151,7 @@ impl Session {
     ghost use Rattle.sessions.specs.runs.Session.{restore_finish, restore_session, restore_start, session, session_finish, session_start};
     ghost use Rattle.restore.specs.listings.RoundTrip.{RestoresItself};
     ghost use Rattle.sessions.specs.runs.Headline.{RestoresClassifiers, RunsTo};
-    ghost use Rattle.sessions.specs.runs.Run.{Whole, has_ended};
+    ghost use Rattle.sessions.specs.runs.Run.{Whole};
     ghost use Rattle.sessions.specs.steps.Lines.{ServesLine, ServesLines, state_of};
     ghost use Rattle.sessions.specs.Views.{table_of};
 

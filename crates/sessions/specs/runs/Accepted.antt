@@ -9,9 +9,11 @@ use Rattle.restore.specs.declared.fault.RestoreFault.{RestoreFault}
 use Rattle.restore.specs.declared.restore.Place.{Place}
 use Rattle.restore.specs.declared.restore.Place.TheVariants.{Between, Building}
 use Rattle.restore.specs.sections.Section.{Asked, asked, begun}
-use Rattle.sessions.specs.lines.Fault.{Fault}
-use Rattle.sessions.specs.lines.Request.{Request, Run, request_on}
-use Rattle.sessions.specs.lines.Turn.{Line, Reply, Says, Fails, Spot, Outside, Within, Turn, turn}
+use Rattle.turns.specs.declared.fault.Fault.{Fault}
+use Rattle.turns.specs.Request.{Request, Run, request_on}
+use Rattle.turns.specs.Turn.{Line, Reply, Says, Fails, Turn, turn}
+use Rattle.turns.specs.declared.spot.Spot.{Spot}
+use Rattle.turns.specs.declared.spot.Spot.TheVariants.{Outside, Within}
 use Rattle.sessions.specs.runs.Session.{State, step}
 
 -- an accepted change: an edit by a command, or a section that was committed, with noflush or without, and the edits of its

@@ -9,9 +9,10 @@ use Rattle.table.specs.chains.Table.{AreClassified, Table, TableView, empty_tabl
 use Rattle.restore.specs.listings.Listing.{listing}
 use Rattle.restore.specs.listings.RoundTrip.{RestoresItself}
 use Rattle.restore.specs.sections.Restore.{restored}
-use Rattle.sessions.specs.lines.Fault.{Fault}
-use Rattle.sessions.specs.lines.Request.{Ask, request_on}
-use Rattle.sessions.specs.lines.Turn.{Line, Reply, Says, Fails, Outside, turn}
+use Rattle.turns.specs.declared.fault.Fault.{Fault}
+use Rattle.turns.specs.Request.{Ask, request_on}
+use Rattle.turns.specs.Turn.{Line, Reply, Says, Fails, turn}
+use Rattle.turns.specs.declared.spot.Spot.TheVariants.{Outside}
 use Rattle.replies.specs.Walked.{packet_reply}
 use Rattle.sessions.specs.runs.Run.{RunFault, Runs}
 use Rattle.sessions.specs.runs.Session.{State, step}

@@ -1,19 +1,14 @@
 -- What a run of a session did, or a restore from the command line, whatever came of its reader and its writer.
-use Rattle.std.specs.Prelude.{◌≡◌, ◌⊎◌, ℕ, Bool, true, false, List, [], ◌∷◌, ◌++◌, fold, Result, Ok, Err, Option, None, IfSome, IsTrue, IsFalse}
+use Rattle.std.specs.Prelude.{◌≡◌, ◌⊎◌, ℕ, Bool, List, [], ◌∷◌, ◌++◌, fold, Result, Ok, Err, Option, IfSome, IsTrue, IsFalse}
 use Rattle.std.specs.Io.KnownBytes.{Appends, Consumes}
 use Rattle.fields.specs.declared.text.tap.Tap.{Tap}
 use Rattle.fields.specs.text.Tap.{known, IsBeginning}
 use Rattle.fields.specs.text.Line.{EndsAt, lines_of, ended_lines}
 use Rattle.table.specs.chains.Table.{Table}
-use Rattle.sessions.specs.lines.Turn.{Line, Spot, Passing}
+use Rattle.turns.specs.Turn.{Line, has_ended}
 use Rattle.sessions.specs.runs.Session.{State, step, texts_of}
 pub use Rattle.sessions.specs.declared.session.RunFault.{RunFault}
 pub use Rattle.sessions.specs.declared.session.RunFault.TheVariants.{ReadFailed, WriteFailed}
-
--- a run ends at the fault of a restore that no line ends
-abbrev pub has_ended : Spot → Bool
-has_ended (Passing None) = true
-has_ended spot = false
 
 -- lines lead from one state to another, and none is read after a run has ended
 abbrev pub Lead : State → List Line → State → Type 0

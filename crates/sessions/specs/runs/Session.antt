@@ -1,10 +1,11 @@
 -- Sessions and restores from the command line: a step for each line.
-use Rattle.std.specs.Prelude.{ℕ, ◌+◌, ◌==◌, Bool, false, List, [], ◌∷◌, ◌++◌, fold, map, None, if◌then◌else◌}
+use Rattle.std.specs.Prelude.{ℕ, ◌+◌, Bool, false, List, [], ◌∷◌, ◌++◌, fold, map, None}
 use Rattle.fields.specs.text.Line.{lines_of}
 use Rattle.table.specs.chains.Table.{Table}
 use Rattle.restore.specs.sections.Restore.{begun_restore}
-use Rattle.sessions.specs.lines.Fault.{fault_line, fault_status}
-use Rattle.sessions.specs.lines.Turn.{Line, Reply, Says, Fails, Spot, Outside, Within, Turn, turn, last_turn, restore_end}
+use Rattle.turns.specs.Turn.{Line, Turn, turn, last_turn, restore_end, reply_text, status_after}
+use Rattle.turns.specs.declared.spot.Spot.{Spot}
+use Rattle.turns.specs.declared.spot.Spot.TheVariants.{Outside, Within}
 
 -- how a session stands: its table, where its next line stands, how many lines there were, and the status so far
 pub record Standing : Type 0 where
@@ -17,16 +18,6 @@ pub record Standing : Type 0 where
 pub record State : Type 0 where
   pub now : Standing
   pub printed : List ℕ
-
--- what is printed of a reply to line n
-abbrev pub reply_text : ℕ → Reply → List ℕ
-reply_text n (Says text) = text
-reply_text n (Fails fault) = fault_line n fault
-
--- the status is that of the first fault
-abbrev pub status_after : ℕ → Reply → ℕ
-status_after status (Says text) = status
-status_after status (Fails fault) = if status == 0 then fault_status fault else status
 
 -- the state after a turn, which was that of line n
 abbrev pub after : State → ℕ → Turn → State

@@ -2,7 +2,7 @@
 -- at a failed device.
 use Rattle.std.specs.Prelude.{◌≡◌, List, [], ◌∷◌, ◌++◌}
 use Rattle.table.specs.chains.Table.{TableView}
-use Rattle.sessions.specs.lines.Turn.{Line}
+use Rattle.turns.specs.Turn.{Line}
 use Rattle.sessions.specs.runs.Accepted.{Change, accepted, changed_by}
 use Rattle.sessions.specs.runs.Headline.{Headline}
 use Rattle.sessions.specs.runs.Session.{State}

@@ -5,9 +5,9 @@ use Rattle.fields.specs.declared.text.tap.Tap.{Tap}
 use Rattle.fields.specs.text.Line.{EndsAt}
 use Rattle.fields.specs.text.Tap.{known, Wrote, Stopped, Puts}
 use Rattle.table.specs.chains.Table.{Table}
-use Rattle.sessions.specs.lines.Turn.{Line}
+use Rattle.turns.specs.Turn.{Line, has_ended}
 use Rattle.sessions.specs.runs.Session.{State, step}
-use Rattle.sessions.specs.runs.Run.{AreRead, Lead, RunFault, Runs, WriteFailed, has_ended}
+use Rattle.sessions.specs.runs.Run.{AreRead, Lead, RunFault, Runs, WriteFailed}
 use Rattle.sessions.specs.declared.session.Progress.{Progress}
 
 -- the state of the definition, where this was printed

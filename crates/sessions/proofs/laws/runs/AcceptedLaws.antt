@@ -18,9 +18,12 @@ use Rattle.restore.specs.sections.Names.{Names}
 use Rattle.restore.specs.sections.Restore.{Restore, Restoring, moved, opening, between, line_at, ended_at, is_commit, restore_line}
 use Rattle.restore.specs.sections.Section as section
 use Rattle.restore.specs.sections.Section.{Asked, asked, begun, begins_with, is_quiet, is_too_long, line_in}
-use Rattle.sessions.specs.lines.Fault.{Fault, NoMemory}
-use Rattle.sessions.specs.lines.Request.{Request, Nothing, Run, Save, Open, Ask, Show, request_on}
-use Rattle.sessions.specs.lines.Turn.{Line, Spot, Outside, Within, Passing, Turn, silent, fails, edit_turn, serve, ended, restore_turn, served, is_end, needs_no_memory, turn}
+use Rattle.turns.specs.declared.fault.Fault.{Fault}
+use Rattle.turns.specs.declared.fault.Fault.TheVariants.{NoMemory}
+use Rattle.turns.specs.Request.{Request, Nothing, Run, Save, Open, Ask, Show, request_on}
+use Rattle.turns.specs.Turn.{Line, Turn, silent, fails, edit_turn, serve, ended, restore_turn, served, is_end, needs_no_memory, turn}
+use Rattle.turns.specs.declared.spot.Spot.{Spot}
+use Rattle.turns.specs.declared.spot.Spot.TheVariants.{Outside, Within, Passing}
 use Rattle.sessions.specs.runs.Accepted.{Change, Command, Section, Account, changed, changed_by, edit_asked, section_edits, committed, commanded, noted, account, accepted}
 use Rattle.sessions.specs.runs.Session.{State, step, session_start, restore_start}
 use Rattle.sessions.proofs.laws.runs.KeptLaws.{of_both}

@@ -5,10 +5,10 @@ use Rattle.fields.specs.declared.text.tap.Tap.{Tap}
 use Rattle.fields.specs.text.Tap.{known, Stopped}
 use Rattle.table.specs.chains.Table.{Table, TableView}
 use Rattle.restore.specs.listings.RoundTrip.{RestoresItself}
-use Rattle.sessions.specs.lines.Turn.{Line, last_turn, restore_end}
+use Rattle.turns.specs.Turn.{Line, last_turn, restore_end, reply_text, status_after}
 use Rattle.sessions.specs.runs.Headline.{RestoresClassifiers, RunsTo}
 use Rattle.sessions.specs.runs.Run.{RunFault, Runs, WriteFailed}
-use Rattle.sessions.specs.runs.Session.{State, reply_text, restore_finish, restore_start, session_finish, session_start, status_after, step}
+use Rattle.sessions.specs.runs.Session.{State, restore_finish, restore_start, session_finish, session_start, step}
 use Rattle.sessions.specs.steps.Lines.{Ends, Finishes, ServedAll, state_of}
 use Rattle.sessions.specs.declared.session.Progress.{Progress}
 use Rattle.sessions.proofs.laws.runs.HeadlineLaws.{restore_headline, session_headline}

@@ -3,7 +3,7 @@ use Rattle.std.proofs.Common.{◌≡◌, Bool, List, [], ◌∷◌, fold, ap, �
 use Rattle.std.proofs.lemmas.Grind.{fold-append}
 use Rattle.table.specs.chains.Table.{TableView}
 use Rattle.restore.specs.listings.RoundTrip.{RestoresItself}
-use Rattle.sessions.specs.lines.Turn.{Line}
+use Rattle.turns.specs.Turn.{Line}
 use Rattle.sessions.specs.runs.Accepted.{accepted, changed_by}
 use Rattle.sessions.specs.runs.Headline.{Headline, PacketsWereWalked, RefusedChangedNothing, RestoresClassifiers}
 use Rattle.sessions.specs.runs.Session.{State, restore_start, session_start, step}

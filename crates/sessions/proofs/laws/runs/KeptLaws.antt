@@ -10,9 +10,11 @@ use Rattle.restore.specs.commands.Command as command
 use Rattle.restore.specs.declared.fault.RestoreFault.{RestoreFault}
 use Rattle.restore.specs.listings.Listing.{rules_listing}
 use Rattle.restore.specs.sections.Restore.{Restore, Restoring, ended_at, restore_line}
-use Rattle.sessions.specs.lines.Fault.{Fault}
-use Rattle.sessions.specs.lines.Request.{Request, Nothing, Run, Save, Open, Ask, Show, request_on}
-use Rattle.sessions.specs.lines.Turn.{Line, Spot, Outside, Within, Passing, Reply, Says, Fails, Turn, edit_turn, on_chain, serve, ended, restore_turn, served, is_end, needs_no_memory, turn}
+use Rattle.turns.specs.declared.fault.Fault.{Fault}
+use Rattle.turns.specs.Request.{Request, Nothing, Run, Save, Open, Ask, Show, request_on}
+use Rattle.turns.specs.Turn.{Line, Reply, Says, Fails, Turn, edit_turn, on_chain, serve, ended, restore_turn, served, is_end, needs_no_memory, turn}
+use Rattle.turns.specs.declared.spot.Spot.{Spot}
+use Rattle.turns.specs.declared.spot.Spot.TheVariants.{Outside, Within, Passing}
 use Rattle.replies.specs.Walked.{packet_reply}
 
 -- what holds of both arms holds of the whole

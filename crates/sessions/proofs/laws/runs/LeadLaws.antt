@@ -1,8 +1,8 @@
 -- Lines that lead from one state to another.
 use Rattle.std.proofs.Common.{◌≡◌, ℕ, Bool, false, List, [], ◌∷◌, ◌++◌, fold, sym, ap, subst}
 use Rattle.std.proofs.lemmas.List.{map-append}
-use Rattle.sessions.specs.lines.Turn.{Line}
-use Rattle.sessions.specs.runs.Run.{Lead, has_ended}
+use Rattle.turns.specs.Turn.{Line, has_ended}
+use Rattle.sessions.specs.runs.Run.{Lead}
 use Rattle.sessions.specs.runs.Session.{State, step, texts_of}
 
 -- lines lead where their steps go

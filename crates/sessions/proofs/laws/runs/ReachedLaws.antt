@@ -10,9 +10,9 @@ use Rattle.fields.proofs.laws.text.LineLaws.{lines_of-ended, lines_of-last, ende
 use Rattle.fields.proofs.laws.text.PartLaws.{EndsAt-later}
 use Rattle.fields.proofs.laws.text.PutLaws.{wrote-then}
 use Rattle.table.specs.chains.Table.{Table}
-use Rattle.sessions.specs.lines.Turn.{Line}
+use Rattle.turns.specs.Turn.{Line, has_ended}
 use Rattle.sessions.specs.runs.Session.{State, step, texts_of}
-use Rattle.sessions.specs.runs.Run.{EndsLine, Lead, Runs, ReadFailed, WriteFailed, has_ended}
+use Rattle.sessions.specs.runs.Run.{EndsLine, Lead, Runs, ReadFailed, WriteFailed}
 use Rattle.sessions.specs.steps.Lines.{ServedAll, state_of}
 use Rattle.sessions.specs.declared.session.Progress.{Progress}
 use Rattle.sessions.proofs.laws.runs.LeadLaws.{fold_of, lead_more, texts_more}

@@ -6,9 +6,9 @@ use Rattle.fields.specs.text.Tap.{Puts, Wrote}
 use Rattle.fields.specs.text.Line.{IsHeld}
 use Rattle.fields.proofs.laws.text.PutLaws.{puts-then}
 use Rattle.table.specs.chains.Table.{TableView}
-use Rattle.sessions.specs.lines.Turn.{Spot}
-use Rattle.sessions.specs.steps.Served.{HasPlace, IsTurnOf}
-use Rattle.sessions.specs.declared.turn.Turn as made
+use Rattle.turns.specs.declared.spot.Spot.{Spot}
+use Rattle.turns.specs.steps.Served.{HasPlace, IsTurnOf}
+use Rattle.turns.specs.declared.turn.Turn as made
 
 -- a text that was held so
 some_text : (line : List ℕ) (too_long : Bool) → (text : List ℕ) × IsHeld 10240 text line too_long

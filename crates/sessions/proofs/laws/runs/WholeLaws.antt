@@ -14,10 +14,13 @@ use Rattle.table.specs.declared.fault.TableFault.{TableFault}
 use Rattle.restore.specs.commands.Command as command
 use Rattle.restore.specs.declared.fault.RestoreFault.{RestoreFault}
 use Rattle.restore.specs.sections.Restore.{Restore, Restoring, ended_at, restore_line}
-use Rattle.sessions.specs.lines.Fault.{Fault, NoMemory}
-use Rattle.sessions.specs.lines.Request.{Request, Nothing, Run, Save, Open, Ask, Show, request_on}
-use Rattle.sessions.specs.lines.Turn.{Line, Spot, Outside, Within, Passing, Turn, edit_turn, ended, fails, is_end, needs_no_memory, listed, restore_turn, serve, served, turn}
-use Rattle.sessions.specs.runs.Run.{EndsLine, Lead, RunFault, Runs, Whole, has_ended}
+use Rattle.turns.specs.declared.fault.Fault.{Fault}
+use Rattle.turns.specs.declared.fault.Fault.TheVariants.{NoMemory}
+use Rattle.turns.specs.Request.{Request, Nothing, Run, Save, Open, Ask, Show, request_on}
+use Rattle.turns.specs.Turn.{Line, Turn, edit_turn, ended, fails, is_end, needs_no_memory, listed, restore_turn, serve, served, turn, has_ended}
+use Rattle.turns.specs.declared.spot.Spot.{Spot}
+use Rattle.turns.specs.declared.spot.Spot.TheVariants.{Outside, Within, Passing}
+use Rattle.sessions.specs.runs.Run.{EndsLine, Lead, RunFault, Runs, Whole}
 use Rattle.sessions.specs.runs.Session.{State, marked, play, restore_finish, restore_session, restore_start, session, session_finish, session_start, step, texts_of}
 use Rattle.sessions.proofs.laws.runs.KeptLaws.{of_both}
 use Rattle.sessions.proofs.laws.runs.LeadLaws.{fold_of}

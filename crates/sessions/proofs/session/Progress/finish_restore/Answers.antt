@@ -1,4 +1,4 @@
-use Rattle.sessions.specs.lines.Turn.{restore_end}
+use Rattle.turns.specs.Turn.{restore_end}
 use Rattle.sessions.proofs.laws.runs.EndLaws.{restore_ends}
 use Rattle.sessions.proofs.session.Progress.finish_restore.Goals as goal
 

@@ -1,4 +1,4 @@
-use Rattle.sessions.specs.lines.Turn.{last_turn}
+use Rattle.turns.specs.Turn.{last_turn}
 use Rattle.sessions.proofs.laws.runs.EndLaws.{session_ends}
 use Rattle.sessions.proofs.session.Progress.finish_session.Goals as goal
 

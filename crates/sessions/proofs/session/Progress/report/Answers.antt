@@ -1,5 +1,5 @@
 use Rattle.std.proofs.Common.{rules}
-use Rattle.sessions.specs.runs.Session.{reply_text}
+use Rattle.turns.specs.Turn.{reply_text}
 use Rattle.sessions.proofs.laws.runs.ServeLaws.{puts_on}
 use Rattle.sessions.proofs.session.Progress.report.Goals as goal
 

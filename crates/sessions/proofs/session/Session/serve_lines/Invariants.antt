@@ -1,6 +1,6 @@
 use Rattle.std.proofs.Common.{◌≡◌, ◌+◌, ◌≤◌, [], false}
 use Rattle.fields.specs.text.Tap.{has_failed, turns_left}
-use Rattle.sessions.specs.runs.Run.{has_ended}
+use Rattle.turns.specs.Turn.{has_ended}
 use Rattle.sessions.specs.steps.Lines.{state_of}
 use Rattle.sessions.proofs.laws.runs.ReachedLaws.{Reached}
 use Rattle.sessions.proofs.session.Session.serve_lines.Given as goal

@@ -1,0 +1,5 @@
+pub mod Fault
+pub mod Opening
+pub mod Request
+pub mod Turn
+pub mod steps

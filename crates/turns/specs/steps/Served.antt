@@ -1,0 +1,71 @@
+-- How the code's values stand for those of the definitions, and what came of a line.
+use Rattle.std.specs.Prelude.{◌≡◌, ◌⊎◌, ℕ, ◌<◌, Bool, List, [], length, option_map, Option, Some, None, Result, Ok, Err}
+use Rattle.fields.specs.packet.Packet.{PacketView}
+use Rattle.table.specs.chains.Table.{Table, TableView, chain_at}
+use Rattle.table.specs.walk.Walk.{walk}
+use Rattle.table.specs.walk.Trail.{Shows}
+use Rattle.restore.specs.commands.Command as command
+use Rattle.restore.specs.listings.Listing.{listing, rules_listing}
+use Rattle.turns.specs.Fault.{Fault, NoMemory}
+use Rattle.turns.specs.Request.{Request, Run, Save, Open, Ask, Show}
+use Rattle.turns.specs.Turn.{Reply, Says, Fails, Spot, Turn, after_fault, turn}
+use Rattle.replies.specs.Walked.{packet_reply}
+use Rattle.replies.specs.Lines.{lines_reply}
+use Rattle.turns.specs.declared.request.Request as code
+use Rattle.turns.specs.declared.request.Request.TheVariants as requests
+use Rattle.turns.specs.declared.reply.Answer.{Answer}
+use Rattle.turns.specs.declared.reply.Answer.TheVariants as answers
+use Rattle.turns.specs.declared.turn.Turn as made
+
+-- what a request of the code asks for
+abbrev pub meaning : code.Request → Request
+meaning (requests.Run c) = Run (command.meaning c)
+meaning requests.Save = Save
+meaning (requests.Open opening) = Open opening
+meaning (requests.Ask packet) = Ask packet
+meaning (requests.Show name) = Show name.now
+
+-- a place, if one is given, is that of a chain
+abbrev pub IsPlace : Table → Option ℕ → Type 0
+IsPlace t None = Unit {0}
+IsPlace t (Some place) = place < length t.chains
+
+-- the chain that is to be printed is there
+abbrev pub HasPlace : Table → Result Answer Fault → Type 0
+HasPlace t (Ok (answers.Rules place)) = IsPlace t place
+HasPlace t (Ok (answers.Lines place)) = place < length t.chains
+HasPlace t reply = Unit {0}
+
+-- the name of the chain at a place, if one is given
+abbrev pub name_at : Table → Option ℕ → Option (List ℕ)
+name_at t place = option_map (λ k. (chain_at t k).name) place
+
+-- what is printed of an answer or a fault
+abbrev pub IsReply : Table → Result Answer Fault → Reply → Type 0
+IsReply t (Ok answers.Nothing) said = said ≡ Says []
+IsReply t (Ok (answers.Rules place)) said = said ≡ Says (rules_listing t (name_at t place))
+IsReply t (Ok answers.Listing) said = said ≡ Says (listing t)
+IsReply t (Ok (answers.Walk trail)) said = (packet : PacketView) × Shows t.chains (walk t packet) trail × (said ≡ Says (packet_reply t packet))
+IsReply t (Ok (answers.Lines place)) said = said ≡ Says (lines_reply (chain_at t place).rules)
+IsReply t (Err fault) said = said ≡ Fails fault
+
+-- what the definition says of a line is what came of it
+pub record IsTurn (said : Turn) (new : TableView) (t : made.Turn) : Type 0 where
+  pub table : said.table ≡ new.table
+  pub spot : said.spot ≡ t.spot
+  pub reply : IsReply new.table t.reply said.reply
+  pub place : HasPlace new.table t.reply
+
+-- memory was refused, and nothing was changed
+pub record RanOut (from : Spot) (old new : TableView) (t : made.Turn) : Type 0 where
+  pub table : new ≡ old
+  pub spot : t.spot ≡ after_fault from
+  pub reply : t.reply ≡ Err NoMemory
+
+-- what the definition says came, or memory was refused
+abbrev pub Comes : Turn → Spot → TableView → TableView → made.Turn → Type 0
+Comes said spot old new t = IsTurn said new t ⊎ RanOut spot old new t
+
+-- what the definition says of a line came, for some mark
+abbrev pub IsTurnOf : List ℕ → Spot → TableView → TableView → made.Turn → Type 0
+IsTurnOf text spot old new t = (refused : Bool) × IsTurn (turn old.table spot (record { text = text; refused = refused })) new t
