@@ -9,7 +9,7 @@ use crate::reply::Answer;
 use crate::spot::Spot;
 
 /// What is printed at the end of a session's input: S3 in a restore that reported no fault, since its end line is missing,
-/// and else nothing. It takes no memory.
+/// and else nothing.
 pub fn last_reply(spot: Spot) -> Result<Answer, Fault>
     ensures reply { (t : TableOf) → IsReply t result (last_turn t spot).reply }
     ensures place { (t : TableOf) → HasPlace t result }
@@ -22,7 +22,7 @@ pub fn last_reply(spot: Spot) -> Result<Answer, Fault>
 }
 
 /// What is printed at the end of the input of a restore from the command line: R4 inside a section; else the listing, if
-/// `list` asks for it, and nothing after a fault. It takes no memory.
+/// `list` asks for it, and nothing after a fault.
 pub fn restore_reply(list: bool, spot: Spot) -> Result<Answer, Fault>
     ensures reply { (t : TableOf) → IsReply t result (restore_end list t spot).reply }
     ensures place { (t : TableOf) → HasPlace t result }

@@ -58,8 +58,8 @@ fn write_fault<W: Write>(number: u64, fault: Fault, output: &mut Tap<W>) -> Resu
     ])
 }
 
-/// Writes what came of line `number`, from the table that the line left: its answer, or `line N: CODE text`. It takes no
-/// memory, and time linear in what it writes.
+/// Writes what came of line `number`, from the table that the line left: its answer, or `line N: CODE text`. It takes time
+/// linear in what it writes.
 ///
 /// # Errors
 ///
