@@ -6,6 +6,7 @@
 use fields::{PacketFault, ReadFailed, WordFault, WriteFailed};
 use restore::{CommandFault, RestoreFault};
 use rules::{Refusal, RuleFault};
+use std::fmt::{Debug, Display};
 use std::io;
 use table::TableFault;
 use turns::Fault;
@@ -24,6 +25,8 @@ const REFUSALS: [Refusal; 12] = [
     Refusal::OtherTarget,
     Refusal::MatchOptionMissing,
 ];
+
+const RULE_FAULTS: [RuleFault; 2] = [RuleFault::NoMemory, RuleFault::Refused(Refusal::BadValue)];
 
 const PACKET_FAULTS: [PacketFault; 4] = [
     PacketFault::UnknownKey,
@@ -85,55 +88,22 @@ const LINE_FAULTS: [Fault; 6] = [
     Fault::NoMemory,
 ];
 
-fn print_faults_of_rules(rt: &impl Print) -> io::Result<()> {
-    for refusal in REFUSALS {
-        println!(rt; "{refusal:?}: {refusal}")?;
-    }
-    for fault in [RuleFault::NoMemory, RuleFault::Refused(Refusal::BadValue)] {
-        println!(rt; "{fault:?}: {fault}")?;
-    }
-    Ok(())
-}
-
-fn print_faults_of_fields(rt: &impl Print) -> io::Result<()> {
-    for fault in [WordFault::Quoting, WordFault::NoMemory] {
-        println!(rt; "{fault:?}: {fault}")?;
-    }
-    for fault in PACKET_FAULTS {
-        println!(rt; "{fault:?}: {fault}")?;
-    }
-    println!(rt; "{ReadFailed:?}: {ReadFailed}")?;
-    println!(rt; "{WriteFailed:?}: {WriteFailed}")
-}
-
-fn print_faults_of_tables(rt: &impl Print) -> io::Result<()> {
-    for fault in TABLE_FAULTS {
-        println!(rt; "{fault:?}: {fault}")?;
-    }
-    Ok(())
-}
-
-fn print_faults_of_restores(rt: &impl Print) -> io::Result<()> {
-    for fault in COMMAND_FAULTS {
-        println!(rt; "{fault:?}: {fault}")?;
-    }
-    for fault in RESTORE_FAULTS {
-        println!(rt; "{fault:?}: {fault}")?;
-    }
-    Ok(())
-}
-
-fn print_faults_of_lines(rt: &impl Print) -> io::Result<()> {
-    for fault in LINE_FAULTS {
+fn print_faults<F: Debug + Display>(rt: &impl Print, faults: &[F]) -> io::Result<()> {
+    for fault in faults {
         println!(rt; "{fault:?}: {fault}")?;
     }
     Ok(())
 }
 
 fn main(rt: HostRuntime) -> io::Result<()> {
-    print_faults_of_rules(&rt)?;
-    print_faults_of_fields(&rt)?;
-    print_faults_of_tables(&rt)?;
-    print_faults_of_restores(&rt)?;
-    print_faults_of_lines(&rt)
+    print_faults(&rt, &REFUSALS)?;
+    print_faults(&rt, &RULE_FAULTS)?;
+    print_faults(&rt, &[WordFault::Quoting, WordFault::NoMemory])?;
+    print_faults(&rt, &PACKET_FAULTS)?;
+    print_faults(&rt, &[ReadFailed])?;
+    print_faults(&rt, &[WriteFailed])?;
+    print_faults(&rt, &TABLE_FAULTS)?;
+    print_faults(&rt, &COMMAND_FAULTS)?;
+    print_faults(&rt, &RESTORE_FAULTS)?;
+    print_faults(&rt, &LINE_FAULTS)
 }

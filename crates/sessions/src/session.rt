@@ -4,7 +4,7 @@ ghost use Rattle.fields.specs.text.Tap.{has_failed, known, turns_left, Puts};
 ghost use Rattle.fields.specs.text.Line.{IsHeld, EndsAt};
 ghost use Rattle.table.specs.chains.Table.{Table as TableOf};
 ghost use Rattle.turns.specs.Turn.{Reply, has_ended, reply_text, status_after};
-ghost use Rattle.turns.specs.steps.Served.{HasPlace, IsReply};
+ghost use Rattle.turns.specs.Served.{HasPlace, IsReply};
 
 use fields::{LineEnd, Tap, WriteFailed};
 use restore::{Restore, listings_restore, restores_leave_what_they_accept};

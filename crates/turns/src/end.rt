@@ -2,7 +2,7 @@
 ghost use Rattle.std.specs.Prelude.{◌≡◌};
 ghost use Rattle.table.specs.chains.Table.{Table as TableOf};
 ghost use Rattle.turns.specs.Turn.{last_turn, restore_end};
-ghost use Rattle.turns.specs.steps.Served.{HasPlace, IsReply};
+ghost use Rattle.turns.specs.Served.{HasPlace, IsReply};
 
 use crate::fault::Fault;
 use crate::reply::Answer;

@@ -2,8 +2,8 @@
 ghost use Rattle.std.specs.Prelude.{◌≡◌, ℕ};
 ghost use Rattle.fields.specs.text.Tap.{Puts};
 ghost use Rattle.turns.specs.Fault.{fault_line};
-ghost use Rattle.turns.specs.Turn.{Reply, reply_text, status_after};
-ghost use Rattle.turns.specs.steps.Served.{HasPlace, IsPlace, IsReply, name_at};
+ghost use Rattle.turns.specs.Turn.{Reply, reply_text};
+ghost use Rattle.turns.specs.Served.{HasPlace, IsPlace, IsReply, name_at};
 ghost use Rattle.restore.specs.listings.Listing.{rules_listing};
 
 use crate::fault::Fault;

@@ -3,7 +3,7 @@ ghost use Rattle.std.specs.Prelude.{◌≡◌, ◌≢◌, [], drop, length, map,
 ghost use Rattle.restore.specs.Sequence.{Gives};
 ghost use Rattle.turns.specs.Fault.{is_out_of_memory};
 ghost use Rattle.turns.specs.Request.{ask, opening, request_of, run, save, show};
-ghost use Rattle.turns.specs.steps.Served.{meaning};
+ghost use Rattle.turns.specs.steps.Comes.{meaning};
 
 use crate::fault::Fault;
 use crate::opening::Opening;

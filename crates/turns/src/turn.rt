@@ -8,7 +8,8 @@ ghost use Rattle.table.specs.chains.Table.{TableView};
 ghost use Rattle.turns.specs.Fault.{of_line};
 ghost use Rattle.turns.specs.Request.{Ask, Run, Show, request_of};
 ghost use Rattle.turns.specs.Turn.{Outside, Passing, Within, after_fault, is_end, opened, serve};
-ghost use Rattle.turns.specs.steps.Served.{Comes, IsTurnOf, meaning};
+ghost use Rattle.turns.specs.Served.{IsTurnOf};
+ghost use Rattle.turns.specs.steps.Comes.{Comes, meaning};
 
 use crate::fault::Fault;
 use crate::opening::{EndWord, Opening};

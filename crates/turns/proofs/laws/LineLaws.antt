@@ -16,7 +16,8 @@ use Rattle.restore.specs.sections.Section.{is_quiet, is_too_long, is_out_of_memo
 use Rattle.turns.specs.Fault.{Line as OfLine, NoMemory, of_line}
 use Rattle.turns.specs.Request.{Nothing, request_of, request_on}
 use Rattle.turns.specs.Turn.{Spot, Outside, Passing, Within, Turn, ended, fails, is_end, needs_no_memory, restore_turn, serve, served, silent, turn}
-use Rattle.turns.specs.steps.Served.{Comes, IsTurn, IsTurnOf, RanOut}
+use Rattle.turns.specs.Served.{IsTurn, IsTurnOf}
+use Rattle.turns.specs.steps.Comes.{Comes, RanOut}
 use Rattle.turns.specs.declared.reply.Answer.TheVariants as answers
 use Rattle.turns.specs.declared.turn.Turn as made
 use Rattle.turns.proofs.laws.ResultLaws.{err_is, ok_is, ok≢err}

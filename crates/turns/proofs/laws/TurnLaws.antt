@@ -13,7 +13,8 @@ use Rattle.turns.specs.Fault.{Fault, of_line}
 use Rattle.turns.specs.Request.{Run}
 use Rattle.turns.specs.Turn.{Says, Spot, Outside, Turn, after_fault, edit_turn, fails, on_chain, serve, silent, turn_with}
 use Rattle.replies.specs.Lines.{lines_reply}
-use Rattle.turns.specs.steps.Served.{Comes, HasPlace, IsReply, IsTurn}
+use Rattle.turns.specs.Served.{HasPlace, IsReply, IsTurn}
+use Rattle.turns.specs.steps.Comes.{Comes}
 use Rattle.turns.specs.declared.reply.Answer.{Answer}
 use Rattle.turns.specs.declared.reply.Answer.TheVariants as answers
 use Rattle.turns.specs.declared.turn.Turn as made

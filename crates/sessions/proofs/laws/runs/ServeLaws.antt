@@ -7,7 +7,7 @@ use Rattle.fields.specs.text.Line.{IsHeld}
 use Rattle.fields.proofs.laws.text.PutLaws.{puts-then}
 use Rattle.table.specs.chains.Table.{TableView}
 use Rattle.turns.specs.declared.spot.Spot.{Spot}
-use Rattle.turns.specs.steps.Served.{HasPlace, IsTurnOf}
+use Rattle.turns.specs.Served.{HasPlace, IsTurnOf}
 use Rattle.turns.specs.declared.turn.Turn as made
 
 -- a text that was held so

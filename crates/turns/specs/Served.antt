@@ -1,29 +1,17 @@
--- How the code's values stand for those of the definitions, and what came of a line.
-use Rattle.std.specs.Prelude.{◌≡◌, ◌⊎◌, ℕ, ◌<◌, Bool, List, [], length, option_map, Option, Some, None, Result, Ok, Err}
+-- What came of a line: how the code's answers stand for replies.
+use Rattle.std.specs.Prelude.{◌≡◌, ℕ, ◌<◌, Bool, List, [], length, option_map, Option, Some, None, Result, Ok, Err}
 use Rattle.fields.specs.packet.Packet.{PacketView}
 use Rattle.table.specs.chains.Table.{Table, TableView, chain_at}
 use Rattle.table.specs.walk.Walk.{walk}
 use Rattle.table.specs.walk.Trail.{Shows}
-use Rattle.restore.specs.commands.Command as command
 use Rattle.restore.specs.listings.Listing.{listing, rules_listing}
-use Rattle.turns.specs.Fault.{Fault, NoMemory}
-use Rattle.turns.specs.Request.{Request, Run, Save, Open, Ask, Show}
-use Rattle.turns.specs.Turn.{Reply, Says, Fails, Spot, Turn, after_fault, turn}
+use Rattle.turns.specs.Fault.{Fault}
+use Rattle.turns.specs.Turn.{Reply, Says, Fails, Spot, Turn, turn}
 use Rattle.replies.specs.Walked.{packet_reply}
 use Rattle.replies.specs.Lines.{lines_reply}
-use Rattle.turns.specs.declared.request.Request as code
-use Rattle.turns.specs.declared.request.Request.TheVariants as requests
 use Rattle.turns.specs.declared.reply.Answer.{Answer}
 use Rattle.turns.specs.declared.reply.Answer.TheVariants as answers
 use Rattle.turns.specs.declared.turn.Turn as made
-
--- what a request of the code asks for
-abbrev pub meaning : code.Request → Request
-meaning (requests.Run c) = Run (command.meaning c)
-meaning requests.Save = Save
-meaning (requests.Open opening) = Open opening
-meaning (requests.Ask packet) = Ask packet
-meaning (requests.Show name) = Show name.now
 
 -- a place, if one is given, is that of a chain
 abbrev pub IsPlace : Table → Option ℕ → Type 0
@@ -55,16 +43,6 @@ pub record IsTurn (said : Turn) (new : TableView) (t : made.Turn) : Type 0 where
   pub spot : said.spot ≡ t.spot
   pub reply : IsReply new.table t.reply said.reply
   pub place : HasPlace new.table t.reply
-
--- memory was refused, and nothing was changed
-pub record RanOut (from : Spot) (old new : TableView) (t : made.Turn) : Type 0 where
-  pub table : new ≡ old
-  pub spot : t.spot ≡ after_fault from
-  pub reply : t.reply ≡ Err NoMemory
-
--- what the definition says came, or memory was refused
-abbrev pub Comes : Turn → Spot → TableView → TableView → made.Turn → Type 0
-Comes said spot old new t = IsTurn said new t ⊎ RanOut spot old new t
 
 -- what the definition says of a line came, for some mark
 abbrev pub IsTurnOf : List ℕ → Spot → TableView → TableView → made.Turn → Type 0
