@@ -157,6 +157,3 @@ fn serve_between<R: Read + Drop, W: Write + Drop>(
     let (writer, _unwritten) = output.into_device().into_parts();
     (served, writer)
 }
-
-#[cfg(test)]
-mod tests;

@@ -177,6 +177,3 @@ impl<'a> Job<'a> {
         }
     }
 }
-
-#[cfg(test)]
-mod tests;
