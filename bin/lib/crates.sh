@@ -1,5 +1,5 @@
-# Read by bin/iptsim and bin/quick: the crates on which the program stands, and whether a file that was built of them is up
-# to date. `root` is the top of the repository, and `name` is what the script's messages begin with.
+# Read by bin/iptsim and bin/quick: the crates on which the program stands, whether a file that was built of them is up to
+# date, and what both scripts say. `root` is the top of the repository, and `name` is what a script's messages begin with.
 
 # What each crate stands on, by crates.txt.
 declare -A uses=()
