@@ -39,7 +39,8 @@ say() {
 # Ends the script where the toolchain can't be called.
 need_rt() {
   if ! command -v rt >/dev/null; then
-    say 'rt, the command of the Rattle toolchain, is not on the path: install the toolchain that README.md names, and add its folder bin to PATH'
+    say "rt, the command of the Rattle toolchain, is not on the path: \
+install the toolchain that README.md names, and add its folder bin to PATH"
     exit 1
   fi
 }
