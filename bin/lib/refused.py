@@ -34,7 +34,7 @@ def section_of(line):
     words = words_of(line) if line.strip(b" \t")[:1] in (b"*", b'"') else None
     if not words or not words[0].value.startswith(b"*"):
         return None
-    return (b" ".join(word.value for word in words)[1:].split() or [b""])[0]
+    return b" ".join(word.value for word in words)[1:].strip(b" ").split(b" ")[0]
 
 
 class Reading:
@@ -49,12 +49,19 @@ class Reading:
         if self.section is not None:
             self.question(len(lines), self.opening, self.session.restore([b"*" + self.section], b"-t"))
 
-    def question(self, number, text, places, *more, chain=None):
-        self.questions.append(Question(number, text, ((places, None), *more), chain))
+    def question(self, number, text, places):
+        self.questions.append(Question(number, text, ((places, None),), None))
+
+    def note(self, number, sentence):
+        self.notes.append((number, sentence))
+
+    def ask_in_section(self, number, line):
+        """Asks a line in a section of its own, which is tried on an empty table and not put in place."""
+        self.question(number, line, self.session.restore([b"*filter", line, b"COMMIT"], b"-t"))
 
     def read(self, number, line):
         if len(line) > LINE_LIMIT:
-            self.question(number, line, self.session.restore([b"*filter", line, b"COMMIT"], b"-t"))
+            self.ask_in_section(number, line)
             if self.section == b"filter" and line.startswith(b":"):
                 self.session.ask(b"iptables -N " + line[1:].split(b" ")[0][:LINE_LIMIT // 2])
         elif is_passed_over(line):
@@ -71,15 +78,17 @@ class Reading:
     def open(self, number, line, name):
         """A line that opens a section, or stands in one that has no COMMIT, and what stands in for a name that isn't known."""
         if self.section == b"filter":
-            self.question(number, line, self.session.restore([b"*filter", line, b"COMMIT"], b"-t"))
+            self.ask_in_section(number, line)
         elif self.section is not None:
-            self.notes.append((number, b"*%s stands in the section %s, which has no COMMIT before it: so it is skipped too." % (name, self.opening)))
+            sentence = b"*%s stands in the section %s, which has no COMMIT before it: so it is skipped too."
+            self.note(number, sentence % (name[:40], self.opening))
         elif len(words_of(line)) > 1:
             self.question(number, line, self.session.restore([line, b"COMMIT"], b"-t"))
-        self.opening = b"*" + name
+        self.opening = b"*" + (name if len(name) <= 40 else name[:37] + b"...")
         if name not in TABLES:
             meant = difflib.get_close_matches(name.decode("latin-1").lower(), ["filter"])
-            self.notes.append((number, b"*%s is no table of iptables, so its section is skipped%s" % (name, b": is *filter meant?" if meant else b".")))
+            asked = b": is *filter meant?" if meant else b"."
+            self.note(number, b"%s is no table of iptables, so its section is skipped%s" % (self.opening, asked))
             name = b"filter" if meant else name
         self.section = name
         if name == b"filter":

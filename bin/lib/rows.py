@@ -27,23 +27,19 @@ class Rows:
     def row(self, about, words, files, output, status, messages=b"", **devices):
         """One run, and what is due: standard output, the status and standard error."""
         ended = self.run(words, files, **devices)
-        came = (ended.returncode, ended.stdout or b"", ended.stderr)
-        self.count += 1
-        if came != (status, output, messages):
-            self.wrong += 1
-            print(f"{self.name}: {about}: {words} ended with status {came[0]}, where {status} is due", file=sys.stderr)
-            self.compare("standard output", output, came[1])
-            self.compare("standard error", messages, came[2])
+        self.compared(about, (status, output, messages), (ended.returncode, ended.stdout or b"", ended.stderr))
 
-    @staticmethod
-    def compare(device, due, came):
-        """Says which lines are due and didn't come, and which came and aren't due."""
-        for line in due.splitlines(keepends=True):
-            if line not in came.splitlines(keepends=True):
-                print(f"  due on {device}: {line[:300]}", file=sys.stderr)
-        for line in came.splitlines(keepends=True):
-            if line not in due.splitlines(keepends=True):
-                print(f"  came on {device}: {line[:300]}", file=sys.stderr)
+    def compared(self, about, due, came):
+        """Counts a run, and says what differs: the status, and lines of what it wrote."""
+        self.count += 1
+        if came != due:
+            self.wrong += 1
+            print(f"{self.name}: {about}: status {came[0]}, where {due[0]} is due", file=sys.stderr)
+            for lines, other, word in ((due, came, "due"), (came, due, "came")):
+                for text, against in zip(lines[1:], other[1:]):
+                    for line in text.splitlines():
+                        if line not in against.splitlines():
+                            print(f"  {word}: {line[:300]}", file=sys.stderr)
 
     def end(self):
         """Says how it went, and ends with the status."""
