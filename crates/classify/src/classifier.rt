@@ -1,17 +1,17 @@
 //! The classifier: the lines of all fields.
 
-ghost use Rattle.std.specs.Prelude.{◌≡◌, ◌≢◌, ◌≤◌, ◌+◌, ◌%◌, OnOk, OnErr, IsOk, IfOk, List, [], ◌<◌, insert, remove};
+ghost use Rattle.std.specs.Prelude.{◌≡◌, ◌≢◌, ◌≤◌, ◌+◌, ◌%◌, OnOk, OnErr, IsOk, IfOk, List, [], ◌<◌, map, insert, remove};
 ghost use Rattle.std.specs.Prelude.{slice_set};
 ghost use Rattle.fields.specs.numbers.Spans.{SpanSet};
 ghost use Rattle.fields.specs.numbers.Field.{index};
 ghost use Rattle.rules.specs.boxing.Boxed.{IsBoxOf};
-ghost use Rattle.rules.specs.rule.Allows.{matches};
+ghost use Rattle.rules.specs.rule.Allows.{allows_each};
 ghost use Rattle.rules.specs.rule.Rules.{Rule};
 ghost use Rattle.classify.specs.search.NextMatch.{next_match};
 
+use crate::classifier::candidates::Candidates;
 use crate::line::owned::{LentRow, OwnedLine};
 use crate::line::view::Line;
-use crate::search;
 use bits::MOST_BITS;
 use fields::{FIELDS, Field};
 use rules::Boxed;
@@ -19,6 +19,7 @@ use std::alloc::{AllocError, Global};
 use std::array;
 use std::marker::Model;
 
+pub(crate) mod candidates;
 pub(crate) mod lines;
 pub(crate) mod of_rules;
 
@@ -210,20 +211,29 @@ impl Classifier {
         PointRows { words, summary }
     }
 
-    /// The least place, at or after `from`, of a box that allows the point; there may be none. The point has
-    /// a number for each field, in the order of `Field::ALL`.
+    /// Which boxes allow the point. The point has a number for each field, in the order of `Field::ALL`.
     ///
-    /// It takes no memory and copies no row. A search costs a search for a place on each line, and then a word of each
-    /// row where all rows may have a box: a row has a summary of 64 bits, one for two words, which says which words to
-    /// pass over. Up to 8,192 boxes no two pairs of words share a bit.
+    /// It takes no memory and copies no row. It costs a search for a place on each line.
+    pub fn at(&self, point: &[u128; FIELDS]) -> Candidates<'_>
+        requires { IsPoint point.now }
+        ensures boxes { (boxes : List (List SpanSet)) → IsClassifierOf boxes self.now.shown
+            → result ≡ map (box_matches point.now) boxes }
+        ensures rules { (rules : List Rule) → IsClassifierOfRules rules self.now.shown
+            → result ≡ map (allows_each point.now) rules }
+    {
+        let PointRows { words, summary } = self.rows(point);
+        Candidates::of(self.len, words, summary)
+    }
+
+    /// The least place, at or after `from`, of a box that allows the point; there may be none. It takes no memory, and
+    /// costs what `at` and one `Candidates::next` do.
     pub fn next(&self, point: &[u128; FIELDS], from: usize) -> Option<usize>
         requires { IsPoint point.now }
         ensures boxes { (boxes : List (List SpanSet)) → IsClassifierOf boxes self.now.shown
             → result ≡ next_match (box_matches point.now) boxes from }
         ensures rules { (rules : List Rule) → IsClassifierOfRules rules self.now.shown
-            → result ≡ next_match (matches point.now) rules from }
+            → result ≡ next_match (allows_each point.now) rules from }
     {
-        let PointRows { words, summary } = self.rows(point);
-        search::first_common(&words, summary, self.len.div_ceil(64), from)
+        self.at(point).next(from)
     }
 }

@@ -8,6 +8,7 @@ mod search;
 
 pub use bits::BitRow;
 pub use classifier::Classifier;
+pub use classifier::candidates::Candidates;
 pub use classifier::of_rules::{
     boxes_stand_for_their_rules, rules_have_one_classifier, rules_have_the_computed_line,
     targets_leave_the_classifier,

@@ -14,3 +14,4 @@ pub mod Prefix
 pub mod Protocol
 pub mod RejectType
 pub mod TcpFlags
+pub mod Ttl

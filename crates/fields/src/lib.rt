@@ -35,3 +35,4 @@ pub use values::prefix::{Prefix, read_address};
 pub use values::protocol::Protocol;
 pub use values::reject::RejectType;
 pub use values::tcp_flags::TcpFlags;
+pub use values::ttl::Ttl;

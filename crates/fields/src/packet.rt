@@ -34,7 +34,7 @@ pub enum PacketFault {
 }
 
 /// A packet: its hook, and one whole number on each field, from 0 to the field's top. A part that the packet doesn't
-/// carry is 0.
+/// carry is 0; the time to live, which each packet has, is 64 where no word gives it.
 #[derive(Clone, Copy, Debug, PartialEq, Eq)]
 pub struct Packet {
     hook: Hook,
@@ -137,9 +137,10 @@ fn value_on(words: &Words, first: usize, field: Field) -> u128
     requires { first ≤ length words.now }
     ensures { result ≡ value_on (drop first words.now) field }
 {
+    let row = KeyRow::of(field);
     match text_of(words, first, words.len(), field) {
-        None => 0,
-        Some(text) => KeyRow::of(field).value.read(text).unwrap_or(0),
+        None => row.absent,
+        Some(text) => row.value.read(text).unwrap_or(row.absent),
     }
 }
 

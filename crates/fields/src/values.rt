@@ -16,3 +16,4 @@ pub(crate) mod prefix;
 pub(crate) mod protocol;
 pub(crate) mod reject;
 pub(crate) mod tcp_flags;
+pub(crate) mod ttl;

@@ -15,5 +15,6 @@ pub use reading::fault::{Refusal, RuleFault};
 pub use reading::grammar::reading_is_by_grammar;
 pub use reading::read_rule;
 pub use rule::Rule;
+pub use rule::crossing::cross;
 pub use rule::renamed::renamed_reads_back;
 pub use rule::target::Target;

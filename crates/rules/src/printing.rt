@@ -34,10 +34,13 @@ fn put_words<W: Write>(output: &mut Tap<W>, value: &Value) -> Result<(), WriteFa
         Value::SourcePort(ports) | Value::DestinationPort(ports) => ports.put(output),
         Value::TcpFlags(test) => test.put(output),
         Value::IcmpType(icmp) => icmp.put(output),
-        Value::SourcePorts(list) | Value::DestinationPorts(list) => list.put(output),
+        Value::SourcePorts(list) | Value::DestinationPorts(list) | Value::Ports(list) => {
+            list.put(output)
+        }
         Value::SourceRange(range) | Value::DestinationRange(range) => range.put(output),
         Value::Ctstate(states) | Value::State(states) => states.put(output),
         Value::Comment(comment) => comment.put(output),
+        Value::TtlEqual(ttl) | Value::TtlGreater(ttl) | Value::TtlLess(ttl) => ttl.put(output),
         Value::RejectWith(answer) => answer.put(output),
         Value::LogPrefix(text) => text.put(output),
         Value::LogLevel(level) => level.put(output),

@@ -8,6 +8,7 @@ ghost use Rattle.rules.specs.rule.Allows.{asks};
 pub(crate) mod action;
 pub(crate) mod content;
 pub(crate) mod copy;
+pub(crate) mod crossing;
 pub(crate) mod renamed;
 pub(crate) mod target;
 

@@ -3,7 +3,6 @@ ghost use Rattle.std.specs.Prelude.{◌≡◌, ◌<◌, ◌≤◌, ◌+◌, ◌-
 ghost use Rattle.std.specs.Prelude.{slice_index_or};
 ghost use Rattle.std.specs.Prelude.{OnOk, OnErr, IfOk, IfSome};
 ghost use Rattle.std.specs.List.{position};
-ghost use Rattle.classify.specs.classifier.Classifier.{IsPoint};
 ghost use Rattle.classify.specs.search.NextMatch.{next_match};
 ghost use Rattle.rules.specs.rule.Allows.{matches};
 ghost use Rattle.table.specs.steps.Rows.{IsClassified, has_text, rules_in};
@@ -15,8 +14,8 @@ pub(crate) mod entry;
 
 use crate::chain::entry::{Entry, retarget};
 use classify::{Classifier, targets_leave_the_classifier};
-use fields::{FIELDS, Name};
-use rules::{Boxed, Rule, Work};
+use fields::{Name, Packet};
+use rules::{Boxed, Rule, Work, cross};
 use std::alloc::{AllocError, Global};
 use std::marker::Model;
 
@@ -236,15 +235,23 @@ impl Chain {
         self.references = 0;
     }
 
-    // The least place, at or after `from`, of a rule that allows the numbers, by the classifier. It takes no memory.
-    pub(crate) fn next(&self, numbers: &[u128; FIELDS], from: usize) -> Option<usize>
-        requires { IsPoint numbers.now }
-        ensures next { result ≡ next_match (matches numbers.now) (rules_in self.now) from }
+    // The least place, at or after `from`, of a rule that matches the packet: the first of those that the classifier gives
+    // whose conditions on several fields at once hold. The rows of the packet are looked up once. It takes no memory.
+    pub(crate) fn next(&self, packet: &Packet, from: usize) -> Option<usize>
+        ensures next { result ≡ next_match (matches packet.now.values) (rules_in self.now) from }
         ensures within { IfSome result (λ place. place < length self.now.entries) }
         ensures small { IfSome result (λ place. place + 1 < 2 ^ 64) }
     {
         let _len = self.entries.len();
-        self.classifier.next(numbers, from)
+        let candidates = self.classifier.at(packet.numbers());
+        let mut start = from;
+        while let Some(place) = candidates.next(start) {
+            if cross(&self.entries[place].rule, packet) {
+                return Some(place);
+            }
+            start = place + 1;
+        }
+        None
     }
 
     // The place of the first rule with the text of this one.

@@ -70,7 +70,7 @@ pub(crate) fn advance<const DEPTH: usize>(
 {
     'rests: loop {
         let chain = &chains[at.chain];
-        match chain.next(packet.numbers(), at.passed) {
+        match chain.next(packet, at.passed) {
             Some(place) => {
                 at.passed = place + 1;
                 return Some(chain.entry(place).course);

@@ -1,2 +1,4 @@
+pub mod CandidateLaws
 pub mod NextLaws
+pub mod PassLaws
 pub mod SearchLaws

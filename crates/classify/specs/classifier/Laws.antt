@@ -5,7 +5,7 @@ use Rattle.fields.specs.numbers.Field.{top}
 use Rattle.fields.specs.numbers.Spans.{SpanSet}
 use Rattle.rules.specs.boxing.Boxed.{IsBox, IsBoxOf}
 use Rattle.rules.specs.rule.Actions.{with_chain_name}
-use Rattle.rules.specs.rule.Allows.{allows, matches}
+use Rattle.rules.specs.rule.Allows.{allows, allows_each}
 use Rattle.rules.specs.rule.Rules.{Rule}
 use Rattle.classify.specs.line.Line.{IsLineOf}
 use Rattle.classify.specs.classifier.Classifier.{Classified, IsClassifierOf, IsClassifierOfRules, IsPoint, box_matches}
@@ -26,7 +26,7 @@ BoxesHaveTheRulesClassifier =
 abbrev pub BoxesHaveTheRulesMatches : Type 0
 BoxesHaveTheRulesMatches =
     (rules : List Rule) (boxes : List (List SpanSet)) (point : List ℕ) (from : ℕ) → AreBoxesOf rules boxes → IsPoint point
-    → next_match (box_matches point) boxes from ≡ next_match (matches point) rules from
+    → next_match (box_matches point) boxes from ≡ next_match (allows_each point) rules from
 
 -- rules have one classifier: two of the same rules are equal
 abbrev pub RulesHaveOneClassifier : Type 0

@@ -1,6 +1,7 @@
 -- Places that several rows of bits have.
-use Rattle.std.specs.Prelude.{◌≡◌, ℕ, ◌+◌, ◌<◌, ◌↔◌, List, length, slice_index, slice_index_or, [], take, All}
-use Rattle.std.specs.Prelude.{false, true}
+use Rattle.std.specs.Prelude.{◌≡◌, ℕ, ◌+◌, ◌<◌, ◌↔◌, List, length, map, slice_index, slice_index_or, [], take, All}
+use Rattle.std.specs.Prelude.{Bool, false, true}
+use Rattle.std.specs.List.{list_all, range_with_len}
 use Rattle.std.specs.Borrow.{Bor}
 use Rattle.std.specs.Int.{bit_at}
 use Rattle.fields.specs.declared.numbers.field.TheConstants.{FIELDS}
@@ -24,6 +25,14 @@ AreWide words rows = All (λ (row : Bor (List ℕ)). length row.now ≡ words) r
 -- each row has the bit at a place
 abbrev pub HaveAll : List (Bor (List ℕ)) → ℕ → Type 0
 HaveAll rows place = All (λ (row : Bor (List ℕ)). slice_index_or (all_bits row.now) place false ≡ true) rows
+
+-- whether each row has the bit at a place
+abbrev pub all_have : List (Bor (List ℕ)) → ℕ → Bool
+all_have rows place = list_all (λ (row : Bor (List ℕ)). slice_index_or (all_bits row.now) place false) rows
+
+-- the bits that rows have in common, as many as they have
+abbrev pub common_bits : ℕ → List (Bor (List ℕ)) → List Bool
+common_bits len rows = map (all_have rows) (range_with_len 0 len)
 
 -- the words of the row of a field's line at a number
 pub record IsRowAt (c : Classified) (place x : ℕ) (row : List ℕ) : Type 0 where

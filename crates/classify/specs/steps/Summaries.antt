@@ -1,6 +1,8 @@
 -- Summaries of the rows of several fields: which of their words a search may pass over.
-use Rattle.std.specs.Prelude.{◌≡◌, ℕ, ◌/◌, ◌*◌, ◌<◌, true, false, List, [], slice_index, slice_index_or}
+use Rattle.std.specs.Prelude.{◌≡◌, ℕ, ◌/◌, ◌*◌, ◌<◌, true, false, List, [], length, slice_index, slice_index_or, All}
 use Rattle.std.specs.Borrow.{Bor}
+use Rattle.fields.specs.declared.numbers.field.TheConstants.{FIELDS}
+use Rattle.bits.specs.steps.Packing.{IsPacked}
 use Rattle.bits.specs.steps.Summaries.{IsMarked}
 use Rattle.classify.specs.steps.Pieces.{row_in}
 use Rattle.classify.specs.classifier.Classifier.{Classified}
@@ -14,3 +16,9 @@ SumUpAll summary words rows = (p : ℕ) → p < 64 * words → HaveAll rows p �
 abbrev pub SumUpPoint : Classified → List ℕ → ℕ → ℕ → Type 0
 SumUpPoint c point summary upto =
     (p : ℕ) → ((j : ℕ) → j < upto → slice_index_or (row_in (slice_index_or c.lines j []) (slice_index point j)) p false ≡ true) → IsMarked summary (p / 64)
+
+-- a row of so many bits for each field, and a summary with the bit of each word in which all of them have a place
+pub record AreCandidates (len summary : ℕ) (rows : List (Bor (List ℕ))) : Type 0 where
+  pub long : length rows ≡ FIELDS
+  pub packed : All (λ (row : Bor (List ℕ)). IsPacked row.now len) rows
+  pub summed : (p : ℕ) → p < len → HaveAll rows p → IsMarked summary (p / 64)

@@ -13,4 +13,5 @@ pub mod PrefixLaws
 pub mod ProtocolLaws
 pub mod RejectLaws
 pub mod TcpFlagsLaws
+pub mod TtlLaws
 pub mod UnionLaws

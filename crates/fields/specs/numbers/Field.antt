@@ -2,7 +2,7 @@
 use Rattle.std.specs.Prelude.{ℕ, List, [], ◌∷◌, slice_index, codes}
 use Rattle.fields.specs.declared.numbers.field.Field.{Field}
 use Rattle.fields.specs.declared.numbers.field.Field.TheVariants.{Source, Destination, InIface, OutIface, Protocol, Fragment, SourcePort}
-use Rattle.fields.specs.declared.numbers.field.Field.TheVariants.{DestinationPort, TcpFlags, IcmpType, ConnectionState}
+use Rattle.fields.specs.declared.numbers.field.Field.TheVariants.{DestinationPort, TcpFlags, IcmpType, ConnectionState, TimeToLive}
 
 -- the greatest address
 abbrev pub address_top : ℕ
@@ -36,6 +36,10 @@ icmp_top = 65535
 abbrev pub state_top : ℕ
 state_top = 13
 
+-- the greatest time to live: that of a byte
+abbrev pub ttl_top : ℕ
+ttl_top = 255
+
 -- a field's place among all, its greatest value, and its short name
 pub record FieldRow : Type 0 where
   pub index : ℕ
@@ -50,7 +54,7 @@ row index top name = record { index = index; top = top; name = name }
 abbrev pub all_fields : List Field
 all_fields =
     Source ∷ Destination ∷ InIface ∷ OutIface ∷ Protocol ∷ Fragment ∷ SourcePort ∷ DestinationPort ∷ TcpFlags ∷ IcmpType
-    ∷ ConnectionState ∷ []
+    ∷ ConnectionState ∷ TimeToLive ∷ []
 
 -- the table of fields
 abbrev pub row_of : Field → FieldRow
@@ -65,6 +69,7 @@ row_of DestinationPort = row 7 port_top (codes "dport")
 row_of TcpFlags = row 8 flags_top (codes "flags")
 row_of IcmpType = row 9 icmp_top (codes "icmp")
 row_of ConnectionState = row 10 state_top (codes "ct")
+row_of TimeToLive = row 11 ttl_top (codes "ttl")
 
 -- the field's place among all
 abbrev pub index : Field → ℕ

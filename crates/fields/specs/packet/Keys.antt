@@ -8,6 +8,7 @@ use Rattle.fields.specs.values.Protocol.{one_protocol_of, carries_ports}
 use Rattle.fields.specs.values.TcpFlags.{tcp_flags_of}
 use Rattle.fields.specs.values.PacketIcmp.{packet_icmp_of}
 use Rattle.fields.specs.values.ConnectionState.{packet_state_of}
+use Rattle.fields.specs.values.Ttl.{ttl_of}
 use Rattle.fields.specs.declared.packet.hook.Hook.{Hook}
 use Rattle.fields.specs.declared.packet.hook.Hook.TheVariants.{Input, Output}
 use Rattle.fields.specs.declared.numbers.field.Field.{Field}
@@ -29,6 +30,7 @@ value_of value.Port text = number_to 65535 text
 value_of value.Flags text = tcp_flags_of text
 value_of value.Icmp text = packet_icmp_of text
 value_of value.State text = packet_state_of text
+value_of value.Ttl text = ttl_of text
 
 -- a packet comes in unless it is sent from here
 abbrev pub comes_in : Hook → Bool
@@ -55,19 +57,21 @@ carries shape carrier.Tcp = is_first_of (λ n. n == 6) shape.fragment shape.prot
 carries shape carrier.Icmp = is_first_of (λ n. n == 1) shape.fragment shape.protocol
 
 -- the row of these
-abbrev pub key : ValueKind → Carrier → Bool → KeyRow
-key value carrier required = record { value = value; carrier = carrier; is_required = required }
+abbrev pub key : ValueKind → Carrier → Bool → ℕ → KeyRow
+key value carrier required absent = record { value = value; carrier = carrier; is_required = required; absent = absent }
 
--- the table of keys: one row a field, whose name is the key. What it takes, who carries it, and whether a packet that does needs it
+-- the table of keys: one row a field, whose name is the key. What it takes, who carries it, whether a packet that does needs it, and
+-- the packet's number where no word gives one
 abbrev pub key_of : Field → KeyRow
-key_of field.Source = key value.Address carrier.Every true
-key_of field.Destination = key value.Address carrier.Every true
-key_of field.InIface = key value.Interface carrier.Incoming false
-key_of field.OutIface = key value.Interface carrier.Outgoing false
-key_of field.Protocol = key value.Protocol carrier.Every true
-key_of field.Fragment = key value.Bit carrier.Every false
-key_of field.SourcePort = key value.Port carrier.WithPorts true
-key_of field.DestinationPort = key value.Port carrier.WithPorts true
-key_of field.TcpFlags = key value.Flags carrier.Tcp false
-key_of field.IcmpType = key value.Icmp carrier.Icmp true
-key_of field.ConnectionState = key value.State carrier.Every false
+key_of field.Source = key value.Address carrier.Every true 0
+key_of field.Destination = key value.Address carrier.Every true 0
+key_of field.InIface = key value.Interface carrier.Incoming false 0
+key_of field.OutIface = key value.Interface carrier.Outgoing false 0
+key_of field.Protocol = key value.Protocol carrier.Every true 0
+key_of field.Fragment = key value.Bit carrier.Every false 0
+key_of field.SourcePort = key value.Port carrier.WithPorts true 0
+key_of field.DestinationPort = key value.Port carrier.WithPorts true 0
+key_of field.TcpFlags = key value.Flags carrier.Tcp false 0
+key_of field.IcmpType = key value.Icmp carrier.Icmp true 0
+key_of field.ConnectionState = key value.State carrier.Every false 0
+key_of field.TimeToLive = key value.Ttl carrier.Every false 64

@@ -69,9 +69,9 @@ abbrev pub leftmost_fault : List (List ℕ) → List (List ℕ) → Option Packe
 leftmost_fault before [] = None
 leftmost_fault before (word ∷ words) = option_or (word_fault before word) (leftmost_fault (before ++ word ∷ []) words)
 
--- the value that the words give a field: 0 where none does
+-- the value that the words give a field: where none does, 64 for the time to live, and 0 for each other field
 abbrev pub value_on : List (List ℕ) → Field → ℕ
-value_on words field = unwrap_or (text_of field words >>= λ text. number_of_text field text) 0
+value_on words field = unwrap_or (text_of field words >>= λ text. number_of_text field text) (key_of field).absent
 
 -- the shape of a packet that decide which others it carries
 abbrev pub shape_of : Hook → List (List ℕ) → Shape

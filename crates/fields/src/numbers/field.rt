@@ -26,10 +26,12 @@ pub enum Field {
     IcmpType,
     /// The state of its connection, with translations.
     ConnectionState,
+    /// Its time to live: how many more times it may be forwarded.
+    TimeToLive,
 }
 
 /// How many fields there are.
-pub const FIELDS: usize = 11;
+pub const FIELDS: usize = 12;
 
 // The greatest numbers of what stands on the fields.
 pub(crate) const ADDRESS_TOP: u128 = u32::MAX as u128;
@@ -47,6 +49,8 @@ pub(crate) const FLAGS_TOP: u8 = 63;
 pub(crate) const ICMP_TOP: u128 = 65535;
 
 pub(crate) const STATE_TOP: u8 = 13;
+
+pub(crate) const TTL_TOP: u8 = 255;
 
 // What belongs to a field.
 #[derive(Clone, Copy)]
@@ -71,6 +75,7 @@ impl Field {
         Field::TcpFlags,
         Field::IcmpType,
         Field::ConnectionState,
+        Field::TimeToLive,
     ];
 
     fn row(self) -> FieldRow
@@ -89,6 +94,7 @@ impl Field {
             Field::TcpFlags => (FLAGS_TOP as u128, b"flags"),
             Field::IcmpType => (ICMP_TOP, b"icmp"),
             Field::ConnectionState => (STATE_TOP as u128, b"ct"),
+            Field::TimeToLive => (TTL_TOP as u128, b"ttl"),
         };
         FieldRow { top, name }
     }

@@ -11,6 +11,7 @@ use crate::values::interface::IfPattern;
 use crate::values::prefix::read_address;
 use crate::values::protocol::{DCCP, ICMP, Protocol, SCTP, TCP, UDP, UDPLITE};
 use crate::values::tcp_flags::TcpFlags;
+use crate::values::ttl::Ttl;
 
 // What stands after a key's `=`.
 #[derive(Clone, Copy)]
@@ -23,6 +24,7 @@ pub(crate) enum ValueKind {
     Flags,
     Icmp,
     State,
+    Ttl,
 }
 
 // Which packets carry a key.
@@ -36,12 +38,14 @@ pub(crate) enum Carrier {
     Icmp,
 }
 
-// What the key of a field takes, who carries it, and whether a packet that does needs it.
+// What the key of a field takes, who carries it, whether a packet that does needs it, and the field's number where no word
+// gives one.
 #[derive(Clone, Copy)]
 pub(crate) struct KeyRow {
     pub value: ValueKind,
     pub carrier: Carrier,
     pub is_required: bool,
+    pub absent: u128,
 }
 
 // What decides which keys a packet carries: its hook, its protocol where one is given, and whether it is a further
@@ -68,6 +72,7 @@ impl ValueKind {
             ValueKind::Flags => Some(u128::from(TcpFlags::read(text)?.value())),
             ValueKind::Icmp => Some(u128::from(read_packet_icmp(text)?)),
             ValueKind::State => Some(u128::from(read_packet_state(text)?)),
+            ValueKind::Ttl => Some(u128::from(Ttl::read(text)?.number())),
         }
     }
 }
@@ -140,13 +145,14 @@ impl Shape {
 impl KeyRow {
     ghost use Rattle.fields.specs.packet.Keys.{key, key_of};
 
-    fn new(value: ValueKind, carrier: Carrier, is_required: bool) -> KeyRow
-        ensures { result ≡ key value carrier is_required }
+    fn new(value: ValueKind, carrier: Carrier, is_required: bool, absent: u128) -> KeyRow
+        ensures { result ≡ key value carrier is_required absent }
     {
         KeyRow {
             value,
             carrier,
             is_required,
+            absent,
         }
     }
 
@@ -155,17 +161,18 @@ impl KeyRow {
         ensures { result ≡ key_of field }
     {
         match field {
-            Field::Source => KeyRow::new(ValueKind::Address, Carrier::Every, true),
-            Field::Destination => KeyRow::new(ValueKind::Address, Carrier::Every, true),
-            Field::InIface => KeyRow::new(ValueKind::Interface, Carrier::Incoming, false),
-            Field::OutIface => KeyRow::new(ValueKind::Interface, Carrier::Outgoing, false),
-            Field::Protocol => KeyRow::new(ValueKind::Protocol, Carrier::Every, true),
-            Field::Fragment => KeyRow::new(ValueKind::Bit, Carrier::Every, false),
-            Field::SourcePort => KeyRow::new(ValueKind::Port, Carrier::WithPorts, true),
-            Field::DestinationPort => KeyRow::new(ValueKind::Port, Carrier::WithPorts, true),
-            Field::TcpFlags => KeyRow::new(ValueKind::Flags, Carrier::Tcp, false),
-            Field::IcmpType => KeyRow::new(ValueKind::Icmp, Carrier::Icmp, true),
-            Field::ConnectionState => KeyRow::new(ValueKind::State, Carrier::Every, false),
+            Field::Source => KeyRow::new(ValueKind::Address, Carrier::Every, true, 0),
+            Field::Destination => KeyRow::new(ValueKind::Address, Carrier::Every, true, 0),
+            Field::InIface => KeyRow::new(ValueKind::Interface, Carrier::Incoming, false, 0),
+            Field::OutIface => KeyRow::new(ValueKind::Interface, Carrier::Outgoing, false, 0),
+            Field::Protocol => KeyRow::new(ValueKind::Protocol, Carrier::Every, true, 0),
+            Field::Fragment => KeyRow::new(ValueKind::Bit, Carrier::Every, false, 0),
+            Field::SourcePort => KeyRow::new(ValueKind::Port, Carrier::WithPorts, true, 0),
+            Field::DestinationPort => KeyRow::new(ValueKind::Port, Carrier::WithPorts, true, 0),
+            Field::TcpFlags => KeyRow::new(ValueKind::Flags, Carrier::Tcp, false, 0),
+            Field::IcmpType => KeyRow::new(ValueKind::Icmp, Carrier::Icmp, true, 0),
+            Field::ConnectionState => KeyRow::new(ValueKind::State, Carrier::Every, false, 0),
+            Field::TimeToLive => KeyRow::new(ValueKind::Ttl, Carrier::Every, false, 64),
         }
     }
 }

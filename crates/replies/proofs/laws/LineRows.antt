@@ -92,12 +92,13 @@ pieces_of_two =
     ∷ (field.TcpFlags, (0, both) ∷ [])
     ∷ (field.IcmpType, (0, both) ∷ [])
     ∷ (field.ConnectionState, (0, both) ∷ [])
+    ∷ (field.TimeToLive, (0, both) ∷ [])
     ∷ []
 
 whole_reply : flat_map (λ line. line_text line.0 line.1) pieces_of_two
     ≡ codes "src 0:{2} 167772160:{1,2} 184549376:{2}\ndst 0:{1,2}\nin 00000000000000000000000000000000:{1,2}\n"
     ++ (codes "out 00000000000000000000000000000000:{1,2}\nproto 0:{1} 6:{1,2} 7:{1}\nfrag 0:{1,2} 1:{1}\nsport 0:{1,2}\n"
-    ++ codes "dport 0:{1} 22:{1,2} 23:{1}\nflags 0:{1,2}\nicmp 0:{1,2}\nct 0:{1,2}\n")
+    ++ codes "dport 0:{1} 22:{1,2} 23:{1}\nflags 0:{1,2}\nicmp 0:{1,2}\nct 0:{1,2}\nttl 0:{1,2}\n")
 unfolding digits hexadecimal
 whole_reply = refl
 

@@ -1,3 +1,4 @@
 pub mod AskLaws
+pub mod CrossLaws
 pub mod EqualityLaws
 pub mod RenameLaws

@@ -28,6 +28,7 @@ match_row kind.Iprange = match_row_with 4 (codes "iprange") [] true false
 match_row kind.Conntrack = match_row_with 5 (codes "conntrack") [] true false
 match_row kind.State = match_row_with 6 (codes "state") [] true false
 match_row kind.Comment = match_row_with 7 (codes "comment") [] true false
+match_row kind.Ttl = match_row_with 8 (codes "ttl") [] true false
 
 -- the name of a match
 abbrev pub kind_name : MatchKind → List ℕ
@@ -39,7 +40,7 @@ same_kind k l = (match_row k).number == (match_row l).number
 
 -- the matches
 abbrev pub all_kinds : List MatchKind
-all_kinds = kind.Tcp ∷ kind.Udp ∷ kind.Icmp ∷ kind.Multiport ∷ kind.Iprange ∷ kind.Conntrack ∷ kind.State ∷ kind.Comment ∷ []
+all_kinds = kind.Tcp ∷ kind.Udp ∷ kind.Icmp ∷ kind.Multiport ∷ kind.Iprange ∷ kind.Conntrack ∷ kind.State ∷ kind.Comment ∷ kind.Ttl ∷ []
 
 -- the matches that an option starts by itself, after `-p` of the protocol of their name: tcp, udp and icmp
 abbrev pub implied_kinds : List MatchKind

@@ -60,11 +60,15 @@ option_row opt.Syn = option_row_with (alone (codes "--syn")) 0 true (of kind.Tcp
 option_row opt.IcmpType = option_row_with (alone (codes "--icmp-type")) 1 true (of kind.Icmp) 0
 option_row opt.SourcePorts = option_row_with (or (codes "--sports") (codes "--source-ports")) 1 true (of kind.Multiport) 0
 option_row opt.DestinationPorts = option_row_with (or (codes "--dports") (codes "--destination-ports")) 1 true (of kind.Multiport) 0
+option_row opt.Ports = option_row_with (alone (codes "--ports")) 1 true (of kind.Multiport) 0
 option_row opt.SourceRange = option_row_with (alone (codes "--src-range")) 1 true (of kind.Iprange) 0
 option_row opt.DestinationRange = option_row_with (alone (codes "--dst-range")) 1 true (of kind.Iprange) 1
 option_row opt.Ctstate = option_row_with (alone (codes "--ctstate")) 1 true (of kind.Conntrack) 0
 option_row opt.State = option_row_with (alone (codes "--state")) 1 true (of kind.State) 0
 option_row opt.Comment = option_row_with (alone (codes "--comment")) 1 false (of kind.Comment) 0
+option_row opt.TtlEqual = option_row_with (alone (codes "--ttl-eq")) 1 true (of kind.Ttl) 0
+option_row opt.TtlGreater = option_row_with (alone (codes "--ttl-gt")) 1 false (of kind.Ttl) 0
+option_row opt.TtlLess = option_row_with (alone (codes "--ttl-lt")) 1 false (of kind.Ttl) 0
 option_row opt.RejectWith = option_row_with (alone (codes "--reject-with")) 1 false (owned.Target extended.Reject) 0
 option_row opt.LogPrefix = option_row_with (alone (codes "--log-prefix")) 1 false (owned.Target extended.Log) 0
 option_row opt.LogLevel = option_row_with (alone (codes "--log-level")) 1 false (owned.Target extended.Log) 1
@@ -87,8 +91,8 @@ abbrev pub all_options : List Opt
 all_options =
     opt.Source ∷ opt.Destination ∷ opt.InInterface ∷ opt.OutInterface ∷ opt.Protocol ∷ opt.Fragment ∷ opt.Match
     ∷ opt.Jump ∷ opt.Goto ∷ opt.SourcePort ∷ opt.DestinationPort ∷ opt.TcpFlags ∷ opt.Syn ∷ opt.IcmpType
-    ∷ opt.SourcePorts ∷ opt.DestinationPorts ∷ opt.SourceRange ∷ opt.DestinationRange ∷ opt.Ctstate ∷ opt.State
-    ∷ opt.Comment ∷ opt.RejectWith ∷ opt.LogPrefix ∷ opt.LogLevel ∷ opt.LogTcpSequence ∷ opt.LogTcpOptions
+    ∷ opt.SourcePorts ∷ opt.DestinationPorts ∷ opt.Ports ∷ opt.SourceRange ∷ opt.DestinationRange ∷ opt.Ctstate ∷ opt.State
+    ∷ opt.Comment ∷ opt.TtlEqual ∷ opt.TtlGreater ∷ opt.TtlLess ∷ opt.RejectWith ∷ opt.LogPrefix ∷ opt.LogLevel ∷ opt.LogTcpSequence ∷ opt.LogTcpOptions
     ∷ opt.LogIpOptions ∷ opt.LogUid ∷ []
 
 -- the option that a word spells

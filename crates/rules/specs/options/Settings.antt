@@ -15,6 +15,7 @@ use Rattle.fields.specs.values.Prefix.{prefix_of}
 use Rattle.fields.specs.values.Protocol.{protocol_of}
 use Rattle.fields.specs.values.RejectType.{reject_of}
 use Rattle.fields.specs.values.FreeText.{text_of}
+use Rattle.fields.specs.values.Ttl.{ttl_of}
 use Rattle.rules.specs.Sequence.{◌>>=◌, or_refused}
 use Rattle.rules.specs.options.Options.{slot, first_of}
 use Rattle.rules.specs.declared.reading.fault.Refusal.{Refusal}
@@ -39,11 +40,15 @@ option_of_value (value.TcpFlags x) = opt.TcpFlags
 option_of_value (value.IcmpType x) = opt.IcmpType
 option_of_value (value.SourcePorts x) = opt.SourcePorts
 option_of_value (value.DestinationPorts x) = opt.DestinationPorts
+option_of_value (value.Ports x) = opt.Ports
 option_of_value (value.SourceRange x) = opt.SourceRange
 option_of_value (value.DestinationRange x) = opt.DestinationRange
 option_of_value (value.Ctstate x) = opt.Ctstate
 option_of_value (value.State x) = opt.State
 option_of_value (value.Comment x) = opt.Comment
+option_of_value (value.TtlEqual x) = opt.TtlEqual
+option_of_value (value.TtlGreater x) = opt.TtlGreater
+option_of_value (value.TtlLess x) = opt.TtlLess
 option_of_value (value.RejectWith x) = opt.RejectWith
 option_of_value (value.LogPrefix x) = opt.LogPrefix
 option_of_value (value.LogLevel x) = opt.LogLevel
@@ -106,11 +111,15 @@ value_of opt.Syn inverted words = read_as value.TcpFlags (flag_test_of (codes "S
 value_of opt.IcmpType inverted words = read_as value.IcmpType (icmp_of (first_of words))
 value_of opt.SourcePorts inverted words = read_as value.SourcePorts (port_list_of (first_of words))
 value_of opt.DestinationPorts inverted words = read_as value.DestinationPorts (port_list_of (first_of words))
+value_of opt.Ports inverted words = read_as value.Ports (port_list_of (first_of words))
 value_of opt.SourceRange inverted words = read_as value.SourceRange (ip_range_of (first_of words))
 value_of opt.DestinationRange inverted words = read_as value.DestinationRange (ip_range_of (first_of words))
 value_of opt.Ctstate inverted words = read_as value.Ctstate (ctstate_of (first_of words))
 value_of opt.State inverted words = read_as value.State (state_of (first_of words))
 value_of opt.Comment inverted words = text_as value.Comment (text_within 256 (first_of words))
+value_of opt.TtlEqual inverted words = read_as value.TtlEqual (ttl_of (first_of words))
+value_of opt.TtlGreater inverted words = read_as value.TtlGreater (ttl_of (first_of words))
+value_of opt.TtlLess inverted words = read_as value.TtlLess (ttl_of (first_of words))
 value_of opt.RejectWith inverted words = read_as value.RejectWith (reject_of (first_of words))
 value_of opt.LogPrefix inverted words = text_as value.LogPrefix (text_within 29 (first_of words))
 value_of opt.LogLevel inverted words = read_as value.LogLevel (log_level_of (first_of words))
@@ -136,11 +145,15 @@ is_trivial (value.TcpFlags test) = asks_nothing test
 is_trivial (value.IcmpType x) = false
 is_trivial (value.SourcePorts x) = false
 is_trivial (value.DestinationPorts x) = false
+is_trivial (value.Ports x) = false
 is_trivial (value.SourceRange x) = false
 is_trivial (value.DestinationRange x) = false
 is_trivial (value.Ctstate x) = false
 is_trivial (value.State x) = false
 is_trivial (value.Comment x) = false
+is_trivial (value.TtlEqual x) = false
+is_trivial (value.TtlGreater x) = false
+is_trivial (value.TtlLess x) = false
 is_trivial (value.RejectWith x) = false
 is_trivial (value.LogPrefix x) = length x == 0
 is_trivial (value.LogLevel x) = level_number x == 4

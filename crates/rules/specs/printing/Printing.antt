@@ -11,6 +11,7 @@ use Rattle.fields.specs.text.Printed.{Shown, bare, as_text, spaced_all}
 use Rattle.fields.specs.values.Protocol.{protocol_text}
 use Rattle.fields.specs.values.RejectType.{reject_text}
 use Rattle.fields.specs.values.TcpFlags.{tcp_flags_text}
+use Rattle.fields.specs.values.Ttl.{ttl_text}
 use Rattle.rules.specs.options.Matches.{kind_name}
 use Rattle.rules.specs.options.Options.{name_of}
 use Rattle.rules.specs.options.Settings.{option_of_value}
@@ -39,11 +40,15 @@ shown_value (value.TcpFlags x) = bare (tcp_flags_text x.mask) ∷ one (tcp_flags
 shown_value (value.IcmpType x) = one (icmp_text x)
 shown_value (value.SourcePorts x) = one (port_list_text x)
 shown_value (value.DestinationPorts x) = one (port_list_text x)
+shown_value (value.Ports x) = one (port_list_text x)
 shown_value (value.SourceRange x) = one (ip_range_text x)
 shown_value (value.DestinationRange x) = one (ip_range_text x)
 shown_value (value.Ctstate x) = one (states_text x)
 shown_value (value.State x) = one (states_text x)
 shown_value (value.Comment x) = as_text x ∷ []
+shown_value (value.TtlEqual x) = one (ttl_text x)
+shown_value (value.TtlGreater x) = one (ttl_text x)
+shown_value (value.TtlLess x) = one (ttl_text x)
 shown_value (value.RejectWith x) = one (reject_text x)
 shown_value (value.LogPrefix x) = as_text x ∷ []
 shown_value (value.LogLevel x) = one (log_level_text x)

@@ -1,5 +1,5 @@
 -- Which numbers a rule allows on a field, and which packets it matches (iptables(8), iptables-extensions(8)).
-use Rattle.std.specs.Prelude.{ℕ, ◌==◌, Bool, true, false, ◌&&◌, ◌||◌, not, List, Option, Some, None, if◌then◌else◌}
+use Rattle.std.specs.Prelude.{ℕ, ◌==◌, nat_lt, Bool, true, false, ◌&&◌, ◌||◌, not, List, Option, Some, None, if◌then◌else◌}
 use Rattle.std.specs.List.{list_all, list_any}
 use Rattle.fields.specs.values.ConnectionState.{states_pass}
 use Rattle.fields.specs.numbers.Field.{all_fields, index, number_on}
@@ -13,6 +13,7 @@ use Rattle.fields.specs.values.Prefix.{holds}
 use Rattle.fields.specs.declared.numbers.field.Field.{Field}
 use Rattle.fields.specs.declared.numbers.field.Field.TheVariants as field
 use Rattle.rules.specs.options.Matches.{match_row}
+use Rattle.rules.specs.rule.Crossing.{cross}
 use Rattle.rules.specs.rule.Rules.{Match, Rule}
 use Rattle.rules.specs.declared.options.match_kind.MatchKind.{MatchKind}
 use Rattle.rules.specs.declared.options.setting.Setting.{Setting}
@@ -33,11 +34,15 @@ field_of (value.TcpFlags x) = Some field.TcpFlags
 field_of (value.IcmpType x) = Some field.IcmpType
 field_of (value.SourcePorts x) = Some field.SourcePort
 field_of (value.DestinationPorts x) = Some field.DestinationPort
+field_of (value.Ports x) = None
 field_of (value.SourceRange x) = Some field.Source
 field_of (value.DestinationRange x) = Some field.Destination
 field_of (value.Ctstate x) = Some field.ConnectionState
 field_of (value.State x) = Some field.ConnectionState
 field_of (value.Comment x) = None
+field_of (value.TtlEqual x) = Some field.TimeToLive
+field_of (value.TtlGreater x) = Some field.TimeToLive
+field_of (value.TtlLess x) = Some field.TimeToLive
 field_of (value.RejectWith x) = None
 field_of (value.LogPrefix x) = None
 field_of (value.LogLevel x) = None
@@ -64,6 +69,9 @@ holds_of (value.SourceRange x) n = range_has x n
 holds_of (value.DestinationRange x) n = range_has x n
 holds_of (value.Ctstate x) n = states_pass x n
 holds_of (value.State x) n = states_pass x n
+holds_of (value.TtlEqual x) n = n == x
+holds_of (value.TtlGreater x) n = nat_lt x n
+holds_of (value.TtlLess x) n = nat_lt n x
 holds_of v n = true
 
 -- two fields are one
@@ -95,9 +103,13 @@ match_allows f n m = fragment_allows f n m.kind && list_all (setting_allows f n)
 unfoldable pub allows : Rule → Field → ℕ → Bool
 allows r f n = list_all (setting_allows f n) r.settings && list_all (match_allows f n) r.matches
 
--- whether the rule matches a packet with these numbers, one a field in the order of the fields: it allows each on its field
+-- whether the rule allows each of these numbers, one a field in the order of the fields
+abbrev pub allows_each : List ℕ → Rule → Bool
+allows_each numbers r = list_all (λ f. allows r f (number_on numbers f)) all_fields
+
+-- whether the rule matches a packet with these numbers: it allows each on its field, and what it asks of several fields at once holds
 abbrev pub matches : List ℕ → Rule → Bool
-matches numbers r = list_all (λ f. allows r f (number_on numbers f)) all_fields
+matches numbers r = allows_each numbers r && cross numbers r
 
 -- the condition asks something on the field
 abbrev pub asks : Field → Setting → Bool

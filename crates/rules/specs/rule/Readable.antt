@@ -25,16 +25,17 @@ abbrev pub rule_places : List (List Opt)
 rule_places =
     only opt.Source ∷ only opt.Destination ∷ only opt.InInterface ∷ only opt.OutInterface ∷ only opt.Protocol ∷ only opt.Fragment ∷ []
 
--- the places of a match's options; multiport has one place for both of its options
+-- the places of a match's options; multiport and ttl have one place each for all of their options
 abbrev pub match_places : MatchKind → List (List Opt)
 match_places kind.Tcp = only opt.SourcePort ∷ only opt.DestinationPort ∷ only opt.TcpFlags ∷ []
 match_places kind.Udp = only opt.SourcePort ∷ only opt.DestinationPort ∷ []
 match_places kind.Icmp = only opt.IcmpType ∷ []
-match_places kind.Multiport = (opt.SourcePorts ∷ opt.DestinationPorts ∷ []) ∷ []
+match_places kind.Multiport = (opt.SourcePorts ∷ opt.DestinationPorts ∷ opt.Ports ∷ []) ∷ []
 match_places kind.Iprange = only opt.SourceRange ∷ only opt.DestinationRange ∷ []
 match_places kind.Conntrack = only opt.Ctstate ∷ []
 match_places kind.State = only opt.State ∷ []
 match_places kind.Comment = only opt.Comment ∷ []
+match_places kind.Ttl = (opt.TtlEqual ∷ opt.TtlGreater ∷ opt.TtlLess ∷ []) ∷ []
 
 -- the places of a target's options
 abbrev pub target_places : Option Action → List (List Opt)

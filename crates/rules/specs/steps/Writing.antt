@@ -12,6 +12,7 @@ use Rattle.fields.specs.text.Printed.{bare, spaced, spaced_all}
 use Rattle.fields.specs.values.Protocol.{protocol_text}
 use Rattle.fields.specs.values.RejectType.{reject_text}
 use Rattle.fields.specs.values.FreeText.{quoted}
+use Rattle.fields.specs.values.Ttl.{ttl_text}
 use Rattle.rules.specs.options.Matches.{kind_name}
 use Rattle.rules.specs.options.Options.{value_count}
 use Rattle.rules.specs.options.Settings.{option_of_value}
@@ -40,11 +41,15 @@ value_text (value.TcpFlags x) = flag_test_text x
 value_text (value.IcmpType x) = icmp_text x
 value_text (value.SourcePorts x) = port_list_text x
 value_text (value.DestinationPorts x) = port_list_text x
+value_text (value.Ports x) = port_list_text x
 value_text (value.SourceRange x) = ip_range_text x
 value_text (value.DestinationRange x) = ip_range_text x
 value_text (value.Ctstate x) = states_text x
 value_text (value.State x) = states_text x
 value_text (value.Comment x) = quoted x
+value_text (value.TtlEqual x) = ttl_text x
+value_text (value.TtlGreater x) = ttl_text x
+value_text (value.TtlLess x) = ttl_text x
 value_text (value.RejectWith x) = reject_text x
 value_text (value.LogPrefix x) = quoted x
 value_text (value.LogLevel x) = log_level_text x

@@ -52,6 +52,9 @@ impl Value {
             Value::DestinationRange(range) => on(Field::Destination, range.allowed(alloc)?),
             Value::Ctstate(states) => on(Field::ConnectionState, states.allowed(alloc)?),
             Value::State(states) => on(Field::ConnectionState, states.allowed(alloc)?),
+            Value::TtlEqual(ttl) => on(Field::TimeToLive, ttl.same(alloc)?),
+            Value::TtlGreater(ttl) => on(Field::TimeToLive, ttl.greater(alloc)?),
+            Value::TtlLess(ttl) => on(Field::TimeToLive, ttl.smaller(alloc)?),
             _ => Ok(None),
         }
     }

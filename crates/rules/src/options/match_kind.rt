@@ -13,6 +13,7 @@ pub(crate) enum MatchKind {
     Conntrack,
     State,
     Comment,
+    Ttl,
 }
 
 // A match's name, the protocols of which it needs one (none: it needs no protocol), whether it needs an option, and
@@ -29,7 +30,7 @@ impl MatchKind {
     ghost use Rattle.rules.specs.steps.MatchRows.{IsMatchRow};
 
     // Each match.
-    pub(crate) const ALL: [MatchKind; 8] = [
+    pub(crate) const ALL: [MatchKind; 9] = [
         MatchKind::Tcp,
         MatchKind::Udp,
         MatchKind::Icmp,
@@ -38,6 +39,7 @@ impl MatchKind {
         MatchKind::Conntrack,
         MatchKind::State,
         MatchKind::Comment,
+        MatchKind::Ttl,
     ];
 
     // Those that an option may start by itself.
@@ -56,6 +58,7 @@ impl MatchKind {
             MatchKind::Conntrack => MatchRow::of(b"conntrack", &[], true, false),
             MatchKind::State => MatchRow::of(b"state", &[], true, false),
             MatchKind::Comment => MatchRow::of(b"comment", &[], true, false),
+            MatchKind::Ttl => MatchRow::of(b"ttl", &[], true, false),
         }
     }
 

@@ -26,11 +26,15 @@ pub(crate) enum Opt {
     IcmpType,
     SourcePorts,
     DestinationPorts,
+    Ports,
     SourceRange,
     DestinationRange,
     Ctstate,
     State,
     Comment,
+    TtlEqual,
+    TtlGreater,
+    TtlLess,
     RejectWith,
     LogPrefix,
     LogLevel,
@@ -110,7 +114,7 @@ impl Opt {
     ghost use Rattle.rules.specs.steps.OptionRows.{IsOptionRow};
 
     // Each option.
-    pub(crate) const ALL: [Opt; 28] = [
+    pub(crate) const ALL: [Opt; 32] = [
         Opt::Source,
         Opt::Destination,
         Opt::InInterface,
@@ -127,11 +131,15 @@ impl Opt {
         Opt::IcmpType,
         Opt::SourcePorts,
         Opt::DestinationPorts,
+        Opt::Ports,
         Opt::SourceRange,
         Opt::DestinationRange,
         Opt::Ctstate,
         Opt::State,
         Opt::Comment,
+        Opt::TtlEqual,
+        Opt::TtlGreater,
+        Opt::TtlLess,
         Opt::RejectWith,
         Opt::LogPrefix,
         Opt::LogLevel,
@@ -192,6 +200,7 @@ impl Opt {
                 of(MatchKind::Multiport),
                 0,
             ),
+            Opt::Ports => OptionRow::of(&[b"--ports"], 1, true, of(MatchKind::Multiport), 0),
             Opt::SourceRange => OptionRow::of(
                 &[b"--src-range"],
                 1,
@@ -209,6 +218,9 @@ impl Opt {
             Opt::Ctstate => OptionRow::of(&[b"--ctstate"], 1, true, of(MatchKind::Conntrack), 0),
             Opt::State => OptionRow::of(&[b"--state"], 1, true, of(MatchKind::State), 0),
             Opt::Comment => OptionRow::of(&[b"--comment"], 1, false, of(MatchKind::Comment), 0),
+            Opt::TtlEqual => OptionRow::of(&[b"--ttl-eq"], 1, true, of(MatchKind::Ttl), 0),
+            Opt::TtlGreater => OptionRow::of(&[b"--ttl-gt"], 1, false, of(MatchKind::Ttl), 0),
+            Opt::TtlLess => OptionRow::of(&[b"--ttl-lt"], 1, false, of(MatchKind::Ttl), 0),
             Opt::RejectWith => OptionRow::of(
                 &[b"--reject-with"],
                 1,

@@ -1,5 +1,5 @@
 -- The classifier of rules: that of their boxes, one, and the same for rules that allow the same numbers.
-use Rattle.std.proofs.Common.{◌≡◌, ℕ, zero, suc, ◌+◌, ◌≤◌, Bool, true, false, cond, ◌&&◌, not, ltb, List, [], ◌∷◌, length, get_or, drop, refl, sym, ◌∙◌, ap, arith, map, subst, Option, Some, None}
+use Rattle.std.proofs.Common.{◌≡◌, ℕ, zero, suc, ◌+◌, ◌≤◌, Bool, true, false, cond, ◌&&◌, not, ltb, List, [], ◌∷◌, length, get_or, drop, refl, sym, ◌∙◌, ap, arith, map, subst, Some, None}
 use Rattle.std.specs.Prelude.{slice_get}
 use Rattle.std.specs.List.{insert, remove, list_all, position, position_or_len}
 use Rattle.std.specs.Option.{option_map}
@@ -9,7 +9,7 @@ use Rattle.fields.specs.declared.numbers.field.Field.{Field}
 use Rattle.fields.specs.numbers.Field.{all_fields, number_on, top}
 use Rattle.fields.specs.numbers.Spans.{SpanSet}
 use Rattle.rules.specs.rule.Actions.{with_chain_name}
-use Rattle.rules.specs.rule.Allows.{allows, matches}
+use Rattle.rules.specs.rule.Allows.{allows, allows_each}
 use Rattle.rules.specs.boxing.Boxed.{IsBoxOf}
 use Rattle.rules.specs.rule.Rules.{Rule}
 use Rattle.classify.specs.line.Line.{row_at, IsLineOf}
@@ -83,16 +83,21 @@ found_by_answers test xs =
     ap (λ n. cond (ltb n (length (map test xs))) (Some n) None) (first_by_answers test xs)
     ∙ ap (λ k. cond (ltb (position_or_len test xs) k) (Some (position_or_len test xs)) None) (length-map xs test)
 
-next_by_answers : {A : Type 0} (test : A → Bool) (xs : List A) (from : ℕ) → option_map (λ (k : ℕ). from + k) (position (λ b. b) (drop from (map test xs))) ≡ next_match test xs from
+pub next_by_answers : {A : Type 0} (test : A → Bool) (xs : List A) (from : ℕ) → option_map (λ (k : ℕ). from + k) (position (λ b. b) (drop from (map test xs))) ≡ next_match test xs from
 next_by_answers test xs from =
     ap (λ (bs : List Bool). option_map (λ (k : ℕ). from + k) (position (λ b. b) bs)) (drop-map test from xs) ∙ ap (option_map (λ (k : ℕ). from + k)) (found_by_answers test (drop from xs))
 
+-- boxes answer at a point as their rules
+point_answers : (rs : List Rule) (bs : List (List SpanSet)) (point : List ℕ) → AreBoxesOf rs bs → ((field : Field) → number_on point field ≤ top field) → map (box_matches point) bs ≡ map (allows_each point) rs
+point_answers rs bs point are within =
+    answers_alike (allows_each point) (box_matches point)
+    (λ r b h. all_alike (λ f. allows r f (number_on point f)) (λ f. box_allows b f (number_on point f)) (λ f. h f (number_on point f) (within f)) all_fields) rs bs are
+
 pub matches_of_rules : BoxesHaveTheRulesMatches
 matches_of_rules rs bs point from are within =
-    let same : map (box_matches point) bs ≡ map (matches point) rs =
-    answers_alike (matches point) (box_matches point)
-    (λ r b h. all_alike (λ f. allows r f (number_on point f)) (λ f. box_allows b f (number_on point f)) (λ f. h f (number_on point f) (within f)) all_fields) rs bs are in
-    sym (next_by_answers (box_matches point) bs from) ∙ ap (λ (xs : List Bool). option_map (λ (k : ℕ). from + k) (position (λ b. b) (drop from xs))) same ∙ next_by_answers (matches point) rs from
+    sym (next_by_answers (box_matches point) bs from)
+    ∙ ap (λ (xs : List Bool). option_map (λ (k : ℕ). from + k) (position (λ b. b) (drop from xs))) (point_answers rs bs point are within)
+    ∙ next_by_answers (allows_each point) rs from
 
 -- ---- edits, said of rules
 
@@ -141,11 +146,11 @@ rules_removed rs at c d step h =
 pub no_rules : (c : Classified) → IsClassifierOf [] c → IsClassifierOfRules [] c
 no_rules c h = rules_classifier [] [] c tt h
 
-pub rules_searched : (rs : List Rule) (point : List ℕ) (from : ℕ) (c : Classified) (r : Option ℕ) → ((field : Field) → number_on point field ≤ top field)
-    → ((bs : List (List SpanSet)) → IsClassifierOf bs c → r ≡ next_match (box_matches point) bs from) → IsClassifierOfRules rs c → r ≡ next_match (matches point) rs from
-rules_searched rs point from c r within found h =
+pub rules_answered : (rs : List Rule) (point : List ℕ) (c : Classified) (bits : List Bool) → ((field : Field) → number_on point field ≤ top field)
+    → ((bs : List (List SpanSet)) → IsClassifierOf bs c → bits ≡ map (box_matches point) bs) → IsClassifierOfRules rs c → bits ≡ map (allows_each point) rs
+rules_answered rs point c bits within answered h =
     let bs : List (List SpanSet) = boxes_for rs in
-    found bs (boxes_classifier rs bs c (boxes_for_are rs) h) ∙ matches_of_rules rs bs point from (boxes_for_are rs) within
+    answered bs (boxes_classifier rs bs c (boxes_for_are rs) h) ∙ point_answers rs bs point (boxes_for_are rs) within
 
 -- ---- rules that allow the same numbers
 

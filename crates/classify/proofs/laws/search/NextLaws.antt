@@ -1,5 +1,5 @@
 -- The first place that every row has is the next box that box_allows the point.
-use Rattle.std.proofs.Common.{◌≡◌, ◌↔◌, inl, inr, ℕ, zero, suc, ◌+◌, ◌-◌, ◌*◌, ◌<◌, ◌≤◌, Bool, true, false, cond, not, List, [], ◌∷◌, length, drop, take, get_or, map, refl, sym, ◌∙◌, ap, arith, subst, lit<, Option, Some, None, Bor}
+use Rattle.std.proofs.Common.{◌≡◌, ◌↔◌, inl, inr, ℕ, zero, suc, ◌+◌, ◌-◌, ◌*◌, ◌<◌, ◌≤◌, Bool, true, false, cond, not, List, [], ◌∷◌, length, drop, take, get_or, map, refl, sym, ◌∙◌, ap, arith, subst, Option, Some, None, Bor}
 use Rattle.std.specs.Prelude.{◌/◌, ◌%◌, ◌^◌, slice_index, bit_and}
 use Rattle.std.specs.Int.{bit_at}
 use Rattle.std.proofs.lemmas.Nat.Bits.{bit_at_and, bit_at_ones}
@@ -24,7 +24,7 @@ use Rattle.classify.specs.steps.Pieces.{PiecesAndRoom, row_in, IsRising}
 use Rattle.classify.specs.steps.Edits.{IsSound}
 use Rattle.classify.specs.steps.Fields.{shown_line, tops, IsKept}
 use Rattle.bits.specs.steps.First.{IsFirst}
-use Rattle.classify.specs.steps.CommonPlaces.{IsRowAt, AreRowsAt, AreWide, HaveAll}
+use Rattle.classify.specs.steps.CommonPlaces.{IsRowAt, AreRowsAt, HaveAll}
 use Rattle.rules.specs.boxing.Boxed.{set_on}
 use Rattle.rules.proofs.laws.boxing.BoxLaws.{index-lt, here_is}
 use Rattle.classify.specs.classifier.Classifier.{box_allows, line_on, Classified, IsClassifierOf, IsPoint, box_matches}
@@ -89,7 +89,7 @@ passes_each test h field =
       | inr f ↦ absurd (true≢false (sym h ∙ list_all_at test ALL (index field) field (index-lt field) (ap test (here_is field field) ∙ f)))
     ]
 
-have_to_allow : (c : Classified) (boxes : List (List SpanSet)) (point : List ℕ) (rows : List (Bor (List ℕ))) (p : ℕ) (b : List SpanSet) → IsClassifierOf boxes c → IsPoint point
+pub have_to_allow : (c : Classified) (boxes : List (List SpanSet)) (point : List ℕ) (rows : List (Bor (List ℕ))) (p : ℕ) (b : List SpanSet) → IsClassifierOf boxes c → IsPoint point
     → length rows ≡ FIELDS → ((j : ℕ) (d : Bor (List ℕ)) → j < FIELDS → IsRowAt c j (slice_index point j) (get_or rows j d).now) → p < length boxes → HaveAll rows p ↔ (box_matches point (get_or boxes p b) ≡ true)
 have_to_allow c boxes point rows p b h within n are lt =
     let none : Bor (List ℕ) = record { ref_ptr = (0, 0); now = [] } in
@@ -104,25 +104,12 @@ have_to_allow c boxes point rows p b h within n are lt =
     )
 
 -- no row has a bit past the boxes
-none_past : (row : List ℕ) (len p : ℕ) → IsPacked row len → len ≤ p → p < 64 * length row → get_or (all_bits row) p false ≡ false
+pub none_past : (row : List ℕ) (len p : ℕ) → IsPacked row len → len ≤ p → p < 64 * length row → get_or (all_bits row) p false ≡ false
 none_past row len p h le lt =
     let size : length (all_bits row) ≡ 64 * length row = length-all_bits row in
     let k : p - len < length (drop len (all_bits row)) = omega (arith, length-drop len (all_bits row)) in
     let e : len + (p - len) ≡ p = omega arith in
     sym (ap (λ j. get_or (all_bits row) j false) e) ∙ sym (get_or-drop len (all_bits row) (p - len) false) ∙ All-get_or (λ (b : Bool). b ≡ false) (drop len (all_bits row)) (p - len) false k h.padded
-
-have_within : (c : Classified) (point : List ℕ) (rows : List (Bor (List ℕ))) (words p : ℕ) → length rows ≡ FIELDS → ((j : ℕ) (d : Bor (List ℕ)) → j < FIELDS → IsRowAt c j (slice_index point j) (get_or rows j d).now) → AreWide words rows → p < 64 * words → HaveAll rows p → p < c.len
-have_within c point rows words p n are wide lt every =
-    elim (cases_lt p c.len) [
-      | inl in' ↦ in'
-      | inr le ↦ (
-          let none : Bor (List ℕ) = record { ref_ptr = (0, 0); now = [] } in
-          let some : 0 < FIELDS = lit< tt in
-          let first : 0 < length rows = omega (arith, n, some) in
-          let w : length (get_or rows 0 none).now ≡ words = wide 0 none first in
-          let room : p < 64 * length (get_or rows 0 none).now = omega arith in
-          absurd (true≢false (sym (every 0 none first) ∙ none_past (get_or rows 0 none).now c.len p (are 0 none some).packed le room)))
-    ]
 
 -- ---- the summary of all rows
 
@@ -134,20 +121,6 @@ point_more c point summary s k h one p each =
     let all : bit_at summary (p / 64 / 2 % 64) ≡ 1 = h p (λ j lt. each j (omega arith)) in
     let last : bit_at s (p / 64 / 2 % 64) ≡ 1 = one p (each k (omega arith)) in
     bit_at_and summary s (p / 64 / 2 % 64) ∙ omega arith
-
--- each row has the words that so many boxes need
-pub rows_wide : (c : Classified) (point : List ℕ) (rows : List (Bor (List ℕ))) (words : ℕ) → AreRowsAt c point rows FIELDS → c.len ≤ 64 * words → 64 * words < c.len + 64 → AreWide words rows
-rows_wide c point rows words h covers tight k d lt =
-    let row = (h.are k d (omega (arith, h.long))).packed in
-    omega (arith, row.covers, row.tight)
-
-pub point_sums_up : (c : Classified) (point : List ℕ) (rows : List (Bor (List ℕ))) (words summary : ℕ) → length rows ≡ FIELDS → ((j : ℕ) (d : Bor (List ℕ)) → j < FIELDS → IsRowAt c j (slice_index point j) (get_or rows j d).now)
-    → AreWide words rows → SumUpPoint c point summary FIELDS → SumUpAll summary words rows
-point_sums_up c point rows words summary n are wide sum p lt every =
-    let none : Bor (List ℕ) = record { ref_ptr = (0, 0); now = [] } in
-    let within : p < c.len = have_within c point rows words p n are wide lt every in
-    sum p (λ j below.
-    sym (ap (λ (bs : List Bool). get_or bs p false) (are j none below).bits) ∙ get_or-take c.len (all_bits (get_or rows j none).now) p false within ∙ every j none (omega arith))
 
 -- ---- the first place is the next match
 
@@ -186,15 +159,6 @@ next_from_first test boxes from d (Some n) h =
     (λ k lt. not_true (test (get_or xs k d)) (λ t. h.3 (from + k) (omega arith) (omega (arith, h.0)) (ap test (sym (get_or-drop from boxes k d)) ∙ t))) in
     let f : ltb (position_or_len test xs) (length xs) ≡ true = lt-ltb (position_or_len test xs) (length xs) (omega arith) in
     sym (ap (λ b. option_map (λ (k : ℕ). from + k) (cond b (Some (position_or_len test xs)) None)) f ∙ ap (λ k. Some (from + k)) e ∙ ap Some back)
-
-pub first_is_next : (c : Classified) (boxes : List (List SpanSet)) (point : List ℕ) (rows : List (Bor (List ℕ))) (words from : ℕ) (r : Option ℕ) → IsClassifierOf boxes c → IsPoint point
-    → length rows ≡ FIELDS → ((j : ℕ) (d : Bor (List ℕ)) → j < FIELDS → IsRowAt c j (slice_index point j) (get_or rows j d).now) → AreWide words rows → c.len ≤ 64 * words → IsFirst (HaveAll rows) from (64 * words) r → r ≡ next_match (box_matches point) boxes from
-first_is_next c boxes point rows words from None h within n are wide le first =
-    next_from_first (box_matches point) boxes from [] None (λ k ge lt t. first k ge (omega (arith, h.len)) ((have_to_allow c boxes point rows k [] h within n are lt).1 t))
-first_is_next c boxes point rows words from (Some m) h within n are wide le first =
-    let in' : m < length boxes = omega (arith, h.len, have_within c point rows words m n are wide first.1 first.2) in
-    next_from_first (box_matches point) boxes from [] (Some m)
-    (first.0, in', (have_to_allow c boxes point rows m [] h within n are in').0 first.2, λ k ge lt t. first.3 k ge lt ((have_to_allow c boxes point rows k [] h within n are (omega arith)).1 t))
 
 -- ---- the next set bit of one row
 

@@ -27,6 +27,7 @@ use Rattle.fields.proofs.laws.values.ConnectionStateLaws.{packet_state_within}
 use Rattle.fields.proofs.laws.values.InterfaceLaws.{bound-is, bound-fits, interface_of-form}
 use Rattle.fields.proofs.laws.ListLaws.{find-passes}
 use Rattle.fields.proofs.laws.values.TcpFlagsLaws.{known as flags_known}
+use Rattle.fields.proofs.laws.values.TtlLaws.{within as ttl_within}
 use Rattle.fields.proofs.laws.text.CutLaws.{step_before, same_some}
 use Rattle.fields.proofs.laws.text.NumberLaws.{number_to_sound}
 use Rattle.fields.proofs.laws.values.PrefixLaws.{address_of_sound}
@@ -87,6 +88,7 @@ greatest value.Port = 65535
 greatest value.Flags = 63
 greatest value.Icmp = 65535
 greatest value.State = 13
+greatest value.Ttl = 255
 
 -- an accepted text of an interface is the interface itself
 interface_is_text : (text name : List ℕ) → interface_of text ≡ Some name → interface_of name ≡ Some name
@@ -148,11 +150,17 @@ value_of_fits value.Port text n e = let (number, small) = number_to_sound 65535 
 value_of_fits value.Flags text n e = let small = flags_known text n e in omega arith
 value_of_fits value.Icmp text n e = icmp_fits text n e
 value_of_fits value.State text n e = packet_state_within text (Some n) (sym e)
+value_of_fits value.Ttl text n e = let small = ttl_within text n e in omega arith
 
 -- is within the top of each field whose key has the kind
 greatest_fits : (field : Field) → greatest (key_of field).value ≤ top field
 greatest_fits fields.Source = lit≤ tt
 greatest_fits _ = lit≤ tt
+
+-- what a field has where no word gives its number is within its top
+absent_fits : (field : Field) → (key_of field).absent ≤ top field
+absent_fits fields.Source = lit≤ tt
+absent_fits _ = lit≤ tt
 
 number_on_fits : (field : Field) (text : List ℕ) (n : ℕ) → number_of_text field text ≡ Some n → n ≤ top field
 number_on_fits field text n e = let kind = value_of_fits (key_of field).value text n e in let whole = greatest_fits field in omega (arith, kind, whole)
@@ -160,8 +168,8 @@ number_on_fits field text n e = let kind = value_of_fits (key_of field).value te
 value_on_fits : (words : List (List ℕ)) (field : Field) → value_on words field ≤ top field
 value_on_fits words field = go (text_of field words >>= λ text. number_of_text field text) refl
   where
-    go : (o : Option ℕ) → (text_of field words >>= λ text. number_of_text field text) ≡ o → unwrap_or o 0 ≤ top field
-    go None e = omega arith
+    go : (o : Option ℕ) → (text_of field words >>= λ text. number_of_text field text) ≡ o → unwrap_or o (key_of field).absent ≤ top field
+    go None e = absent_fits field
     go (Some n) e = let (text, given, is) = step_before (text_of field words) (λ t. number_of_text field t) n e in number_on_fits field text n is
 
 -- a list of one value a field has each at the field's index

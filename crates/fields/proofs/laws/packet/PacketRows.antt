@@ -11,7 +11,7 @@ use Rattle.fields.specs.declared.packet.hook.Hook.TheVariants.{Input}
 use Rattle.fields.specs.declared.packet.PacketFault.TheVariants.{UnknownKey, KeyMissing, BadValue, NotCarried}
 
 whole_line : packet_of (codes "INPUT" ∷ codes "src=10.9.9.9" ∷ codes "dst=2.2.2.2" ∷ codes "proto=47" ∷ [])
-    ≡ Ok (record { hook = Input; values = 168364297 ∷ 33686018 ∷ 0 ∷ 0 ∷ 47 ∷ 0 ∷ 0 ∷ 0 ∷ 0 ∷ 0 ∷ 0 ∷ [] })
+    ≡ Ok (record { hook = Input; values = 168364297 ∷ 33686018 ∷ 0 ∷ 0 ∷ 47 ∷ 0 ∷ 0 ∷ 0 ∷ 0 ∷ 0 ∷ 0 ∷ 64 ∷ [] })
 unfolding number_of number_to address_of one_protocol_of protocol_number
 whole_line = refl
 
@@ -35,7 +35,7 @@ missing_key = refl
 
 -- a segment with its ports and flags, on an interface
 tcp_segment : packet_of (codes "INPUT" ∷ codes "src=1.1.1.1" ∷ codes "dst=2.2.2.2" ∷ codes "proto=tcp" ∷ codes "sport=1000" ∷ codes "dport=80" ∷ codes "flags=SYN,ack" ∷ codes "in=eth0" ∷ codes "ct=new,SNAT" ∷ [])
-    ≡ Ok (record { hook = Input; values = 16843009 ∷ 33686018 ∷ 134856447183417123626606345666747695104 ∷ 0 ∷ 6 ∷ 0 ∷ 1000 ∷ 80 ∷ 18 ∷ 0 ∷ 3 ∷ [] })
+    ≡ Ok (record { hook = Input; values = 16843009 ∷ 33686018 ∷ 134856447183417123626606345666747695104 ∷ 0 ∷ 6 ∷ 0 ∷ 1000 ∷ 80 ∷ 18 ∷ 0 ∷ 3 ∷ 64 ∷ [] })
 unfolding number_of number_to address_of one_protocol_of protocol_number interface_of interface_value set_listed
 tcp_segment = refl
 

@@ -119,3 +119,6 @@ protocol_is_bare n small = go (find (λ (entry : List ℕ × ℕ). entry.1 == n)
         let is = (find-passes (λ (e : List ℕ × ℕ). e.1 == n) (λ (e : List ℕ × ℕ). is_bare_word e.0) protocols entry found names-bare).1 in
         let (some, bytes) = and_parts (nat_lt 0 (length entry.0)) (list_all is_bare entry.0) is in
         record { some = some-bytes entry.0 (ltb-true 0 (length entry.0) some); bytes = bytes }
+
+pub ttl_is_bare : (n : ℕ) → n < 256 → IsBareWord (decimal n)
+ttl_is_bare n small = decimal-bare n (omega arith)

@@ -18,6 +18,7 @@ use Rattle.fields.specs.values.Protocol.{protocol_of, protocol_text}
 use Rattle.fields.specs.values.RejectType.{reject_of, reject_text}
 use Rattle.fields.specs.values.TcpFlags.{tcp_flags_of, tcp_flags_text}
 use Rattle.fields.specs.values.FreeText.{text_of}
+use Rattle.fields.specs.values.Ttl.{ttl_of, ttl_text}
 use Rattle.fields.specs.declared.values.flag_test.FlagTest.{FlagTest}
 use Rattle.fields.proofs.laws.values.ConnectionStateLaws.{are_states, ctstate_reads_back, state_reads_back}
 use Rattle.fields.proofs.laws.text.CutLaws.{step_before, same_some}
@@ -33,6 +34,7 @@ use Rattle.fields.proofs.laws.values.ProtocolLaws.{protocol_of-protocol_text}
 use Rattle.fields.proofs.laws.values.RejectLaws.{reads_text}
 use Rattle.fields.proofs.laws.values.TcpFlagsLaws as flags
 use Rattle.fields.proofs.laws.values.TcpFlagsLaws.{known}
+use Rattle.fields.proofs.laws.values.TtlLaws as ttl
 use Rattle.rules.specs.Sequence.{◌>>=◌, or_refused}
 use Rattle.rules.specs.options.Options.{first_of, may_be_inverted, owner, slot}
 use Rattle.rules.specs.options.Settings.{option_of_value, read_as, text_as, text_within, with_opposite, value_of}
@@ -45,7 +47,7 @@ use Rattle.rules.specs.declared.options.value.Value.{Value}
 use Rattle.rules.specs.declared.options.value.Value.TheVariants as value
 use Rattle.rules.proofs.laws.reading.Readable.{value_room}
 use Rattle.rules.proofs.laws.options.TableLaws.{plain}
-use Rattle.rules.proofs.laws.options.WordForms.{IsWord, prefix-valid, prefix-word, interface-valid, interface-word, protocol-valid, protocol-word, ports-valid, ports-word, list-word, flags-word, states-word, state-valid, icmp-word, range-valid, range-word, reject-word, level-word, text-valid, quoted-short}
+use Rattle.rules.proofs.laws.options.WordForms.{IsWord, prefix-valid, prefix-word, interface-valid, interface-word, protocol-valid, protocol-word, ports-valid, ports-word, list-word, flags-word, states-word, state-valid, icmp-word, range-valid, range-word, reject-word, level-word, ttl-word, text-valid, quoted-short}
 
 -- a value that an option was given stands where the option stands, and its text gives it back
 pub record IsGood (o : Opt) (inverted : Bool) (v : Value) : Type 0 where
@@ -192,6 +194,11 @@ value_of-good opt.DestinationPorts inverted words v e =
     let is_one = port_list_of-is _ x is in
     let word = list-word x is_one in
     subst (IsGood opt.DestinationPorts inverted) same (record { place = refl; owned = refl; bang = λ e. refl; text = ap (read_as value.DestinationPorts) (list.reads_back x is_one); spelled = one-spelled 90 (port_list_text x) word; short = one-short 90 (port_list_text x) word })
+value_of-good opt.Ports inverted words v e =
+    let (x, is, same) = given refusal.BadValue value.Ports (port_list_of _) v e in
+    let is_one = port_list_of-is _ x is in
+    let word = list-word x is_one in
+    subst (IsGood opt.Ports inverted) same (record { place = refl; owned = refl; bang = λ e. refl; text = ap (read_as value.Ports) (list.reads_back x is_one); spelled = one-spelled 90 (port_list_text x) word; short = one-short 90 (port_list_text x) word })
 value_of-good opt.SourceRange inverted words v e =
     let (x, is, same) = given refusal.BadValue value.SourceRange (ip_range_of _) v e in
     let is_one = range-valid _ x is in
@@ -229,6 +236,21 @@ value_of-good opt.LogPrefix inverted words v e =
     let (x, is, same) = text-given 29 value.LogPrefix (first_of words) v e in
     let (few, read, one) = text-valid 29 _ x is in
     subst (IsGood opt.LogPrefix inverted) same (record { place = refl; owned = refl; bang = λ e. e; text = ap (text_as value.LogPrefix) (text-within 29 x few read); spelled = text-spelled x one; short = text-short 29 x few })
+value_of-good opt.TtlEqual inverted words v e =
+    let (x, is, same) = given refusal.BadValue value.TtlEqual (ttl_of _) v e in
+    let small = ttl.within _ x is in
+    let word = ttl-word x small in
+    subst (IsGood opt.TtlEqual inverted) same (record { place = refl; owned = refl; bang = λ e. refl; text = ap (read_as value.TtlEqual) (ttl.reads_back x small); spelled = one-spelled 3 (ttl_text x) word; short = one-short 3 (ttl_text x) word })
+value_of-good opt.TtlGreater inverted words v e =
+    let (x, is, same) = given refusal.BadValue value.TtlGreater (ttl_of _) v e in
+    let small = ttl.within _ x is in
+    let word = ttl-word x small in
+    subst (IsGood opt.TtlGreater inverted) same (record { place = refl; owned = refl; bang = λ e. e; text = ap (read_as value.TtlGreater) (ttl.reads_back x small); spelled = one-spelled 3 (ttl_text x) word; short = one-short 3 (ttl_text x) word })
+value_of-good opt.TtlLess inverted words v e =
+    let (x, is, same) = given refusal.BadValue value.TtlLess (ttl_of _) v e in
+    let small = ttl.within _ x is in
+    let word = ttl-word x small in
+    subst (IsGood opt.TtlLess inverted) same (record { place = refl; owned = refl; bang = λ e. e; text = ap (read_as value.TtlLess) (ttl.reads_back x small); spelled = one-spelled 3 (ttl_text x) word; short = one-short 3 (ttl_text x) word })
 value_of-good opt.RejectWith inverted words v e =
     let (x, is, same) = given refusal.BadValue value.RejectWith (reject_of (first_of words)) v e in
     let word = reject-word x in

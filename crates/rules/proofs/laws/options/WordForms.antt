@@ -30,6 +30,7 @@ use Rattle.fields.specs.text.Printed.{IsBareWord}
 use Rattle.fields.specs.values.Protocol.{protocols, number_in, protocol_number, protocol_name, one_protocol_of, protocol_of, named_or_decimal, protocol_text}
 use Rattle.fields.specs.values.RejectType.{reject_text}
 use Rattle.fields.specs.values.TcpFlags.{tcp_flags_text}
+use Rattle.fields.specs.values.Ttl.{ttl_text}
 use Rattle.fields.specs.values.FreeText.{text_of, is_plain, escaped, in_quotes, quoted}
 use Rattle.fields.specs.declared.values.icmp.Asked.{Asked}
 use Rattle.fields.specs.declared.values.icmp.Asked.TheVariants.{Any, OfType, OfCode}
@@ -334,6 +335,10 @@ level-word level.Warning = digit 4 (omega arith)
 level-word level.Notice = digit 5 (omega arith)
 level-word level.Info = digit 6 (omega arith)
 level-word level.Debug = digit 7 (omega arith)
+
+-- times to live
+pub ttl-word : (n : ℕ) → n < 256 → IsWord 3 (ttl_text n)
+ttl-word n small = decimal-word 3 n (omega arith) (omega arith) (omega arith)
 
 -- texts
 pub text-valid : (most : ℕ) (text x : List ℕ) → text_of most text ≡ Some x → (length x ≤ most) × (text_of most x ≡ Some x) × IsOneLine x

@@ -226,6 +226,7 @@ kind_limits kind.Iprange = 46 ∷ 46 ∷ []
 kind_limits kind.Conntrack = 73 ∷ []
 kind_limits kind.State = 71 ∷ []
 kind_limits kind.Comment = 525 ∷ []
+kind_limits kind.Ttl = 15 ∷ []
 
 match-room : (k : MatchKind) (o : Opt) → kind_has k o ≡ true → setting_room o ≤ get_or (kind_limits k) (slot o) 0
 match-room k o e =

@@ -100,11 +100,15 @@ match-at kind.Udp (value.DestinationPort x) is = here opt.DestinationPort
 match-at kind.Icmp (value.IcmpType x) is = here opt.IcmpType
 match-at kind.Multiport (value.SourcePorts x) is = (0, lit< tt, refl)
 match-at kind.Multiport (value.DestinationPorts x) is = (1, lit< tt, refl)
+match-at kind.Multiport (value.Ports x) is = (2, lit< tt, refl)
 match-at kind.Iprange (value.SourceRange x) is = here opt.SourceRange
 match-at kind.Iprange (value.DestinationRange x) is = here opt.DestinationRange
 match-at kind.Conntrack (value.Ctstate x) is = here opt.Ctstate
 match-at kind.State (value.State x) is = here opt.State
 match-at kind.Comment (value.Comment x) is = here opt.Comment
+match-at kind.Ttl (value.TtlEqual x) is = (0, lit< tt, refl)
+match-at kind.Ttl (value.TtlGreater x) is = (1, lit< tt, refl)
+match-at kind.Ttl (value.TtlLess x) is = (2, lit< tt, refl)
 match-at k v is = absurd (false-true is)
 
 target-at : (g : Option Action) (v : Value) → OfAction g (owner (option_of_value v)) → Contains (get_or (target_places g) (slot (option_of_value v)) []) (option_of_value v)

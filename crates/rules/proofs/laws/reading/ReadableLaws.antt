@@ -99,6 +99,7 @@ match-fits kind.Iprange m is = tt
 match-fits kind.Conntrack m is = tt
 match-fits kind.State m is = tt
 match-fits kind.Comment m is = tt
+match-fits kind.Ttl m is = tt
 
 action-fits : (g : Option Action) → FitsDefault (OfAction g) (action_default g)
 action-fits None = tt

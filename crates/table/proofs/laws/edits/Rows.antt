@@ -4,6 +4,7 @@ use Rattle.std.specs.Prelude.{replicate}
 use Rattle.fields.specs.packet.Packet.{PacketView as Packet}
 use Rattle.fields.specs.declared.packet.hook.Hook.TheVariants as hook
 use Rattle.rules.specs.rule.Allows.{allows}
+use Rattle.rules.specs.rule.Crossing.{cross}
 use Rattle.rules.specs.rule.Rules.{Rule}
 use Rattle.rules.specs.declared.rule.action.Action.{Action}
 use Rattle.rules.specs.declared.rule.action.Action.TheVariants as action
@@ -68,28 +69,28 @@ entry chain number = record { chain = chain; number = number }
 
 -- a packet with 0 on each field
 abbrev packet : Packet
-packet = record { hook = hook.Input; values = replicate 11 0 }
+packet = record { hook = hook.Input; values = replicate 12 0 }
 
 -- jump, goto, and a return from a chain that was reached by them
 abbrev called : Table
 called = made (NewChain a ∷ NewChain b ∷ Append input (jumps a) ∷ Append input drops ∷ Append a (goes b) ∷ Append b returns ∷ [])
 
 returns_after_the_jump : walk called packet ≡ record { trail = entry input 1 ∷ entry a 1 ∷ entry b 1 ∷ entry input 2 ∷ []; verdict = verdict.Drop; by_policy = false }
-unfolding allows walk_within
+unfolding allows cross walk_within
 returns_after_the_jump = refl
 
 one_deep : depth called packet ≡ 1
-unfolding allows depth_within
+unfolding allows cross depth_within
 one_deep = refl
 
 -- a goto out of a built-in chain doesn't come back
 goto_ends : walk (made (NewChain b ∷ Append input (goes b) ∷ Append input drops ∷ [])) packet ≡ record { trail = entry input 1 ∷ []; verdict = verdict.Accept; by_policy = true }
-unfolding allows walk_within
+unfolding allows cross walk_within
 goto_ends = refl
 
 -- rules that say nothing, and RETURN in a built-in chain, on the trail
 return_ends : walk (made (Append input nothing ∷ Append input returns ∷ Append input drops ∷ [])) packet ≡ record { trail = entry input 1 ∷ entry input 2 ∷ []; verdict = verdict.Accept; by_policy = true }
-unfolding allows walk_within
+unfolding allows cross walk_within
 return_ends = refl
 
 -- a loop of three chains is seen after two jumps; a chain that names itself is one
@@ -151,21 +152,21 @@ abbrev doubled : List Entry
 doubled = entry input 1 ∷ entry a 1 ∷ entry b 1 ∷ entry b 2 ∷ entry a 2 ∷ entry b 1 ∷ entry b 2 ∷ entry input 2 ∷ []
 
 has_room : walk_to 8 doubling packet ≡ record { trail = doubled; verdict = verdict.Accept; by_policy = false }
-unfolding allows walk_within
+unfolding allows cross walk_within
 has_room = refl
 
 -- one rule more is too long, and so is room for one less
 one_too_many : walk_to 8 (edited (Insert input 2 nothing) doubling) packet ≡ record { trail = []; verdict = verdict.TooLong; by_policy = false }
-unfolding allows walk_within
+unfolding allows cross walk_within
 one_too_many = refl
 
 one_too_few : walk_to 7 doubling packet ≡ record { trail = []; verdict = verdict.TooLong; by_policy = false }
-unfolding allows walk_within
+unfolding allows cross walk_within
 one_too_few = refl
 
 -- as deep as there are user chains
 three_deep : depth doubling packet ≡ 3
-unfolding allows depth_within
+unfolding allows cross depth_within
 three_deep = refl
 
 -- names

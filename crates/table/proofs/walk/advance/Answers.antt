@@ -13,12 +13,12 @@ use Rattle.table.proofs.walk.advance.Goals as goal
 pub returns-in-Some-clause-some : goal.returns-in-Some-clause-some
 returns-in-Some-clause-some g c =
     hit_under c.args.chains.now.slots c.args.order.now.items c.args.packet.now.values c.rests.at c.rests.stack.items c.index-chain.result.now c.in-Some.place c.entry.result.now _ _
-    c.requires.kept c.rests.invariant.state c.index-chain.ensures (c.in-Some.ensures.next ∙ ap (λ vs. next_match (matches vs) (rules_in c.index-chain.result.now) c.rests.at.passed) c.numbers.ensures.value) c.in-Some.ensures.within c.entry.ensures refl c.rests.invariant.same
+    c.requires.kept c.rests.invariant.state c.index-chain.ensures c.in-Some.ensures.next c.in-Some.ensures.within c.entry.ensures refl c.rests.invariant.same
 
 pub rests-preserved : goal.rests-preserved
 rests-preserved g c = record {
   same = c.rests.invariant.same
-      ∙ past_chain c.args.chains.now.slots c.args.order.now.items c.args.packet.now.values c.rests.at c.rests.stack.items c.index-chain.result.now c.requires.kept c.rests.invariant.state c.index-chain.ensures (c.in-None.ensures.next ∙ ap (λ vs. next_match (matches vs) (rules_in c.index-chain.result.now) c.rests.at.passed) c.numbers.ensures.value)
+      ∙ past_chain c.args.chains.now.slots c.args.order.now.items c.args.packet.now.values c.rests.at c.rests.stack.items c.index-chain.result.now c.requires.kept c.rests.invariant.state c.index-chain.ensures c.in-None.ensures.next
       ∙ ap (λ (rs : List Rest). first_hit (listed c.args.chains.now.slots c.args.order.now.items) c.args.packet.now.values rs)
       (rests_pop c.args.chains.now.slots c.rests.stack.items c.pop.new.self.items c.in-Some-pop.rest c.in-Some-pop.ensures.items);
   state = state_pop c.args.order.now.items c.rests.at c.in-Some-pop.rest c.rests.stack.items c.pop.new.self.items c.in-Some-pop.ensures.items c.rests.invariant.state;
@@ -27,6 +27,6 @@ rests-preserved g c = record {
 pub returns-in-None-pop-clause-none : goal.returns-in-None-pop-clause-none
 returns-in-None-pop-clause-none g c =
     c.rests.invariant.same
-    ∙ past_chain c.args.chains.now.slots c.args.order.now.items c.args.packet.now.values c.rests.at c.rests.stack.items c.index-chain.result.now c.requires.kept c.rests.invariant.state c.index-chain.ensures (c.in-None.ensures.next ∙ ap (λ vs. next_match (matches vs) (rules_in c.index-chain.result.now) c.rests.at.passed) c.numbers.ensures.value)
+    ∙ past_chain c.args.chains.now.slots c.args.order.now.items c.args.packet.now.values c.rests.at c.rests.stack.items c.index-chain.result.now c.requires.kept c.rests.invariant.state c.index-chain.ensures c.in-None.ensures.next
     ∙ ap (λ (xs : List Pending). first_hit (listed c.args.chains.now.slots c.args.order.now.items) c.args.packet.now.values (rests_of c.args.chains.now.slots xs))
     (none_left c.rests.stack.items c.in-None-pop.ensures.variant.1)

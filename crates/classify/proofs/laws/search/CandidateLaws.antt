@@ -1,0 +1,100 @@
+-- What the rows of a point have in common: the answers of the boxes, and the search among them.
+use Rattle.std.proofs.Common.{◌≡◌, inl, inr, ℕ, ◌+◌, ◌*◌, ◌^◌, ◌<◌, ◌≤◌, Bool, true, false, List, [], length, get_or, map, refl, sym, ◌∙◌, ap, arith, lit<, Option, Some, None, Bor}
+use Rattle.std.proofs.lemmas.Bool.{cases_lt, true≢false}
+use Rattle.std.proofs.lemmas.List.{get_or-take, get_or-map, length-map, same_lists}
+use Rattle.std.proofs.lemmas.List.FromFn.{get_or-map-range_with_len, length-map-range_with_len}
+use Rattle.std.proofs.lemmas.List.Sums.{AllPass-from_list_all, list_all-from_AllPass}
+use Rattle.fields.specs.declared.numbers.field.TheConstants.{FIELDS}
+use Rattle.fields.specs.numbers.Spans.{SpanSet}
+use Rattle.bits.specs.steps.First.{IsFirst}
+use Rattle.bits.specs.steps.Packing.{all_bits}
+use Rattle.classify.specs.classifier.Classifier.{Classified, IsClassifierOf, IsPoint, box_matches}
+use Rattle.classify.specs.search.NextMatch.{next_match}
+use Rattle.classify.specs.steps.CommonPlaces.{AreRowsAt, AreWide, HaveAll, all_have, common_bits}
+use Rattle.classify.specs.steps.Summaries.{AreCandidates, SumUpAll, SumUpPoint}
+use Rattle.classify.proofs.laws.search.NextLaws.{have_to_allow, next_from_first, none_past}
+
+abbrev Rows : Type 0
+Rows = List (Bor (List ℕ))
+
+abbrev none : Bor (List ℕ)
+none = record { ref_ptr = (0, 0); now = [] }
+
+some : 0 < FIELDS
+some = lit< tt
+
+have_all : (rows : Rows) (p : ℕ) → all_have rows p ≡ true → HaveAll rows p
+have_all rows p = AllPass-from_list_all (λ (row : Bor (List ℕ)). get_or (all_bits row.now) p false) rows
+
+all_have-true : (rows : Rows) (p : ℕ) → HaveAll rows p → all_have rows p ≡ true
+all_have-true rows p = list_all-from_AllPass (λ (row : Bor (List ℕ)). get_or (all_bits row.now) p false) rows
+
+common_long : (len : ℕ) (rows : Rows) → length (common_bits len rows) ≡ len
+common_long len rows = length-map-range_with_len (all_have rows) 0 len
+
+common_at : (len p : ℕ) (rows : Rows) (d : Bool) → p < len → get_or (common_bits len rows) p d ≡ all_have rows p
+common_at len p rows d lt = get_or-map-range_with_len (all_have rows) 0 len p p d lt (omega arith)
+
+-- ---- the rows of a point
+
+pub rows_are_candidates : (c : Classified) (point : List ℕ) (rows : Rows) (summary : ℕ) → AreRowsAt c point rows FIELDS → SumUpPoint c point summary FIELDS → AreCandidates c.len summary rows
+rows_are_candidates c point rows summary h sum = record {
+  long = h.long;
+  packed = λ k d lt. (h.are k d (omega (arith, h.long, lt))).packed;
+  summed = λ p within every. sum p (λ j below.
+      sym (ap (λ (bs : List Bool). get_or bs p false) (h.are j none below).bits) ∙ get_or-take c.len (all_bits (get_or rows j none).now) p false within ∙ every j none (omega (arith, h.long, below)));
+}
+
+same_truth : (a b : Bool) → (a ≡ true → b ≡ true) → (b ≡ true → a ≡ true) → a ≡ b
+same_truth true b there back = sym (there refl)
+same_truth false true there back = absurd (true≢false (sym (back refl)))
+same_truth false false there back = refl
+
+pub common_answers : (c : Classified) (boxes : List (List SpanSet)) (point : List ℕ) (rows : Rows) → IsClassifierOf boxes c → IsPoint point → AreRowsAt c point rows FIELDS → common_bits c.len rows ≡ map (box_matches point) boxes
+common_answers c boxes point rows h within rs =
+    same_lists (common_bits c.len rows) (map (box_matches point) boxes) (common_long c.len rows ∙ h.len ∙ sym (length-map boxes (box_matches point))) (λ k d lt.
+    let in' : k < c.len = omega (arith, lt, common_long c.len rows) in
+    let boxed : k < length boxes = omega (arith, in', h.len) in
+    let both = have_to_allow c boxes point rows k [] h within rs.long rs.are boxed in
+    common_at c.len k rows d in'
+    ∙ same_truth (all_have rows k) (box_matches point (get_or boxes k [])) (λ e. both.0 (have_all rows k e)) (λ e. all_have-true rows k (both.1 e))
+    ∙ sym (get_or-map (box_matches point) boxes k [] d boxed))
+
+-- ---- the search among them
+
+module _ (len summary words : ℕ) (rows : Rows) (h : AreCandidates len summary rows) (covers : len ≤ 64 * words) (tight : 64 * words < len + 64) where
+  pub are_wide : AreWide words rows
+  are_wide k d lt = let row = h.packed k d lt in omega (arith, row.covers, row.tight, covers, tight)
+
+  first_row : 0 < length rows
+  first_row = omega (arith, h.long, some)
+
+  pub are_few : words < 2 ^ 58
+  are_few = let row = h.packed 0 none first_row in let wide = are_wide 0 none first_row in omega (arith, row.few, wide)
+
+  -- no row has a bit past the boxes
+  in_bounds : (p : ℕ) → p < 64 * words → HaveAll rows p → p < len
+  in_bounds p lt every =
+      elim (cases_lt p len) [
+        | inl in' ↦ in'
+        | inr le ↦ (
+            let wide = are_wide 0 none first_row in
+            absurd (true≢false (sym (every 0 none first_row) ∙ none_past (get_or rows 0 none).now len p (h.packed 0 none first_row) le (omega (arith, lt, wide)))))
+      ]
+
+  pub are_summed : SumUpAll summary words rows
+  are_summed p lt every = h.summed p (in_bounds p lt every) every
+
+  pub next_of_common : (from : ℕ) (r : Option ℕ) → IsFirst (HaveAll rows) from (64 * words) r → r ≡ next_match (λ bit. bit) (common_bits len rows) from
+  next_of_common from None first =
+      next_from_first (λ (bit : Bool). bit) (common_bits len rows) from false None (λ k ge lt passes.
+      let in' : k < len = omega (arith, lt, common_long len rows) in
+      first k ge (omega (arith, in', covers)) (have_all rows k (sym (common_at len k rows false in') ∙ passes)))
+  next_of_common from (Some m) first =
+      let in' : m < len = in_bounds m first.1 first.2 in
+      next_from_first (λ (bit : Bool). bit) (common_bits len rows) from false (Some m) (
+        first.0,
+        omega (arith, in', common_long len rows),
+        common_at len m rows false in' ∙ all_have-true rows m first.2,
+        λ k ge lt passes. first.3 k ge lt (have_all rows k (sym (common_at len k rows false (omega (arith, lt, in'))) ∙ passes)),
+      )

@@ -1,0 +1,55 @@
+//! The boxes that allow a point, as the rows of its fields have them in common.
+
+ghost use Rattle.std.specs.Prelude.{◌≡◌};
+ghost use Rattle.classify.specs.search.NextMatch.{next_match};
+ghost use Rattle.classify.specs.steps.CommonPlaces.{common_bits};
+ghost use Rattle.classify.specs.steps.Summaries.{AreCandidates};
+
+use crate::search;
+use fields::FIELDS;
+use std::marker::Model;
+
+/// Whether each box allows a point, at the box's place. The rows of the point are lent.
+#[derive(Drop)]
+pub struct Candidates<'a> {
+    len: usize,
+    words: [&'a [u64]; FIELDS],
+    summary: u64,
+}
+
+impl<'a> Model for Candidates<'a> {
+    ghost use Rattle.std.specs.Prelude.{Bool, List};
+    ghost use Rattle.classify.specs.steps.CommonPlaces.{common_bits};
+    ghost use Rattle.classify.specs.steps.Summaries.{AreCandidates};
+
+    ghost Value = { List Bool };
+
+    ghost view = { λ c. common_bits c.len c.words };
+
+    ghost invariant = { λ c. AreCandidates c.len c.summary c.words };
+}
+
+impl<'a> Candidates<'a> {
+    // What the rows of the fields, of so many bits each, have in common.
+    pub(crate) fn of(len: usize, words: [&'a [u64]; FIELDS], summary: u64) -> Candidates<'a>
+        requires { AreCandidates len summary words }
+        ensures { result ≡ common_bits len words.entry }
+    {
+        Candidates {
+            len,
+            words,
+            summary,
+        }
+    }
+
+    /// The least place, at or after `from`, of a box that allows the point; there may be none.
+    ///
+    /// It takes no memory. It costs a word of each row where all rows may have a box: a row has a summary of 64 bits, one for
+    /// two words, which says which words to pass over. Up to 8,192 boxes no two pairs of words share a bit. So to go through
+    /// all boxes that allow the point costs the words of the rows, and a look for each box found.
+    pub fn next(&self, from: usize) -> Option<usize>
+        ensures { result ≡ next_match (λ bit. bit) self.now from }
+    {
+        search::first_common(&self.words, self.summary, self.len.div_ceil(64), from)
+    }
+}

@@ -1,0 +1,54 @@
+// What a rule asks of several fields at once.
+ghost use Rattle.std.specs.Prelude.{◌≡◌};
+ghost use Rattle.std.specs.List.{list_all};
+ghost use Rattle.rules.specs.rule.Crossing.{cross, has_either_port, setting_crosses, match_crosses};
+ghost use Rattle.rules.specs.steps.Views.{view_match};
+
+use crate::options::setting::Setting;
+use crate::options::value::Value;
+use crate::rule::Rule;
+use crate::rule::content::Match;
+use fields::{Field, Packet, PortList};
+
+// Whether the source port of the packet is listed, or its destination port.
+fn has_either_port(list: &PortList, packet: &Packet) -> bool
+    ensures { result ≡ has_either_port list.now packet.now.values }
+{
+    list.holds(packet.point(Field::SourcePort) as u16)
+        || list.holds(packet.point(Field::DestinationPort) as u16)
+}
+
+impl Setting {
+    // Whether the option holds of the packet, where it asks several fields at once.
+    fn crosses(&self, packet: &Packet) -> bool
+        ensures { result ≡ setting_crosses packet.now.values self.now }
+    {
+        match &self.value {
+            Value::Ports(list) => has_either_port(list, packet) != self.inverted,
+            _ => true,
+        }
+    }
+}
+
+// Whether all such options of the match do.
+fn match_crosses(one: &Match, packet: &Packet) -> bool
+    ensures { result ≡ match_crosses packet.now.values (view_match one.now) }
+{
+    one.settings.iter().all(|setting| setting.crosses(packet))
+}
+
+// Whether all such options of the matches do.
+fn matches_cross(matches: &[Match], packet: &Packet) -> bool
+    ensures { result ≡ list_all (λ m. match_crosses packet.now.values (view_match m)) matches.now }
+{
+    matches.iter().all(|one| match_crosses(one, packet))
+}
+
+/// Whether the conditions of a rule that ask several fields at once hold of the packet: each `--ports` of its matches.
+/// Together with what the rule allows on each field they make up what it matches. It takes no memory, and time linear in
+/// the options of the rule's matches.
+pub fn cross(rule: &Rule, packet: &Packet) -> bool
+    ensures { result ≡ cross packet.now.values rule.now }
+{
+    matches_cross(rule.content().matches.as_slice(), packet)
+}
