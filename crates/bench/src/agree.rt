@@ -3,9 +3,9 @@
 use crate::asked::Asked;
 use crate::edits::{self, Spot};
 use crate::kinds::Kind;
-use crate::load;
 use crate::script::Script;
 use crate::subject::Subject;
+use crate::{load, pairs};
 use anyhow::Result;
 use classify::Classifier;
 use rules::Boxed;
@@ -233,5 +233,7 @@ pub(crate) fn run<R: Print + AllocGlobal>(rt: &R) -> Result<()> {
     for kind in Kind::ALL {
         run_kind(rt, kind)?;
     }
-    run_planted(rt)
+    pairs::agree(rt)?;
+    run_planted(rt)?;
+    pairs::plant(rt)
 }

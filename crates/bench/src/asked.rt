@@ -4,7 +4,7 @@ use crate::questions::Question;
 use crate::walk;
 use anyhow::Result;
 use classify::Classifier;
-use rules::Boxed;
+use rules::{Boxed, Rule};
 use std::rt::Clock;
 use std::time::Instant;
 use table::Table;
@@ -16,6 +16,8 @@ pub(crate) enum Asked<'a> {
     Classifier(&'a Classifier),
     /// The plain walk over the boxes of the rules, for the place.
     Walk(&'a [Boxed]),
+    /// The plain walk over the boxes and the rules, of which what each asks of both ports is asked too, for the place.
+    Rules(&'a [Boxed], &'a [Rule]),
     /// The table, for the verdict.
     Table(&'a Table),
 }
@@ -27,6 +29,9 @@ impl Asked<'_> {
         match self {
             Asked::Classifier(classifier) => classifier.next(point, 0) == question.place,
             Asked::Walk(boxes) => walk::first(boxes, point) == question.place,
+            Asked::Rules(boxes, rules) => {
+                walk::first_match(boxes, rules, &question.packet) == question.place
+            }
             Asked::Table(table) => table.verdict(&question.packet) == question.target.verdict(),
         }
     }

@@ -118,6 +118,8 @@ pub(crate) enum Transport {
     Between(Carrier, Ports, Ports),
     /// TCP, and one of five destination ports.
     Among([u16; 5]),
+    /// TCP, and one of two ports as the source port or as the destination port.
+    Either(u16, u16),
     /// An ICMP echo request.
     Ping,
 }
@@ -150,6 +152,9 @@ impl Transport {
                 put_between(text, carrier, source, destination)
             }
             Transport::Among(ports) => put_among(text, ports),
+            Transport::Either(one, other) => {
+                write!(text, "-p tcp -m multiport --ports {one},{other} ")
+            }
             Transport::Ping => text.push_str("-p icmp -m icmp --icmp-type 8 "),
         }
     }

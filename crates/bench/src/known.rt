@@ -28,7 +28,7 @@ pub(crate) const WALKED: usize = 20_000_000;
 
 /// Which rule allows the packets.
 #[derive(Clone, Copy)]
-enum Match {
+pub(crate) enum Match {
     First,
     Last,
     None,
@@ -36,9 +36,9 @@ enum Match {
 }
 
 impl Match {
-    const ALL: [Match; 4] = [Match::First, Match::Last, Match::None, Match::EachInTurn];
+    pub(crate) const ALL: [Match; 4] = [Match::First, Match::Last, Match::None, Match::EachInTurn];
 
-    fn name(self) -> &'static str {
+    pub(crate) fn name(self) -> &'static str {
         match self {
             Match::First => "first",
             Match::Last => "last",
@@ -48,7 +48,7 @@ impl Match {
     }
 
     /// In a round, the place of the rule, of so many, whose packet is asked about.
-    fn place(self, count: usize, round: usize) -> usize {
+    pub(crate) fn place(self, count: usize, round: usize) -> usize {
         match self {
             Match::First | Match::None => 0,
             Match::Last => count.saturating_sub(1),
@@ -57,7 +57,7 @@ impl Match {
     }
 
     /// Whether a rule allows the packets.
-    fn is_allowed(self) -> bool {
+    pub(crate) fn is_allowed(self) -> bool {
         !matches!(self, Match::None)
     }
 }

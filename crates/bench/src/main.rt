@@ -18,6 +18,7 @@ mod known;
 mod load;
 mod measure;
 mod memory;
+mod pairs;
 mod probe;
 mod questions;
 mod script;

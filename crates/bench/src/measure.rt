@@ -6,7 +6,7 @@ use crate::kinds::Kind;
 use crate::questions::Question;
 use crate::script::Script;
 use crate::subject::Subject;
-use crate::{edits, known, load, memory};
+use crate::{edits, known, load, memory, pairs};
 use anyhow::Result;
 use classify::Classifier;
 use rules::{Boxed, Rule};
@@ -226,5 +226,6 @@ pub(crate) fn run<R: Print + Clock + AllocGlobal>(rt: &R, count: usize, front: b
     if front || count <= FRONT_RULES {
         known::run_front(rt, count)?;
     }
-    known::run(rt, count)
+    known::run(rt, count)?;
+    pairs::run(rt, count)
 }

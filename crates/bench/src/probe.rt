@@ -57,6 +57,16 @@ impl Payload {
         Payload::Between(Carrier::Tcp, source, port)
     }
 
+    /// A TCP packet from the one port or, as often, to the other. Its second port is one from 40,000 on.
+    fn either(draw: &mut Draw, one: u16, other: u16) -> Payload {
+        let second = Ports::from(40000, u16::MAX).port(draw);
+        if draw.happens(50) {
+            Payload::Between(Carrier::Tcp, one, second)
+        } else {
+            Payload::Between(Carrier::Tcp, second, other)
+        }
+    }
+
     /// What a rule allows.
     fn allowed(draw: &mut Draw, asked: Transport) -> Payload {
         match asked {
@@ -71,6 +81,7 @@ impl Payload {
                 let port = draw.one_of(&ports).unwrap_or(0);
                 Payload::to(draw, port)
             }
+            Transport::Either(one, other) => Payload::either(draw, one, other),
             Transport::Ping => Payload::Ping,
         }
     }

@@ -38,7 +38,12 @@ fn target_at(rules: &[Draft], place: Option<usize>) -> Target {
 
 impl Question {
     /// A packet that the rule at a place is the first to allow, or none is.
-    fn at(alloc: Global, rules: &[Draft], probe: Probe, place: Option<usize>) -> Result<Question> {
+    pub(crate) fn at(
+        alloc: Global,
+        rules: &[Draft],
+        probe: Probe,
+        place: Option<usize>,
+    ) -> Result<Question> {
         let line = probe.line(alloc)?;
         let packet = read_packet(alloc, line.as_str())?;
         let target = target_at(rules, place);

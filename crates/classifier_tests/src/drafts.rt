@@ -8,7 +8,7 @@ use std::fmt::Write;
 use std::net::Ipv4Addr;
 
 // How many fields the rules ask.
-pub(crate) const ASKED_COUNT: usize = 7;
+pub(crate) const ASKED_COUNT: usize = 8;
 
 // The fields that the rules ask.
 pub(crate) const ASKED: [Field; ASKED_COUNT] = [
@@ -19,6 +19,7 @@ pub(crate) const ASKED: [Field; ASKED_COUNT] = [
     Field::TcpFlags,
     Field::IcmpType,
     Field::ConnectionState,
+    Field::TimeToLive,
 ];
 
 // How many numbers of a field are tried: all, or all up to the last at which a rule's answer changes.
@@ -29,7 +30,8 @@ pub(crate) fn numbers(field: Field) -> u64
         Field::Source => 420,
         Field::DestinationPort => 70,
         Field::IcmpType => 1100,
-        Field::Protocol | Field::Fragment | Field::TcpFlags | Field::ConnectionState => 255,
+        Field::Protocol | Field::Fragment | Field::TcpFlags => 255,
+        Field::ConnectionState | Field::TimeToLive => 255,
         _ => 0,
     };
     (field.top().min(u128::from(last)) as u64).saturating_add(1)
@@ -38,6 +40,15 @@ pub(crate) fn numbers(field: Field) -> u64
 const FLAGS: [&str; 6] = ["FIN", "SYN", "RST", "PSH", "ACK", "URG"];
 
 const STATES: [&str; 5] = ["INVALID", "UNTRACKED", "NEW", "RELATED", "ESTABLISHED"];
+
+// Which times to live are meant: one, all others, those above it, or those below it.
+#[derive(Clone, Copy)]
+pub(crate) enum Lives {
+    Same(u8),
+    Others(u8),
+    Greater(u8),
+    Smaller(u8),
+}
 
 // What a rule says.
 #[derive(Clone, Copy)]
@@ -56,6 +67,8 @@ pub(crate) struct Draft {
     pub(crate) icmp: Option<(u8, Option<u8>)>,
     // One bit for each state, and whether these are meant or all others.
     pub(crate) states: Option<(u8, bool)>,
+    // Times to live.
+    pub(crate) lives: Option<Lives>,
 }
 
 impl Draft {
@@ -68,6 +81,7 @@ impl Draft {
         flags: None,
         icmp: None,
         states: None,
+        lives: None,
     };
 }
 
@@ -161,6 +175,17 @@ fn write_states(text: &mut String, draft: &Draft) -> Result<(), AllocError> {
     Ok(())
 }
 
+// Writes what a rule asks of the time to live.
+fn write_lives(text: &mut String, draft: &Draft) -> Result<(), AllocError> {
+    match draft.lives {
+        Some(Lives::Same(number)) => write!(text, " -m ttl --ttl-eq {number}"),
+        Some(Lives::Others(number)) => write!(text, " -m ttl ! --ttl-eq {number}"),
+        Some(Lives::Greater(number)) => write!(text, " -m ttl --ttl-gt {number}"),
+        Some(Lives::Smaller(number)) => write!(text, " -m ttl --ttl-lt {number}"),
+        None => Ok(()),
+    }
+}
+
 // The rule's text.
 pub(crate) fn text_of(alloc: Global, draft: &Draft) -> Result<String, AllocError> {
     let mut text = String::new(alloc);
@@ -168,6 +193,7 @@ pub(crate) fn text_of(alloc: Global, draft: &Draft) -> Result<String, AllocError
     write_transport(&mut text, draft)?;
     write_source(&mut text, draft)?;
     write_states(&mut text, draft)?;
+    write_lives(&mut text, draft)?;
     text.push_str(" -j DROP")?;
     Ok(text)
 }
@@ -198,6 +224,7 @@ pub(crate) fn asks(draft: &Draft, field: Field) -> bool {
         Field::TcpFlags => draft.flags.is_some(),
         Field::IcmpType => draft.icmp.is_some(),
         Field::ConnectionState => draft.states.is_some(),
+        Field::TimeToLive => draft.lives.is_some(),
         _ => false,
     }
 }
@@ -232,6 +259,13 @@ pub(crate) fn allows(draft: &Draft, field: Field, x: u64) -> bool {
         },
         Field::ConnectionState => match draft.states {
             Some((states, meant)) => (states & state_bit(x) != 0) == meant,
+            None => true,
+        },
+        Field::TimeToLive => match draft.lives {
+            Some(Lives::Same(number)) => x == u64::from(number),
+            Some(Lives::Others(number)) => x != u64::from(number),
+            Some(Lives::Greater(number)) => u64::from(number) < x,
+            Some(Lives::Smaller(number)) => x < u64::from(number),
             None => true,
         },
         _ => true,

@@ -1,7 +1,7 @@
 //! Rules and numbers drawn by lot.
 
 use crate::dice::Dice;
-use crate::drafts::{ASKED, ASKED_COUNT, Draft, allows, asks, numbers};
+use crate::drafts::{ASKED, ASKED_COUNT, Draft, Lives, allows, asks, numbers};
 use fields::Field;
 
 // A kind of rules that are drawn.
@@ -50,6 +50,21 @@ fn some_addresses(dice: &mut Dice) -> (u16, u16) {
     (first, first + dice.below(3) as u16)
 }
 
+// Some times to live: often up to the least or the greatest.
+fn some_lives(dice: &mut Dice) -> Lives {
+    let number = match dice.below(6) {
+        0 => 0,
+        1 => 255,
+        _ => dice.below(256) as u8,
+    };
+    match dice.below(4) {
+        0 => Lives::Same(number),
+        1 => Lives::Others(number),
+        2 => Lives::Greater(number),
+        _ => Lives::Smaller(number),
+    }
+}
+
 // A protocol or fragments, or neither.
 fn plain_protocol(dice: &mut Dice) -> Draft {
     let mut draft = Draft::WHOLE;
@@ -96,6 +111,9 @@ fn mixed(dice: &mut Dice) -> Draft {
     if dice.flip() {
         let (first, last) = some_addresses(dice);
         draft.source = Some((first, last, dice.flip()));
+    }
+    if dice.flip() {
+        draft.lives = Some(some_lives(dice));
     }
     draft
 }

@@ -202,3 +202,41 @@ fn lines_of_one_match(rt: HostRuntime) -> Result<(), Fail> {
     expect_rule(&rt, alloc, text, &[icmp, FIRST, ping])?;
     Ok(())
 }
+
+#[test]
+fn lines_of_both_ports(rt: HostRuntime) -> Result<(), Fail> {
+    let alloc = rt.alloc();
+    let text = "-p tcp -m multiport --ports 22,80:90 -j DROP";
+    expect_rule(&rt, alloc, text, &[TCP, FIRST])?;
+    let text = "-p tcp -m multiport ! --ports 22 -j DROP";
+    expect_rule(&rt, alloc, text, &[TCP, FIRST])?;
+    let port = (Field::DestinationPort, " 0:{1} 80:{} 81:{1}");
+    let text = "-p tcp -m multiport --ports 22 ! --dport 80 -j DROP";
+    expect_rule(&rt, alloc, text, &[TCP, FIRST, port])
+}
+
+// Each rule, and the line of times to live.
+const LIVES: &[(&str, &str)] = &[
+    ("-m ttl --ttl-lt 5 -j DROP", " 0:{1} 5:{}"),
+    ("-m ttl --ttl-lt 0", " 0:{}"),
+    ("-m ttl --ttl-lt 255", " 0:{1} 255:{}"),
+    ("-m ttl --ttl-gt 254 -j DROP", " 0:{} 255:{1}"),
+    ("-m ttl --ttl-gt 255 -j DROP", " 0:{}"),
+    ("-m ttl --ttl-gt 0", " 0:{} 1:{1}"),
+    ("-m ttl --ttl-eq 0", " 0:{1} 1:{}"),
+    ("-m ttl --ttl-eq 64", " 0:{} 64:{1} 65:{}"),
+    ("-m ttl --ttl-eq 255", " 0:{} 255:{1}"),
+    ("-m ttl ! --ttl-eq 0", " 0:{} 1:{1}"),
+    ("-m ttl ! --ttl-eq 64 -j DROP", " 0:{1} 64:{} 65:{1}"),
+    ("-m ttl ! --ttl-eq 255", " 0:{1} 255:{}"),
+    ("-m ttl --ttl-gt 4 -m ttl --ttl-lt 9", " 0:{} 5:{1} 9:{}"),
+    ("-m ttl --ttl-gt 9 -m ttl --ttl-lt 4", " 0:{}"),
+];
+
+#[test]
+fn lines_of_times_to_live(rt: HostRuntime) -> Result<(), Fail> {
+    for (text, line) in LIVES {
+        expect_rule(&rt, rt.alloc(), text, &[(Field::TimeToLive, *line)])?;
+    }
+    Ok(())
+}

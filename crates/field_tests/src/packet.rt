@@ -1,3 +1,4 @@
 mod hook;
 mod keys;
 mod reading;
+mod time_to_live;

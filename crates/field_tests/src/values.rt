@@ -13,6 +13,7 @@ mod prefix;
 mod protocol;
 mod reject;
 mod tcp_flags;
+mod ttl;
 
 use fields::{Spans, Tap};
 use std::alloc::{AllocError, Global};

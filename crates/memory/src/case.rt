@@ -14,6 +14,7 @@ pub enum Case {
     Protocol,
     PortRange,
     PortList,
+    Ttl,
     TcpFlags,
     FlagTest,
     States,
@@ -31,6 +32,7 @@ pub enum Case {
     Renaming,
     RulesCompared,
     RuleWritten,
+    Cross,
     Box,
     BitRow,
     Next,
@@ -59,7 +61,7 @@ pub enum Case {
 
 impl Case {
     /// All cases.
-    pub const ALL: [Case; 49] = [
+    pub const ALL: [Case; 51] = [
         Case::Numbers,
         Case::Names,
         Case::Prefix,
@@ -68,6 +70,7 @@ impl Case {
         Case::Protocol,
         Case::PortRange,
         Case::PortList,
+        Case::Ttl,
         Case::TcpFlags,
         Case::FlagTest,
         Case::States,
@@ -85,6 +88,7 @@ impl Case {
         Case::Renaming,
         Case::RulesCompared,
         Case::RuleWritten,
+        Case::Cross,
         Case::Box,
         Case::BitRow,
         Case::Next,
@@ -122,6 +126,7 @@ impl Case {
             Case::Protocol => "protocol",
             Case::PortRange => "port-range",
             Case::PortList => "port-list",
+            Case::Ttl => "ttl",
             Case::TcpFlags => "tcp-flags",
             Case::FlagTest => "flag-test",
             Case::States => "states",
@@ -139,6 +144,7 @@ impl Case {
             Case::Renaming => "renaming",
             Case::RulesCompared => "rules-compared",
             Case::RuleWritten => "rule-written",
+            Case::Cross => "cross",
             Case::Box => "box",
             Case::BitRow => "bit-row",
             Case::Next => "next",
@@ -177,6 +183,7 @@ impl Case {
             Case::Protocol => values::protocol(times),
             Case::PortRange => values::port_range(times),
             Case::PortList => values::port_list(times),
+            Case::Ttl => values::ttl(times),
             Case::TcpFlags => values::tcp_flags(times),
             Case::FlagTest => values::flag_test(times),
             Case::States => values::states(times),
@@ -194,6 +201,7 @@ impl Case {
             Case::Renaming => rulings::renaming(alloc, times),
             Case::RulesCompared => rulings::compared(alloc, times),
             Case::RuleWritten => rulings::written(alloc, times),
+            Case::Cross => rulings::crossing(alloc, times),
             Case::Box => rulings::boxed(alloc, times),
             Case::BitRow => classifiers::bit_row(alloc, times),
             Case::Next => classifiers::next(alloc, times),

@@ -40,7 +40,7 @@ fn boxes_of(alloc: Global, line: &[u8]) -> Result<Vec<Boxed>, Trouble> {
 fn point() -> [u128; FIELDS]
     ensures { IsPoint result }
 {
-    [167_772_161, 1, 0, 0, 6, 0, 7, 22, 0, 0, 0]
+    [167_772_161, 1, 0, 0, 6, 0, 7, 22, 0, 0, 0, 64]
 }
 
 /// How many pieces a line has.

@@ -34,6 +34,7 @@ fn is_forwarded(packet: &Packet) -> bool {
         && packet.numbers()[7] == 22
         && packet.point(Field::DestinationPort) == 22
         && packet.point(Field::TcpFlags) == 18
+        && packet.point(Field::TimeToLive) == 7
 }
 
 /// Whether words are such a packet.
@@ -56,7 +57,7 @@ fn is_refused(words: &Words) -> bool {
 pub fn packet(alloc: Global, times: u32) -> Result<(), Trouble> {
     let line =
         b"FORWARD src=10.0.0.1 dst=10.0.0.2 proto=tcp in=eth0 out=lo frag=0 sport=7 dport=22 \
-        flags=SYN,ACK ct=new,SNAT";
+        flags=SYN,ACK ct=new,SNAT ttl=7";
     let words = words_of(alloc, line)?;
     let bad = words_of(alloc, b"INPUT src=10.0.0.1 dst=10.0.0.2 proto=icmp")?;
     for _ in 0..times {

@@ -2,8 +2,8 @@
 use crate::compared::expecting;
 use crate::lent::words_of;
 use crate::trouble::{Trouble, expect, is_text};
-use fields::{FIELDS, Field, Name, RejectType, Tap};
-use rules::{Boxed, Rule, RuleFault, Target, Work, read_rule, write_rule};
+use fields::{FIELDS, Field, Name, Packet, RejectType, Tap};
+use rules::{Boxed, Rule, RuleFault, Target, Work, cross, read_rule, write_rule};
 use std::alloc::Global;
 
 /// The rule that a line writes.
@@ -13,6 +13,14 @@ pub fn rule_of(alloc: Global, line: &[u8]) -> Result<Rule, Trouble> {
         Ok(rule) => Ok(rule),
         Err(RuleFault::NoMemory) => Err(Trouble::NoMemory),
         Err(RuleFault::Refused(_)) => Err(Trouble::OtherAnswer),
+    }
+}
+
+/// The packet that a line describes.
+pub fn packet_of(alloc: Global, line: &[u8]) -> Result<Packet, Trouble> {
+    match Packet::read(&words_of(alloc, line)?, 0) {
+        Ok(packet) => Ok(packet),
+        Err(_) => Err(Trouble::OtherAnswer),
     }
 }
 
@@ -101,6 +109,32 @@ pub fn written(alloc: Global, times: u32) -> Result<(), Trouble> {
     for _ in 0..times {
         let mut output = Tap::new(expecting(text));
         expect(write_rule(&rule, &mut output).is_ok() && output.into_device().is_whole())?;
+    }
+    Ok(())
+}
+
+/// Whether what a rule asks of both ports holds of one packet, and fails of another.
+fn tells(rule: &Rule, one: &Packet, other: &Packet) -> bool {
+    cross(rule, one) && !cross(rule, other)
+}
+
+/// `cross`.
+pub fn crossing(alloc: Global, times: u32) -> Result<(), Trouble> {
+    let rule = rule_of(
+        alloc,
+        b"-p tcp -m multiport --ports 22 -m multiport ! --ports 80 -m multiport --ports 1:1023",
+    )?;
+    let without = rule_of(alloc, b"-m ttl --ttl-eq 1")?;
+    let one = packet_of(
+        alloc,
+        b"INPUT src=10.0.0.1 dst=10.0.0.2 proto=tcp sport=22 dport=1000",
+    )?;
+    let other = packet_of(
+        alloc,
+        b"INPUT src=10.0.0.1 dst=10.0.0.2 proto=tcp sport=22 dport=80",
+    )?;
+    for _ in 0..times {
+        expect(tells(&rule, &one, &other) && cross(&without, &other))?;
     }
     Ok(())
 }

@@ -1,6 +1,5 @@
 //! Tables: edits that take no memory, and the walk of a packet.
-use crate::lent::words_of;
-use crate::rulings::rule_of;
+use crate::rulings::{packet_of, rule_of};
 use crate::trouble::{Trouble, expect, is_text};
 use fields::{Field, Packet};
 use rules::{Rule, Work};
@@ -182,20 +181,23 @@ pub fn set_policy(alloc: Global, times: u32) -> Result<(), Trouble> {
     Ok(())
 }
 
-/// The packet that a line describes.
-fn packet_of(alloc: Global, line: &[u8]) -> Result<Packet, Trouble> {
-    match Packet::read(&words_of(alloc, line)?, 0) {
-        Ok(packet) => Ok(packet),
-        Err(_) => Err(Trouble::OtherAnswer),
-    }
-}
+/// A rule that allows each number of the walked packet on its field, and doesn't match it.
+const FAILS: &[u8] = b"-p tcp -m multiport --ports 80,90 -j ACCEPT";
 
-/// The rules of a walk that jumps, goes and returns: their chains and lines.
+/// The rules of a walk that jumps, goes and returns: their chains and lines. Before each rule that matches there is one
+/// that fails, and in the chain that the walk goes to there is one after it.
 const WALKED: &[(&[u8], &[u8])] = &[
+    (b"INPUT", FAILS),
     (b"INPUT", RULE),
+    (b"INPUT", FAILS),
     (b"INPUT", b"-p tcp -j DROP"),
+    (b"a", FAILS),
     (b"a", b"-g b"),
+    (b"b", FAILS),
+    (b"b", b"-p tcp -m multiport ! --ports 22 -j ACCEPT"),
+    (b"b", b"-m ttl --ttl-lt 64 -j ACCEPT"),
     (b"b", b"-j RETURN"),
+    (b"b", FAILS),
 ];
 
 /// A table with the rules of the walk.
@@ -212,7 +214,7 @@ fn divides(table: &Table, dropped: &Packet, passed: &Packet) -> bool {
     table.verdict(dropped) == Verdict::Drop && table.verdict(passed) == Verdict::Accept
 }
 
-/// `Table::verdict`, of a walk that jumps, goes and returns, and of one that ends at the policy.
+/// `Table::verdict`, of a walk that jumps, goes and returns, over rules that fail, and of one that ends at the policy.
 pub fn verdict(alloc: Global, times: u32) -> Result<(), Trouble> {
     let table = of_walk(alloc)?;
     let first = b"INPUT src=10.0.0.1 dst=10.0.0.2 proto=tcp sport=7 dport=22";

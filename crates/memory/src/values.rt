@@ -3,7 +3,7 @@ use crate::compared::expecting;
 use crate::trouble::{Trouble, expect, is_text};
 use fields::{
     CtSet, Field, FlagTest, Hook, IcmpType, IfPattern, IpRange, LogLevel, Name, PortList,
-    PortRange, Prefix, Protocol, RejectType, Tap, TcpFlags, Text, read_address, read_number,
+    PortRange, Prefix, Protocol, RejectType, Tap, TcpFlags, Text, Ttl, read_address, read_number,
     read_number_to,
 };
 
@@ -87,6 +87,13 @@ pub fn port_list(times: u32) -> Result<(), Trouble> {
     let text = b"9,1:4,22:80,65535,7";
     read_and_write!(times, PortList::read(text), text, value =>
         value.holds(80) && !value.holds(5) && value.copy() == value && value.items().len() == 5);
+    Ok(())
+}
+
+/// `Ttl`.
+pub fn ttl(times: u32) -> Result<(), Trouble> {
+    read_and_write!(times, Ttl::read(b"255"), b"255", value =>
+        value.number() == 255 && Ttl::read(b"256").is_none());
     Ok(())
 }
 

@@ -88,6 +88,21 @@ pub fn of(alloc: Global, refusals: &mut Refusals) -> Result<(), Trouble> {
             b" -m iprange --src-range 10.0.0.9-10.0.0.1 -j DROP",
             &[(Field::Source, &[])],
         ),
+        (
+            b"-p tcp -m multiport ! --ports 5,7:9 -j DROP",
+            b" -p tcp -m multiport ! --ports 5,7:9 -j DROP",
+            &[(Field::Protocol, &[(6, 6)]), (Field::Fragment, &[(0, 0)])],
+        ),
+        (
+            b"-m ttl --ttl-gt 4 -m ttl --ttl-lt 9 -j DROP",
+            b" -m ttl --ttl-gt 4 -m ttl --ttl-lt 9 -j DROP",
+            &[(Field::TimeToLive, &[(5, 8)])],
+        ),
+        (
+            b"-m ttl ! --ttl-eq 64 -j DROP",
+            b" -m ttl ! --ttl-eq 64 -j DROP",
+            &[(Field::TimeToLive, &[(0, 63), (65, 255)])],
+        ),
     ];
     for (line, text, sets) in ROWS {
         expect_box_of(alloc, refusals, line, text, sets)?;

@@ -16,7 +16,8 @@ const NO_RULE: &[u8] = b"src 0:{}\n\
     dport 0:{}\n\
     flags 0:{}\n\
     icmp 0:{}\n\
-    ct 0:{}\n";
+    ct 0:{}\n\
+    ttl 0:{}\n";
 
 /// The lines that make the table with a chain `a` and a rule of INPUT.
 const START: &[&[u8]] = &[b"iptables -N a", b"iptables -A INPUT -s 10.0.0.0/8 -j DROP"];

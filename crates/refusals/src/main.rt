@@ -92,6 +92,7 @@ fn run_of_values<R: Print + AllocGlobal>(rt: &R, refusals: &mut Refusals) {
     tell(rt, "ports", values::ports(alloc, refusals));
     tell(rt, "icmp types", values::icmp_types(alloc, refusals));
     tell(rt, "flags and states", values::flags(alloc, refusals));
+    tell(rt, "times to live", values::lives(alloc, refusals));
 }
 
 /// The cases of rules and their boxes, and of words that write no rule and no command.

@@ -60,6 +60,11 @@ const RULES: &[(&[u8], &[u8])] = &[
         b"-p icmp --icmp-type ping -j REJECT",
         b" -p icmp -m icmp --icmp-type 8 -j REJECT --reject-with icmp-port-unreachable",
     ),
+    (
+        b"-p tcp -m multiport ! --ports 5:5,7:9 -j DROP",
+        b" -p tcp -m multiport ! --ports 5,7:9 -j DROP",
+    ),
+    (b"-m ttl --ttl-lt 5 -j DROP", b" -m ttl --ttl-lt 5 -j DROP"),
 ];
 
 /// Compares a rule's text.

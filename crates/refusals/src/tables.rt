@@ -15,14 +15,14 @@ type State<'a> = (&'a [u8], &'a [usize], Verdict);
 const TO_SSH: &[u8] = b"-p tcp --dport 22 -j ACCEPT";
 
 /// A table of the built-in chains alone.
-const EMPTY: State<'static> = (b"COMMIT\n", &[11, 11, 11], Verdict::Accept);
+const EMPTY: State<'static> = (b"COMMIT\n", &[12, 12, 12], Verdict::Accept);
 
 /// The table before the edits: with a rule of INPUT, a chain `a`, and a rule of a chain `b`.
 const BEFORE: State<'static> = (
     b":a - [0:0]\n:b - [0:0]\n\
     -A INPUT -s 10.0.0.0/8 -j DROP\n\
     -A b -p tcp -m tcp --dport 22 -j a\nCOMMIT\n",
-    &[13, 11, 11, 11, 16],
+    &[14, 12, 12, 12, 17],
     Verdict::Drop,
 );
 
@@ -32,7 +32,7 @@ const WITH_TWO: State<'static> = (
     -A INPUT -s 10.0.0.0/8 -j DROP\n\
     -A a -p tcp -m tcp --dport 22 -j ACCEPT\n\
     -A b -p tcp -m tcp --dport 22 -j a\nCOMMIT\n",
-    &[13, 11, 11, 16, 16],
+    &[14, 12, 12, 17, 17],
     Verdict::Drop,
 );
 
@@ -42,7 +42,7 @@ const WITH_A_JUMP: State<'static> = (
     -A INPUT -j a\n-A INPUT -s 10.0.0.0/8 -j DROP\n\
     -A a -p tcp -m tcp --dport 22 -j ACCEPT\n\
     -A b -p tcp -m tcp --dport 22 -j a\nCOMMIT\n",
-    &[13, 11, 11, 16, 16],
+    &[14, 12, 12, 17, 17],
     Verdict::Accept,
 );
 
@@ -52,7 +52,7 @@ const WITH_THREE: State<'static> = (
     -A INPUT -s 10.0.0.0/8 -j DROP\n-A INPUT -j a\n-A INPUT -s 10.0.0.0/8 -j DROP\n\
     -A a -p tcp -m tcp --dport 22 -j ACCEPT\n\
     -A b -p tcp -m tcp --dport 22 -j a\nCOMMIT\n",
-    &[13, 11, 11, 16, 16],
+    &[14, 12, 12, 17, 17],
     Verdict::Drop,
 );
 
@@ -63,7 +63,7 @@ const WITH_FOUR: State<'static> = (
     -A OUTPUT -o lo -g a\n\
     -A a -p tcp -m tcp --dport 22 -j ACCEPT\n\
     -A b -p tcp -m tcp --dport 22 -j a\nCOMMIT\n",
-    &[13, 11, 13, 16, 16],
+    &[14, 12, 14, 17, 17],
     Verdict::Drop,
 );
 
@@ -74,7 +74,7 @@ const REPLACED: State<'static> = (
     -A OUTPUT -o lo -g a\n\
     -A a -p tcp -m tcp --dport 22 -j ACCEPT\n\
     -A b -p tcp -m tcp --dport 22 -j a\nCOMMIT\n",
-    &[15, 11, 13, 16, 16],
+    &[16, 12, 14, 17, 17],
     Verdict::Accept,
 );
 
@@ -85,7 +85,7 @@ const AFTER: State<'static> = (
     -A OUTPUT -p tcp -m tcp --dport 22 -j ACCEPT\n\
     -A a -p tcp -m tcp --dport 22 -j ACCEPT\n\
     -A b -p tcp -m tcp --dport 22 -j a\nCOMMIT\n",
-    &[15, 11, 16, 16, 16],
+    &[16, 12, 17, 17, 17],
     Verdict::Accept,
 );
 
@@ -96,7 +96,7 @@ const WITH_A_CHAIN: State<'static> = (
     -A OUTPUT -p tcp -m tcp --dport 22 -j ACCEPT\n\
     -A a -p tcp -m tcp --dport 22 -j ACCEPT\n\
     -A b -p tcp -m tcp --dport 22 -j a\nCOMMIT\n",
-    &[15, 11, 16, 11, 16, 16],
+    &[16, 12, 17, 12, 17, 17],
     Verdict::Accept,
 );
 

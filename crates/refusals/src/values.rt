@@ -2,7 +2,7 @@
 use crate::case::{Refusals, Trouble, again, expect, expect_kept};
 use crate::sets::{Ends, has_just};
 use fields::{
-    CtSet, FlagTest, IcmpType, IfPattern, IpRange, PortList, PortRange, Prefix, Protocol,
+    CtSet, FlagTest, IcmpType, IfPattern, IpRange, PortList, PortRange, Prefix, Protocol, Ttl,
 };
 use std::alloc::Global;
 
@@ -107,4 +107,17 @@ fn states(alloc: Global, refusals: &mut Refusals) -> Result<(), Trouble> {
 pub fn flags(alloc: Global, refusals: &mut Refusals) -> Result<(), Trouble> {
     flag_tests(alloc, refusals)?;
     states(alloc, refusals)
+}
+
+/// `Ttl::same`, `greater` and `smaller`.
+pub fn lives(alloc: Global, refusals: &mut Refusals) -> Result<(), Trouble> {
+    let Some(ttl) = Ttl::read(b"64") else {
+        return Err(Trouble::OtherAnswer);
+    };
+    let same = again!(refusals, ttl.same(alloc), ttl.number() == 64);
+    let greater = again!(refusals, ttl.greater(alloc), ttl.number() == 64);
+    let smaller = again!(refusals, ttl.smaller(alloc), ttl.number() == 64);
+    expect(has_just(&same, &[(64, 64)]))?;
+    expect(has_just(&greater, &[(65, 255)]))?;
+    expect(has_just(&smaller, &[(0, 63)]))
 }

@@ -7,7 +7,7 @@ use std::process::Abort;
 use std::test::Fail;
 
 // Commands that give chains of odd names, comments that are quoted, and rules of every target.
-const ODD: [&str; 27] = [
+const ODD: [&str; 28] = [
     "-N b",
     "-N ab",
     "-N a",
@@ -32,6 +32,7 @@ const ODD: [&str; 27] = [
     "-A INPUT",
     "-A FORWARD -i a -o b -f -j REJECT",
     "-A OUTPUT -p tcp -m multiport ! --dports 1,2:3 -j LOG --log-prefix \"p: \" --log-level 7",
+    "-A OUTPUT -p tcp -m multiport --ports 5:5,7:9,1 -m ttl ! --ttl-eq 64 -j DROP",
     "-A COMMIT -j RETURN",
     "-P FORWARD DROP",
     "-I INPUT 2 -s 10.1.0.0/16 -j #x",
@@ -63,6 +64,7 @@ const ODD_LISTING: &str = r#"*filter
 -A INPUT
 -A FORWARD -i a -o b -f -j REJECT --reject-with icmp-port-unreachable
 -A OUTPUT -p tcp -m multiport ! --dports 1,2:3 -j LOG --log-prefix "p: " --log-level 7
+-A OUTPUT -p tcp -m multiport --ports 5,7:9,1 -m ttl ! --ttl-eq 64 -j DROP
 -A #x -j :y
 -A COMMIT -j RETURN
 -A [0:0] -s 10.0.0.0/8 -j COMMIT
@@ -72,13 +74,14 @@ COMMIT
 "#;
 
 // Packets that tell tables apart.
-const PACKETS: [&str; 6] = [
+const PACKETS: [&str; 7] = [
     "INPUT src=10.1.2.3 dst=2.2.2.2 proto=47",
     "INPUT src=11.0.0.1 dst=2.2.2.2 proto=47 in=eth0",
     "INPUT src=10.1.2.3 dst=2.2.2.2 proto=tcp sport=1 dport=22 flags=SYN in=eth1",
     "FORWARD src=1.1.1.1 dst=2.2.2.2 proto=47 frag=1 in=a out=b",
     "FORWARD src=1.1.1.1 dst=2.2.2.2 proto=47 in=a out=b",
     "OUTPUT src=1.1.1.1 dst=2.2.2.2 proto=tcp sport=7 dport=4",
+    "OUTPUT src=1.1.1.1 dst=2.2.2.2 proto=tcp sport=7 dport=4 ttl=63",
 ];
 
 // Compares the listings of two tables.

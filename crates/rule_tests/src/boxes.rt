@@ -12,7 +12,7 @@ type Intervals = &'static [(u128, u128)];
 const TOP: u128 = u128::MAX;
 
 // Each field's greatest number.
-const TOPS: [(Field, u128); 11] = [
+const TOPS: [(Field, u128); 12] = [
     (Field::Source, 4294967295),
     (Field::Destination, 4294967295),
     (Field::InIface, TOP),
@@ -24,6 +24,7 @@ const TOPS: [(Field, u128); 11] = [
     (Field::TcpFlags, 63),
     (Field::IcmpType, 65535),
     (Field::ConnectionState, 13),
+    (Field::TimeToLive, 255),
 ];
 
 const ETH: u128 = 0x6574_6800_0000_0000_0000_0000_0000_0000;
@@ -196,6 +197,82 @@ const BOXES: &[Row] = &[
     ),
 ];
 
+// The same of rules that ask both ports together, which no field shows.
+const BOTH_PORTS: &[Row] = &[
+    ("-p tcp -m multiport --ports 22", &[TCP, FIRST]),
+    ("-p tcp -m multiport ! --ports 22", &[TCP, FIRST]),
+    ("-p udp -m multiport --ports 0:65535", &[UDP, FIRST]),
+    ("-p udp -m multiport ! --ports 0:65535", &[UDP, FIRST]),
+    (
+        "-p tcp -m multiport --ports 22 -m multiport ! --ports 80 -m multiport --ports 1:1023",
+        &[TCP, FIRST],
+    ),
+    (
+        "-p tcp -m multiport --ports 22 -f",
+        &[TCP, (Field::Fragment, &[])],
+    ),
+    (
+        "-p tcp -m multiport --ports 22 ! --dport 80",
+        &[
+            TCP,
+            FIRST,
+            (Field::DestinationPort, &[(0, 79), (81, 65535)]),
+        ],
+    ),
+    (
+        "-p tcp -m multiport ! --sports 22 -m multiport --ports 1,2",
+        &[TCP, FIRST, (Field::SourcePort, &[(0, 21), (23, 65535)])],
+    ),
+];
+
+// The same of rules that ask the time to live.
+const LIVES: &[Row] = &[
+    ("-m ttl --ttl-eq 0", &[(Field::TimeToLive, &[(0, 0)])]),
+    ("-m ttl --ttl-eq 64", &[(Field::TimeToLive, &[(64, 64)])]),
+    ("-m ttl --ttl-eq 255", &[(Field::TimeToLive, &[(255, 255)])]),
+    ("-m ttl ! --ttl-eq 0", &[(Field::TimeToLive, &[(1, 255)])]),
+    (
+        "-m ttl ! --ttl-eq 64",
+        &[(Field::TimeToLive, &[(0, 63), (65, 255)])],
+    ),
+    ("-m ttl ! --ttl-eq 255", &[(Field::TimeToLive, &[(0, 254)])]),
+    ("-m ttl --ttl-lt 0", &[(Field::TimeToLive, &[])]),
+    ("-m ttl --ttl-lt 1", &[(Field::TimeToLive, &[(0, 0)])]),
+    ("-m ttl --ttl-lt 5", &[(Field::TimeToLive, &[(0, 4)])]),
+    ("-m ttl --ttl-lt 255", &[(Field::TimeToLive, &[(0, 254)])]),
+    ("-m ttl --ttl-gt 0", &[(Field::TimeToLive, &[(1, 255)])]),
+    ("-m ttl --ttl-gt 64", &[(Field::TimeToLive, &[(65, 255)])]),
+    ("-m ttl --ttl-gt 254", &[(Field::TimeToLive, &[(255, 255)])]),
+    ("-m ttl --ttl-gt 255", &[(Field::TimeToLive, &[])]),
+    (
+        "-m ttl --ttl-gt 4 -m ttl --ttl-lt 9",
+        &[(Field::TimeToLive, &[(5, 8)])],
+    ),
+    (
+        "-m ttl --ttl-lt 4 -m ttl --ttl-gt 9",
+        &[(Field::TimeToLive, &[])],
+    ),
+    (
+        "-m ttl ! --ttl-eq 5 -m ttl --ttl-lt 7",
+        &[(Field::TimeToLive, &[(0, 4), (6, 6)])],
+    ),
+    (
+        "-m ttl --ttl-eq 7 -m ttl --ttl-eq 8",
+        &[(Field::TimeToLive, &[])],
+    ),
+    (
+        "-f -m ttl --ttl-lt 5",
+        &[(Field::Fragment, &[(1, 1)]), (Field::TimeToLive, &[(0, 4)])],
+    ),
+    (
+        "! -p tcp -m ttl --ttl-eq 1 -j DROP",
+        &[
+            (Field::Protocol, &[(0, 5), (7, 255)]),
+            (Field::TimeToLive, &[(1, 1)]),
+        ],
+    ),
+];
+
 // Whether the set has these intervals.
 fn are(found: &[Interval], wanted: &[(u128, u128)]) -> bool {
     found.len() == wanted.len()
@@ -240,12 +317,27 @@ fn is_boxed(
     Ok(())
 }
 
+// Compares the boxes of some lines.
+fn are_boxed(rt: &impl Abort, alloc: Global, rows: &[Row], count: u64) -> Result<(), Fail> {
+    let mut work = Work::new();
+    for (made, row) in rows.iter().enumerate() {
+        is_boxed(rt, alloc, &mut work, made, row)?;
+    }
+    assert!(rt; work.boxes() == count);
+    Ok(())
+}
+
 #[test]
 fn boxes_have_what_rules_allow(rt: HostRuntime) -> Result<(), Fail> {
-    let mut work = Work::new();
-    for (made, row) in BOXES.iter().enumerate() {
-        is_boxed(&rt, rt.alloc(), &mut work, made, row)?;
-    }
-    assert!(rt; work.boxes() == 49);
-    Ok(())
+    are_boxed(&rt, rt.alloc(), BOXES, 49)
+}
+
+#[test]
+fn boxes_have_all_of_both_ports(rt: HostRuntime) -> Result<(), Fail> {
+    are_boxed(&rt, rt.alloc(), BOTH_PORTS, 8)
+}
+
+#[test]
+fn boxes_have_times_to_live(rt: HostRuntime) -> Result<(), Fail> {
+    are_boxed(&rt, rt.alloc(), LIVES, 20)
 }

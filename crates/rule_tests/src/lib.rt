@@ -3,7 +3,13 @@
 #![tactic(auto)]
 
 #[cfg(test)]
+mod both_ports;
+#[cfg(test)]
 mod boxes;
+#[cfg(test)]
+mod crossing;
+#[cfg(test)]
+mod dice;
 #[cfg(test)]
 mod lines;
 #[cfg(test)]
@@ -16,3 +22,5 @@ mod options;
 mod parts;
 #[cfg(test)]
 mod refusals;
+#[cfg(test)]
+mod times_to_live;

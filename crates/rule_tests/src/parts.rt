@@ -1,6 +1,7 @@
 // What a rule shows of itself, its copies, and which rules are equal.
 use crate::lines::{is_listed, read};
 use crate::listing::LISTED;
+use crate::{both_ports, times_to_live};
 use fields::{Name, RejectType, Tap};
 use rules::{Rule, Target, write_rule};
 use std::alloc::Global;
@@ -122,6 +123,41 @@ const EQUAL: &[(&str, &str, bool)] = &[
         false,
     ),
     ("-j LOG --log-uid", "-j LOG --log-ip-options", false),
+    (
+        "-p tcp -m multiport --ports 5:5,7",
+        "-p tcp -m multiport --ports 5,7:7",
+        true,
+    ),
+    (
+        "-p tcp -m multiport --ports 1,2",
+        "-p tcp -m multiport --ports 2,1",
+        false,
+    ),
+    (
+        "-p tcp -m multiport --ports 1",
+        "-p tcp -m multiport ! --ports 1",
+        false,
+    ),
+    (
+        "-p tcp -m multiport --ports 1",
+        "-p tcp -m multiport --dports 1",
+        false,
+    ),
+    (
+        "-p tcp -m multiport --ports 1",
+        "-p tcp -m multiport --sports 1",
+        false,
+    ),
+    ("-m ttl --ttl-eq 64", "--match ttl --ttl-eq 64", true),
+    ("-m ttl --ttl-eq 64", "-m ttl --ttl-eq 65", false),
+    ("-m ttl --ttl-eq 64", "-m ttl ! --ttl-eq 64", false),
+    ("-m ttl --ttl-eq 255", "-m ttl --ttl-gt 254", false),
+    ("-m ttl --ttl-lt 0", "-m ttl --ttl-gt 255", false),
+    (
+        "-m ttl --ttl-lt 5",
+        "-m ttl --ttl-lt 5 -m ttl --ttl-lt 5",
+        false,
+    ),
 ];
 
 // Whether the rules of two lines are equal, asked of the first.
@@ -161,12 +197,19 @@ fn is_copied(alloc: Global, line: &str, text: &str) -> Result<bool, Fail> {
     Ok(has_text(alloc, &copy, text)? && copy.equals(&rule))
 }
 
-#[test]
-fn copies(rt: HostRuntime) -> Result<(), Fail> {
-    for (line, text) in LISTED {
-        assert!(rt; is_copied(rt.alloc(), line, text)?, "{line}");
+// Compares the copies of the rules of lines.
+fn copied(rt: &impl Abort, alloc: Global, rows: &[(&str, &str)]) -> Result<(), Fail> {
+    for (line, text) in rows {
+        assert!(rt; is_copied(alloc, line, text)?, "{line}");
     }
     Ok(())
+}
+
+#[test]
+fn copies(rt: HostRuntime) -> Result<(), Fail> {
+    copied(&rt, rt.alloc(), LISTED)?;
+    copied(&rt, rt.alloc(), both_ports::LISTED)?;
+    copied(&rt, rt.alloc(), times_to_live::LISTED)
 }
 
 // Gives the chain that a rule names another name.
@@ -196,6 +239,10 @@ fn renames_its_target(rt: HostRuntime) -> Result<(), Fail> {
             " -o eth0 -m comment --comment x -g new",
         ),
         ("-p tcp --dport 1 -j old", " -p tcp -m tcp --dport 1 -j new"),
+        (
+            "-p tcp -m multiport ! --ports 1 -m ttl --ttl-gt 5 -g old",
+            " -p tcp -m multiport ! --ports 1 -m ttl --ttl-gt 5 -g new",
+        ),
     ];
     for (line, text) in ROWS {
         assert!(rt; is_renamed(rt.alloc(), line, text)?, "{line}");

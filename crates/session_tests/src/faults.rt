@@ -132,6 +132,78 @@ fn each_fault_is_reported(rt: HostRuntime) -> Result<(), Fail> {
     each_is_refused(&rt, rt.alloc(), ROWS)
 }
 
+// Refused options of the match `ttl`, and `--ports` where it may not stand.
+const OF_MATCHES: &[(&str, &str)] = &[
+    (
+        "iptables -A INPUT -p tcp -m multiport --sports 1 --ports 2",
+        "P4 repeated option",
+    ),
+    (
+        "iptables -A INPUT -p tcp -m multiport --ports 2 --dports 1",
+        "P4 repeated option",
+    ),
+    (
+        "iptables -A INPUT -p tcp -m multiport --ports 2 --ports 2",
+        "P4 repeated option",
+    ),
+    ("iptables -A INPUT -p tcp --ports 1", "P1 unknown option"),
+    ("iptables -A INPUT -p tcp ! --ports 1", "P1 unknown option"),
+    (
+        "iptables -A INPUT -m multiport --ports 1",
+        "P6 protocol needed",
+    ),
+    (
+        "iptables -A INPUT ! -p tcp -m multiport --ports 1",
+        "P6 protocol needed",
+    ),
+    (
+        "iptables -A INPUT -p tcp -m multiport",
+        "P12 match option missing",
+    ),
+    (
+        "iptables -A INPUT -p tcp -m multiport --ports 1,2,3,4,5,6,7,8,9,10,11,12,13,14,15,16",
+        "P3 bad value",
+    ),
+    (
+        "iptables -A INPUT -p tcp -m multiport --ports 1:2,3:4,5:6,7:8,9:10,11:12,13:14,15:16",
+        "P3 bad value",
+    ),
+    (
+        "iptables -A INPUT -p tcp -m multiport --ports 5:",
+        "P3 bad value",
+    ),
+    (
+        "iptables -A INPUT -p tcp -m multiport --ports",
+        "P2 value missing",
+    ),
+    (
+        "iptables -A INPUT -m ttl -j DROP",
+        "P12 match option missing",
+    ),
+    (
+        "iptables -A INPUT -m ttl ! --ttl-lt 5 -j DROP",
+        "P5 inversion not allowed",
+    ),
+    (
+        "iptables -A INPUT -m ttl ! --ttl-gt 5 -j DROP",
+        "P5 inversion not allowed",
+    ),
+    ("iptables -A INPUT -m ttl --ttl-eq 256", "P3 bad value"),
+    ("iptables -A INPUT -m ttl --ttl-eq 064", "P3 bad value"),
+    ("iptables -A INPUT -m ttl --ttl-lt", "P2 value missing"),
+    ("iptables -A INPUT --ttl-eq 1", "P1 unknown option"),
+    ("iptables -A INPUT ! --ttl-eq 1", "P1 unknown option"),
+    (
+        "iptables -A INPUT -m ttl --ttl-eq 1 --ttl-gt 2",
+        "P4 repeated option",
+    ),
+];
+
+#[test]
+fn options_of_both_ports_and_times_to_live(rt: HostRuntime) -> Result<(), Fail> {
+    each_is_refused(&rt, rt.alloc(), OF_MATCHES)
+}
+
 // A line is accepted, and refused with more at its end.
 fn is_longest(
     rt: &impl Abort,

@@ -74,7 +74,7 @@ const VERDICTS: &[&str] = &[
 // How lines of listings, rules and classifiers begin.
 const BEGINNINGS: &[&str] = &[
     ":", "-A ", "-P ", "-N ", "src ", "dst ", "in ", "out ", "proto ", "frag ", "sport ", "dport ",
-    "flags ", "icmp ", "ct ",
+    "flags ", "icmp ", "ct ", "ttl ",
 ];
 
 // A fault as it is printed.

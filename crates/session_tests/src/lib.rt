@@ -25,6 +25,8 @@ mod lines;
 #[cfg(test)]
 mod listings;
 #[cfg(test)]
+mod packet_rules;
+#[cfg(test)]
 mod packet_words;
 #[cfg(test)]
 mod packets;

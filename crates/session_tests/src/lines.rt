@@ -17,6 +17,7 @@ const FIELDS: &[(&str, &str)] = &[
     ("flags", "0"),
     ("icmp", "0"),
     ("ct", "0"),
+    ("ttl", "0"),
 ];
 
 // A field and its pieces.
@@ -117,7 +118,8 @@ fn an_empty_chain(rt: HostRuntime) -> Result<(), Fail> {
         dport 0:{}\n\
         flags 0:{}\n\
         icmp 0:{}\n\
-        ct 0:{}\n";
+        ct 0:{}\n\
+        ttl 0:{}\n";
     const ROWS: &[Row] = &[
         ("lines OUTPUT\n", OUTPUT, 0),
         ("iptables -N a\nlines a", OUTPUT, 0),
@@ -140,7 +142,8 @@ fn two_rules(rt: HostRuntime) -> Result<(), Fail> {
         dport 0:{1} 22:{1,2} 23:{1}\n\
         flags 0:{1,2}\n\
         icmp 0:{1,2}\n\
-        ct 0:{1,2}\n";
+        ct 0:{1,2}\n\
+        ttl 0:{1,2}\n";
     each_prints(&rt, rt.alloc(), &[(INPUT, OUTPUT, 0)])
 }
 
@@ -339,6 +342,49 @@ const STATES: &[RuleRow] = &[
 #[test]
 fn states_of_connections(rt: HostRuntime) -> Result<(), Fail> {
     each_rule_shows(&rt, rt.alloc(), STATES)
+}
+
+// Times to live.
+const TIMES: &[RuleRow] = &[
+    ("-m ttl --ttl-lt 5 -j DROP", &[("ttl", "0:{1} 5:{}")]),
+    ("-m ttl --ttl-gt 254 -j DROP", &[("ttl", "0:{} 255:{1}")]),
+    ("-m ttl --ttl-gt 255 -j DROP", &[("ttl", "0:{}")]),
+    (
+        "-m ttl ! --ttl-eq 64 -j DROP",
+        &[("ttl", "0:{1} 64:{} 65:{1}")],
+    ),
+    ("-m ttl --ttl-eq 0", &[("ttl", "0:{1} 1:{}")]),
+    ("-m ttl --ttl-eq 255", &[("ttl", "0:{} 255:{1}")]),
+    ("-m ttl ! --ttl-eq 255", &[("ttl", "0:{1} 255:{}")]),
+    ("-m ttl --ttl-lt 0", &[("ttl", "0:{}")]),
+    ("-m ttl --ttl-lt 255", &[("ttl", "0:{1} 255:{}")]),
+    ("-m ttl --ttl-gt 0", &[("ttl", "0:{} 1:{1}")]),
+    (
+        "-m ttl --ttl-gt 3 -m ttl --ttl-lt 6",
+        &[("ttl", "0:{} 4:{1} 6:{}")],
+    ),
+];
+
+#[test]
+fn times_to_live(rt: HostRuntime) -> Result<(), Fail> {
+    each_rule_shows(&rt, rt.alloc(), TIMES)
+}
+
+// A list of both ports cuts no line.
+#[test]
+fn lists_of_both_ports(rt: HostRuntime) -> Result<(), Fail> {
+    const ROWS: &[RuleRow] = &[
+        (
+            "-p tcp -m multiport --ports 22,80:90 -j DROP",
+            &[TCP, WHOLE],
+        ),
+        ("-p tcp -m multiport ! --ports 22 -j DROP", &[TCP, WHOLE]),
+        (
+            "-p tcp --sport 7 -m multiport --ports 22 -j DROP",
+            &[TCP, WHOLE, ("sport", "0:{} 7:{1} 8:{}")],
+        ),
+    ];
+    each_rule_shows(&rt, rt.alloc(), ROWS)
 }
 
 #[test]

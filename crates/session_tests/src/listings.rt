@@ -179,6 +179,35 @@ fn tables_are_listed(rt: HostRuntime) -> Result<(), Fail> {
                 COMMIT\n",
             0,
         ),
+        // Lists of both ports and times to live, and a restore of what is listed.
+        (
+            "iptables -A INPUT -p tcp -m multiport --ports 5:5,7:9,1\n\
+                iptables -A INPUT -p udp -m multiport ! --ports 53 -m ttl ! --ttl-eq 64 -j DROP\n\
+                iptables -A INPUT -m ttl --ttl-gt 255 -m ttl --ttl-lt 0\n\
+                iptables -C INPUT -p tcp -m multiport --ports 5,7:9,1\n\
+                iptables -S INPUT\n\
+                iptables-restore <<E\n\
+                *filter\n\
+                -A INPUT -p tcp -m multiport --ports 5,7:9,1\n\
+                -A INPUT -p udp -m multiport ! --ports 53 -m ttl ! --ttl-eq 64 -j DROP\n\
+                -A INPUT -m ttl --ttl-gt 255 -m ttl --ttl-lt 0\n\
+                COMMIT\n\
+                E\n\
+                iptables-save\n",
+            "-P INPUT ACCEPT\n\
+                -A INPUT -p tcp -m multiport --ports 5,7:9,1\n\
+                -A INPUT -p udp -m multiport ! --ports 53 -m ttl ! --ttl-eq 64 -j DROP\n\
+                -A INPUT -m ttl --ttl-gt 255 -m ttl --ttl-lt 0\n\
+                *filter\n\
+                :INPUT ACCEPT [0:0]\n\
+                :FORWARD ACCEPT [0:0]\n\
+                :OUTPUT ACCEPT [0:0]\n\
+                -A INPUT -p tcp -m multiport --ports 5,7:9,1\n\
+                -A INPUT -p udp -m multiport ! --ports 53 -m ttl ! --ttl-eq 64 -j DROP\n\
+                -A INPUT -m ttl --ttl-gt 255 -m ttl --ttl-lt 0\n\
+                COMMIT\n",
+            0,
+        ),
         // Texts stand in quotes.
         (
             "iptables -A INPUT -m comment --comment \"it's \\\"x\\\"\" -j DROP\n\

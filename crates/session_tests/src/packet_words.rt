@@ -222,6 +222,39 @@ fn words_of_packets(rt: HostRuntime) -> Result<(), Fail> {
                 line 51: F3 bad packet value\n",
             2,
         ),
+        // The time to live stands at any place, at any hook and with any packet.
+        (
+            "packet INPUT ttl=0 src=1.1.1.1 dst=2.2.2.2 proto=47\n\
+                packet FORWARD src=1.1.1.1 ttl=255 dst=2.2.2.2 proto=47\n\
+                packet OUTPUT src=1.1.1.1 dst=2.2.2.2 proto=tcp ttl=64 sport=1 dport=2\n\
+                packet INPUT src=1.1.1.1 dst=2.2.2.2 proto=tcp frag=1 ttl=1\n",
+            "verdict ACCEPT by policy\n\
+                verdict ACCEPT by policy\n\
+                verdict ACCEPT by policy\n\
+                verdict ACCEPT by policy\n",
+            0,
+        ),
+        (
+            "packet INPUT ttl=256\n\
+                packet INPUT ttl=064\n\
+                packet INPUT ttl=\n\
+                packet INPUT ttl=64 ttl=64\n\
+                packet INPUT ttl=-1\n\
+                packet INPUT src=1.1.1.1 dst=2.2.2.2 proto=47 ttl=256\n\
+                packet INPUT ttl=64\n\
+                packet INPUT ttl\n\
+                packet INPUT TTL=64\n",
+            "line 1: F3 bad packet value\n\
+                line 2: F3 bad packet value\n\
+                line 3: F3 bad packet value\n\
+                line 4: F3 bad packet value\n\
+                line 5: F3 bad packet value\n\
+                line 6: F3 bad packet value\n\
+                line 7: F2 key missing\n\
+                line 8: F1 unknown key\n\
+                line 9: F1 unknown key\n",
+            2,
+        ),
         // Keys that a packet does not carry.
         (
             "packet INPUT src=1.1.1.1 dst=2.2.2.2 proto=tcp sport=1 dport=1 icmp=8/0\n\

@@ -14,7 +14,7 @@ const MOST: usize = 4096;
 const SIGNS: &[u8] = b"\n\n -ADIFNXPES*:#\"\\!\t";
 
 // Parts of lines.
-const PARTS: [&str; 48] = [
+const PARTS: [&str; 51] = [
     "iptables ",
     "iptables -A INPUT ",
     "iptables -A a ",
@@ -36,6 +36,7 @@ const PARTS: [&str; 48] = [
     "lines a\n",
     "packet INPUT src=1.1.1.1 dst=2.2.2.2 proto=47\n",
     "packet FORWARD src=10.1.1.1 dst=2.2.2.2 proto=tcp sport=1 dport=22 in=eth0 out=lo\n",
+    "packet INPUT src=1.1.1.1 dst=2.2.2.2 proto=udp sport=1 dport=22 ttl=4\n",
     "*filter\n",
     "*nat\n",
     "COMMIT\n",
@@ -54,6 +55,8 @@ const PARTS: [&str; 48] = [
     "--syn ",
     "-p icmp --icmp-type ping ",
     "-m state --state NEW ",
+    "-p udp -m multiport --ports 22 ",
+    "-m ttl --ttl-lt 5 ",
     "-m comment --comment \"a \\\" b\" ",
     "-m iprange --src-range 1.1.1.1-2.2.2.2 ",
     "-j DROP\n",
@@ -101,7 +104,7 @@ impl Dice {
     fn parts(&mut self, alloc: Global) -> Result<Vec<u8>, Fail> {
         let mut input = Vec::new(alloc);
         for _ in 0..self.below(128) {
-            let part = PARTS[self.below(48)].as_bytes();
+            let part = PARTS[self.below(51)].as_bytes();
             if input.len() + part.len() <= MOST {
                 input.extend_from_slice(part)?;
             }

@@ -29,7 +29,7 @@ impl Dice {
     }
 
     fn draft(&mut self) -> Draft {
-        let condition = self.below(8);
+        let condition = self.below(12);
         let target = self.below(8);
         let chain = self.below(8);
         let jumps = self.below(2) == 0;
@@ -305,12 +305,15 @@ impl Pair {
     }
 }
 
-const PACKETS: [&str; 5] = [
+const PACKETS: [&str; 8] = [
     "INPUT src=10.0.0.1 dst=2.2.2.2 proto=tcp sport=1 dport=22 in=eth0",
     "INPUT src=11.0.0.1 dst=2.2.2.2 proto=udp frag=1 in=lo",
     "FORWARD src=10.0.0.1 dst=2.2.2.2 proto=47 in=lo out=eth0",
     "FORWARD src=11.0.0.1 dst=2.2.2.2 proto=tcp frag=1 in=eth0 out=lo",
     "OUTPUT src=10.0.0.1 dst=2.2.2.2 proto=47 out=lo",
+    "INPUT src=11.0.0.1 dst=2.2.2.2 proto=tcp sport=85 dport=1 in=lo ttl=4",
+    "FORWARD src=11.0.0.1 dst=2.2.2.2 proto=tcp sport=1 dport=91 ttl=255",
+    "OUTPUT src=11.0.0.1 dst=2.2.2.2 proto=udp sport=1 dport=53 ttl=5",
 ];
 
 #[test]

@@ -5,7 +5,10 @@ use std::process::Abort;
 use std::test::Fail;
 use table::{Step, TableFault, Trail, Verdict};
 
-const PACKET: &str = "INPUT src=11.0.0.1 dst=2.2.2.2 proto=47";
+const PACKET: &str = "INPUT src=11.0.0.1 dst=2.2.2.2 proto=udp sport=1000 dport=91";
+
+// A condition whose box allows the packet, and which fails.
+const FAILS: &str = " -p udp -m multiport --ports 22,80:90";
 
 // Runs a command with two numbers in it, which has to be accepted.
 fn run_numbered(
@@ -271,4 +274,46 @@ fn the_longest_walk(rt: HostRuntime) -> Result<(), Fail> {
     expect_longest(&rt, &filter, false)?;
     end_by_policy(&rt, &mut filter)?;
     filter.acts(&rt, ACTS)
+}
+
+// Puts candidates that fail before, between and behind the rules of each chain whose name is a letter with a number.
+fn add_candidates(
+    rt: &impl Abort,
+    filter: &mut Filter,
+    letter: &str,
+    first: u32,
+    last: u32,
+) -> Result<(), Fail> {
+    let append = format!(in filter.alloc; "-A {letter}")?;
+    let insert = format!(in filter.alloc; "-I {letter}")?;
+    for number in first..=last {
+        run_numbered(rt, filter, (append.as_str(), ""), number, FAILS)?;
+        run_numbered(rt, filter, (insert.as_str(), " 2"), number, FAILS)?;
+        run_numbered(rt, filter, (insert.as_str(), " 1"), number, FAILS)?;
+    }
+    Ok(())
+}
+
+// Candidates that fail are no matches: a walk between them may have as many as without them.
+#[test]
+fn the_longest_walk_between_candidates(rt: HostRuntime) -> Result<(), Fail> {
+    const ACTS: &[Act] = &[
+        Act::Runs("-R c15 2 -p udp -m multiport --ports 91"),
+        Act::Replies(PACKET, "verdict TOOLONG"),
+        Act::Runs("-R c15 2 -p udp -m multiport ! --ports 91"),
+    ];
+    let mut filter = of_longest(&rt, rt.alloc())?;
+    add_candidates(&rt, &mut filter, "c", 0, 15)?;
+    expect_longest(&rt, &filter, false)?;
+    filter.acts(&rt, ACTS)?;
+    end_by_policy(&rt, &mut filter)
+}
+
+#[test]
+fn a_jump_through_every_chain_between_candidates(rt: HostRuntime) -> Result<(), Fail> {
+    let mut filter = Filter::new(rt.alloc())?;
+    row_of_chains(&rt, &mut filter)?;
+    add_candidates(&rt, &mut filter, "d", 1, 1024)?;
+    ends(&rt, &filter, 1024, Verdict::Accept, true)?;
+    ends_in_last(&rt, &mut filter)
 }

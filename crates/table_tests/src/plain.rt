@@ -8,7 +8,7 @@ use table::TableFault;
 pub(crate) const NAMES: [&str; 8] = ["INPUT", "FORWARD", "OUTPUT", "a", "ab", "b", "c", "gone"];
 
 // Conditions, and whether they ask for the interface that a packet comes in by or goes out by.
-const CONDITIONS: [(&str, bool, bool); 8] = [
+const CONDITIONS: [(&str, bool, bool); 12] = [
     ("", false, false),
     (" -s 10.0.0.0/8", false, false),
     (" -p tcp -m tcp --dport 22", false, false),
@@ -17,6 +17,10 @@ const CONDITIONS: [(&str, bool, bool); 8] = [
     (" -f", false, false),
     (" ! -p udp", false, false),
     (" -i lo -o eth0", true, true),
+    (" -p tcp -m multiport --ports 22,80:90", false, false),
+    (" -p udp -m multiport ! --ports 53", false, false),
+    (" -m ttl --ttl-lt 5", false, false),
+    (" -m ttl ! --ttl-eq 64", false, false),
 ];
 
 const TARGETS: [&str; 8] = [
@@ -42,7 +46,7 @@ pub(crate) struct Draft {
 impl Draft {
     // Writes the rule after the command.
     pub(crate) fn write(&self, text: &mut String) -> Result<(), AllocError> {
-        text.push_str(CONDITIONS[self.condition % 8].0)?;
+        text.push_str(CONDITIONS[self.condition % 12].0)?;
         match self.chain {
             Some((chain, true)) => {
                 text.push_str(" -j ")?;
@@ -216,7 +220,7 @@ impl Plain {
 
     // Why a rule may not stand in a chain.
     fn fault_of_rule(&self, chain: usize, draft: &Draft) -> Option<TableFault> {
-        let (_, on_in, on_out) = CONDITIONS[draft.condition % 8];
+        let (_, on_in, on_out) = CONDITIONS[draft.condition % 12];
         if chain == 0 && on_out || chain == 2 && on_in {
             return Some(TableFault::InterfaceNotAllowed);
         }

@@ -13,6 +13,7 @@ const ROWS: [(&[u8], u128); FIELDS] = [
     (b"flags", 63),
     (b"icmp", 65535),
     (b"ct", 13),
+    (b"ttl", 255),
 ];
 
 // Whether a field has its name and top.

@@ -27,13 +27,14 @@ fn count_of(alloc: Global, line: &[u8]) -> Option<usize> {
     }
 }
 
-// The packet has these numbers, and 0 on every other field.
+// The packet has these numbers, 64 as its time to live, and 0 on every other field.
 fn has_points(rt: &impl Abort, packet: &Packet, source: u128, destination: u128, protocol: u128) {
     for field in Field::ALL {
         let value = match field {
             Field::Source => source,
             Field::Destination => destination,
             Field::Protocol => protocol,
+            Field::TimeToLive => 64,
             _ => 0,
         };
         assert!(rt; packet.point(field) == value);
@@ -72,8 +73,8 @@ const FAULTS: &[(&[u8], PacketFault)] = &[
     (b"src=1.1.1.1 dst=2.2.2.2 proto=47", PacketFault::UnknownKey),
     (b"INPUT src dst=2.2.2.2 proto=47", PacketFault::UnknownKey),
     (
-        b"INPUT src=1.1.1.1 dst=2.2.2.2 proto=47 ttl=64",
-        PacketFault::UnknownKey,
+        b"INPUT src=1.1.1.1 dst=2.2.2.2 proto=47 ttl=256",
+        PacketFault::BadValue,
     ),
     (
         b"INPUT src=1.1.1.1 dst=2.2.2.2 proto=47 SRC=1.1.1.1",

@@ -32,7 +32,7 @@ fn point_of(number: u32) -> [u128; FIELDS]
     ensures { IsPoint result }
 {
     let address = 0x0A00_0007 + 512 * (number % 32768);
-    [address.into(), 0, 0, 0, 0, 0, 0, 0, 0, 0, 0]
+    [address.into(), 0, 0, 0, 0, 0, 0, 0, 0, 0, 0, 0]
 }
 
 impl Numbered {

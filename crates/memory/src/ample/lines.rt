@@ -92,7 +92,7 @@ pub fn bad_quoting(alloc: Global) -> Result<(), Trouble> {
 }
 
 /// The fields' numbers of a packet with every key that tcp carries, in their order.
-const OF_TCP: [u128; 11] = [
+const OF_TCP: [u128; 12] = [
     4_294_967_295,
     167_772_161,
     0x6162_6364_6566_6768_696a_6b6c_6d6e_6f00,
@@ -104,6 +104,7 @@ const OF_TCP: [u128; 11] = [
     63,
     0,
     13,
+    255,
 ];
 
 /// Whether a packet has these numbers.
@@ -119,12 +120,12 @@ fn is_of_tcp(packet: &Packet) -> bool {
 /// Packets with every key.
 pub fn packets(alloc: Global) -> Result<(), Trouble> {
     let line =
-        b"packet FORWARD ct=established,SNAT,DNAT flags=ALL dport=22 sport=65535 frag=0 out=p in=abcdefghijklmno \
-        proto=tcp dst=10.0.0.1 src=255.255.255.255";
+        b"packet FORWARD ttl=255 ct=established,SNAT,DNAT flags=ALL dport=22 sport=65535 frag=0 out=p \
+        in=abcdefghijklmno proto=tcp dst=10.0.0.1 src=255.255.255.255";
     let Ok(words) = Words::split(alloc, line) else {
         return Err(Trouble::NoMemory);
     };
-    if words.len() != 12 {
+    if words.len() != 13 {
         return Err(Trouble::OtherAnswer);
     }
     expect(is_text(words.get(0), b"packet"))?;

@@ -14,7 +14,7 @@ const HEAD: &[u8] =
 /// A match, and the numbers that it allows on a field.
 type Matched = (&'static [u8], Field, &'static [Ends]);
 
-const MATCHES: [Matched; 6] = [
+const MATCHES: [Matched; 8] = [
     (
         b" -m multiport ! --dports 1,3,5,7,9,11,13,15,17,19,21,23,25,27,65535",
         Field::DestinationPort,
@@ -61,6 +61,12 @@ const MATCHES: [Matched; 6] = [
         Field::Source,
         &[(0, 4_294_967_294)],
     ),
+    (
+        b" -m multiport ! --ports 1,3,5,7,9,11,13,15,17,19,21,23,25,27,65535",
+        Field::DestinationPort,
+        &[(0, 65535)],
+    ),
+    (b" -m ttl ! --ttl-eq 255", Field::TimeToLive, &[(0, 254)]),
 ];
 
 const TARGETS: [&[u8]; 8] = [
