@@ -1,3 +1,4 @@
+pub mod Refusals
 pub mod Sequence
 pub mod devices
 pub mod numbers

@@ -1,4 +1,5 @@
 pub mod Sequence
+pub mod calls
 pub mod commands
 pub mod steps
 pub mod sections

@@ -1,5 +1,6 @@
 //! Laws of restores: the contract of each call is the law, and it does nothing else.
 ghost use Rattle.restore.specs.listings.RoundTrip.{ListingsRestoreClassifiers};
+ghost use Rattle.restore.specs.calls.Headline.{CallsLeaveWhatTheyAccept, RefusedCallsChangeNothing};
 ghost use Rattle.restore.specs.sections.Headline.{LinesLeaveWhatTheyRestore, RefusedLinesChangeNothing};
 
 use crate::round_trip::listings_restore;
@@ -17,4 +18,22 @@ pub fn restores_leave_what_they_accept()
 {
     listings_restore();
     calls_leave_what_they_accept();
+}
+
+/// The law of every list of calls that edit a table, in any order and refused ones among them: editing calls of `Table` and
+/// `apply`; transactions that are begun, given lines, committed or given up; lines and ends of restores, several after one
+/// another, with edits between their sections. The chains are those of the accepted changes, as plain list edits; the
+/// listing restores them, with the same classifiers; and a refused call changes nothing.
+///
+/// It has one condition on callers: from the call that begins a transaction to its end, and from the line that opens a
+/// section of a restore to its `COMMIT`, no other call changes the table.
+///
+/// With `Table::stands`, `Table::verdict` and `Table::trail` it says what a table shows after any list of calls.
+pub fn calls_leave_what_they_accept()
+    ensures leave { CallsLeaveWhatTheyAccept }
+    ensures refused { RefusedCallsChangeNothing }
+{
+    listings_restore();
+    restores_leave_what_they_accept();
+    table::calls_leave_what_they_accept();
 }

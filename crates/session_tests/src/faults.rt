@@ -157,10 +157,6 @@ const OF_MATCHES: &[(&str, &str)] = &[
         "P6 protocol needed",
     ),
     (
-        "iptables -A INPUT -p tcp -m multiport",
-        "P12 match option missing",
-    ),
-    (
         "iptables -A INPUT -p tcp -m multiport --ports 1,2,3,4,5,6,7,8,9,10,11,12,13,14,15,16",
         "P3 bad value",
     ),

@@ -95,8 +95,12 @@ fault_text NoMemory = codes "M0 no memory"
 
 -- memory ran out
 abbrev pub is_out_of_memory : Fault → Bool
+is_out_of_memory (Line fault) = false
+is_out_of_memory (Packet fault) = false
+is_out_of_memory UnknownLine = false
+is_out_of_memory BadRestoreLine = false
+is_out_of_memory EndWordMissing = false
 is_out_of_memory NoMemory = true
-is_out_of_memory fault = false
 
 -- what a line of a restore was refused for; out of memory is one fault, whatever asked for the memory
 abbrev pub of_line : RestoreFault → Fault
@@ -105,7 +109,14 @@ of_line fault = if section.is_out_of_memory fault then NoMemory else Line fault
 -- 2 for what can't be read, 1 for what the table or a restore refuses
 abbrev pub line_status : RestoreFault → ℕ
 line_status (restore.Command fault) = 2
-line_status fault = 1
+line_status (restore.Table fault) = 1
+line_status restore.NotAllowed = 1
+line_status restore.BadChainLine = 1
+line_status restore.DuplicateChainLine = 1
+line_status restore.EndBeforeCommit = 1
+line_status restore.Quoting = 1
+line_status restore.LineTooLong = 1
+line_status restore.NoMemory = 1
 
 -- 2 for what can't be read, 1 for what the table or a restore refuses, and 4 for out of memory
 abbrev pub fault_status : Fault → ℕ

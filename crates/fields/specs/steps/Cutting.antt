@@ -1,7 +1,7 @@
 -- How the code cuts a line: byte after byte, with the words so far and the word at hand.
-use Rattle.std.specs.Prelude.{◌≡◌, ℕ, List, [], ◌∷◌, ◌++◌, map, Option, Some, None, Result, Ok, Err, option_and_then}
+use Rattle.std.specs.Prelude.{ℕ, List, [], ◌∷◌, ◌++◌, map, Option, Some, None, Result, option_and_then}
 use Rattle.std.specs.Global.{Vec}
-use Rattle.fields.specs.text.Words.{Act, act_of, OnQuoting}
+use Rattle.fields.specs.text.Words.{Act, act_of}
 use Rattle.fields.specs.text.Words as line
 use Rattle.fields.specs.declared.text.words.Act.{Act as CodeAct}
 use Rattle.fields.specs.declared.text.words.Act.TheVariants as acts
@@ -9,6 +9,8 @@ use Rattle.fields.specs.declared.text.words.Place.{Place}
 use Rattle.fields.specs.declared.text.words.Place.TheVariants as places
 use Rattle.fields.specs.declared.text.words.Cutting.{Cutting}
 use Rattle.fields.specs.declared.text.words.WordFault.{WordFault}
+use Rattle.fields.specs.declared.text.words.WordFault.TheVariants as faults
+use Rattle.fields.specs.Refusals.{GivesFor, or_refused}
 
 -- the place that the code's place stands for
 abbrev pub view_place : Place → line.Place
@@ -71,7 +73,11 @@ cut_from cut (byte ∷ bytes) = option_and_then (λ next. cut_from next bytes) (
 abbrev pub start : Cut
 start = record { words = []; word = []; place = line.Between }
 
--- what came is what is wanted, and bad quoting is reported only where nothing is; out of memory says nothing
+-- the refusal that a fault stands for, if it is no lack of memory
+abbrev pub refusal_of : WordFault → Option WordFault
+refusal_of faults.Quoting = Some faults.Quoting
+refusal_of faults.NoMemory = None
+
+-- what came, seen by view, is what is wanted; bad quoting is reported only where nothing is
 abbrev pub Gives : {X Y : Type 0} → (X → Y) → Result X WordFault → Option Y → Type 0
-Gives view (Ok x) wanted = wanted ≡ Some (view x)
-Gives view (Err fault) wanted = OnQuoting fault (wanted ≡ None)
+Gives view result wanted = GivesFor refusal_of view result (or_refused faults.Quoting wanted)

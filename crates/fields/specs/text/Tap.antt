@@ -1,5 +1,5 @@
 -- What a clause reads of a `Tap`, and what its calls do.
-use Rattle.std.specs.Prelude.{◌≡◌, ℕ, Bool, true, false, List, ◌++◌, Option, Result, MatchResult}
+use Rattle.std.specs.Prelude.{◌≡◌, ℕ, Bool, true, false, List, [], ◌++◌, Option, Result, MatchResult}
 use Rattle.std.specs.Io.KnownBytes.{Appends}
 use Rattle.fields.specs.declared.text.tap.Tap.{Tap}
 
@@ -18,6 +18,14 @@ known bytes t = bytes t.device
 -- how many steps of reading are left
 abbrev pub turns_left : {T : Type 0} → Tap T → ℕ
 turns_left t = t.turns
+
+-- `t.unflushed()`
+abbrev pub is_unflushed : {T : Type 0} → Tap T → Bool
+is_unflushed t = t.unflushed
+
+-- bs was put after the last flush: where nothing is held back now, nothing was before, and bs is empty
+abbrev pub Keeps : {T : Type 0} → Tap T → Tap T → List ℕ → Type 0
+Keeps old new bs = is_unflushed new ≡ false → (is_unflushed old ≡ false) × (bs ≡ [])
 
 -- part begins whole
 abbrev pub IsBeginning : List ℕ → List ℕ → Type 0

@@ -1,6 +1,6 @@
 //! Taps: a reader or a writer, and whether a call of it has failed.
 ghost use Rattle.std.specs.Prelude.{◌≡◌, [], IfSome, ◌+◌, ◌-◌, ◌^◌, ◌<◌, ◌≤◌, true, false, length, IfOk, OnOk, IsOk, IsErr, is_err, flat_map};
-ghost use Rattle.fields.specs.text.Tap.{has_failed, device, known, turns_left, Puts};
+ghost use Rattle.fields.specs.text.Tap.{has_failed, device, is_unflushed, known, turns_left, Keeps, Puts};
 ghost use Rattle.fields.specs.contracts.text.tap.Tap.{the_row};
 ghost use Rattle.std.specs.Borrow.{sem};
 ghost use Rattle.std.specs.Io.{StartsWith};
@@ -19,7 +19,8 @@ pub struct ReadFailed;
 #[error("a write failed")]
 pub struct WriteFailed;
 
-/// A reader or a writer, and whether it has failed. Once it has, no further call reaches the device.
+/// A reader or a writer, whether it has failed, and whether bytes were written since it was last flushed. Once it has
+/// failed, no further call reaches the device.
 ///
 /// A tap fails where a call of its device fails, where a write takes no byte, and where its steps of reading are used
 /// up, and nowhere else. It has 2 to the 64 less 1 steps, so that every loop over a device that never ends has an end.
@@ -28,19 +29,22 @@ pub struct Tap<T> {
     device: T,
     failed: bool,
     turns: u64,
+    unflushed: bool,
 }
 
 impl<T> Tap<T> {
-    /// A tap over a device, which has not failed and has all its steps of reading.
+    /// A tap over a device, which has not failed, has all its steps of reading, and has written nothing.
     pub fn new(inner: T) -> Tap<T>
         ensures fresh { has_failed result ≡ false }
         ensures inner { device result ≡ inner }
         ensures turns { turns_left result ≡ 2 ^ 64 - 1 }
+        ensures flushed { is_unflushed result ≡ false }
     {
         Tap {
             device: inner,
             failed: false,
             turns: u64::MAX,
+            unflushed: false,
         }
     }
 
@@ -52,6 +56,7 @@ impl<T> Tap<T> {
             device,
             failed: _,
             turns: _,
+            unflushed: _,
         } = self;
         device
     }
@@ -69,6 +74,13 @@ impl<T> Tap<T> {
         ensures { result ≡ turns_left self.now }
     {
         self.turns
+    }
+
+    /// Whether the device may hold bytes back: some were written since the last `flush`, or it never was flushed.
+    pub fn unflushed(&self) -> bool
+        ensures { result ≡ is_unflushed self.now }
+    {
+        self.unflushed
     }
 
     // Takes a step of reading. A tap that has none left fails.
@@ -161,6 +173,7 @@ impl<W: Write> Tap<W> {
         ensures turns { turns_left self.new ≡ turns_left self.old }
         ensures nothing { bytes.now ≡ [] → has_failed self.old ≡ false → IsOk result }
         ensures unmoved { bytes.now ≡ [] → self.new ≡ self.old }
+        ensures keeps { OnOk result (Keeps self.old self.new bytes.now) }
     {
         if self.failed {
             return Err(WriteFailed);
@@ -168,6 +181,7 @@ impl<W: Write> Tap<W> {
         if bytes.is_empty() {
             return Ok(());
         }
+        self.unflushed = true;
         let mut rest = bytes;
         while !rest.is_empty() {
             match self.device.write(rest) {
@@ -189,6 +203,7 @@ impl<W: Write> Tap<W> {
     pub fn put_all(&mut self, texts: &[&[u8]]) -> Result<(), WriteFailed>
         ensures puts { Puts W.contents self.old self.new result (flat_map (λ text. text.now) texts.now) }
         ensures turns { turns_left self.new ≡ turns_left self.old }
+        ensures keeps { OnOk result (Keeps self.old self.new (flat_map (λ text. text.now) texts.now)) }
     {
         if self.failed {
             return Err(WriteFailed);
@@ -207,12 +222,16 @@ impl<W: Write> Tap<W> {
     pub fn flush(&mut self) -> Result<(), WriteFailed>
         ensures puts { Puts W.contents self.old self.new result [] }
         ensures turns { turns_left self.new ≡ turns_left self.old }
+        ensures flushed { OnOk result (is_unflushed self.new ≡ false) }
     {
         if self.failed {
             return Err(WriteFailed);
         }
         match self.device.flush() {
-            Ok(()) => Ok(()),
+            Ok(()) => {
+                self.unflushed = false;
+                Ok(())
+            }
             Err(_) => {
                 self.failed = true;
                 Err(WriteFailed)

@@ -1,6 +1,6 @@
 -- Commands, and why words are none (iptables(8), "COMMANDS").
-use Rattle.std.specs.Prelude.{ℕ, Bool, true, false, List, Option, option_map, Result}
-use Rattle.rules.specs.declared.reading.fault.RuleFault.TheVariants as rule
+use Rattle.std.specs.Prelude.{ℕ, Bool, true, false, List, Option, is_none, option_map, Result}
+use Rattle.rules.specs.Sequence.{refusal_of}
 use Rattle.table.specs.chains.Table.{TableView}
 use Rattle.table.specs.edits.Edits.{Edit, IsStepOf}
 use Rattle.table.specs.declared.fault.TableFault.{TableFault}
@@ -17,8 +17,11 @@ pub data Command : Type 0 where
 
 -- memory ran out
 abbrev pub is_out_of_memory : CommandFault → Bool
-is_out_of_memory (Rule rule.NoMemory) = true
-is_out_of_memory fault = false
+is_out_of_memory NoCommand = false
+is_out_of_memory TwoCommands = false
+is_out_of_memory WordCount = false
+is_out_of_memory OtherTable = false
+is_out_of_memory (Rule fault) = is_none (refusal_of fault)
 
 -- what a command of the code asks for
 abbrev pub meaning : code.Command → Command

@@ -7,9 +7,13 @@ use Rattle.restore.specs.listings.Listing.{listing}
 use Rattle.restore.specs.sections.Restore.{restored}
 use Rattle.restore.specs.sections.Section.{inside, transaction}
 
--- the listing of the table is read from the empty table without a refusal, as the table
+-- the listing of a table is read from the empty table without a refusal, as this table
+abbrev pub IsRestored : Table → Table → Type 0
+IsRestored t made = restored false false empty_table (lines_of (listing t)) ≡ Ok made
+
+-- the listing of the table is read so as the table
 abbrev pub RestoresItself : Table → Type 0
-RestoresItself t = restored false false empty_table (lines_of (listing t)) ≡ Ok t
+RestoresItself t = IsRestored t t
 
 -- every table is so
 abbrev pub RestoresAsEqual : Type 0
@@ -24,4 +28,4 @@ CommitsAsEqual = (t : Table) → IsSound t → transaction false empty_table (in
 abbrev pub ListingsRestoreClassifiers : Type 0
 ListingsRestoreClassifiers =
     (t made : TableView) → IsSound t.table → AreClassified t.table.chains t.classifiers → AreClassified made.table.chains made.classifiers
-    → restored false false empty_table (lines_of (listing t.table)) ≡ Ok made.table → made ≡ t
+    → IsRestored t.table made.table → made ≡ t

@@ -8,6 +8,7 @@ use Rattle.fields.specs.text.Cut.{cut_at}
 use Rattle.fields.specs.text.Words.{is_blank, words_of}
 use Rattle.table.specs.chains.Table.{Table, TableView, emptied, is_built_in, has_chain}
 use Rattle.table.specs.edits.Edits.{Edit, Flush, NewChain, SetPolicy, step}
+use Rattle.table.specs.declared.fault.TableFault.{TableFault}
 use Rattle.table.specs.declared.fault.TableFault.TheVariants as table
 use Rattle.restore.specs.Sequence.{◌>>=◌, or_refused, refused_as, made_into}
 use Rattle.restore.specs.commands.Command as command
@@ -17,12 +18,37 @@ pub use Rattle.restore.specs.declared.fault.RestoreFault.{RestoreFault}
 pub use Rattle.restore.specs.declared.fault.RestoreFault.TheVariants.{Command, Table as OfTable, NotAllowed, BadChainLine, DuplicateChainLine}
 pub use Rattle.restore.specs.declared.fault.RestoreFault.TheVariants.{EndBeforeCommit, Quoting, LineTooLong, NoMemory}
 
+-- memory ran out in a call of the table
+abbrev pub is_memory_of_table : TableFault → Bool
+is_memory_of_table table.NoSuchChain = false
+is_memory_of_table table.ChainExists = false
+is_memory_of_table table.BadChainName = false
+is_memory_of_table table.NumberOutOfRange = false
+is_memory_of_table table.NoSuchRule = false
+is_memory_of_table table.ChainNotEmpty = false
+is_memory_of_table table.ChainReferenced = false
+is_memory_of_table table.BuiltInChain = false
+is_memory_of_table table.NotBuiltInChain = false
+is_memory_of_table table.Loop = false
+is_memory_of_table table.TargetMissing = false
+is_memory_of_table table.TargetBuiltIn = false
+is_memory_of_table table.InterfaceNotAllowed = false
+is_memory_of_table table.ChainFull = false
+is_memory_of_table table.TooManyChains = false
+is_memory_of_table table.BadPolicy = false
+is_memory_of_table table.NoMemory = true
+
 -- memory ran out
 abbrev pub is_out_of_memory : RestoreFault → Bool
-is_out_of_memory NoMemory = true
-is_out_of_memory (OfTable table.NoMemory) = true
 is_out_of_memory (Command fault) = command.is_out_of_memory fault
-is_out_of_memory fault = false
+is_out_of_memory (OfTable fault) = is_memory_of_table fault
+is_out_of_memory NotAllowed = false
+is_out_of_memory BadChainLine = false
+is_out_of_memory DuplicateChainLine = false
+is_out_of_memory EndBeforeCommit = false
+is_out_of_memory Quoting = false
+is_out_of_memory LineTooLong = false
+is_out_of_memory NoMemory = true
 
 -- the table so far, and the names that chain lines had
 pub record Section : Type 0 where

@@ -51,7 +51,7 @@ field_of value.LogTcpOptions = None
 field_of value.LogIpOptions = None
 field_of value.LogUid = None
 
--- whether the value holds of a number of its field
+-- whether the value holds of a number of its field; one that speaks of no field holds of each
 abbrev pub holds_of : Value → ℕ → Bool
 holds_of (value.Source x) n = holds x n
 holds_of (value.Destination x) n = holds x n
@@ -72,7 +72,15 @@ holds_of (value.State x) n = states_pass x n
 holds_of (value.TtlEqual x) n = n == x
 holds_of (value.TtlGreater x) n = nat_lt x n
 holds_of (value.TtlLess x) n = nat_lt n x
-holds_of v n = true
+holds_of (value.Ports x) n = true
+holds_of (value.Comment x) n = true
+holds_of (value.RejectWith x) n = true
+holds_of (value.LogPrefix x) n = true
+holds_of (value.LogLevel x) n = true
+holds_of value.LogTcpSequence n = true
+holds_of value.LogTcpOptions n = true
+holds_of value.LogIpOptions n = true
+holds_of value.LogUid n = true
 
 -- two fields are one
 abbrev pub same_field : Field → Field → Bool

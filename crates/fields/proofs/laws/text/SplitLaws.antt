@@ -1,10 +1,15 @@
 -- What is told of a line's words, by the function that finds them and by what the line is made of.
-use Rattle.std.proofs.Common.{◌≡◌, ℕ, List, Some, None, Result, Ok, Err, refl, sym, ◌∙◌}
+use Rattle.std.proofs.Common.{◌≡◌, ℕ, List, Option, Some, None, Result, Ok, Err, refl, sym, ◌∙◌}
 use Rattle.std.specs.Prelude.{MatchResult, IfOk, IfErr}
+use Rattle.fields.specs.Refusals.{or_refused}
 use Rattle.fields.specs.text.Words.{words_of, AreWords, OnQuoting}
 use Rattle.fields.specs.declared.text.words.WordFault.{WordFault}
 use Rattle.fields.specs.declared.text.words.WordFault.TheVariants.{Quoting, NoMemory}
 use Rattle.fields.proofs.laws.text.WordLaws.{AreWords-words_of, words_of-AreWords}
+
+pub came : (wanted : Option (List (List ℕ))) (words : List (List ℕ)) → or_refused Quoting wanted ≡ Ok words → wanted ≡ Some words
+came (Some found) words is = cc
+came None words is = cc
 
 abbrev pub IsExact : Result (List (List ℕ)) WordFault → List ℕ → Type 0
 IsExact result line = MatchResult result (λ words. words_of line ≡ Some words) (λ fault. OnQuoting fault (words_of line ≡ None))

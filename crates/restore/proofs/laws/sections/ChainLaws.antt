@@ -4,12 +4,13 @@ use Rattle.std.specs.Bool.{MatchBool}
 use Rattle.table.specs.chains.Table.{Table, TableView, has_chain, is_built_in}
 use Rattle.table.specs.edits.Edits.{Edit, Flush, NewChain, SetPolicy, Answers, IsStep, IsStepIfRoom, IsStepOf, may_grow, step}
 use Rattle.table.specs.declared.fault.TableFault.{TableFault}
+use Rattle.fields.specs.Refusals.{Refuses}
 use Rattle.restore.specs.Sequence.{Gives, refused_as}
 use Rattle.restore.specs.sections.Section.{RestoreFault, OfTable, chain_edit, edited_by, is_none_word, is_out_of_memory}
 
 -- a refusal is the definition's, or it says that memory ran out
 refuses : {X Y : Type 0} (view : X → Y) (e : RestoreFault) (given : Result Y RestoreFault) → given ≡ Err e → Gives is_out_of_memory view (Err e) given
-refuses view e given is = elim (is_out_of_memory e) as (λ b. MatchBool b (Unit {0}) (given ≡ Err e)) [ true ↦ tt | false ↦ is ]
+refuses view e given is = elim (is_out_of_memory e) as (λ b. Refuses (if b then None else Some e) given) [ true ↦ tt | false ↦ is ]
 
 -- what a table answers to a step
 answered : (old new : TableView) (s : Result Table TableFault) (r : Result (Unit {0}) TableFault) → Answers s old new r → Gives is_out_of_memory (λ (u : Unit {0}). new.table) (refused_as OfTable r) (refused_as OfTable s)

@@ -1,10 +1,10 @@
 -- What a command of a section does.
-use Rattle.std.proofs.Common.{◌≡◌, ℕ, Bool, true, false, List, [], ◌∷◌, drop, refl, sym, ◌∙◌, ap, subst, Option, Some, Result, Ok, Err, slice_get, is_some, unwrap_or, if◌then◌else◌, length}
+use Rattle.std.proofs.Common.{◌≡◌, ℕ, Bool, true, false, List, [], ◌∷◌, drop, refl, sym, ◌∙◌, ap, subst, Option, Some, None, Result, Ok, Err, slice_get, is_some, unwrap_or, if◌then◌else◌, length}
 use Rattle.std.proofs.lemmas.Bool.{false≢true}
-use Rattle.std.specs.Bool.{MatchBool}
 use Rattle.table.specs.chains.Table.{Table, TableView}
 use Rattle.table.specs.edits.Edits.{Edit}
 use Rattle.table.specs.declared.fault.TableFault.{TableFault}
+use Rattle.fields.specs.Refusals.{Refuses}
 use Rattle.restore.specs.Sequence.{◌>>=◌, Gives, made_into, refused_as}
 use Rattle.restore.specs.commands.Command as command
 use Rattle.restore.specs.commands.Command.{Change, CommandFault, IsApplied, ListRules}
@@ -30,7 +30,7 @@ named_so names t = Ok (record { table = t; named = names })
 with_names : (new : Section) (r : Result (Unit {0}) RestoreFault) (given : Result Table RestoreFault) → Gives is_out_of_memory (λ (u : Unit {0}). new.table) r given → Gives is_out_of_memory (λ (u : Unit {0}). new) r (given >>= named_so new.named)
 with_names new (Ok u) given g = ap (λ (x : Result Table RestoreFault). x >>= named_so new.named) g
 with_names new (Err f) given g =
-    elim (is_out_of_memory f) as (λ b. MatchBool b (Unit {0}) (given ≡ Err f) → MatchBool b (Unit {0}) ((given >>= named_so new.named) ≡ Err f)) [
+    elim (is_out_of_memory f) as (λ b. Refuses (if b then None else Some f) given → Refuses (if b then None else Some f) (given >>= named_so new.named)) [
       | true ↦ λ h. tt
       | false ↦ λ h. ap (λ (x : Result Table RestoreFault). x >>= named_so new.named) h
     ] g

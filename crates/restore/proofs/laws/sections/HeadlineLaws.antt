@@ -29,14 +29,14 @@ answers_ok (Ok s) true old new next a = (λ i. Ok (both (sym a.1 i) (sym (ap (gi
 answers_ok (Ok s) false old new next a = (λ i. Ok (both (sym a.1 i) (sym (ap (given_in next) a.0) i)))
 answers_ok (Err f) puts old new next a = absurd (false≢true (sym (ap is_given a.0)))
 
-accepted : (r next : Restore) (line : List ℕ) (old new : TableView) → IsLine r line old new (Ok next) → restore_line r old.table line ≡ Ok (both new.table next)
-accepted r next line old new (inl a) = answers_ok (restore_line r old.table line) (puts_table r line) old new next a
-accepted r next line old new (inr o) = absurd (false≢true (sym (ap is_given o.answer)))
+pub accepted_line : (r next : Restore) (line : List ℕ) (old new : TableView) → IsLine r line old new (Ok next) → restore_line r old.table line ≡ Ok (both new.table next)
+accepted_line r next line old new (inl a) = answers_ok (restore_line r old.table line) (puts_table r line) old new next a
+accepted_line r next line old new (inr o) = absurd (false≢true (sym (ap is_given o.answer)))
 
 pub lines_leave : LinesLeaveWhatTheyRestore
 lines_leave r s old new [] h = (λ i. Ok (both (sym h.1 i).table (sym h.0 i)))
 lines_leave r s old new (line ∷ lines) h =
-    ap (λ (x : Result Restoring RestoreFault). x >>= λ next. restore_lines next lines) (accepted r h.0 line old h.1 h.2) ∙ lines_leave h.0 s h.1 new lines h.3
+    ap (λ (x : Result Restoring RestoreFault). x >>= λ next. restore_lines next lines) (accepted_line r h.0 line old h.1 h.2) ∙ lines_leave h.0 s h.1 new lines h.3
 
 -- a refusal leaves all as it was
 unchanged : (given : Result Restoring RestoreFault) (puts : Bool) (old new : TableView) (f : RestoreFault) → Answers given puts old new (Err f) → new ≡ old

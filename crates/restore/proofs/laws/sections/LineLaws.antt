@@ -1,8 +1,8 @@
 -- What a restore answers to a line.
-use Rattle.std.proofs.Common.{◌≡◌, inl, inr, ℕ, Bool, true, false, not, ◌||◌, ◌&&◌, List, refl, sym, ◌∙◌, ap, subst, Result, Ok, Err, IsTrue, IsFalse, if◌then◌else◌}
+use Rattle.std.proofs.Common.{◌≡◌, inl, inr, ℕ, Bool, true, false, not, ◌||◌, ◌&&◌, List, refl, sym, ◌∙◌, ap, subst, Some, None, Result, Ok, Err, IsTrue, IsFalse, if◌then◌else◌}
 use Rattle.std.proofs.lemmas.Bool.{true≢false, false≢true, false_from_ne_true}
-use Rattle.std.specs.Bool.{MatchBool}
 use Rattle.table.specs.chains.Table.{Table, TableView}
+use Rattle.fields.specs.Refusals.{Refuses}
 use Rattle.restore.specs.Sequence.{Gives, made_into}
 use Rattle.restore.specs.sections.Lines.{Answers, IsLine, puts_table}
 use Rattle.restore.specs.sections.Restore.{Restore, Restoring, Place, Between, Skipping, Building, between, committed, is_commit, is_skipping, line_at, moved, restore_line, skipped, takes_no_memory}
@@ -25,7 +25,7 @@ answered r line old new result given is a = inl (subst (λ (g : Result Restoring
 -- a refusal: the definition's, or that memory ran out on a line that may take some
 refused : {A : Type 0} (r : Restore) (line : List ℕ) (old : TableView) (f : RestoreFault) (put : A → Restoring) (given : Result A RestoreFault) → restore_line r old.table line ≡ made_into put given → Gives is_out_of_memory (λ x. x) (Err f) given → (takes_no_memory r.place line ≡ true → is_out_of_memory f ≡ false) → IsLine r line old old (Err f)
 refused r line old f put given is g needs =
-    elim (is_out_of_memory f) as (λ b. is_out_of_memory f ≡ b → MatchBool b (Unit {0}) (given ≡ Err f) → IsLine r line old old (Err f)) [
+    elim (is_out_of_memory f) as (λ b. is_out_of_memory f ≡ b → Refuses (if b then None else Some f) given → IsLine r line old old (Err f)) [
       | true ↦ λ memory h. inr (record { fault = f; answer = refl; memory = memory; may_take = false_from_ne_true (takes_no_memory r.place line) (λ takes. true≢false (sym memory ∙ needs takes)); unchanged = refl })
       | false ↦ λ memory h. answered r line old old (Err f) (Err f) (is ∙ ap (made_into put) h) (refl, refl)
     ] refl g

@@ -72,7 +72,7 @@ module _ (R : RattleType) where
   W = the_row P
 
   abbrev ms : List Member
-  ms = record { row = (row_field P).row; ty = layout R } ∷ record { row = bool-field.row; ty = ty_bool } ∷ record { row = u64-field.row; ty = ty_int w64 } ∷ []
+  ms = record { row = (row_field P).row; ty = layout R } ∷ record { row = bool-field.row; ty = ty_bool } ∷ record { row = u64-field.row; ty = ty_int w64 } ∷ record { row = bool-field.row; ty = ty_bool } ∷ []
 
   abbrev d0 : ℕ
   d0 = up (align (layout R)) zero
@@ -88,16 +88,16 @@ module _ (R : RattleType) where
     T = the_type P
 
     abbrev Rest : SProp 𝓤
-    Rest = mean 𝓛 (kept_but T.name ms T.D T.to T.to_one (true ∷ true ∷ false ∷ []) M 𝓤 𝓛 h b o)
+    Rest = mean 𝓛 (kept_but T.name ms T.D T.to T.to_one (true ∷ true ∷ false ∷ false ∷ []) M 𝓤 𝓛 h b o)
 
     cut : ent 𝓤 (sem 𝓛 (part_at W full_share h b o)) (sep 𝓤 (sem 𝓛 (part_at P full_share h.device b (o + d0))) (sep 𝓤 (sem 𝓛 (part_at bool full_share h.failed b (o + d1))) Rest))
-    cut = via 𝓤 (sep 𝓤 (sem 𝓛 (part_at P full_share h.device b (o + d0))) (mean 𝓛 (kept_but T.name ms T.D T.to T.to_one (true ∷ false ∷ false ∷ []) M 𝓤 𝓛 h b o)))
-        (cuts_first T.name ms T.D T.to T.to_one 𝓛 ((param_laws 0 R L).lawful 𝓛, (bool_Lawful 𝓛, (uint_Lawful 𝓛 w64, tt))) 0 tt P d0 (λ k. k.device) (λ k b' o'. refl) h b o)
-        (mono_r 𝓤 (sem 𝓛 (part_at P full_share h.device b (o + d0))) (cuts_but T.name ms T.D T.to T.to_one (true ∷ false ∷ false ∷ []) 1 tt bool d1 (λ k. k.failed) (λ k b' o'. refl) M 𝓤 𝓛 h b o))
+    cut = via 𝓤 (sep 𝓤 (sem 𝓛 (part_at P full_share h.device b (o + d0))) (mean 𝓛 (kept_but T.name ms T.D T.to T.to_one (true ∷ false ∷ false ∷ false ∷ []) M 𝓤 𝓛 h b o)))
+        (cuts_first T.name ms T.D T.to T.to_one 𝓛 ((param_laws 0 R L).lawful 𝓛, (bool_Lawful 𝓛, (uint_Lawful 𝓛 w64, (bool_Lawful 𝓛, tt)))) 0 tt P d0 (λ k. k.device) (λ k b' o'. refl) h b o)
+        (mono_r 𝓤 (sem 𝓛 (part_at P full_share h.device b (o + d0))) (cuts_but T.name ms T.D T.to T.to_one (true ∷ false ∷ false ∷ false ∷ []) 1 tt bool d1 (λ k. k.failed) (λ k b' o'. refl) M 𝓤 𝓛 h b o))
 
     back : (w : R.Denot) (v : Bool) → ent 𝓤 (sep 𝓤 (sem 𝓛 (part_at P full_share w b (o + d0))) (sep 𝓤 (sem 𝓛 (part_at bool full_share v b (o + d1))) Rest)) (sem 𝓛 (part_at W full_share (with_both h w v) b o))
-    back w v = via 𝓤 (sep 𝓤 (sem 𝓛 (part_at P full_share w b (o + d0))) (mean 𝓛 (kept_but T.name ms T.D T.to T.to_one (true ∷ false ∷ false ∷ []) M 𝓤 𝓛 (record h { failed = v }) b o)))
-        (mono_r 𝓤 (sem 𝓛 (part_at P full_share w b (o + d0))) (fills_but T.name ms T.D T.to T.to_one (true ∷ false ∷ false ∷ []) 1 tt bool d1 (λ k x. record k { failed = x }) (λ k x b' o'. refl) (λ k x b' o'. refl) M 𝓤 𝓛 h v b o))
+    back w v = via 𝓤 (sep 𝓤 (sem 𝓛 (part_at P full_share w b (o + d0))) (mean 𝓛 (kept_but T.name ms T.D T.to T.to_one (true ∷ false ∷ false ∷ false ∷ []) M 𝓤 𝓛 (record h { failed = v }) b o)))
+        (mono_r 𝓤 (sem 𝓛 (part_at P full_share w b (o + d0))) (fills_but T.name ms T.D T.to T.to_one (true ∷ false ∷ false ∷ false ∷ []) 1 tt bool d1 (λ k x. record k { failed = x }) (λ k x b' o'. refl) (λ k x b' o'. refl) M 𝓤 𝓛 h v b o))
         (Fills-first T.name ms T.D T.to T.to_one 0 tt P d0 (λ k x. record k { device = x }) (λ k x b' o'. refl) (λ k x b' o'. refl) M 𝓤 𝓛 (record h { failed = v }) w b o)
 
 -- the result

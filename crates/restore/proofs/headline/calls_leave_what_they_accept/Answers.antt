@@ -1,0 +1,10 @@
+use Rattle.restore.proofs.laws.calls.CallLaws.{calls_leave, refused_calls}
+use Rattle.restore.proofs.headline.calls_leave_what_they_accept.Goals as goal
+
+pub returns-clause-leave : goal.returns-clause-leave
+returns-clause-leave c =
+    calls_leave c.calls_leave_what_they_accept.ensures.chains c.calls_leave_what_they_accept.ensures.refused c.listings_restore.ensures.restores c.restores_leave_what_they_accept.ensures.classifiers
+    c.calls_leave_what_they_accept.ensures.classifiers
+
+pub returns-clause-refused : goal.returns-clause-refused
+returns-clause-refused c = refused_calls c.calls_leave_what_they_accept.ensures.chains c.calls_leave_what_they_accept.ensures.refused

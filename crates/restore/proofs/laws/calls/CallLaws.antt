@@ -1,0 +1,236 @@
+-- Calls leave what their accepted changes give by plain list edits.
+use Rattle.std.proofs.Common.{◌≡◌, inl, inr, ℕ, List, [], ◌∷◌, ◌++◌, ◌&&◌, not, Bool, true, false, Option, Some, None, Result, Ok, Err, refl, sym, ap, subst, ◌∙◌, append-nil, IsTrue, if◌then◌else◌}
+use Rattle.std.proofs.lemmas.Bool.{false≢true}
+use Rattle.std.specs.Bool.{MatchBool}
+use Rattle.std.specs.Str.{bytes_eq}
+use Rattle.std.specs.Option.{option_to_list}
+use Rattle.std.specs.Prelude.{codes}
+use Rattle.fields.specs.text.Words.{words_of}
+use Rattle.table.specs.edits.Edits.{Edit, IsStep, IsStepIfRoom, edited, fault_of, may_grow, step}
+use Rattle.table.specs.edits.Headline.{ChainsHaveOneListOfClassifiers, edited_by}
+use Rattle.table.specs.edits.Headline as table_law
+use Rattle.table.specs.chains.Table.{AreClassified, Table, TableView}
+use Rattle.table.specs.declared.fault.TableFault.{TableFault}
+use Rattle.restore.specs.Sequence.{◌>>=◌, Gives, or_refused, refused_as, made_into}
+use Rattle.restore.specs.calls.Changes as change
+use Rattle.restore.specs.calls.Changes.{Change, changed, changed_by, edit_asked}
+use Rattle.restore.specs.calls.Calls.{Call, Edits, Begins, Takes, Commits, GivesUp, Reads, Ends, Open, Standing, standing, opened, with_line, section_change, accepted, accepted_of, after, open_after, open_at, IsCall, IsOpenIn, Lead, is_refused}
+use Rattle.restore.specs.calls.Headline.{CallsLeaveWhatTheyAccept, RefusedCallsChangeNothing, Stands}
+use Rattle.restore.specs.listings.RoundTrip.{ListingsRestoreClassifiers, RestoresAsEqual}
+use Rattle.restore.specs.sections.Lines.{IsLine, is_building, puts_table}
+use Rattle.restore.specs.sections.Names.{Names}
+use Rattle.restore.specs.sections.Restore.{Place, Between, Skipping, Building, Restore, Restoring, moved, opening, between, line_at, is_commit, restore_line}
+use Rattle.restore.specs.sections.Section as section
+use Rattle.restore.specs.sections.Section.{Asked, OfTable, Quoting, RestoreFault, asked, begun, begins_with, is_out_of_memory, is_quiet, is_too_long, line_in}
+use Rattle.restore.proofs.laws.sections.HeadlineLaws.{accepted_line, refused_unchanged}
+
+-- what holds of both arms holds of the whole
+of_both : {A : Type 0} (P : A → Type 0) (b : Bool) {x y : A} → P x → P y → P (if b then x else y)
+of_both P true p q = p
+of_both P false p q = q
+
+-- what holds of what was given
+abbrev OnGiven : {A E : Type 0} → Result A E → (A → Type 0) → Type 0
+OnGiven (Ok x) P = P x
+OnGiven (Err e) P = Unit {0}
+
+-- plain edits one after another
+
+pub changed_then : (t : Table) (first next : List Change) → changed_by t (first ++ next) ≡ changed_by (changed_by t first) next
+changed_then t [] next = refl
+changed_then t (change ∷ first) next = changed_then (changed t change) first next
+
+edited_snoc : (t : Table) (es : List Edit) (e : Edit) → edited_by t (es ++ e ∷ []) ≡ edited e (edited_by t es)
+edited_snoc t [] e = refl
+edited_snoc t (d ∷ ds) e = edited_snoc (edited d t) ds e
+
+chosen : (e : Edit) (t : Table) (o : Option TableFault) → OnGiven (let r : Result Table TableFault = elim o [ None ↦ Ok (edited e t) | Some f ↦ Err f ] in r) (λ u. u ≡ edited e t)
+chosen e t None = refl
+chosen e t (Some f) = tt
+
+step_edits : (e : Edit) (t : Table) → OnGiven (step e t) (λ u. u ≡ edited e t)
+step_edits e t = chosen e t (fault_of e t)
+
+-- lines of a section
+
+edits_step : (b u : Table) (es : List Edit) (e : Edit) (named : Names) (r : Result Table TableFault) → u ≡ edited_by b es → OnGiven r (λ v. v ≡ edited e u)
+    → OnGiven (refused_as OfTable r >>= λ v. Ok (let s : section.Section = record { table = v; named = named } in s)) (λ next. next.table ≡ edited_by b (es ++ e ∷ []))
+edits_step b u es e named (Ok v) h g = g ∙ ap (edited e) h ∙ sym (edited_snoc b es e)
+edits_step b u es e named (Err f) h g = tt
+
+edits_one : (b u : Table) (es : List Edit) (e : Option Edit) (named : Names) → u ≡ edited_by b es
+    → OnGiven (section.edited_by e u >>= λ v. Ok (let s : section.Section = record { table = v; named = named } in s)) (λ next. next.table ≡ edited_by b (es ++ option_to_list e))
+edits_one b u es None named h = h ∙ sym (ap (edited_by b) (append-nil es))
+edits_one b u es (Some e) named h = edits_step b u es e named (step e u) h (step_edits e u)
+
+edits_asked : (b : Table) (s : section.Section) (es : List Edit) (q : Result Asked RestoreFault) → s.table ≡ edited_by b es
+    → OnGiven (section.done s q) (λ next. next.table ≡ edited_by b (es ++ edit_asked q))
+edits_asked b s es (Ok a) h = edits_one b s.table es a.edit (section.with_name a.name s.named) h
+edits_asked b s es (Err f) h = tt
+
+-- the open section is the edits of its lines, made of the table in place
+
+abbrev Fits : Table → Option Open → Type 0
+Fits t None = Unit {0}
+Fits t (Some o) = o.section.table ≡ edited_by (begun o.noflush t).table o.edits
+
+-- a line of the open section
+fits_line : (t : Table) (o : Open) (line : List ℕ) (r : Result section.Section RestoreFault) → Fits t (Some o) → line_in o.section line ≡ r → OnGiven r (λ next. Fits t (Some (with_line line next o)))
+fits_line t o line r fits is =
+    subst (λ (x : Result section.Section RestoreFault). OnGiven x (λ next. Fits t (Some (with_line line next o)))) is (edits_asked (begun o.noflush t).table o.section o.edits (asked o.section line) fits)
+
+-- what a call leaves: the table of the plain edits, and a section that fits
+record Follows (s : Standing) (call : Call) (new : TableView) : Type 0 where
+  table : new.table ≡ (after s call).table
+  fits : Fits (after s call).table (after s call).open
+
+-- edits of the table
+
+-- of a call that takes memory or takes none
+of_either : (e : Edit) (old new : TableView) (r : Result (Unit {0}) TableFault) (grows : Bool) → MatchBool grows (IsStepIfRoom e old new r) (IsStep e old new r) → IsStepIfRoom e old new r
+of_either e old new r true h = h
+of_either e old new r false h = inl h
+
+module _ (leave : table_law.CallsLeaveWhatTheyAccept) (refuse : table_law.RefusedCallsChangeNothing) where
+  follows_edit : (s : Standing) (old new : TableView) (e : Edit) (r : Result (Unit {0}) TableFault) → old.table ≡ s.table → s.open ≡ None → IsStepIfRoom e old new r → Follows s (Edits e r) new
+  follows_edit s old new e (Ok u) is none h = record {
+    table = leave old new (record { edit = e; answer = Ok u } ∷ []) (new, h, refl) ∙ ap (edited e) is;
+    fits = subst (Fits (edited e s.table)) (sym none) tt;
+  }
+  follows_edit s old new e (Err f) is none h = record {
+    table = ap (λ (v : TableView). v.table) (refuse e old new f h) ∙ is;
+    fits = subst (Fits s.table) (sym none) tt;
+  }
+
+-- lines of a restore
+
+-- what a line of a restore leaves: the table of the change that it makes, and a section that fits
+record FitsNext (t : Table) (open : Option Open) (line : List ℕ) (r : Restore) (place : Place) (next : Restoring) : Type 0 where
+  table : next.table ≡ changed_by t (if is_building place && is_commit line && not r.test then section_change open else [])
+  fits : Fits next.table (open_at next.restore.place r.noflush line open)
+
+-- a place after a line between sections: a section that is built was begun from the table
+abbrev IsBegun : Bool → Table → Place → Type 0
+IsBegun noflush t Between = Unit {0}
+IsBegun noflush t Skipping = Unit {0}
+IsBegun noflush t (Building s) = s ≡ begun noflush t
+
+fits_begun : (noflush : Bool) (t : Table) (line : List ℕ) (place : Place) → IsBegun noflush t place → Fits t (open_at place noflush line None)
+fits_begun noflush t line Between is = tt
+fits_begun noflush t line Skipping is = tt
+fits_begun noflush t line (Building s) is = ap (λ (x : section.Section). x.table) is
+
+opens : (t : Table) (line : List ℕ) (r : Restore) (p : Result Place RestoreFault) → OnGiven p (IsBegun r.noflush t) → OnGiven (made_into (moved t r) p) (FitsNext t None line r Between)
+opens t line r (Ok place) is = record { table = refl; fits = fits_begun r.noflush t line place is }
+opens t line r (Err f) is = tt
+
+opening_is : (t : Table) (r : Restore) (words : List (List ℕ)) → OnGiven (opening r.noflush t words) (IsBegun r.noflush t)
+opening_is t r [] = tt
+opening_is t r (w ∷ []) =
+    of_both (λ p. OnGiven p (IsBegun r.noflush t)) (begins_with 42 w) (of_both (IsBegun r.noflush t) (bytes_eq w (codes "*filter")) refl tt) tt
+opening_is t r (w ∷ (v ∷ vs)) = tt
+
+opening_on : (t : Table) (r : Restore) (words : Option (List (List ℕ))) → OnGiven (or_refused Quoting words >>= λ ws. opening r.noflush t ws) (IsBegun r.noflush t)
+opening_on t r None = tt
+opening_on t r (Some ws) = opening_is t r ws
+
+between_is : (t : Table) (r : Restore) (line : List ℕ) → OnGiven (between r.noflush t line) (IsBegun r.noflush t)
+between_is t r line = of_both (λ p. OnGiven p (IsBegun r.noflush t)) (is_quiet line) tt (opening_on t r (words_of line))
+
+commits : (t u : Table) (es : List Edit) (noflush test : Bool) → u ≡ edited_by (begun noflush t).table es
+    → (if test then t else u) ≡ changed_by t (if not test then change.Section noflush es ∷ [] else [])
+commits t u es noflush true fits = refl
+commits t u es noflush false fits = fits
+
+builds : (t : Table) (o : Open) (line : List ℕ) (r : Restore) (q : Result section.Section RestoreFault) → OnGiven q (λ next. Fits t (Some (with_line line next o)))
+    → OnGiven (made_into (λ next. moved t r (Building next)) q) (λ (next : Restoring). (next.table ≡ t) × Fits next.table (open_at next.restore.place r.noflush line (Some o)))
+builds t o line r (Ok next) fits = (refl, fits)
+builds t o line r (Err f) fits = tt
+
+-- a line of a section that is built, by whether it is `COMMIT`
+fits_built : (t : Table) (o : Open) (line : List ℕ) (r : Restore) (q : Result Restoring RestoreFault) (commit : Bool) → Fits t (Some o)
+    → OnGiven q (λ (next : Restoring). (next.table ≡ t) × Fits next.table (open_at next.restore.place r.noflush line (Some o)))
+    → OnGiven (if commit then Ok (moved (if r.test then t else o.section.table) r Between) else q)
+      (λ (next : Restoring). (next.table ≡ changed_by t (if commit && not r.test then section_change (Some o) else [])) × Fits next.table (open_at next.restore.place r.noflush line (Some o)))
+fits_built t o line r q true fits rest = (commits t o.section.table o.edits o.noflush r.test fits, tt)
+fits_built t o line r q false fits rest = rest
+
+as_next : (t : Table) (open : Option Open) (line : List ℕ) (r : Restore) (place : Place) (q : Result Restoring RestoreFault)
+    → OnGiven q (λ (next : Restoring). (next.table ≡ changed_by t (if is_building place && is_commit line && not r.test then section_change open else [])) × Fits next.table (open_at next.restore.place r.noflush line open))
+    → OnGiven q (FitsNext t open line r place)
+as_next t open line r place (Ok next) h = record { table = h.0; fits = h.1 }
+as_next t open line r place (Err f) h = tt
+
+fits_at : (t : Table) (open : Option Open) (line : List ℕ) (r : Restore) (place : Place) → Fits t open → IsOpenIn place r.noflush open
+    → OnGiven (line_at place r t line) (FitsNext t open line r place)
+fits_at t open line r Between fits is =
+    subst (λ (o : Option Open). OnGiven (line_at Between r t line) (FitsNext t o line r Between)) (sym is) (opens t line r (between r.noflush t line) (between_is t r line))
+fits_at t open line r Skipping fits is =
+    record { table = refl; fits = of_both (λ (p : Place). Fits t (open_at p r.noflush line open)) (is_commit line) tt tt }
+fits_at t open line r (Building s) fits is =
+    let o : Open = record { noflush = r.noflush; section = s; edits = is.0 } in
+    let own : Fits t (Some o) = subst (Fits t) is.1 fits in
+    subst (λ (x : Option Open). OnGiven (line_at (Building s) r t line) (FitsNext t x line r (Building s))) (sym is.1)
+      (as_next t (Some o) line r (Building s) (line_at (Building s) r t line)
+        (fits_built t o line r (made_into (λ next. moved t r (Building next)) (line_in s line)) (is_commit line) own (builds t o line r (line_in s line) (fits_line t o line (line_in s line) own refl))))
+
+fits_read : (t : Table) (open : Option Open) (line : List ℕ) (r : Restore) → Fits t open → IsOpenIn r.place r.noflush open
+    → OnGiven (restore_line r t line) (FitsNext t open line r r.place)
+unfolding restore_line
+fits_read t open line r fits is =
+    of_both {A = Result Restoring RestoreFault} (λ p. OnGiven p (FitsNext t open line r r.place)) (is_too_long line) tt (fits_at t open line r r.place fits is)
+
+follows_line : (s : Standing) (old new : TableView) (r next : Restore) (line : List ℕ) → old.table ≡ s.table → Fits s.table s.open → IsOpenIn r.place r.noflush s.open
+    → IsLine r line old new (Ok next) → Follows s (Reads r line (Ok next)) new
+follows_line s old new r next line is fits open h =
+    let given : restore_line r s.table line ≡ Ok (record { table = new.table; restore = next }) = subst (λ (t : Table). restore_line r t line ≡ Ok (let x : Restoring = record { table = new.table; restore = next } in x)) is (accepted_line r next line old new h) in
+    let came : FitsNext s.table s.open line r r.place (record { table = new.table; restore = next }) = subst (λ (x : Result Restoring RestoreFault). OnGiven x (FitsNext s.table s.open line r r.place)) given (fits_read s.table s.open line r fits open) in
+    record { table = came.table; fits = subst (λ (t : Table). Fits t (open_at next.place r.noflush line s.open)) came.table came.fits }
+
+-- all calls
+
+module _ (leave : table_law.CallsLeaveWhatTheyAccept) (refuse : table_law.RefusedCallsChangeNothing) where
+  follows : (s : Standing) (old new : TableView) (call : Call) → old.table ≡ s.table → Fits s.table s.open → IsCall s old call new → Follows s call new
+  follows s old new (Edits e r) is fits h = follows_edit leave refuse s old new e r is h.0 (of_either e old new r (may_grow e) h.1)
+  follows s old new (Begins noflush) is fits h = record { table = ap (λ (v : TableView). v.table) h.1 ∙ is; fits = refl }
+  follows s old new (Takes line (Ok next)) is fits h = record {
+    table = ap (λ (v : TableView). v.table) h.2.2.1 ∙ is;
+    fits = subst (λ (x : Option Open). Fits s.table (open_after (record { table = s.table; open = x }) (Takes line (Ok next)))) (sym h.1)
+      (fits_line s.table h.0 line (Ok next) (subst (Fits s.table) h.1 fits) h.2.0);
+  }
+  follows s old new (Takes line (Err f)) is fits h = record { table = ap (λ (v : TableView). v.table) h.2.2.1 ∙ is; fits = tt }
+  follows s old new Commits is fits h = record {
+    table = h.2.1 ∙ subst (λ (x : Option Open). h.0.section.table ≡ changed_by s.table (section_change x)) (sym h.1) (subst (Fits s.table) h.1 fits);
+    fits = tt;
+  }
+  follows s old new GivesUp is fits h = record { table = ap (λ (v : TableView). v.table) h ∙ is; fits = tt }
+  follows s old new (Reads r line (Ok next)) is fits h = follows_line s old new r next line is fits h.0 h.1
+  follows s old new (Reads r line (Err f)) is fits h = record { table = ap (λ (v : TableView). v.table) (refused_unchanged r line old new f h.1) ∙ is; fits = tt }
+  follows s old new (Ends r answer) is fits h = record { table = ap (λ (v : TableView). v.table) h.1.1 ∙ is; fits = tt }
+
+  leads : (s : Standing) (old new : TableView) (calls : List Call) → old.table ≡ s.table → Fits s.table s.open → Lead s old calls new → new.table ≡ changed_by s.table (accepted s calls)
+  leads s old new [] is fits h = ap (λ (v : TableView). v.table) h ∙ is
+  leads s old new (call ∷ calls) is fits h =
+    let one = follows s old h.0 call is fits h.1 in
+    leads (after s call) h.0 new calls one.table one.fits h.2 ∙ sym (changed_then s.table (accepted_of s call) (accepted (after s call) calls))
+
+  pub refused_calls : RefusedCallsChangeNothing
+  refused_calls s old new (Edits e (Ok u)) h is = absurd (false≢true is)
+  refused_calls s old new (Edits e (Err f)) h is = refuse e old new f (of_either e old new (Err f) (may_grow e) h.1)
+  refused_calls s old new (Begins noflush) h is = h.1
+  refused_calls s old new (Takes line answer) h is = h.2.2.1
+  refused_calls s old new Commits h is = absurd (false≢true is)
+  refused_calls s old new GivesUp h is = h
+  refused_calls s old new (Reads r line (Ok next)) h is = absurd (false≢true is)
+  refused_calls s old new (Reads r line (Err f)) h is = refused_unchanged r line old new f h.1
+  refused_calls s old new (Ends r answer) h is = h.1.1
+
+  pub calls_leave : RestoresAsEqual → ListingsRestoreClassifiers → ChainsHaveOneListOfClassifiers → CallsLeaveWhatTheyAccept
+  calls_leave restores listings one old new calls stands lead = record {
+    chains = leads (standing old.table) old new calls refl tt lead;
+    restores = restores new.table stands.sound;
+    restored = λ made other is. listings new made stands.sound stands.classified other.classified is;
+    classifiers = λ other also is.
+      let lists : other.classifiers ≡ new.classifiers = one new.table.chains other.classifiers new.classifiers (subst (λ (x : Table). AreClassified x.chains other.classifiers) is also.classified) stands.classified in
+      (λ i. record { table = is i; classifiers = lists i });
+  }

@@ -1,0 +1,33 @@
+-- After any list of calls, refused ones among them, the chains are those of the accepted changes as plain list edits, each chain's
+-- classifier is that of its rules and of the restored listing, and what was refused changed nothing.
+use Rattle.std.specs.Prelude.{◌≡◌, List, IsTrue}
+use Rattle.table.specs.chains.Sound.{IsSound}
+use Rattle.table.specs.chains.Table.{AreClassified, TableView}
+use Rattle.restore.specs.calls.Calls.{Call, IsCall, Lead, Standing, accepted, is_refused, standing}
+use Rattle.restore.specs.calls.Changes.{changed_by}
+use Rattle.restore.specs.listings.RoundTrip.{IsRestored, RestoresItself}
+
+-- what `Table::stands` says of every table
+pub record Stands (t : TableView) : Type 0 where
+  pub sound : IsSound t.table
+  pub classified : AreClassified t.table.chains t.classifiers
+
+-- what calls left of a table
+pub record Leaves (old : TableView) (calls : List Call) (new : TableView) : Type 0 where
+  -- the chains are those that the accepted changes give by plain list edits
+  pub chains : new.table ≡ changed_by old.table (accepted (standing old.table) calls)
+  -- the present listing restores into an empty table without a refusal, as a table of these chains
+  pub restores : RestoresItself new.table
+  -- and whatever table that restore gives has these classifiers
+  pub restored : (made : TableView) → Stands made → IsRestored new.table made.table → made ≡ new
+  -- and so has whatever table other calls lead to, where it has these chains
+  pub classifiers : (other : TableView) → Stands other → other.table ≡ new.table → other ≡ new
+
+-- whatever calls lead from one table to another, they leave so
+abbrev pub CallsLeaveWhatTheyAccept : Type 0
+CallsLeaveWhatTheyAccept =
+    (old new : TableView) (calls : List Call) → Stands new → Lead (standing old.table) old calls new → Leaves old calls new
+
+-- a call that is refused changes nothing, classifiers included
+abbrev pub RefusedCallsChangeNothing : Type 0
+RefusedCallsChangeNothing = (s : Standing) (old new : TableView) (call : Call) → IsCall s old call new → IsTrue (is_refused call) → new ≡ old
