@@ -2,7 +2,8 @@
 use Rattle.std.specs.Prelude.{ℕ, ◌+◌, ◌-◌, ◌/◌, ◌%◌, ◌^◌, Bool, true, false, List, [], ◌∷◌, ◌++◌, map, flat_map, slice_index, codes, decimal}
 use Rattle.std.specs.List.{join_with_byte, range_with_len}
 use Rattle.fields.specs.declared.numbers.field.Field.{Field}
-use Rattle.fields.specs.declared.numbers.field.Field.TheVariants.{InIface, OutIface}
+use Rattle.fields.specs.declared.numbers.field.Field.TheVariants.{Source, Destination, InIface, OutIface, SourcePort, DestinationPort}
+use Rattle.fields.specs.declared.numbers.field.Field.TheVariants.{Protocol, Fragment, TcpFlags, IcmpType, ConnectionState, TimeToLive}
 use Rattle.fields.specs.numbers.Field.{all_fields, name}
 use Rattle.rules.specs.rule.Rules.{Rule}
 use Rattle.classify.specs.classifier.OfRules.{lines_of}
@@ -19,7 +20,16 @@ hexadecimal n = map (digit_at n) (range_with_len 0 32)
 abbrev pub start_text : Field → ℕ → List ℕ
 start_text InIface n = hexadecimal n
 start_text OutIface n = hexadecimal n
-start_text field n = decimal n
+start_text Source n = decimal n
+start_text Destination n = decimal n
+start_text SourcePort n = decimal n
+start_text DestinationPort n = decimal n
+start_text Protocol n = decimal n
+start_text Fragment n = decimal n
+start_text TcpFlags n = decimal n
+start_text IcmpType n = decimal n
+start_text ConnectionState n = decimal n
+start_text TimeToLive n = decimal n
 
 -- the rules that allow the piece, where the first of these answers is that of rule n
 abbrev pub numbers_from : ℕ → List Bool → List ℕ

@@ -29,11 +29,11 @@ pub fn restores_leave_what_they_accept()
 /// section of a restore to its `COMMIT`, no other call changes the table.
 ///
 /// With `Table::stands`, `Table::verdict` and `Table::trail` it says what a table shows after any list of calls.
-pub fn calls_leave_what_they_accept()
+pub fn all_calls_leave_what_they_accept()
     ensures leave { CallsLeaveWhatTheyAccept }
     ensures refused { RefusedCallsChangeNothing }
 {
     listings_restore();
     restores_leave_what_they_accept();
-    table::calls_leave_what_they_accept();
+    calls_leave_what_they_accept();
 }

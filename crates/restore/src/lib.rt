@@ -13,7 +13,7 @@ mod section;
 pub use change::apply;
 pub use command::Command;
 pub use fault::{CommandFault, RestoreFault};
-pub use headline::{calls_leave_what_they_accept, restores_leave_what_they_accept};
+pub use headline::{all_calls_leave_what_they_accept, restores_leave_what_they_accept};
 pub use listing::{write_listing, write_rules};
 pub use restore::Restore;
 pub use round_trip::listings_restore;

@@ -23,30 +23,30 @@ pub data Call : Type 0 where
 
 -- the section of a transaction or a restore that is neither committed nor given up: how it began, what it is so far, and the
 -- edits that its lines asked for
-pub record Open : Type 0 where
+pub record Pending : Type 0 where
   pub noflush : Bool
   pub section : Section
   pub edits : List Edit
 
 -- a section without a line so far
-abbrev pub opened : Bool → Section → Open
+abbrev pub opened : Bool → Section → Pending
 opened noflush section = record { noflush = noflush; section = section; edits = [] }
 
 -- a section with one line more
-abbrev pub with_line : List ℕ → Section → Open → Open
+abbrev pub with_line : List ℕ → Section → Pending → Pending
 with_line line section o = record { noflush = o.noflush; section = section; edits = o.edits ++ edit_asked (asked o.section line) }
 
--- how a table stands: its lists, and the section that is open, if one is
+-- how a table stands: its lists, and the section that is pending, if one is
 pub record Standing : Type 0 where
   pub table : Table
-  pub open : Option Open
+  pub pending : Option Pending
 
--- no section is open
+-- no section is pending
 abbrev pub standing : Table → Standing
-standing t = record { table = t; open = None }
+standing t = record { table = t; pending = None }
 
 -- the change that a committed section makes
-abbrev pub section_change : Option Open → List Change
+abbrev pub section_change : Option Pending → List Change
 section_change None = []
 section_change (Some o) = change.Section o.noflush o.edits ∷ []
 
@@ -57,34 +57,34 @@ accepted_of s (Edits edit (Ok done)) = change.Command edit ∷ []
 accepted_of s (Edits edit (Err fault)) = []
 accepted_of s (Begins noflush) = []
 accepted_of s (Takes line answer) = []
-accepted_of s Commits = section_change s.open
+accepted_of s Commits = section_change s.pending
 accepted_of s GivesUp = []
-accepted_of s (Reads r line (Ok next)) = if puts_table r line then section_change s.open else []
+accepted_of s (Reads r line (Ok next)) = if puts_table r line then section_change s.pending else []
 accepted_of s (Reads r line (Err fault)) = []
 accepted_of s (Ends r answer) = []
 
--- the section that is open after a restore's line, by where its next line stands
-abbrev pub open_at : Place → Bool → List ℕ → Option Open → Option Open
-open_at Between noflush line open = None
-open_at Skipping noflush line open = None
-open_at (Building next) noflush line None = Some (opened noflush next)
-open_at (Building next) noflush line (Some o) = Some (with_line line next o)
+-- the section that is pending after a restore's line, by where its next line stands
+abbrev pub pending_at : Place → Bool → List ℕ → Option Pending → Option Pending
+pending_at Between noflush line pending = None
+pending_at Skipping noflush line pending = None
+pending_at (Building next) noflush line None = Some (opened noflush next)
+pending_at (Building next) noflush line (Some o) = Some (with_line line next o)
 
--- the section that is open after a call; a refusal gives it up
-abbrev pub open_after : Standing → Call → Option Open
-open_after s (Edits edit answer) = s.open
-open_after s (Begins noflush) = Some (opened noflush (begun noflush s.table))
-open_after s (Takes line (Ok next)) = option_map (with_line line next) s.open
-open_after s (Takes line (Err fault)) = None
-open_after s Commits = None
-open_after s GivesUp = None
-open_after s (Reads r line (Ok next)) = open_at next.place r.noflush line s.open
-open_after s (Reads r line (Err fault)) = None
-open_after s (Ends r answer) = None
+-- the section that is pending after a call; a refusal gives it up
+abbrev pub pending_after : Standing → Call → Option Pending
+pending_after s (Edits edit answer) = s.pending
+pending_after s (Begins noflush) = Some (opened noflush (begun noflush s.table))
+pending_after s (Takes line (Ok next)) = option_map (with_line line next) s.pending
+pending_after s (Takes line (Err fault)) = None
+pending_after s Commits = None
+pending_after s GivesUp = None
+pending_after s (Reads r line (Ok next)) = pending_at next.place r.noflush line s.pending
+pending_after s (Reads r line (Err fault)) = None
+pending_after s (Ends r answer) = None
 
 -- how the table stands after a call, by plain list edits
 abbrev pub after : Standing → Call → Standing
-after s call = record { table = changed_by s.table (accepted_of s call); open = open_after s call }
+after s call = record { table = changed_by s.table (accepted_of s call); pending = pending_after s call }
 
 -- the changes that calls made, in order
 abbrev pub accepted : Standing → List Call → List Change
@@ -92,22 +92,22 @@ accepted s [] = []
 accepted s (call ∷ calls) = accepted_of s call ++ accepted (after s call) calls
 
 -- the condition on callers: from the line that opens a section to its end no other call changes the table
-abbrev pub IsOpenIn : Place → Bool → Option Open → Type 0
-IsOpenIn Between noflush open = open ≡ None
-IsOpenIn Skipping noflush open = open ≡ None
-IsOpenIn (Building section) noflush open = (edits : List Edit) × (open ≡ Some (record { noflush = noflush; section = section; edits = edits }))
+abbrev pub IsPendingIn : Place → Bool → Option Pending → Type 0
+IsPendingIn Between noflush pending = pending ≡ None
+IsPendingIn Skipping noflush pending = pending ≡ None
+IsPendingIn (Building section) noflush pending = (edits : List Edit) × (pending ≡ Some (record { noflush = noflush; section = section; edits = edits }))
 
 -- what a call answers and leaves of the table, by its contract; an edit and the begin of a transaction need that no section is
--- open, the line of a section and its end that it is the open one
+-- pending, the line of a section and its end that it is the pending one
 abbrev pub IsCall : Standing → TableView → Call → TableView → Type 0
-IsCall s old (Edits edit answer) new = (s.open ≡ None) × IsStepOf edit old new answer
-IsCall s old (Begins noflush) new = (s.open ≡ None) × (new ≡ old)
+IsCall s old (Edits edit answer) new = (s.pending ≡ None) × IsStepOf edit old new answer
+IsCall s old (Begins noflush) new = (s.pending ≡ None) × (new ≡ old)
 IsCall s old (Takes line answer) new =
-    (o : Open) × (s.open ≡ Some o) × Gives is_out_of_memory (λ (next : Section). next) answer (line_in o.section line) × (new ≡ old)
-IsCall s old Commits new = (o : Open) × (s.open ≡ Some o) × (new.table ≡ o.section.table)
+    (o : Pending) × (s.pending ≡ Some o) × Gives is_out_of_memory (λ (next : Section). next) answer (line_in o.section line) × (new ≡ old)
+IsCall s old Commits new = (o : Pending) × (s.pending ≡ Some o) × (new.table ≡ o.section.table)
 IsCall s old GivesUp new = new ≡ old
-IsCall s old (Reads r line answer) new = IsOpenIn r.place r.noflush s.open × IsLine r line old new answer
-IsCall s old (Ends r answer) new = IsOpenIn r.place r.noflush s.open × (answer ≡ ended_at r.place) × (new ≡ old)
+IsCall s old (Reads r line answer) new = IsPendingIn r.place r.noflush s.pending × IsLine r line old new answer
+IsCall s old (Ends r answer) new = IsPendingIn r.place r.noflush s.pending × (answer ≡ ended_at r.place) × (new ≡ old)
 
 -- calls, made one after another, lead from one table to another
 abbrev pub Lead : Standing → TableView → List Call → TableView → Type 0

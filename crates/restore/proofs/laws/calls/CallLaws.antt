@@ -14,7 +14,7 @@ use Rattle.table.specs.declared.fault.TableFault.{TableFault}
 use Rattle.restore.specs.Sequence.{◌>>=◌, Gives, or_refused, refused_as, made_into}
 use Rattle.restore.specs.calls.Changes as change
 use Rattle.restore.specs.calls.Changes.{Change, changed, changed_by, edit_asked}
-use Rattle.restore.specs.calls.Calls.{Call, Edits, Begins, Takes, Commits, GivesUp, Reads, Ends, Open, Standing, standing, opened, with_line, section_change, accepted, accepted_of, after, open_after, open_at, IsCall, IsOpenIn, Lead, is_refused}
+use Rattle.restore.specs.calls.Calls.{Call, Edits, Begins, Takes, Commits, GivesUp, Reads, Ends, Pending, Standing, standing, opened, with_line, section_change, accepted, accepted_of, after, pending_after, pending_at, IsCall, IsPendingIn, Lead, is_refused}
 use Rattle.restore.specs.calls.Headline.{CallsLeaveWhatTheyAccept, RefusedCallsChangeNothing, Stands}
 use Rattle.restore.specs.listings.RoundTrip.{ListingsRestoreClassifiers, RestoresAsEqual}
 use Rattle.restore.specs.sections.Lines.{IsLine, is_building, puts_table}
@@ -68,21 +68,21 @@ edits_asked : (b : Table) (s : section.Section) (es : List Edit) (q : Result Ask
 edits_asked b s es (Ok a) h = edits_one b s.table es a.edit (section.with_name a.name s.named) h
 edits_asked b s es (Err f) h = tt
 
--- the open section is the edits of its lines, made of the table in place
+-- the pending section is the edits of its lines, made of the table in place
 
-abbrev Fits : Table → Option Open → Type 0
+abbrev Fits : Table → Option Pending → Type 0
 Fits t None = Unit {0}
 Fits t (Some o) = o.section.table ≡ edited_by (begun o.noflush t).table o.edits
 
--- a line of the open section
-fits_line : (t : Table) (o : Open) (line : List ℕ) (r : Result section.Section RestoreFault) → Fits t (Some o) → line_in o.section line ≡ r → OnGiven r (λ next. Fits t (Some (with_line line next o)))
+-- a line of the pending section
+fits_line : (t : Table) (o : Pending) (line : List ℕ) (r : Result section.Section RestoreFault) → Fits t (Some o) → line_in o.section line ≡ r → OnGiven r (λ next. Fits t (Some (with_line line next o)))
 fits_line t o line r fits is =
     subst (λ (x : Result section.Section RestoreFault). OnGiven x (λ next. Fits t (Some (with_line line next o)))) is (edits_asked (begun o.noflush t).table o.section o.edits (asked o.section line) fits)
 
 -- what a call leaves: the table of the plain edits, and a section that fits
 record Follows (s : Standing) (call : Call) (new : TableView) : Type 0 where
   table : new.table ≡ (after s call).table
-  fits : Fits (after s call).table (after s call).open
+  fits : Fits (after s call).table (after s call).pending
 
 -- edits of the table
 
@@ -92,7 +92,7 @@ of_either e old new r true h = h
 of_either e old new r false h = inl h
 
 module _ (leave : table_law.CallsLeaveWhatTheyAccept) (refuse : table_law.RefusedCallsChangeNothing) where
-  follows_edit : (s : Standing) (old new : TableView) (e : Edit) (r : Result (Unit {0}) TableFault) → old.table ≡ s.table → s.open ≡ None → IsStepIfRoom e old new r → Follows s (Edits e r) new
+  follows_edit : (s : Standing) (old new : TableView) (e : Edit) (r : Result (Unit {0}) TableFault) → old.table ≡ s.table → s.pending ≡ None → IsStepIfRoom e old new r → Follows s (Edits e r) new
   follows_edit s old new e (Ok u) is none h = record {
     table = leave old new (record { edit = e; answer = Ok u } ∷ []) (new, h, refl) ∙ ap (edited e) is;
     fits = subst (Fits (edited e s.table)) (sym none) tt;
@@ -105,9 +105,9 @@ module _ (leave : table_law.CallsLeaveWhatTheyAccept) (refuse : table_law.Refuse
 -- lines of a restore
 
 -- what a line of a restore leaves: the table of the change that it makes, and a section that fits
-record FitsNext (t : Table) (open : Option Open) (line : List ℕ) (r : Restore) (place : Place) (next : Restoring) : Type 0 where
-  table : next.table ≡ changed_by t (if is_building place && is_commit line && not r.test then section_change open else [])
-  fits : Fits next.table (open_at next.restore.place r.noflush line open)
+record FitsNext (t : Table) (pending : Option Pending) (line : List ℕ) (r : Restore) (place : Place) (next : Restoring) : Type 0 where
+  table : next.table ≡ changed_by t (if is_building place && is_commit line && not r.test then section_change pending else [])
+  fits : Fits next.table (pending_at next.restore.place r.noflush line pending)
 
 -- a place after a line between sections: a section that is built was begun from the table
 abbrev IsBegun : Bool → Table → Place → Type 0
@@ -115,7 +115,7 @@ IsBegun noflush t Between = Unit {0}
 IsBegun noflush t Skipping = Unit {0}
 IsBegun noflush t (Building s) = s ≡ begun noflush t
 
-fits_begun : (noflush : Bool) (t : Table) (line : List ℕ) (place : Place) → IsBegun noflush t place → Fits t (open_at place noflush line None)
+fits_begun : (noflush : Bool) (t : Table) (line : List ℕ) (place : Place) → IsBegun noflush t place → Fits t (pending_at place noflush line None)
 fits_begun noflush t line Between is = tt
 fits_begun noflush t line Skipping is = tt
 fits_begun noflush t line (Building s) is = ap (λ (x : section.Section). x.table) is
@@ -142,73 +142,73 @@ commits : (t u : Table) (es : List Edit) (noflush test : Bool) → u ≡ edited_
 commits t u es noflush true fits = refl
 commits t u es noflush false fits = fits
 
-builds : (t : Table) (o : Open) (line : List ℕ) (r : Restore) (q : Result section.Section RestoreFault) → OnGiven q (λ next. Fits t (Some (with_line line next o)))
-    → OnGiven (made_into (λ next. moved t r (Building next)) q) (λ (next : Restoring). (next.table ≡ t) × Fits next.table (open_at next.restore.place r.noflush line (Some o)))
+builds : (t : Table) (o : Pending) (line : List ℕ) (r : Restore) (q : Result section.Section RestoreFault) → OnGiven q (λ next. Fits t (Some (with_line line next o)))
+    → OnGiven (made_into (λ next. moved t r (Building next)) q) (λ (next : Restoring). (next.table ≡ t) × Fits next.table (pending_at next.restore.place r.noflush line (Some o)))
 builds t o line r (Ok next) fits = (refl, fits)
 builds t o line r (Err f) fits = tt
 
 -- a line of a section that is built, by whether it is `COMMIT`
-fits_built : (t : Table) (o : Open) (line : List ℕ) (r : Restore) (q : Result Restoring RestoreFault) (commit : Bool) → Fits t (Some o)
-    → OnGiven q (λ (next : Restoring). (next.table ≡ t) × Fits next.table (open_at next.restore.place r.noflush line (Some o)))
+fits_built : (t : Table) (o : Pending) (line : List ℕ) (r : Restore) (q : Result Restoring RestoreFault) (commit : Bool) → Fits t (Some o)
+    → OnGiven q (λ (next : Restoring). (next.table ≡ t) × Fits next.table (pending_at next.restore.place r.noflush line (Some o)))
     → OnGiven (if commit then Ok (moved (if r.test then t else o.section.table) r Between) else q)
-      (λ (next : Restoring). (next.table ≡ changed_by t (if commit && not r.test then section_change (Some o) else [])) × Fits next.table (open_at next.restore.place r.noflush line (Some o)))
+      (λ (next : Restoring). (next.table ≡ changed_by t (if commit && not r.test then section_change (Some o) else [])) × Fits next.table (pending_at next.restore.place r.noflush line (Some o)))
 fits_built t o line r q true fits rest = (commits t o.section.table o.edits o.noflush r.test fits, tt)
 fits_built t o line r q false fits rest = rest
 
-as_next : (t : Table) (open : Option Open) (line : List ℕ) (r : Restore) (place : Place) (q : Result Restoring RestoreFault)
-    → OnGiven q (λ (next : Restoring). (next.table ≡ changed_by t (if is_building place && is_commit line && not r.test then section_change open else [])) × Fits next.table (open_at next.restore.place r.noflush line open))
-    → OnGiven q (FitsNext t open line r place)
-as_next t open line r place (Ok next) h = record { table = h.0; fits = h.1 }
-as_next t open line r place (Err f) h = tt
+as_next : (t : Table) (pending : Option Pending) (line : List ℕ) (r : Restore) (place : Place) (q : Result Restoring RestoreFault)
+    → OnGiven q (λ (next : Restoring). (next.table ≡ changed_by t (if is_building place && is_commit line && not r.test then section_change pending else [])) × Fits next.table (pending_at next.restore.place r.noflush line pending))
+    → OnGiven q (FitsNext t pending line r place)
+as_next t pending line r place (Ok next) h = record { table = h.0; fits = h.1 }
+as_next t pending line r place (Err f) h = tt
 
-fits_at : (t : Table) (open : Option Open) (line : List ℕ) (r : Restore) (place : Place) → Fits t open → IsOpenIn place r.noflush open
-    → OnGiven (line_at place r t line) (FitsNext t open line r place)
-fits_at t open line r Between fits is =
-    subst (λ (o : Option Open). OnGiven (line_at Between r t line) (FitsNext t o line r Between)) (sym is) (opens t line r (between r.noflush t line) (between_is t r line))
-fits_at t open line r Skipping fits is =
-    record { table = refl; fits = of_both (λ (p : Place). Fits t (open_at p r.noflush line open)) (is_commit line) tt tt }
-fits_at t open line r (Building s) fits is =
-    let o : Open = record { noflush = r.noflush; section = s; edits = is.0 } in
+fits_at : (t : Table) (pending : Option Pending) (line : List ℕ) (r : Restore) (place : Place) → Fits t pending → IsPendingIn place r.noflush pending
+    → OnGiven (line_at place r t line) (FitsNext t pending line r place)
+fits_at t pending line r Between fits is =
+    subst (λ (o : Option Pending). OnGiven (line_at Between r t line) (FitsNext t o line r Between)) (sym is) (opens t line r (between r.noflush t line) (between_is t r line))
+fits_at t pending line r Skipping fits is =
+    record { table = refl; fits = of_both (λ (p : Place). Fits t (pending_at p r.noflush line pending)) (is_commit line) tt tt }
+fits_at t pending line r (Building s) fits is =
+    let o : Pending = record { noflush = r.noflush; section = s; edits = is.0 } in
     let own : Fits t (Some o) = subst (Fits t) is.1 fits in
-    subst (λ (x : Option Open). OnGiven (line_at (Building s) r t line) (FitsNext t x line r (Building s))) (sym is.1)
+    subst (λ (x : Option Pending). OnGiven (line_at (Building s) r t line) (FitsNext t x line r (Building s))) (sym is.1)
       (as_next t (Some o) line r (Building s) (line_at (Building s) r t line)
         (fits_built t o line r (made_into (λ next. moved t r (Building next)) (line_in s line)) (is_commit line) own (builds t o line r (line_in s line) (fits_line t o line (line_in s line) own refl))))
 
-fits_read : (t : Table) (open : Option Open) (line : List ℕ) (r : Restore) → Fits t open → IsOpenIn r.place r.noflush open
-    → OnGiven (restore_line r t line) (FitsNext t open line r r.place)
+fits_read : (t : Table) (pending : Option Pending) (line : List ℕ) (r : Restore) → Fits t pending → IsPendingIn r.place r.noflush pending
+    → OnGiven (restore_line r t line) (FitsNext t pending line r r.place)
 unfolding restore_line
-fits_read t open line r fits is =
-    of_both {A = Result Restoring RestoreFault} (λ p. OnGiven p (FitsNext t open line r r.place)) (is_too_long line) tt (fits_at t open line r r.place fits is)
+fits_read t pending line r fits is =
+    of_both {A = Result Restoring RestoreFault} (λ p. OnGiven p (FitsNext t pending line r r.place)) (is_too_long line) tt (fits_at t pending line r r.place fits is)
 
-follows_line : (s : Standing) (old new : TableView) (r next : Restore) (line : List ℕ) → old.table ≡ s.table → Fits s.table s.open → IsOpenIn r.place r.noflush s.open
+follows_line : (s : Standing) (old new : TableView) (r next : Restore) (line : List ℕ) → old.table ≡ s.table → Fits s.table s.pending → IsPendingIn r.place r.noflush s.pending
     → IsLine r line old new (Ok next) → Follows s (Reads r line (Ok next)) new
-follows_line s old new r next line is fits open h =
+follows_line s old new r next line is fits pending h =
     let given : restore_line r s.table line ≡ Ok (record { table = new.table; restore = next }) = subst (λ (t : Table). restore_line r t line ≡ Ok (let x : Restoring = record { table = new.table; restore = next } in x)) is (accepted_line r next line old new h) in
-    let came : FitsNext s.table s.open line r r.place (record { table = new.table; restore = next }) = subst (λ (x : Result Restoring RestoreFault). OnGiven x (FitsNext s.table s.open line r r.place)) given (fits_read s.table s.open line r fits open) in
-    record { table = came.table; fits = subst (λ (t : Table). Fits t (open_at next.place r.noflush line s.open)) came.table came.fits }
+    let came : FitsNext s.table s.pending line r r.place (record { table = new.table; restore = next }) = subst (λ (x : Result Restoring RestoreFault). OnGiven x (FitsNext s.table s.pending line r r.place)) given (fits_read s.table s.pending line r fits pending) in
+    record { table = came.table; fits = subst (λ (t : Table). Fits t (pending_at next.place r.noflush line s.pending)) came.table came.fits }
 
 -- all calls
 
 module _ (leave : table_law.CallsLeaveWhatTheyAccept) (refuse : table_law.RefusedCallsChangeNothing) where
-  follows : (s : Standing) (old new : TableView) (call : Call) → old.table ≡ s.table → Fits s.table s.open → IsCall s old call new → Follows s call new
+  follows : (s : Standing) (old new : TableView) (call : Call) → old.table ≡ s.table → Fits s.table s.pending → IsCall s old call new → Follows s call new
   follows s old new (Edits e r) is fits h = follows_edit leave refuse s old new e r is h.0 (of_either e old new r (may_grow e) h.1)
   follows s old new (Begins noflush) is fits h = record { table = ap (λ (v : TableView). v.table) h.1 ∙ is; fits = refl }
   follows s old new (Takes line (Ok next)) is fits h = record {
-    table = ap (λ (v : TableView). v.table) h.2.2.1 ∙ is;
-    fits = subst (λ (x : Option Open). Fits s.table (open_after (record { table = s.table; open = x }) (Takes line (Ok next)))) (sym h.1)
-      (fits_line s.table h.0 line (Ok next) (subst (Fits s.table) h.1 fits) h.2.0);
+    table = ap (λ (v : TableView). v.table) h.3 ∙ is;
+    fits = subst (λ (x : Option Pending). Fits s.table (pending_after (record { table = s.table; pending = x }) (Takes line (Ok next)))) (sym h.1)
+      (fits_line s.table h.0 line (Ok next) (subst (Fits s.table) h.1 fits) h.2);
   }
-  follows s old new (Takes line (Err f)) is fits h = record { table = ap (λ (v : TableView). v.table) h.2.2.1 ∙ is; fits = tt }
+  follows s old new (Takes line (Err f)) is fits h = record { table = ap (λ (v : TableView). v.table) h.3 ∙ is; fits = tt }
   follows s old new Commits is fits h = record {
-    table = h.2.1 ∙ subst (λ (x : Option Open). h.0.section.table ≡ changed_by s.table (section_change x)) (sym h.1) (subst (Fits s.table) h.1 fits);
+    table = h.2 ∙ subst (λ (x : Option Pending). h.0.section.table ≡ changed_by s.table (section_change x)) (sym h.1) (subst (Fits s.table) h.1 fits);
     fits = tt;
   }
   follows s old new GivesUp is fits h = record { table = ap (λ (v : TableView). v.table) h ∙ is; fits = tt }
   follows s old new (Reads r line (Ok next)) is fits h = follows_line s old new r next line is fits h.0 h.1
   follows s old new (Reads r line (Err f)) is fits h = record { table = ap (λ (v : TableView). v.table) (refused_unchanged r line old new f h.1) ∙ is; fits = tt }
-  follows s old new (Ends r answer) is fits h = record { table = ap (λ (v : TableView). v.table) h.1.1 ∙ is; fits = tt }
+  follows s old new (Ends r answer) is fits h = record { table = ap (λ (v : TableView). v.table) h.2 ∙ is; fits = tt }
 
-  leads : (s : Standing) (old new : TableView) (calls : List Call) → old.table ≡ s.table → Fits s.table s.open → Lead s old calls new → new.table ≡ changed_by s.table (accepted s calls)
+  leads : (s : Standing) (old new : TableView) (calls : List Call) → old.table ≡ s.table → Fits s.table s.pending → Lead s old calls new → new.table ≡ changed_by s.table (accepted s calls)
   leads s old new [] is fits h = ap (λ (v : TableView). v.table) h ∙ is
   leads s old new (call ∷ calls) is fits h =
     let one = follows s old h.0 call is fits h.1 in
@@ -218,12 +218,12 @@ module _ (leave : table_law.CallsLeaveWhatTheyAccept) (refuse : table_law.Refuse
   refused_calls s old new (Edits e (Ok u)) h is = absurd (false≢true is)
   refused_calls s old new (Edits e (Err f)) h is = refuse e old new f (of_either e old new (Err f) (may_grow e) h.1)
   refused_calls s old new (Begins noflush) h is = h.1
-  refused_calls s old new (Takes line answer) h is = h.2.2.1
+  refused_calls s old new (Takes line answer) h is = h.3
   refused_calls s old new Commits h is = absurd (false≢true is)
   refused_calls s old new GivesUp h is = h
   refused_calls s old new (Reads r line (Ok next)) h is = absurd (false≢true is)
   refused_calls s old new (Reads r line (Err f)) h is = refused_unchanged r line old new f h.1
-  refused_calls s old new (Ends r answer) h is = h.1.1
+  refused_calls s old new (Ends r answer) h is = h.2
 
   pub calls_leave : RestoresAsEqual → ListingsRestoreClassifiers → ChainsHaveOneListOfClassifiers → CallsLeaveWhatTheyAccept
   calls_leave restores listings one old new calls stands lead = record {

@@ -1,5 +1,5 @@
 use Rattle.restore.proofs.laws.calls.CallLaws.{calls_leave, refused_calls}
-use Rattle.restore.proofs.headline.calls_leave_what_they_accept.Goals as goal
+use Rattle.restore.proofs.headline.all_calls_leave_what_they_accept.Goals as goal
 
 pub returns-clause-leave : goal.returns-clause-leave
 returns-clause-leave c =
