@@ -2,6 +2,7 @@
 
 ghost use Rattle.table.specs.edits.Headline.{CallsLeaveWhatTheyAccept, RefusedCallsChangeNothing};
 ghost use Rattle.table.specs.edits.Headline.{ChainsHaveOneListOfClassifiers, OutOfMemoryIsNoCause};
+ghost use Rattle.table.specs.walk.Cases.{WalksByCases, WalksInOneWay};
 
 use classify::rules_have_one_classifier;
 
@@ -18,3 +19,10 @@ pub fn calls_leave_what_they_accept()
 {
     rules_have_one_classifier();
 }
+
+/// The law of the walk, by the cases of one rule after another: of every packet and table `walk` says what the walk ends
+/// with, and it ends with nothing else.
+pub fn walks_go_by_their_cases()
+    ensures is { WalksByCases }
+    ensures one { WalksInOneWay }
+{}

@@ -19,7 +19,7 @@ mod verdict;
 mod walk;
 
 pub use fault::TableFault;
-pub use headline::calls_leave_what_they_accept;
+pub use headline::{calls_leave_what_they_accept, walks_go_by_their_cases};
 pub use made::tables_are_made_by_edits;
 pub use policy::Policy;
 pub use table::Table;

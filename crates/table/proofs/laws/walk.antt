@@ -5,3 +5,4 @@ pub mod HitLaws
 pub mod TurnLaws
 pub mod TrailLaws
 pub mod TableWalkLaws
+pub mod CaseLaws

@@ -16,10 +16,10 @@ use Rattle.table.proofs.laws.walk.DepthLaws.{depth_from}
 
 -- The walk with room for so many entries
 
-abbrev by_hit : ℕ → List Chain → Verdict → List ℕ → Option Hit → Option Walked
+abbrev pub by_hit : ℕ → List Chain → Verdict → List ℕ → Option Hit → Option Walked
 by_hit room cs policy values o = elim o as (λ x. Option Walked) [ None ↦ Some (at_end policy) | Some hit ↦ followed (walk_within room cs policy values) hit.entry (next_of hit) ]
 
-abbrev at_last : Verdict → Option Hit → Option Walked
+abbrev pub at_last : Verdict → Option Hit → Option Walked
 at_last policy o = elim o as (λ x. Option Walked) [ None ↦ Some (at_end policy) | Some hit ↦ None ]
 
 pub within_end : (left : ℕ) (cs : List Chain) (policy : Verdict) (values : List ℕ) (rests : List Rest) → first_hit cs values rests ≡ None → walk_within left cs policy values rests ≡ Some (at_end policy)
