@@ -2,10 +2,11 @@
 ghost use Rattle.std.specs.Prelude.{◌≡◌, ◌<◌, ◌≤◌, ◌-◌, [], length, map, slice_index, slice_index_or, slice_get, Some};
 ghost use Rattle.std.specs.Prelude.{None, IfOk};
 ghost use Rattle.classify.specs.classifier.Classifier.{IsClassifierOfRules};
-ghost use Rattle.table.specs.chains.Sound.{IsSound};
+ghost use Rattle.table.specs.chains.Sound.{IsSound, LeadsByPaths};
 ghost use Rattle.std.specs.List.{position};
 ghost use Rattle.table.specs.chains.Table.{AreClassified, chain_at, empty_table, emptied, is_named};
-ghost use Rattle.table.specs.walk.Walk.{walk};
+ghost use Rattle.table.specs.walk.Cases.{Walks};
+ghost use Rattle.table.specs.walk.Walk.{Walked, walk};
 ghost use Rattle.table.specs.walk.Trail.{Shows};
 ghost use Rattle.table.specs.edits.Edits.{Append, DeleteAt, DeleteRule, Flush, FlushAll, Has, Insert, IsStep};
 ghost use Rattle.table.specs.edits.Edits.{IsStepIfRoom, NewChain, Replace, SetPolicy};
@@ -57,10 +58,12 @@ impl Model for Table {
 }
 
 impl Table {
-    /// The law of every table: it is sound, and each chain's classifier is that of its rules. It does nothing.
+    /// The law of every table: it is sound, and each chain's classifier is that of its rules; and a chain leads to another,
+    /// as edits ask it, just where a path of jumps and gotos does. It does nothing.
     pub fn stands(&self)
         ensures sound { IsSound self.now.table }
         ensures classified { AreClassified self.now.table.chains self.now.classifiers }
+        ensures loops { LeadsByPaths self.now.table.chains }
     {
         let _count = self.order.len();
     }
@@ -202,7 +205,8 @@ impl Table {
 
     /// What becomes of a packet, by the classifiers of the chains: the verdict of its walk. It takes no memory.
     pub fn verdict(&self, packet: &Packet) -> Verdict
-        ensures { result ≡ (walk self.now.table packet.now).verdict }
+        ensures walk { result ≡ (walk self.now.table packet.now).verdict }
+        ensures cases { (w : Walked) → Walks self.now.table packet.now w → result ≡ w.verdict }
     {
         let hook = store::hook_place(packet.hook());
         let policy = self.policies[hook].verdict();
@@ -215,7 +219,9 @@ impl Table {
     ///
     /// `AllocError` where memory was refused.
     pub fn trail(&self, packet: &Packet) -> Result<Trail, AllocError>
-        ensures { IfOk result (Shows self.now.table.chains (walk self.now.table packet.now)) }
+        ensures walk { IfOk result (Shows self.now.table.chains (walk self.now.table packet.now)) }
+        ensures cases { (w : Walked) → Walks self.now.table packet.now w
+            → IfOk result (Shows self.now.table.chains w) }
     {
         let hook = store::hook_place(packet.hook());
         let policy = self.policies[hook].verdict();

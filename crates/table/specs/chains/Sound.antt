@@ -1,11 +1,11 @@
 -- What holds of every table (iptables(8), "TARGETS"; the limits are this project's).
-use Rattle.std.specs.Prelude.{◌≡◌, ℕ, zero, suc, ◌≤◌, List, length, take, drop, Some, Contains, All, AllPairs, IsTrue, IsFalse}
+use Rattle.std.specs.Prelude.{◌≡◌, ◌↔◌, ℕ, zero, suc, ◌≤◌, List, length, take, drop, Some, Contains, All, AllPairs, IsTrue, IsFalse}
 use Rattle.fields.specs.values.Name.{is_name}
 use Rattle.rules.specs.printing.RoundTrip.{TextReadsBack}
 use Rattle.rules.specs.rule.Rules.{Rule}
 use Rattle.table.specs.chains.Table.{Chain, Table, built_in_names, names_of, is_built_in, has_chain, rules_of, user_chains, comes_before}
 use Rattle.table.specs.chains.Table.{chain_named_by}
-use Rattle.table.specs.edits.Edits.{asks_absent_interface}
+use Rattle.table.specs.edits.Edits.{asks_absent_interface, leads}
 
 -- a rule of one chain names another
 abbrev pub Names : List Chain → List ℕ → List ℕ → Type 0
@@ -19,6 +19,10 @@ Path chains (suc n) a b = (c : List ℕ) × Names chains a c × Path chains n c 
 -- a path leads from one chain to another, also one of no step
 abbrev pub Leads : List Chain → List ℕ → List ℕ → Type 0
 Leads chains a b = (n : ℕ) × Path chains n a b
+
+-- what the commands ask of chains, counting the steps down, is whether some path of jumps and gotos leads there
+abbrev pub LeadsByPaths : List Chain → Type 0
+LeadsByPaths chains = (from to : List ℕ) → IsTrue (leads chains from to) ↔ Leads chains from to
 
 -- no path comes back to its start
 abbrev pub HasNoLoop : List Chain → Type 0

@@ -93,9 +93,14 @@ comes_before a b = is_lt (slice_cmp nat_cmp a b)
 
 -- the chain that a target names
 abbrev pub chain_in : Option Target → Option (List ℕ)
+chain_in None = None
+chain_in (Some target.Log) = None
+chain_in (Some target.Accept) = None
+chain_in (Some target.Drop) = None
+chain_in (Some (target.Reject kind)) = None
+chain_in (Some target.Return) = None
 chain_in (Some (target.Jump name)) = Some name
 chain_in (Some (target.Goto name)) = Some name
-chain_in t = None
 
 -- the chain that a rule names, by `-j` or `-g`
 abbrev pub chain_named_by : Rule → Option (List ℕ)

@@ -228,8 +228,16 @@ abbrev pub may_grow : Edit → Bool
 may_grow (Append c r) = true
 may_grow (Insert c n r) = true
 may_grow (Replace c n r) = true
+may_grow (DeleteAt c n) = false
+may_grow (DeleteRule c r) = false
+may_grow (Has c r) = false
+may_grow (Flush c) = false
+may_grow FlushAll = false
 may_grow (NewChain c) = true
-may_grow edit = false
+may_grow (DeleteChain c) = false
+may_grow DeleteChains = false
+may_grow (SetPolicy c text) = false
+may_grow (Rename old new) = false
 
 -- of any call: out of memory may refuse a command that takes memory, and no other
 abbrev pub IsStepOf : Edit → TableView → TableView → Result (Unit {0}) TableFault → Type 0

@@ -37,14 +37,19 @@ next_by slots (course.Goes key) at stack = GoesOn (rest_of slots (start key) ∷
 
 -- the chain under the key that a course leads to stands in the index
 abbrev pub LeadsIn : List ℕ → Course → Type 0
+LeadsIn order (course.Ends v) = Unit {0}
+LeadsIn order course.GoesOn = Unit {0}
+LeadsIn order course.Returns = Unit {0}
 LeadsIn order (course.Jumps key) = IsIn order key
 LeadsIn order (course.Goes key) = IsIn order key
-LeadsIn order c = Unit {0}
 
 -- the course puts a rest on the stack, and so many places are taken already
 abbrev pub NoRoom : ℕ → Course → List Pending → Type 0
+NoRoom places (course.Ends v) stack = ⊥
+NoRoom places course.GoesOn stack = ⊥
+NoRoom places course.Returns stack = ⊥
 NoRoom places (course.Jumps key) stack = places ≤ length stack
-NoRoom places c stack = ⊥
+NoRoom places (course.Goes key) stack = ⊥
 
 -- the keys stand in the index
 pub record IsState (order : List ℕ) (at : Pending) (stack : List Pending) : Type 0 where

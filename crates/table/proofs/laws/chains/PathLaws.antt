@@ -8,7 +8,7 @@ use Rattle.std.proofs.lemmas.Slice.Eq.{bytes_eq-Decides}
 use Rattle.rules.specs.rule.Rules.{Rule}
 use Rattle.table.specs.chains.Table.{Chain, names_of, rules_of, chain_named_by}
 use Rattle.table.specs.edits.Edits.{leads_from, leads_within, leads}
-use Rattle.table.specs.chains.Sound.{Names, Path, Leads, HasNoLoop}
+use Rattle.table.specs.chains.Sound.{Names, Path, Leads, LeadsByPaths, HasNoLoop}
 
 pub step_on : (cs : List Chain) (a b c : List ℕ) → Names cs a b → Leads cs b c → Leads cs a c
 step_on cs a b c e q = (suc q.0, (b, e, q.1))
@@ -120,3 +120,6 @@ leads_is_path cs a b h = leads_sound (length cs) cs a b h
 
 pub path_is_led : (cs : List Chain) (a b : List ℕ) → HasNoLoop cs → Leads cs a b → leads cs a b ≡ true
 path_is_led cs a b ac p = leads_path (length cs) p.0 cs a b (path_short cs p.0 a b ac p.1) p.1
+
+pub leads_by_paths : (cs : List Chain) → HasNoLoop cs → LeadsByPaths cs
+leads_by_paths cs ac from to = (leads_is_path cs from to, path_is_led cs from to ac)
