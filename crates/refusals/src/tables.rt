@@ -330,7 +330,7 @@ fn trail_of(
 /// Whether a trail is of the three rules of INPUT, the last of which drops the packet.
 fn is_trail(trail: &Trail) -> bool {
     let numbers = [(0, 1), (0, 2), (0, 3)];
-    let steps = trail.steps.as_slice();
+    let steps = trail.steps();
     if steps.len() != numbers.len() {
         return false;
     }
@@ -339,7 +339,7 @@ fn is_trail(trail: &Trail) -> bool {
             return false;
         }
     }
-    trail.verdict == Verdict::Drop && !trail.by_policy
+    trail.verdict() == Verdict::Drop && !trail.by_policy()
 }
 
 /// `Table::trail`.

@@ -118,6 +118,6 @@ pub fn write_walk<W: Write>(
     if output.failed() {
         return Err(WriteFailed);
     }
-    put_entries(table, &trail.steps, output)?;
-    put_verdict(trail.verdict, trail.by_policy, output)
+    put_entries(table, trail.steps(), output)?;
+    put_verdict(trail.verdict(), trail.by_policy(), output)
 }

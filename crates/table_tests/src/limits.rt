@@ -109,9 +109,9 @@ fn row_of_chains(rt: &impl Abort, filter: &mut Filter) -> Result<(), Fail> {
 
 // Compares how many steps a trail has, and how it ends.
 fn trail_ends(rt: &impl Abort, trail: &Trail, steps: usize, verdict: Verdict, by_policy: bool) {
-    assert_eq!(rt; trail.steps.len(), steps);
-    assert_eq!(rt; trail.verdict, verdict);
-    assert_eq!(rt; trail.by_policy, by_policy);
+    assert_eq!(rt; trail.steps().len(), steps);
+    assert_eq!(rt; trail.verdict(), verdict);
+    assert_eq!(rt; trail.by_policy(), by_policy);
 }
 
 // Compares how many steps a walk has, and how it ends.
@@ -150,7 +150,7 @@ fn passes(rt: &impl Abort, filter: &Filter, step: &Step, place: usize) -> Result
 // Compares the steps of a walk through the row of chains.
 fn passes_each(rt: &impl Abort, filter: &Filter) -> Result<(), Fail> {
     let trail = filter.trail(rt, PACKET)?;
-    for (place, step) in trail.steps.as_slice().iter().enumerate() {
+    for (place, step) in trail.steps().iter().enumerate() {
         passes(rt, filter, step, place)?;
     }
     Ok(())
@@ -232,7 +232,7 @@ fn forty_doubling_chains(rt: HostRuntime) -> Result<(), Fail> {
 
 // Compares the first and last steps of a walk that begins and ends in INPUT.
 fn is_between(rt: &impl Abort, trail: &Trail) {
-    let (first, last) = (trail.steps.first(), trail.steps.last());
+    let (first, last) = (trail.steps().first(), trail.steps().last());
     let in_input = |number| Step { chain: 0, number };
     assert!(rt; first == Some(&in_input(1)));
     assert!(rt; last == Some(&in_input(2)));

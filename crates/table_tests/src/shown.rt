@@ -71,9 +71,9 @@ fn policy_text(policy: Option<Policy>) -> &'static [u8] {
 
 // What is shown of the cause of a verdict.
 fn cause_text(trail: &Trail) -> &'static [u8] {
-    if trail.verdict == Verdict::TooLong {
+    if trail.verdict() == Verdict::TooLong {
         b""
-    } else if trail.by_policy {
+    } else if trail.by_policy() {
         b" by policy"
     } else {
         b" by rule"
@@ -184,7 +184,7 @@ impl Filter {
     pub(crate) fn trail(&self, rt: &impl Abort, line: &str) -> Result<Trail, Fail> {
         let packet = packet(self.alloc, line)?;
         let trail = self.table.trail(&packet)?;
-        assert_eq!(rt; self.table.verdict(&packet), trail.verdict, "{line}");
+        assert_eq!(rt; self.table.verdict(&packet), trail.verdict(), "{line}");
         Ok(trail)
     }
 
@@ -208,10 +208,10 @@ impl Filter {
         output: &mut Tap<Vec<u8>>,
         trail: &Trail,
     ) -> Result<(), Fail> {
-        for step in trail.steps.as_slice() {
+        for step in trail.steps() {
             self.put_step(rt, output, step)?;
         }
-        put_verdict(output, trail.verdict)?;
+        put_verdict(output, trail.verdict())?;
         output.put(cause_text(trail))?;
         Ok(())
     }

@@ -22,20 +22,38 @@ pub struct Step {
     pub number: usize,
 }
 
-/// The rules that match a packet, and what becomes of it.
+/// The rules that match a packet, and what becomes of it: what the walk of `Table::trail` gave.
 #[derive(Drop)]
 pub struct Trail {
-    /// The rules, in turn. There are none where the walk is too long.
-    pub steps: Vec<Step>,
-    /// What becomes of the packet.
-    pub verdict: Verdict,
-    /// Whether the policy of the built-in chain gave the verdict.
-    pub by_policy: bool,
+    steps: Vec<Step>,
+    verdict: Verdict,
+    by_policy: bool,
 }
 
 impl Trail {
+    /// The rules, in turn; they are lent. There are none where the walk is too long.
+    pub fn steps(&self) -> &[Step]
+        ensures { result.now ≡ self.now.steps.items }
+    {
+        &self.steps
+    }
+
+    /// What becomes of the packet.
+    pub fn verdict(&self) -> Verdict
+        ensures { result ≡ self.now.verdict }
+    {
+        self.verdict
+    }
+
+    /// Whether the policy of the built-in chain gave the verdict.
+    pub fn by_policy(&self) -> bool
+        ensures { result ≡ self.now.by_policy }
+    {
+        self.by_policy
+    }
+
     // Of a walk that no rule decided.
-    fn by_policy(steps: Vec<Step>, policy: Verdict) -> Trail
+    fn undecided(steps: Vec<Step>, policy: Verdict) -> Trail
         ensures { result ≡ record { steps = steps; verdict = policy; by_policy = true } }
     {
         Trail {
@@ -93,7 +111,7 @@ pub(crate) fn trace(
     let mut steps = Vec::new(alloc);
     'walk: loop {
         let Some(course) = advance(chains, order, packet, &mut at, &mut stack) else {
-            return Ok(Trail::by_policy(steps, policy));
+            return Ok(Trail::undecided(steps, policy));
         };
         if left == 0 {
             return Ok(Trail::decided(Vec::new(alloc), Verdict::TooLong));
@@ -102,7 +120,7 @@ pub(crate) fn trace(
         steps.push(step_before(chains, order, at))?;
         match follow(course, &mut at, &mut stack) {
             Turn::Decides(verdict) => return Ok(Trail::decided(steps, verdict)),
-            Turn::Policy => return Ok(Trail::by_policy(steps, policy)),
+            Turn::Policy => return Ok(Trail::undecided(steps, policy)),
             Turn::Goes => {}
             Turn::Full => unreachable!(),
         }

@@ -22,8 +22,8 @@ walk-init c =
 
 pub returns-in_default : goal.returns-in_default
 returns-in_default c =
-    shows_end (listed c.args.chains.now.slots c.args.order.now.items) c.walk.invariant.entries (walk_within c.walk.left (listed c.args.chains.now.slots c.args.order.now.items) c.args.policy c.args.packet.now.values (state_of c.args.chains.now.slots c.walk.at c.walk.stack.items)) (at_end c.args.policy) _ (record { steps = c.walk.steps; verdict = c.args.policy; by_policy = true }) c.by_policy.result
-    (within_end c.walk.left (listed c.args.chains.now.slots c.args.order.now.items) c.args.policy c.args.packet.now.values (state_of c.args.chains.now.slots c.walk.at c.walk.stack.items) c.in_default.ensures.none) c.walk.invariant.same (shown_end (listed c.args.chains.now.slots c.args.order.now.items) c.walk.invariant.entries c.walk.steps.items c.walk.invariant.shown) refl refl c.by_policy.ensures
+    shows_end (listed c.args.chains.now.slots c.args.order.now.items) c.walk.invariant.entries (walk_within c.walk.left (listed c.args.chains.now.slots c.args.order.now.items) c.args.policy c.args.packet.now.values (state_of c.args.chains.now.slots c.walk.at c.walk.stack.items)) (at_end c.args.policy) _ (record { steps = c.walk.steps; verdict = c.args.policy; by_policy = true }) c.undecided.result
+    (within_end c.walk.left (listed c.args.chains.now.slots c.args.order.now.items) c.args.policy c.args.packet.now.values (state_of c.args.chains.now.slots c.walk.at c.walk.stack.items) c.in_default.ensures.none) c.walk.invariant.same (shown_end (listed c.args.chains.now.slots c.args.order.now.items) c.walk.invariant.entries c.walk.steps.items c.walk.invariant.shown) refl refl c.undecided.ensures
 
 pub returns-then-left-eq0 : goal.returns-then-left-eq0
 returns-then-left-eq0 c =
@@ -38,9 +38,9 @@ returns-in-Decides c =
 
 pub returns-in-Policy : goal.returns-in-Policy
 returns-in-Policy c =
-    shows_end (listed c.args.chains.now.slots c.args.order.now.items) c.walk.invariant.entries (walk_within c.walk.left (listed c.args.chains.now.slots c.args.order.now.items) c.args.policy c.args.packet.now.values (state_of c.args.chains.now.slots c.walk.at c.walk.stack.items)) (with_entry c.in-Some.ensures.some.hit.entry (at_end c.args.policy)) _ (record { steps = c.push.new.self; verdict = c.args.policy; by_policy = true }) c.by_policy-in-Policy.result
+    shows_end (listed c.args.chains.now.slots c.args.order.now.items) c.walk.invariant.entries (walk_within c.walk.left (listed c.args.chains.now.slots c.args.order.now.items) c.args.policy c.args.packet.now.values (state_of c.args.chains.now.slots c.walk.at c.walk.stack.items)) (with_entry c.in-Some.ensures.some.hit.entry (at_end c.args.policy)) _ (record { steps = c.push.new.self; verdict = c.args.policy; by_policy = true }) c.undecided-in-Policy.result
     (within_policy c.walk.left (listed c.args.chains.now.slots c.args.order.now.items) c.args.policy c.args.packet.now.values (state_of c.args.chains.now.slots c.walk.at c.walk.stack.items) c.in-Some.ensures.some.hit c.in-Some.ensures.some.is (c.in-Some.ensures.some.next ∙ c.in-Policy.ensures.follows c.args.chains.now.slots) (omega arith)) c.walk.invariant.same
-    (shown_one (listed c.args.chains.now.slots c.args.order.now.items) c.walk.invariant.entries c.walk.steps.items c.push.new.self.items c.in-Some.ensures.some.hit.entry c.step_before.result c.walk.invariant.shown (ap (shown (listed c.args.chains.now.slots c.args.order.now.items)) c.in-Some.ensures.some.entry ∙ c.step_before.ensures) c.in_ok-push.ensures.items) refl refl c.by_policy-in-Policy.ensures
+    (shown_one (listed c.args.chains.now.slots c.args.order.now.items) c.walk.invariant.entries c.walk.steps.items c.push.new.self.items c.in-Some.ensures.some.hit.entry c.step_before.result c.walk.invariant.shown (ap (shown (listed c.args.chains.now.slots c.args.order.now.items)) c.in-Some.ensures.some.entry ∙ c.step_before.ensures) c.in_ok-push.ensures.items) refl refl c.undecided-in-Policy.ensures
 
 pub unreachable-requires : goal.unreachable-requires
 unreachable-requires c =
