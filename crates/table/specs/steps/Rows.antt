@@ -46,9 +46,11 @@ course_of (Some (target.Goto name)) key = Goes key
 
 -- the key of the chain that the walk goes to, if it goes to one
 abbrev pub key_in : Course → Option ℕ
+key_in (Ends v) = None
+key_in GoesOn = None
+key_in Returns = None
 key_in (Jumps key) = Some key
 key_in (Goes key) = Some key
-key_in c = None
 
 -- the key is this one
 abbrev pub is_key : ℕ → Option ℕ → Bool

@@ -1,5 +1,5 @@
 -- A packet's walk goes by its cases, and ends in one way.
-use Rattle.std.proofs.Common.{◌≡◌, inl, inr, ℕ, zero, suc, ◌+◌, ◌<◌, ◌≤◌, true, false, cond, List, [], ◌∷◌, ◌++◌, length, get_or, refl, sym, ◌∙◌, ap, arith, subst, Option, Some, None, unwrap_or}
+use Rattle.std.proofs.Common.{◌≡◌, inl, inr, ℕ, zero, suc, ◌+◌, ◌<◌, ◌≤◌, true, false, cond, List, [], ◌∷◌, ◌++◌, length, refl, sym, ◌∙◌, ap, arith, subst, Option, Some, None}
 use Rattle.std.proofs.Math.Dec.{ltb}
 use Rattle.std.proofs.lemmas.Bool.{cases_Bool, cases_lt, cond-true, cond-false, lt-ltb, le-ltb}
 use Rattle.std.proofs.lemmas.List.{append-nil, length-append}
@@ -11,11 +11,11 @@ use Rattle.rules.specs.rule.Rules.{Rule, empty_rule}
 use Rattle.fields.specs.packet.Packet.{PacketView}
 use Rattle.table.specs.chains.Table.{Chain, Table, rules_of}
 use Rattle.table.specs.declared.verdict.Verdict.{Verdict}
-use Rattle.table.specs.walk.Walk.{Rest, Entry, Hit, hit_at, first_hit, Walked, Next, Ends, GoesOn, after_match, next_of, at_end, decided, followed, end_verdict, too_long, walk, walk_within, whole}
-use Rattle.table.specs.walk.Cases.{Stage, Under, Over, next_rule, behind, with_next, by_policy, on_by, StepsTo, GoesTo, Walks, WalksByCases, WalksInOneWay}
+use Rattle.table.specs.walk.Walk.{Rest, Entry, Hit, hit_at, first_hit, Walked, Next, Ends, GoesOn, after_match, next_of, at_end, followed, end_verdict, too_long, walk, walk_within, whole}
+use Rattle.table.specs.walk.Cases.{Stage, Under, Over, next_rule, behind, with_next, on_by, StepsTo, GoesTo, Walks, WalksByCases, WalksInOneWay}
 use Rattle.table.proofs.laws.walk.WalkLaws.{rule_at, at_an_end, at_a_match, at_no_match}
 use Rattle.table.proofs.laws.walk.TurnLaws.{by_hit, at_last, within_end, within_long}
-use Rattle.table.proofs.laws.walk.TrailLaws.{after, after_none, after_one, with_entries}
+use Rattle.table.proofs.laws.walk.TrailLaws.{after, after_none, after_one}
 
 module _ (cs : List Chain) (policy : Verdict) (values : List ℕ) where
   -- Each stage has at most one next stage
@@ -136,9 +136,9 @@ module _ (cs : List Chain) (policy : Verdict) (values : List ℕ) where
       elim (cases_lt rest.passed (length (rules_of cs rest.chain))) [
         | inr past ↦ at_chain_end room rest waiting trail past more
         | inl lt ↦ elim (cases_Bool (matches values (rule_at cs rest))) [
-            | inl t ↦ at_match room rest waiting trail h long (slice_get-get_or (rules_of cs rest.chain) rest.passed empty_rule lt) t (at_a_match cs values rest waiting lt t)
-            | inr un ↦ at_other room rest waiting trail lt un (in_chain k room (behind rest) waiting trail h long (omega (arith, few)) more)
-          ]
+          | inl t ↦ at_match room rest waiting trail h long (slice_get-get_or (rules_of cs rest.chain) rest.passed empty_rule lt) t (at_a_match cs values rest waiting lt t)
+          | inr un ↦ at_other room rest waiting trail lt un (in_chain k room (behind rest) waiting trail h long (omega (arith, few)) more)
+        ]
       ]
 
   in_chains : (room : ℕ) → AllEndBefore room → AllEnd room

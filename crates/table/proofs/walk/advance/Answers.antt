@@ -1,8 +1,5 @@
 use Rattle.std.proofs.Common.{◌∙◌, refl, ap, List}
-use Rattle.classify.specs.search.NextMatch.{next_match}
-use Rattle.rules.specs.rule.Allows.{matches}
 use Rattle.table.specs.steps.Kept.{listed}
-use Rattle.table.specs.steps.Rows.{rules_in}
 use Rattle.table.specs.steps.Walking.{rests_of}
 use Rattle.table.specs.walk.Walk.{first_hit, Rest}
 use Rattle.table.specs.declared.walk.Pending.{Pending}

@@ -1,4 +1,4 @@
-use Rattle.std.proofs.Common.{◌≡◌, ◌∙◌, sym, ap, subst, map, get_or, ℕ, Bool, List, None}
+use Rattle.std.proofs.Common.{◌≡◌, ◌∙◌, sym, ap, map, get_or, ℕ, Bool, List, None}
 use Rattle.std.proofs.Math.ListN.{get_or-map}
 use Rattle.rules.specs.rule.Allows.{allows_each}
 use Rattle.rules.specs.rule.Crossing.{cross}

@@ -1,4 +1,4 @@
-use Rattle.std.proofs.Common.{◌≡◌, ◌-◌, ◌≤◌, length}
+use Rattle.std.proofs.Common.{◌≡◌, ◌-◌, length}
 use Rattle.classify.specs.search.NextMatch.{next_match}
 use Rattle.rules.specs.rule.Allows.{matches}
 use Rattle.table.specs.steps.Rows.{rules_in}
