@@ -1,7 +1,7 @@
 //! Commands.
 ghost use Rattle.std.specs.Prelude.{length, drop, map};
-ghost use Rattle.restore.specs.Sequence.{Gives, made_into, refused_as};
-ghost use Rattle.restore.specs.commands.Command.{Change, is_out_of_memory, meaning};
+ghost use Rattle.restore.specs.Sequence.{made_into, refused_as};
+ghost use Rattle.restore.specs.commands.Command.{Change, IsRead};
 ghost use Rattle.restore.specs.commands.Heads.{command_of, edit_of, line_of, or_second};
 ghost use Rattle.restore.specs.steps.Reading.{row_of};
 
@@ -60,7 +60,7 @@ fn read_among<'a>(
     words: &'a Words,
     from: usize,
 ) -> Result<Command<'a>, CommandFault>
-    ensures { Gives is_out_of_memory meaning result
+    ensures { IsRead result
         (let rest = drop from words.now in refused_as (or_second (length words.now) rest) (line_of (map row_of heads.now) (length words.now) rest)) }
 {
     match read_line(alloc, heads, words, from) {
@@ -84,7 +84,7 @@ impl<'a> Command<'a> {
     /// C4, for another table than `filter`; and `Rule` with the first fault of the rule, or of a value before it: a
     /// table without a name or named twice, or a number that can't be read. P0 is answered where memory was refused.
     pub fn read(alloc: Global, words: &'a Words, from: usize) -> Result<Command<'a>, CommandFault>
-        ensures { Gives is_out_of_memory meaning result (command_of (length words.now) (drop from words.now)) }
+        ensures { IsRead result (command_of (length words.now) (drop from words.now)) }
     {
         read_among(alloc, &Head::ALL, words, from)
     }
@@ -95,7 +95,7 @@ impl<'a> Command<'a> {
         words: &'a Words,
         from: usize,
     ) -> Result<Command<'a>, CommandFault>
-        ensures { Gives is_out_of_memory meaning result (made_into Change (edit_of (length words.now) (drop from words.now))) }
+        ensures { IsRead result (made_into Change (edit_of (length words.now) (drop from words.now))) }
     {
         read_among(alloc, &Head::ALL[..Head::EDITS], words, from)
     }

@@ -4,7 +4,7 @@ ghost use Rattle.restore.specs.calls.Headline.{CallsLeaveWhatTheyAccept, Refused
 ghost use Rattle.restore.specs.sections.Headline.{LinesLeaveWhatTheyRestore, RefusedLinesChangeNothing};
 
 use crate::round_trip::listings_restore;
-use table::calls_leave_what_they_accept;
+use table::{calls_leave_what_they_accept, walks_go_by_their_cases};
 
 /// The law of every list of lines handed to a `Restore`: lines of which none is refused leave the table that plain list
 /// edits give, and a line that is refused changes nothing; and the classifiers of a table are those that its listing
@@ -23,7 +23,8 @@ pub fn restores_leave_what_they_accept()
 /// The law of every list of calls that edit a table, in any order and refused ones among them: editing calls of `Table` and
 /// `apply`; transactions that are begun, given lines, committed or given up; lines and ends of restores, several after one
 /// another, with edits between their sections. The chains are those of the accepted changes, as plain list edits; the
-/// listing restores them, with the same classifiers; and a refused call changes nothing.
+/// listing restores them, with the same classifiers; every packet's walk ends with one thing; and a refused call changes
+/// nothing.
 ///
 /// It has one condition on callers: from the call that begins a transaction to its end, and from the line that opens a
 /// section of a restore to its `COMMIT`, no other call changes the table.
@@ -36,4 +37,5 @@ pub fn all_calls_leave_what_they_accept()
     listings_restore();
     restores_leave_what_they_accept();
     calls_leave_what_they_accept();
+    walks_go_by_their_cases();
 }

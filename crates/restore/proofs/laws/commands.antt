@@ -3,3 +3,4 @@ pub mod NextLaws
 pub mod HeadLaws
 pub mod LineLaws
 pub mod SecondLaws
+pub mod MemoryLaws

@@ -1,10 +1,11 @@
 -- Commands, and why words are none (iptables(8), "COMMANDS").
-use Rattle.std.specs.Prelude.{ℕ, Bool, true, false, List, Option, is_none, option_map, Result}
+use Rattle.std.specs.Prelude.{ℕ, Bool, true, false, IsTrue, List, Option, is_none, option_map, Result, Ok, Err}
 use Rattle.rules.specs.Sequence.{refusal_of}
 use Rattle.table.specs.chains.Table.{TableView}
 use Rattle.table.specs.edits.Edits.{Edit, IsStepOf}
 use Rattle.table.specs.declared.fault.TableFault.{TableFault}
 use Rattle.table.specs.edits.Edits as edit
+use Rattle.restore.specs.Sequence.{Gives}
 pub use Rattle.restore.specs.declared.fault.CommandFault.{CommandFault}
 pub use Rattle.restore.specs.declared.fault.CommandFault.TheVariants.{NoCommand, TwoCommands, WordCount, OtherTable, Rule}
 use Rattle.restore.specs.declared.command.Command as code
@@ -23,6 +24,36 @@ is_out_of_memory WordCount = false
 is_out_of_memory OtherTable = false
 is_out_of_memory (Rule fault) = is_none (refusal_of fault)
 
+-- the edit has a rule
+abbrev pub has_rule : Edit → Bool
+has_rule (edit.Append chain r) = true
+has_rule (edit.Insert chain n r) = true
+has_rule (edit.Replace chain n r) = true
+has_rule (edit.DeleteAt chain n) = false
+has_rule (edit.DeleteRule chain r) = true
+has_rule (edit.Has chain r) = true
+has_rule (edit.Flush chain) = false
+has_rule edit.FlushAll = false
+has_rule (edit.NewChain name) = false
+has_rule (edit.DeleteChain chain) = false
+has_rule edit.DeleteChains = false
+has_rule (edit.SetPolicy chain policy) = false
+has_rule (edit.Rename old new) = false
+
+-- what refuses the words may stand in those of a rule
+abbrev pub may_be_of_rule : CommandFault → Bool
+may_be_of_rule NoCommand = false
+may_be_of_rule TwoCommands = true
+may_be_of_rule WordCount = false
+may_be_of_rule OtherTable = false
+may_be_of_rule (Rule fault) = true
+
+-- memory may be taken where the words write a command with a rule, or where what refuses them may stand in those of a rule
+abbrev pub may_take_memory : Result Command CommandFault → Bool
+may_take_memory (Ok (Change edit)) = has_rule edit
+may_take_memory (Ok (ListRules chain)) = false
+may_take_memory (Err fault) = may_be_of_rule fault
+
 -- what a command of the code asks for
 abbrev pub meaning : code.Command → Command
 meaning (command.Append chain r) = Change (edit.Append chain.now r)
@@ -39,6 +70,15 @@ meaning command.DeleteChains = Change edit.DeleteChains
 meaning (command.SetPolicy chain policy) = Change (edit.SetPolicy chain.now policy.now)
 meaning (command.Rename old new) = Change (edit.Rename old.now new.now)
 meaning (command.ListRules chain) = ListRules (option_map (λ c. c.now) chain)
+
+-- memory runs out for a rule alone
+abbrev pub TakesMemoryForRules : Result code.Command CommandFault → Result Command CommandFault → Type 0
+TakesMemoryForRules (Ok c) given = Unit {0}
+TakesMemoryForRules (Err fault) given = IsTrue (is_out_of_memory fault) → IsTrue (may_take_memory given)
+
+-- the call gives the command that the words write, or what refuses them, unless memory ran out, which it does for a rule alone
+abbrev pub IsRead : Result code.Command CommandFault → Result Command CommandFault → Type 0
+IsRead result given = Gives is_out_of_memory meaning result given × TakesMemoryForRules result given
 
 -- the command edits the table
 abbrev pub IsChange : Command → Type 0

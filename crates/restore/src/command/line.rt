@@ -2,8 +2,7 @@
 ghost use Rattle.std.specs.Prelude.{◌≡◌, ◌||◌, length, drop, map, find, codes, Err};
 ghost use Rattle.std.specs.Str.{bytes_eq};
 ghost use Rattle.rules.specs.declared.reading.fault.Refusal.TheVariants as refusal;
-ghost use Rattle.restore.specs.Sequence.{Gives};
-ghost use Rattle.restore.specs.commands.Command.{is_out_of_memory, meaning};
+ghost use Rattle.restore.specs.commands.Command.{IsRead};
 ghost use Rattle.restore.specs.commands.Heads.{followed, is_name_of, line_of, named, refused, value};
 ghost use Rattle.restore.specs.steps.Reading.{row_of};
 
@@ -37,7 +36,7 @@ fn command_named<'a>(
     words: &'a Words,
     place: usize,
 ) -> Result<Command<'a>, CommandFault>
-    ensures { Gives is_out_of_memory meaning result
+    ensures { IsRead result
         (followed (find (is_name_of name.now) (map row_of heads.now)) (length words.now) (drop place words.now)) }
 {
     match Head::named(heads, name) {
@@ -48,7 +47,7 @@ fn command_named<'a>(
 
 // The refusal of a table that is named again.
 fn named_again<'a>(words: &'a Words, place: usize) -> Result<Command<'a>, CommandFault>
-    ensures { Gives is_out_of_memory meaning result
+    ensures { IsRead result
         (value (λ name end words. Err (refused refusal.RepeatedOption)) (length words.now) (drop place words.now)) }
 {
     next_word(words, place, refused(Refusal::ValueMissing))?;
@@ -62,7 +61,7 @@ fn with_table<'a>(
     words: &'a Words,
     place: usize,
 ) -> Result<Command<'a>, CommandFault>
-    ensures { Gives is_out_of_memory meaning result (value (named (map row_of heads.now)) (length words.now) (drop place words.now)) }
+    ensures { IsRead result (value (named (map row_of heads.now)) (length words.now) (drop place words.now)) }
 {
     let (table, after) = next_word(words, place, refused(Refusal::ValueMissing))?;
     if table != b"filter".as_slice() {
@@ -82,7 +81,7 @@ pub(crate) fn read_line<'a>(
     words: &'a Words,
     place: usize,
 ) -> Result<Command<'a>, CommandFault>
-    ensures { Gives is_out_of_memory meaning result (line_of (map row_of heads.now) (length words.now) (drop place words.now)) }
+    ensures { IsRead result (line_of (map row_of heads.now) (length words.now) (drop place words.now)) }
 {
     let (name, after) = next_word(words, place, CommandFault::NoCommand)?;
     if is_table(name) {

@@ -11,6 +11,8 @@ use Rattle.table.specs.edits.Headline.{ChainsHaveOneListOfClassifiers, edited_by
 use Rattle.table.specs.edits.Headline as table_law
 use Rattle.table.specs.chains.Table.{AreClassified, Table, TableView}
 use Rattle.table.specs.declared.fault.TableFault.{TableFault}
+use Rattle.table.specs.walk.Cases.{WalksByCases, WalksInOneWay}
+use Rattle.table.specs.walk.Walk.{walk}
 use Rattle.restore.specs.Sequence.{◌>>=◌, Gives, or_refused, refused_as, made_into}
 use Rattle.restore.specs.calls.Changes as change
 use Rattle.restore.specs.calls.Changes.{Change, changed, changed_by, edit_asked}
@@ -225,12 +227,15 @@ module _ (leave : table_law.CallsLeaveWhatTheyAccept) (refuse : table_law.Refuse
   refused_calls s old new (Reads r line (Err f)) h is = refused_unchanged r line old new f h.1
   refused_calls s old new (Ends r answer) h is = h.2
 
-  pub calls_leave : RestoresAsEqual → ListingsRestoreClassifiers → ChainsHaveOneListOfClassifiers → CallsLeaveWhatTheyAccept
-  calls_leave restores listings one old new calls stands lead = record {
+  pub calls_leave : RestoresAsEqual → ListingsRestoreClassifiers → ChainsHaveOneListOfClassifiers → WalksByCases → WalksInOneWay → CallsLeaveWhatTheyAccept
+  calls_leave restores listings one by_cases one_way old new calls stands lead = record {
     chains = leads (standing old.table) old new calls refl tt lead;
+    stands = stands;
     restores = restores new.table stands.sound;
     restored = λ made other is. listings new made stands.sound stands.classified other.classified is;
     classifiers = λ other also is.
       let lists : other.classifiers ≡ new.classifiers = one new.table.chains other.classifiers new.classifiers (subst (λ (x : Table). AreClassified x.chains other.classifiers) is also.classified) stands.classified in
       (λ i. record { table = is i; classifiers = lists i });
+    walks = by_cases new.table;
+    one_walk = λ packet walked goes. one_way new.table packet walked (walk new.table packet) goes (by_cases new.table packet);
   }

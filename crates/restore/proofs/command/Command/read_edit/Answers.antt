@@ -1,9 +1,8 @@
 use Rattle.std.proofs.Common.{length, drop}
-use Rattle.restore.specs.commands.Command.{meaning}
 use Rattle.restore.proofs.laws.commands.LineLaws.{edit_is}
 use Rattle.restore.proofs.laws.commands.AnswerLaws.{along}
 use Rattle.restore.proofs.command.Command.read_edit.Goals as goal
 
 pub returns : goal.returns
 returns c =
-    along meaning c.read_among.result _ _ (edit_is (length c.args.words.now) (drop c.args.from c.args.words.now)) c.read_among.ensures
+    along c.read_among.result _ _ (edit_is (length c.args.words.now) (drop c.args.from c.args.words.now)) c.read_among.ensures
