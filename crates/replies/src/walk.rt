@@ -5,7 +5,7 @@ ghost use Rattle.fields.specs.text.Tap.{has_failed, Puts};
 ghost use Rattle.table.specs.chains.Table.{chain_at};
 ghost use Rattle.table.specs.walk.Trail.{Shows};
 ghost use Rattle.table.specs.walk.Walk.{Walked, walk};
-ghost use Rattle.replies.specs.Steps.{entry_at};
+ghost use Rattle.replies.specs.Steps.{entry_at, trail_text};
 ghost use Rattle.replies.specs.Walked.{cause_text, entry_line, packet_reply, verdict_line, walked_text};
 
 use fields::{RejectType, Tap, WriteFailed};
@@ -97,7 +97,7 @@ fn put_verdict<W: Write>(
 /// what decided, as `verdict ACCEPT by rule` (iptables(8), "TARGETS"). Of a walk that is too long it is
 /// `verdict TOOLONG` alone.
 ///
-/// The trail is one that the table gave, and the table is as it was then.
+/// It writes any trail, and of one that the table gave as it is now, the walk of its packet.
 ///
 /// It takes no memory, and time linear in the text, which is written as it comes.
 ///
@@ -110,6 +110,7 @@ pub fn write_walk<W: Write>(
     trail: &Trail,
     output: &mut Tap<W>,
 ) -> Result<(), WriteFailed>
+    ensures text { Puts W.contents output.old output.new result (trail_text table.now.table trail.now) }
     ensures walked { (walked : Walked) → Shows table.now.table.chains walked trail.now
         → Puts W.contents output.old output.new result (walked_text walked) }
     ensures packet { (packet : PacketValue) → Shows table.now.table.chains (walk table.now.table packet) trail.now

@@ -4,6 +4,7 @@ use Rattle.fields.specs.packet.Packet.{PacketView}
 use Rattle.table.specs.chains.Table.{Table, TableView, chain_at}
 use Rattle.table.specs.walk.Walk.{walk}
 use Rattle.table.specs.walk.Trail.{Shows}
+use Rattle.table.specs.declared.walk.trail.Trail.{Trail}
 use Rattle.restore.specs.listings.Listing.{listing, rules_listing}
 use Rattle.turns.specs.Fault.{Fault}
 use Rattle.turns.specs.Turn.{Reply, Says, Fails, Spot, Turn, turn}
@@ -36,6 +37,15 @@ IsReply t (Ok answers.Listing) said = said ≡ Says (listing t)
 IsReply t (Ok (answers.Walk trail)) said = (packet : PacketView) × Shows t.chains (walk t packet) trail × (said ≡ Says (packet_reply t packet))
 IsReply t (Ok (answers.Lines place)) said = said ≡ Says (lines_reply (chain_at t place).rules)
 IsReply t (Err fault) said = said ≡ Fails fault
+
+-- of any trail: what is printed is its text
+abbrev pub OnTrail : Result Answer Fault → (Trail → Type 0) → Type 0
+OnTrail (Ok answers.Nothing) P = Unit {0}
+OnTrail (Ok (answers.Rules place)) P = Unit {0}
+OnTrail (Ok answers.Listing) P = Unit {0}
+OnTrail (Ok (answers.Walk trail)) P = P trail
+OnTrail (Ok (answers.Lines place)) P = Unit {0}
+OnTrail (Err fault) P = Unit {0}
 
 -- what the definition says of a line is what came of it
 pub record IsTurn (said : Turn) (new : TableView) (t : made.Turn) : Type 0 where

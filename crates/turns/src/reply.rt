@@ -3,7 +3,8 @@ ghost use Rattle.std.specs.Prelude.{◌≡◌, ℕ};
 ghost use Rattle.fields.specs.text.Tap.{Puts};
 ghost use Rattle.turns.specs.Fault.{fault_line};
 ghost use Rattle.turns.specs.Turn.{Reply, reply_text};
-ghost use Rattle.turns.specs.Served.{HasPlace, IsPlace, IsReply, name_at};
+ghost use Rattle.turns.specs.Served.{HasPlace, IsPlace, IsReply, OnTrail, name_at};
+ghost use Rattle.replies.specs.Steps.{trail_text};
 ghost use Rattle.restore.specs.listings.Listing.{rules_listing};
 
 use crate::fault::Fault;
@@ -71,7 +72,8 @@ pub fn write_reply<W: Write>(
     output: &mut Tap<W>,
 ) -> Result<(), WriteFailed>
     requires { HasPlace table.now.table reply }
-    ensures { (said : Reply) → IsReply table.now.table reply said → Puts W.contents output.old output.new result (reply_text number said) }
+    ensures said { (said : Reply) → IsReply table.now.table reply said → Puts W.contents output.old output.new result (reply_text number said) }
+    ensures trail { OnTrail reply (λ trail. Puts W.contents output.old output.new result (trail_text table.now.table trail)) }
 {
     match reply {
         Ok(Answer::Nothing) => output.put(b""),

@@ -12,7 +12,7 @@ use Rattle.table.specs.declared.walk.trail.Step.{Step}
 use Rattle.table.specs.declared.walk.trail.Trail.{Trail}
 use Rattle.table.specs.walk.Trail.{Shows, shown}
 use Rattle.table.specs.walk.Walk.{Entry, Walked, walk}
-use Rattle.replies.specs.Steps.{entry_at}
+use Rattle.replies.specs.Steps.{entry_at, steps_text, trail_text}
 use Rattle.replies.specs.Walked.{entry_line, packet_reply, verdict_line, walked_text}
 
 -- a step stands for the entry that it shows
@@ -29,10 +29,6 @@ step_by t entry step (Some place) at e =
 step_entry : (t : Table) (entry : Entry) (step : Step) → shown t.chains entry ≡ Some step → entry_at t step ≡ entry
 step_entry t entry step e = step_by t entry step (position (is_named entry.chain) t.chains) refl e
 
--- the lines of the steps that are written
-abbrev pub steps_text : Table → List Step → List ℕ
-steps_text t steps = flat_map (λ step. entry_line (entry_at t step)) steps
-
 entries_text : (t : Table) (entries : List Entry) (steps : List Step) → map (shown t.chains) entries ≡ map Some steps → flat_map entry_line entries ≡ steps_text t steps
 entries_text t [] [] e = refl
 entries_text t [] (step ∷ steps) e = cc
@@ -45,7 +41,7 @@ entries_text t (entry ∷ entries) (step ∷ steps) e =
 
 -- the text of the walk that the trail shows
 pub text_shown : (t : Table) (walked : Walked) (trail : Trail) → Shows t.chains walked trail
-    → walked_text walked ≡ steps_text t trail.steps.items ++ verdict_line trail.verdict trail.by_policy
+    → walked_text walked ≡ trail_text t trail
 text_shown t walked trail shows =
     ap (λ (text : List ℕ). text ++ verdict_line walked.verdict walked.by_policy) (entries_text t walked.trail trail.steps.items shows.steps)
     ∙ ap (λ (v : Verdict). steps_text t trail.steps.items ++ verdict_line v walked.by_policy) (sym shows.verdict)
@@ -53,6 +49,6 @@ text_shown t walked trail shows =
 
 -- the same of a packet
 pub reply_shown : (t : Table) (packet : Packet) (trail : Trail) → Shows t.chains (walk t packet) trail
-    → packet_reply t packet ≡ steps_text t trail.steps.items ++ verdict_line trail.verdict trail.by_policy
+    → packet_reply t packet ≡ trail_text t trail
 unfolding packet_reply
 reply_shown t packet trail shows = text_shown t (walk t packet) trail shows
