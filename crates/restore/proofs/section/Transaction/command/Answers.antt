@@ -13,4 +13,4 @@ returns-in-Ok-clause-step c =
       | else-is_counters w ↦ ap (λ n. drop n c.args.words.now) w.from-is ∙ all_words c.args.words.now c.get.result.now c.get.ensures.value (sym c.is_counters.ensures ∙ w.if-is_counters.false)
     ] in
     command_done c.self.inside.table c.apply.new.table c.self.inside.named c.args.self.now c.args.words.now (drop c.if-is_counters.from c.args.words.now)
-    (meaning c.in-Ok.command) c.apply.result c.as_restore.result c.self.view_is left c.in-Ok.ensures c.apply.ensures.step c.as_restore.ensures
+    (meaning c.in-Ok.command) c.apply.result c.as_restore.result c.self.view_is left c.in-Ok.ensures.0 c.apply.ensures.step c.as_restore.ensures
