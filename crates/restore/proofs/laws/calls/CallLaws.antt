@@ -153,7 +153,7 @@ builds t o line r (Err f) fits = tt
 fits_built : (t : Table) (o : Pending) (line : List ℕ) (r : Restore) (q : Result Restoring RestoreFault) (commit : Bool) → Fits t (Some o)
     → OnGiven q (λ (next : Restoring). (next.table ≡ t) × Fits next.table (pending_at next.restore.place r.noflush line (Some o)))
     → OnGiven (if commit then Ok (moved (if r.test then t else o.section.table) r Between) else q)
-      (λ (next : Restoring). (next.table ≡ changed_by t (if commit && not r.test then section_change (Some o) else [])) × Fits next.table (pending_at next.restore.place r.noflush line (Some o)))
+    (λ (next : Restoring). (next.table ≡ changed_by t (if commit && not r.test then section_change (Some o) else [])) × Fits next.table (pending_at next.restore.place r.noflush line (Some o)))
 fits_built t o line r q true fits rest = (commits t o.section.table o.edits o.noflush r.test fits, tt)
 fits_built t o line r q false fits rest = rest
 
@@ -173,8 +173,8 @@ fits_at t pending line r (Building s) fits is =
     let o : Pending = record { noflush = r.noflush; section = s; edits = is.0 } in
     let own : Fits t (Some o) = subst (Fits t) is.1 fits in
     subst (λ (x : Option Pending). OnGiven (line_at (Building s) r t line) (FitsNext t x line r (Building s))) (sym is.1)
-      (as_next t (Some o) line r (Building s) (line_at (Building s) r t line)
-        (fits_built t o line r (made_into (λ next. moved t r (Building next)) (line_in s line)) (is_commit line) own (builds t o line r (line_in s line) (fits_line t o line (line_in s line) own refl))))
+    (as_next t (Some o) line r (Building s) (line_at (Building s) r t line)
+    (fits_built t o line r (made_into (λ next. moved t r (Building next)) (line_in s line)) (is_commit line) own (builds t o line r (line_in s line) (fits_line t o line (line_in s line) own refl))))
 
 fits_read : (t : Table) (pending : Option Pending) (line : List ℕ) (r : Restore) → Fits t pending → IsPendingIn r.place r.noflush pending
     → OnGiven (restore_line r t line) (FitsNext t pending line r r.place)
@@ -198,7 +198,7 @@ module _ (leave : table_law.CallsLeaveWhatTheyAccept) (refuse : table_law.Refuse
   follows s old new (Takes line (Ok next)) is fits h = record {
     table = ap (λ (v : TableView). v.table) h.3 ∙ is;
     fits = subst (λ (x : Option Pending). Fits s.table (pending_after (record { table = s.table; pending = x }) (Takes line (Ok next)))) (sym h.1)
-      (fits_line s.table h.0 line (Ok next) (subst (Fits s.table) h.1 fits) h.2);
+        (fits_line s.table h.0 line (Ok next) (subst (Fits s.table) h.1 fits) h.2);
   }
   follows s old new (Takes line (Err f)) is fits h = record { table = ap (λ (v : TableView). v.table) h.3 ∙ is; fits = tt }
   follows s old new Commits is fits h = record {
@@ -213,8 +213,8 @@ module _ (leave : table_law.CallsLeaveWhatTheyAccept) (refuse : table_law.Refuse
   leads : (s : Standing) (old new : TableView) (calls : List Call) → old.table ≡ s.table → Fits s.table s.pending → Lead s old calls new → new.table ≡ changed_by s.table (accepted s calls)
   leads s old new [] is fits h = ap (λ (v : TableView). v.table) h ∙ is
   leads s old new (call ∷ calls) is fits h =
-    let one = follows s old h.0 call is fits h.1 in
-    leads (after s call) h.0 new calls one.table one.fits h.2 ∙ sym (changed_then s.table (accepted_of s call) (accepted (after s call) calls))
+      let one = follows s old h.0 call is fits h.1 in
+      leads (after s call) h.0 new calls one.table one.fits h.2 ∙ sym (changed_then s.table (accepted_of s call) (accepted (after s call) calls))
 
   pub refused_calls : RefusedCallsChangeNothing
   refused_calls s old new (Edits e (Ok u)) h is = absurd (false≢true is)
@@ -234,8 +234,8 @@ module _ (leave : table_law.CallsLeaveWhatTheyAccept) (refuse : table_law.Refuse
     restores = restores new.table stands.sound;
     restored = λ made other is. listings new made stands.sound stands.classified other.classified is;
     classifiers = λ other also is.
-      let lists : other.classifiers ≡ new.classifiers = one new.table.chains other.classifiers new.classifiers (subst (λ (x : Table). AreClassified x.chains other.classifiers) is also.classified) stands.classified in
-      (λ i. record { table = is i; classifiers = lists i });
+        let lists : other.classifiers ≡ new.classifiers = one new.table.chains other.classifiers new.classifiers (subst (λ (x : Table). AreClassified x.chains other.classifiers) is also.classified) stands.classified in
+        (λ i. record { table = is i; classifiers = lists i });
     walks = by_cases new.table;
     one_walk = λ packet walked goes. one_way new.table packet walked (walk new.table packet) goes (by_cases new.table packet);
   }
