@@ -12,7 +12,7 @@ use Rattle.restore.specs.calls.Changes.{changed_by}
 use Rattle.restore.specs.listings.RoundTrip.{IsRestored, RestoresItself}
 
 -- what `Table::stands` says of every table
-pub record Stands (t : TableView) : Type 0 where
+pub record IsSoundAndClassified (t : TableView) : Type 0 where
   pub sound : IsSound t.table
   pub classified : AreClassified t.table.chains t.classifiers
 
@@ -21,13 +21,13 @@ pub record Leaves (old : TableView) (calls : List Call) (new : TableView) : Type
   -- the chains are those that the accepted changes give by plain list edits
   pub chains : new.table ≡ changed_by old.table (accepted (standing old.table) calls)
   -- the table is sound, and each chain's classifier is that of its rules
-  pub stands : Stands new
+  pub stands : IsSoundAndClassified new
   -- the present listing restores into an empty table without a refusal, as a table of these chains
   pub restores : RestoresItself new.table
   -- and whatever table that restore gives has these classifiers
-  pub restored : (made : TableView) → Stands made → IsRestored new.table made.table → made ≡ new
+  pub restored : (made : TableView) → IsSoundAndClassified made → IsRestored new.table made.table → made ≡ new
   -- and so has whatever table other calls lead to, where it has these chains
-  pub classifiers : (other : TableView) → Stands other → other.table ≡ new.table → other ≡ new
+  pub classifiers : (other : TableView) → IsSoundAndClassified other → other.table ≡ new.table → other ≡ new
   -- every packet's walk, by the cases of one rule after another, ends with what `walk` says
   pub walks : (packet : Packet) → Walks new.table packet (walk new.table packet)
   -- and with nothing else
@@ -36,7 +36,7 @@ pub record Leaves (old : TableView) (calls : List Call) (new : TableView) : Type
 -- whatever calls lead from one table to another, they leave so
 abbrev pub CallsLeaveWhatTheyAccept : Type 0
 CallsLeaveWhatTheyAccept =
-    (old new : TableView) (calls : List Call) → Stands new → Lead (standing old.table) old calls new → Leaves old calls new
+    (old new : TableView) (calls : List Call) → IsSoundAndClassified new → Lead (standing old.table) old calls new → Leaves old calls new
 
 -- a call that is refused changes nothing, classifiers included
 abbrev pub RefusedCallsChangeNothing : Type 0

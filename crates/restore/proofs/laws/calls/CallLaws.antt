@@ -17,7 +17,7 @@ use Rattle.restore.specs.Sequence.{◌>>=◌, Gives, or_refused, refused_as, mad
 use Rattle.restore.specs.calls.Changes as change
 use Rattle.restore.specs.calls.Changes.{Change, changed, changed_by, edit_asked}
 use Rattle.restore.specs.calls.Calls.{Call, Edits, Begins, Takes, Commits, GivesUp, Reads, Ends, Pending, Standing, standing, opened, with_line, section_change, accepted, accepted_of, after, pending_after, pending_at, IsCall, IsPendingIn, Lead, is_refused}
-use Rattle.restore.specs.calls.Headline.{CallsLeaveWhatTheyAccept, RefusedCallsChangeNothing, Stands}
+use Rattle.restore.specs.calls.Headline.{CallsLeaveWhatTheyAccept, RefusedCallsChangeNothing, IsSoundAndClassified}
 use Rattle.restore.specs.listings.RoundTrip.{ListingsRestoreClassifiers, RestoresAsEqual}
 use Rattle.restore.specs.sections.Lines.{IsLine, is_building, puts_table}
 use Rattle.restore.specs.sections.Names.{Names}
