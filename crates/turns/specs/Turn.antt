@@ -1,7 +1,5 @@
 -- What a line of a session does, by where it stands: outside of restores, in one, or after the fault of one.
 use Rattle.std.specs.Prelude.{ℕ, ◌==◌, ◌||◌, ◌&&◌, not, Bool, true, false, List, [], Option, Some, None, Result, Ok, Err, if◌then◌else◌}
-use Rattle.std.specs.List.{list_all}
-use Rattle.std.specs.Option.{option_to_list}
 use Rattle.std.specs.Str.{bytes_eq}
 use Rattle.table.specs.chains.Table.{Table, has_chain, rules_of}
 use Rattle.table.specs.edits.Edits.{step as table_step}
@@ -63,8 +61,10 @@ after_fault (Passing word) = Passing word
 
 -- a run ends at the fault of a restore that no line ends
 abbrev pub has_ended : Spot → Bool
+has_ended Outside = false
+has_ended (Within word r) = false
 has_ended (Passing None) = true
-has_ended spot = false
+has_ended (Passing (Some word)) = false
 
 -- a line that is refused changes nothing
 abbrev pub fails : Table → Spot → Fault → Turn
@@ -82,9 +82,9 @@ edit_turn t (Err fault) = fails t Outside (of_line (OfTable fault))
 
 -- what is said of a chain, if it is there, or of all
 abbrev pub on_chain : Table → Option (List ℕ) → List ℕ → Turn
-on_chain t name text =
-    if list_all (has_chain t) (option_to_list name) then turn_with t Outside (Says text)
-    else fails t Outside (of_line (OfTable NoSuchChain))
+on_chain t None text = turn_with t Outside (Says text)
+on_chain t (Some name) text =
+    if has_chain t name then turn_with t Outside (Says text) else fails t Outside (of_line (OfTable NoSuchChain))
 
 -- a restore that the next lines hold, up to its end line
 abbrev pub opened : Opening → Spot

@@ -88,14 +88,14 @@ refused_comes (Change edit) old new f t change applied s r = refused_of edit old
 on_there : (v : TableView) (name text : List ℕ) (reply : Result Answer Fault) (t : made.Turn) → has_chain v.table name ≡ true → t.spot ≡ Outside → t.reply ≡ reply
     → IsReply v.table reply (Says text) → HasPlace v.table reply → IsTurn (on_chain v.table (Some name) text) v t
 on_there v name text reply t there s r printed place =
-    subst (λ (b : Bool). IsTurn (cond (b && true) (turn_with v.table Outside (Says text)) (fails v.table Outside (of_line (OfTable NoSuchChain)))) v t) (sym there)
+    subst (λ (b : Bool). IsTurn (cond b (turn_with v.table Outside (Says text)) (fails v.table Outside (of_line (OfTable NoSuchChain)))) v t) (sym there)
     (turn_of (turn_with v.table Outside (Says text)) v t Outside reply s r refl refl printed place)
 
 -- no chain has the name
 pub on_none : (v : TableView) (name text : List ℕ) (t : made.Turn) → None ≡ position (is_named name) v.table.chains → t.spot ≡ Outside
     → t.reply ≡ Err (of_line (OfTable NoSuchChain)) → Comes (on_chain v.table (Some name) text) Outside v v t
 on_none v name text t none s r =
-    inl (subst (λ (b : Bool). IsTurn (cond (b && true) (turn_with v.table Outside (Says text)) (fails v.table Outside (of_line (OfTable NoSuchChain)))) v t) (sym (there_is v.table name None none))
+    inl (subst (λ (b : Bool). IsTurn (cond b (turn_with v.table Outside (Says text)) (fails v.table Outside (of_line (OfTable NoSuchChain)))) v t) (sym (there_is v.table name None none))
     (fails_turn v t Outside (of_line (OfTable NoSuchChain)) s r))
 
 pub rules_comes : (v : TableView) (name : List ℕ) (place : ℕ) (t : made.Turn) → Some place ≡ position (is_named name) v.table.chains → t.spot ≡ Outside
