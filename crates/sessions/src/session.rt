@@ -1,12 +1,12 @@
 //! Sessions over a reader and a writer.
-ghost use Rattle.std.specs.Prelude.{◌≡◌, ◌+◌, ◌^◌, ◌<◌, ◌≤◌, ◌↔◌, ℕ, List, [], false, true, IfOk, OnOk, length, vec_len, vec_capacity};
-ghost use Rattle.fields.specs.text.Tap.{has_failed, known, turns_left, Puts};
-ghost use Rattle.fields.specs.text.Line.{IsHeld, EndsAt};
+ghost use Rattle.std.specs.Prelude.{◌≡◌, ◌⊎◌, ◌+◌, ◌^◌, ◌<◌, ◌≤◌, ◌↔◌, ℕ, List, [], false, true, IfOk, OnOk, is_err, length, vec_len, vec_capacity};
+ghost use Rattle.fields.specs.text.Tap.{device, has_failed, is_unflushed, known, turns_left, Puts};
+ghost use Rattle.fields.specs.text.Line.{IsHeld, EndsAt, ReadsLine};
 ghost use Rattle.table.specs.chains.Table.{Table as TableOf};
 ghost use Rattle.turns.specs.Turn.{Reply, has_ended, reply_text, status_after};
 ghost use Rattle.turns.specs.Served.{HasPlace, IsReply};
 
-use fields::{LineEnd, Tap, WriteFailed};
+use fields::{LineEnd, LineRead, ReadFailed, Tap, WriteFailed};
 use restore::{Restore, listings_restore, restores_leave_what_they_accept};
 use rules::Work;
 use std::alloc::{AllocError, Global};
@@ -29,6 +29,17 @@ pub enum RunFault {
 
 // The longest line, in bytes without its newline.
 const LINE_MAX: usize = 10240;
+
+// Has the writer hand on what it holds back.
+fn hand_on<W: Write>(output: &mut Tap<W>) -> Result<(), WriteFailed>
+    ensures puts { has_failed output.old ≡ false → Puts W.contents output.old output.new result [] }
+    ensures handed { OnOk result (is_unflushed output.new ≡ false) }
+{
+    if output.unflushed() {
+        return output.flush();
+    }
+    Ok(())
+}
 
 // How far a run is: where its next line stands, how many lines there were, and the status of the first fault.
 #[derive(Drop)]
@@ -63,7 +74,7 @@ impl Progress {
         }
     }
 
-    // Writes what came of the line at hand, and has the writer hand it on.
+    // Writes what came of the line at hand, and has the writer hand on all that it holds back.
     fn report<W: Write>(
         &mut self,
         table: &Table,
@@ -76,13 +87,34 @@ impl Progress {
         ensures number { self.new.number ≡ self.old.number }
         ensures status { (said : Reply) → IsReply table.now.table reply said → self.new.status ≡ status_after self.old.status said }
         ensures puts { (said : Reply) → IsReply table.now.table reply said → Puts W.contents output.old output.new result (reply_text self.old.number said) }
+        ensures handed { OnOk result (is_unflushed output.new ≡ false) }
     {
         self.note(&reply);
         if matches!(reply, Ok(Answer::Nothing)) {
-            return Ok(());
+            return hand_on(output);
         }
         write_reply(table, self.number, reply, output)?;
-        output.flush()
+        hand_on(output)
+    }
+
+    // Reads the next line. While the reader is asked for it, no byte of a reply is held back.
+    fn next_line<R: BufRead, W: Write>(
+        &self,
+        input: &mut Tap<R>,
+        output: &Tap<W>,
+        line: &mut Vec<u8>,
+    ) -> Result<LineRead, ReadFailed>
+        requires handed { (self.now.number ≡ 0) ⊎ (is_unflushed output.now ≡ false) }
+        requires room { 10240 ≤ vec_capacity line.old }
+        ensures reads { ReadsLine (known R.remaining input.old) (known R.remaining input.new)
+            (turns_left input.old) (turns_left input.new) 10240 line.new.items result }
+        ensures failed { has_failed input.new ≡ is_err result }
+        ensures unmoved { has_failed input.old ≡ true → device input.new ≡ device input.old }
+        ensures turns { OnOk result (turns_left input.new < turns_left input.old) }
+        ensures within { vec_len line.new ≤ 10240 }
+        ensures capacity { vec_capacity line.old ≤ vec_capacity line.new }
+    {
+        input.read_line(LINE_MAX, line)
     }
 }
 
@@ -99,8 +131,9 @@ impl Progress {
     ) -> Result<u8, RunFault>
         requires ready { has_failed output.old ≡ false }
         requires place { HasPlace table.now.table reply }
-        ensures { (said : Reply) → IsReply table.now.table reply said
+        ensures finishes { (said : Reply) → IsReply table.now.table reply said
             → Finishes W.contents (status_after self.status said) (reply_text self.number said) output.old output.new result }
+        ensures handed { OnOk result (is_unflushed output.new ≡ false) }
     {
         match self.report(table, reply, output) {
             Ok(()) => Ok(self.status),
@@ -115,7 +148,8 @@ impl Progress {
         output: &mut Tap<W>,
     ) -> Result<u8, RunFault>
         requires { has_failed output.old ≡ false }
-        ensures { Ends W.contents session_finish table.now.table self output.old output.new result }
+        ensures ends { Ends W.contents session_finish table.now.table self output.old output.new result }
+        ensures handed { OnOk result (is_unflushed output.new ≡ false) }
     {
         let spot = mem::replace(&mut self.spot, Spot::Outside);
         self.end(table, last_reply(spot), output)
@@ -129,7 +163,8 @@ impl Progress {
         output: &mut Tap<W>,
     ) -> Result<u8, RunFault>
         requires { has_failed output.old ≡ false }
-        ensures { Ends W.contents (restore_finish list) table.now.table self output.old output.new result }
+        ensures ends { Ends W.contents (restore_finish list) table.now.table self output.old output.new result }
+        ensures handed { OnOk result (is_unflushed output.new ≡ false) }
     {
         let spot = mem::replace(&mut self.spot, Spot::Outside);
         self.end(table, restore_reply(list, spot), output)
@@ -194,6 +229,7 @@ impl Session {
         ensures serves { (text : List ℕ) → IsHeld 10240 text self.old.line.items too_long →
             ServesLine W.contents (table_of self.old).table progress.old (table_of self.new).table progress.new output.old output.new result text }
         ensures number { progress.new.number ≡ progress.old.number + 1 }
+        ensures handed { OnOk result (is_unflushed output.new ≡ false) }
     {
         progress.number += 1;
         let spot = mem::replace(&mut progress.spot, Spot::Outside);
@@ -228,7 +264,7 @@ impl Session {
     {
         let _limit = input.turns();
         'lines: loop {
-            let read = match input.read_line(LINE_MAX, &mut self.line) {
+            let read = match progress.next_line(input, output, &mut self.line) {
                 Ok(read) => read,
                 Err(_) => return Err(RunFault::ReadFailed),
             };
@@ -297,6 +333,7 @@ impl Session {
         ensures whole { IfOk result (λ status. Whole R.remaining W.contents (session (table_of self.old).table) input.old output.old status (table_of self.new).table output.new) }
         ensures runs { RunsTo R.remaining W.contents (session_start (table_of self.old).table) session_finish (table_of self.old) input.old output.old result (table_of self.new) input.new output.new }
         ensures ended { OnOk result (EndsAt (known R.remaining input.old) (known R.remaining input.new)) }
+        ensures handed { OnOk result (is_unflushed output.new ≡ false) }
         ensures read_failed { result ≡ Err RunFault.ReadFailed ↔ has_failed input.new ≡ true }
         ensures write_failed { result ≡ Err RunFault.WriteFailed ↔ has_failed output.new ≡ true }
     {
@@ -328,6 +365,7 @@ impl Session {
         requires output { has_failed output.old ≡ false }
         ensures whole { IfOk result (λ status. Whole R.remaining W.contents (restore_session noflush test list (table_of self.old).table) input.old output.old status (table_of self.new).table output.new) }
         ensures runs { RunsTo R.remaining W.contents (restore_start noflush test (table_of self.old).table) (restore_finish list) (table_of self.old) input.old output.old result (table_of self.new) input.new output.new }
+        ensures handed { OnOk result (is_unflushed output.new ≡ false) }
         ensures read_failed { result ≡ Err RunFault.ReadFailed ↔ has_failed input.new ≡ true }
         ensures write_failed { result ≡ Err RunFault.WriteFailed ↔ has_failed output.new ≡ true }
     {

@@ -2,10 +2,10 @@ use Rattle.turns.specs.Turn.{last_turn}
 use Rattle.sessions.proofs.laws.runs.EndLaws.{session_ends}
 use Rattle.sessions.proofs.session.Progress.finish_session.Goals as goal
 
-pub returns : goal.returns
-returns g c =
+pub returns-clause-ends : goal.returns-clause-ends
+returns-clause-ends g c =
     let t = c.args.table.now.table in
-    session_ends g.W.Write.contents t c.args.self c.args.output.now c.end.new.output c.end.result (c.end.ensures (last_turn t c.args.self.spot).reply (rw c.replace-spot.ensures.value at c.last_reply.ensures.reply t))
+    session_ends g.W.Write.contents t c.args.self c.args.output.now c.end.new.output c.end.result (c.end.ensures.finishes (last_turn t c.args.self.spot).reply (rw c.replace-spot.ensures.value at c.last_reply.ensures.reply t))
 
 pub end-requires-clause-place : goal.end-requires-clause-place
 end-requires-clause-place g c = c.last_reply.ensures.place c.args.table.now.table

@@ -7,13 +7,13 @@ pub returns-in-Ok-clause-whole : goal.returns-in-Ok-clause-whole
 returns-in-Ok-clause-whole g c =
     let served = rw c.begin-progress.ensures at c.in-Ok.ensures.serves in
     if_session_whole g.R.Read.remaining g.W.Write.contents c.args.self.now.table.table c.args.input.now c.args.output.now c.serve_all.new.self.table.table c.serve_all.new.input c.finish_session.new.output
-    c.finish_session.result (ran_to_end served session_finish c.finish_session.new.output c.finish_session.result c.finish_session.ensures)
+    c.finish_session.result (ran_to_end served session_finish c.finish_session.new.output c.finish_session.result c.finish_session.ensures.ends)
 
 pub returns-in-Ok-clause-runs : goal.returns-in-Ok-clause-runs
 returns-in-Ok-clause-runs g c =
     let served = rw c.begin-progress.ensures at c.in-Ok.ensures.serves in
     session_runs c.args.self.now.table c.serve_all.new.self.table c.serve_all.ensures.restores c.serve_all.ensures.classifiers
-    (ran_to_end served session_finish c.finish_session.new.output c.finish_session.result c.finish_session.ensures)
+    (ran_to_end served session_finish c.finish_session.new.output c.finish_session.result c.finish_session.ensures.ends)
 
 pub returns-in-Ok-clause-ended : goal.returns-in-Ok-clause-ended
 returns-in-Ok-clause-ended g c =

@@ -1,4 +1,4 @@
-use Rattle.std.proofs.Common.{◌∙◌, refl, sym, rules, arith}
+use Rattle.std.proofs.Common.{◌∙◌, inl, inr, refl, sym, rules, arith}
 use Rattle.fields.proofs.laws.text.PutLaws.{wrote-nothing}
 use Rattle.sessions.proofs.laws.runs.ReachedLaws.{last_failed, reached_more, reached_nothing, read_failed, served_last, served_nothing, served_to_fault, write_failed}
 use Rattle.sessions.proofs.session.Session.serve_lines.Goals as goal
@@ -9,23 +9,24 @@ lines-init g c = record {
   fresh = search rules;
   going = search rules;
   counted = omega (arith, c.requires.number);
+  handed = inl c.requires.number;
 }
 
 pub returns-in-Err-clause-serves : goal.returns-in-Err-clause-serves
 returns-in-Err-clause-serves g c finish =
     let (text, one, taken) = c.in-Err.ensures.reads in
-    read_failed c.lines.invariant.reached c.lines.invariant.going c.read_line.new.self text one finish taken
+    read_failed c.lines.invariant.reached c.lines.invariant.going c.next_line.new.input text one finish taken
 
 pub returns-in-Nothing-clause-serves : goal.returns-in-Nothing-clause-serves
 returns-in-Nothing-clause-serves g c =
     let (text, one, (held, taken, counted)) = rw c.in-Nothing.is at c.in-Ok.ensures.reads in
-    served_nothing c.lines.invariant.reached c.lines.invariant.going c.read_line.new.self text one taken.1 taken.2
+    served_nothing c.lines.invariant.reached c.lines.invariant.going c.next_line.new.input text one taken.1 taken.2
 
 pub returns-then-has_ended-clause-serves : goal.returns-then-has_ended-clause-serves
 returns-then-has_ended-clause-serves g c =
     let (text, one, (held, taken, counted)) = rw c.in-Newline.is at c.in-Ok.ensures.reads in
     let (refused, reply, steps, wrote) = c.in-Ok-serve.ensures.serves text held in
-    served_to_fault c.lines.invariant.reached c.lines.invariant.going c.read_line.new.self text one refused reply _ _ c.serve.new.output steps taken wrote
+    served_to_fault c.lines.invariant.reached c.lines.invariant.going c.next_line.new.input text one refused reply _ _ c.serve.new.output steps taken wrote
     (sym c.has_ended.ensures ∙ c.if-has_ended.true)
 
 pub lines-preserved : goal.lines-preserved
@@ -33,26 +34,27 @@ lines-preserved g c =
     let (text, one, (held, taken, counted)) = rw c.in-Newline.is at c.in-Ok.ensures.reads in
     let (refused, reply, steps, wrote) = c.in-Ok-serve.ensures.serves text held in
     record {
-      reached = reached_more c.lines.invariant.reached c.lines.invariant.going c.read_line.new.self text one refused reply _ _ c.serve.new.output steps taken wrote;
+      reached = reached_more c.lines.invariant.reached c.lines.invariant.going c.next_line.new.input text one refused reply _ _ c.serve.new.output steps taken wrote;
       fresh = search rules;
       going = sym c.has_ended.ensures ∙ c.if-has_ended.false;
       counted = omega (arith, c.in-Ok.ensures.turns);
+      handed = inr c.in-Ok-serve.ensures.handed;
     }
 
 pub returns-in-Err-serve-clause-serves : goal.returns-in-Err-serve-clause-serves
 returns-in-Err-serve-clause-serves g c finish =
     let (text, one, (held, taken, counted)) = rw c.in-Newline.is at c.in-Ok.ensures.reads in
     let (refused, reply, steps, stopped) = c.in-Err-serve.ensures.serves text held in
-    write_failed c.lines.invariant.reached c.lines.invariant.going c.read_line.new.self text one refused reply _ _ c.serve.new.output steps finish taken stopped
+    write_failed c.lines.invariant.reached c.lines.invariant.going c.next_line.new.input text one refused reply _ _ c.serve.new.output steps finish taken stopped
 
 pub returns-in-Ok-serve-2-clause-serves : goal.returns-in-Ok-serve-2-clause-serves
 returns-in-Ok-serve-2-clause-serves g c =
     let (text, one, (held, taken, counted)) = rw c.in-Input.is at c.in-Ok.ensures.reads in
     let (refused, reply, steps, wrote) = c.in-Ok-serve-2.ensures.serves text held in
-    served_last c.lines.invariant.reached c.lines.invariant.going c.read_line.new.self text one refused reply _ _ c.serve-in-Input.new.output steps taken.0 taken.1 taken.2 wrote
+    served_last c.lines.invariant.reached c.lines.invariant.going c.next_line.new.input text one refused reply _ _ c.serve-in-Input.new.output steps taken.0 taken.1 taken.2 wrote
 
 pub returns-in-Err-serve-2-clause-serves : goal.returns-in-Err-serve-2-clause-serves
 returns-in-Err-serve-2-clause-serves g c finish =
     let (text, one, (held, taken, counted)) = rw c.in-Input.is at c.in-Ok.ensures.reads in
     let (refused, reply, steps, stopped) = c.in-Err-serve-2.ensures.serves text held in
-    last_failed c.lines.invariant.reached c.lines.invariant.going c.read_line.new.self text one refused reply _ _ c.serve-in-Input.new.output steps finish taken.0 taken.1 taken.2 stopped
+    last_failed c.lines.invariant.reached c.lines.invariant.going c.next_line.new.input text one refused reply _ _ c.serve-in-Input.new.output steps finish taken.0 taken.1 taken.2 stopped

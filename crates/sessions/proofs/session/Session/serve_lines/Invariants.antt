@@ -1,5 +1,5 @@
-use Rattle.std.proofs.Common.{◌≡◌, ◌+◌, ◌≤◌, [], false}
-use Rattle.fields.specs.text.Tap.{has_failed, turns_left}
+use Rattle.std.proofs.Common.{◌≡◌, ◌⊎◌, ◌+◌, ◌≤◌, [], false}
+use Rattle.fields.specs.text.Tap.{has_failed, is_unflushed, turns_left}
 use Rattle.turns.specs.Turn.{has_ended}
 use Rattle.sessions.specs.steps.Lines.{state_of}
 use Rattle.sessions.proofs.laws.runs.ReachedLaws.{Reached}
@@ -12,6 +12,7 @@ invariant-lines g l = record {
   fresh : has_failed l.input ≡ false;
   going : has_ended l.progress.spot ≡ false;
   counted : l.progress.number + turns_left l.input ≤ l._limit;
+  handed : (l.progress.number ≡ 0) ⊎ (is_unflushed l.output ≡ false);
 }
 
 abbrev pub decreases-lines : goal.decreases-lines
