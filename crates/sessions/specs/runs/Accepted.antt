@@ -7,13 +7,13 @@ use Rattle.table.specs.edits.Headline.{edited_by}
 use Rattle.restore.specs.commands.Command as command
 use Rattle.restore.specs.declared.fault.RestoreFault.{RestoreFault}
 use Rattle.restore.specs.declared.restore.Place.{Place}
-use Rattle.restore.specs.declared.restore.Place.TheVariants.{Between, Building}
+use Rattle.restore.specs.declared.restore.Place.TheVariants.{Between, Building, Skipping}
 use Rattle.restore.specs.sections.Section.{Asked, asked, begun}
 use Rattle.turns.specs.declared.fault.Fault.{Fault}
-use Rattle.turns.specs.Request.{Request, Run, request_on}
+use Rattle.turns.specs.Request.{Request, Ask, Nothing, Open, Run, Save, Show, request_on}
 use Rattle.turns.specs.Turn.{Line, Reply, Says, Fails, Turn, turn}
 use Rattle.turns.specs.declared.spot.Spot.{Spot}
-use Rattle.turns.specs.declared.spot.Spot.TheVariants.{Outside, Within}
+use Rattle.turns.specs.declared.spot.Spot.TheVariants.{Outside, Passing, Within}
 use Rattle.sessions.specs.runs.Session.{State, step}
 
 -- an accepted change: an edit by a command, or a section that was committed, with noflush or without, and the edits of its
@@ -40,18 +40,30 @@ edit_asked (Err fault) = []
 -- the edits of the open section, from the place before a line and the place after it
 abbrev pub section_edits : List Edit → List ℕ → Place → Place → List Edit
 section_edits edits line (Building s) (Building next) = edits ++ edit_asked (asked s line)
-section_edits edits line before after = []
+section_edits edits line (Building s) Between = []
+section_edits edits line (Building s) Skipping = []
+section_edits edits line Between after = []
+section_edits edits line Skipping after = []
 
 -- a section that is built before a line, and after it isn't, though the restore goes on, was committed; a test commits nothing
 abbrev pub committed : Bool → Bool → List Edit → Place → Place → List Change
 committed noflush test edits (Building s) Between = if test then [] else Section noflush edits ∷ []
-committed noflush test edits before after = []
+committed noflush test edits (Building s) Skipping = []
+committed noflush test edits (Building s) (Building next) = []
+committed noflush test edits Between after = []
+committed noflush test edits Skipping after = []
 
 -- a command that was not refused
 abbrev pub commanded : Reply → Result Request Fault → List Change
 commanded (Fails fault) request = []
 commanded (Says text) (Ok (Run (command.Change edit))) = Command edit ∷ []
-commanded (Says text) request = []
+commanded (Says text) (Ok (Run (command.ListRules name))) = []
+commanded (Says text) (Ok Nothing) = []
+commanded (Says text) (Ok Save) = []
+commanded (Says text) (Ok (Open o)) = []
+commanded (Says text) (Ok (Ask packet)) = []
+commanded (Says text) (Ok (Show name)) = []
+commanded (Says text) (Err fault) = []
 
 -- the edits of the open section, and the changes so far
 pub record Account : Type 0 where
@@ -65,7 +77,9 @@ noted a line (Within word r) t (Within word' next) = record {
   edits = section_edits a.edits line r.place next.place;
   changes = a.changes ++ committed r.noflush r.test a.edits r.place next.place;
 }
-noted a line before t after = record { edits = []; changes = a.changes }
+noted a line (Within word r) t Outside = record { edits = []; changes = a.changes }
+noted a line (Within word r) t (Passing word') = record { edits = []; changes = a.changes }
+noted a line (Passing word) t after = record { edits = []; changes = a.changes }
 
 -- the account after some lines
 abbrev pub account : State → Account → List Line → Account
