@@ -4,5 +4,5 @@
 mod headline;
 mod session;
 
-pub use headline::runs_leave_what_they_accept;
+pub use headline::{answers, runs_leave_what_they_accept};
 pub use session::{RunFault, Session};

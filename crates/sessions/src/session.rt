@@ -3,6 +3,8 @@ ghost use Rattle.std.specs.Prelude.{◌≡◌, ◌⊎◌, ◌+◌, ◌^◌, ◌<
 ghost use Rattle.fields.specs.text.Tap.{device, has_failed, is_unflushed, known, turns_left, Puts};
 ghost use Rattle.fields.specs.text.Line.{IsHeld, EndsAt, ReadsLine};
 ghost use Rattle.table.specs.chains.Table.{Table as TableOf};
+ghost use Rattle.table.specs.edits.Boxes.{MakesOneBoxAtMost};
+ghost use Rattle.table.specs.edits.Headline.{ChainsHaveOneListOfClassifiers};
 ghost use Rattle.turns.specs.Turn.{Reply, has_ended, reply_text, status_after};
 ghost use Rattle.turns.specs.Served.{HasPlace, IsReply};
 
@@ -12,7 +14,7 @@ use rules::Work;
 use std::alloc::{AllocError, Global};
 use std::io::{BufRead, Write};
 use std::mem;
-use table::Table;
+use table::{Table, calls_leave_what_they_accept};
 use thiserror::Error;
 use turns::{Answer, Fault, Spot, Turn, last_reply, restore_reply, take_line, write_reply};
 
@@ -183,12 +185,10 @@ pub struct Session {
 
 impl Session {
     ghost use Rattle.table.specs.chains.Table.{empty_table};
-    ghost use Rattle.sessions.specs.runs.Session.{restore_finish, restore_session, restore_start, session, session_finish, session_start};
-    ghost use Rattle.restore.specs.listings.RoundTrip.{RestoresItself};
-    ghost use Rattle.sessions.specs.runs.Headline.{RestoresClassifiers, RunsTo};
-    ghost use Rattle.sessions.specs.runs.Run.{Whole};
+    ghost use Rattle.sessions.specs.runs.Session.{OfRestore, OfSession};
+    ghost use Rattle.sessions.specs.runs.Headline.{RunsTo, Stands};
     ghost use Rattle.sessions.specs.steps.Lines.{ServesLine, ServesLines, state_of};
-    ghost use Rattle.sessions.specs.Views.{table_of};
+    ghost use Rattle.sessions.specs.Views.{boxes_of, moment, table_of};
 
     /// A session over a table of the built-in chains without rules. It takes the memory of the table and of the longest
     /// line, 10,240 bytes.
@@ -197,7 +197,8 @@ impl Session {
     ///
     /// `AllocError` where memory was refused.
     pub fn new(alloc: Global) -> Result<Session, AllocError>
-        ensures { IfOk result (λ s. (table_of s).table ≡ empty_table) }
+        ensures table { IfOk result (λ s. (table_of s).table ≡ empty_table) }
+        ensures work { IfOk result (λ s. boxes_of s ≡ 0) }
     {
         let table = Table::new(alloc)?;
         let line = Vec::with_capacity(alloc, LINE_MAX)?;
@@ -209,11 +210,32 @@ impl Session {
         })
     }
 
-    /// The table as the lines so far left it.
+    /// The table as the lines so far left it. It is sound, its classifiers are those of its chains, and its listing
+    /// restores both.
     pub fn table(&self) -> &Table
-        ensures { result.now ≡ table_of self.now }
+        ensures table { result.now ≡ table_of self.now }
+        ensures stands { Stands (table_of self.now) }
     {
+        self.stands();
         &self.table
+    }
+
+    /// How many boxes of rules the lines so far had made.
+    pub fn work(&self) -> &Work
+        ensures { result.now ≡ boxes_of self.now }
+    {
+        &self.work
+    }
+
+    // What holds of the table; and no chains have two lists of classifiers.
+    fn stands(&self)
+        ensures stands { Stands (table_of self.now) }
+        ensures one { ChainsHaveOneListOfClassifiers }
+    {
+        self.table.stands();
+        listings_restore();
+        restores_leave_what_they_accept();
+        calls_leave_what_they_accept();
     }
 
     // The line that was read.
@@ -229,6 +251,7 @@ impl Session {
         ensures serves { (text : List ℕ) → IsHeld 10240 text self.old.line.items too_long →
             ServesLine W.contents (table_of self.old).table progress.old (table_of self.new).table progress.new output.old output.new result text }
         ensures number { progress.new.number ≡ progress.old.number + 1 }
+        ensures work { MakesOneBoxAtMost (boxes_of self.old) (boxes_of self.new) }
         ensures handed { OnOk result (is_unflushed output.new ≡ false) }
     {
         progress.number += 1;
@@ -257,8 +280,9 @@ impl Session {
         requires output { has_failed output.old ≡ false }
         requires number { progress.old.number ≡ 0 }
         requires going { has_ended progress.old.spot ≡ false }
-        ensures serves { ServesLines R.remaining W.contents (state_of (table_of self.old).table progress.old []) input.old output.old result
-            (table_of self.new).table progress.new input.new output.new }
+        ensures serves { ServesLines (state_of (table_of self.old).table progress.old []) (moment R.remaining W.contents self.old input.old output.old) result
+            (moment R.remaining W.contents self.new input.new output.new) progress.new }
+        ensures ready { OnOk result (has_failed output.new ≡ false) }
         ensures read_failed { result ≡ Err RunFault.ReadFailed ↔ has_failed input.new ≡ true }
         ensures write_failed { result ≡ Err RunFault.WriteFailed ↔ has_failed output.new ≡ true }
     {
@@ -288,7 +312,7 @@ impl Session {
         }
     }
 
-    // The same, and what holds of the table afterwards: its listing restores it, with the classifiers that it has.
+    // The same, and what holds of the table afterwards.
     fn serve_all<R: BufRead, W: Write>(
         &mut self,
         progress: &mut Progress,
@@ -299,17 +323,16 @@ impl Session {
         requires output { has_failed output.old ≡ false }
         requires number { progress.old.number ≡ 0 }
         requires going { has_ended progress.old.spot ≡ false }
-        ensures serves { ServesLines R.remaining W.contents (state_of (table_of self.old).table progress.old []) input.old output.old result
-            (table_of self.new).table progress.new input.new output.new }
+        ensures serves { ServesLines (state_of (table_of self.old).table progress.old []) (moment R.remaining W.contents self.old input.old output.old) result
+            (moment R.remaining W.contents self.new input.new output.new) progress.new }
+        ensures ready { OnOk result (has_failed output.new ≡ false) }
         ensures read_failed { result ≡ Err RunFault.ReadFailed ↔ has_failed input.new ≡ true }
         ensures write_failed { result ≡ Err RunFault.WriteFailed ↔ has_failed output.new ≡ true }
-        ensures restores { RestoresItself (table_of self.new).table }
-        ensures classifiers { RestoresClassifiers (table_of self.new) }
+        ensures stands { Stands (table_of self.new) }
+        ensures one { ChainsHaveOneListOfClassifiers }
     {
         let served = self.serve_lines(progress, input, output);
-        self.table.stands();
-        listings_restore();
-        restores_leave_what_they_accept();
+        self.stands();
         served
     }
 
@@ -318,7 +341,7 @@ impl Session {
     ///
     /// After a `RunFault` it may be called again, with new taps; a restore that was open is given up.
     ///
-    /// A line costs what its command costs, and time linear in its length and its reply.
+    /// A line makes one box at most. It costs what its command costs, and time linear in its length and its reply.
     ///
     /// # Errors
     ///
@@ -330,8 +353,8 @@ impl Session {
     ) -> Result<u8, RunFault>
         requires input { has_failed input.old ≡ false }
         requires output { has_failed output.old ≡ false }
-        ensures whole { IfOk result (λ status. Whole R.remaining W.contents (session (table_of self.old).table) input.old output.old status (table_of self.new).table output.new) }
-        ensures runs { RunsTo R.remaining W.contents (session_start (table_of self.old).table) session_finish (table_of self.old) input.old output.old result (table_of self.new) input.new output.new }
+        ensures runs { RunsTo OfSession (moment R.remaining W.contents self.old input.old output.old) result
+            (moment R.remaining W.contents self.new input.new output.new) }
         ensures ended { OnOk result (EndsAt (known R.remaining input.old) (known R.remaining input.new)) }
         ensures handed { OnOk result (is_unflushed output.new ≡ false) }
         ensures read_failed { result ≡ Err RunFault.ReadFailed ↔ has_failed input.new ≡ true }
@@ -363,8 +386,8 @@ impl Session {
     ) -> Result<u8, RunFault>
         requires input { has_failed input.old ≡ false }
         requires output { has_failed output.old ≡ false }
-        ensures whole { IfOk result (λ status. Whole R.remaining W.contents (restore_session noflush test list (table_of self.old).table) input.old output.old status (table_of self.new).table output.new) }
-        ensures runs { RunsTo R.remaining W.contents (restore_start noflush test (table_of self.old).table) (restore_finish list) (table_of self.old) input.old output.old result (table_of self.new) input.new output.new }
+        ensures runs { RunsTo (OfRestore noflush test list) (moment R.remaining W.contents self.old input.old output.old) result
+            (moment R.remaining W.contents self.new input.new output.new) }
         ensures handed { OnOk result (is_unflushed output.new ≡ false) }
         ensures read_failed { result ≡ Err RunFault.ReadFailed ↔ has_failed input.new ≡ true }
         ensures write_failed { result ≡ Err RunFault.WriteFailed ↔ has_failed output.new ≡ true }

@@ -1,67 +1,97 @@
 -- After any list of commands and restores the chains are those that the accepted ones give by plain list edits, every chain's
 -- classifier is the one built by restoring the present listing into an empty table, and every packet's verdict and trail are
 -- those of walking the rules in order; a refused command or transaction changes nothing.
-use Rattle.std.specs.Prelude.{◌≡◌, ℕ, List, [], ◌∷◌, ◌++◌, fold, Option, Result, Ok, false}
-use Rattle.fields.specs.declared.text.tap.Tap.{Tap}
+use Rattle.std.specs.Prelude.{◌≡◌, ℕ, List, ◌∷◌, ◌++◌, Option, Result, Ok, false, IfOk, IfSome, IsFalse}
 use Rattle.fields.specs.packet.Packet.{PacketView}
 use Rattle.fields.specs.text.Line.{lines_of}
+use Rattle.table.specs.chains.Sound.{IsSound}
 use Rattle.table.specs.chains.Table.{AreClassified, Table, TableView, empty_table}
+use Rattle.table.specs.declared.verdict.Verdict.{Verdict}
+use Rattle.table.specs.declared.walk.trail.Trail.{Trail}
+use Rattle.table.specs.walk.Trail.{Shows}
+use Rattle.table.specs.walk.Walk.{walk}
 use Rattle.restore.specs.listings.Listing.{listing}
 use Rattle.restore.specs.listings.RoundTrip.{RestoresItself}
 use Rattle.restore.specs.sections.Restore.{restored}
 use Rattle.turns.specs.declared.fault.Fault.{Fault}
 use Rattle.turns.specs.Request.{Ask, request_on}
-use Rattle.turns.specs.Turn.{Line, Reply, Says, Fails, turn}
+use Rattle.turns.specs.Turn.{Line, Says, Fails, has_ended, turn}
 use Rattle.turns.specs.declared.spot.Spot.TheVariants.{Outside}
 use Rattle.replies.specs.Walked.{packet_reply}
-use Rattle.sessions.specs.runs.Run.{RunFault, Runs}
-use Rattle.sessions.specs.runs.Session.{State, step}
+use Rattle.sessions.specs.runs.Run.{Lead, Moment, RunFault, Runs, Whole}
+use Rattle.sessions.specs.runs.Session.{Kind, State, finish_of, marks_of, start_of, step}
 use Rattle.sessions.specs.runs.Accepted.{accepted, changed_by}
 
--- a line stands among some lines, after these
-abbrev pub StandsAfter : List Line → Line → List Line → Type 0
-StandsAfter before line lines = (rest : List Line) × (lines ≡ before ++ line ∷ rest)
+-- a line of a run, and the state in which it was read: that to which the lines before it led
+pub record IsReadIn (start : State) (lines : List Line) (s : State) (line : Line) : Type 0 where
+  pub before : List Line
+  pub rest : List Line
+  pub split : lines ≡ before ++ line ∷ rest
+  pub leads : Lead start before s
+  pub going : IsFalse (has_ended s.now.spot)
 
--- the table before a line that stands after these
-abbrev pub table_after : State → List Line → Table
-table_after start before = (fold step start before).now.table
+-- a session that stands so shows this: the table, and the classifiers of its chains
+abbrev pub IsShownIn : State → TableView → Type 0
+IsShownIn s t = (t.table ≡ s.now.table) × AreClassified t.table.chains t.classifiers
 
--- what a line does that stands after these
-abbrev pub reply_after : State → List Line → Line → Reply
-reply_after start before line = let s = (fold step start before).now in (turn s.table s.spot line).reply
-
--- of every line that was refused: it changed nothing
+-- of every line of a run that was refused: it left the table and its classifiers as they were
 abbrev pub RefusedChangedNothing : State → List Line → Type 0
 RefusedChangedNothing start lines =
-    (before : List Line) (line : Line) (fault : Fault) → StandsAfter before line lines → reply_after start before line ≡ Fails fault
-    → table_after start (before ++ line ∷ []) ≡ table_after start before
+    (s : State) (line : Line) (fault : Fault) (old new : TableView) → IsReadIn start lines s line → (turn s.now.table s.now.spot line).reply ≡ Fails fault
+    → IsShownIn s old → IsShownIn (step s line) new → new ≡ old
 
--- of every line outside of restores that asked for a packet and wasn't refused: its reply was the walk through the rules in order
+-- of every line of a run that asked for a packet, outside of restores, and wasn't refused: its reply was the walk through the
+-- rules in order
 abbrev pub PacketsWereWalked : State → List Line → Type 0
 PacketsWereWalked start lines =
-    (before : List Line) (line : Line) (packet : PacketView) (text : List ℕ) → StandsAfter before line lines
-    → (fold step start before).now.spot ≡ Outside → request_on line.text ≡ Ok (Ask packet) → reply_after start before line ≡ Says text
-    → text ≡ packet_reply (table_after start before) packet
+    (s : State) (line : Line) (packet : PacketView) (text : List ℕ) → IsReadIn start lines s line
+    → s.now.spot ≡ Outside → request_on line.text ≡ Ok (Ask packet) → (turn s.now.table s.now.spot line).reply ≡ Says text
+    → text ≡ packet_reply s.now.table packet
 
 -- whatever table a restore of the listing into an empty table gives has these classifiers
 abbrev pub RestoresClassifiers : TableView → Type 0
 RestoresClassifiers t =
     (made : TableView) → AreClassified made.table.chains made.classifiers → restored false false empty_table (lines_of (listing t.table)) ≡ Ok made.table → made ≡ t
 
+-- what holds of every table that a session shows
+pub record Stands (t : TableView) : Type 0 where
+  -- its chains are sound
+  pub sound : IsSound t.table
+  -- each chain's classifier is that of its rules
+  pub classified : AreClassified t.table.chains t.classifiers
+  -- the present listing restores into an empty table without a refusal, as a table of these chains
+  pub restores : RestoresItself t.table
+  -- and whatever table that restore gives has these classifiers
+  pub classifiers : RestoresClassifiers t
+
+-- what the calls `verdict` and `trail` of a table answer of a packet: a verdict, and a trail, where memory for it wasn't refused
+pub record Answers (t : TableView) (packet : PacketView) (verdict : Verdict) (trail : Option Trail) : Type 0 where
+  pub decides : verdict ≡ (walk t.table packet).verdict
+  pub shows : IfSome trail (Shows t.table.chains (walk t.table packet))
+
+-- whatever a table answers of any packet, it is the walk through the rules of these chains in order
+abbrev pub AnswersByWalks : Table → TableView → Type 0
+AnswersByWalks chains t =
+    (packet : PacketView) (verdict : Verdict) (trail : Option Trail) → Answers t packet verdict trail
+    → (verdict ≡ (walk chains packet).verdict) × IfSome trail (Shows chains.chains (walk chains packet))
+
 -- what the lines of a run left of a session's table
 pub record Headline (start : State) (lines : List Line) (old new : TableView) : Type 0 where
   -- the chains are those that the accepted changes give by plain list edits
   pub chains : new.table ≡ changed_by old.table (accepted start lines)
-  -- the present listing restores into an empty table without a refusal, as a table of these chains
-  pub restores : RestoresItself new.table
-  -- and whatever table that restore gives has these classifiers
-  pub classifiers : RestoresClassifiers new
-  -- packets were answered by the walk
+  -- every chain's classifier is that of its rules, and the one that restoring the present listing builds
+  pub stands : Stands new
+  -- every packet's verdict and trail are those of walking these rules in order
+  pub walks : AnswersByWalks (changed_by old.table (accepted start lines)) new
+  -- so were those of the packets that lines asked for, each in the table of that line
   pub packets : PacketsWereWalked start lines
   -- and what was refused changed nothing
   pub refused : RefusedChangedNothing start lines
 
--- a run did what is said of its lines, and left what they leave
-abbrev pub RunsTo : {R W : Type 0} → (R → Option (List ℕ)) → (W → Option (List ℕ)) → State → (State → State) → TableView → Tap R → Tap W → Result ℕ RunFault → TableView → Tap R → Tap W → Type 0
-RunsTo remaining contents start finish old input output result new input' output' =
-    (lines : List Line) × Runs remaining contents start finish lines input output result new.table input' output' × Headline start lines old new
+-- A run from one moment to another: these lines were read and served; with a status, and the marks of these lines, it did what
+-- is said of all bytes; and it left what is said of these lines.
+pub record RunsTo (kind : Kind) (before : Moment) (result : Result ℕ RunFault) (after : Moment) : Type 0 where
+  pub lines : List Line
+  pub runs : Runs (start_of kind before.table.table) (finish_of kind) lines before result after
+  pub whole : IfOk result (λ status. Whole kind (marks_of lines) before status after)
+  pub headline : Headline (start_of kind before.table.table) lines before.table after.table

@@ -1,12 +1,11 @@
 -- What a run of a session did, or a restore from the command line, whatever came of its reader and its writer.
-use Rattle.std.specs.Prelude.{◌≡◌, ◌⊎◌, ℕ, Bool, List, [], ◌∷◌, ◌++◌, fold, Result, Ok, Err, Option, IfSome, IsTrue, IsFalse}
+use Rattle.std.specs.Prelude.{◌≡◌, ◌⊎◌, ℕ, ◌+◌, ◌≤◌, Bool, List, [], ◌∷◌, ◌++◌, fold, length, Result, Ok, Err, Option, IfSome, IsTrue, IsFalse}
 use Rattle.std.specs.Io.KnownBytes.{Appends, Consumes}
-use Rattle.fields.specs.declared.text.tap.Tap.{Tap}
-use Rattle.fields.specs.text.Tap.{known, IsBeginning}
+use Rattle.fields.specs.text.Tap.{IsBeginning}
 use Rattle.fields.specs.text.Line.{EndsAt, lines_of, ended_lines}
-use Rattle.table.specs.chains.Table.{Table}
+use Rattle.table.specs.chains.Table.{TableView}
 use Rattle.turns.specs.Turn.{Line, has_ended}
-use Rattle.sessions.specs.runs.Session.{State, step, texts_of}
+use Rattle.sessions.specs.runs.Session.{Kind, State, step, texts_of, whole_run}
 pub use Rattle.sessions.specs.declared.session.RunFault.{RunFault}
 pub use Rattle.sessions.specs.declared.session.RunFault.TheVariants.{ReadFailed, WriteFailed}
 
@@ -73,17 +72,25 @@ Ran start finish lines bytes met_end written (Err ReadFailed) = ReadStopped star
 Ran start finish lines bytes met_end written (Err WriteFailed) =
     ReplyStopped start lines bytes met_end written ⊎ EndStopped start finish lines bytes met_end written
 
--- The same, with what the reader lost and the writer got, and the table that is left: that of the lines.
-pub record Runs {R W : Type 0} (remaining : R → Option (List ℕ)) (contents : W → Option (List ℕ)) (start : State) (finish : State → State) (lines : List Line)
-    (input : Tap R) (output : Tap W) (result : Result ℕ RunFault) (new : Table) (input' : Tap R) (output' : Tap W) : Type 0 where
+-- What stands before a run or after it: the bytes that the reader has left and those that the writer was given, where they are
+-- known, the session's table, and how many boxes its lines had made.
+pub record Moment : Type 0 where
+  pub left : Option (List ℕ)
+  pub given : Option (List ℕ)
+  pub table : TableView
+  pub boxes : ℕ
+
+-- The same, with what the reader lost and the writer got, and what is left: the table of the lines, and a box for each line at most.
+pub record Runs (start : State) (finish : State → State) (lines : List Line) (before : Moment) (result : Result ℕ RunFault) (after : Moment) : Type 0 where
   pub bytes : List ℕ
   pub written : List ℕ
-  pub reads : Consumes (known remaining input) (known remaining input') bytes
-  pub writes : Appends (known contents output) (known contents output') written
-  pub ran : Ran start finish lines bytes (EndsAt (known remaining input) (known remaining input')) written result
-  pub table : new ≡ (fold step start lines).now.table
+  pub reads : Consumes before.left after.left bytes
+  pub writes : Appends before.given after.given written
+  pub ran : Ran start finish lines bytes (EndsAt before.left after.left) written result
+  pub table : after.table.table ≡ (fold step start lines).now.table
+  pub boxes : after.boxes ≤ before.boxes + length lines
 
--- A run that has a status: for some marks it wrote, answered and left what is said of all bytes.
-abbrev pub Whole : {R W : Type 0} → (R → Option (List ℕ)) → (W → Option (List ℕ)) → (List ℕ → List Bool → State) → Tap R → Tap W → ℕ → Table → Tap W → Type 0
-Whole remaining contents said input output status new output' = IfSome (known remaining input) (λ bytes.
-    (marks : List Bool) × let s = said bytes marks in Appends (known contents output) (known contents output') s.printed × (status ≡ s.now.status) × (new ≡ s.now.table))
+-- A run that has a status: with these marks it wrote, answered and left what is said of all bytes.
+abbrev pub Whole : Kind → List Bool → Moment → ℕ → Moment → Type 0
+Whole kind marks before status after = IfSome before.left (λ bytes.
+    let s = whole_run kind before.table.table bytes marks in Appends before.given after.given s.printed × (status ≡ s.now.status) × (after.table.table ≡ s.now.table))

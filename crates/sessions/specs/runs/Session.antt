@@ -71,3 +71,27 @@ session t bytes marks = session_finish (play (session_start t) (lines_of bytes) 
 -- a whole restore from the command line
 abbrev pub restore_session : Bool → Bool → Bool → Table → List ℕ → List Bool → State
 restore_session noflush test list t bytes marks = restore_finish list (play (restore_start noflush test t) (lines_of bytes) marks)
+
+-- the marks of lines
+abbrev pub marks_of : List Line → List Bool
+marks_of lines = map (λ (line : Line). line.refused) lines
+
+-- a kind of run: of the lines of a session, or of a restore from the command line, by its noflush, its test and whether it lists
+pub data Kind : Type 0 where
+  OfSession : Kind
+  OfRestore : Bool → Bool → Bool → Kind
+
+-- where a run begins
+abbrev pub start_of : Kind → Table → State
+start_of OfSession t = session_start t
+start_of (OfRestore noflush test list) t = restore_start noflush test t
+
+-- what its end does
+abbrev pub finish_of : Kind → State → State
+finish_of OfSession = session_finish
+finish_of (OfRestore noflush test list) = restore_finish list
+
+-- a whole run
+abbrev pub whole_run : Kind → Table → List ℕ → List Bool → State
+whole_run OfSession t bytes marks = session t bytes marks
+whole_run (OfRestore noflush test list) t bytes marks = restore_session noflush test list t bytes marks

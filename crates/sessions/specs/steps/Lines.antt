@@ -1,13 +1,13 @@
 -- What came of lines that were read and served, and of the end of the input.
-use Rattle.std.specs.Prelude.{◌≡◌, ◌⊎◌, ℕ, Bool, List, ◌++◌, Option, Result, Ok, Err, MatchResult, IsTrue}
-use Rattle.std.specs.Io.KnownBytes.{Consumes}
+use Rattle.std.specs.Prelude.{◌≡◌, ◌⊎◌, ℕ, ◌+◌, ◌≤◌, Bool, List, ◌++◌, length, Option, Result, Ok, Err, MatchResult, IsTrue}
+use Rattle.std.specs.Io.KnownBytes.{Appends, Consumes}
 use Rattle.fields.specs.declared.text.tap.Tap.{Tap}
 use Rattle.fields.specs.text.Line.{EndsAt}
-use Rattle.fields.specs.text.Tap.{known, Wrote, Stopped, Puts}
+use Rattle.fields.specs.text.Tap.{Wrote, Stopped, Puts}
 use Rattle.table.specs.chains.Table.{Table}
 use Rattle.turns.specs.Turn.{Line, has_ended}
 use Rattle.sessions.specs.runs.Session.{State, step}
-use Rattle.sessions.specs.runs.Run.{AreRead, Lead, RunFault, Runs, WriteFailed}
+use Rattle.sessions.specs.runs.Run.{AreRead, Lead, Moment, RunFault, Runs, WriteFailed}
 use Rattle.sessions.specs.declared.session.Progress.{Progress}
 
 -- the state of the definition, where this was printed
@@ -25,22 +25,21 @@ ServesLine contents t p t' p' o o' r text =
     × Puts contents o o' r reply
 
 -- All lines that were read were served, up to the input's end or to the fault that ends a run.
-pub record ServedAll {R W : Type 0} (remaining : R → Option (List ℕ)) (contents : W → Option (List ℕ)) (start : State)
-    (input : Tap R) (output : Tap W) (new : Table) (p : Progress) (input' : Tap R) (output' : Tap W) : Type 0 where
+pub record ServedAll (start : State) (before after : Moment) (p : Progress) : Type 0 where
   pub bytes : List ℕ
   pub lines : List Line
   pub printed : List ℕ
-  pub reads : Consumes (known remaining input) (known remaining input') bytes
-  pub leads : Lead start lines (state_of new p printed)
-  pub read : AreRead lines bytes (EndsAt (known remaining input) (known remaining input'))
-  pub done : IsTrue (has_ended p.spot) ⊎ EndsAt (known remaining input) (known remaining input')
-  pub wrote : Wrote contents output output' printed
+  pub reads : Consumes before.left after.left bytes
+  pub leads : Lead start lines (state_of after.table.table p printed)
+  pub read : AreRead lines bytes (EndsAt before.left after.left)
+  pub done : IsTrue (has_ended p.spot) ⊎ EndsAt before.left after.left
+  pub writes : Appends before.given after.given printed
+  pub boxes : after.boxes ≤ before.boxes + length lines
 
 -- what came of lines, by the answer: a run that failed is over, whatever its end would have been
-abbrev pub ServesLines : {R W : Type 0} → (R → Option (List ℕ)) → (W → Option (List ℕ)) → State → Tap R → Tap W → Result (Unit {0}) RunFault → Table → Progress → Tap R → Tap W → Type 0
-ServesLines remaining contents start input output (Ok _) new p input' output' = ServedAll remaining contents start input output new p input' output'
-ServesLines remaining contents start input output (Err fault) new p input' output' =
-    (finish : State → State) → (lines : List Line) × Runs remaining contents start finish lines input output (Err fault) new input' output'
+abbrev pub ServesLines : State → Moment → Result (Unit {0}) RunFault → Moment → Progress → Type 0
+ServesLines start before (Ok _) after p = ServedAll start before after p
+ServesLines start before (Err fault) after p = (finish : State → State) → (lines : List Line) × Runs start finish lines before (Err fault) after
 
 -- this reply was written and this status answered, or the writer failed in the reply
 abbrev pub Finishes : {W : Type 0} → (W → Option (List ℕ)) → ℕ → List ℕ → Tap W → Tap W → Result ℕ RunFault → Type 0

@@ -4,15 +4,16 @@ use Rattle.std.proofs.KnownBytes.{Appends-trans}
 use Rattle.fields.specs.declared.text.tap.Tap.{Tap}
 use Rattle.fields.specs.text.Tap.{known, Stopped}
 use Rattle.table.specs.chains.Table.{Table, TableView}
-use Rattle.restore.specs.listings.RoundTrip.{RestoresItself}
+use Rattle.table.specs.edits.Headline.{ChainsHaveOneListOfClassifiers}
 use Rattle.turns.specs.Turn.{Line, last_turn, restore_end, reply_text, status_after}
-use Rattle.sessions.specs.runs.Headline.{RestoresClassifiers, RunsTo}
-use Rattle.sessions.specs.runs.Run.{RunFault, Runs, WriteFailed}
-use Rattle.sessions.specs.runs.Session.{State, restore_finish, restore_start, session_finish, session_start, step}
+use Rattle.sessions.specs.runs.Headline.{RunsTo, Stands}
+use Rattle.sessions.specs.runs.Run.{Moment, RunFault, Runs, WriteFailed}
+use Rattle.sessions.specs.runs.Session.{Kind, State, finish_of, restore_finish, session_finish, start_of, step}
 use Rattle.sessions.specs.steps.Lines.{Ends, Finishes, ServedAll, state_of}
 use Rattle.sessions.specs.declared.session.Progress.{Progress}
-use Rattle.sessions.proofs.laws.runs.HeadlineLaws.{restore_headline, session_headline}
+use Rattle.sessions.proofs.laws.runs.HeadlineLaws.{run_headline}
 use Rattle.sessions.proofs.laws.runs.LeadLaws.{fold_of}
+use Rattle.sessions.proofs.laws.runs.WholeLaws.{if_whole}
 
 module _ {W : Type 0} (contents : W → Option (List ℕ)) (t : Table) (p : Progress) (o o' : Tap W) (r : Result ℕ RunFault) where
   -- at the end of a session
@@ -36,63 +37,68 @@ module _ {W : Type 0} (contents : W → Option (List ℕ)) (t : Table) (p : Prog
     finishes = h;
   }
 
-module _ {R W : Type 0} {remaining : R → Option (List ℕ)} {contents : W → Option (List ℕ)} {start : State} {input : Tap R} {output : Tap W} {t : Table} {p : Progress} {input' : Tap R} {output' : Tap W}
-    (s : ServedAll remaining contents start input output t p input' output') (finish : State → State) (output'' : Tap W) where
-  table_is : t ≡ (fold step start s.lines).now.table
-  table_is = ap (λ (x : State). x.now.table) (sym (fold_of start (state_of t p s.printed) s.lines s.leads))
+module _ {W : Type 0} (contents : W → Option (List ℕ)) (left : Option (List ℕ)) (t : TableView) (boxes : ℕ) where
+  -- the moment at which a writer stands so
+  abbrev at : Tap W → Moment
+  at writer = record { left = left; given = known contents writer; table = t; boxes = boxes }
 
-  failed_at_end : (reply : List ℕ) → ((before : List ℕ) → (finish (state_of t p before)).printed ≡ before ++ reply) → Stopped contents output' output'' reply
-      → Runs remaining contents start finish s.lines input output (Err WriteFailed) t input' output''
-  failed_at_end reply printed stops = record {
-    bytes = s.bytes;
-    written = s.printed ++ stops.part;
-    reads = s.reads;
-    writes = Appends-trans (known contents output) (known contents output') (known contents output'') s.printed stops.part s.wrote.appends stops.appends;
-    ran = inr (record {
-      last = state_of t p s.printed;
-      leads = s.leads;
-      read = s.read;
-      done = s.done;
-      between = record {
-        all = (stops.part, refl);
-        part = (stops.begins.0, printed s.printed ∙ ap (λ l. s.printed ++ l) stops.begins.1 ∙ sym (append_assoc s.printed stops.part stops.begins.0));
-      };
-    });
-    table = table_is;
-  }
+  module _ (o o' : Tap W) {start : State} {before : Moment} {p : Progress} (s : ServedAll start before (at o) p) (finish : State → State) where
+    table_is : t.table ≡ (fold step start s.lines).now.table
+    table_is = ap (λ (x : State). x.now.table) (sym (fold_of start (state_of t.table p s.printed) s.lines s.leads))
 
-  -- lines that were served, and then the end
-  pub ran_to_end : (r : Result ℕ RunFault) → Ends contents finish t p output' output'' r → (lines : List Line) × Runs remaining contents start finish lines input output r t input' output''
-  ran_to_end (Ok status) e = (
-    s.lines,
-    record {
+    failed_at_end : (reply : List ℕ) → ((printed : List ℕ) → (finish (state_of t.table p printed)).printed ≡ printed ++ reply) → Stopped contents o o' reply
+        → Runs start finish s.lines before (Err WriteFailed) (at o')
+    failed_at_end reply printed stops = record {
       bytes = s.bytes;
-      written = s.printed ++ e.reply;
+      written = s.printed ++ stops.part;
       reads = s.reads;
-      writes = Appends-trans (known contents output) (known contents output') (known contents output'') s.printed e.reply s.wrote.appends e.finishes.1.appends;
-      ran = record {
-        last = state_of t p s.printed;
+      writes = Appends-trans before.given (known contents o) (known contents o') s.printed stops.part s.writes stops.appends;
+      ran = inr (record {
+        last = state_of t.table p s.printed;
         leads = s.leads;
         read = s.read;
         done = s.done;
-        printed = sym (e.printed s.printed);
-        answer = e.finishes.0 ∙ sym (e.answer s.printed);
-      };
+        between = record {
+          all = (stops.part, refl);
+          part = (stops.begins.0, printed s.printed ∙ ap (λ l. s.printed ++ l) stops.begins.1 ∙ sym (append_assoc s.printed stops.part stops.begins.0));
+        };
+      });
       table = table_is;
-    },
-  )
-  ran_to_end (Err fault) e = (
-    s.lines,
-    subst (λ (f : RunFault). Runs remaining contents start finish s.lines input output (Err f) t input' output'') (sym e.finishes.0) (failed_at_end e.reply e.printed e.finishes.1),
-  )
+      boxes = s.boxes;
+    }
 
--- what the lines left is the headline
-module _ {R W : Type 0} {remaining : R → Option (List ℕ)} {contents : W → Option (List ℕ)} (old : TableView) {input : Tap R} {output : Tap W} {r : Result ℕ RunFault} (new : TableView)
-    {input' : Tap R} {output' : Tap W} (restores : RestoresItself new.table) (classifiers : RestoresClassifiers new) where
-  pub session_runs : (lines : List Line) × Runs remaining contents (session_start old.table) session_finish lines input output r new.table input' output'
-      → RunsTo remaining contents (session_start old.table) session_finish old input output r new input' output'
-  session_runs (lines, runs) = (lines, runs, session_headline lines old new runs.table restores classifiers)
+    -- lines that were served, and then the end
+    pub ran_to_end : (r : Result ℕ RunFault) → Ends contents finish t.table p o o' r → (lines : List Line) × Runs start finish lines before r (at o')
+    ran_to_end (Ok status) e = (
+      s.lines,
+      record {
+        bytes = s.bytes;
+        written = s.printed ++ e.reply;
+        reads = s.reads;
+        writes = Appends-trans before.given (known contents o) (known contents o') s.printed e.reply s.writes e.finishes.1.appends;
+        ran = record {
+          last = state_of t.table p s.printed;
+          leads = s.leads;
+          read = s.read;
+          done = s.done;
+          printed = sym (e.printed s.printed);
+          answer = e.finishes.0 ∙ sym (e.answer s.printed);
+        };
+        table = table_is;
+        boxes = s.boxes;
+      },
+    )
+    ran_to_end (Err fault) e = (
+      s.lines,
+      subst (λ (f : RunFault). Runs start finish s.lines before (Err f) (at o')) (sym e.finishes.0) (failed_at_end e.reply e.printed e.finishes.1),
+    )
 
-  pub restore_runs : (noflush test list : Bool) → (lines : List Line) × Runs remaining contents (restore_start noflush test old.table) (restore_finish list) lines input output r new.table input' output'
-      → RunsTo remaining contents (restore_start noflush test old.table) (restore_finish list) old input output r new input' output'
-  restore_runs noflush test list (lines, runs) = (lines, runs, restore_headline noflush test lines old new runs.table restores classifiers)
+-- what the lines did is what is said of all bytes, and what they left is the headline
+pub runs_to : ChainsHaveOneListOfClassifiers → (kind : Kind) (before after : Moment) (r : Result ℕ RunFault) → Stands after.table
+    → (lines : List Line) × Runs (start_of kind before.table.table) (finish_of kind) lines before r after → RunsTo kind before r after
+runs_to one kind before after r stands (lines, runs) = record {
+  lines = lines;
+  runs = runs;
+  whole = if_whole kind lines before after r runs;
+  headline = run_headline one kind lines before.table after.table runs.table stands;
+}

@@ -1,41 +1,48 @@
 -- What the lines of a run leave of a session's table.
-use Rattle.std.proofs.Common.{◌≡◌, Bool, List, [], ◌∷◌, fold, ap, ◌∙◌}
-use Rattle.std.proofs.lemmas.Grind.{fold-append}
-use Rattle.table.specs.chains.Table.{TableView}
-use Rattle.restore.specs.listings.RoundTrip.{RestoresItself}
+use Rattle.std.proofs.Common.{◌≡◌, List, ◌∷◌, fold, IfSome, sym, subst, ◌∙◌}
+use Rattle.table.specs.edits.Headline.{ChainsHaveOneListOfClassifiers}
+use Rattle.table.specs.chains.Table.{AreClassified, Table, TableView}
+use Rattle.table.specs.declared.walk.trail.Trail.{Trail}
+use Rattle.table.specs.walk.Trail.{Shows}
+use Rattle.table.specs.walk.Walk.{walk}
 use Rattle.turns.specs.Turn.{Line}
 use Rattle.sessions.specs.runs.Accepted.{accepted, changed_by}
-use Rattle.sessions.specs.runs.Headline.{Headline, PacketsWereWalked, RefusedChangedNothing, RestoresClassifiers}
-use Rattle.sessions.specs.runs.Session.{State, restore_start, session_start, step}
+use Rattle.sessions.specs.runs.Headline.{Headline, PacketsWereWalked, RefusedChangedNothing, Stands, AnswersByWalks}
+use Rattle.sessions.specs.runs.Session.{Kind, OfRestore, OfSession, State, start_of, step}
 use Rattle.sessions.proofs.laws.runs.AcceptedLaws.{restore_leaves, session_leaves}
 use Rattle.sessions.proofs.laws.runs.KeptLaws.{packet_is_walked, refused_changes_nothing}
 
-refused_changed : (start : State) (lines : List Line) → RefusedChangedNothing start lines
-refused_changed start lines before line fault stands fails =
-    let s = fold step start before in
-    ap (λ (x : State). x.now.table) (fold-append step start before (line ∷ [])) ∙ refused_changes_nothing s.now.table s.now.spot line fault fails
+-- equal tables have one list of classifiers
+one_view : ChainsHaveOneListOfClassifiers → (old new : TableView) → new.table ≡ old.table → AreClassified old.table.chains old.classifiers → AreClassified new.table.chains new.classifiers → new ≡ old
+one_view one old new tables is other =
+    let lists : new.classifiers ≡ old.classifiers = one old.table.chains new.classifiers old.classifiers (subst (λ (t : Table). AreClassified t.chains new.classifiers) tables other) is in
+    (λ i. record { table = tables i; classifiers = lists i })
+
+refused_changed : ChainsHaveOneListOfClassifiers → (start : State) (lines : List Line) → RefusedChangedNothing start lines
+refused_changed one start lines s line fault old new read fails before after =
+    one_view one old new (after.0 ∙ refused_changes_nothing s.now.table s.now.spot line fault fails ∙ sym before.0) before.1 after.1
 
 packets_walked : (start : State) (lines : List Line) → PacketsWereWalked start lines
-packets_walked start lines before line packet text stands outside asks says =
-    let s = fold step start before in packet_is_walked s.now.table s.now.spot line packet text outside asks says
+packets_walked start lines s line packet text read outside asks says = packet_is_walked s.now.table s.now.spot line packet text outside asks says
 
-headline : (start : State) (lines : List Line) (old new : TableView) → (fold step start lines).now.table ≡ changed_by old.table (accepted start lines)
-    → new.table ≡ (fold step start lines).now.table → RestoresItself new.table → RestoresClassifiers new → Headline start lines old new
-headline start lines old new leaves is restores classifiers = record {
-  chains = is ∙ leaves;
-  restores = restores;
-  classifiers = classifiers;
-  packets = packets_walked start lines;
-  refused = refused_changed start lines;
-}
+-- a table of some chains answers their walks
+pub walks_through : (chains : Table) (t : TableView) → t.table ≡ chains → AnswersByWalks chains t
+walks_through chains t is packet verdict trail a =
+    subst (λ (u : Table). (verdict ≡ (walk u packet).verdict) × IfSome trail (Shows u.chains (walk u packet))) is (a.decides, a.shows)
 
--- of a session
-pub session_headline : (lines : List Line) (old new : TableView) → new.table ≡ (fold step (session_start old.table) lines).now.table → RestoresItself new.table → RestoresClassifiers new
-    → Headline (session_start old.table) lines old new
-session_headline lines old new is restores classifiers = headline (session_start old.table) lines old new (session_leaves old.table lines) is restores classifiers
+-- the lines of either kind of run leave what they accept
+run_leaves : (kind : Kind) (t : Table) (lines : List Line) → (fold step (start_of kind t) lines).now.table ≡ changed_by t (accepted (start_of kind t) lines)
+run_leaves OfSession t lines = session_leaves t lines
+run_leaves (OfRestore noflush test list) t lines = restore_leaves noflush test t lines
 
--- of a restore from the command line
-pub restore_headline : (noflush test : Bool) (lines : List Line) (old new : TableView) → new.table ≡ (fold step (restore_start noflush test old.table) lines).now.table → RestoresItself new.table
-    → RestoresClassifiers new → Headline (restore_start noflush test old.table) lines old new
-restore_headline noflush test lines old new is restores classifiers =
-    headline (restore_start noflush test old.table) lines old new (restore_leaves noflush test old.table lines) is restores classifiers
+pub run_headline : ChainsHaveOneListOfClassifiers → (kind : Kind) (lines : List Line) (old new : TableView) → new.table ≡ (fold step (start_of kind old.table) lines).now.table → Stands new
+    → Headline (start_of kind old.table) lines old new
+run_headline one kind lines old new is stands =
+    let leaves : new.table ≡ changed_by old.table (accepted (start_of kind old.table) lines) = is ∙ run_leaves kind old.table lines in
+    record {
+      chains = leaves;
+      stands = stands;
+      walks = walks_through (changed_by old.table (accepted (start_of kind old.table) lines)) new leaves;
+      packets = packets_walked (start_of kind old.table) lines;
+      refused = refused_changed one (start_of kind old.table) lines;
+    }

@@ -1,34 +1,37 @@
 -- How far a run is, and what it did at each of its ends.
-use Rattle.std.proofs.Common.{◌≡◌, ◌⊎◌, inl, inr, ℕ, ◌<◌, Bool, true, false, List, [], ◌∷◌, ◌++◌, length, Option, Err, refl, sym, ap, subst, ◌∙◌, append_assoc, append-nil}
-use Rattle.std.specs.Io.KnownBytes.{Consumes}
-use Rattle.std.proofs.KnownBytes.{Consumes-trans, Consumes-nil, Appends-trans}
-use Rattle.fields.specs.declared.text.tap.Tap.{Tap}
-use Rattle.fields.specs.text.Tap.{known, Wrote, Stopped}
+use Rattle.std.proofs.Common.{◌≡◌, ◌⊎◌, inl, inr, ℕ, ◌+◌, ◌<◌, ◌≤◌, arith, length-append, Bool, true, false, List, [], ◌∷◌, ◌++◌, length, Option, Err, refl, sym, ap, subst, ◌∙◌, append_assoc, append-nil}
+use Rattle.std.specs.Io.KnownBytes.{Appends, Consumes}
+use Rattle.std.proofs.KnownBytes.{Consumes-trans, Consumes-nil, Appends-nil, Appends-trans}
+use Rattle.fields.specs.text.Tap.{IsBeginning}
 use Rattle.fields.specs.text.OneLine.{IsOneLine}
 use Rattle.fields.specs.text.Line.{EndsAt, lines_of, ended_lines}
 use Rattle.fields.proofs.laws.text.LineLaws.{lines_of-ended, lines_of-last, ended_lines-ended, ended_lines-part}
 use Rattle.fields.proofs.laws.text.PartLaws.{EndsAt-later}
-use Rattle.fields.proofs.laws.text.PutLaws.{wrote-then}
-use Rattle.table.specs.chains.Table.{Table}
+use Rattle.table.specs.chains.Table.{Table, TableView}
+use Rattle.table.specs.edits.Boxes.{MakesOneBoxAtMost}
 use Rattle.turns.specs.Turn.{Line, has_ended}
 use Rattle.sessions.specs.runs.Session.{State, step, texts_of}
-use Rattle.sessions.specs.runs.Run.{EndsLine, Lead, Runs, ReadFailed, WriteFailed}
+use Rattle.sessions.specs.runs.Run.{EndsLine, Lead, Moment, Runs, ReadFailed, WriteFailed}
 use Rattle.sessions.specs.steps.Lines.{ServedAll, state_of}
 use Rattle.sessions.specs.declared.session.Progress.{Progress}
 use Rattle.sessions.proofs.laws.runs.LeadLaws.{fold_of, lead_more, texts_more}
 
 -- Lines were read, each up to its newline, and served, one after another.
-pub record Reached {R W : Type 0} (remaining : R → Option (List ℕ)) (contents : W → Option (List ℕ)) (from : State)
-    (input : Tap R) (output : Tap W) (t : Table) (p : Progress) (input' : Tap R) (output' : Tap W) : Type 0 where
+pub record Reached (from : State) (before now : Moment) (p : Progress) : Type 0 where
   pub bytes : List ℕ
   pub lines : List Line
   pub printed : List ℕ
-  pub taken : Consumes (known remaining input) (known remaining input') bytes
+  pub taken : Consumes before.left now.left bytes
   pub whole : (rest : List ℕ) → lines_of (bytes ++ rest) ≡ texts_of lines ++ lines_of rest
   pub ended : (rest : List ℕ) → ended_lines (bytes ++ rest) ≡ texts_of lines ++ ended_lines rest
   pub ends : EndsLine bytes
-  pub leads : Lead from lines (state_of t p printed)
-  pub wrote : Wrote contents output output' printed
+  pub leads : Lead from lines (state_of now.table.table p printed)
+  pub writes : Appends before.given now.given printed
+  pub boxes : now.boxes ≤ before.boxes + length lines
+
+-- the same moment, but for what the reader has left
+abbrev pub reads_on : Moment → Option (List ℕ) → Moment
+reads_on now left = record { left = left; given = now.given; table = now.table; boxes = now.boxes }
 
 -- one line more
 abbrev more : List Line → List ℕ → Bool → List Line
@@ -47,160 +50,173 @@ module _ (read : List ℕ → List (List ℕ)) where
       ap read (append_assoc bytes piece rest) ∙ whole (piece ++ rest) ∙ ap (λ ls. texts_of lines ++ ls) one
       ∙ sym (append_assoc (texts_of lines) (text ∷ []) (read rest)) ∙ ap (λ ls. ls ++ read rest) (sym (texts_more lines text refused))
 
-module _ {R W : Type 0} {remaining : R → Option (List ℕ)} {contents : W → Option (List ℕ)} {from : State} where
-  -- at the beginning
-  pub reached_nothing : (input : Tap R) (output : Tap W) (t : Table) (p : Progress) → state_of t p [] ≡ from → Wrote contents output output []
-      → Reached remaining contents from input output t p input output
-  reached_nothing input output t p begins wrote = record {
-    bytes = [];
-    lines = [];
-    printed = [];
-    taken = Consumes-nil (known remaining input);
-    whole = λ rest. refl;
-    ended = λ rest. refl;
-    ends = inl refl;
-    leads = begins;
-    wrote = wrote;
-  }
+-- a box more is a line more
+boxes_more : (a b old : ℕ) (lines : List Line) (text : List ℕ) (refused : Bool) → a ≤ old + length lines → MakesOneBoxAtMost a b → b ≤ old + length (more lines text refused)
+boxes_more a b old lines text refused few made =
+    let longer : length (more lines text refused) ≡ length lines + 1 = length-append lines (record { text = text; refused = refused } ∷ []) in
+    elim made [ inl same ↦ omega (arith, few, same, longer) | inr one ↦ omega (arith, few, one, longer) ]
 
-  module _ {input : Tap R} {output : Tap W} {t : Table} {p : Progress} {input' : Tap R} {output' : Tap W}
-      (r : Reached remaining contents from input output t p input' output') (going : has_ended p.spot ≡ false)
-      (input'' : Tap R) (text : List ℕ) (lone : IsOneLine text) where
-    taken_all : (piece : List ℕ) → Consumes (known remaining input') (known remaining input'') piece → Consumes (known remaining input) (known remaining input'') (r.bytes ++ piece)
-    taken_all piece taken = Consumes-trans (known remaining input) (known remaining input') (known remaining input'') r.bytes piece r.taken taken
+-- at the beginning
+pub reached_nothing : (from : State) (before : Moment) (p : Progress) → state_of before.table.table p [] ≡ from → Reached from before before p
+reached_nothing from before p begins = record {
+  bytes = [];
+  lines = [];
+  printed = [];
+  taken = Consumes-nil before.left;
+  whole = λ rest. refl;
+  ended = λ rest. refl;
+  ends = inl refl;
+  leads = begins;
+  writes = Appends-nil before.given;
+  boxes = omega arith;
+}
 
-    met : EndsAt (known remaining input') (known remaining input'') → EndsAt (known remaining input) (known remaining input'')
-    met end = EndsAt-later (known remaining input) (known remaining input') (known remaining input'') r.bytes r.taken end
+module _ {from : State} {before now : Moment} {p : Progress} (r : Reached from before now p) (going : has_ended p.spot ≡ false) (left : Option (List ℕ)) (text : List ℕ) (lone : IsOneLine text) where
+  taken_all : (piece : List ℕ) → Consumes now.left left piece → Consumes before.left left (r.bytes ++ piece)
+  taken_all piece taken = Consumes-trans before.left now.left left r.bytes piece r.taken taken
 
-    -- the reader failed after a part of a line
-    pub read_failed : (finish : State → State) → Consumes (known remaining input') (known remaining input'') text
-        → (lines : List Line) × Runs remaining contents from finish lines input output (Err ReadFailed) t input'' output'
-    read_failed finish taken =
-        let is = r.ended text ∙ ap (λ ls. texts_of r.lines ++ ls) (ended_lines-part text lone) ∙ append-nil (texts_of r.lines) in (
-          r.lines,
-          record {
-            bytes = r.bytes ++ text;
-            written = r.printed;
-            reads = taken_all text taken;
-            writes = r.wrote.appends;
-            ran = record { last = state_of t p r.printed; leads = r.leads; texts = sym is; going = going; printed = refl };
-            table = ap (λ (s : State). s.now.table) (sym (fold_of from (state_of t p r.printed) r.lines r.leads));
-          },
-        )
+  met : EndsAt now.left left → EndsAt before.left left
+  met end = EndsAt-later before.left now.left left r.bytes r.taken end
 
-    -- there was no line left
-    pub served_nothing : Consumes (known remaining input') (known remaining input'') [] → EndsAt (known remaining input') (known remaining input'')
-        → ServedAll remaining contents from input output t p input'' output'
-    served_nothing taken end = record {
-      bytes = r.bytes ++ [];
-      lines = r.lines;
-      printed = r.printed;
-      reads = taken_all [] taken;
-      leads = r.leads;
-      read = record { texts = sym (r.whole [] ∙ append-nil (texts_of r.lines)); whole = inr (met end) };
-      done = inr (met end);
-      wrote = r.wrote;
-    }
-
-    module _ (refused : Bool) (reply : List ℕ) (t' : Table) (p' : Progress) (output'' : Tap W) (served : Steps t p text refused reply t' p') where
-      abbrev all : List Line
-      all = more r.lines text refused
-
-      leads_all : Lead from all (state_of t' p' (r.printed ++ reply))
-      leads_all =
-          subst (Lead from all) (served r.printed) (lead_more from (state_of t p r.printed) r.lines (record { text = text; refused = refused }) r.leads going)
-
-      ended_piece : (rest : List ℕ) → lines_of ((r.bytes ++ (text ++ 10 ∷ [])) ++ rest) ≡ texts_of all ++ lines_of rest
-      ended_piece rest = next_line lines_of r.bytes (text ++ 10 ∷ []) text r.lines refused r.whole rest (lines_of-ended text rest lone)
-
-      ended_texts : texts_of all ≡ lines_of (r.bytes ++ (text ++ 10 ∷ []))
-      ended_texts = sym (ap lines_of (sym (append-nil (r.bytes ++ (text ++ 10 ∷ [])))) ∙ ended_piece [] ∙ append-nil (texts_of all))
-
-      ends_piece : EndsLine (r.bytes ++ (text ++ 10 ∷ []))
-      ends_piece = inr (r.bytes ++ text, sym (append_assoc r.bytes text (10 ∷ [])))
-
-      last_texts : 0 < length text → texts_of all ≡ lines_of (r.bytes ++ text)
-      last_texts some = texts_more r.lines text refused ∙ sym (r.whole text ∙ ap (λ ls. texts_of r.lines ++ ls) (lines_of-last text lone some))
-
-      -- a line that a newline ended was served
-      pub reached_more : Consumes (known remaining input') (known remaining input'') (text ++ 10 ∷ []) → Wrote contents output' output'' reply
-          → Reached remaining contents from input output t' p' input'' output''
-      reached_more taken wrote = record {
-        bytes = r.bytes ++ (text ++ 10 ∷ []);
-        lines = all;
-        printed = r.printed ++ reply;
-        taken = taken_all (text ++ 10 ∷ []) taken;
-        whole = ended_piece;
-        ended = λ rest. next_line ended_lines r.bytes (text ++ 10 ∷ []) text r.lines refused r.ended rest (ended_lines-ended text rest lone);
-        ends = ends_piece;
-        leads = leads_all;
-        wrote = wrote-then r.wrote wrote;
-      }
-
-      -- and the run has ended
-      pub served_to_fault : Consumes (known remaining input') (known remaining input'') (text ++ 10 ∷ []) → Wrote contents output' output'' reply → has_ended p'.spot ≡ true
-          → ServedAll remaining contents from input output t' p' input'' output''
-      served_to_fault taken wrote over = record {
-        bytes = r.bytes ++ (text ++ 10 ∷ []);
-        lines = all;
-        printed = r.printed ++ reply;
-        reads = taken_all (text ++ 10 ∷ []) taken;
-        leads = leads_all;
-        read = record { texts = ended_texts; whole = inl ends_piece };
-        done = inl over;
-        wrote = wrote-then r.wrote wrote;
-      }
-
-      -- the last line was served
-      pub served_last : 0 < length text → Consumes (known remaining input') (known remaining input'') text → EndsAt (known remaining input') (known remaining input'')
-          → Wrote contents output' output'' reply → ServedAll remaining contents from input output t' p' input'' output''
-      served_last some taken end wrote = record {
-        bytes = r.bytes ++ text;
-        lines = all;
-        printed = r.printed ++ reply;
-        reads = taken_all text taken;
-        leads = leads_all;
-        read = record { texts = last_texts some; whole = inr (met end) };
-        done = inr (met end);
-        wrote = wrote-then r.wrote wrote;
-      }
-
-      -- the writer failed in the reply to a line of this piece
-      reply_failed : (finish : State → State) (piece : List ℕ) → texts_of all ≡ lines_of (r.bytes ++ piece)
-          → EndsLine (r.bytes ++ piece) ⊎ EndsAt (known remaining input) (known remaining input'')
-          → Consumes (known remaining input') (known remaining input'') piece → Stopped contents output' output'' reply
-          → (lines : List Line) × Runs remaining contents from finish lines input output (Err WriteFailed) t' input'' output''
-      reply_failed finish piece texts whole taken stops = (
-        all,
+  -- the reader failed after a part of a line
+  pub read_failed : (finish : State → State) → Consumes now.left left text → (lines : List Line) × Runs from finish lines before (Err ReadFailed) (reads_on now left)
+  read_failed finish taken =
+      let is = r.ended text ∙ ap (λ ls. texts_of r.lines ++ ls) (ended_lines-part text lone) ∙ append-nil (texts_of r.lines) in (
+        r.lines,
         record {
-          bytes = r.bytes ++ piece;
-          written = r.printed ++ stops.part;
-          reads = taken_all piece taken;
-          writes = Appends-trans (known contents output) (known contents output') (known contents output'') r.printed stops.part r.wrote.appends stops.appends;
-          ran = inl (record {
-            before = r.lines;
-            line = record { text = text; refused = refused };
-            first = state_of t p r.printed;
-            last = state_of t' p' (r.printed ++ reply);
-            split = refl;
-            leads = r.leads;
-            replies = (going, sym (served r.printed));
-            read = record { texts = texts; whole = whole };
-            between = record {
-              all = (stops.part, refl);
-              part = (stops.begins.0, ap (λ l. r.printed ++ l) stops.begins.1 ∙ sym (append_assoc r.printed stops.part stops.begins.0));
-            };
-          });
-          table = ap (λ (s : State). s.now.table) (sym (fold_of from (state_of t' p' (r.printed ++ reply)) all leads_all));
+          bytes = r.bytes ++ text;
+          written = r.printed;
+          reads = taken_all text taken;
+          writes = r.writes;
+          ran = record { last = state_of now.table.table p r.printed; leads = r.leads; texts = sym is; going = going; printed = refl };
+          table = ap (λ (s : State). s.now.table) (sym (fold_of from (state_of now.table.table p r.printed) r.lines r.leads));
+          boxes = r.boxes;
         },
       )
 
-      -- it failed in the reply to a line that a newline ended
-      pub write_failed : (finish : State → State) → Consumes (known remaining input') (known remaining input'') (text ++ 10 ∷ []) → Stopped contents output' output'' reply
-          → (lines : List Line) × Runs remaining contents from finish lines input output (Err WriteFailed) t' input'' output''
-      write_failed finish taken stops = reply_failed finish (text ++ 10 ∷ []) ended_texts (inl ends_piece) taken stops
+  -- there was no line left
+  pub served_nothing : Consumes now.left left [] → EndsAt now.left left → ServedAll from before (reads_on now left) p
+  served_nothing taken end = record {
+    bytes = r.bytes ++ [];
+    lines = r.lines;
+    printed = r.printed;
+    reads = taken_all [] taken;
+    leads = r.leads;
+    read = record { texts = sym (r.whole [] ∙ append-nil (texts_of r.lines)); whole = inr (met end) };
+    done = inr (met end);
+    writes = r.writes;
+    boxes = r.boxes;
+  }
 
-      -- or in that to the last line
-      pub last_failed : (finish : State → State) → 0 < length text → Consumes (known remaining input') (known remaining input'') text → EndsAt (known remaining input') (known remaining input'')
-          → Stopped contents output' output'' reply → (lines : List Line) × Runs remaining contents from finish lines input output (Err WriteFailed) t' input'' output''
-      last_failed finish some taken end stops = reply_failed finish text (last_texts some) (inr (met end)) taken stops
+  module _ (refused : Bool) (reply : List ℕ) (given : Option (List ℕ)) (t' : TableView) (boxes' : ℕ) (p' : Progress) (served : Steps now.table.table p text refused reply t'.table p')
+      (made : MakesOneBoxAtMost now.boxes boxes') where
+    abbrev next : Moment
+    next = record { left = left; given = given; table = t'; boxes = boxes' }
+
+    abbrev all : List Line
+    all = more r.lines text refused
+
+    few : boxes' ≤ before.boxes + length all
+    few = boxes_more now.boxes boxes' before.boxes r.lines text refused r.boxes made
+
+    all_written : (part : List ℕ) → Appends now.given given part → Appends before.given given (r.printed ++ part)
+    all_written part writes = Appends-trans before.given now.given given r.printed part r.writes writes
+
+    leads_all : Lead from all (state_of t'.table p' (r.printed ++ reply))
+    leads_all =
+        subst (Lead from all) (served r.printed) (lead_more from (state_of now.table.table p r.printed) r.lines (record { text = text; refused = refused }) r.leads going)
+
+    ended_piece : (rest : List ℕ) → lines_of ((r.bytes ++ (text ++ 10 ∷ [])) ++ rest) ≡ texts_of all ++ lines_of rest
+    ended_piece rest = next_line lines_of r.bytes (text ++ 10 ∷ []) text r.lines refused r.whole rest (lines_of-ended text rest lone)
+
+    ended_texts : texts_of all ≡ lines_of (r.bytes ++ (text ++ 10 ∷ []))
+    ended_texts = sym (ap lines_of (sym (append-nil (r.bytes ++ (text ++ 10 ∷ [])))) ∙ ended_piece [] ∙ append-nil (texts_of all))
+
+    ends_piece : EndsLine (r.bytes ++ (text ++ 10 ∷ []))
+    ends_piece = inr (r.bytes ++ text, sym (append_assoc r.bytes text (10 ∷ [])))
+
+    last_texts : 0 < length text → texts_of all ≡ lines_of (r.bytes ++ text)
+    last_texts some = texts_more r.lines text refused ∙ sym (r.whole text ∙ ap (λ ls. texts_of r.lines ++ ls) (lines_of-last text lone some))
+
+    -- a line that a newline ended was served
+    pub reached_more : Consumes now.left left (text ++ 10 ∷ []) → Appends now.given given reply → Reached from before next p'
+    reached_more taken wrote = record {
+      bytes = r.bytes ++ (text ++ 10 ∷ []);
+      lines = all;
+      printed = r.printed ++ reply;
+      taken = taken_all (text ++ 10 ∷ []) taken;
+      whole = ended_piece;
+      ended = λ rest. next_line ended_lines r.bytes (text ++ 10 ∷ []) text r.lines refused r.ended rest (ended_lines-ended text rest lone);
+      ends = ends_piece;
+      leads = leads_all;
+      writes = all_written reply wrote;
+      boxes = few;
+    }
+
+    -- and the run has ended
+    pub served_to_fault : Consumes now.left left (text ++ 10 ∷ []) → Appends now.given given reply → has_ended p'.spot ≡ true → ServedAll from before next p'
+    served_to_fault taken wrote over = record {
+      bytes = r.bytes ++ (text ++ 10 ∷ []);
+      lines = all;
+      printed = r.printed ++ reply;
+      reads = taken_all (text ++ 10 ∷ []) taken;
+      leads = leads_all;
+      read = record { texts = ended_texts; whole = inl ends_piece };
+      done = inl over;
+      writes = all_written reply wrote;
+      boxes = few;
+    }
+
+    -- the last line was served
+    pub served_last : 0 < length text → Consumes now.left left text → EndsAt now.left left → Appends now.given given reply → ServedAll from before next p'
+    served_last some taken end wrote = record {
+      bytes = r.bytes ++ text;
+      lines = all;
+      printed = r.printed ++ reply;
+      reads = taken_all text taken;
+      leads = leads_all;
+      read = record { texts = last_texts some; whole = inr (met end) };
+      done = inr (met end);
+      writes = all_written reply wrote;
+      boxes = few;
+    }
+
+    -- the writer failed in the reply to a line of this piece
+    reply_failed : (finish : State → State) (piece : List ℕ) → texts_of all ≡ lines_of (r.bytes ++ piece)
+        → EndsLine (r.bytes ++ piece) ⊎ EndsAt before.left left → Consumes now.left left piece
+        → (part : List ℕ) → IsBeginning part reply → Appends now.given given part → (lines : List Line) × Runs from finish lines before (Err WriteFailed) next
+    reply_failed finish piece texts whole taken part begins writes = (
+      all,
+      record {
+        bytes = r.bytes ++ piece;
+        written = r.printed ++ part;
+        reads = taken_all piece taken;
+        writes = all_written part writes;
+        ran = inl (record {
+          before = r.lines;
+          line = record { text = text; refused = refused };
+          first = state_of now.table.table p r.printed;
+          last = state_of t'.table p' (r.printed ++ reply);
+          split = refl;
+          leads = r.leads;
+          replies = (going, sym (served r.printed));
+          read = record { texts = texts; whole = whole };
+          between = record {
+            all = (part, refl);
+            part = (begins.0, ap (λ l. r.printed ++ l) begins.1 ∙ sym (append_assoc r.printed part begins.0));
+          };
+        });
+        table = ap (λ (s : State). s.now.table) (sym (fold_of from (state_of t'.table p' (r.printed ++ reply)) all leads_all));
+        boxes = few;
+      },
+    )
+
+    -- it failed in the reply to a line that a newline ended
+    pub write_failed : (finish : State → State) → Consumes now.left left (text ++ 10 ∷ []) → (part : List ℕ) → IsBeginning part reply → Appends now.given given part
+        → (lines : List Line) × Runs from finish lines before (Err WriteFailed) next
+    write_failed finish taken part begins writes = reply_failed finish (text ++ 10 ∷ []) ended_texts (inl ends_piece) taken part begins writes
+
+    -- or in that to the last line
+    pub last_failed : (finish : State → State) → 0 < length text → Consumes now.left left text → EndsAt now.left left
+        → (part : List ℕ) → IsBeginning part reply → Appends now.given given part → (lines : List Line) × Runs from finish lines before (Err WriteFailed) next
+    last_failed finish some taken end part begins writes = reply_failed finish text (last_texts some) (inr (met end)) taken part begins writes

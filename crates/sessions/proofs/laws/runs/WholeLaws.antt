@@ -5,8 +5,6 @@ use Rattle.std.proofs.lemmas.Grind.{fold-append}
 use Rattle.std.specs.List.{list_all}
 use Rattle.std.specs.Option.{option_to_list}
 use Rattle.std.specs.Io.KnownBytes.{Appends, Consumes, IsAtEnd}
-use Rattle.fields.specs.declared.text.tap.Tap.{Tap}
-use Rattle.fields.specs.text.Tap.{known}
 use Rattle.fields.specs.text.Line.{EndsAt, lines_of, onto_first}
 use Rattle.table.specs.chains.Table.{Table, has_chain}
 use Rattle.table.specs.edits.Edits.{step as table_step}
@@ -20,15 +18,12 @@ use Rattle.turns.specs.Request.{Request, Nothing, Run, Save, Open, Ask, Show, re
 use Rattle.turns.specs.Turn.{Line, Turn, edit_turn, ended, fails, is_end, needs_no_memory, listed, restore_turn, serve, served, turn, has_ended}
 use Rattle.turns.specs.declared.spot.Spot.{Spot}
 use Rattle.turns.specs.declared.spot.Spot.TheVariants.{Outside, Within, Passing}
-use Rattle.sessions.specs.runs.Run.{EndsLine, Lead, RunFault, Runs, Whole}
-use Rattle.sessions.specs.runs.Session.{State, marked, play, restore_finish, restore_session, restore_start, session, session_finish, session_start, step, texts_of}
+use Rattle.sessions.specs.runs.Run.{EndsLine, Lead, Moment, RunFault, Runs, Whole}
+use Rattle.sessions.specs.runs.Session.{Kind, OfRestore, OfSession, State, finish_of, marked, marks_of, play, restore_finish, restore_start, session_finish, session_start, start_of, step, texts_of}
 use Rattle.sessions.proofs.laws.runs.KeptLaws.{of_both}
 use Rattle.sessions.proofs.laws.runs.LeadLaws.{fold_of}
 
 -- Lines and the marks that they have
-
-abbrev marks_of : List Line → List Bool
-marks_of lines = map (λ (l : Line). l.refused) lines
 
 marked_more : (lines : List Line) (rest : List (List ℕ)) → marked (texts_of lines ++ rest) (marks_of lines) ≡ lines ++ marked rest []
 marked_more [] rest = refl
@@ -101,42 +96,38 @@ ends_same finish is s rest (inr none) = subst (λ r. Same (finish (play s (lines
 
 -- All bytes
 
-abbrev Said : {W : Type 0} → (W → Option (List ℕ)) → (State → State) → State → Tap W → ℕ → Table → Tap W → List ℕ → Type 0
-Said contents finish start output status new output' all =
-    (marks : List Bool) × let s = finish (play start (lines_of all) marks) in Appends (known contents output) (known contents output') s.printed × (status ≡ s.now.status) × (new ≡ s.now.table)
+abbrev Said : (State → State) → State → List Bool → Moment → ℕ → Moment → List ℕ → Type 0
+Said finish start marks before status after all =
+    let s = finish (play start (lines_of all) marks) in Appends before.given after.given s.printed × (status ≡ s.now.status) × (after.table.table ≡ s.now.table)
 
-module _ {R W : Type 0} (remaining : R → Option (List ℕ)) (contents : W → Option (List ℕ)) (start : State) (finish : State → State) (still_is : IsStill finish)
-    (keeps : (s : State) → (finish s).now.table ≡ s.now.table) (lines : List Line) (input : Tap R) (output : Tap W) (status : ℕ) (new : Table) (input' : Tap R) (output' : Tap W)
-    (runs : Runs remaining contents start finish lines input output (Ok status) new input' output') where
-  last_table : new ≡ (finish runs.ran.last).now.table
+module _ (start : State) (finish : State → State) (still_is : IsStill finish) (keeps : (s : State) → (finish s).now.table ≡ s.now.table) (lines : List Line) (before after : Moment) (status : ℕ)
+    (runs : Runs start finish lines before (Ok status) after) where
+  last_table : after.table.table ≡ (finish runs.ran.last).now.table
   last_table = runs.table ∙ ap (λ (s : State). s.now.table) (fold_of start runs.ran.last lines runs.ran.leads) ∙ sym (keeps runs.ran.last)
 
-  at : (rest : List ℕ) → EndsLine runs.bytes ⊎ (rest ≡ []) → (has_ended runs.ran.last.now.spot ≡ true) ⊎ (rest ≡ [])
-      → Said contents finish start output status new output' (runs.bytes ++ rest)
+  at : (rest : List ℕ) → EndsLine runs.bytes ⊎ (rest ≡ []) → (has_ended runs.ran.last.now.spot ≡ true) ⊎ (rest ≡ []) → Said finish start (marks_of lines) before status after (runs.bytes ++ rest)
   at rest whole done =
       let last = runs.ran.last in
       let same = ends_same finish still_is last rest done in
       let one : play start (lines_of (runs.bytes ++ rest)) (marks_of lines) ≡ play last (lines_of rest) [] =
-      ap (λ ls. play start ls (marks_of lines)) (lines_left runs.bytes rest whole ∙ ap (λ ls. ls ++ lines_of rest) (sym runs.ran.read.texts)) ∙ play_on start last lines (lines_of rest) runs.ran.leads in (
-        marks_of lines,
-        subst (λ s. Appends (known contents output) (known contents output') (finish s).printed × (status ≡ (finish s).now.status) × (new ≡ (finish s).now.table)) (sym one)
-            (subst (Appends (known contents output) (known contents output')) (runs.ran.printed ∙ sym same.0) runs.writes, runs.ran.answer ∙ sym same.1, last_table ∙ sym same.2),
-      )
+      ap (λ ls. play start ls (marks_of lines)) (lines_left runs.bytes rest whole ∙ ap (λ ls. ls ++ lines_of rest) (sym runs.ran.read.texts)) ∙ play_on start last lines (lines_of rest) runs.ran.leads in
+      subst (λ s. Appends before.given after.given (finish s).printed × (status ≡ (finish s).now.status) × (after.table.table ≡ (finish s).now.table)) (sym one)
+      (subst (Appends before.given after.given) (runs.ran.printed ∙ sym same.0) runs.writes, runs.ran.answer ∙ sym same.1, last_table ∙ sym same.2)
 
   met : (a b : Option (List ℕ)) (all rest : List ℕ) → a ≡ Some all → b ≡ Some rest → EndsAt a b → rest ≡ []
   met a b all rest is left end = subst IsAtEnd left (subst (λ x. EndsAt x b) is end)
 
-  go : (a b : Option (List ℕ)) → a ≡ known remaining input → b ≡ known remaining input' → Consumes a b runs.bytes → IfSome a (Said contents finish start output status new output')
+  go : (a b : Option (List ℕ)) → a ≡ before.left → b ≡ after.left → Consumes a b runs.bytes → IfSome a (Said finish start (marks_of lines) before status after)
   go None b is left taken = tt
   go (Some all) None is left taken = absurd taken
   go (Some all) (Some rest) is left taken =
-      let none : EndsAt (known remaining input) (known remaining input') → rest ≡ [] = λ end. met (known remaining input) (known remaining input') all rest (sym is) (sym left) end in
-      subst (Said contents finish start output status new output') (sym taken)
+      let none : EndsAt before.left after.left → rest ≡ [] = λ end. met before.left after.left all rest (sym is) (sym left) end in
+      subst (Said finish start (marks_of lines) before status after) (sym taken)
       (at rest (elim runs.ran.read.whole [ inl e ↦ inl e | inr end ↦ inr (none end) ]) (elim runs.ran.done [ inl e ↦ inl e | inr end ↦ inr (none end) ]))
 
   -- a run that has a status is a whole one
-  pub is_whole : IfSome (known remaining input) (Said contents finish start output status new output')
-  is_whole = go (known remaining input) (known remaining input') refl refl runs.reads
+  pub is_whole : IfSome before.left (Said finish start (marks_of lines) before status after)
+  is_whole = go before.left after.left refl refl runs.reads
 
 -- a session keeps its table at the end
 keeps_last : (t : Table) (spot : Spot) (n status : ℕ) (printed : List ℕ)
@@ -155,18 +146,15 @@ keeps_end list t Outside n status printed = refl
 keeps_end list t (Within word r) n status printed = listed_table list t (ended_at r.place) n status printed
 keeps_end list t (Passing word) n status printed = refl
 
-module _ {R W : Type 0} (remaining : R → Option (List ℕ)) (contents : W → Option (List ℕ)) (t : Table) (lines : List Line) (input : Tap R) (output : Tap W) (status : ℕ) (new : Table)
-    (input' : Tap R) (output' : Tap W) where
-  pub session_whole : Runs remaining contents (session_start t) session_finish lines input output (Ok status) new input' output'
-      → Whole remaining contents (session t) input output status new output'
-  session_whole runs =
-      is_whole remaining contents (session_start t) session_finish session_still (λ s. keeps_last s.now.table s.now.spot s.now.number s.now.status s.printed) lines input output status new input' output' runs
-
-  pub restore_whole : (noflush test list : Bool) → Runs remaining contents (restore_start noflush test t) (restore_finish list) lines input output (Ok status) new input' output'
-      → Whole remaining contents (restore_session noflush test list t) input output status new output'
-  restore_whole noflush test list runs =
-      is_whole remaining contents (restore_start noflush test t) (restore_finish list) (restore_still list) (λ s. keeps_end list s.now.table s.now.spot s.now.number s.now.status s.printed)
-      lines input output status new input' output' runs
+-- with a status a run did what is said of all bytes
+pub if_whole : (kind : Kind) (lines : List Line) (before after : Moment) (r : Result ℕ RunFault) → Runs (start_of kind before.table.table) (finish_of kind) lines before r after
+    → IfOk r (λ status. Whole kind (marks_of lines) before status after)
+if_whole kind lines before after (Err fault) runs = tt
+if_whole OfSession lines before after (Ok status) runs =
+    is_whole (session_start before.table.table) session_finish session_still (λ s. keeps_last s.now.table s.now.spot s.now.number s.now.status s.printed) lines before after status runs
+if_whole (OfRestore noflush test list) lines before after (Ok status) runs =
+    is_whole (restore_start noflush test before.table.table) (restore_finish list) (restore_still list) (λ s. keeps_end list s.now.table s.now.spot s.now.number s.now.status s.printed)
+    lines before after status runs
 
 -- No line of a session ends its run
 
@@ -234,18 +222,6 @@ pub session_is_read : {A : Type 0} (t : Table) (lines : List Line) (last : State
 session_is_read t lines last leads (inl e) =
     absurd (going_of last.now.spot (subst (λ (s : State). IsNamed s.now.spot) (fold_of (session_start t) last lines leads) (named_all (session_start t) lines tt)) e)
 session_is_read t lines last leads (inr end) = end
-
--- where a run has a status
-module _ {R W : Type 0} (remaining : R → Option (List ℕ)) (contents : W → Option (List ℕ)) (t : Table) (input : Tap R) (output : Tap W) (new : Table) (input' : Tap R) (output' : Tap W) where
-  pub if_session_whole : (r : Result ℕ RunFault) → (lines : List Line) × Runs remaining contents (session_start t) session_finish lines input output r new input' output'
-      → IfOk r (λ status. Whole remaining contents (session t) input output status new output')
-  if_session_whole (Ok status) (lines, runs) = session_whole remaining contents t lines input output status new input' output' runs
-  if_session_whole (Err fault) ran = tt
-
-  pub if_restore_whole : (noflush test list : Bool) (r : Result ℕ RunFault) → (lines : List Line) × Runs remaining contents (restore_start noflush test t) (restore_finish list) lines input output r new input' output'
-      → IfOk r (λ status. Whole remaining contents (restore_session noflush test list t) input output status new output')
-  if_restore_whole noflush test list (Ok status) (lines, runs) = restore_whole remaining contents t lines input output status new input' output' noflush test list runs
-  if_restore_whole noflush test list (Err fault) ran = tt
 
 pub on_ok : {P : Type 0} (r : Result ℕ RunFault) → P → OnOk r P
 on_ok (Ok status) p = p
