@@ -1,6 +1,7 @@
 pub mod LeadLaws
 pub mod KeptLaws
 pub mod AcceptedLaws
+pub mod WrittenLaws
 pub mod HeadlineLaws
 pub mod SeveralLaws
 pub mod ReachedLaws

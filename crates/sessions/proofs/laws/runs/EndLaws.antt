@@ -100,5 +100,5 @@ runs_to one kind before after r stands (lines, runs) = record {
   lines = lines;
   runs = runs;
   whole = if_whole kind lines before after r runs;
-  headline = run_headline one kind lines before.table after.table runs.table stands;
+  headline = run_headline one kind before after lines r runs stands;
 }

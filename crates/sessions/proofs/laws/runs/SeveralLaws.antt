@@ -1,10 +1,8 @@
 -- What several runs leave.
 use Rattle.std.proofs.Common.{◌≡◌, List, [], ◌∷◌, ◌++◌, refl, sym, ap, subst, ◌∙◌}
 use Rattle.table.specs.chains.Table.{Table, TableView}
-use Rattle.turns.specs.Turn.{Line}
 use Rattle.sessions.specs.runs.Accepted.{Change, changed, changed_by}
 use Rattle.sessions.specs.runs.Headline.{PacketsWereWalked, RefusedChangedNothing, Stands}
-use Rattle.sessions.specs.runs.Session.{State}
 use Rattle.sessions.specs.runs.Several.{Follow, OfEach, Run, RunsLeaveWhatTheyAccept, accepted_by, accepted_in}
 use Rattle.sessions.proofs.laws.runs.HeadlineLaws.{walks_through}
 
@@ -35,11 +33,11 @@ refused_of old new (run ∷ runs) h =
     (h.1.refused, subst (λ (t : Table). OfEach RefusedChangedNothing t runs) h.1.chains (refused_of h.0 new runs h.2))
 
 pub runs_leave : RunsLeaveWhatTheyAccept
-runs_leave old new runs stands h =
+runs_leave old new runs h =
     let is = chains_are old new runs h in
     record {
       chains = is;
-      stands = stand old new runs stands h;
+      stands = λ stands. stand old new runs stands h;
       walks = walks_through (changed_by old.table (accepted_by old.table runs)) new is;
       packets = packets_of old new runs h;
       refused = refused_of old new runs h;
