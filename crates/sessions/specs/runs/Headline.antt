@@ -1,7 +1,7 @@
 -- After any list of commands and restores the chains are those that the accepted ones give by plain list edits, every chain's
 -- classifier is the one built by restoring the present listing into an empty table, and every packet's verdict and trail are
 -- those of walking the rules in order; a refused command or transaction changes nothing.
-use Rattle.std.specs.Prelude.{◌≡◌, ◌⊎◌, ℕ, List, ◌∷◌, ◌++◌, Option, Result, Ok, Err, false, IfOk, IfSome, IsFalse}
+use Rattle.std.specs.Prelude.{◌≡◌, ◌⊎◌, ℕ, ◌+◌, List, ◌∷◌, ◌++◌, Option, Result, Ok, Err, false, IfOk, IfSome, IsFalse}
 use Rattle.fields.specs.packet.Packet.{PacketView}
 use Rattle.fields.specs.text.Line.{lines_of}
 use Rattle.fields.specs.text.Tap.{IsBeginning}
@@ -15,6 +15,7 @@ use Rattle.restore.specs.listings.Listing.{listing}
 use Rattle.restore.specs.listings.RoundTrip.{RestoresItself}
 use Rattle.restore.specs.sections.Restore.{restored}
 use Rattle.turns.specs.declared.fault.Fault.{Fault}
+use Rattle.turns.specs.Fault.{fault_line}
 use Rattle.turns.specs.Request.{Ask, request_on}
 use Rattle.turns.specs.Turn.{Line, Says, Fails, has_ended, turn}
 use Rattle.turns.specs.declared.spot.Spot.TheVariants.{Outside}
@@ -51,11 +52,13 @@ IsShownIn s t = (t.table ≡ s.now.table) × AreClassified t.table.chains t.clas
 abbrev pub LeadTo : State → List Line → TableView → Type 0
 LeadTo start lines t = (last : State) × Lead start lines last × IsShownIn last t
 
--- of every line of a run that was refused: it left the table and its classifiers as they were
+-- of every line of a run that was refused: it left the table and its classifiers as they were, and its fault was written after
+-- what was printed before
 abbrev pub RefusedChangedNothing : State → Done → Type 0
 RefusedChangedNothing start done =
     (s : State) (line : Line) (fault : Fault) (old new : TableView) → IsReadIn start done.lines s line → (turn s.now.table s.now.spot line).reply ≡ Fails fault
-    → IsShownIn s old → IsShownIn (step s line) new → new ≡ old
+    → IsShownIn s old → IsShownIn (step s line) new
+    → (new ≡ old) × IsWritten done.answer (s.printed ++ fault_line (s.now.number + 1) fault) done.written
 
 -- of every line of a run that asked for a packet, outside of restores, and wasn't refused: its reply was the walk through the
 -- rules in order, and it was written after what was printed before

@@ -21,18 +21,24 @@ one_view one old new tables is other =
     let lists : new.classifiers ≡ old.classifiers = one old.table.chains new.classifiers old.classifiers (subst (λ (t : Table). AreClassified t.chains new.classifiers) tables other) is in
     (λ i. record { table = tables i; classifiers = lists i })
 
-refused_changed : ChainsHaveOneListOfClassifiers → (start : State) (done : Done) → RefusedChangedNothing start done
-refused_changed one start done s line fault old new read fails before after =
-    one_view one old new (after.0 ∙ refused_changes_nothing s.now.table s.now.spot line fault fails ∙ sym before.0) before.1 after.1
-
 -- the output up to each line was written
 abbrev WritesEach : State → Done → Type 0
 WritesEach start done = (s : State) (line : Line) → IsReadIn start done.lines s line → IsWritten done.answer (step s line).printed done.written
 
+-- a reply to a line was written after what was printed before
+abbrev PrintedWith : Done → State → Reply → Type 0
+PrintedWith done s reply = IsWritten done.answer (s.printed ++ reply_text (s.now.number + 1) reply) done.written
+
+refused_changed : ChainsHaveOneListOfClassifiers → (start : State) (done : Done) → WritesEach start done → RefusedChangedNothing start done
+refused_changed one start done writes s line fault old new read fails before after = (
+  one_view one old new (after.0 ∙ refused_changes_nothing s.now.table s.now.spot line fault fails ∙ sym before.0) before.1 after.1,
+  subst (PrintedWith done s) fails (writes s line read),
+)
+
 packets_walked : (start : State) (done : Done) → WritesEach start done → PacketsWereWalked start done
 packets_walked start done writes s line packet text read outside asks says = (
   packet_is_walked s.now.table s.now.spot line packet text outside asks says,
-  subst (λ (reply : Reply). IsWritten done.answer (s.printed ++ reply_text (s.now.number + 1) reply) done.written) says (writes s line read),
+  subst (PrintedWith done s) says (writes s line read),
 )
 
 -- a table of some chains answers their walks
@@ -53,11 +59,12 @@ run_headline one kind before after lines r runs stands =
     let done : Done = record { lines = lines; written = runs.written; answer = r } in
     let leaves : after.table.table ≡ changed_by before.table.table (accepted start lines) = runs.table ∙ run_leaves kind before.table.table lines in
     let leads = leads_to kind start lines before after r runs in
+    let writes = is_written kind start lines before after r runs in
     record {
       reached = (leads.0, leads.1, (runs.table ∙ ap (λ (s : State). s.now.table) (fold_of start leads.0 lines leads.1), stands.classified));
       chains = leaves;
       stands = stands;
       walks = walks_through (changed_by before.table.table (accepted start lines)) after.table leaves;
-      packets = packets_walked start done (is_written kind start lines before after r runs);
-      refused = refused_changed one start done;
+      packets = packets_walked start done writes;
+      refused = refused_changed one start done writes;
     }
