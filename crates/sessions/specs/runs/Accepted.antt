@@ -1,41 +1,17 @@
 -- The changes that lines had accepted: a command that wasn't refused, or a section of a restore that was committed.
 use Rattle.std.specs.Prelude.{ℕ, Bool, List, [], ◌∷◌, ◌++◌, Result, Ok, Err, if◌then◌else◌}
-use Rattle.std.specs.Option.{option_to_list}
-use Rattle.table.specs.chains.Table.{Table}
-use Rattle.table.specs.edits.Edits.{Edit, edited}
-use Rattle.table.specs.edits.Headline.{edited_by}
+use Rattle.table.specs.edits.Edits.{Edit}
 use Rattle.restore.specs.commands.Command as command
-use Rattle.restore.specs.declared.fault.RestoreFault.{RestoreFault}
 use Rattle.restore.specs.declared.restore.Place.{Place}
 use Rattle.restore.specs.declared.restore.Place.TheVariants.{Between, Building, Skipping}
-use Rattle.restore.specs.sections.Section.{Asked, asked, begun}
+use Rattle.restore.specs.calls.Changes.{Change, Command, Section, edit_asked}
+use Rattle.restore.specs.sections.Section.{asked}
 use Rattle.turns.specs.declared.fault.Fault.{Fault}
 use Rattle.turns.specs.Request.{Request, Ask, Nothing, Open, Run, Save, Show, request_on}
 use Rattle.turns.specs.Turn.{Line, Reply, Says, Fails, Turn, turn}
 use Rattle.turns.specs.declared.spot.Spot.{Spot}
 use Rattle.turns.specs.declared.spot.Spot.TheVariants.{Outside, Passing, Within}
 use Rattle.sessions.specs.runs.Session.{State, step}
-
--- an accepted change: an edit by a command, or a section that was committed, with noflush or without, and the edits of its
--- lines in order
-pub data Change : Type 0 where
-  Command : Edit → Change
-  Section : Bool → List Edit → Change
-
--- the table after a change, by plain list edits; a section begins from the table, or from its policies alone
-abbrev pub changed : Table → Change → Table
-changed t (Command edit) = edited edit t
-changed t (Section noflush edits) = edited_by (begun noflush t).table edits
-
--- the table after some changes, one after another
-abbrev pub changed_by : Table → List Change → Table
-changed_by t [] = t
-changed_by t (change ∷ changes) = changed_by (changed t change) changes
-
--- the edit that a line of a section asks for, if it asks for one
-abbrev pub edit_asked : Result Asked RestoreFault → List Edit
-edit_asked (Ok a) = option_to_list a.edit
-edit_asked (Err fault) = []
 
 -- the edits of the open section, from the place before a line and the place after it
 abbrev pub section_edits : List Edit → List ℕ → Place → Place → List Edit

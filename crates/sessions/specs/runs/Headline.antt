@@ -22,7 +22,8 @@ use Rattle.turns.specs.declared.spot.Spot.TheVariants.{Outside}
 use Rattle.replies.specs.Walked.{packet_reply}
 use Rattle.sessions.specs.runs.Run.{Lead, Moment, ReadFailed, RunFault, Runs, Whole, WriteFailed}
 use Rattle.sessions.specs.runs.Session.{Kind, State, finish_of, marks_of, start_of, step}
-use Rattle.sessions.specs.runs.Accepted.{accepted, changed_by}
+use Rattle.restore.specs.calls.Changes.{changed_by}
+use Rattle.sessions.specs.runs.Accepted.{accepted}
 
 -- what a run did: the lines that it served, what it wrote, and its answer
 pub record Done : Type 0 where

@@ -2,7 +2,8 @@
 -- at a failed device.
 use Rattle.std.specs.Prelude.{◌≡◌, List, [], ◌∷◌, ◌++◌}
 use Rattle.table.specs.chains.Table.{Table, TableView}
-use Rattle.sessions.specs.runs.Accepted.{Change, accepted, changed_by}
+use Rattle.restore.specs.calls.Changes.{Change, changed_by}
+use Rattle.sessions.specs.runs.Accepted.{accepted}
 use Rattle.sessions.specs.runs.Headline.{AnswersByWalks, Done, Headline, PacketsWereWalked, RefusedChangedNothing, Stands}
 use Rattle.sessions.specs.runs.Session.{Kind, State, start_of}
 

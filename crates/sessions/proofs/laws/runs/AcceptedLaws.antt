@@ -1,7 +1,6 @@
 -- The lines of a session leave what its accepted changes give by plain list edits.
 use Rattle.std.proofs.Common.{◌≡◌, ℕ, List, [], ◌∷◌, ◌++◌, ◌&&◌, not, Bool, true, false, Option, Some, None, Result, Ok, Err, refl, sym, ap, ◌∙◌, append-nil, fold, codes, if◌then◌else◌}
 use Rattle.std.specs.Str.{bytes_eq}
-use Rattle.std.specs.List.{list_all}
 use Rattle.std.specs.Option.{option_to_list}
 use Rattle.fields.specs.text.Words.{words_of}
 use Rattle.table.specs.edits.Edits.{Edit, edited, fault_of, step as table_step}
@@ -24,7 +23,8 @@ use Rattle.turns.specs.Request.{Request, Nothing, Run, Save, Open, Ask, Show, re
 use Rattle.turns.specs.Turn.{Line, Turn, silent, fails, edit_turn, serve, ended, restore_turn, served, is_end, needs_no_memory, turn}
 use Rattle.turns.specs.declared.spot.Spot.{Spot}
 use Rattle.turns.specs.declared.spot.Spot.TheVariants.{Outside, Within, Passing}
-use Rattle.sessions.specs.runs.Accepted.{Change, Command, Section, Account, changed, changed_by, edit_asked, section_edits, committed, commanded, noted, account, accepted}
+use Rattle.restore.specs.calls.Changes.{Change, Command, Section, changed, changed_by, edit_asked}
+use Rattle.sessions.specs.runs.Accepted.{Account, section_edits, committed, commanded, noted, account, accepted}
 use Rattle.sessions.specs.runs.Session.{State, step, session_start, restore_start}
 use Rattle.sessions.proofs.laws.runs.KeptLaws.{of_both}
 
@@ -86,13 +86,14 @@ fits_serve : (t0 t : Table) (cs : List Change) (request : Result Request Fault) 
 fits_serve t0 t cs (Err fault) h = record { table = same t0 t cs h; open_in = tt }
 fits_serve t0 t cs (Ok Nothing) h = record { table = same t0 t cs h; open_in = tt }
 fits_serve t0 t cs (Ok (Run (command.Change e))) h = fits_edit t0 t cs e (table_step e t) h (step_edits e t)
-fits_serve t0 t cs (Ok (Run (command.ListRules name))) h =
-    of_both (FitsServed t0 cs (Ok (Run (command.ListRules name)))) (list_all (has_chain t) (option_to_list name)) (record { table = same t0 t cs h; open_in = tt }) (record { table = same t0 t cs h; open_in = tt })
+fits_serve t0 t cs (Ok (Run (command.ListRules None))) h = record { table = same t0 t cs h; open_in = tt }
+fits_serve t0 t cs (Ok (Run (command.ListRules (Some name)))) h =
+    of_both (FitsServed t0 cs (Ok (Run (command.ListRules (Some name))))) (has_chain t name) (record { table = same t0 t cs h; open_in = tt }) (record { table = same t0 t cs h; open_in = tt })
 fits_serve t0 t cs (Ok Save) h = record { table = same t0 t cs h; open_in = tt }
 fits_serve t0 t cs (Ok (Open o)) h = record { table = same t0 t cs h; open_in = tt }
 fits_serve t0 t cs (Ok (Ask packet)) h = record { table = same t0 t cs h; open_in = tt }
 fits_serve t0 t cs (Ok (Show name)) h =
-    of_both (FitsServed t0 cs (Ok (Show name))) (list_all (has_chain t) (option_to_list (Some name))) (record { table = same t0 t cs h; open_in = tt }) (record { table = same t0 t cs h; open_in = tt })
+    of_both (FitsServed t0 cs (Ok (Show name))) (has_chain t name) (record { table = same t0 t cs h; open_in = tt }) (record { table = same t0 t cs h; open_in = tt })
 
 -- lines of a section
 

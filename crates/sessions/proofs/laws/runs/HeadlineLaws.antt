@@ -6,7 +6,8 @@ use Rattle.table.specs.declared.walk.trail.Trail.{Trail}
 use Rattle.table.specs.walk.Trail.{Shows}
 use Rattle.table.specs.walk.Walk.{walk}
 use Rattle.turns.specs.Turn.{Line, Reply, reply_text}
-use Rattle.sessions.specs.runs.Accepted.{accepted, changed_by}
+use Rattle.restore.specs.calls.Changes.{changed_by}
+use Rattle.sessions.specs.runs.Accepted.{accepted}
 use Rattle.sessions.specs.runs.Run.{Moment, RunFault, Runs}
 use Rattle.sessions.specs.runs.Headline.{AnswersByWalks, Done, Headline, IsReadIn, IsWritten, PacketsWereWalked, RefusedChangedNothing, Stands}
 use Rattle.sessions.specs.runs.Session.{Kind, OfRestore, OfSession, State, finish_of, start_of, step}

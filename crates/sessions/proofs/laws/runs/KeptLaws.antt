@@ -1,7 +1,5 @@
 -- A line that is refused changes nothing, and a packet is answered by its walk.
-use Rattle.std.proofs.Common.{◌≡◌, ℕ, List, ◌&&◌, not, Bool, true, false, Option, Some, Result, Ok, Err, refl, sym, ap, subst, ◌∙◌, if◌then◌else◌}
-use Rattle.std.specs.List.{list_all}
-use Rattle.std.specs.Option.{option_to_list}
+use Rattle.std.proofs.Common.{◌≡◌, ℕ, List, ◌&&◌, not, Bool, true, false, Option, Some, None, Result, Ok, Err, refl, sym, ap, subst, ◌∙◌, if◌then◌else◌}
 use Rattle.fields.specs.packet.Packet.{PacketView}
 use Rattle.table.specs.edits.Edits.{step as table_step}
 use Rattle.table.specs.chains.Table.{Table, has_chain}
@@ -34,7 +32,8 @@ keeps_edit t (Ok new) = tt
 keeps_edit t (Err fault) = refl
 
 keeps_chain : (t : Table) (name : Option (List ℕ)) (text : List ℕ) → Keeps t (on_chain t name text)
-keeps_chain t name text = of_both (Keeps t) (list_all (has_chain t) (option_to_list name)) tt refl
+keeps_chain t None text = tt
+keeps_chain t (Some name) text = of_both (Keeps t) (has_chain t name) tt refl
 
 keeps_serve : (t : Table) (r : Result Request Fault) → Keeps t (serve t r)
 keeps_serve t (Err fault) = refl

@@ -1,7 +1,7 @@
 -- What several runs leave.
 use Rattle.std.proofs.Common.{◌≡◌, List, [], ◌∷◌, ◌++◌, refl, sym, ap, subst, ◌∙◌}
 use Rattle.table.specs.chains.Table.{Table, TableView}
-use Rattle.sessions.specs.runs.Accepted.{Change, changed, changed_by}
+use Rattle.restore.specs.calls.Changes.{Change, changed, changed_by}
 use Rattle.sessions.specs.runs.Headline.{PacketsWereWalked, RefusedChangedNothing, Stands}
 use Rattle.sessions.specs.runs.Several.{Follow, OfEach, Run, RunsLeaveWhatTheyAccept, accepted_by, accepted_in}
 use Rattle.sessions.proofs.laws.runs.HeadlineLaws.{walks_through}

@@ -2,8 +2,6 @@
 use Rattle.std.proofs.Common.{◌≡◌, ◌⊎◌, inl, inr, ℕ, ◌+◌, ◌==◌, ◌&&◌, not, Bool, true, false, List, [], ◌∷◌, ◌++◌, fold, map, Option, Some, None, IfSome, IfOk, OnOk, Result, Ok, Err, refl, sym, ap, subst, ◌∙◌, append-nil, if◌then◌else◌}
 use Rattle.std.proofs.lemmas.Bool.{false≢true}
 use Rattle.std.proofs.lemmas.Grind.{fold-append}
-use Rattle.std.specs.List.{list_all}
-use Rattle.std.specs.Option.{option_to_list}
 use Rattle.std.specs.Io.KnownBytes.{Appends, Consumes, IsAtEnd}
 use Rattle.fields.specs.text.Line.{EndsAt, lines_of, onto_first}
 use Rattle.table.specs.chains.Table.{Table, has_chain}
@@ -173,11 +171,12 @@ named_serve : (t : Table) (r : Result Request Fault) → IsNamed (serve t r).spo
 named_serve t (Err fault) = tt
 named_serve t (Ok Nothing) = tt
 named_serve t (Ok (Run (command.Change edit))) = named_edit t (table_step edit t)
-named_serve t (Ok (Run (command.ListRules name))) = of_both (λ (x : Turn). IsNamed x.spot) (list_all (has_chain t) (option_to_list name)) tt tt
+named_serve t (Ok (Run (command.ListRules None))) = tt
+named_serve t (Ok (Run (command.ListRules (Some name)))) = of_both (λ (x : Turn). IsNamed x.spot) (has_chain t name) tt tt
 named_serve t (Ok Save) = tt
 named_serve t (Ok (Open o)) = tt
 named_serve t (Ok (Ask packet)) = tt
-named_serve t (Ok (Show name)) = of_both (λ (x : Turn). IsNamed x.spot) (list_all (has_chain t) (option_to_list (Some name))) tt tt
+named_serve t (Ok (Show name)) = of_both (λ (x : Turn). IsNamed x.spot) (has_chain t name) tt tt
 
 named_ended : (t : Table) (e : Result (Unit {0}) RestoreFault) → IsNamed (ended t e).spot
 named_ended t (Ok done) = tt

@@ -7,5 +7,5 @@ use Rattle.sessions.proofs.session.Progress.report.Goals as goal
 pub returns-clause-puts : goal.returns-clause-puts
 returns-clause-puts g c said is =
     let text = reply_text c.args.self.now.number said in
-    let wrote : Wrote g.W.Write.contents c.args.output.now c.write_reply.new.output text = search (rules, c.in_ok-write_reply.ensures said is) in
+    let wrote : Wrote g.W.Write.contents c.args.output.now c.write_reply.new.output text = search (rules, c.in_ok-write_reply.ensures.said said is) in
     puts_on g.W.Write.contents c.args.output.now c.write_reply.new.output c.hand_on-2.new.output c.hand_on-2.result text wrote (c.hand_on-2.ensures.puts wrote.fresh)
