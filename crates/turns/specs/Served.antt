@@ -21,9 +21,12 @@ IsPlace t (Some place) = place < length t.chains
 
 -- the chain that is to be printed is there
 abbrev pub HasPlace : Table → Result Answer Fault → Type 0
+HasPlace t (Ok answers.Nothing) = Unit {0}
 HasPlace t (Ok (answers.Rules place)) = IsPlace t place
+HasPlace t (Ok answers.Listing) = Unit {0}
+HasPlace t (Ok (answers.Walk trail)) = Unit {0}
 HasPlace t (Ok (answers.Lines place)) = place < length t.chains
-HasPlace t reply = Unit {0}
+HasPlace t (Err fault) = Unit {0}
 
 -- the name of the chain at a place, if one is given
 abbrev pub name_at : Table → Option ℕ → Option (List ℕ)
