@@ -80,7 +80,8 @@ pub record Moment : Type 0 where
   pub table : TableView
   pub boxes : ℕ
 
--- The same, with what the reader lost and the writer got, and what is left: the table of the lines, and a box for each line at most.
+-- A run of these lines from one moment to another: the bytes that the reader lost and those that the writer got, what it did, the
+-- table that it left, which is that of the lines, and the boxes that it made, one for each line at most.
 pub record Runs (start : State) (finish : State → State) (lines : List Line) (before : Moment) (result : Result ℕ RunFault) (after : Moment) : Type 0 where
   pub bytes : List ℕ
   pub written : List ℕ

@@ -39,7 +39,7 @@ OfEach P t (run ∷ runs) = P (beginning t run) run.done × OfEach P (changed_by
 pub record Headlines (old : TableView) (runs : List Run) (new : TableView) : Type 0 where
   -- the chains are those that the accepted changes of all runs give by plain list edits
   pub chains : new.table ≡ changed_by old.table (accepted_by old.table runs)
-  -- every chain's classifier is that of its rules, and the one that restoring the present listing builds, as it was at first
+  -- where every chain's classifier was that of its rules before, it is so now, and the one that restoring the present listing builds
   pub stands : Stands old → Stands new
   -- every packet's verdict and trail are those of walking these rules in order
   pub walks : AnswersByWalks (changed_by old.table (accepted_by old.table runs)) new
