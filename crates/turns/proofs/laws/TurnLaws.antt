@@ -1,5 +1,5 @@
 -- What the code makes of a line outside of restores is what the definition says.
-use Rattle.std.proofs.Common.{◌≡◌, inl, inr, ℕ, ◌&&◌, Bool, true, false, cond, List, refl, sym, ap, subst, ◌∙◌, Some, None, Result, Ok, Err}
+use Rattle.std.proofs.Common.{◌≡◌, inl, inr, ℕ, Bool, true, false, cond, List, refl, sym, ap, subst, ◌∙◌, Some, None, Result, Ok, Err}
 use Rattle.std.specs.Bool.{MatchBool}
 use Rattle.std.specs.List.{position}
 use Rattle.table.specs.chains.Table.{Table, TableView, has_chain, is_named, rules_of}

@@ -1,5 +1,5 @@
 -- Calls leave what their accepted changes give by plain list edits.
-use Rattle.std.proofs.Common.{◌≡◌, inl, inr, ℕ, List, [], ◌∷◌, ◌++◌, ◌&&◌, not, Bool, true, false, Option, Some, None, Result, Ok, Err, refl, sym, ap, subst, ◌∙◌, append-nil, IsTrue, if◌then◌else◌}
+use Rattle.std.proofs.Common.{◌≡◌, inl, ℕ, List, [], ◌∷◌, ◌++◌, ◌&&◌, not, Bool, true, false, Option, Some, None, Result, Ok, Err, refl, sym, ap, subst, ◌∙◌, append-nil, if◌then◌else◌}
 use Rattle.std.proofs.lemmas.Bool.{false≢true}
 use Rattle.std.specs.Bool.{MatchBool}
 use Rattle.std.specs.Str.{bytes_eq}
@@ -13,17 +13,17 @@ use Rattle.table.specs.chains.Table.{AreClassified, Table, TableView}
 use Rattle.table.specs.declared.fault.TableFault.{TableFault}
 use Rattle.table.specs.walk.Cases.{WalksByCases, WalksInOneWay}
 use Rattle.table.specs.walk.Walk.{walk}
-use Rattle.restore.specs.Sequence.{◌>>=◌, Gives, or_refused, refused_as, made_into}
+use Rattle.restore.specs.Sequence.{◌>>=◌, or_refused, refused_as, made_into}
 use Rattle.restore.specs.calls.Changes as change
 use Rattle.restore.specs.calls.Changes.{Change, changed, changed_by, edit_asked}
-use Rattle.restore.specs.calls.Calls.{Call, Edits, Begins, Takes, Commits, GivesUp, Reads, Ends, Pending, Standing, standing, opened, with_line, section_change, accepted, accepted_of, after, pending_after, pending_at, IsCall, IsPendingIn, Lead, is_refused}
-use Rattle.restore.specs.calls.Headline.{CallsLeaveWhatTheyAccept, RefusedCallsChangeNothing, IsSoundAndClassified}
+use Rattle.restore.specs.calls.Calls.{Call, Edits, Begins, Takes, Commits, GivesUp, Reads, Ends, Pending, Standing, standing, with_line, section_change, accepted, accepted_of, after, pending_after, pending_at, IsCall, IsPendingIn, Lead}
+use Rattle.restore.specs.calls.Headline.{CallsLeaveWhatTheyAccept, RefusedCallsChangeNothing}
 use Rattle.restore.specs.listings.RoundTrip.{ListingsRestoreClassifiers, RestoresAsEqual}
-use Rattle.restore.specs.sections.Lines.{IsLine, is_building, puts_table}
+use Rattle.restore.specs.sections.Lines.{IsLine, is_building}
 use Rattle.restore.specs.sections.Names.{Names}
 use Rattle.restore.specs.sections.Restore.{Place, Between, Skipping, Building, Restore, Restoring, moved, opening, between, line_at, is_commit, restore_line}
 use Rattle.restore.specs.sections.Section as section
-use Rattle.restore.specs.sections.Section.{Asked, OfTable, Quoting, RestoreFault, asked, begun, begins_with, is_out_of_memory, is_quiet, is_too_long, line_in}
+use Rattle.restore.specs.sections.Section.{Asked, OfTable, Quoting, RestoreFault, asked, begun, begins_with, is_quiet, is_too_long, line_in}
 use Rattle.restore.proofs.laws.sections.HeadlineLaws.{accepted_line, refused_unchanged}
 
 -- what holds of both arms holds of the whole

@@ -1,11 +1,11 @@
 -- Memory runs out in the reading of a rule alone.
-use Rattle.std.proofs.Common.{◌≡◌, ℕ, Bool, true, List, refl, Result, Ok, Err, IsTrue}
+use Rattle.std.proofs.Common.{◌≡◌, ℕ, true, List, refl, Result, Ok, Err}
 use Rattle.std.proofs.lemmas.Bool.{false≢true}
 use Rattle.rules.specs.rule.Rules.{Rule}
 use Rattle.rules.specs.declared.reading.fault.Refusal.{Refusal}
 use Rattle.table.specs.edits.Edits.{Edit, Append, Has, DeleteRule, Insert, Replace}
 use Rattle.restore.specs.Sequence.{made_into, refused_as}
-use Rattle.restore.specs.commands.Command.{Change, Command, CommandFault, NoCommand, OtherTable, TwoCommands, WordCount, is_out_of_memory, may_be_of_rule, may_take_memory, has_rule}
+use Rattle.restore.specs.commands.Command.{Change, CommandFault, NoCommand, OtherTable, TwoCommands, WordCount, is_out_of_memory, may_be_of_rule, may_take_memory, has_rule}
 use Rattle.restore.specs.commands.Command as command
 use Rattle.restore.specs.commands.Heads.{rule, refused}
 

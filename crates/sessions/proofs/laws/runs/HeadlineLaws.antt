@@ -1,8 +1,7 @@
 -- What the lines of a run leave of a session's table.
-use Rattle.std.proofs.Common.{◌≡◌, ℕ, ◌+◌, List, ◌∷◌, ◌++◌, fold, IfSome, Result, ap, sym, subst, ◌∙◌}
+use Rattle.std.proofs.Common.{◌≡◌, ℕ, ◌+◌, List, ◌++◌, fold, IfSome, Result, ap, sym, subst, ◌∙◌}
 use Rattle.table.specs.edits.Headline.{ChainsHaveOneListOfClassifiers}
 use Rattle.table.specs.chains.Table.{AreClassified, Table, TableView}
-use Rattle.table.specs.declared.walk.trail.Trail.{Trail}
 use Rattle.table.specs.walk.Trail.{Shows}
 use Rattle.table.specs.walk.Walk.{walk}
 use Rattle.turns.specs.Turn.{Line, Reply, reply_text}

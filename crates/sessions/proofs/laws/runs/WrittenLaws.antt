@@ -4,7 +4,7 @@ use Rattle.fields.specs.text.Tap.{IsBeginning}
 use Rattle.turns.specs.Turn.{Line}
 use Rattle.sessions.specs.runs.Headline.{IsReadIn, IsWritten}
 use Rattle.sessions.specs.runs.Run.{Lead, Moment, ReadFailed, RunFault, Runs, WriteFailed}
-use Rattle.sessions.specs.runs.Session.{Kind, OfRestore, OfSession, State, finish_of, start_of, step}
+use Rattle.sessions.specs.runs.Session.{Kind, OfRestore, OfSession, State, finish_of, step}
 use Rattle.sessions.proofs.laws.runs.LeadLaws.{lead_more}
 
 -- Beginnings
