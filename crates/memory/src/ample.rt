@@ -2,7 +2,9 @@
 //! the right answer. No contract can say so, since no clause sees how much memory there is.
 pub mod classifiers;
 pub mod lines;
+pub mod restores;
 pub mod rows;
 pub mod rulings;
 pub mod sets;
+pub mod tables;
 pub mod values;

@@ -20,6 +20,12 @@ fn of_rules(alloc: Global) -> Result<Table, Trouble> {
     Ok(table)
 }
 
+/// Whether a text is a table's listing.
+pub fn lists(table: &Table, text: &[u8]) -> bool {
+    let mut output = Tap::new(expecting(text));
+    write_listing(table, &mut output).is_ok() && output.into_device().is_whole()
+}
+
 /// `write_listing`.
 pub fn listing(alloc: Global, times: u32) -> Result<(), Trouble> {
     let table = of_rules(alloc)?;
@@ -27,8 +33,7 @@ pub fn listing(alloc: Global, times: u32) -> Result<(), Trouble> {
         b"*filter\n:INPUT ACCEPT [0:0]\n:FORWARD ACCEPT [0:0]\n:OUTPUT ACCEPT [0:0]\n:a - [0:0]\n:b - [0:0]\n\
         -A INPUT -s 10.0.0.0/8 -p tcp -m tcp --dport 22 -j a\n-A b -m comment --comment \"a b\" -j RETURN\nCOMMIT\n";
     for _ in 0..times {
-        let mut output = Tap::new(expecting(text));
-        expect(write_listing(&table, &mut output).is_ok() && output.into_device().is_whole())?;
+        expect(lists(&table, text))?;
     }
     Ok(())
 }

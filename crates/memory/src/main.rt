@@ -1,7 +1,8 @@
 //! The program `memory`: calls that take memory, and calls that promise to take none.
 //!
 //! With no input it makes each call that may answer out of memory, on large and odd input, and prints whether it
-//! succeeds and its answer is right.
+//! succeeds and its answer is right. Lines have up to 10,240 bytes, rules 16 matches, chains 8,192 rules, and tables
+//! 1,024 user chains.
 //!
 //! With a case and a number as its input, as `prefix 1000`, it makes the calls of the case so often, all of which
 //! promise to take no memory. After the calls it takes memory and gives it back until that is refused once, and
@@ -25,7 +26,10 @@ mod taps;
 mod trouble;
 mod values;
 
-use crate::ample::{classifiers as full, lines, rows, rulings as long, sets, values as extremes};
+use crate::ample::{
+    classifiers as full, lines, restores as dumps, rows, rulings as long, sets, tables as limits,
+    values as extremes,
+};
 use crate::case::Case;
 use crate::trouble::Trouble;
 use fields::read_number;
@@ -104,6 +108,7 @@ fn run_ample<R: Print + AllocGlobal>(rt: &R) {
     tell(rt, "interfaces", extremes::interfaces(alloc));
     tell(rt, "protocols, ports and types", extremes::numbers(alloc));
     run_of_rules(rt);
+    run_of_tables(rt);
 }
 
 /// The calls on large lists, and on rules.
@@ -116,6 +121,18 @@ fn run_of_rules<R: Print + AllocGlobal>(rt: &R) {
     tell(rt, "the longest rules", long::longest(alloc));
     tell(rt, "rows of 5,000 bits", rows::long(alloc));
     tell(rt, "a classifier of 8,192 boxes", full::full(alloc));
+}
+
+/// The calls on tables, and on commands and restores.
+fn run_of_tables<R: Print + AllocGlobal>(rt: &R) {
+    let alloc = rt.alloc();
+    tell(rt, "a chain of 8,192 rules", limits::rules(alloc));
+    tell(rt, "1,024 user chains, and a copy", limits::chains(alloc));
+    tell(rt, "a trail through 1,024 chains", limits::deep(alloc));
+    tell(rt, "trails of 57,352 steps", limits::trails(alloc));
+    tell(rt, "commands of the most bytes", dumps::commands(alloc));
+    tell(rt, "sections of a large table", dumps::sections(alloc));
+    tell(rt, "a dump of 10,245 lines", dumps::dump(alloc));
 }
 
 /// Prints the cases of calls that take no memory.

@@ -11,12 +11,20 @@ const BEGUN: u32 = 1000;
 /// The lines that open a section: of the table `filter`, and of one that is skipped.
 const OPENING: [&[u8]; 2] = [b"*filter", b"*nat"];
 
+/// What the refusal of a line comes to that has to be accepted.
+pub fn refused(fault: RestoreFault) -> Trouble {
+    if fault.is_out_of_memory() {
+        Trouble::NoMemory
+    } else {
+        Trouble::OtherAnswer
+    }
+}
+
 /// A restore after a line that has to be accepted.
-fn after(restore: Restore, table: &mut Table, line: &[u8]) -> Result<Restore, Trouble> {
+pub fn after(restore: Restore, table: &mut Table, line: &[u8]) -> Result<Restore, Trouble> {
     match restore.line(table, line, &mut Work::new()) {
         Ok(next) => Ok(next),
-        Err(RestoreFault::NoMemory) => Err(Trouble::NoMemory),
-        Err(_) => Err(Trouble::OtherAnswer),
+        Err(fault) => Err(refused(fault)),
     }
 }
 
@@ -142,7 +150,7 @@ pub fn skipped_lines(alloc: Global, times: u32) -> Result<(), Trouble> {
 }
 
 /// Whether a line ends a restore by a fault.
-fn ends_by(restore: Restore, table: &mut Table, line: &[u8], fault: RestoreFault) -> bool {
+pub fn ends_by(restore: Restore, table: &mut Table, line: &[u8], fault: RestoreFault) -> bool {
     match restore.line(table, line, &mut Work::new()) {
         Ok(_) => false,
         Err(found) => found == fault,

@@ -12,7 +12,7 @@ const RULES: u32 = 1000;
 pub const RULE: &[u8] = b"-s 10.0.0.0/8 -p tcp --dport 22 -j a";
 
 /// What an edit comes to that has to be accepted.
-fn accepted(answer: Result<(), TableFault>) -> Result<(), Trouble> {
+pub fn accepted(answer: Result<(), TableFault>) -> Result<(), Trouble> {
     match answer {
         Ok(()) => Ok(()),
         Err(TableFault::NoMemory) => Err(Trouble::NoMemory),

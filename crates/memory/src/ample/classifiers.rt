@@ -20,11 +20,22 @@ struct Numbered {
     numbers: Vec<u32>,
 }
 
-/// The box of the rule of a number, up to 32,767: its own 256 addresses, beside which lie 256 that no rule allows.
-fn box_at(alloc: Global, number: u32) -> Result<Boxed, Trouble> {
+/// The first three numbers of the addresses of a rule, by its number up to 32,767: its own 256 addresses, beside which
+/// lie 256 that no rule allows.
+pub fn network_of(alloc: Global, number: u32) -> Result<String, Trouble> {
     let [_, b, c, _] = (512 * (number % 32768)).to_be_bytes();
-    let text = format!(in alloc; "-s 10.{b}.{c}.0/24 -j DROP")?;
-    box_of(alloc, text.as_bytes())
+    Ok(format!(in alloc; "10.{b}.{c}")?)
+}
+
+/// The text of the rule of a number.
+pub fn text_at(alloc: Global, number: u32) -> Result<String, Trouble> {
+    let network = network_of(alloc, number)?;
+    Ok(format!(in alloc; " -s {network}.0/24 -j DROP")?)
+}
+
+/// The box of the rule of a number.
+fn box_at(alloc: Global, number: u32) -> Result<Boxed, Trouble> {
+    box_of(alloc, text_at(alloc, number)?.as_bytes())
 }
 
 /// A point that the rule of a number allows.

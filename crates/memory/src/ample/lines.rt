@@ -4,7 +4,7 @@ use fields::{Field, Packet, WordFault, Words};
 use std::alloc::Global;
 
 /// A line of the most bytes: a part again and again, and a last one.
-fn line_of(alloc: Global, first: &[u8], part: &[u8], last: &[u8]) -> Result<Vec<u8>, Trouble> {
+pub fn line_of(alloc: Global, first: &[u8], part: &[u8], last: &[u8]) -> Result<Vec<u8>, Trouble> {
     let mut line = Vec::from_slice(alloc, first)?;
     for _ in 0..10_240u32 {
         if line

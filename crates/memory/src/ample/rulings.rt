@@ -69,7 +69,8 @@ const MATCHES: [Matched; 8] = [
     (b" -m ttl ! --ttl-eq 255", Field::TimeToLive, &[(0, 254)]),
 ];
 
-const TARGETS: [&[u8]; 8] = [
+/// Each kind of target, and none.
+pub const TARGETS: [&[u8]; 8] = [
     b"",
     b" -j ACCEPT",
     b" -j DROP",
@@ -82,7 +83,7 @@ const TARGETS: [&[u8]; 8] = [
 ];
 
 /// The text of a rule with 16 equal matches.
-fn text_of(alloc: Global, matched: &[u8], target: &[u8]) -> Result<Vec<u8>, Trouble> {
+pub fn text_of(alloc: Global, matched: &[u8], target: &[u8]) -> Result<Vec<u8>, Trouble> {
     let mut text = Vec::from_slice(alloc, HEAD)?;
     for _ in 0..16 {
         text.extend_from_slice(matched)?;
@@ -92,7 +93,7 @@ fn text_of(alloc: Global, matched: &[u8], target: &[u8]) -> Result<Vec<u8>, Trou
 }
 
 /// Whether a rule's text is this one.
-fn has_text(rule: &Rule, text: &[u8]) -> bool {
+pub fn has_text(rule: &Rule, text: &[u8]) -> bool {
     let mut output = Tap::new(expecting(text));
     write_rule(rule, &mut output).is_ok() && output.into_device().is_whole()
 }
@@ -173,12 +174,18 @@ pub fn full(alloc: Global) -> Result<(), Trouble> {
     Ok(())
 }
 
-/// The longest rules: 16 comments of 256 bytes, each of them after a backslash.
-pub fn longest(alloc: Global) -> Result<(), Trouble> {
+/// The longest match: a comment of 256 bytes, each of them after a backslash.
+pub fn longest_match(alloc: Global) -> Result<Vec<u8>, Trouble> {
     let mut comment = Vec::from_slice(alloc, b" -m comment --comment \"")?;
     for _ in 0..256 {
         comment.extend_from_slice(b"\\\"")?;
     }
     comment.extend_from_slice(b"\"")?;
+    Ok(comment)
+}
+
+/// The longest rules: 16 of the longest matches.
+pub fn longest(alloc: Global) -> Result<(), Trouble> {
+    let comment = longest_match(alloc)?;
     expect_targets(alloc, &comment, Field::Destination, &[(1, 4_294_967_295)])
 }
