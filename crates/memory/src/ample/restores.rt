@@ -33,8 +33,8 @@ fn do_longest(alloc: Global, table: &mut Table, first: &[u8], last: &[u8]) -> Re
     do_line(alloc, table, &line)
 }
 
-/// Does the commands that have a rule, each of the most bytes. After each FORWARD has so many rules, and the first is
-/// this one.
+/// Does the commands that have a rule, each of the most bytes. After each of them FORWARD has as many rules as the row
+/// says, and the first is this one.
 fn do_each(alloc: Global, table: &mut Table, text: &[u8]) -> Result<(), Trouble> {
     const COMMANDS: &[(&[u8], usize)] = &[
         (b"-A FORWARD", 1),
@@ -70,7 +70,8 @@ fn section_after(section: Transaction, line: &[u8]) -> Result<Transaction, Troub
     }
 }
 
-/// The section after the rule of a number has taken the place of another one, and lines of chains.
+/// The section after a line that puts the rule of a number in the place of another one, and after two that take a chain
+/// away and make it again.
 fn changed(alloc: Global, section: Transaction, number: u32) -> Result<Transaction, Trouble> {
     let text = text_at(alloc, number)?;
     let line = format!(in alloc; "-R INPUT 4096{text}")?;
@@ -98,8 +99,8 @@ pub fn sections(alloc: Global) -> Result<(), Trouble> {
     let before = large(alloc)?;
     change(alloc, &before)?;
     let section = section_after(Transaction::begin(alloc, &before.table, false)?, b"-N a")?;
-    let after = section.commit();
-    expect(after.chain_count() == 4 && has_count(&after, 0, 0))
+    let bare = section.commit();
+    expect(bare.chain_count() == 4 && has_count(&bare, 0, 0))
 }
 
 /// A restore so far, the table in place, and the lines that the restore was given.
