@@ -237,6 +237,14 @@ fn print_match<R: Print + Clock + AllocGlobal>(
     Ok(())
 }
 
+/// Says so where a line of the session was not done.
+fn print_whether_done<R: Print>(rt: &R, is_done: bool) -> Result<()> {
+    if !is_done {
+        println!(rt; "  a line went wrong")?;
+    }
+    Ok(())
+}
+
 /// Prints it for each match.
 fn print_matches<R: Print + Clock + AllocGlobal>(
     rt: &R,
@@ -244,9 +252,7 @@ fn print_matches<R: Print + Clock + AllocGlobal>(
     made: &(Session, bool),
 ) -> Result<()> {
     let (session, is_done) = made;
-    if !*is_done {
-        println!(rt; "  a line went wrong")?;
-    }
+    print_whether_done(rt, *is_done)?;
     println!(rt; "  match at             verdict       plain walk     times")?;
     for matched in Match::ALL {
         print_match(rt, matched, pairs, session, 1)?;
@@ -261,9 +267,7 @@ fn print_behind<R: Print + Clock + AllocGlobal>(
     made: &(Session, bool),
 ) -> Result<()> {
     let (session, is_done) = made;
-    if !*is_done {
-        println!(rt; "  a line went wrong")?;
-    }
+    print_whether_done(rt, *is_done)?;
     println!(rt; "  the same behind {JUMPS} jumps, beside as many plain walks")?;
     print_match(rt, Match::None, pairs, session, JUMPS)
 }
