@@ -1,3 +1,4 @@
 pub mod Matches
 pub mod Options
 pub mod Settings
+pub mod Values

@@ -1,4 +1,5 @@
 pub mod Conditions
+pub mod Crossed
 pub mod MatchRows
 pub mod OptionNames
 pub mod OptionRows

@@ -1,9 +1,11 @@
 //! Rules.
-ghost use Rattle.std.specs.Prelude.{◌≡◌, Option, Some, None};
+ghost use Rattle.std.specs.Prelude.{◌≡◌, ℕ, List, Option, Some, None, true, false};
 ghost use Rattle.std.specs.List.{list_any};
 ghost use Rattle.fields.specs.declared.numbers.field.Field.{Field};
 ghost use Rattle.rules.specs.rule.Actions.{reject_in, target_with, action_with_chain_name};
 ghost use Rattle.rules.specs.rule.Allows.{asks};
+ghost use Rattle.rules.specs.rule.Crossing.{cross};
+ghost use Rattle.rules.specs.steps.Views.{view_content};
 
 pub(crate) mod action;
 pub(crate) mod content;
@@ -17,6 +19,7 @@ use crate::options::value::Value;
 use crate::rule::action::Action;
 use crate::rule::content::{Content, Match, same_content};
 use crate::rule::copy::copy_content;
+use crate::rule::crossing::ask_both;
 use crate::rule::target::Target;
 use fields::{Field, Name, RejectType};
 use std::alloc::{AllocError, Global};
@@ -26,14 +29,16 @@ use std::mem::size_of;
 /// A rule: what it asks of a packet, and what becomes of the packets that it matches.
 ///
 /// Every rule was read from words, or is a copy or a renamed one of such a rule, and its text reads back as it. A rule
-/// has 128 bytes and, in memory of their own, its options with 88 bytes each and its matches with 32 bytes each beside
+/// has 136 bytes and, in memory of their own, its options with 88 bytes each and its matches with 32 bytes each beside
 /// their options. Only a comment has further memory, of at most 272 bytes.
 #[derive(Drop)]
 pub struct Rule {
     content: Content,
+    asks_both: bool,
+    ghost free: { asks_both ≡ false → (numbers : List ℕ) → cross numbers (view_content content) ≡ true },
 }
 
-const _: () = prove!(size_of::<Rule>() == 128);
+const _: () = prove!(size_of::<Rule>() == 136);
 
 const _: () = prove!(size_of::<Match>() == 32);
 
@@ -156,7 +161,15 @@ impl Rule {
         requires { ReadsItself (view_content content) }
         ensures { result ≡ view_content content }
     {
-        Rule { content }
+        let asks_both = ask_both(content.matches.as_slice());
+        Rule { content, asks_both }
+    }
+
+    // Whether a condition of its matches asks several fields at once; where none does, they hold of every packet.
+    pub(crate) fn asks_both(&self) -> bool
+        ensures { result ≡ false → (numbers : List ℕ) → cross numbers self.now ≡ true }
+    {
+        self.asks_both
     }
 
     // What the rule holds; it is lent.
@@ -187,7 +200,10 @@ impl Rule {
         ensures { IfOk result (λ copy. copy ≡ self.now) }
     {
         let content = copy_content(alloc, &self.content)?;
-        Ok(Rule { content })
+        Ok(Rule {
+            content,
+            asks_both: self.asks_both,
+        })
     }
 
     /// Whether the rules are equal: each asks and does the same, and they have one text.

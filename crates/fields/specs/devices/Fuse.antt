@@ -60,8 +60,9 @@ IsRefusal failure r = IsErrAnd r (λ e. error_kind e ≡ kind_of failure)
 
 -- a write failed so: by an error, or it took no byte
 abbrev pub IsFailure : Failure → Result ℕ Error → Type 0
+IsFailure ways.Error r = IsRefusal ways.Error r
+IsFailure ways.Interrupted r = IsRefusal ways.Interrupted r
 IsFailure ways.Nothing r = IsOkAnd r (λ n. n ≡ 0)
-IsFailure failure r = IsRefusal failure r
 
 -- a call failed where it was due to, and else did P
 abbrev pub GoesOn : {X : Type 0} → Fuse → Result X Error → (X → Type 0) → Type 0

@@ -10,7 +10,7 @@ use Rattle.fields.specs.values.PacketIcmp.{packet_icmp_of}
 use Rattle.fields.specs.values.ConnectionState.{packet_state_of}
 use Rattle.fields.specs.values.Ttl.{ttl_of}
 use Rattle.fields.specs.declared.packet.hook.Hook.{Hook}
-use Rattle.fields.specs.declared.packet.hook.Hook.TheVariants.{Input, Output}
+use Rattle.fields.specs.declared.packet.hook.Hook.TheVariants.{Input, Forward, Output}
 use Rattle.fields.specs.declared.numbers.field.Field.{Field}
 use Rattle.fields.specs.declared.numbers.field.Field.TheVariants as field
 use Rattle.fields.specs.declared.packet.keys.KeyRow.{KeyRow}
@@ -34,13 +34,15 @@ value_of value.Ttl text = ttl_of text
 
 -- a packet comes in unless it is sent from here
 abbrev pub comes_in : Hook → Bool
+comes_in Input = true
+comes_in Forward = true
 comes_in Output = false
-comes_in hook = true
 
 -- a packet goes out unless it is for here
 abbrev pub goes_out : Hook → Bool
 goes_out Input = false
-goes_out hook = true
+goes_out Forward = true
+goes_out Output = true
 
 -- a first fragment of such a protocol; without a protocol there is none
 abbrev pub is_first_of : (ℕ → Bool) → ℕ → Option ℕ → Bool

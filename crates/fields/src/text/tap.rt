@@ -76,7 +76,7 @@ impl<T> Tap<T> {
         self.turns
     }
 
-    /// Whether the device may hold bytes back: some were written since the last `flush`, or it never was flushed.
+    /// Whether the device may hold bytes back: some were written since the tap was made or last flushed.
     pub fn unflushed(&self) -> bool
         ensures { result ≡ is_unflushed self.now }
     {

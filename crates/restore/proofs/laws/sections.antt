@@ -3,5 +3,6 @@ pub mod ByteLaws
 pub mod ChainLaws
 pub mod CommitLaws
 pub mod CommandLaws
+pub mod EditLaws
 pub mod LineLaws
 pub mod HeadlineLaws

@@ -126,8 +126,12 @@ is_one_of (Either k l) m = same_kind k m || same_kind l m
 
 -- what belongs there belongs to the match
 abbrev pub is_match_of : Owner → MatchKind → Bool
+is_match_of owned.Rule m = false
+is_match_of owned.Start m = false
+is_match_of owned.Jump m = false
+is_match_of owned.Goto m = false
 is_match_of (owned.Match ks) m = is_one_of ks m
-is_match_of w m = false
+is_match_of (owned.Target t) m = false
 
 -- a match has an option where it is among the option's owners
 abbrev pub kind_has : MatchKind → Opt → Bool

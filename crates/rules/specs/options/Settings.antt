@@ -18,6 +18,7 @@ use Rattle.fields.specs.values.FreeText.{text_of}
 use Rattle.fields.specs.values.Ttl.{ttl_of}
 use Rattle.rules.specs.Sequence.{◌>>=◌, or_refused}
 use Rattle.rules.specs.options.Options.{slot, first_of}
+use Rattle.rules.specs.options.Values.{protocol_in}
 use Rattle.rules.specs.declared.reading.fault.Refusal.{Refusal}
 use Rattle.rules.specs.declared.reading.fault.Refusal.TheVariants as refusal
 use Rattle.rules.specs.declared.options.option.Opt.{Opt}
@@ -61,14 +62,14 @@ option_of_value value.LogUid = opt.LogUid
 abbrev pub slot_of : Setting → ℕ
 slot_of s = slot (option_of_value s.value)
 
--- the value is this protocol, and isn't inverted
-abbrev pub protocol_is : ℕ → Bool → Value → Bool
-protocol_is n inverted (value.Protocol m) = not inverted && (m == n)
-protocol_is n inverted v = false
+-- there is a protocol, it is this one, and it isn't inverted
+abbrev pub protocol_is : ℕ → Bool → Option ℕ → Bool
+protocol_is n inverted None = false
+protocol_is n inverted (Some m) = not inverted && (m == n)
 
 -- the option is this protocol, not inverted
 abbrev pub is_protocol : ℕ → Setting → Bool
-is_protocol n s = protocol_is n s.inverted s.value
+is_protocol n s = protocol_is n s.inverted (protocol_in s.value)
 
 -- one of the options is this protocol, not inverted
 abbrev pub has_protocol : ℕ → List Setting → Bool

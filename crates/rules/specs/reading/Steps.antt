@@ -106,8 +106,14 @@ with_option_at ms i p =
 
 -- `-g` was given
 abbrev pub has_goto : Option Action → Bool
+has_goto None = false
+has_goto (Some action.Accept) = false
+has_goto (Some action.Drop) = false
+has_goto (Some action.Return) = false
+has_goto (Some action.Reject) = false
+has_goto (Some action.Log) = false
+has_goto (Some (action.Jump name)) = false
 has_goto (Some (action.Goto name)) = true
-has_goto t = false
 
 -- `-j` was given
 abbrev pub has_jump : Option Action → Bool

@@ -1,22 +1,22 @@
 -- What a rule does: its target.
-use Rattle.std.specs.Prelude.{ℕ, Bool, true, false, List, [], ◌∷◌, Option, Some, None, option_map, codes, if◌then◌else◌}
+use Rattle.std.specs.Prelude.{ℕ, Bool, true, false, List, [], ◌∷◌, Option, Some, None, option_map, unwrap_or, codes, if◌then◌else◌}
 use Rattle.std.specs.Str.{bytes_eq}
 use Rattle.fields.specs.values.Name.{name_of}
 use Rattle.fields.specs.declared.values.reject.RejectType.{RejectType}
 use Rattle.fields.specs.declared.values.reject.RejectType.TheVariants as reject
 use Rattle.rules.specs.options.Options.{owner}
+use Rattle.rules.specs.options.Values.{reject_type_in}
 use Rattle.rules.specs.rule.Rules.{Rule}
 use Rattle.rules.specs.declared.rule.action.Action.{Action}
 use Rattle.rules.specs.declared.rule.action.Action.TheVariants as action
 use Rattle.rules.specs.declared.options.option.Opt.{Opt}
 use Rattle.rules.specs.declared.options.option.Owner.{Owner}
 use Rattle.rules.specs.declared.options.option.Owner.TheVariants as owned
+use Rattle.rules.specs.declared.options.option.Extended.{Extended}
 use Rattle.rules.specs.declared.options.option.Extended.TheVariants as extended
 use Rattle.rules.specs.declared.options.setting.Setting.{Setting}
 use Rattle.rules.specs.declared.rule.target.Target.{Target}
 use Rattle.rules.specs.declared.rule.target.Target.TheVariants as target
-use Rattle.rules.specs.declared.options.value.Value.{Value}
-use Rattle.rules.specs.declared.options.value.Value.TheVariants as value
 
 -- a jump to a chain, where the name is one
 abbrev pub jump_to : Option (List ℕ) → Option Action
@@ -33,11 +33,32 @@ action_of text =
     else if bytes_eq text (codes "LOG") then Some action.Log
     else jump_to (name_of text)
 
+-- the target with options that the action is
+abbrev pub extended_by : Action → Option Extended
+extended_by action.Accept = None
+extended_by action.Drop = None
+extended_by action.Return = None
+extended_by action.Reject = Some extended.Reject
+extended_by action.Log = Some extended.Log
+extended_by (action.Jump name) = None
+extended_by (action.Goto name) = None
+
+-- whether what belongs there belongs to the target
+abbrev pub is_target_of : Option Extended → Owner → Bool
+is_target_of None w = false
+is_target_of (Some t) owned.Rule = false
+is_target_of (Some t) owned.Start = false
+is_target_of (Some t) owned.Jump = false
+is_target_of (Some t) owned.Goto = false
+is_target_of (Some t) (owned.Match ks) = false
+is_target_of (Some extended.Reject) (owned.Target extended.Reject) = true
+is_target_of (Some extended.Reject) (owned.Target extended.Log) = false
+is_target_of (Some extended.Log) (owned.Target extended.Reject) = false
+is_target_of (Some extended.Log) (owned.Target extended.Log) = true
+
 -- whether an option that belongs there is one of the action's
 abbrev pub is_owned_by : Action → Owner → Bool
-is_owned_by action.Reject (owned.Target extended.Reject) = true
-is_owned_by action.Log (owned.Target extended.Log) = true
-is_owned_by a w = false
+is_owned_by a w = is_target_of (extended_by a) w
 
 -- and of the action that was given, if one was
 abbrev pub is_action_of : Option Action → Owner → Bool
@@ -48,15 +69,10 @@ is_action_of (Some a) w = is_owned_by a w
 abbrev pub action_has : Option Action → Opt → Bool
 action_has a o = is_action_of a (owner o)
 
--- the type of REJECT that the value is, or else the other
-abbrev pub reject_in_value : Value → RejectType → RejectType
-reject_in_value (value.RejectWith t) other = t
-reject_in_value v other = other
-
 -- the type of REJECT among the options of the target; where none is given, that the port is unreachable
 abbrev pub reject_in : List Setting → RejectType
 reject_in [] = reject.PortUnreachable
-reject_in (s ∷ ss) = reject_in_value s.value (reject_in ss)
+reject_in (s ∷ ss) = unwrap_or (reject_type_in s.value) (reject_in ss)
 
 -- the target with its type
 abbrev pub target_with : Action → List Setting → Target
@@ -74,9 +90,14 @@ target_of r = option_map (λ a. target_with a r.target_options) r.action
 
 -- the action with another chain, where it names one
 abbrev pub action_with_chain_name : List ℕ → Option Action → Option Action
+action_with_chain_name name None = None
+action_with_chain_name name (Some action.Accept) = Some action.Accept
+action_with_chain_name name (Some action.Drop) = Some action.Drop
+action_with_chain_name name (Some action.Return) = Some action.Return
+action_with_chain_name name (Some action.Reject) = Some action.Reject
+action_with_chain_name name (Some action.Log) = Some action.Log
 action_with_chain_name name (Some (action.Jump old)) = Some (action.Jump name)
 action_with_chain_name name (Some (action.Goto old)) = Some (action.Goto name)
-action_with_chain_name name a = a
 
 -- the rule with another chain as its target, where it names one
 abbrev pub with_chain_name : List ℕ → Rule → Rule
@@ -85,6 +106,11 @@ with_chain_name name r =
 
 -- the target is a chain
 abbrev pub names_chain : Option Target → Bool
+names_chain None = false
+names_chain (Some target.Accept) = false
+names_chain (Some target.Drop) = false
+names_chain (Some target.Return) = false
+names_chain (Some (target.Reject answer)) = false
+names_chain (Some target.Log) = false
 names_chain (Some (target.Jump name)) = true
 names_chain (Some (target.Goto name)) = true
-names_chain t = false

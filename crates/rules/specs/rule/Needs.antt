@@ -1,16 +1,16 @@
 -- What a rule needs: the protocol and the option of each match, and tcp for a reset (iptables-extensions(8)).
 use Rattle.std.specs.Prelude.{ℕ, ◌==◌, Bool, true, false, ◌||◌, ◌&&◌, not, List, [], ◌∷◌, length, Option, Some, None, if◌then◌else◌}
 use Rattle.std.specs.List.{list_any}
+use Rattle.fields.specs.declared.values.reject.RejectType.{RejectType}
 use Rattle.fields.specs.declared.values.reject.RejectType.TheVariants as reject
 use Rattle.rules.specs.options.Matches.{match_row}
 use Rattle.rules.specs.options.Settings.{has_protocol}
+use Rattle.rules.specs.options.Values.{reject_type_in}
 use Rattle.rules.specs.rule.Rules.{Match, Rule}
 use Rattle.rules.specs.declared.reading.fault.Refusal.{Refusal}
 use Rattle.rules.specs.declared.reading.fault.Refusal.TheVariants as refusal
 use Rattle.rules.specs.declared.options.match_kind.MatchKind.{MatchKind}
 use Rattle.rules.specs.declared.options.setting.Setting.{Setting}
-use Rattle.rules.specs.declared.options.value.Value.{Value}
-use Rattle.rules.specs.declared.options.value.Value.TheVariants as value
 
 -- one of the protocols is the rule's, or there are none
 abbrev pub is_met : List ℕ → List Setting → Bool
@@ -37,14 +37,21 @@ abbrev pub unmet_matches : List Setting → List Match → Option Refusal
 unmet_matches settings [] = None
 unmet_matches settings (m ∷ ms) = or_else (unmet_match settings m) (unmet_matches settings ms)
 
--- the value asks for the reset of a connection
-abbrev pub is_reset_value : Value → Bool
-is_reset_value (value.RejectWith reject.TcpReset) = true
-is_reset_value v = false
+-- REJECT answers with the reset of the connection
+abbrev pub answers_reset : Option RejectType → Bool
+answers_reset None = false
+answers_reset (Some reject.NetUnreachable) = false
+answers_reset (Some reject.HostUnreachable) = false
+answers_reset (Some reject.PortUnreachable) = false
+answers_reset (Some reject.ProtoUnreachable) = false
+answers_reset (Some reject.NetProhibited) = false
+answers_reset (Some reject.HostProhibited) = false
+answers_reset (Some reject.AdminProhibited) = false
+answers_reset (Some reject.TcpReset) = true
 
 -- the option asks for it
 abbrev pub is_reset : Setting → Bool
-is_reset s = is_reset_value s.value
+is_reset s = answers_reset (reject_type_in s.value)
 
 -- a reset is of tcp (6) alone
 abbrev pub unmet_reset : List Setting → List Setting → Option Refusal

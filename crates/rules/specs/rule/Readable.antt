@@ -39,10 +39,15 @@ match_places kind.Ttl = (opt.TtlEqual ∷ opt.TtlGreater ∷ opt.TtlLess ∷ [])
 
 -- the places of a target's options
 abbrev pub target_places : Option Action → List (List Opt)
+target_places None = []
+target_places (Some action.Accept) = []
+target_places (Some action.Drop) = []
+target_places (Some action.Return) = []
 target_places (Some action.Reject) = only opt.RejectWith ∷ []
 target_places (Some action.Log) =
     only opt.LogPrefix ∷ only opt.LogLevel ∷ only opt.LogTcpSequence ∷ only opt.LogTcpOptions ∷ only opt.LogIpOptions ∷ only opt.LogUid ∷ []
-target_places a = []
+target_places (Some (action.Jump name)) = []
+target_places (Some (action.Goto name)) = []
 
 -- the options stand at some of the places, in their order, and no two at one place
 abbrev pub AreInOrder : List (List Opt) → List Setting → Type 0
@@ -67,9 +72,14 @@ pub record ValueReadsBack (s : Setting) : Type 0 where
 
 -- a chain that the action names has a chain's name
 abbrev pub NamesChain : Option Action → Type 0
+NamesChain None = Unit {0}
+NamesChain (Some action.Accept) = Unit {0}
+NamesChain (Some action.Drop) = Unit {0}
+NamesChain (Some action.Return) = Unit {0}
+NamesChain (Some action.Reject) = Unit {0}
+NamesChain (Some action.Log) = Unit {0}
 NamesChain (Some (action.Jump name)) = name_of name ≡ Some name
 NamesChain (Some (action.Goto name)) = name_of name ≡ Some name
-NamesChain a = Unit {0}
 
 -- A rule's options stand in order and their values read back, it has 16 matches at most, each option says something, what is
 -- meant where nothing is said stands there, and nothing that it needs is missing.

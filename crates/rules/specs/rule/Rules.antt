@@ -30,13 +30,26 @@ empty_rule = record { settings = []; matches = []; action = None; target_options
 
 -- what a match asks where its option isn't given: icmp asks for any type
 abbrev pub match_default : MatchKind → Option Value
+match_default kind.Tcp = None
+match_default kind.Udp = None
 match_default kind.Icmp = Some (value.IcmpType asked.Any)
-match_default k = None
+match_default kind.Multiport = None
+match_default kind.Iprange = None
+match_default kind.Conntrack = None
+match_default kind.State = None
+match_default kind.Comment = None
+match_default kind.Ttl = None
 
 -- what a target does where its option isn't given: REJECT answers that the port is unreachable
 abbrev pub action_default : Option Action → Option Value
+action_default None = None
+action_default (Some action.Accept) = None
+action_default (Some action.Drop) = None
+action_default (Some action.Return) = None
 action_default (Some action.Reject) = Some (value.RejectWith reject.PortUnreachable)
-action_default a = None
+action_default (Some action.Log) = None
+action_default (Some (action.Jump name)) = None
+action_default (Some (action.Goto name)) = None
 
 -- the options or, where there are none, what is meant then
 abbrev pub or_default : Option Value → List Setting → List Setting

@@ -1,7 +1,8 @@
 // What a rule asks of several fields at once.
 ghost use Rattle.std.specs.Prelude.{◌≡◌};
-ghost use Rattle.std.specs.List.{list_all};
+ghost use Rattle.std.specs.List.{list_all, list_any};
 ghost use Rattle.rules.specs.rule.Crossing.{cross, has_either_port, setting_crosses, match_crosses};
+ghost use Rattle.rules.specs.steps.Crossed.{is_both, has_both};
 ghost use Rattle.rules.specs.steps.Views.{view_match};
 
 use crate::options::setting::Setting;
@@ -44,11 +45,32 @@ fn matches_cross(matches: &[Match], packet: &Packet) -> bool
     matches.iter().all(|one| match_crosses(one, packet))
 }
 
+// Whether the option asks several fields at once.
+fn is_both(setting: &Setting) -> bool
+    ensures { result ≡ is_both setting.now }
+{
+    matches!(setting.value, Value::Ports(_))
+}
+
+// Whether one of the match's options does.
+fn has_both(one: &Match) -> bool
+    ensures { result ≡ has_both (view_match one.now) }
+{
+    one.settings.iter().any(is_both)
+}
+
+// Whether one of the matches' options does.
+pub(crate) fn ask_both(matches: &[Match]) -> bool
+    ensures { result ≡ list_any (λ m. has_both (view_match m)) matches.now }
+{
+    matches.iter().any(has_both)
+}
+
 /// Whether the conditions of a rule that ask several fields at once hold of the packet: each `--ports` of its matches.
 /// Together with what the rule allows on each field they make up what it matches. It takes no memory, and time linear in
 /// the options of the rule's matches.
 pub fn cross(rule: &Rule, packet: &Packet) -> bool
     ensures { result ≡ cross packet.now.values rule.now }
 {
-    matches_cross(rule.content().matches.as_slice(), packet)
+    !rule.asks_both() || matches_cross(rule.content().matches.as_slice(), packet)
 }

@@ -4,6 +4,7 @@ pub mod DropAllLaws
 pub mod EditLaws
 pub mod FlushLaws
 pub mod MakeLaws
+pub mod MemoryLaws
 pub mod PutLaws
 pub mod RetargetLaws
 pub mod RenameLaws

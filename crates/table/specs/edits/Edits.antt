@@ -1,10 +1,11 @@
 -- What each command does to the table, and what refuses it (iptables(8), "COMMANDS").
-use Rattle.std.specs.Prelude.{◌≡◌, ◌⊎◌, ℕ, zero, suc, ◌+◌, ◌-◌, ◌==◌, nat_lt, nat_le, Bool, true, false, ◌&&◌, ◌||◌, not, List, [], ◌∷◌, ◌++◌}
+use Rattle.std.specs.Prelude.{◌≡◌, ℕ, zero, suc, ◌+◌, ◌-◌, ◌==◌, nat_lt, nat_le, Bool, true, false, ◌&&◌, ◌||◌, not, List, [], ◌∷◌, ◌++◌}
 use Rattle.std.specs.Prelude.{map, filter, length, position, insert, remove, slice_set, Option, Some, None, is_none, Result, Ok, Err}
-use Rattle.std.specs.Prelude.{codes, if◌then◌else◌}
+use Rattle.std.specs.Prelude.{IfErr, codes, if◌then◌else◌}
 use Rattle.std.specs.Bool.{MatchBool}
 use Rattle.std.specs.List.{list_any}
 use Rattle.std.specs.Str.{bytes_eq}
+use Rattle.fields.specs.Refusals.{GivesFor}
 use Rattle.fields.specs.packet.Hook.{name as hook_name}
 use Rattle.fields.specs.values.Name.{is_name}
 use Rattle.fields.specs.declared.numbers.field.Field.TheVariants as field
@@ -219,9 +220,34 @@ Answers (Err f) old new result = (result ≡ Err f) × (new ≡ old)
 abbrev pub IsStep : Edit → TableView → TableView → Result (Unit {0}) TableFault → Type 0
 IsStep edit old new result = Answers (step edit old.table) old new result
 
--- of a call that takes memory: where nothing else refuses, out of memory may
+-- the fault, where it is no lack of memory
+abbrev pub refusal_of : TableFault → Option TableFault
+refusal_of NoSuchChain = Some NoSuchChain
+refusal_of ChainExists = Some ChainExists
+refusal_of BadChainName = Some BadChainName
+refusal_of NumberOutOfRange = Some NumberOutOfRange
+refusal_of NoSuchRule = Some NoSuchRule
+refusal_of ChainNotEmpty = Some ChainNotEmpty
+refusal_of ChainReferenced = Some ChainReferenced
+refusal_of BuiltInChain = Some BuiltInChain
+refusal_of NotBuiltInChain = Some NotBuiltInChain
+refusal_of Loop = Some Loop
+refusal_of TargetMissing = Some TargetMissing
+refusal_of TargetBuiltIn = Some TargetBuiltIn
+refusal_of InterfaceNotAllowed = Some InterfaceNotAllowed
+refusal_of ChainFull = Some ChainFull
+refusal_of TooManyChains = Some TooManyChains
+refusal_of BadPolicy = Some BadPolicy
+refusal_of NoMemory = None
+
+-- what is refused changes nothing, and memory runs out only where nothing else refuses
+abbrev pub IsRefused : Edit → TableView → TableView → TableFault → Type 0
+IsRefused edit old new fault = (new ≡ old) × (fault ≡ NoMemory → fault_of edit old.table ≡ None)
+
+-- of a call that takes memory: it gives the step, unless memory ran out
 abbrev pub IsStepIfRoom : Edit → TableView → TableView → Result (Unit {0}) TableFault → Type 0
-IsStepIfRoom edit old new result = IsStep edit old new result ⊎ ((fault_of edit old.table ≡ None) × (result ≡ Err NoMemory) × (new ≡ old))
+IsStepIfRoom edit old new result =
+    GivesFor refusal_of (λ u. new.table) result (step edit old.table) × IfErr result (IsRefused edit old new)
 
 -- the commands that take memory
 abbrev pub may_grow : Edit → Bool

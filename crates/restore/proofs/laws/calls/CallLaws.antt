@@ -1,74 +1,33 @@
 -- Calls leave what their accepted changes give by plain list edits.
-use Rattle.std.proofs.Common.{◌≡◌, inl, ℕ, List, [], ◌∷◌, ◌++◌, ◌&&◌, not, Bool, true, false, Option, Some, None, Result, Ok, Err, refl, sym, ap, subst, ◌∙◌, append-nil, if◌then◌else◌}
+use Rattle.std.proofs.Common.{◌≡◌, ℕ, List, [], ◌∷◌, ◌++◌, ◌&&◌, not, Bool, true, false, Option, Some, None, Result, Ok, Err, refl, sym, ap, subst, ◌∙◌, if◌then◌else◌}
 use Rattle.std.proofs.lemmas.Bool.{false≢true}
 use Rattle.std.specs.Bool.{MatchBool}
-use Rattle.std.specs.Str.{bytes_eq}
-use Rattle.std.specs.Option.{option_to_list}
-use Rattle.std.specs.Prelude.{codes}
-use Rattle.fields.specs.text.Words.{words_of}
-use Rattle.table.specs.edits.Edits.{Edit, IsStep, IsStepIfRoom, edited, fault_of, may_grow, step}
+use Rattle.table.specs.edits.Edits.{Edit, IsStep, IsStepIfRoom, edited, may_grow}
 use Rattle.table.specs.edits.Headline.{ChainsHaveOneListOfClassifiers, edited_by}
 use Rattle.table.specs.edits.Headline as table_law
 use Rattle.table.specs.chains.Table.{AreClassified, Table, TableView}
 use Rattle.table.specs.declared.fault.TableFault.{TableFault}
 use Rattle.table.specs.walk.Cases.{WalksByCases, WalksInOneWay}
 use Rattle.table.specs.walk.Walk.{walk}
-use Rattle.restore.specs.Sequence.{◌>>=◌, or_refused, refused_as, made_into}
+use Rattle.restore.specs.Sequence.{made_into}
 use Rattle.restore.specs.calls.Changes as change
-use Rattle.restore.specs.calls.Changes.{Change, changed, changed_by, edit_asked}
+use Rattle.restore.specs.calls.Changes.{Change, changed, changed_by}
 use Rattle.restore.specs.calls.Calls.{Call, Edits, Begins, Takes, Commits, GivesUp, Reads, Ends, Pending, Standing, standing, with_line, section_change, accepted, accepted_of, after, pending_after, pending_at, IsCall, IsPendingIn, Lead}
 use Rattle.restore.specs.calls.Headline.{CallsLeaveWhatTheyAccept, RefusedCallsChangeNothing}
 use Rattle.restore.specs.listings.RoundTrip.{ListingsRestoreClassifiers, RestoresAsEqual}
 use Rattle.restore.specs.sections.Lines.{IsLine, is_building}
-use Rattle.restore.specs.sections.Names.{Names}
-use Rattle.restore.specs.sections.Restore.{Place, Between, Skipping, Building, Restore, Restoring, moved, opening, between, line_at, is_commit, restore_line}
+use Rattle.restore.specs.sections.Restore.{Place, Between, Skipping, Building, Restore, Restoring, moved, between, line_at, is_commit, restore_line}
 use Rattle.restore.specs.sections.Section as section
-use Rattle.restore.specs.sections.Section.{Asked, OfTable, Quoting, RestoreFault, asked, begun, begins_with, is_quiet, is_too_long, line_in}
+use Rattle.restore.specs.sections.Section.{RestoreFault, asked, begun, is_too_long, line_in}
+use Rattle.table.proofs.laws.edits.AnswerLaws.{if_room}
+use Rattle.restore.proofs.laws.sections.EditLaws.{OnGiven, IsBegun, between_is, edits_asked, of_both}
 use Rattle.restore.proofs.laws.sections.HeadlineLaws.{accepted_line, refused_unchanged}
-
--- what holds of both arms holds of the whole
-of_both : {A : Type 0} (P : A → Type 0) (b : Bool) {x y : A} → P x → P y → P (if b then x else y)
-of_both P true p q = p
-of_both P false p q = q
-
--- what holds of what was given
-abbrev OnGiven : {A E : Type 0} → Result A E → (A → Type 0) → Type 0
-OnGiven (Ok x) P = P x
-OnGiven (Err e) P = Unit {0}
 
 -- plain edits one after another
 
 pub changed_then : (t : Table) (first next : List Change) → changed_by t (first ++ next) ≡ changed_by (changed_by t first) next
 changed_then t [] next = refl
 changed_then t (change ∷ first) next = changed_then (changed t change) first next
-
-edited_snoc : (t : Table) (es : List Edit) (e : Edit) → edited_by t (es ++ e ∷ []) ≡ edited e (edited_by t es)
-edited_snoc t [] e = refl
-edited_snoc t (d ∷ ds) e = edited_snoc (edited d t) ds e
-
-chosen : (e : Edit) (t : Table) (o : Option TableFault) → OnGiven (let r : Result Table TableFault = elim o [ None ↦ Ok (edited e t) | Some f ↦ Err f ] in r) (λ u. u ≡ edited e t)
-chosen e t None = refl
-chosen e t (Some f) = tt
-
-step_edits : (e : Edit) (t : Table) → OnGiven (step e t) (λ u. u ≡ edited e t)
-step_edits e t = chosen e t (fault_of e t)
-
--- lines of a section
-
-edits_step : (b u : Table) (es : List Edit) (e : Edit) (named : Names) (r : Result Table TableFault) → u ≡ edited_by b es → OnGiven r (λ v. v ≡ edited e u)
-    → OnGiven (refused_as OfTable r >>= λ v. Ok (let s : section.Section = record { table = v; named = named } in s)) (λ next. next.table ≡ edited_by b (es ++ e ∷ []))
-edits_step b u es e named (Ok v) h g = g ∙ ap (edited e) h ∙ sym (edited_snoc b es e)
-edits_step b u es e named (Err f) h g = tt
-
-edits_one : (b u : Table) (es : List Edit) (e : Option Edit) (named : Names) → u ≡ edited_by b es
-    → OnGiven (section.edited_by e u >>= λ v. Ok (let s : section.Section = record { table = v; named = named } in s)) (λ next. next.table ≡ edited_by b (es ++ option_to_list e))
-edits_one b u es None named h = h ∙ sym (ap (edited_by b) (append-nil es))
-edits_one b u es (Some e) named h = edits_step b u es e named (step e u) h (step_edits e u)
-
-edits_asked : (b : Table) (s : section.Section) (es : List Edit) (q : Result Asked RestoreFault) → s.table ≡ edited_by b es
-    → OnGiven (section.done s q) (λ next. next.table ≡ edited_by b (es ++ edit_asked q))
-edits_asked b s es (Ok a) h = edits_one b s.table es a.edit (section.with_name a.name s.named) h
-edits_asked b s es (Err f) h = tt
 
 -- the pending section is the edits of its lines, made of the table in place
 
@@ -91,7 +50,7 @@ record Follows (s : Standing) (call : Call) (new : TableView) : Type 0 where
 -- of a call that takes memory or takes none
 of_either : (e : Edit) (old new : TableView) (r : Result (Unit {0}) TableFault) (grows : Bool) → MatchBool grows (IsStepIfRoom e old new r) (IsStep e old new r) → IsStepIfRoom e old new r
 of_either e old new r true h = h
-of_either e old new r false h = inl h
+of_either e old new r false h = if_room e old new r h
 
 module _ (leave : table_law.CallsLeaveWhatTheyAccept) (refuse : table_law.RefusedCallsChangeNothing) where
   follows_edit : (s : Standing) (old new : TableView) (e : Edit) (r : Result (Unit {0}) TableFault) → old.table ≡ s.table → s.pending ≡ None → IsStepIfRoom e old new r → Follows s (Edits e r) new
@@ -111,12 +70,6 @@ record FitsNext (t : Table) (pending : Option Pending) (line : List ℕ) (r : Re
   table : next.table ≡ changed_by t (if is_building place && is_commit line && not r.test then section_change pending else [])
   fits : Fits next.table (pending_at next.restore.place r.noflush line pending)
 
--- a place after a line between sections: a section that is built was begun from the table
-abbrev IsBegun : Bool → Table → Place → Type 0
-IsBegun noflush t Between = Unit {0}
-IsBegun noflush t Skipping = Unit {0}
-IsBegun noflush t (Building s) = s ≡ begun noflush t
-
 fits_begun : (noflush : Bool) (t : Table) (line : List ℕ) (place : Place) → IsBegun noflush t place → Fits t (pending_at place noflush line None)
 fits_begun noflush t line Between is = tt
 fits_begun noflush t line Skipping is = tt
@@ -125,19 +78,6 @@ fits_begun noflush t line (Building s) is = ap (λ (x : section.Section). x.tabl
 opens : (t : Table) (line : List ℕ) (r : Restore) (p : Result Place RestoreFault) → OnGiven p (IsBegun r.noflush t) → OnGiven (made_into (moved t r) p) (FitsNext t None line r Between)
 opens t line r (Ok place) is = record { table = refl; fits = fits_begun r.noflush t line place is }
 opens t line r (Err f) is = tt
-
-opening_is : (t : Table) (r : Restore) (words : List (List ℕ)) → OnGiven (opening r.noflush t words) (IsBegun r.noflush t)
-opening_is t r [] = tt
-opening_is t r (w ∷ []) =
-    of_both (λ p. OnGiven p (IsBegun r.noflush t)) (begins_with 42 w) (of_both (IsBegun r.noflush t) (bytes_eq w (codes "*filter")) refl tt) tt
-opening_is t r (w ∷ (v ∷ vs)) = tt
-
-opening_on : (t : Table) (r : Restore) (words : Option (List (List ℕ))) → OnGiven (or_refused Quoting words >>= λ ws. opening r.noflush t ws) (IsBegun r.noflush t)
-opening_on t r None = tt
-opening_on t r (Some ws) = opening_is t r ws
-
-between_is : (t : Table) (r : Restore) (line : List ℕ) → OnGiven (between r.noflush t line) (IsBegun r.noflush t)
-between_is t r line = of_both (λ p. OnGiven p (IsBegun r.noflush t)) (is_quiet line) tt (opening_on t r (words_of line))
 
 commits : (t u : Table) (es : List Edit) (noflush test : Bool) → u ≡ edited_by (begun noflush t).table es
     → (if test then t else u) ≡ changed_by t (if not test then change.Section noflush es ∷ [] else [])

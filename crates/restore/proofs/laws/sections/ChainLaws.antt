@@ -1,9 +1,10 @@
 -- What the table answers, as a section's answer.
-use Rattle.std.proofs.Common.{◌≡◌, inl, inr, ℕ, Bool, true, false, List, refl, sym, ap, subst, Option, Some, None, Result, Ok, Err, if◌then◌else◌}
+use Rattle.std.proofs.Common.{◌≡◌, ℕ, Bool, true, false, List, refl, sym, ap, subst, Option, Some, None, Result, Ok, Err, if◌then◌else◌}
 use Rattle.std.specs.Bool.{MatchBool}
 use Rattle.table.specs.chains.Table.{Table, TableView, has_chain, is_built_in}
 use Rattle.table.specs.edits.Edits.{Edit, Flush, NewChain, SetPolicy, Answers, IsStep, IsStepIfRoom, IsStepOf, may_grow, step}
 use Rattle.table.specs.declared.fault.TableFault.{TableFault}
+use Rattle.table.specs.declared.fault.TableFault.TheVariants.{NoMemory}
 use Rattle.fields.specs.Refusals.{Refuses}
 use Rattle.restore.specs.Sequence.{Gives, refused_as}
 use Rattle.restore.specs.sections.Section.{RestoreFault, OfTable, chain_edit, edited_by, is_none_word, is_out_of_memory}
@@ -25,9 +26,9 @@ pub stepped : (edit : Edit) (old new : TableView) (r : Result (Unit {0}) TableFa
 stepped edit old new r a = answered old new (step edit old.table) r a
 
 pub stepped_if_room : (edit : Edit) (old new : TableView) (r : Result (Unit {0}) TableFault) → IsStepIfRoom edit old new r → Gives is_out_of_memory (λ (u : Unit {0}). new.table) (refused_as OfTable r) (edited_by (Some edit) old.table)
-stepped_if_room edit old new r (inl a) = stepped edit old new r a
-stepped_if_room edit old new r (inr a) =
-    subst (λ (x : Result (Unit {0}) TableFault). Gives is_out_of_memory (λ (u : Unit {0}). new.table) (refused_as OfTable x) (edited_by (Some edit) old.table)) (sym a.1) tt
+stepped_if_room edit old new (Ok u) a = ap (refused_as OfTable) a.0
+stepped_if_room edit old new (Err NoMemory) a = tt
+stepped_if_room edit old new (Err f) a = ap (refused_as OfTable) a.0
 
 pub stepped_of : (edit : Edit) (old new : TableView) (r : Result (Unit {0}) TableFault) → IsStepOf edit old new r → Gives is_out_of_memory (λ (u : Unit {0}). new.table) (refused_as OfTable r) (edited_by (Some edit) old.table)
 stepped_of edit old new r =

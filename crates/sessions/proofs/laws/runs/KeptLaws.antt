@@ -1,5 +1,5 @@
 -- A line that is refused changes nothing, and a packet is answered by its walk.
-use Rattle.std.proofs.Common.{◌≡◌, ℕ, List, ◌&&◌, not, Bool, true, false, Option, Some, None, Result, Ok, Err, refl, sym, ap, subst, ◌∙◌, if◌then◌else◌}
+use Rattle.std.proofs.Common.{◌≡◌, ℕ, List, ◌&&◌, not, Option, Some, None, Result, Ok, Err, refl, sym, ap, subst, ◌∙◌}
 use Rattle.fields.specs.packet.Packet.{PacketView}
 use Rattle.table.specs.edits.Edits.{step as table_step}
 use Rattle.table.specs.chains.Table.{Table, has_chain}
@@ -14,11 +14,7 @@ use Rattle.turns.specs.Turn.{Line, Reply, Says, Fails, Turn, edit_turn, on_chain
 use Rattle.turns.specs.declared.spot.Spot.{Spot}
 use Rattle.turns.specs.declared.spot.Spot.TheVariants.{Outside, Within, Passing}
 use Rattle.replies.specs.Walked.{packet_reply}
-
--- what holds of both arms holds of the whole
-pub of_both : {A : Type 0} (P : A → Type 0) (b : Bool) {x y : A} → P x → P y → P (if b then x else y)
-of_both P true p q = p
-of_both P false p q = q
+use Rattle.restore.proofs.laws.sections.EditLaws.{of_both}
 
 abbrev OnFails : Reply → Type 0 → Type 0
 OnFails (Says text) P = Unit {0}

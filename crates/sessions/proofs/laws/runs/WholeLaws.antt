@@ -18,7 +18,7 @@ use Rattle.turns.specs.declared.spot.Spot.{Spot}
 use Rattle.turns.specs.declared.spot.Spot.TheVariants.{Outside, Within, Passing}
 use Rattle.sessions.specs.runs.Run.{EndsLine, Lead, Moment, RunFault, Runs, Whole}
 use Rattle.sessions.specs.runs.Session.{Kind, OfRestore, OfSession, State, finish_of, marked, marks_of, play, restore_finish, restore_start, session_finish, session_start, start_of, step, texts_of}
-use Rattle.sessions.proofs.laws.runs.KeptLaws.{of_both}
+use Rattle.restore.proofs.laws.sections.EditLaws.{of_both}
 use Rattle.sessions.proofs.laws.runs.LeadLaws.{fold_of}
 
 -- Lines and the marks that they have

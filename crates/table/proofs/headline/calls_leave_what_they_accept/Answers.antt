@@ -1,4 +1,5 @@
-use Rattle.table.proofs.laws.edits.TableLaws.{calls_leave, refused_changes_nothing, never_memory, one_list}
+use Rattle.table.proofs.laws.edits.MemoryLaws.{never_memory}
+use Rattle.table.proofs.laws.edits.TableLaws.{calls_leave, refused_changes_nothing, one_list}
 use Rattle.table.proofs.headline.calls_leave_what_they_accept.Goals as goal
 
 pub returns : goal.returns

@@ -1,5 +1,5 @@
 -- What a call answers, by what it found.
-use Rattle.std.proofs.Common.{◌≡◌, inl, inr, ℕ, zero, suc, ◌<◌, Bool, true, false, not, ◌||◌, List, [], ◌∷◌, length, get_or, map, refl, sym, ◌∙◌, ap, arith, subst, Option, Some, None, Ok, Err}
+use Rattle.std.proofs.Common.{◌≡◌, inl, inr, ℕ, zero, suc, ◌<◌, Bool, true, false, not, ◌||◌, List, [], ◌∷◌, length, get_or, map, refl, sym, ◌∙◌, ap, arith, subst, Option, Some, None, Result, Ok, Err}
 use Rattle.std.specs.List.{list_any, position}
 use Rattle.std.proofs.lemmas.Bool.{cases_Bool, cond-true, cond-false}
 use Rattle.std.proofs.lemmas.List.{length-map}
@@ -7,10 +7,11 @@ use Rattle.std.proofs.lemmas.List.Elements.{All-weaker}
 use Rattle.rules.specs.rule.Rules.{Rule}
 use Rattle.std.specs.Option.{IsSome}
 use Rattle.std.proofs.lemmas.Bool.{false≢true}
+use Rattle.fields.specs.Refusals.{Refuses}
 use Rattle.fields.specs.values.Name.{is_name, name_of}
 use Rattle.table.specs.chains.Sound.{IsSound}
 use Rattle.table.specs.chains.Table.{Table, TableView, Chain, Policy, AreClassified, is_named, has_chain, rules_of}
-use Rattle.table.specs.edits.Edits.{Edit, Cause, same_text, without_first, no_such_rule, changed_chain, TableFault, NoSuchChain, fault_of, first_fault, edited, changed, Answers, IsStep, IsStepIfRoom, NoMemory, no_such_chain}
+use Rattle.table.specs.edits.Edits.{Edit, Cause, same_text, without_first, no_such_rule, changed_chain, TableFault, NoSuchChain, fault_of, first_fault, edited, changed, step, refusal_of, Answers, IsStep, IsStepIfRoom, NoMemory, no_such_chain}
 use Rattle.table.specs.declared.chain.entry.Course.TheVariants as course
 use Rattle.table.specs.declared.chain.entry.Entry.{Entry}
 use Rattle.std.specs.Prelude.{remove}
@@ -21,6 +22,7 @@ use Rattle.table.specs.steps.Kept.{row_at, name_at, listed, listed_row, blank, c
 use Rattle.table.proofs.laws.chains.PlaceLaws.{any_none, any_some, IsPlaced, placed_at, placed_nowhere}
 use Rattle.table.proofs.laws.chains.StoreLaws.{names_apart, listed_get, length-listed}
 use Rattle.table.proofs.laws.chains.ChainLaws.{sound_weaker}
+use Rattle.table.proofs.laws.edits.MemoryLaws.{never_memory}
 
 -- An answer is right
 
@@ -30,9 +32,37 @@ refused edit old f h = let P : Option TableFault → Type 0 = λ (o : Option Tab
 pub done : (edit : Edit) (old new : TableView) → fault_of edit old.table ≡ None → new.table ≡ edited edit old.table → IsStep edit old new (Ok tt)
 done edit old new h is = let P : Option TableFault → Type 0 = λ (o : Option TableFault). Answers (elim o [ None ↦ Ok (edited edit old.table) | Some g ↦ Err g ]) old new (Ok tt) in subst P (sym h) (refl, is)
 
+-- a fault is a refusal, or says that memory ran out
+refuses : (f : TableFault) (given : Result Table TableFault) → given ≡ Err f → Refuses (refusal_of f) given
+refuses NoMemory given is = tt
+refuses f given is = is
+
+-- what the step gives, by its fault
+abbrev given_by : Edit → Table → Option TableFault → Result Table TableFault
+given_by edit t o = elim o [ None ↦ Ok (edited edit t) | Some f ↦ Err f ]
+
+-- what is a step is one if there is room
+pub if_room : (edit : Edit) (old new : TableView) (r : Result (Unit {0}) TableFault) → IsStep edit old new r → IsStepIfRoom edit old new r
+if_room edit old new r = go (fault_of edit old.table) refl
+  where
+    go : (o : Option TableFault) → fault_of edit old.table ≡ o → Answers (given_by edit old.table o) old new r → IsStepIfRoom edit old new r
+    go None due a =
+        let gives : step edit old.table ≡ Ok new.table = ap (given_by edit old.table) due ∙ ap Ok (sym a.1) in
+        subst (IsStepIfRoom edit old new) (sym a.0) (gives, tt)
+    go (Some f) due a =
+        let gives : step edit old.table ≡ Err f = ap (given_by edit old.table) due in
+        let late : f ≡ NoMemory → fault_of edit old.table ≡ None = λ is. absurd (never_memory edit old.table (due ∙ ap Some is)) in
+        subst (IsStepIfRoom edit old new) (sym a.0) (refuses f (step edit old.table) gives, (a.1, late))
+
+pub refused_if_room : (edit : Edit) (old : TableView) (f : TableFault) → fault_of edit old.table ≡ Some f → IsStepIfRoom edit old old (Err f)
+refused_if_room edit old f h = if_room edit old old (Err f) (refused edit old f h)
+
+pub done_if_room : (edit : Edit) (old new : TableView) → fault_of edit old.table ≡ None → new.table ≡ edited edit old.table → IsStepIfRoom edit old new (Ok tt)
+done_if_room edit old new h is = if_room edit old new (Ok tt) (done edit old new h is)
+
 -- where nothing but memory refuses
 pub no_room : (edit : Edit) (old : TableView) → fault_of edit old.table ≡ None → IsStepIfRoom edit old old (Err NoMemory)
-no_room edit old h = inr (h, refl, refl)
+no_room edit old h = (tt, (refl, λ is. h))
 
 -- Causes, one after another
 

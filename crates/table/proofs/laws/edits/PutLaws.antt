@@ -14,7 +14,7 @@ use Rattle.table.specs.steps.Rows.{Row}
 use Rattle.table.proofs.laws.chains.KeepLaws.{put_sound}
 use Rattle.table.proofs.laws.chains.StepLaws.{none_holds, first_clear, target_clear, may_stand, insert_brings, replace_brings, room_by_name, few_by_name, insert_long, no_more}
 use Rattle.table.proofs.laws.chains.StoreLaws.{place_is}
-use Rattle.table.proofs.laws.edits.AnswerLaws.{count_found, table_with, view_with, done, refused, no_room}
+use Rattle.table.proofs.laws.edits.AnswerLaws.{count_found, table_with, view_with, done_if_room, refused_if_room, no_room}
 
 -- a fault of the first causes comes first
 pub fault_first : (xs ys : List Cause) (f : TableFault) → first_fault xs ≡ Some f → first_fault (xs ++ ys) ≡ Some f
@@ -70,11 +70,11 @@ pub put_step : (edit : Edit) (ps : List Policy) (slots new : List (Option Row)) 
     → changed f (name_at slots order place) (table_with ps slots order) ≡ edited edit (table_with ps slots order) → AnswersCauses causes f slots new order place result → IsStepIfRoom edit (view_with ps slots order) (view_with ps new order) result
 put_step edit ps slots new order place causes f (Ok u) fault is a =
     let P : Table → Table = λ (t : Table). record { policies = ps; chains = t.chains } in
-    inl (done edit (view_with ps slots order) (view_with ps new order) (fault ∙ a.0) (ap P a.1 ∙ is))
+    done_if_room edit (view_with ps slots order) (view_with ps new order) (fault ∙ a.0) (ap P a.1 ∙ is)
 put_step edit ps slots new order place causes f (Err g) fault is a =
     let P : List (Option Row) → Type 0 = λ (s : List (Option Row)). IsStepIfRoom edit (view_with ps slots order) (view_with ps s order) (Err g) in
     let Q : TableFault → Type 0 = λ h. IsStepIfRoom edit (view_with ps slots order) (view_with ps slots order) (Err h) in
     subst P (sym a.1) (elim a.0 [
-      | inl due ↦ inl (refused edit (view_with ps slots order) g (fault ∙ due))
+      | inl due ↦ refused_if_room edit (view_with ps slots order) g (fault ∙ due)
       | inr memory ↦ subst Q (sym memory.1) (no_room edit (view_with ps slots order) (fault ∙ memory.0))
     ])

@@ -6,9 +6,9 @@ use Rattle.rules.specs.steps.Views.{view_match}
 use Rattle.rules.proofs.laws.rule.CrossLaws.{each_viewed}
 use Rattle.rules.proofs.rule.crossing.cross.Goals as goal
 
-pub returns : goal.returns
+pub returns-else-not-asks_both : goal.returns-else-not-asks_both
 unfolding cross
-returns c =
+returns-else-not-asks_both c =
     c.matches_cross.ensures
     ∙ ap (λ ms. list_all (λ m. match_crosses c.args.packet.now.values (view_match m)) ms) c.as_slice.ensures.value
     ∙ each_viewed c.args.packet.now.values c.content.result.now.matches.items

@@ -1,10 +1,10 @@
-use Rattle.std.proofs.Common.{◌∙◌, sym, ap, inl, Err, List, [], ◌∷◌, ◌++◌, ℕ, get_or}
+use Rattle.std.proofs.Common.{◌∙◌, sym, ap, Err, List, [], ◌∷◌, ◌++◌, ℕ, get_or}
 use Rattle.std.proofs.lemmas.List.{length-map}
 use Rattle.std.specs.Prelude.{insert}
 use Rattle.table.specs.edits.Edits.{IsStepIfRoom, changed, NoSuchChain, Append, first_fault, full, rule_causes}
 use Rattle.table.specs.steps.Kept.{name_at, row_at}
 use Rattle.table.specs.steps.Rows.{rules_in}
-use Rattle.table.proofs.laws.edits.AnswerLaws.{by_view, refused, nowhere, somewhere, view_with, table_with, name_found, changed_agree}
+use Rattle.table.proofs.laws.edits.AnswerLaws.{by_view, refused_if_room, nowhere, somewhere, view_with, table_with, name_found, changed_agree}
 use Rattle.table.proofs.laws.edits.PutLaws.{put_step, insert_last}
 use Rattle.table.proofs.table.Table.append.Goals as goal
 
@@ -17,7 +17,7 @@ returns-in_default-clause-step c =
     let chain = c.args.chain.now in
     let rule = c.args.rule in
     by_view (λ v. IsStepIfRoom (Append chain rule) v v (Err NoSuchChain)) c.self.view_is
-    (inl (refused (Append chain rule) (view_with ps slots order) NoSuchChain (nowhere t chain (rule_causes t chain rule ++ full t chain ∷ []) (sym c.in_default.ensures.place))))
+    (refused_if_room (Append chain rule) (view_with ps slots order) NoSuchChain (nowhere t chain (rule_causes t chain rule ++ full t chain ∷ []) (sym c.in_default.ensures.place)))
 
 pub returns-clause-step : goal.returns-clause-step
 returns-clause-step c =

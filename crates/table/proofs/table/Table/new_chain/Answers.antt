@@ -1,4 +1,4 @@
-use Rattle.std.proofs.Common.{◌≡◌, ◌∙◌, true, false, sym, ap, arith, subst, None, Ok, Err, not, inl, Option, List, [], ◌∷◌, ℕ, length}
+use Rattle.std.proofs.Common.{◌≡◌, ◌∙◌, true, false, sym, ap, arith, subst, None, Ok, Err, not, Option, List, [], ◌∷◌, ℕ, length}
 use Rattle.std.specs.Prelude.{nat_le}
 use Rattle.std.proofs.lemmas.Bool.{le-leb, lt-leb}
 use Rattle.table.specs.chains.Table.{Table, TableView, user_chains}
@@ -6,7 +6,7 @@ use Rattle.table.specs.edits.Edits.{Cause, IsStepIfRoom, NewChain, BadChainName,
 use Rattle.table.specs.steps.Kept.{IsPlaceFor, IsUnmarked, table_of}
 use Rattle.table.specs.steps.Rows.{Row}
 use Rattle.table.proofs.laws.chains.PlaceLaws.{placed_nowhere}
-use Rattle.table.proofs.laws.edits.AnswerLaws.{by_view, done, refused, no_room, holds, passes, view_with, table_with, name_read, name_refused, exists_named}
+use Rattle.table.proofs.laws.edits.AnswerLaws.{by_view, done_if_room, refused_if_room, no_room, holds, passes, view_with, table_with, name_read, name_refused, exists_named}
 use Rattle.table.proofs.laws.edits.MakeLaws.{users_are, still_unmarked, more_unmarked}
 use Rattle.table.proofs.table.Table.new_chain.Goals as goal
 
@@ -14,7 +14,7 @@ pub returns-in_default : goal.returns-in_default
 returns-in_default c =
     let name = c.args.name.now in
     let t = c.args.self.now.table in
-    inl (refused (NewChain name) c.args.self.now BadChainName
+    (refused_if_room (NewChain name) c.args.self.now BadChainName
     (holds (bad_name name) (exists_already t name ∷ (nat_le 1024 (length (user_chains t.chains)), TooManyChains) ∷ []) (ap not (name_refused name (sym c.in_default.ensures)))))
 
 pub returns-in_default-place_for : goal.returns-in_default-place_for
@@ -29,8 +29,8 @@ returns-in_default-place_for c =
     let read = name_read name c.in-Some.owned (sym c.in-Some.ensures) in
     let good : (bad_name name).0 ≡ false = ap not read.0 in
     by_view (λ v. IsStepIfRoom (NewChain name) v v (Err ChainExists)) c.self.view_is
-    (inl (refused (NewChain name) (view_with ps slots order) ChainExists
-    (passes (bad_name name) (twice ∷ many ∷ []) good ∙ holds twice (many ∷ []) (exists_named t name c.in_default-place_for.ensures))))
+    (refused_if_room (NewChain name) (view_with ps slots order) ChainExists
+    (passes (bad_name name) (twice ∷ many ∷ []) good ∙ holds twice (many ∷ []) (exists_named t name c.in_default-place_for.ensures)))
 
 pub returns-then-len-ge-CHAINS_MAX : goal.returns-then-len-ge-CHAINS_MAX
 returns-then-len-ge-CHAINS_MAX c =
@@ -47,8 +47,8 @@ returns-then-len-ge-CHAINS_MAX c =
     let users = users_are slots order c.self.invariant.kept.stored in
     let full : many.0 ≡ true = le-leb 1024 (length (user_chains t.chains)) (omega (arith, users, c.len.ensures, c.if-len-ge-CHAINS_MAX.true)) in
     by_view (λ v. IsStepIfRoom (NewChain name) v v (Err TooManyChains)) c.self.view_is
-    (inl (refused (NewChain name) (view_with ps slots order) TooManyChains
-    (passes (bad_name name) (twice ∷ many ∷ []) good ∙ passes twice (many ∷ []) free ∙ holds many [] full)))
+    (refused_if_room (NewChain name) (view_with ps slots order) TooManyChains
+    (passes (bad_name name) (twice ∷ many ∷ []) good ∙ passes twice (many ∷ []) free ∙ holds many [] full))
 
 pub make-requires-clause-place : goal.make-requires-clause-place
 make-requires-clause-place c =
@@ -119,8 +119,8 @@ returns c =
     let accepted : fault_of (NewChain name) t ≡ None = passes (bad_name name) (twice ∷ many ∷ []) good ∙ passes twice (many ∷ []) free ∙ passes many [] few in
     let P : Table → Table = λ (u : Table). record { policies = ps; chains = u.chains } in
     by_view (λ v. IsStepIfRoom (NewChain name) v (view_with ps c.make.new.chains.slots c.make.new.order.items) (Ok tt)) c.self.view_is
-    (inl (done (NewChain name) (view_with ps slots order) (view_with ps c.make.new.chains.slots c.make.new.order.items) accepted
-    (ap P c.in-Ok-make.ensures.ok ∙ ap (λ (n : List ℕ). edited (NewChain n) t) read.1)))
+    (done_if_room (NewChain name) (view_with ps slots order) (view_with ps c.make.new.chains.slots c.make.new.order.items) accepted
+    (ap P c.in-Ok-make.ensures.ok ∙ ap (λ (n : List ℕ). edited (NewChain n) t) read.1))
 
 pub invariant_of-self : goal.invariant_of-self
 invariant_of-self c =
