@@ -1,11 +1,12 @@
 -- The words that write a command: its name, the words that follow it, and a rule where it takes one (iptables(8), "SYNOPSIS"
 -- and "COMMANDS").
 use Rattle.std.specs.Prelude.{ℕ, ◌-◌, ◌||◌, ◌&&◌, nat_lt, Bool, false, List, [], ◌∷◌, ◌++◌, map, find, length, slice_get, is_some}
-use Rattle.std.specs.Prelude.{Option, Some, None, Result, Ok, Err, codes, if◌then◌else◌}
+use Rattle.std.specs.Prelude.{Option, Some, None, option_and_then, Result, Ok, Err, codes, if◌then◌else◌}
 use Rattle.std.specs.Char.{is_ascii_digit}
 use Rattle.std.specs.List.{list_all}
 use Rattle.std.specs.Str.{bytes_eq}
 use Rattle.fields.specs.text.Number.{number_of}
+use Rattle.rules.specs.Sequence.{refusal_of}
 use Rattle.rules.specs.rule.Rules as rules
 use Rattle.rules.specs.reading.Steps.{rule_of}
 use Rattle.rules.specs.declared.reading.fault.Refusal.{Refusal}
@@ -134,11 +135,32 @@ is_command (Some w) = is_some (find (is_name_of w) commands)
 abbrev pub word_at : ℕ → List (List ℕ) → ℕ → Option (List ℕ)
 word_at end words place = slice_get words (place - (end - length words))
 
+-- the place of the unknown option, where one is refused
+abbrev pub unknown_option : Refusal → Option ℕ
+unknown_option (refusal.UnknownOption place) = Some place
+unknown_option refusal.ValueMissing = None
+unknown_option refusal.BadValue = None
+unknown_option refusal.RepeatedOption = None
+unknown_option refusal.InversionNotAllowed = None
+unknown_option refusal.ProtocolNeeded = None
+unknown_option refusal.UnknownMatch = None
+unknown_option refusal.TooManyMatches = None
+unknown_option refusal.JumpAndGoto = None
+unknown_option refusal.TextTooLong = None
+unknown_option refusal.OtherTarget = None
+unknown_option refusal.MatchOptionMissing = None
+
+-- the same, where a command is refused
+abbrev pub unknown_in : CommandFault → Option ℕ
+unknown_in NoCommand = None
+unknown_in TwoCommands = None
+unknown_in WordCount = None
+unknown_in OtherTable = None
+unknown_in (Rule fault) = option_and_then unknown_option (refusal_of fault)
+
 -- an unknown option that is a command's name is a second command
 abbrev pub or_second : ℕ → List (List ℕ) → CommandFault → CommandFault
-or_second end words (Rule (Refused (refusal.UnknownOption place))) =
-    if is_command (word_at end words place) then TwoCommands else refused (refusal.UnknownOption place)
-or_second end words fault = fault
+or_second end words fault = if is_command (option_and_then (word_at end words) (unknown_in fault)) then TwoCommands else fault
 
 -- the command that the words write
 unfoldable pub command_of : Reader Command
