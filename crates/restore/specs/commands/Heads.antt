@@ -1,6 +1,5 @@
--- The words that write a command: its name, the words that follow it, and a rule where it takes one (iptables(8), "SYNOPSIS"
--- and "COMMANDS").
-use Rattle.std.specs.Prelude.{ℕ, ◌-◌, ◌||◌, ◌&&◌, nat_lt, Bool, false, List, [], ◌∷◌, ◌++◌, map, find, length, slice_get, is_some}
+-- The words that write a command: its name, and what it takes (iptables(8), "SYNOPSIS" and "COMMANDS").
+use Rattle.std.specs.Prelude.{ℕ, ◌-◌, ◌||◌, ◌&&◌, nat_lt, Bool, true, false, List, [], ◌∷◌, ◌++◌, map, find, length, slice_get, is_some}
 use Rattle.std.specs.Prelude.{Option, Some, None, option_and_then, Result, Ok, Err, codes, if◌then◌else◌}
 use Rattle.std.specs.Char.{is_ascii_digit}
 use Rattle.std.specs.List.{list_all}
@@ -15,48 +14,66 @@ use Rattle.rules.specs.declared.reading.fault.RuleFault.TheVariants.{Refused}
 use Rattle.table.specs.edits.Edits.{Edit, Append, Insert, Replace, DeleteAt, DeleteRule, Has, Flush, FlushAll, NewChain, DeleteChain}
 use Rattle.table.specs.edits.Edits.{DeleteChains, SetPolicy, Rename}
 use Rattle.restore.specs.Sequence.{◌>>=◌, or_refused, refused_as, made_into}
-use Rattle.restore.specs.commands.Command.{Command, Change, ListRules, CommandFault, NoCommand, TwoCommands, WordCount, OtherTable, Rule}
+use Rattle.restore.specs.commands.Command.{Command, Change, ListRules, CommandFault, NoCommand, TwoCommands, WordCount, OtherTable}
+use Rattle.restore.specs.declared.fault.CommandFault.TheVariants as fault
 
 -- a refusal of a value in the head, or of the rule
 abbrev pub refused : Refusal → CommandFault
-refused r = Rule (Refused r)
+refused r = fault.Rule (Refused r)
 
 -- what reads the words that are left, up to the end of the line; the number is the place after the last of them
 abbrev pub Reader : Type 0 → Type 0
 Reader A = ℕ → List (List ℕ) → Result A CommandFault
 
--- no word is left
-abbrev pub nothing : {A : Type 0} → A → Reader A
-nothing x end [] = Ok x
-nothing x end (w ∷ ws) = Err WordCount
+-- what a command takes after its name: a word as it is, a number, or a rule
+pub data Operand : Type 0 where
+  Word : Operand
+  Number : Operand
+  Rule : Operand
 
--- the next word, whatever it looks like
-abbrev pub word : {A : Type 0} → (List ℕ → Reader A) → Reader A
-word next end [] = Err WordCount
-word next end (w ∷ ws) = next w end ws
+-- a chain: a word as it is
+abbrev pub Chain : Operand
+Chain = Word
 
--- the next word, which is the last, or none
-abbrev pub perhaps : {A : Type 0} → A → (List ℕ → A) → Reader A
-perhaps alone next end [] = Ok alone
-perhaps alone next end (w ∷ ws) = nothing (next w) end ws
+-- a name for a chain: a word as it is
+abbrev pub Name : Operand
+Name = Word
 
--- the next word, which is a number
-abbrev pub number : {A : Type 0} → (ℕ → Reader A) → Reader A
-number next end [] = Err WordCount
-number next end (w ∷ ws) = or_refused (refused refusal.BadValue) (number_of w) >>= λ n. next n end ws
+-- a policy: a word as it is, and the table judges it
+abbrev pub Policy : Operand
+Policy = Word
+
+-- what makes a value of operands, in their order
+abbrev pub Takes : List Operand → Type 0 → Type 0
+Takes [] A = A
+Takes (Word ∷ os) A = List ℕ → Takes os A
+Takes (Number ∷ os) A = ℕ → Takes os A
+Takes (Rule ∷ os) A = rules.Rule → Takes os A
+
+-- the words are the operands, one for each, and a rule has all that are left; else a word is missing, or one is left over
+abbrev pub takes : {A : Type 0} → (os : List Operand) → Takes os A → Reader A
+takes [] made end [] = Ok made
+takes (Word ∷ os) make end (w ∷ ws) = takes os (make w) end ws
+takes (Number ∷ os) make end (w ∷ ws) = or_refused (refused refusal.BadValue) (number_of w) >>= λ n. takes os (make n) end ws
+takes (Rule ∷ os) make end words = refused_as refused (rule_of end words) >>= λ r. takes os (make r) end []
+takes os make end words = Err WordCount
 
 -- one or more digits
 abbrev pub is_digits : List ℕ → Bool
 is_digits text = nat_lt 0 (length text) && list_all is_ascii_digit text
 
--- the next word is a number where it is made of digits alone; else no number is there
-abbrev pub number_or_none : {A : Type 0} → (ℕ → Reader A) → Reader A → Reader A
-number_or_none next without end [] = without end []
-number_or_none next without end (w ∷ ws) = if is_digits w then number next end (w ∷ ws) else without end (w ∷ ws)
+-- the words fit the operands: none is missing, and a number is made of digits alone; a rule may have no words
+abbrev pub fits : List Operand → List (List ℕ) → Bool
+fits [] words = true
+fits (Word ∷ os) (w ∷ ws) = fits os ws
+fits (Number ∷ os) (w ∷ ws) = is_digits w && fits os ws
+fits (Rule ∷ os) words = true
+fits os words = false
 
--- the words that are left, as a rule
-abbrev pub rule : {A : Type 0} → (rules.Rule → A) → Reader A
-rule next end words = refused_as refused (made_into next (rule_of end words))
+infix 5 if_fits◌then◌else◌
+-- these operands where the words fit them, or else others
+abbrev pub if_fits◌then◌else◌ : {A : Type 0} → (os : List Operand) → Takes os A → Reader A → Reader A
+if_fits◌then◌else◌ os make others end words = if fits os words then takes os make end words else others end words
 
 -- a name, short and long, and what follows it
 pub record Head (A : Type 0) : Type 0 where
@@ -71,16 +88,16 @@ head short long follows = record { short = short; long = long; follows = follows
 -- the commands that edit the table
 abbrev pub edits : List (Head Edit)
 edits =
-    head (codes "-A") (codes "--append") (word (λ chain. rule (λ r. Append chain r)))
-    ∷ head (codes "-C") (codes "--check") (word (λ chain. rule (λ r. Has chain r)))
-    ∷ head (codes "-D") (codes "--delete") (word (λ chain. number_or_none (λ n. nothing (DeleteAt chain n)) (rule (λ r. DeleteRule chain r))))
-    ∷ head (codes "-I") (codes "--insert") (word (λ chain. number_or_none (λ n. rule (λ r. Insert chain n r)) (rule (λ r. Insert chain 1 r))))
-    ∷ head (codes "-R") (codes "--replace") (word (λ chain. number (λ n. rule (λ r. Replace chain n r))))
-    ∷ head (codes "-F") (codes "--flush") (perhaps FlushAll (λ chain. Flush chain))
-    ∷ head (codes "-X") (codes "--delete-chain") (perhaps DeleteChains (λ chain. DeleteChain chain))
-    ∷ head (codes "-N") (codes "--new-chain") (word (λ name. nothing (NewChain name)))
-    ∷ head (codes "-P") (codes "--policy") (word (λ chain. word (λ policy. nothing (SetPolicy chain policy))))
-    ∷ head (codes "-E") (codes "--rename-chain") (word (λ old. word (λ new. nothing (Rename old new))))
+    head (codes "-A") (codes "--append") (takes (Chain ∷ Rule ∷ []) Append)
+    ∷ head (codes "-C") (codes "--check") (takes (Chain ∷ Rule ∷ []) Has)
+    ∷ head (codes "-D") (codes "--delete") (if_fits Chain ∷ Number ∷ [] then DeleteAt else takes (Chain ∷ Rule ∷ []) DeleteRule)
+    ∷ head (codes "-I") (codes "--insert") (if_fits Chain ∷ Number ∷ Rule ∷ [] then Insert else takes (Chain ∷ Rule ∷ []) (λ chain. Insert chain 1))
+    ∷ head (codes "-R") (codes "--replace") (takes (Chain ∷ Number ∷ Rule ∷ []) Replace)
+    ∷ head (codes "-F") (codes "--flush") (if_fits Chain ∷ [] then Flush else takes [] FlushAll)
+    ∷ head (codes "-X") (codes "--delete-chain") (if_fits Chain ∷ [] then DeleteChain else takes [] DeleteChains)
+    ∷ head (codes "-N") (codes "--new-chain") (takes (Name ∷ []) NewChain)
+    ∷ head (codes "-P") (codes "--policy") (takes (Chain ∷ Policy ∷ []) SetPolicy)
+    ∷ head (codes "-E") (codes "--rename-chain") (takes (Chain ∷ Name ∷ []) Rename)
     ∷ []
 
 -- an edit is a command
@@ -89,7 +106,7 @@ changing h = head h.short h.long (λ end words. made_into Change (h.follows end 
 
 -- all commands
 abbrev pub commands : List (Head Command)
-commands = map changing edits ++ head (codes "-S") (codes "--list-rules") (perhaps (ListRules None) (λ chain. ListRules (Some chain))) ∷ []
+commands = map changing edits ++ head (codes "-S") (codes "--list-rules") (if_fits Chain ∷ [] then (λ chain. ListRules (Some chain)) else takes [] (ListRules None)) ∷ []
 
 -- the word is the short name or the long
 abbrev pub is_name_of : {A : Type 0} → List ℕ → Head A → Bool
@@ -156,7 +173,7 @@ unknown_in NoCommand = None
 unknown_in TwoCommands = None
 unknown_in WordCount = None
 unknown_in OtherTable = None
-unknown_in (Rule fault) = option_and_then unknown_option (refusal_of fault)
+unknown_in (fault.Rule f) = option_and_then unknown_option (refusal_of f)
 
 -- an unknown option that is a command's name is a second command
 abbrev pub or_second : ℕ → List (List ℕ) → CommandFault → CommandFault

@@ -1,11 +1,8 @@
 //! What follows the name of a command.
-ghost use Rattle.std.specs.Prelude.{length, drop, Some, None};
-ghost use Rattle.restore.specs.Sequence.{made_into};
-ghost use Rattle.restore.specs.commands.Command.{Change, IsRead, ListRules};
-ghost use Rattle.restore.specs.commands.Heads.{nothing, number, number_or_none, perhaps, rule, word};
+ghost use Rattle.std.specs.Prelude.{length, drop};
+ghost use Rattle.restore.specs.commands.Command.{IsRead};
 ghost use Rattle.restore.specs.steps.Reading.{row_of};
-ghost use Rattle.table.specs.edits.Edits.{Append, Insert, Replace, DeleteAt, DeleteRule, Has, Flush, FlushAll, NewChain, DeleteChain};
-ghost use Rattle.table.specs.edits.Edits.{DeleteChains, SetPolicy, Rename};
+ghost use Rattle.restore.specs.declared.command.head.Head.TheVariants as heads;
 
 use crate::command::Command;
 use crate::command::head::Head;
@@ -19,8 +16,7 @@ use std::alloc::Global;
 // A chain, and a rule to be put last.
 #[tactic(auto, using(crate::proofs::laws::commands::MemoryLaws::of_rule, crate::proofs::laws::commands::MemoryLaws::appended))]
 fn append<'a>(alloc: Global, words: &'a Words, place: usize) -> Result<Command<'a>, CommandFault>
-    ensures { IsRead result
-        (made_into Change (word (λ chain. rule (λ r. Append chain r)) (length words.now) (drop place words.now))) }
+    ensures { IsRead result ((row_of heads.Append).follows (length words.now) (drop place words.now)) }
 {
     let (chain, after) = next_word(words, place, CommandFault::WordCount)?;
     let rule = rule(alloc, words, after)?;
@@ -30,8 +26,7 @@ fn append<'a>(alloc: Global, words: &'a Words, place: usize) -> Result<Command<'
 // A chain, and a rule to be looked for.
 #[tactic(auto, using(crate::proofs::laws::commands::MemoryLaws::of_rule, crate::proofs::laws::commands::MemoryLaws::checked))]
 fn check<'a>(alloc: Global, words: &'a Words, place: usize) -> Result<Command<'a>, CommandFault>
-    ensures { IsRead result
-        (made_into Change (word (λ chain. rule (λ r. Has chain r)) (length words.now) (drop place words.now))) }
+    ensures { IsRead result ((row_of heads.Check).follows (length words.now) (drop place words.now)) }
 {
     let (chain, after) = next_word(words, place, CommandFault::WordCount)?;
     let rule = rule(alloc, words, after)?;
@@ -41,9 +36,7 @@ fn check<'a>(alloc: Global, words: &'a Words, place: usize) -> Result<Command<'a
 // A chain, and the number of a rule to be taken out or the rule itself.
 #[tactic(auto, using(crate::proofs::laws::commands::MemoryLaws::of_rule, crate::proofs::laws::commands::MemoryLaws::deleted))]
 fn delete<'a>(alloc: Global, words: &'a Words, place: usize) -> Result<Command<'a>, CommandFault>
-    ensures { IsRead result
-        (made_into Change (word (λ chain. number_or_none (λ n. nothing (DeleteAt chain n)) (rule (λ r. DeleteRule chain r)))
-        (length words.now) (drop place words.now))) }
+    ensures { IsRead result ((row_of heads.Delete).follows (length words.now) (drop place words.now)) }
 {
     let (chain, after) = next_word(words, place, CommandFault::WordCount)?;
     if let Some((number, after)) = next_number_if_digits(words, after)? {
@@ -57,9 +50,7 @@ fn delete<'a>(alloc: Global, words: &'a Words, place: usize) -> Result<Command<'
 // A chain, the number that a rule is to have, or else 1, and the rule.
 #[tactic(auto, using(crate::proofs::laws::commands::MemoryLaws::of_rule, crate::proofs::laws::commands::MemoryLaws::inserted))]
 fn insert<'a>(alloc: Global, words: &'a Words, place: usize) -> Result<Command<'a>, CommandFault>
-    ensures { IsRead result
-        (made_into Change (word (λ chain. number_or_none (λ n. rule (λ r. Insert chain n r)) (rule (λ r. Insert chain 1 r)))
-        (length words.now) (drop place words.now))) }
+    ensures { IsRead result ((row_of heads.Insert).follows (length words.now) (drop place words.now)) }
 {
     let (chain, after) = next_word(words, place, CommandFault::WordCount)?;
     match next_number_if_digits(words, after)? {
@@ -77,8 +68,7 @@ fn insert<'a>(alloc: Global, words: &'a Words, place: usize) -> Result<Command<'
 // A chain, the number of a rule, and the rule to stand there.
 #[tactic(auto, using(crate::proofs::laws::commands::MemoryLaws::of_rule, crate::proofs::laws::commands::MemoryLaws::replaced))]
 fn replace<'a>(alloc: Global, words: &'a Words, place: usize) -> Result<Command<'a>, CommandFault>
-    ensures { IsRead result
-        (made_into Change (word (λ chain. number (λ n. rule (λ r. Replace chain n r))) (length words.now) (drop place words.now))) }
+    ensures { IsRead result ((row_of heads.Replace).follows (length words.now) (drop place words.now)) }
 {
     let (chain, after) = next_word(words, place, CommandFault::WordCount)?;
     let (number, after) = next_number(words, after)?;
@@ -89,8 +79,7 @@ fn replace<'a>(alloc: Global, words: &'a Words, place: usize) -> Result<Command<
 // A chain to be emptied, or all.
 #[tactic(auto, using(crate::proofs::laws::commands::MemoryLaws::of_rule))]
 fn flush<'a>(words: &'a Words, place: usize) -> Result<Command<'a>, CommandFault>
-    ensures { IsRead result
-        (made_into Change (perhaps FlushAll (λ chain. Flush chain) (length words.now) (drop place words.now))) }
+    ensures { IsRead result ((row_of heads.Flush).follows (length words.now) (drop place words.now)) }
 {
     match last_word_if_any(words, place)? {
         Some(chain) => Ok(Command::Flush(chain)),
@@ -101,8 +90,7 @@ fn flush<'a>(words: &'a Words, place: usize) -> Result<Command<'a>, CommandFault
 // A chain to be taken away, or all user chains.
 #[tactic(auto, using(crate::proofs::laws::commands::MemoryLaws::of_rule))]
 fn delete_chain<'a>(words: &'a Words, place: usize) -> Result<Command<'a>, CommandFault>
-    ensures { IsRead result
-        (made_into Change (perhaps DeleteChains (λ chain. DeleteChain chain) (length words.now) (drop place words.now))) }
+    ensures { IsRead result ((row_of heads.DeleteChain).follows (length words.now) (drop place words.now)) }
 {
     match last_word_if_any(words, place)? {
         Some(chain) => Ok(Command::DeleteChain(chain)),
@@ -113,8 +101,7 @@ fn delete_chain<'a>(words: &'a Words, place: usize) -> Result<Command<'a>, Comma
 // The name of a chain to be made.
 #[tactic(auto, using(crate::proofs::laws::commands::MemoryLaws::of_rule))]
 fn new_chain<'a>(words: &'a Words, place: usize) -> Result<Command<'a>, CommandFault>
-    ensures { IsRead result
-        (made_into Change (word (λ name. nothing (NewChain name)) (length words.now) (drop place words.now))) }
+    ensures { IsRead result ((row_of heads.NewChain).follows (length words.now) (drop place words.now)) }
 {
     let name = last_word(words, place)?;
     Ok(Command::NewChain(name))
@@ -123,8 +110,7 @@ fn new_chain<'a>(words: &'a Words, place: usize) -> Result<Command<'a>, CommandF
 // A chain, and its policy.
 #[tactic(auto, using(crate::proofs::laws::commands::MemoryLaws::of_rule))]
 fn policy<'a>(words: &'a Words, place: usize) -> Result<Command<'a>, CommandFault>
-    ensures { IsRead result
-        (made_into Change (word (λ chain. word (λ policy. nothing (SetPolicy chain policy))) (length words.now) (drop place words.now))) }
+    ensures { IsRead result ((row_of heads.Policy).follows (length words.now) (drop place words.now)) }
 {
     let (chain, after) = next_word(words, place, CommandFault::WordCount)?;
     let policy = last_word(words, after)?;
@@ -134,8 +120,7 @@ fn policy<'a>(words: &'a Words, place: usize) -> Result<Command<'a>, CommandFaul
 // A chain, and its new name.
 #[tactic(auto, using(crate::proofs::laws::commands::MemoryLaws::of_rule))]
 fn rename<'a>(words: &'a Words, place: usize) -> Result<Command<'a>, CommandFault>
-    ensures { IsRead result
-        (made_into Change (word (λ old. word (λ new. nothing (Rename old new))) (length words.now) (drop place words.now))) }
+    ensures { IsRead result ((row_of heads.Rename).follows (length words.now) (drop place words.now)) }
 {
     let (old, after) = next_word(words, place, CommandFault::WordCount)?;
     let new = last_word(words, after)?;
@@ -145,8 +130,7 @@ fn rename<'a>(words: &'a Words, place: usize) -> Result<Command<'a>, CommandFaul
 // A chain whose rules are to be listed, or all.
 #[tactic(auto, using(crate::proofs::laws::commands::MemoryLaws::of_rule))]
 fn list_rules<'a>(words: &'a Words, place: usize) -> Result<Command<'a>, CommandFault>
-    ensures { IsRead result
-        (perhaps (ListRules None) (λ chain. ListRules (Some chain)) (length words.now) (drop place words.now)) }
+    ensures { IsRead result ((row_of heads.ListRules).follows (length words.now) (drop place words.now)) }
 {
     let chain = last_word_if_any(words, place)?;
     Ok(Command::ListRules(chain))

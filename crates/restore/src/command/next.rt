@@ -1,8 +1,9 @@
 //! The words of a command, one after another.
-ghost use Rattle.std.specs.Prelude.{◌≡◌, length, drop, Some, None, option_map};
-ghost use Rattle.restore.specs.Sequence.{Gives, made_into};
+ghost use Rattle.std.specs.Prelude.{◌≡◌, [], ◌∷◌, length, drop, Some, None, option_map};
+ghost use Rattle.rules.specs.reading.Steps.{rule_of};
+ghost use Rattle.restore.specs.Sequence.{Gives, made_into, refused_as};
 ghost use Rattle.restore.specs.commands.Command.{is_out_of_memory};
-ghost use Rattle.restore.specs.commands.Heads.{nothing, perhaps, rule, word};
+ghost use Rattle.restore.specs.commands.Heads.{Word, if_fits◌then◌else◌, refused, takes};
 ghost use Rattle.restore.specs.steps.Reading.{next_number, next_number_if_digits, next_or};
 
 use crate::command::digits::is_digits;
@@ -27,7 +28,7 @@ pub(crate) fn next_word<'a>(
 
 // No word is left.
 pub(crate) fn nothing(words: &Words, place: usize) -> Result<(), CommandFault>
-    ensures { result ≡ nothing tt (length words.now) (drop place words.now) }
+    ensures { result ≡ takes [] tt (length words.now) (drop place words.now) }
 {
     if place < words.len() {
         return Err(CommandFault::WordCount);
@@ -37,7 +38,7 @@ pub(crate) fn nothing(words: &Words, place: usize) -> Result<(), CommandFault>
 
 // The word at a place, which is the last.
 pub(crate) fn last_word<'a>(words: &'a Words, place: usize) -> Result<&'a [u8], CommandFault>
-    ensures { made_into (λ w. w.now) result ≡ word (λ w. nothing w) (length words.now) (drop place words.now) }
+    ensures { made_into (λ w. w.now) result ≡ takes (Word ∷ []) (λ w. w) (length words.now) (drop place words.now) }
 {
     let (word, after) = next_word(words, place, CommandFault::WordCount)?;
     nothing(words, after)?;
@@ -49,7 +50,8 @@ pub(crate) fn last_word_if_any<'a>(
     words: &'a Words,
     place: usize,
 ) -> Result<Option<&'a [u8]>, CommandFault>
-    ensures { made_into (option_map (λ w. w.now)) result ≡ perhaps None (λ w. Some w) (length words.now) (drop place words.now) }
+    ensures { made_into (option_map (λ w. w.now)) result
+        ≡ (if_fits Word ∷ [] then (λ w. Some w) else takes [] None) (length words.now) (drop place words.now) }
 {
     if place >= words.len() {
         return Ok(None);
@@ -60,7 +62,7 @@ pub(crate) fn last_word_if_any<'a>(
 
 // The word at a place as a number, and the place after it.
 pub(crate) fn next_number(words: &Words, place: usize) -> Result<(usize, usize), CommandFault>
-    ensures { made_into (λ p. (p.0, drop p.1 words.now)) result ≡ next_number (length words.now) (drop place words.now) }
+    ensures { made_into (λ p. (p.0, drop p.1 words.now)) result ≡ next_number (drop place words.now) }
 {
     let (word, after) = next_word(words, place, CommandFault::WordCount)?;
     match read_number(word) {
@@ -75,7 +77,7 @@ pub(crate) fn next_number_if_digits(
     place: usize,
 ) -> Result<Option<(usize, usize)>, CommandFault>
     ensures { made_into (option_map (λ p. (p.0, drop p.1 words.now))) result
-        ≡ next_number_if_digits (length words.now) (drop place words.now) }
+        ≡ next_number_if_digits (drop place words.now) }
 {
     if place >= words.len() {
         return Ok(None);
@@ -89,7 +91,7 @@ pub(crate) fn next_number_if_digits(
 
 // The words from a place on, as a rule.
 pub(crate) fn rule(alloc: Global, words: &Words, place: usize) -> Result<Rule, CommandFault>
-    ensures { Gives is_out_of_memory (λ r. r) result (rule (λ r. r) (length words.now) (drop place words.now)) }
+    ensures { Gives is_out_of_memory (λ r. r) result (refused_as refused (rule_of (length words.now) (drop place words.now))) }
 {
     match read_rule(alloc, words, place) {
         Ok(rule) => Ok(rule),

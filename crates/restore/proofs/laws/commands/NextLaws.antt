@@ -4,11 +4,9 @@ use Rattle.std.proofs.Common.{List, [], ◌∷◌, length, drop, slice_get, get_
 use Rattle.std.proofs.Math.Seq.{drop-cons}
 use Rattle.std.proofs.lemmas.List.{drop_all}
 use Rattle.std.proofs.lemmas.Option.{get_or_from_slice_get, slice_get_cases, slice_get_within}
-use Rattle.fields.specs.text.Number.{number_of}
-use Rattle.rules.specs.declared.reading.fault.Refusal.TheVariants as refusal
-use Rattle.restore.specs.Sequence.{◌>>=◌, made_into, or_refused}
+use Rattle.restore.specs.Sequence.{made_into}
 use Rattle.restore.specs.commands.Command.{CommandFault, WordCount}
-use Rattle.restore.specs.commands.Heads.{Reader, is_digits, nothing, number, perhaps, refused, word}
+use Rattle.restore.specs.commands.Heads.{Reader, Word, if_fits◌then◌else◌, is_digits, takes}
 use Rattle.restore.specs.steps.Reading.{next_number, next_number_if_digits, next_or}
 
 -- the words from the place of a word on
@@ -42,15 +40,15 @@ word_there fault ws n =
 
 -- a word is left
 pub one_left : (end : ℕ) (ws : List (List ℕ)) (n : ℕ)
-    → n < length ws → Err WordCount ≡ nothing {A = Unit {0}} tt end (drop n ws)
-one_left end ws n within = sym (ap (nothing {A = Unit {0}} tt end) (drop-cons ws n [] within))
+    → n < length ws → Err WordCount ≡ takes {A = Unit {0}} [] tt end (drop n ws)
+one_left end ws n within = sym (ap (takes {A = Unit {0}} [] tt end) (drop-cons ws n [] within))
 
 -- the last word, and the last word or none
 abbrev last : Reader (List ℕ)
-last = word (λ w. nothing w)
+last = takes (Word ∷ []) (λ w. w)
 
 abbrev last_if_any : Reader (Option (List ℕ))
-last_if_any = perhaps None (λ w. Some w)
+last_if_any = if_fits Word ∷ [] then (λ w. Some w) else takes [] None
 
 -- where a word is left, both read it
 any_last : (end : ℕ) (w : List ℕ) (ws : List (List ℕ)) → last_if_any end (w ∷ ws) ≡ made_into (λ w. Some w) (last end (w ∷ ws))
@@ -66,35 +64,20 @@ last_fails end ws n e within is =
     ∙ sym (any_last end (get_or ws n []) (drop (suc n) ws))
     ∙ sym (ap (last_if_any end) front)
 
--- a number and the words after it, and a number that may be missing
-abbrev with_rest : List (List ℕ) → ℕ → Result (ℕ × List (List ℕ)) CommandFault
-with_rest ws n = Ok (n, ws)
-
-abbrev some_with_rest : List (List ℕ) → ℕ → Result (Option (ℕ × List (List ℕ))) CommandFault
-some_with_rest ws n = Ok (Some (n, ws))
-
 -- the next word as a number, where it is made of digits
-abbrev by_digits : ℕ → List ℕ → List (List ℕ) → Bool → Result (Option (ℕ × List (List ℕ))) CommandFault
-by_digits end w ws b = if b then number (λ n end words. Ok (Some (n, words))) end (w ∷ ws) else Ok None
+abbrev by_digits : List ℕ → List (List ℕ) → Bool → Result (Option (ℕ × List (List ℕ))) CommandFault
+by_digits w ws b = if b then made_into (λ p. Some p) (next_number (w ∷ ws)) else Ok None
 
 -- a word that isn't made of digits
-pub no_digits : (end : ℕ) (ws : List (List ℕ)) (n : ℕ) (w : List ℕ)
-    → slice_get ws n ≡ Some w → is_digits w ≡ false → Ok None ≡ next_number_if_digits end (drop n ws)
-no_digits end ws n w here is =
-    sym (ap (next_number_if_digits end) (drop_next ws n w here) ∙ ap (by_digits end w (drop (n + 1) ws)) is)
+pub no_digits : (ws : List (List ℕ)) (n : ℕ) (w : List ℕ)
+    → slice_get ws n ≡ Some w → is_digits w ≡ false → Ok None ≡ next_number_if_digits (drop n ws)
+no_digits ws n w here is = sym (ap next_number_if_digits (drop_next ws n w here) ∙ ap (by_digits w (drop (n + 1) ws)) is)
 
 -- a word of digits
-digits_here : (end : ℕ) (w : List ℕ) (ws : List (List ℕ)) → by_digits end w ws true ≡ made_into (λ p. Some p) (next_number end (w ∷ ws))
-digits_here end w ws =
-    elim (number_of w)
-    as (λ o. (or_refused (refused refusal.BadValue) o >>= some_with_rest ws)
-    ≡ made_into (λ p. Some p) (or_refused (refused refusal.BadValue) o >>= with_rest ws)) [ Some n ↦ refl | None ↦ refl ]
-
-pub digits_next : (end : ℕ) (ws : List (List ℕ)) (n : ℕ) (w : List ℕ) (r : Result (ℕ × List (List ℕ)) CommandFault)
-    → slice_get ws n ≡ Some w → is_digits w ≡ true → r ≡ next_number end (drop n ws)
-    → made_into (λ p. Some p) r ≡ next_number_if_digits end (drop n ws)
-digits_next end ws n w r here digits is =
+pub digits_next : (ws : List (List ℕ)) (n : ℕ) (w : List ℕ) (r : Result (ℕ × List (List ℕ)) CommandFault)
+    → slice_get ws n ≡ Some w → is_digits w ≡ true → r ≡ next_number (drop n ws)
+    → made_into (λ p. Some p) r ≡ next_number_if_digits (drop n ws)
+digits_next ws n w r here digits is =
     let front : drop n ws ≡ w ∷ drop (n + 1) ws = drop_next ws n w here in
-    ap (λ r. made_into (λ p. Some p) r) (is ∙ ap (next_number end) front)
-    ∙ sym (digits_here end w (drop (n + 1) ws))
-    ∙ sym (ap (next_number_if_digits end) front ∙ ap (by_digits end w (drop (n + 1) ws)) digits)
+    ap (λ r. made_into (λ p. Some p) r) (is ∙ ap next_number front)
+    ∙ sym (ap next_number_if_digits front ∙ ap (by_digits w (drop (n + 1) ws)) digits)

@@ -185,7 +185,7 @@ append_of : (end : ℕ) (name : List ℕ) (words : List (List ℕ)) (r : Rule) �
     → edit_of end (codes "-A" ∷ name ∷ words) ≡ Ok (Append name r)
 unfolding edit_of
 append_of end name words r read =
-    ap (λ (q : Result Rule Refusal). refused_as (or_second end (codes "-A" ∷ name ∷ words)) (refused_as refused (made_into (λ x. Append name x) q))) read
+    ap (λ (q : Result Rule Refusal). refused_as (or_second end (codes "-A" ∷ name ∷ words)) (refused_as refused q >>= λ x. Ok (Append name x))) read
 
 rule_asks : (s : Section) (name : List ℕ) (words : List (List ℕ)) (r : Rule) → ((end : ℕ) → rule_of end words ≡ Ok r)
     → asked_by s (codes "-A" ∷ name ∷ words) ≡ Ok (by_command (Append name r))
