@@ -53,8 +53,7 @@ done (Err f) old new u a = absurd (ok≢err u f a.0)
 
 done_of : (edit : Edit) (old new : TableView) (u : Unit {0}) (grows : Bool)
     → MatchBool grows (IsStepIfRoom edit old new (Ok u)) (Answers (table_step edit old.table) old new (Ok u)) → table_step edit old.table ≡ Ok new.table
-done_of edit old new u true (inl a) = done (table_step edit old.table) old new u a
-done_of edit old new u true (inr o) = absurd (ok≢err u OutOfMemory o.1)
+done_of edit old new u true a = a.0
 done_of edit old new u false a = done (table_step edit old.table) old new u a
 
 pub edit_comes : (c : Command) (old new : TableView) (u : Unit {0}) (t : made.Turn) → IsChange c → IsApplied c old new (Ok u) → t.spot ≡ Outside → t.reply ≡ Ok answers.Nothing
@@ -72,9 +71,9 @@ refused (Err g) old new f t a s r = fails_on old new t Outside (of_line (OfTable
 refused_of : (edit : Edit) (old new : TableView) (f : TableFault) (t : made.Turn) (grows : Bool)
     → MatchBool grows (IsStepIfRoom edit old new (Err f)) (Answers (table_step edit old.table) old new (Err f))
     → t.spot ≡ Outside → t.reply ≡ Err (of_line (OfTable f)) → Comes (edit_turn old.table (table_step edit old.table)) Outside old new t
-refused_of edit old new f t true (inl a) s r = inl (refused (table_step edit old.table) old new f t a s r)
-refused_of edit old new f t true (inr o) s r =
-    inr (record { table = o.2; spot = s; reply = r ∙ ap (λ (x : TableFault). Err (of_line (OfTable x))) (err_is f OutOfMemory o.1) })
+refused_of edit old new OutOfMemory t true a s r = inr (record { table = a.1.0; spot = s; reply = r })
+refused_of edit old new f t true a s r =
+    inl (subst (λ (x : Result Table TableFault). IsTurn (edit_turn old.table x) new t) (sym a.0) (fails_on old new t Outside (of_line (OfTable f)) a.1.0 s r))
 refused_of edit old new f t false a s r = inl (refused (table_step edit old.table) old new f t a s r)
 
 pub refused_comes : (c : Command) (old new : TableView) (f : TableFault) (t : made.Turn) → IsChange c → IsApplied c old new (Err f) → t.spot ≡ Outside → t.reply ≡ Err (of_line (OfTable f))
