@@ -1,28 +1,11 @@
 //! The cases: the calls that promise to take no memory.
 use crate::trouble::Trouble;
-use crate::{classifiers, lent, listings, planted, restores, rulings, tables, taps, values};
+use crate::{chains, classifiers, lent, listings, planted, restores, rulings, tables, taps};
 use std::alloc::Global;
 
 /// Which calls are made. Each case makes all calls of one kind of value, and compares their answers.
 #[derive(Clone, Copy, PartialEq, Eq)]
 pub enum Case {
-    Numbers,
-    Names,
-    Prefix,
-    Interface,
-    IpRange,
-    Protocol,
-    PortRange,
-    PortList,
-    Ttl,
-    TcpFlags,
-    FlagTest,
-    States,
-    IcmpType,
-    RejectType,
-    LogLevel,
-    ChainName,
-    Text,
     Packet,
     Words,
     Spans,
@@ -46,6 +29,9 @@ pub enum Case {
     Flush,
     FlushAll,
     Policy,
+    Rename,
+    DeleteChain,
+    DeleteChains,
     Verdict,
     TableViews,
     RestoreEnds,
@@ -61,24 +47,7 @@ pub enum Case {
 
 impl Case {
     /// All cases.
-    pub const ALL: [Case; 51] = [
-        Case::Numbers,
-        Case::Names,
-        Case::Prefix,
-        Case::Interface,
-        Case::IpRange,
-        Case::Protocol,
-        Case::PortRange,
-        Case::PortList,
-        Case::Ttl,
-        Case::TcpFlags,
-        Case::FlagTest,
-        Case::States,
-        Case::IcmpType,
-        Case::RejectType,
-        Case::LogLevel,
-        Case::ChainName,
-        Case::Text,
+    pub const ALL: [Case; 37] = [
         Case::Packet,
         Case::Words,
         Case::Spans,
@@ -102,6 +71,9 @@ impl Case {
         Case::Flush,
         Case::FlushAll,
         Case::Policy,
+        Case::Rename,
+        Case::DeleteChain,
+        Case::DeleteChains,
         Case::Verdict,
         Case::TableViews,
         Case::RestoreEnds,
@@ -118,23 +90,6 @@ impl Case {
     /// The word that asks for the case.
     pub fn name(self) -> &'static str {
         match self {
-            Case::Numbers => "numbers",
-            Case::Names => "names",
-            Case::Prefix => "prefix",
-            Case::Interface => "interface",
-            Case::IpRange => "ip-range",
-            Case::Protocol => "protocol",
-            Case::PortRange => "port-range",
-            Case::PortList => "port-list",
-            Case::Ttl => "ttl",
-            Case::TcpFlags => "tcp-flags",
-            Case::FlagTest => "flag-test",
-            Case::States => "states",
-            Case::IcmpType => "icmp-type",
-            Case::RejectType => "reject-type",
-            Case::LogLevel => "log-level",
-            Case::ChainName => "chain-name",
-            Case::Text => "text",
             Case::Packet => "packet",
             Case::Words => "words",
             Case::Spans => "spans",
@@ -158,6 +113,9 @@ impl Case {
             Case::Flush => "flush",
             Case::FlushAll => "flush-all",
             Case::Policy => "set-policy",
+            Case::Rename => "rename",
+            Case::DeleteChain => "delete-chain",
+            Case::DeleteChains => "delete-chains",
             Case::Verdict => "verdict",
             Case::TableViews => "table-views",
             Case::RestoreEnds => "restore-ends",
@@ -175,23 +133,6 @@ impl Case {
     /// Makes what the calls need, and then the calls so many times.
     pub fn run(self, alloc: Global, times: u32) -> Result<(), Trouble> {
         match self {
-            Case::Numbers => values::numbers(times),
-            Case::Names => values::names(times),
-            Case::Prefix => values::prefix(times),
-            Case::Interface => values::interface(times),
-            Case::IpRange => values::ip_range(times),
-            Case::Protocol => values::protocol(times),
-            Case::PortRange => values::port_range(times),
-            Case::PortList => values::port_list(times),
-            Case::Ttl => values::ttl(times),
-            Case::TcpFlags => values::tcp_flags(times),
-            Case::FlagTest => values::flag_test(times),
-            Case::States => values::states(times),
-            Case::IcmpType => values::icmp_type(times),
-            Case::RejectType => values::reject_type(times),
-            Case::LogLevel => values::log_level(times),
-            Case::ChainName => values::chain_name(times),
-            Case::Text => values::text(times),
             Case::Packet => lent::packet(alloc, times),
             Case::Words => lent::words(alloc, times),
             Case::Spans => lent::spans(alloc, times),
@@ -215,6 +156,9 @@ impl Case {
             Case::Flush => tables::flush(alloc, times),
             Case::FlushAll => tables::flush_all(alloc, times),
             Case::Policy => tables::set_policy(alloc, times),
+            Case::Rename => chains::rename(alloc, times),
+            Case::DeleteChain => chains::delete_chain(alloc, times),
+            Case::DeleteChains => chains::delete_chains(alloc, times),
             Case::Verdict => tables::verdict(alloc, times),
             Case::TableViews => tables::views(alloc, times),
             Case::RestoreEnds => restores::ends(alloc, times),

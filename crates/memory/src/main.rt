@@ -4,7 +4,7 @@
 //! succeeds and its answer is right. Lines have up to 10,240 bytes, rules 16 matches, chains 8,192 rules, and tables
 //! 1,024 user chains.
 //!
-//! With a case and a number as its input, as `prefix 1000`, it makes the calls of the case so often, all of which
+//! With a case and a number as its input, as `lines 1000`, it makes the calls of the case so often, all of which
 //! promise to take no memory. After the calls it takes memory and gives it back until that is refused once, and
 //! prints how often it got it. So where one allocation of the run is refused, a late one, this number says how often
 //! the run took memory before: the fewer are left, the more were made. With the input `cases` it prints the cases.
@@ -14,6 +14,7 @@ ghost use Rattle.std.specs.Prelude.{◌≤◌};
 
 mod ample;
 mod case;
+mod chains;
 mod classifiers;
 mod compared;
 mod lent;
@@ -24,7 +25,6 @@ mod rulings;
 mod tables;
 mod taps;
 mod trouble;
-mod values;
 
 use crate::ample::{
     classifiers as full, lines, restores as dumps, rows, rulings as long, sets, tables as limits,
