@@ -1,0 +1,146 @@
+"""The parts of a rule, as iptables reads its words, for bin/fit."""
+
+import collections
+
+import extensions
+from program import words_of
+from refused import COUNTERS, TABLE_OPTIONS
+
+# An option of a rule: its words are those from `first`, which may be `!`, to `last`; its name stands at `at`.
+Part = collections.namedtuple("Part", "option owner inverted first at last values")
+
+
+class Unclear(Exception):
+    """Why the parts of a line can't be told."""
+
+
+class Owner:
+    """A match that a rule has begun, or its target: its words from `first` on, or none where `-p` began it, and its options."""
+
+    def __init__(self, extension, part):
+        self.extension, self.part, self.options = extension, part, []
+        self.spelled = False
+
+    def unknown_options(self):
+        """Those of its options that the program doesn't know, where they aren't spelled as others."""
+        return [] if self.spelled else [part for part in self.options if part.option.place != "="]
+
+
+class Rule:
+    """The parts of a line that has a command with a rule; Unclear where they can't be told."""
+
+    def __init__(self, line, names):
+        self.line, self.names = line, names
+        self.words = words_of(line)
+        self.parts, self.matches, self.glued = [], [], []
+        self.target, self.protocol = None, None
+        if not self.words:
+            raise Unclear
+        self.read_head()
+        while self.parts_end() < len(self.words):
+            self.read_part(self.parts_end())
+
+    def parts_end(self):
+        return self.parts[-1].last + 1 if self.parts else self.head
+
+    def value(self, at):
+        if at >= len(self.words):
+            raise Unclear
+        return self.words[at].value
+
+    def read_head(self):
+        """The command with its chain and number: `head` is the place of the first word after them."""
+        at = 1 if COUNTERS.fullmatch(self.words[0].value) else 0
+        at += 2 if self.value(at) in TABLE_OPTIONS else 0
+        name = self.value(at)
+        found = extensions.exact(name, [extensions.COMMAND]) or extensions.begun(name, [extensions.RULE, extensions.COMMAND])
+        self.command = found[1].names[0] if found else None
+        if self.command not in (b"-A", b"-I", b"-R", b"-D", b"-C"):
+            raise Unclear
+        self.command_at, self.chain = at, self.value(at + 1)
+        self.numbered = at + 2 < len(self.words) and self.words[at + 2].value.isdigit() and self.command in (b"-I", b"-R", b"-D")
+        self.head = at + 2 + self.numbered
+
+    def read_part(self, first):
+        """One option with its values."""
+        at = first + (self.value(first) == b"!")
+        owner, option = self.option_at(at)
+        extension = owner.extension if isinstance(owner, Owner) else owner
+        if extension is extensions.COMMAND:
+            raise Unclear
+        last = at + len(option.values)
+        self.value(last)
+        part = Part(option, owner, at > first, first, at, last, self.words[at + 1:last + 1])
+        self.parts.append(part)
+        if isinstance(owner, Owner):
+            owner.options.append(part)
+        else:
+            self.take(part)
+
+    def take(self, part):
+        """An option that is no match's and no target's own."""
+        name = part.option.names[0]
+        if part.inverted and name in (b"-m", b"-j", b"-g", b"-4"):
+            raise Unclear
+        if name == b"-m":
+            if part.values[0].value not in extensions.MATCHES:
+                raise Unclear
+            self.matches.append(Owner(extensions.MATCHES[part.values[0].value], part))
+        elif name in (b"-j", b"-g"):
+            target = part.values[0].value
+            self.target = Owner(extensions.TARGETS.get(target) or extensions.Extension("chain", target, (), ()), part)
+        elif name == b"-p" and not part.inverted:
+            self.protocol = self.names.protocol(part.values[0].value)
+
+    def option_at(self, at):
+        """The owner of the option that stands at a place, and the option. A value that is written onto it by `=` becomes a word."""
+        word = self.value(at)
+        started = [*reversed(self.matches), *([self.target] if self.target else [])]
+        found = self.resolve(word, started)
+        if not found and word.startswith(b"--") and b"=" in word and self.line[self.words[at].start:self.words[at].end] == word:
+            found = self.resolve(word[:word.index(b"=")], started)
+            if found and isinstance(found[0], Owner):
+                self.glued.append((at, word))
+                place = self.words[at].start + word.index(b"=")
+                self.line = self.line[:place] + b" " + self.line[place + 1:]
+                self.words = words_of(self.line)
+        if not found or not self.words:
+            raise Unclear
+        return found
+
+    def resolve(self, name, started):
+        """An option by its name or, where it is the only one, by a beginning of it: of what was started, and else of what `-p` starts."""
+        owners = {}
+        for owner in started:
+            owners.setdefault(owner.extension, owner)
+        known = [extensions.RULE, *owners, extensions.COMMAND]
+        found = extensions.exact(name, known) or extensions.begun(name, known)
+        implied = extensions.MATCHES.get(extensions.OF_PROTOCOL.get(self.protocol))
+        if not found and implied and implied not in owners:
+            found = extensions.exact(name, [implied]) or extensions.begun(name, [implied])
+            if found:
+                self.matches.append(Owner(implied, None))
+                owners[implied] = self.matches[-1]
+        return found and (owners.get(found[0], found[0]), found[1])
+
+    def protocol_for(self, part):
+        """The name of the protocol by which names of ports are looked up; None where there is none yet."""
+        name = part.owner.extension.name if isinstance(part.owner, Owner) else b""
+        return extensions.PROTOCOLS.get(self.protocol_before(part.first)) if name == b"multiport" else name
+
+    def protocol_before(self, first):
+        """The number of the protocol that stands before a place."""
+        found = [part.values[0].value for part in self.parts if part.option.names[0] == b"-p" and not part.inverted and part.first < first]
+        return self.names.protocol(found[-1]) if found else None
+
+    def text(self, first, last):
+        return self.line[self.words[first].start:self.words[last].end]
+
+    def text_of_parts(self, parts):
+        return b" ".join(self.text(part.first, part.last) for part in parts)
+
+    def text_of(self, owner):
+        """The words of a target, or of what the program doesn't know of a match and, where that is all, its name."""
+        known = extensions.is_known(owner.extension)
+        parts = owner.unknown_options() if known else owner.options
+        return self.text_of_parts(parts if known or not owner.part else [owner.part, *parts])
