@@ -39,8 +39,9 @@ class Assumption:
             extension, self.words = extensions.TARGETS[self.name], []
         else:
             raise Wrong(f"--assume '{text}' is not MATCH=true, MATCH=false or TARGET=ACCEPT, with a name that bin/fit knows")
-        if extension.kind in ("ends", "passes") or all(option.place == "=" for option in extension.options) and extension.options:
-            raise Wrong(f"--assume '{text}': the program knows {self.name.decode()}")
+        if extension.kind in ("ends", "passes") or extension.options and all(option.place == "=" for option in extension.options):
+            why = "decides nothing" if extension.kind == "passes" else "is known to the program"
+            raise Wrong(f"--assume '{text}': {self.name.decode()} {why}")
 
     @staticmethod
     def listed(word, extension):

@@ -87,9 +87,11 @@ class Names:
 
 
 def port_range(names, text, protocol):
-    """A port, or two with `:` between; an end that is missing stays so."""
-    ends = [decimal(names.port(end, protocol)) if end else b"" for end in text.split(b":")]
-    return None if None in ends or len(ends) > 2 or ends == [b""] else b":".join(ends)
+    """A port, or two with `:` between of which the first isn't above the second; an end that is missing stays so."""
+    ends = [names.port(end, protocol) if end else b"" for end in text.split(b":")]
+    if None in ends or len(ends) > 2 or ends == [b""] or b"" not in ends and ends != sorted(ends):
+        return None
+    return b":".join(decimal(end) if end != b"" else end for end in ends)
 
 
 def ports(names, text, protocol):
