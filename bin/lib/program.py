@@ -1,4 +1,4 @@
-"""What bin/check and bin/expect share: how the program is found and asked, how files and words are read, how a script ends.
+"""What bin/check, bin/fit and bin/expect share: how the program is found and asked, how files and words are read, how a script ends.
 
 The program is the one that the environment variable IPTSIM names, and else bin/quick. bin/iptsim is never called from here: it may
 begin to prove.
