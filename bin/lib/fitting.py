@@ -45,6 +45,7 @@ class Assumption:
 
     @staticmethod
     def listed(word, extension):
+        """A word, or the first name of the option that it is."""
         found = extensions.exact(word, [extension])
         return found[1].names[0] if found else word
 
@@ -68,6 +69,7 @@ def assumed(assumptions, condition):
 
 
 def words_of_part(part):
+    """An option by its first name, with its values."""
     return [part.option.names[0], *(word.value for word in part.values)]
 
 
@@ -119,8 +121,9 @@ class Edits:
             self.lists[part.option.names[0]] = place
 
     def remove(self, part):
-        if part:
-            self.pieces[self.rule.words[part.first - 1].end, self.rule.words[part.last].end] = [b""]
+        end = self.rule.words[part.last].end
+        self.pieces.pop((self.rule.words[part.first].start, end), None)
+        self.pieces[self.rule.words[part.first - 1].end, end] = [b""]
 
     def never(self):
         """Makes the rule one that matches no packet: its source is no address."""
@@ -229,10 +232,11 @@ class Fitting:
                 self.spell_ports(edits, match)
 
     def spell_part(self, edits, part):
+        """One option with its values; of a list of addresses each."""
         rule, label = edits.rule, None
         typed = rule.value(part.at)
         name = typed if typed in part.option.names and typed != b"--fragments" else part.option.names[0]
-        glued = b"=" in dict(rule.glued).get(part.at, b"")
+        glued = rule.glued.get(part.at)
         if name != typed or glued:
             label = "option written out"
         values = []
@@ -243,9 +247,7 @@ class Fitting:
             values.append(spelled)
         if label:
             texts = [b" ".join([b"!"] * part.inverted + [name, *each]) for each in itertools.product(*values)]
-            old = rule.text(part.first, part.last)
-            if glued:
-                old = b"! " * part.inverted + dict(rule.glued)[part.at]
+            old = b"! " * part.inverted + glued if glued else rule.text(part.first, part.last)
             edits.put(part, texts)
             edits.say(b"%s: %s -> %s" % (label.encode(), old, b", ".join(texts)))
 
@@ -256,9 +258,10 @@ class Fitting:
         if match.options and len(ranges) == len(match.options) and None not in ranges:
             old = edits.rule.text_of(match)
             texts = [b"! " * part.inverted + PORTS[part.option.names[0]] + b" " + each for part, each in zip(match.options, ranges)]
-            edits.remove(match.part)
             for part, text in zip(match.options, texts):
                 edits.put(part, [b"-m multiport " + text])
+            if match.part:
+                edits.remove(match.part)
             edits.say(b"ports by multiport: %s -> %s" % (old, b" ".join(b"-m multiport " + text for text in texts)))
             match.spelled = True
 
@@ -305,16 +308,15 @@ class Fitting:
 
     def assume(self, number, edits):
         """Puts assumptions in place of what a rule that decides asks or does and the program doesn't know."""
-        asked = [(match, condition, assumed(self.assumptions, condition)) for match in edits.rule.matches for condition in conditions(match)]
+        asked = [(match, condition, assumed(self.assumptions, condition))
+                 for match in edits.rule.matches for condition in conditions(match)]
         failed = [(match, found) for match, condition, found in asked if found and (found.value == b"true") == condition.inverted]
         missing = [] if failed else [match for match, _, found in asked if not found]
         for match in dict.fromkeys(match for match, _, _ in asked):
             stated = b", ".join(dict.fromkeys(found.shown for each, _, found in asked if found and each is match))
-            why = b"assumed %s, taken out: " % stated
-            if failed:
-                why = b"never matches now, taken out: "
+            why = b"never matches now, taken out: " if failed else b"assumed %s, taken out: " % stated
             if failed and match is failed[0][0]:
-                why = b"assumed %s, so it never matches, as by %s: " % (failed[0][1].shown, NEVER)
+                why = b"assumed %s, never matches by %s: " % (failed[0][1].shown, NEVER)
             self.leave_out(edits, match, why)
         if failed or missing:
             edits.never()
@@ -339,7 +341,7 @@ class Fitting:
             edits.say(b"assumed %s: %s -> -j %s" % (found.shown, text, found.value))
             edits.loses = True
         if not never and not found:
-            self.miss(number, name, b", ".join(b"'%s=%s'" % (name, value) for value in OF_TARGETS[:-1]) + b" or '%s=RETURN'" % name, text)
+            self.miss(number, name, b"'%s=ACCEPT', '%s=DROP' or '%s=RETURN'" % (name, name, name), text)
 
     def miss(self, number, name, stated, text):
         """Notes an assumption that is missing, once for all lines that ask the same."""

@@ -32,7 +32,7 @@ class Rule:
     def __init__(self, line, names):
         self.line, self.names = line, names
         self.words = words_of(line)
-        self.parts, self.matches, self.glued = [], [], []
+        self.parts, self.matches, self.glued = [], [], {}
         self.target, self.protocol = None, None
         if not self.words:
             raise Unclear
@@ -100,7 +100,7 @@ class Rule:
         if not found and word.startswith(b"--") and b"=" in word and self.line[self.words[at].start:self.words[at].end] == word:
             found = self.resolve(word[:word.index(b"=")], started)
             if found and isinstance(found[0], Owner):
-                self.glued.append((at, word))
+                self.glued[at] = word
                 place = self.words[at].start + word.index(b"=")
                 self.line = self.line[:place] + b" " + self.line[place + 1:]
                 self.words = words_of(self.line)
