@@ -1,4 +1,4 @@
-"""The lines of a dump that the program refuses, each asked by itself, for bin/check and bin/fit; the head of bin/check says what that means."""
+"""The lines of a dump that the program refuses, each asked by itself, for bin/check, whose head says what that means, and bin/fit."""
 
 import collections
 import difflib
