@@ -9,10 +9,10 @@ BIN = os.path.dirname(os.path.dirname(os.path.abspath(__file__)))
 
 
 class Rows:
-    """Runs of the script `name`, which asks the program at `path`."""
+    """Runs that are called `name`, of the script of that name or another, which asks the program at `path`."""
 
-    def __init__(self, name, path):
-        self.name, self.count, self.wrong = name, 0, 0
+    def __init__(self, name, path, script=None):
+        self.name, self.script, self.count, self.wrong = name, script or name, 0, 0
         self.environment = dict(os.environ, IPTSIM=os.path.abspath(path))
 
     def run(self, words, files, **devices):
@@ -22,7 +22,7 @@ class Rows:
                 with open(os.path.join(os.fsencode(folder), os.fsencode(file)), "wb") as opened:
                     opened.write(data)
             devices = {"stdout": subprocess.PIPE, "stderr": subprocess.PIPE, "env": self.environment, **devices}
-            return subprocess.run([os.path.join(BIN, self.name), *words], cwd=folder, check=False, **devices)
+            return subprocess.run([os.path.join(BIN, self.script), *words], cwd=folder, check=False, **devices)
 
     def row(self, about, words, files, output, status, messages=b"", **devices):
         """One run, and what is due: standard output, the status and standard error."""
