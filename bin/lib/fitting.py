@@ -129,6 +129,7 @@ class Edits:
         """Makes the rule one that matches no packet: its source is no address."""
         sources = [part for part in self.rule.parts if part.option.names[0] == b"-s"]
         for part in sources[:1]:
+            self.say(b"never matches now: %s -> %s" % (self.rule.text(part.first, part.last), NEVER))
             self.put(part, [NEVER] * len(self.pieces.get(self.lists[b"-s"], [b""])))
         if not sources:
             end = self.rule.words[self.rule.head - 1].end
