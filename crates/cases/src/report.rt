@@ -1,0 +1,113 @@
+//! What is printed of a case that came out otherwise, and of a file.
+use crate::case::Case;
+use crate::fault::{Misread, Trouble};
+use crate::play::{Ended, Other};
+use std::alloc::Global;
+use std::io;
+
+// How many lines are shown of an output, from the first on that is another.
+const SHOWN: usize = 40;
+
+/// How many cases of a file came out as they are written, and how many otherwise.
+#[derive(Clone, Copy, Drop)]
+pub(crate) struct Count {
+    pub(crate) passed: u64,
+    pub(crate) failed: u64,
+}
+
+impl Count {
+    /// None yet.
+    pub(crate) fn new() -> Count {
+        Count {
+            passed: 0,
+            failed: 0,
+        }
+    }
+
+    /// One more.
+    pub(crate) fn note(&mut self, has_passed: bool) {
+        if has_passed {
+            self.passed = self.passed.saturating_add(1);
+        } else {
+            self.failed = self.failed.saturating_add(1);
+        }
+    }
+
+    /// Prints it.
+    pub(crate) fn tell(self, rt: &impl Print, file: &str) -> io::Result<()> {
+        let Count { passed, failed } = self;
+        if failed > 0 {
+            return println!(rt; "{file}: {passed} passed, {failed} failed");
+        }
+        println!(rt; "{file}: {passed} passed")
+    }
+}
+
+/// Prints why a file is no file of cases.
+pub(crate) fn tell_misread(rt: &impl Print, file: &str, misread: Misread) -> io::Result<()> {
+    let Misread { line, fault } = misread;
+    println!(rt; "{file}:{line}: {fault}")
+}
+
+/// Prints a case that came out otherwise: both outputs, from the first line on that is another, and both statuses.
+pub(crate) fn tell_other(
+    rt: &impl Print,
+    alloc: Global,
+    file: &str,
+    case: &Case,
+    other: &Other<'_>,
+) -> Result<(), Trouble> {
+    let name = case.name.as_str();
+    let place = other.place.saturating_add(1);
+    let runs = case.runs.len();
+    let due = other.run.output.as_slice();
+    let same = same_lines(due, &other.ended.output);
+    let first = same.saturating_add(1);
+    println!(rt; "{file}: case {name}: run {place} of {runs} came out otherwise, from line {first} of its output on")?;
+    println!(rt; "  due:")?;
+    tell_output(rt, alloc, due, same)?;
+    let status = other.run.status;
+    println!(rt; "  status {status}")?;
+    println!(rt; "  came out:")?;
+    tell_output(rt, alloc, &other.ended.output, same)?;
+    tell_status(rt, &other.ended)?;
+    Ok(())
+}
+
+// Prints how a run ended.
+fn tell_status(rt: &impl Print, ended: &Ended) -> io::Result<()> {
+    match ended.status {
+        Ok(status) => println!(rt; "  status {status}"),
+        Err(fault) => println!(rt; "  {fault}"),
+    }
+}
+
+// How many lines two outputs have in common at their begin.
+fn same_lines(due: &[u8], output: &[u8]) -> usize {
+    let mut same = 0usize;
+    let due = due.split(|byte| *byte == b'\n');
+    let output = output.split(|byte| *byte == b'\n');
+    for (line, other) in due.zip(output) {
+        if line != other {
+            break;
+        }
+        same = same.saturating_add(1);
+    }
+    same
+}
+
+// Prints lines of an output, those after the first so many.
+fn tell_output(
+    rt: &impl Print,
+    alloc: Global,
+    output: &[u8],
+    passed_over: usize,
+) -> Result<(), Trouble> {
+    let lines = output.split(|byte| *byte == b'\n');
+    for line in lines.skip(passed_over).take(SHOWN) {
+        let line = String::from_utf8_lossy(alloc, line)?;
+        let line = line.as_str();
+        println!(rt; "  < {line}")?;
+    }
+    Ok(())
+}
