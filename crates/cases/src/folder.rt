@@ -90,12 +90,7 @@ fn refuse(rt: &impl Print, file: &str, misread: Misread) -> Result<bool, Trouble
 }
 
 // Plays cases, and prints those that came out otherwise, and how many did not.
-fn play_cases(
-    rt: &impl Print,
-    alloc: Global,
-    file: &str,
-    cases: &[Case],
-) -> Result<bool, Trouble> {
+fn play_cases(rt: &impl Print, alloc: Global, file: &str, cases: &[Case]) -> Result<bool, Trouble> {
     let mut count = Count::new();
     for case in cases {
         let other = play(alloc, case)?;

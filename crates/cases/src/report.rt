@@ -63,7 +63,9 @@ pub(crate) fn tell_other(
     let due = other.run.output.as_slice();
     let same = same_lines(due, &other.ended.output);
     let first = same.saturating_add(1);
-    println!(rt; "{file}: case {name}: run {place} of {runs} came out otherwise, from line {first} of its output on")?;
+    println!(rt;
+        "{file}: case {name}: run {place} of {runs} came out otherwise, from line {first} of its output on"
+    )?;
     println!(rt; "  due:")?;
     tell_output(rt, alloc, due, same)?;
     let status = other.run.status;

@@ -12,9 +12,6 @@ pub(crate) const EMPTY: &str = "*filter\n\
     :OUTPUT ACCEPT [0:0]\n\
     COMMIT\n";
 
-// An input, and the output and the status that a new session gives for it.
-pub(crate) type Row<'a> = (&'a str, &'a str, u8);
-
 // How a restore is done, and whether the listing is written after it.
 #[derive(Clone, Copy)]
 pub(crate) struct Mode {
@@ -24,33 +21,9 @@ pub(crate) struct Mode {
 }
 
 impl Mode {
-    pub(crate) const QUIET: Mode = Mode {
-        noflush: false,
-        test: false,
-        list: false,
-    };
-
     pub(crate) const LIST: Mode = Mode {
         noflush: false,
         test: false,
-        list: true,
-    };
-
-    pub(crate) const NOFLUSH_LIST: Mode = Mode {
-        noflush: true,
-        test: false,
-        list: true,
-    };
-
-    pub(crate) const TEST: Mode = Mode {
-        noflush: false,
-        test: true,
-        list: false,
-    };
-
-    pub(crate) const TEST_LIST: Mode = Mode {
-        noflush: false,
-        test: true,
         list: true,
     };
 }
@@ -62,13 +35,6 @@ pub(crate) struct Ended {
     pub(crate) status: u8,
 }
 
-impl Ended {
-    // Compares the status.
-    pub(crate) fn has_status(&self, rt: &impl Abort, input: &str, status: u8) {
-        assert_eq!(rt; self.status, status, "{input}");
-    }
-}
-
 // A session, and what its memory comes from.
 #[derive(Drop)]
 pub(crate) struct Console {
@@ -77,7 +43,7 @@ pub(crate) struct Console {
 }
 
 // A text that may grow.
-pub(crate) fn copy_of(alloc: Global, text: &str) -> Result<String, Fail> {
+fn copy_of(alloc: Global, text: &str) -> Result<String, Fail> {
     let mut copy = String::new(alloc);
     copy.push_str(text)?;
     Ok(copy)
@@ -97,11 +63,6 @@ pub(crate) fn text_of(rt: &impl Abort, alloc: Global, bytes: &[u8]) -> Result<St
             Ok(String::new(alloc))
         }
     }
-}
-
-// Compares what an input printed.
-fn is_output(rt: &impl Abort, input: &str, written: &str, output: &str) {
-    assert_eq!(rt; written, output, "{input}");
 }
 
 impl Console {
@@ -141,21 +102,6 @@ impl Console {
         })
     }
 
-    // Compares how a run ended.
-    fn compare(
-        &self,
-        rt: &impl Abort,
-        input: &str,
-        ended: &Ended,
-        row: (&str, u8),
-    ) -> Result<(), Fail> {
-        let (output, status) = row;
-        let written = text_of(rt, self.alloc, &ended.written)?;
-        is_output(rt, input, written.as_str(), output);
-        ended.has_status(rt, input, status);
-        Ok(())
-    }
-
     // Compares what lines print, and their status.
     pub(crate) fn prints(
         &mut self,
@@ -165,53 +111,16 @@ impl Console {
         status: u8,
     ) -> Result<(), Fail> {
         let ended = self.run(input.as_bytes())?;
-        self.compare(rt, input, &ended, (output, status))
-    }
-
-    // Compares what each input prints, one after another.
-    pub(crate) fn prints_in_turn(&mut self, rt: &impl Abort, rows: &[Row<'_>]) -> Result<(), Fail> {
-        for (input, output, status) in rows {
-            self.prints(rt, input, output, *status)?;
-        }
+        let written = text_of(rt, self.alloc, &ended.written)?;
+        assert_eq!(rt; written.as_str(), output, "{input}");
+        assert_eq!(rt; ended.status, status, "{input}");
         Ok(())
-    }
-
-    // Compares what a restore prints, and its status.
-    pub(crate) fn restores(
-        &mut self,
-        rt: &impl Abort,
-        mode: Mode,
-        input: &str,
-        output: &str,
-        status: u8,
-    ) -> Result<(), Fail> {
-        let ended = self.restore(mode, input.as_bytes())?;
-        self.compare(rt, input, &ended, (output, status))
     }
 
     // Compares the listing.
     pub(crate) fn lists(&mut self, rt: &impl Abort, listing: &str) -> Result<(), Fail> {
         self.prints(rt, "iptables-save", listing, 0)
     }
-}
-
-// Compares what an input prints on a new session, and its status.
-pub(crate) fn new_prints(
-    rt: &impl Abort,
-    alloc: Global,
-    input: &str,
-    output: &str,
-    status: u8,
-) -> Result<(), Fail> {
-    Console::new(alloc)?.prints(rt, input, output, status)
-}
-
-// Compares what each input prints on a session of its own.
-pub(crate) fn each_prints(rt: &impl Abort, alloc: Global, rows: &[Row<'_>]) -> Result<(), Fail> {
-    for (input, output, status) in rows {
-        new_prints(rt, alloc, input, output, *status)?;
-    }
-    Ok(())
 }
 
 // The status of a session whose first fault has this code and text.

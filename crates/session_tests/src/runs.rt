@@ -1,5 +1,5 @@
-// One run after another, and runs over devices that move few bytes a call.
-use crate::console::{Console, EMPTY, Row};
+// Runs over devices that fail, or move few bytes a call.
+use crate::console::{Console, EMPTY};
 use crate::device_rows::{
     CUT, Call, DUMP, KEPT, LISTING, OPEN, REFUSED, Ran, Script, WALK, called, called_new,
 };
@@ -229,38 +229,4 @@ fn tap_says_failed_for_no_cause(rt: HostRuntime) -> Result<(), Fail> {
         ends_whole(&rt, rt.alloc(), *mosts)?;
     }
     Ok(())
-}
-
-#[test]
-fn a_second_run_goes_on_with_the_table(rt: HostRuntime) -> Result<(), Fail> {
-    const FAULT: &str = "line 2: S1 unknown line\n";
-    const ROWS: &[Row] = &[
-        ("iptables -A INPUT -j DROP\nfoo\n", FAULT, 2),
-        (
-            "iptables -S INPUT",
-            "-P INPUT ACCEPT\n-A INPUT -j DROP\n",
-            0,
-        ),
-        ("iptables -D INPUT 1\nfoo", FAULT, 2),
-        ("iptables-save", EMPTY, 0),
-    ];
-    Console::new(rt.alloc())?.prints_in_turn(&rt, ROWS)
-}
-
-#[test]
-fn a_restore_that_is_open_at_the_end_is_given_up(rt: HostRuntime) -> Result<(), Fail> {
-    const ROWS: &[Row] = &[
-        (
-            "iptables-restore <<E\n*filter\n-N a\n",
-            "line 3: S3 end word missing\n",
-            2,
-        ),
-        (
-            "COMMIT\nE\n",
-            "line 1: S1 unknown line\nline 2: S1 unknown line\n",
-            2,
-        ),
-        ("iptables-save", EMPTY, 0),
-    ];
-    Console::new(rt.alloc())?.prints_in_turn(&rt, ROWS)
 }
