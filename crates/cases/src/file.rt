@@ -24,7 +24,10 @@ struct Reader<'a> {
 pub(crate) fn read_cases(alloc: Global, text: &str) -> Result<Vec<Case>, Misread> {
     let mut reader = match Reader::new(alloc, text) {
         Ok(reader) => reader,
-        Err(fault) => return Err(Misread { line: 0, fault }),
+        Err(fault) => {
+            let line = text.split('\n').count();
+            return Err(Misread { line, fault });
+        }
     };
     match reader.read_lines() {
         Ok(()) => reader.end(),
@@ -108,7 +111,7 @@ impl<'a> Reader<'a> {
 
     // All cases, at the end of the file.
     fn end(self) -> Result<Vec<Case>, Misread> {
-        let line = self.next;
+        let line = self.next.max(1);
         let is_open = !self.rounds.is_none();
         let ended = if is_open {
             Err(Fault::OpenRepeat)

@@ -98,18 +98,41 @@ fn same_lines(due: &[u8], output: &[u8]) -> usize {
     same
 }
 
-// Prints lines of an output, those after the first so many.
+// Prints lines of an output, those after the first so many, as a file of cases has them.
 fn tell_output(
     rt: &impl Print,
     alloc: Global,
     output: &[u8],
     passed_over: usize,
 ) -> Result<(), Trouble> {
-    let lines = output.split(|byte| *byte == b'\n');
-    for line in lines.skip(passed_over).take(SHOWN) {
-        let line = String::from_utf8_lossy(alloc, line)?;
-        let line = line.as_str();
-        println!(rt; "  < {line}")?;
+    let Some(lines) = output.strip_suffix(b"\n") else {
+        return tell_open_output(rt, alloc, output);
+    };
+    for line in lines
+        .split(|byte| *byte == b'\n')
+        .skip(passed_over)
+        .take(SHOWN)
+    {
+        tell_line(rt, alloc, line)?;
     }
+    Ok(())
+}
+
+// Prints an output that is empty, or whose last line has no newline.
+fn tell_open_output(rt: &impl Print, alloc: Global, output: &[u8]) -> Result<(), Trouble> {
+    if output.is_empty() {
+        println!(rt; "  no output")?;
+        return Ok(());
+    }
+    tell_line(rt, alloc, output)?;
+    println!(rt; "  no newline")?;
+    Ok(())
+}
+
+// Prints a line of an output.
+fn tell_line(rt: &impl Print, alloc: Global, line: &[u8]) -> Result<(), Trouble> {
+    let line = String::from_utf8_lossy(alloc, line)?;
+    let line = line.as_str();
+    println!(rt; "  < {line}")?;
     Ok(())
 }
