@@ -159,19 +159,6 @@ impl Filter {
         Ok(())
     }
 
-    // Compares the replies to commands, which are all the same.
-    pub(crate) fn same_steps(
-        &mut self,
-        rt: &impl Abort,
-        lines: &[&str],
-        reply: &str,
-    ) -> Result<(), Fail> {
-        for line in lines {
-            self.step(rt, line, reply)?;
-        }
-        Ok(())
-    }
-
     // Runs commands, each of which has to be accepted.
     pub(crate) fn run(&mut self, rt: &impl Abort, lines: &[&str]) -> Result<(), Fail> {
         for line in lines {

@@ -1,7 +1,6 @@
 // Why restores are refused, in the order in which it is asked: a line that several faults would refuse shows the first.
 // A section that is refused changes nothing, and the sections before it stand.
 use crate::bytes::fault_after;
-use crate::faults::NAMES;
 use crate::filter::{EMPTY, Filter, Mode};
 use restore::{CommandFault, RestoreFault};
 use rules::{Refusal, RuleFault};
@@ -273,6 +272,32 @@ fn bad_quoting(rt: HostRuntime) -> Result<(), Fail> {
     ];
     refused_lines(&rt, rt.alloc(), LINES, "bad quoting")
 }
+
+// The names of the commands, short and long.
+const NAMES: [&str; 22] = [
+    "-A",
+    "-C",
+    "-D",
+    "-I",
+    "-R",
+    "-F",
+    "-X",
+    "-N",
+    "-P",
+    "-E",
+    "-S",
+    "--append",
+    "--check",
+    "--delete",
+    "--insert",
+    "--replace",
+    "--flush",
+    "--delete-chain",
+    "--new-chain",
+    "--policy",
+    "--rename-chain",
+    "--list-rules",
+];
 
 // Compares the reply to a command with the name of another in it.
 fn two_commands(rt: &impl Abort, filter: &mut Filter, name: &str) -> Result<(), Fail> {
