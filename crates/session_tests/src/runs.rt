@@ -147,12 +147,31 @@ fn each_line_is_served_before_the_next_is_read(rt: HostRuntime) -> Result<(), Fa
     next_is_unread(&rt, rt.alloc(), Failure::Nothing)
 }
 
-// A script flushes its writer at least so often.
+// Two walks and two listings.
+const REPLIES: Script = Script {
+    call: Call::Run,
+    lines: &[
+        ("iptables -P INPUT DROP", ""),
+        (
+            "packet INPUT src=1.1.1.1 dst=2.2.2.2 proto=47",
+            "verdict DROP by policy\n",
+        ),
+        ("iptables -S INPUT", "-P INPUT DROP\n"),
+        (
+            "packet OUTPUT src=1.1.1.1 dst=2.2.2.2 proto=47",
+            "verdict ACCEPT by policy\n",
+        ),
+        ("iptables -S OUTPUT", "-P OUTPUT ACCEPT\n"),
+    ],
+    end: "",
+};
+
+// A script flushes its writer just so often: once a reply.
 fn hands_on(rt: &impl Abort, alloc: Global, script: Script, replies: u64) -> Result<(), Fail> {
     let input = script.input(alloc)?;
     let never = Fuse::never(usize::MAX);
     let ran = called_new(alloc, script.call, input.as_bytes(), never, never)?;
-    assert!(rt; ran.writer.flushes() >= replies, "{input}");
+    assert_eq!(rt; ran.writer.flushes(), replies, "{input}");
     Ok(())
 }
 
@@ -166,6 +185,7 @@ fn each_reply_is_handed_on(rt: HostRuntime) -> Result<(), Fail> {
         (OPEN, 2),
         (DUMP, 1),
         (CUT, 1),
+        (REPLIES, 4),
     ];
     for (script, replies) in ROWS {
         hands_on(&rt, rt.alloc(), *script, *replies)?;
