@@ -57,15 +57,9 @@ pub(crate) fn tell_other(
     case: &Case,
     other: &Other<'_>,
 ) -> Result<(), Trouble> {
-    let name = case.name.as_str();
-    let place = other.place.saturating_add(1);
-    let runs = case.runs.len();
     let due = other.run.output.as_slice();
     let same = same_lines(due, &other.ended.output);
-    let first = same.saturating_add(1);
-    println!(rt;
-        "{file}: case {name}: run {place} of {runs} came out otherwise, from line {first} of its output on"
-    )?;
+    tell_where(rt, file, case, other, same)?;
     println!(rt; "  due:")?;
     tell_output(rt, alloc, due, same)?;
     let status = other.run.status;
@@ -74,6 +68,25 @@ pub(crate) fn tell_other(
     tell_output(rt, alloc, &other.ended.output, same)?;
     tell_status(rt, &other.ended)?;
     Ok(())
+}
+
+// Prints which run of a case came out otherwise, and where.
+fn tell_where(
+    rt: &impl Print,
+    file: &str,
+    case: &Case,
+    other: &Other<'_>,
+    same: usize,
+) -> io::Result<()> {
+    let name = case.name.as_str();
+    let place = other.place.saturating_add(1);
+    let runs = case.runs.len();
+    let first = same.saturating_add(1);
+    print!(rt; "{file}: case {name}: run {place} of {runs}: ")?;
+    if other.ended.output == other.run.output {
+        return println!(rt; "another status");
+    }
+    println!(rt; "another output from line {first} on")
 }
 
 // Prints how a run ended.
