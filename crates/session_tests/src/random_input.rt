@@ -3,6 +3,8 @@ ghost use Rattle.std.specs.Prelude.{◌<◌};
 
 use crate::console::{Console, Ended, Mode};
 use crate::forms::faults_of;
+use rand_core::utils::NextWord;
+use rand_pcg::Pcg32;
 use std::alloc::Global;
 use std::process::Abort;
 use std::test::Fail;
@@ -71,7 +73,7 @@ const PARTS: [&str; 51] = [
 // Numbers that look random, and are always the same.
 #[derive(Drop)]
 struct Dice {
-    state: u64,
+    words: Pcg32,
 }
 
 impl Dice {
@@ -79,11 +81,7 @@ impl Dice {
         requires { 0 < bound }
         ensures { result < bound }
     {
-        self.state = self
-            .state
-            .wrapping_mul(6364136223846793005)
-            .wrapping_add(1442695040888963407);
-        (self.state >> 33) as usize % bound
+        self.words.next_word() as usize % bound
     }
 
     // Bytes, of which about half are signs.
@@ -153,8 +151,10 @@ fn is_served(rt: &impl Abort, alloc: Global, input: &[u8], by_lines: bool) -> Re
 }
 
 // Serves so many inputs of bytes, as sessions and as restores in turn.
-fn bytes_are_served(rt: &impl Abort, alloc: Global, state: u64, count: u32) -> Result<(), Fail> {
-    let mut dice = Dice { state };
+fn bytes_are_served(rt: &impl Abort, alloc: Global, seed: u64, count: u32) -> Result<(), Fail> {
+    let mut dice = Dice {
+        words: Pcg32::new(seed, 1),
+    };
     for number in 0..count {
         let input = dice.bytes(alloc)?;
         is_served(rt, alloc, &input, number % 2 == 0)?;
@@ -163,8 +163,10 @@ fn bytes_are_served(rt: &impl Abort, alloc: Global, state: u64, count: u32) -> R
 }
 
 // Serves so many inputs of parts of lines.
-fn parts_are_served(rt: &impl Abort, alloc: Global, state: u64, count: u32) -> Result<(), Fail> {
-    let mut dice = Dice { state };
+fn parts_are_served(rt: &impl Abort, alloc: Global, seed: u64, count: u32) -> Result<(), Fail> {
+    let mut dice = Dice {
+        words: Pcg32::new(seed, 1),
+    };
     for number in 0..count {
         let input = dice.parts(alloc)?;
         is_served(rt, alloc, &input, number % 8 != 0)?;

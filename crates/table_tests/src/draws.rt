@@ -4,6 +4,8 @@ ghost use Rattle.std.specs.Prelude.{◌<◌};
 
 use crate::commands::Filter;
 use crate::plain::{Draft, NAMES, Plain};
+use rand_core::utils::NextWord;
+use rand_pcg::Pcg32;
 use std::alloc::Global;
 use std::fmt::Write;
 use std::process::Abort;
@@ -13,7 +15,7 @@ use table::TableFault;
 // Numbers that look random, and are always the same.
 #[derive(Drop)]
 struct Dice {
-    state: u64,
+    words: Pcg32,
 }
 
 impl Dice {
@@ -21,11 +23,7 @@ impl Dice {
         requires { 0 < bound }
         ensures { result < bound }
     {
-        self.state = self
-            .state
-            .wrapping_mul(6364136223846793005)
-            .wrapping_add(1442695040888963407);
-        (self.state >> 33) as usize % bound
+        self.words.next_word() as usize % bound
     }
 
     fn draft(&mut self) -> Draft {
@@ -318,7 +316,9 @@ const PACKETS: [&str; 8] = [
 
 #[test]
 fn random_edits(rt: HostRuntime) -> Result<(), Fail> {
-    let mut dice = Dice { state: 7 };
+    let mut dice = Dice {
+        words: Pcg32::new(7, 1),
+    };
     let mut pair = Pair::new(rt.alloc())?;
     for _ in 0..500u32 {
         pair.edit(&rt, &mut dice)?;
