@@ -1,0 +1,114 @@
+"""The lines of a session, each with its reply; a whole session, and a whole restore."""
+
+from . import printing
+from .commands import apply, command_of
+from .faults import TEXTS, Fault, need, status_of
+from .matching import lines_of_chain
+from .packets import packet_of
+from .restore import Restore
+from .table import Table, walk
+from .words import is_passed_over, is_too_long, lines_of, words_of
+
+RESTORE_OPTIONS = {b"-n": "noflush", b"--noflush": "noflush", b"-t": "test", b"--test": "test"}
+MOST_END_BYTES = 64
+
+
+def opening_of(words):
+    """The options of `iptables-restore`, and the line that ends the restore."""
+    options = [RESTORE_OPTIONS.get(word) for word in words[:-1]]
+    need(words and words[-1].startswith(b"<<") and 1 <= len(words[-1]) - 2 <= MOST_END_BYTES, "S2")
+    need(None not in options and len(set(options)) == len(options), "S2")
+    return set(options), words[-1][2:]
+
+
+class Session:
+    """A session between two lines: its table, how many lines were read, and the restore that is open, if one is. `walks` are those
+    that packets were answered with."""
+
+    def __init__(self):
+        self.table, self.count, self.status, self.walks = Table(), 0, 0, []
+        self.restore, self.end, self.has_failed = None, None, False
+
+    def line(self, line):
+        """The reply to the next line, as lines."""
+        self.count += 1
+        try:
+            if self.restore:
+                self.restore_line(line)
+                return []
+            return self.session_line(line)
+        except Fault as fault:
+            return self.fault(fault)
+
+    def fault(self, fault):
+        self.has_failed = self.restore is not None
+        self.status = self.status or status_of(fault.code)
+        return [b"line %d: %s %s" % (self.count, fault.code.encode(), TEXTS[fault.code].encode())]
+
+    def restore_line(self, line):
+        """A line of a restore. After its fault only the end line counts."""
+        if line == self.end:
+            ended, self.restore = self.restore, None
+            if not self.has_failed:
+                ended.finish()
+        elif not self.has_failed:
+            self.restore.line(line)
+
+    def session_line(self, line):
+        need(not is_too_long(line), "R6")
+        if is_passed_over(line):
+            return []
+        kind, *words = words_of(line)
+        if kind == b"iptables":
+            return apply(self.table, command_of(words))
+        if kind == b"iptables-save":
+            need(not words, "C3")
+            return printing.listing(self.table)
+        if kind == b"iptables-restore":
+            options, self.end = opening_of(words)
+            self.restore, self.has_failed = Restore(self.table, "noflush" in options, "test" in options), False
+            return []
+        if kind == b"packet":
+            return self.packet(packet_of(words))
+        need(kind == b"lines", "S1")
+        need(len(words) == 1, "C3")
+        return lines_of_chain(self.table.rules(words[0]))
+
+    def packet(self, packet):
+        trail, verdict = walk(self.table, packet)
+        self.walks.append((trail, verdict))
+        return [b"%s %d" % step for step in trail] + [b"verdict " + verdict]
+
+    def finish(self):
+        """What is said at the end of the input."""
+        if not self.restore or self.has_failed:
+            return []
+        return self.fault(Fault("S3"))
+
+
+def whole(replies):
+    return b"".join(line + b"\n" for line in replies)
+
+
+def session(data):
+    """The output and the status of a session."""
+    run = Session()
+    replies = [reply for line in lines_of(data) for reply in run.line(line)]
+    replies += run.finish()
+    return whole(replies), run.status
+
+
+def restore(data, noflush=False, test=False):
+    """The output and the status of an input that is one restore."""
+    run, lines = Session(), lines_of(data)
+    run.restore = Restore(run.table, noflush, test)
+    replies = []
+    try:
+        for run.count, line in enumerate(lines, 1):
+            run.restore.line(line)
+        run.restore.finish()
+    except Fault as fault:
+        replies = run.fault(fault)
+    if not replies and not test:
+        replies = printing.listing(run.table)
+    return whole(replies), run.status
