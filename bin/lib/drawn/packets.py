@@ -1,0 +1,76 @@
+"""Packet lines."""
+
+from . import values
+
+HOOKS = {b"INPUT": 6, b"FORWARD": 3, b"OUTPUT": 2}
+PACKET_PROTOCOLS = (b"tcp",) * 8 + (b"udp",) * 5 + (b"icmp",) * 4 + values.PROTOCOLS
+PORTED = (b"tcp", b"udp", b"sctp", b"dccp", b"udplite", b"6", b"17", b"33")
+TRANSLATIONS = (b"", b"", b",SNAT", b",DNAT", b",SNAT,DNAT")
+BAD = {
+    b"src": values.BAD_HOSTS + (b"10.0.0.0/8",), b"dst": values.BAD_HOSTS, b"proto": values.BAD_PROTOCOLS + (b"all",), b"in": values.BAD_NAMES,
+    b"out": values.BAD_NAMES, b"frag": (b"2", b"00", b"", b"yes"), b"sport": values.BAD_PORTS + (b"1:2", b":"), b"dport": values.BAD_PORTS,
+    b"flags": values.BAD_FLAGS, b"icmp": (b"8", b"8/256", b"256/0", b"8/", b"ping", b"", b"08/0", b"8/0/0"),
+    b"ct": values.BAD_STATES + (b"NEW,DNAT,SNAT", b"INVALID,SNAT", b"UNTRACKED,DNAT", b"SNAT", b"NEW,NEW", b"NEW,SNAT,"), b"ttl": values.BAD_TIMES,
+}
+UNKNOWN = (b"mark=1", b"SRC=1.1.1.1", b"src", b"=", b"=1", b"tos=0", b"src:1.1.1.1", b"", b"in-interface=lo", b"-s=1.1.1.1")
+BAD_HOOKS = (b"input", b"PREROUTING", b"", b"a", b"src=1.1.1.1", b"-A")
+
+
+def parts_of(protocol, dice):
+    """What a first fragment of a protocol carries."""
+    given = {}
+    if protocol in PORTED:
+        given = {b"sport": dice.one(values.PORTS), b"dport": dice.one(values.PORTS)}
+    if protocol in (b"tcp", b"6") and dice.chance(0.6):
+        given[b"flags"] = values.names_of(values.FLAGS)(dice)
+    if protocol in (b"icmp", b"1"):
+        given[b"icmp"] = dice.one((b"8/0", b"8/0", b"3/0", b"3/1", b"3/2", b"3/255", b"0/0", b"11/0", b"11/1", b"255/0", b"254/255", b"4/0", b"13/0"))
+    return given
+
+
+def given_by(hook, dice):
+    """A good packet's keys with their values."""
+    protocol = dice.one(PACKET_PROTOCOLS)
+    given = {b"src": dice.one(values.HOSTS), b"dst": dice.one(values.HOSTS), b"proto": protocol}
+    if hook != b"OUTPUT" and dice.chance(0.6):
+        given[b"in"] = dice.one(values.NAMES)
+    if hook != b"INPUT" and dice.chance(0.6):
+        given[b"out"] = dice.one(values.NAMES)
+    frag = dice.weighted({b"": 7, b"0": 1, b"1": 2})
+    if frag:
+        given[b"frag"] = frag
+    if frag != b"1":
+        given.update(parts_of(protocol, dice))
+    if dice.chance(0.5):
+        state = dice.one(values.STATES)
+        state += dice.one(TRANSLATIONS) if state in values.STATES[1:4] else b""
+        given[b"ct"] = dice.cased(state) if dice.chance(0.2) else state
+    if dice.chance(0.6):
+        given[b"ttl"] = dice.one(values.TIMES)
+    return given
+
+
+def packet(dice, wrong):
+    """The words of a packet line."""
+    hook = dice.weighted(HOOKS)
+    words = [key + b"=" + value for key, value in given_by(hook, dice).items()]
+    if dice.chance(0.4):
+        words = dice.shuffled(words)
+    while dice.chance(wrong):
+        what = dice.weighted({"out": 5, "bad": 6, "unknown": 3, "twice": 2, "more": 6, "hook": 1})
+        at = dice.below(len(words) + 1)
+        key = dice.one(list(BAD))
+        if what == "out" and words:
+            del words[min(at, len(words) - 1)]
+        elif what == "bad":
+            words = [key + b"=" + dice.one(BAD[key]) if word.startswith(key + b"=") else word for word in words]
+        elif what == "unknown":
+            words.insert(at, dice.one(UNKNOWN))
+        elif what == "twice" and words:
+            words.insert(at, dice.one(words))
+        elif what == "more":
+            more = {**given_by(b"FORWARD", dice), **parts_of(b"tcp", dice), **parts_of(b"icmp", dice)}
+            words.insert(at, dice.one([key + b"=" + value for key, value in more.items()]))
+        elif what == "hook":
+            hook = dice.one(BAD_HOOKS)
+    return [b"packet", hook, *words] if not dice.chance(wrong / 40) else [b"packet"]

@@ -1,0 +1,152 @@
+"""The words of rules."""
+
+from . import values
+
+# The options of a rule, of matches and of targets: the names, the kinds of values, and how often an option is drawn.
+OWN = (
+    ((b"-s", b"--source", b"--src"), ("address",), 5),
+    ((b"-d", b"--destination", b"--dst"), ("address",), 4),
+    ((b"-i", b"--in-interface"), ("interface",), 3),
+    ((b"-o", b"--out-interface"), ("interface",), 2),
+    ((b"-f", b"--fragment"), (), 2),
+)
+PROTOCOL_NAMES = (b"-p", b"--protocol")
+MATCHES = {
+    b"tcp": (((b"--sport", b"--source-port"), ("port",), 3), ((b"--dport", b"--destination-port"), ("port",), 5),
+             ((b"--tcp-flags",), ("flags", "flags"), 3), ((b"--syn",), (), 2)),
+    b"udp": (((b"--sport", b"--source-port"), ("port",), 3), ((b"--dport", b"--destination-port"), ("port",), 5)),
+    b"icmp": (((b"--icmp-type",), ("icmp type",), 1),),
+    b"multiport": (((b"--sports", b"--source-ports"), ("ports",), 2), ((b"--dports", b"--destination-ports"), ("ports",), 2),
+                   ((b"--ports",), ("ports",), 3)),
+    b"iprange": (((b"--src-range",), ("range",), 1), ((b"--dst-range",), ("range",), 1)),
+    b"conntrack": (((b"--ctstate",), ("states",), 1),),
+    b"state": (((b"--state",), ("plain states",), 1),),
+    b"ttl": (((b"--ttl-eq",), ("time",), 3), ((b"--ttl-gt",), ("time",), 2), ((b"--ttl-lt",), ("time",), 2)),
+    b"comment": (((b"--comment",), ("comment",), 1),),
+}
+MATCH_WEIGHTS = {b"tcp": 8, b"udp": 4, b"icmp": 4, b"multiport": 6, b"iprange": 2, b"conntrack": 3, b"state": 2, b"ttl": 4, b"comment": 2}
+NEEDED = {b"tcp": (b"tcp", b"6"), b"udp": (b"udp", b"17"), b"icmp": (b"icmp", b"1"),
+          b"multiport": (b"tcp", b"udp", b"sctp", b"dccp", b"udplite", b"6", b"33")}
+# Where `!` may not stand.
+NOT_INVERTED = (b"--ttl-gt", b"--ttl-lt", b"--comment")
+LOG_OPTIONS = (((b"--log-prefix",), ("prefix",), 3), ((b"--log-level",), ("level",), 3), ((b"--log-tcp-sequence",), (), 1),
+               ((b"--log-tcp-options",), (), 1), ((b"--log-ip-options",), (), 1), ((b"--log-uid",), (), 1))
+TARGETS = {"chain": 30, "goto": 14, b"RETURN": 12, b"ACCEPT": 14, b"DROP": 14, b"REJECT": 8, b"LOG": 6, "none": 6}
+OPTIONS = [*OWN, *(option for match in MATCHES.values() for option in match), *LOG_OPTIONS, ((b"--reject-with",), ("reject type",), 1),
+           ((b"-m", b"--match"), ("match",), 1), ((b"-j", b"--jump"), ("chain",), 1), ((b"-g", b"--goto"), ("chain",), 1),
+           (PROTOCOL_NAMES, ("protocol",), 1)]
+UNKNOWN = (b"--limit", b"-v", b"--dport=22", b"-sx", b"--sy", b"x", b"--DPORT", b"-t", b"-", b"--fragments", b"--mac-source", b"-L", b"",
+           b"INPUT", b"--tcp-option", b"-S")
+COMMANDS = (b"-A", b"-F", b"--flush", b"-S", b"-D", b"--list-rules", b"-X", b"-P", b"-E", b"--new-chain", b"-C", b"-I", b"-R", b"-N")
+
+
+class RuleDraw:
+    """Draws rules. `chains` are the names that there are, and `wrong` how often something is made bad."""
+
+    def __init__(self, dice, chains, wrong, light=False):
+        self.dice, self.chains, self.wrong, self.light = dice, chains, wrong, light
+
+    def value(self, kind):
+        good, bad = values.KINDS[kind]
+        return (bad if self.dice.chance(self.wrong / 4) else good)(self.dice)
+
+    def option(self, names, kinds, may_invert=True):
+        """The words of an option: now and then with a longer name, and with `!`."""
+        name = names[0] if self.dice.chance(0.7) else self.dice.one(names)
+        words = [name, *(self.value(kind) for kind in kinds)]
+        inverts = may_invert and name not in NOT_INVERTED
+        share = 0.22 if inverts else self.wrong / 8
+        return [b"!", *words] if self.dice.chance(share) else words
+
+    def some_of(self, options, most):
+        """Different ones of some options, in any order."""
+        count = self.dice.within(1, most)
+        drawn = {}
+        for _ in range(count):
+            names, kinds, _ = self.dice.weighted({each: each[2] for each in options})
+            drawn[names] = kinds
+        return list(drawn.items())
+
+    def match(self, name):
+        """(options of a match, whether it is begun by -m)."""
+        one_slot = name in (b"multiport", b"ttl")
+        chosen = self.some_of(MATCHES[name], 1 if one_slot else 3)
+        if name == b"tcp" and len(chosen) > 1:
+            chosen = [each for each in chosen if each[0] != (b"--syn",)]
+        if self.dice.chance(0.12 if name in (b"tcp", b"udp", b"icmp") else self.wrong / 6):
+            chosen = []
+        words = [word for names, kinds in chosen for word in self.option(names, kinds)]
+        begun = name not in (b"tcp", b"udp", b"icmp") or not words or self.dice.chance(0.5)
+        return [self.dice.one((b"-m", b"-m", b"--match")), name, *words] if begun else words
+
+    def target(self):
+        kind = self.dice.weighted(TARGETS)
+        jump, goto = self.dice.one((b"-j", b"-j", b"--jump")), self.dice.one((b"-g", b"-g", b"--goto"))
+        if kind in ("chain", "goto"):
+            named = self.dice.one(self.chains) if self.chains and not self.dice.chance(self.wrong / 3) else self.value("chain")
+            return [jump if kind == "chain" else goto, named]
+        if kind == "none":
+            return []
+        words = [jump, kind]
+        if kind == b"REJECT" and self.dice.chance(0.6):
+            words += [b"--reject-with", self.value("reject type")]
+        if kind == b"LOG" and self.dice.chance(0.7):
+            for names, kinds in self.some_of(LOG_OPTIONS, 4):
+                words += self.option(names, kinds, may_invert=False)
+        return words
+
+    def parts(self):
+        """The parts of a rule, those of a protocol first or, now and then, last."""
+        dice, parts = self.dice, []
+        for names, kinds in self.some_of(OWN, 1 if self.light else 2) if dice.chance(0.4 if self.light else 0.6) else ():
+            parts.append(self.option(names, kinds))
+        counts = {0: 6, 1: 2} if self.light else {0: 4, 1: 6, 2: 3, 3: 1, 5: 0.3}
+        drawn = [dice.weighted(MATCH_WEIGHTS) for _ in range(dice.weighted(counts))]
+        needed = [protocol for match in drawn for protocol in NEEDED.get(match, ())]
+        due = []
+        if needed and not dice.chance(self.wrong / 4):
+            due = [dice.one(PROTOCOL_NAMES), dice.one(NEEDED[next(match for match in drawn if match in NEEDED)])]
+        elif dice.chance(0.15):
+            due = self.option(PROTOCOL_NAMES, ("protocol",))
+        # (a second match of another protocol lacks what it needs)
+        kept = [each for each in drawn if each not in NEEDED or due and due[-1] in NEEDED[each] or dice.chance(self.wrong / 4)]
+        matches = [self.match(each) for each in kept]
+        return [due, *parts, *matches] if dice.chance(0.95) else [*parts, *matches, due]
+
+    def wronged(self, words):
+        """The words with one of them taken out, put in or changed."""
+        dice, words = self.dice, list(words)
+        at = dice.below(len(words) + 1)
+        names, kinds, _ = dice.one(OPTIONS)
+        some = [dice.one(names), *(self.value(kind) for kind in kinds)]
+        what = dice.weighted({"out": 3, "end": 3, "option": 8, "unknown": 2, "command": 2, "!": 3, "twice": 3, "many": 2, "match": 2})
+        if what == "out" and words:
+            del words[min(at, len(words) - 1)]
+        elif what == "end":
+            del words[at:]
+        elif what == "option":
+            words = words + some if dice.chance(0.6) else words[:at] + some + words[at:]
+        elif what in ("unknown", "command"):
+            words.insert(at if dice.chance(0.5) else len(words), dice.one(UNKNOWN if what == "unknown" else COMMANDS))
+        elif what == "!":
+            words.insert(at, b"!")
+        elif what == "twice":
+            words += words[: dice.within(1, 4)]
+        elif what == "many":
+            words += [b"-m", b"comment", b"--comment", b"x"] * dice.within(14, 17) + dice.one(([], [b"-m", b"state"], [b"--syn"], [b"-m", b"x"]))
+        elif what == "match":
+            words += [b"-m", self.value("match")]
+        return words
+
+    def rule(self):
+        """The words of a rule."""
+        parts = self.parts()
+        target = self.target()
+        if self.dice.chance(0.15):
+            parts = self.dice.shuffled([*parts, target])
+        else:
+            parts.append(target)
+        words = [word for part in parts for word in part]
+        while self.dice.chance(self.wrong):
+            words = self.wronged(words)
+        return words
