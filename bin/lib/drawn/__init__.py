@@ -3,6 +3,7 @@
     dice       numbers drawn by a seed; words spelled as lines, with and without quotes
     values     good and bad values of options and packet keys: few of each, so that they meet
     rules      the words of rules
+    aims       what a packet has that is aimed at a rule
     packets    packet lines
     commands   commands, steered by the table that the model has come to
     sections   the lines of restores

@@ -7,8 +7,9 @@ from . import values
 from .rules import RuleDraw
 
 KINDS = {"-A": 30, "-I": 13, "-R": 8, "-D": 11, "-C": 7, "-F": 3, "-N": 8, "-X": 4, "-P": 4, "-E": 5, "-S": 5, "none": 1}
-# In a restore, where a fault ends all: those that seldom are refused.
-SECTION_KINDS = {"-A": 45, "-I": 12, "-R": 5, "-D": 5, "-C": 3, "-F": 3, "-N": 10, "-X": 2, "-P": 4, "-E": 5, "-S": 0.2, "none": 0.2}
+# Where packets are asked; and in a restore, where a fault ends all.
+LIGHT_KINDS = {"-A": 45, "-I": 12, "-R": 5, "-D": 5, "-C": 3, "-F": 2, "-N": 10, "-X": 2, "-P": 5, "-E": 4, "-S": 1, "none": 0.2}
+SECTION_KINDS = {"-A": 60, "-I": 10, "-R": 2, "-D": 2, "-C": 1, "-F": 2, "-N": 6, "-X": 0.5, "-P": 4, "-E": 1, "-S": 0.05, "none": 0.05}
 LONG = {"-A": b"--append", "-I": b"--insert", "-R": b"--replace", "-D": b"--delete", "-C": b"--check", "-F": b"--flush", "-N": b"--new-chain",
         "-X": b"--delete-chain", "-P": b"--policy", "-E": b"--rename-chain", "-S": b"--list-rules"}
 NO_COMMANDS = ((), (b"-L",), (b"-Z",), (b"--add", b"a"), (b"-a", b"INPUT"), (b"A", b"INPUT"), (b"-s", b"1.1.1.1", b"-A", b"INPUT"), (b"!", b"-F"),
@@ -35,10 +36,18 @@ class CommandDraw:
     def any_name(self):
         return self.dice.one(values.BAD_CHAINS if self.bad(0.3) else values.CHAINS)
 
-    def chain(self):
+    def new_name(self):
+        """A name that no chain has yet, most of the time."""
+        free = [name for name in values.CHAINS if name not in self.table.chains]
+        return self.dice.one(free) if free and not self.bad(0.6) and self.dice.chance(0.9) else self.any_name()
+
+    def chain(self, has_rules=False):
         """Any chain that there is, now and then another."""
         if self.bad(0.2):
             return self.any_name()
+        filled = [name for name, rules in self.table.chains.items() if rules]
+        if has_rules and filled and self.dice.chance(0.85):
+            return self.dice.one(sorted(filled))
         there = self.table.user_chains()
         return self.dice.one(there) if there and self.dice.chance(0.5) else self.dice.weighted({b"INPUT": 6, b"FORWARD": 3, b"OUTPUT": 2})
 
@@ -53,12 +62,10 @@ class CommandDraw:
         """The words of a rule. Its target is mostly a chain that stands after this one, so that most don't make a loop."""
         there = self.table.user_chains()
         after = [name for name in there if name > chain or chain in values.BUILT_IN]
-        targets = after if after and not self.bad(0.5) else there
+        targets = there if self.dice.chance(0.05 + self.wrong / 3) else after
         words = RuleDraw(self.dice, targets, self.wrong, self.light).rule()
-        other = {b"INPUT": b"-o", b"OUTPUT": b"-i"}.get(chain)
-        if other and not self.bad(0.6):
-            words = [b"-s" if word == other else word for word in words] if self.wrong > 0.3 else without(words, chain)
-        return words
+        other = {b"INPUT": (b"-o", b"--out-interface"), b"OUTPUT": (b"-i", b"--in-interface")}.get(chain)
+        return words if other is None or self.dice.chance(0.15 + self.wrong / 2) else without(words, other)
 
     def rule_there(self, chain):
         """The words of a rule of the chain, as it is listed or nearly so."""
@@ -74,7 +81,7 @@ class CommandDraw:
 
     def words(self, kind):
         """What follows the name of a command."""
-        dice, chain = self.dice, self.chain()
+        dice, chain = self.dice, self.chain(has_rules=kind in ("-R", "-D", "-C"))
         if kind == "-A":
             return [chain, *self.rule(chain)]
         if kind == "-I":
@@ -88,20 +95,20 @@ class CommandDraw:
         if kind in ("-F", "-S"):
             return [chain] if dice.chance(0.9 if kind == "-F" else 0.6) else []
         if kind == "-N":
-            return [self.any_name() if not self.bad(0.1) else chain]
+            return [self.new_name()]
         if kind == "-X":
             return [] if dice.chance(0.2) else [self.empty_chain()]
         if kind == "-P":
             policy = dice.one((b"REJECT", b"accept", b"", b"-", b"RETURN")) if self.bad(0.2) else dice.one((b"ACCEPT", b"DROP"))
-            return [chain if self.bad(0.2) else dice.one(values.BUILT_IN), policy]
-        return [self.user_chain() if not self.bad(0.15) else chain, self.any_name() if not self.bad(0.1) else self.chain()]
+            return [chain if dice.chance(0.06 + self.wrong / 4) else dice.one(values.BUILT_IN), policy]
+        return [self.chain() if dice.chance(0.1) else self.user_chain(), self.new_name()]
 
     def empty_chain(self):
         """An empty chain, if there is one and luck has it."""
         empty = [name for name in self.table.user_chains() if not self.table.chains[name]]
         if empty and self.dice.chance(0.6):
             return self.dice.one(empty)
-        return self.user_chain() if not self.bad(0.2) else self.chain()
+        return self.user_chain() if self.dice.chance(0.85) else self.chain()
 
     def command(self, kinds):
         """The words of a command, with what may stand before it."""
@@ -121,9 +128,8 @@ class CommandDraw:
         return words
 
 
-def without(words, chain):
-    """The words without an interface that the chain can't have."""
-    names = (b"-o", b"--out-interface") if chain == b"INPUT" else (b"-i", b"--in-interface")
+def without(words, names):
+    """The words without the option of these names, which has one value."""
     kept, at = [], 0
     while at < len(words):
         if words[at] in names:

@@ -65,7 +65,7 @@ def spelled(words, dice):
         must = not word or any(byte in b' \t"' for byte in word)
         line += quoted(word, dice) if must or odd and dice.chance(0.3) else word
     if odd:
-        line += dice.one((b"", b" ", b"\t", b"\r", b"\x0c"))
+        line += dice.one((b"", b"", b" ", b"\t", b" \t ", b"\r" if dice.chance(0.3) else b"\x0c" if dice.chance(0.1) else b""))
     if dice.chance(0.004):
         at = dice.below(len(line) + 1)
         line = line[:at] + dice.one((b'"', b'"x', b'a"b', b'""', b'"\\')) + line[at:]

@@ -7,7 +7,8 @@ from plain.restore import Restore
 from plain.session import Session, restore, whole
 
 from . import values
-from .commands import KINDS, CommandDraw
+from .aims import aimed
+from .commands import KINDS, LIGHT_KINDS, CommandDraw
 from .dice import Dice, spelled
 from .packets import packet
 from .sections import listed_lines, restore_line
@@ -36,6 +37,7 @@ class Talk:
 
     def __init__(self, dice, theme):
         self.dice, self.theme, self.run = dice, THEMES[theme], Session()
+        self.wrong = dice.one((self.theme.wrong, self.theme.wrong / 5))
         self.lines, self.replies, self.counts, self.walks = [], [], collections.Counter(), 0
 
     def say(self, line):
@@ -56,7 +58,7 @@ class Talk:
         """Counts a verdict, and the steps by which the walk came to it."""
         verdict = verdict.decode()
         self.counts["REJECT by rule" if verdict.startswith("REJECT") else verdict] += 1
-        steps = set()
+        steps = set() if trail else {"no rule"}
         for (chain, number), after in zip(trail, [*trail[1:], (None, 0)]):
             how, name = self.run.table.chains[chain][number - 1].target or (None, b"no target")
             if name in (b"RETURN", b"LOG", b"no target"):
@@ -70,33 +72,41 @@ class Talk:
         self.counts.update(steps)
 
     def command(self):
-        words = CommandDraw(self.dice, self.run.table, self.theme.wrong, self.theme.light).command(KINDS)
+        words = CommandDraw(self.dice, self.run.table, self.wrong, self.theme.light).command(LIGHT_KINDS if self.theme.light else KINDS)
         self.say(spelled([b"iptables", *words], self.dice))
 
     def packet(self):
-        self.say(spelled(packet(self.dice, self.theme.wrong / 2), self.dice))
+        """A packet, mostly one that is aimed at a rule."""
+        table, hook, aim = self.run.table, None, {}
+        chains = values.BUILT_IN if self.dice.chance(0.8) else table.user_chains()
+        filled = [chain for chain in chains if table.chains[chain]]
+        if filled and self.dice.chance(0.85):
+            chain = self.dice.one(filled)
+            hook = chain if chain in values.BUILT_IN else None
+            aim = aimed(self.dice.one(table.chains[chain]), self.dice)
+        self.say(spelled(packet(self.dice, self.wrong / 2, hook, aim), self.dice))
 
     def save(self):
         self.say(b"iptables-save")
 
     def chain_lines(self):
-        draw = CommandDraw(self.dice, self.run.table, self.theme.wrong)
+        draw = CommandDraw(self.dice, self.run.table, self.wrong)
         self.say(spelled([b"lines", draw.chain()], self.dice))
 
     def other(self):
         self.say(self.dice.one(OTHER_LINES))
 
-    def restore(self):
+    def restore(self, has_end=True):
         """A restore with its end line, if it has one."""
         dice = self.dice
         options = dice.shuffled([dice.one(names) for names in ((b"-n", b"--noflush"), (b"-t", b"--test")) if dice.chance(0.35)])
-        if dice.chance(self.theme.wrong / 3):
+        if dice.chance(self.wrong / 3):
             options += dice.one(BAD_RESTORES)
         end = dice.weighted(END_WORDS)
         self.say(spelled([b"iptables-restore", *options, b"<<" + end], dice))
         if self.run.restore:
             self.section_lines(dice.within(1, 40))
-            if not dice.chance(0.02):
+            if has_end and not dice.chance(0.02):
                 self.say(self.run.end if self.run.restore else b"")
 
     def section_lines(self, most):
@@ -109,7 +119,7 @@ class Talk:
         for left in range(most, 0, -1):
             if not self.run.restore or self.run.has_failed and dice.chance(0.5):
                 return
-            line = restore_line(dice, self.run.restore, self.theme.wrong)
+            line = restore_line(dice, self.run.restore, self.wrong, may_end=left < most / 2)
             if line is None or left == 1 and dice.chance(0.9):
                 return self.close()
             self.say(line)
@@ -124,12 +134,14 @@ class Talk:
         dice, theme = self.dice, self.theme
         for name in values.CHAINS[: dice.within(0, 6)]:
             self.say(b"iptables -N " + name)
-        for _ in range(dice.within(0, 24) if theme.light else dice.within(0, 8)):
+        for _ in range(dice.within(0, 40) if theme.light else dice.within(0, 8)):
             self.command()
         draws = {"command": self.command, "packet": self.packet, "save": self.save, "lines": self.chain_lines, "other": self.other,
                  "restore": self.restore}
         while len(self.lines) < theme.lines:
             draws[dice.weighted(theme.kinds)]()
+        if dice.chance(0.25):
+            self.restore(has_end=False)
         self.take(self.run.finish())
         return self.data(), whole(self.replies), self.run.status
 

@@ -28,15 +28,15 @@ def parts_of(protocol, dice):
     return given
 
 
-def given_by(hook, dice):
-    """A good packet's keys with their values."""
-    protocol = dice.one(PACKET_PROTOCOLS)
+def given_by(hook, dice, aim):
+    """A good packet's keys with their values: those of the aim that it carries, and others."""
+    protocol = aim.get(b"proto") or dice.one(PACKET_PROTOCOLS)
     given = {b"src": dice.one(values.HOSTS), b"dst": dice.one(values.HOSTS), b"proto": protocol}
     if hook != b"OUTPUT" and dice.chance(0.6):
         given[b"in"] = dice.one(values.NAMES)
     if hook != b"INPUT" and dice.chance(0.6):
         given[b"out"] = dice.one(values.NAMES)
-    frag = dice.weighted({b"": 7, b"0": 1, b"1": 2})
+    frag = aim.get(b"frag") or dice.weighted({b"": 9, b"0": 1, b"1": 1})
     if frag:
         given[b"frag"] = frag
     if frag != b"1":
@@ -47,13 +47,15 @@ def given_by(hook, dice):
         given[b"ct"] = dice.cased(state) if dice.chance(0.2) else state
     if dice.chance(0.6):
         given[b"ttl"] = dice.one(values.TIMES)
+    may_have = {b"in": hook != b"OUTPUT", b"out": hook != b"INPUT", b"frag": True, b"ct": True, b"ttl": True}
+    given.update((key, value) for key, value in aim.items() if key in given or may_have.get(key))
     return given
 
 
-def packet(dice, wrong):
-    """The words of a packet line."""
-    hook = dice.weighted(HOOKS)
-    words = [key + b"=" + value for key, value in given_by(hook, dice).items()]
+def packet(dice, wrong, hook, aim):
+    """The words of a packet line, which has the keys of the aim."""
+    hook = hook or dice.weighted(HOOKS)
+    words = [key + b"=" + value for key, value in given_by(hook, dice, aim).items()]
     if dice.chance(0.4):
         words = dice.shuffled(words)
     while dice.chance(wrong):
@@ -69,7 +71,7 @@ def packet(dice, wrong):
         elif what == "twice" and words:
             words.insert(at, dice.one(words))
         elif what == "more":
-            more = {**given_by(b"FORWARD", dice), **parts_of(b"tcp", dice), **parts_of(b"icmp", dice)}
+            more = {**given_by(b"FORWARD", dice, {}), **parts_of(b"tcp", dice), **parts_of(b"icmp", dice)}
             words.insert(at, dice.one([key + b"=" + value for key, value in more.items()]))
         elif what == "hook":
             hook = dice.one(BAD_HOOKS)

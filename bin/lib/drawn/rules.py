@@ -32,6 +32,7 @@ NOT_INVERTED = (b"--ttl-gt", b"--ttl-lt", b"--comment")
 LOG_OPTIONS = (((b"--log-prefix",), ("prefix",), 3), ((b"--log-level",), ("level",), 3), ((b"--log-tcp-sequence",), (), 1),
                ((b"--log-tcp-options",), (), 1), ((b"--log-ip-options",), (), 1), ((b"--log-uid",), (), 1))
 TARGETS = {"chain": 30, "goto": 14, b"RETURN": 12, b"ACCEPT": 14, b"DROP": 14, b"REJECT": 8, b"LOG": 6, "none": 6}
+LIGHT_TARGETS = {"chain": 34, "goto": 8, b"RETURN": 9, b"ACCEPT": 7, b"DROP": 7, b"REJECT": 6, b"LOG": 12, "none": 14}
 OPTIONS = [*OWN, *(option for match in MATCHES.values() for option in match), *LOG_OPTIONS, ((b"--reject-with",), ("reject type",), 1),
            ((b"-m", b"--match"), ("match",), 1), ((b"-j", b"--jump"), ("chain",), 1), ((b"-g", b"--goto"), ("chain",), 1),
            (PROTOCOL_NAMES, ("protocol",), 1)]
@@ -79,12 +80,19 @@ class RuleDraw:
         begun = name not in (b"tcp", b"udp", b"icmp") or not words or self.dice.chance(0.5)
         return [self.dice.one((b"-m", b"-m", b"--match")), name, *words] if begun else words
 
+    def named_chain(self):
+        """A chain that there is, most of the time."""
+        if self.chains and not self.dice.chance(self.wrong / 3):
+            return self.dice.one(self.chains)
+        return self.dice.one(values.BUILT_IN) if self.dice.chance(0.2) else self.value("chain")
+
     def target(self):
-        kind = self.dice.weighted(TARGETS)
+        kind = self.dice.weighted(LIGHT_TARGETS if self.light else TARGETS)
         jump, goto = self.dice.one((b"-j", b"-j", b"--jump")), self.dice.one((b"-g", b"-g", b"--goto"))
+        if kind in ("chain", "goto") and not self.chains and not self.dice.chance(0.1 + self.wrong):
+            kind = self.dice.one((b"ACCEPT", b"DROP", b"RETURN"))
         if kind in ("chain", "goto"):
-            named = self.dice.one(self.chains) if self.chains and not self.dice.chance(self.wrong / 3) else self.value("chain")
-            return [jump if kind == "chain" else goto, named]
+            return [jump if kind == "chain" else goto, self.named_chain()]
         if kind == "none":
             return []
         words = [jump, kind]
@@ -98,9 +106,9 @@ class RuleDraw:
     def parts(self):
         """The parts of a rule, those of a protocol first or, now and then, last."""
         dice, parts = self.dice, []
-        for names, kinds in self.some_of(OWN, 1 if self.light else 2) if dice.chance(0.4 if self.light else 0.6) else ():
+        for names, kinds in self.some_of(OWN, 1 if self.light else 2) if dice.chance(0.3 if self.light else 0.6) else ():
             parts.append(self.option(names, kinds))
-        counts = {0: 6, 1: 2} if self.light else {0: 4, 1: 6, 2: 3, 3: 1, 5: 0.3}
+        counts = {0: 8, 1: 2} if self.light else {0: 4, 1: 6, 2: 3, 3: 1, 5: 0.3}
         drawn = [dice.weighted(MATCH_WEIGHTS) for _ in range(dice.weighted(counts))]
         needed = [protocol for match in drawn for protocol in NEEDED.get(match, ())]
         due = []
@@ -119,7 +127,7 @@ class RuleDraw:
         at = dice.below(len(words) + 1)
         names, kinds, _ = dice.one(OPTIONS)
         some = [dice.one(names), *(self.value(kind) for kind in kinds)]
-        what = dice.weighted({"out": 3, "end": 3, "option": 8, "unknown": 2, "command": 2, "!": 3, "twice": 3, "many": 2, "match": 2})
+        what = dice.weighted({"out": 3, "end": 3, "option": 8, "unknown": 2, "command": 2, "!": 3, "twice": 3, "many": 2, "match": 2, "target": 2})
         if what == "out" and words:
             del words[min(at, len(words) - 1)]
         elif what == "end":
@@ -136,6 +144,8 @@ class RuleDraw:
             words += [b"-m", b"comment", b"--comment", b"x"] * dice.within(14, 17) + dice.one(([], [b"-m", b"state"], [b"--syn"], [b"-m", b"x"]))
         elif what == "match":
             words += [b"-m", self.value("match")]
+        elif what == "target":
+            words += [dice.one((b"-g", b"-j")), self.value("chain")]
         return words
 
     def rule(self):

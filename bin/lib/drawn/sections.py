@@ -30,9 +30,9 @@ def with_counters(line, dice, wrong):
 def chain_line(dice, restore, wrong):
     """A chain line: mostly of a name that has none in the section yet."""
     names = [name for name in values.BUILT_IN + values.CHAINS if name not in restore.named]
-    known = names if names and not dice.chance(wrong / 6) else list(values.BUILT_IN + values.CHAINS)
-    name = dice.one(values.BAD_CHAINS) if dice.chance(wrong / 10) else dice.one(known)
-    if dice.chance(wrong / 10):
+    known = names if names and not dice.chance(0.02 + wrong) else list(values.BUILT_IN + values.CHAINS)
+    name = dice.one(values.BAD_CHAINS) if dice.chance(wrong / 4) else dice.one(known)
+    if dice.chance(wrong / 2):
         policy = dice.one((b"DROP", b"REJECT", b"x", b"", b"- -"))
     else:
         policy = dice.one((b"ACCEPT", b"DROP", b"-")) if name in values.BUILT_IN else b"-"
@@ -44,7 +44,7 @@ def chain_line(dice, restore, wrong):
 
 def filter_line(dice, restore, wrong):
     """A line of a filter section."""
-    kind = dice.weighted({"chain": 25, "command": 60, "commit": 12, "passed": 4, "bad": wrong * 8})
+    kind = dice.weighted({"chain": 25, "command": 60, "commit": 12, "passed": 4, "bad": wrong * 20})
     if kind == "chain":
         return chain_line(dice, restore, wrong)
     if kind == "command":
@@ -55,10 +55,10 @@ def filter_line(dice, restore, wrong):
     return dice.one(PASSED if kind == "passed" else BAD_LINES)
 
 
-def restore_line(dice, restore, wrong):
+def restore_line(dice, restore, wrong, may_end):
     """A line of a restore, or None where it may end."""
     if restore.where == OUTSIDE:
-        kind = dice.weighted({"open": 40, "passed": 6, "bad": wrong * 10, "end": 40})
+        kind = dice.weighted({"open": 40, "passed": 6, "bad": wrong * 20, "end": 40 if may_end else 0})
         if kind == "end":
             return None
         return dice.weighted(OPENINGS) if kind == "open" else dice.one(PASSED if kind == "passed" else BAD_OPENINGS)

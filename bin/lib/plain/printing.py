@@ -73,10 +73,14 @@ WRITTEN = {
 }
 
 
+def value(each):
+    return WRITTEN[each.name](each.value) if each.name in WRITTEN else b""
+
+
 def condition(each):
     """A condition or a setting, after a blank."""
-    value = b" " + WRITTEN[each.name](each.value) if each.name in WRITTEN else b""
-    return (b" ! " if each.inverted else b" ") + each.name + value
+    written = (b" ! " if each.inverted else b" ") + each.name
+    return written + b" " + value(each) if each.name in WRITTEN else written
 
 
 def conditions(part):
