@@ -63,8 +63,12 @@ class CommandDraw:
         there = self.table.user_chains()
         after = [name for name in there if name > chain or chain in values.BUILT_IN]
         targets = there if self.dice.chance(0.05 + self.wrong / 3) else after
-        words = RuleDraw(self.dice, targets, self.wrong, self.light).rule()
+        draw = RuleDraw(self.dice, targets, self.wrong, self.light)
+        words = draw.rule()
         other = {b"INPUT": (b"-o", b"--out-interface"), b"OUTPUT": (b"-i", b"--in-interface")}.get(chain)
+        if other and self.dice.chance(0.01):
+            # (a rule that is refused for its interface, and perhaps for its target)
+            return [other[0], b"lo", b"-j", self.dice.one(values.BUILT_IN + values.CHAINS)]
         return words if other is None or self.dice.chance(0.15 + self.wrong / 2) else without(words, other)
 
     def rule_there(self, chain):

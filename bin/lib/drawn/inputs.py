@@ -120,6 +120,8 @@ class Talk:
             if not self.run.restore or self.run.has_failed and dice.chance(0.5):
                 return
             line = restore_line(dice, self.run.restore, self.wrong, may_end=left < most / 2)
+            if self.run.has_failed and dice.chance(0.4):
+                line = dice.one(OTHER_LINES)
             if line is None or left == 1 and dice.chance(0.9):
                 return self.close()
             self.say(line)

@@ -127,7 +127,7 @@ class RuleDraw:
         at = dice.below(len(words) + 1)
         names, kinds, _ = dice.one(OPTIONS)
         some = [dice.one(names), *(self.value(kind) for kind in kinds)]
-        what = dice.weighted({"out": 3, "end": 3, "option": 8, "unknown": 2, "command": 2, "!": 3, "twice": 3, "many": 2, "match": 2, "target": 2})
+        what = dice.weighted({"out": 3, "end": 3, "option": 8, "unknown": 2, "command": 2, "!": 3, "twice": 3, "many": 2, "match": 2, "target": 2, "bare": 2})
         if what == "out" and words:
             del words[min(at, len(words) - 1)]
         elif what == "end":
@@ -142,6 +142,8 @@ class RuleDraw:
             words += words[: dice.within(1, 4)]
         elif what == "many":
             words += [b"-m", b"comment", b"--comment", b"x"] * dice.within(14, 17) + dice.one(([], [b"-m", b"state"], [b"--syn"], [b"-m", b"x"]))
+        elif what == "bare":
+            words.append(dice.one(names))
         elif what == "match":
             words += [b"-m", self.value("match")]
         elif what == "target":

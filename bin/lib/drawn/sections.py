@@ -17,7 +17,8 @@ SKIPPED = (b":PREROUTING ACCEPT [0:0]", b"-A PREROUTING -j MASQUERADE", b'-A x "
 ENDS = {b"COMMIT": 12, b" COMMIT": 1, b"COMMIT\t ": 1, b"\tCOMMIT": 1}
 BAD_LINES = (b"*nat", b"*filter", b"* x", b'"COMMIT"', b"COMMIT x", b"commit", b"[0:0]", b"[0:0] :a -", b"[0:0] COMMIT", b"[0:0] [0:0] -F", b"-S",
              b"-S a b", b"-t filter -S", b"-t nat -S", b"[1:1] -S INPUT", b":", b": -", b":INPUT", b":INPUT REJECT", b":INPUT -x", b":a ACCEPT [0:0]",
-             b":a - [0:0] x", b":ACCEPT -", b":ACCEPT ACCEPT", b'":a b" -', b":-a -", b'"', b"-A INPUT \"x", b"iptables -F", b"COMMIT\r")
+             b":a - [0:0] x", b":ACCEPT -", b":ACCEPT ACCEPT", b'":a b" -', b":-a -", b'"', b"-A INPUT \"x", b"iptables -F", b"COMMIT\r",
+             b":INPUT DROP [5:6", b"#" * 10241, b"-A INPUT" + b" " * 10240)
 PASSED = (b"", b"# x", b"  \t", b'# "', b" # COMMIT", b"#")
 
 
@@ -30,9 +31,10 @@ def with_counters(line, dice, wrong):
 def chain_line(dice, restore, wrong):
     """A chain line: mostly of a name that has none in the section yet."""
     names = [name for name in values.BUILT_IN + values.CHAINS if name not in restore.named]
-    known = names if names and not dice.chance(0.02 + wrong) else list(values.BUILT_IN + values.CHAINS)
+    is_again = not names or dice.chance(0.02 + wrong)
+    known = list(values.BUILT_IN + values.CHAINS) if is_again else names
     name = dice.one(values.BAD_CHAINS) if dice.chance(wrong / 4) else dice.one(known)
-    if dice.chance(wrong / 2):
+    if dice.chance(0.2 if is_again else wrong / 2):
         policy = dice.one((b"DROP", b"REJECT", b"x", b"", b"- -"))
     else:
         policy = dice.one((b"ACCEPT", b"DROP", b"-")) if name in values.BUILT_IN else b"-"
@@ -44,7 +46,7 @@ def chain_line(dice, restore, wrong):
 
 def filter_line(dice, restore, wrong):
     """A line of a filter section."""
-    kind = dice.weighted({"chain": 25, "command": 60, "commit": 12, "passed": 4, "bad": wrong * 20})
+    kind = dice.weighted({"chain": 25, "command": 60, "commit": 12, "passed": 4, "bad": 1 + wrong * 20})
     if kind == "chain":
         return chain_line(dice, restore, wrong)
     if kind == "command":
