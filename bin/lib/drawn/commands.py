@@ -10,13 +10,15 @@ KINDS = {"-A": 30, "-I": 13, "-R": 8, "-D": 11, "-C": 7, "-F": 3, "-N": 8, "-X":
 # Where packets are asked; and in a restore, where a fault ends all.
 LIGHT_KINDS = {"-A": 45, "-I": 12, "-R": 5, "-D": 5, "-C": 3, "-F": 2, "-N": 10, "-X": 2, "-P": 5, "-E": 4, "-S": 1, "none": 0.2}
 SECTION_KINDS = {"-A": 60, "-I": 10, "-R": 2, "-D": 2, "-C": 1, "-F": 2, "-N": 6, "-X": 0.5, "-P": 4, "-E": 1, "-S": 0.05, "none": 0.05}
-LONG = {"-A": b"--append", "-I": b"--insert", "-R": b"--replace", "-D": b"--delete", "-C": b"--check", "-F": b"--flush", "-N": b"--new-chain",
-        "-X": b"--delete-chain", "-P": b"--policy", "-E": b"--rename-chain", "-S": b"--list-rules"}
-NO_COMMANDS = ((), (b"-L",), (b"-Z",), (b"--add", b"a"), (b"-a", b"INPUT"), (b"A", b"INPUT"), (b"-s", b"1.1.1.1", b"-A", b"INPUT"), (b"!", b"-F"),
+LONG = {"-A": b"--append", "-I": b"--insert", "-R": b"--replace", "-D": b"--delete", "-C": b"--check", "-F": b"--flush",
+        "-N": b"--new-chain", "-X": b"--delete-chain", "-P": b"--policy", "-E": b"--rename-chain", "-S": b"--list-rules"}
+NO_COMMANDS = ((), (b"-L",), (b"-Z",), (b"--add", b"a"), (b"-a", b"INPUT"), (b"A", b"INPUT"),
+               (b"-s", b"1.1.1.1", b"-A", b"INPUT"), (b"!", b"-F"),
                (b"COMMIT",), (b"",), (b"-v", b"-S"))
 HEADS = ((b"-t", b"nat"), (b"--table", b"mangle"), (b"-t",), (b"-t", b"filter", b"-t", b"filter"), (b"-t", b"filter", b"-t"),
          (b"-t", b"filter", b"--table", b"nat"), (b"-t", b"nat", b"-t"), (b"-t", b"Filter"), (b"-t", b""))
-OTHER_NAMES = {b"-s": b"--source", b"-d": b"--dst", b"-p": b"--protocol", b"-i": b"--in-interface", b"-j": b"--jump", b"--dport": b"--destination-port"}
+OTHER_NAMES = {b"-s": b"--source", b"-d": b"--dst", b"-p": b"--protocol", b"-i": b"--in-interface", b"-j": b"--jump",
+               b"--dport": b"--destination-port"}
 
 
 class CommandDraw:

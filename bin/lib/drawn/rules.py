@@ -33,6 +33,8 @@ LOG_OPTIONS = (((b"--log-prefix",), ("prefix",), 3), ((b"--log-level",), ("level
                ((b"--log-tcp-options",), (), 1), ((b"--log-ip-options",), (), 1), ((b"--log-uid",), (), 1))
 TARGETS = {"chain": 30, "goto": 14, b"RETURN": 12, b"ACCEPT": 14, b"DROP": 14, b"REJECT": 8, b"LOG": 6, "none": 6}
 LIGHT_TARGETS = {"chain": 34, "goto": 8, b"RETURN": 9, b"ACCEPT": 7, b"DROP": 7, b"REJECT": 6, b"LOG": 12, "none": 14}
+# What is done to make a rule bad.
+WRONGS = {"out": 3, "end": 3, "option": 8, "unknown": 2, "command": 2, "!": 3, "twice": 3, "many": 2, "match": 2, "target": 2, "bare": 2}
 OPTIONS = [*OWN, *(option for match in MATCHES.values() for option in match), *LOG_OPTIONS, ((b"--reject-with",), ("reject type",), 1),
            ((b"-m", b"--match"), ("match",), 1), ((b"-j", b"--jump"), ("chain",), 1), ((b"-g", b"--goto"), ("chain",), 1),
            (PROTOCOL_NAMES, ("protocol",), 1)]
@@ -127,7 +129,7 @@ class RuleDraw:
         at = dice.below(len(words) + 1)
         names, kinds, _ = dice.one(OPTIONS)
         some = [dice.one(names), *(self.value(kind) for kind in kinds)]
-        what = dice.weighted({"out": 3, "end": 3, "option": 8, "unknown": 2, "command": 2, "!": 3, "twice": 3, "many": 2, "match": 2, "target": 2, "bare": 2})
+        what = dice.weighted(WRONGS)
         if what == "out" and words:
             del words[min(at, len(words) - 1)]
         elif what == "end":
@@ -141,7 +143,8 @@ class RuleDraw:
         elif what == "twice":
             words += words[: dice.within(1, 4)]
         elif what == "many":
-            words += [b"-m", b"comment", b"--comment", b"x"] * dice.within(14, 17) + dice.one(([], [b"-m", b"state"], [b"--syn"], [b"-m", b"x"]))
+            words += [b"-m", b"comment", b"--comment", b"x"] * dice.within(14, 17)
+            words += dice.one(([], [b"-m", b"state"], [b"--syn"], [b"-m", b"x"]))
         elif what == "bare":
             words.append(dice.one(names))
         elif what == "match":

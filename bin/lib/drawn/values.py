@@ -108,6 +108,7 @@ KINDS = {
     "prefix": (of(TEXTS), of((b"p" * 30, b"x" * 29 + b" "))),
     "reject type": (of(REJECT_TYPES), of((b"icmp", b"tcp-rst", b"", b"TCP-RESET", b"port-unreach"))),
     "level": (of(LEVELS), of((b"8", b"04", b"warn", b"", b"panic", b"Info"))),
-    "match": (of((b"tcp", b"udp", b"comment", b"multiport", b"multiport", b"state", b"ttl", b"iprange", b"conntrack", b"icmp")), of((b"limit", b"TCP", b"", b"LOG", b"rule", b"mac", b"-F"))),
+    "match": (of((b"tcp", b"udp", b"comment", b"multiport", b"multiport", b"state", b"ttl", b"iprange", b"conntrack", b"icmp")),
+              of((b"limit", b"TCP", b"", b"LOG", b"rule", b"mac", b"-F"))),
     "chain": (of(CHAINS), of(BAD_CHAINS)),
 }

@@ -81,7 +81,7 @@ class Rule:
 
     def chain(self):
         """The chain that the rule names, or None."""
-        return self.target[1] if self.target and self.target[1] not in values.VERDICTS else None
+        return self.target[1] if self.target and self.target[1] not in values.TARGETS else None
 
     def has(self, name):
         return any(each.name == name for each in self.own.conditions)

@@ -158,6 +158,7 @@ def walk(table, packet):
         if len(trail) == MOST_STEPS:
             return [], b"TOOLONG"
         trail.append((chain, at))
+        # (a rule without a target hands on as one with LOG does)
         how, name = rule.target or (None, b"LOG")
         if name in (b"ACCEPT", b"DROP"):
             return trail, b"%s by rule" % name

@@ -5,7 +5,7 @@ import re
 from .faults import Fault, need
 
 BUILT_IN = (b"INPUT", b"FORWARD", b"OUTPUT")
-VERDICTS = (b"ACCEPT", b"DROP", b"RETURN", b"REJECT", b"LOG")
+TARGETS = (b"ACCEPT", b"DROP", b"RETURN", b"REJECT", b"LOG")
 PROTOCOLS = {
     b"all": 0, b"icmp": 1, b"igmp": 2, b"tcp": 6, b"udp": 17, b"dccp": 33, b"gre": 47, b"esp": 50, b"ah": 51, b"ipv6-icmp": 58,
     b"icmpv6": 58, b"ospf": 89, b"vrrp": 112, b"sctp": 132, b"udplite": 136,
@@ -126,7 +126,7 @@ def host_range(word):
 
 
 def is_chain_name(word):
-    return 1 <= len(word) <= 28 and is_printable(word) and word[:1] not in (b"-", b"!") and word not in VERDICTS + (b"QUEUE",)
+    return 1 <= len(word) <= 28 and is_printable(word) and word[:1] not in (b"-", b"!") and word not in TARGETS + (b"QUEUE",)
 
 
 def chain(word):
@@ -135,7 +135,7 @@ def chain(word):
 
 
 def target(word):
-    return word if word in VERDICTS else chain(word)
+    return word if word in TARGETS else chain(word)
 
 
 def reject_type(word):
