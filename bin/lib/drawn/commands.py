@@ -128,7 +128,7 @@ class CommandDraw:
         if self.bad(0.03):
             words.append(self.dice.one((b"x", b"1", b"", b"-j", b"INPUT")))
         if self.bad(0.06):
-            words = [*self.dice.one(HEADS), *words]
+            words = [*self.dice.one(HEADS), *(words if self.dice.chance(0.7) else ())]
         elif self.dice.chance(0.04):
             words = [self.dice.one((b"-t", b"--table")), b"filter", *words]
         return words

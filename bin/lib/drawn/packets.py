@@ -7,7 +7,7 @@ PACKET_PROTOCOLS = (b"tcp",) * 8 + (b"udp",) * 5 + (b"icmp",) * 4 + values.PROTO
 PORTED = (b"tcp", b"udp", b"sctp", b"dccp", b"udplite", b"6", b"17", b"33")
 TRANSLATIONS = (b"", b"", b",SNAT", b",DNAT", b",SNAT,DNAT")
 BAD = {
-    b"src": values.BAD_HOSTS + (b"10.0.0.0/8",), b"dst": values.BAD_HOSTS, b"proto": values.BAD_PROTOCOLS + (b"all",), b"in": values.BAD_NAMES,
+    b"src": values.BAD_HOSTS + (b"10.0.0.0/8",), b"dst": values.BAD_HOSTS, b"proto": values.BAD_PROTOCOLS + (b"all",) * 3, b"in": values.BAD_NAMES,
     b"out": values.BAD_NAMES, b"frag": (b"2", b"00", b"", b"yes"), b"sport": values.BAD_PORTS + (b"1:2", b":"), b"dport": values.BAD_PORTS,
     b"flags": values.BAD_FLAGS, b"icmp": (b"8", b"8/256", b"256/0", b"8/", b"ping", b"", b"08/0", b"8/0/0"),
     b"ct": values.BAD_STATES + (b"NEW,DNAT,SNAT", b"INVALID,SNAT", b"UNTRACKED,DNAT", b"SNAT", b"NEW,NEW", b"NEW,SNAT,"), b"ttl": values.BAD_TIMES,
@@ -61,11 +61,12 @@ def packet(dice, wrong, hook, aim):
     while dice.chance(wrong):
         what = dice.weighted({"out": 5, "bad": 6, "unknown": 3, "twice": 2, "more": 6, "hook": 1})
         at = dice.below(len(words) + 1)
-        key = dice.one(list(BAD))
         if what == "out" and words:
             del words[min(at, len(words) - 1)]
-        elif what == "bad":
-            words = [key + b"=" + dice.one(BAD[key]) if word.startswith(key + b"=") else word for word in words]
+        elif what == "bad" and words:
+            place = dice.below(len(words))
+            key = words[place].partition(b"=")[0]
+            words[place] = key + b"=" + dice.one(BAD.get(key, (b"",)))
         elif what == "unknown":
             words.insert(at, dice.one(UNKNOWN))
         elif what == "twice" and words:

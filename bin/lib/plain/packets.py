@@ -18,8 +18,7 @@ def interface(word):
 
 
 def icmp(word):
-    kind, slash, code = word.partition(b"/")
-    need(slash, "P3")
+    kind, _, code = word.partition(b"/")
     return values.number(kind, 255) * 256 + values.number(code, 255)
 
 
