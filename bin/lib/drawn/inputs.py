@@ -84,7 +84,7 @@ class Talk:
             chain = self.dice.one(filled)
             hook = chain if chain in values.BUILT_IN else None
             aim = aimed(self.dice.one(table.chains[chain]), self.dice)
-        self.say(spelled(packet(self.dice, self.wrong / 2, hook, aim), self.dice))
+        self.say(spelled(packet(self.dice, self.wrong, hook, aim), self.dice))
 
     def save(self):
         self.say(b"iptables-save")

@@ -7,10 +7,12 @@ PACKET_PROTOCOLS = (b"tcp",) * 8 + (b"udp",) * 5 + (b"icmp",) * 4 + values.PROTO
 PORTED = (b"tcp", b"udp", b"sctp", b"dccp", b"udplite", b"6", b"17", b"33")
 TRANSLATIONS = (b"", b"", b",SNAT", b",DNAT", b",SNAT,DNAT")
 BAD = {
-    b"src": values.BAD_HOSTS + (b"10.0.0.0/8",), b"dst": values.BAD_HOSTS, b"proto": values.BAD_PROTOCOLS + (b"all",) * 3, b"in": values.BAD_NAMES,
-    b"out": values.BAD_NAMES, b"frag": (b"2", b"00", b"", b"yes"), b"sport": values.BAD_PORTS + (b"1:2", b":"), b"dport": values.BAD_PORTS,
-    b"flags": values.BAD_FLAGS, b"icmp": (b"8", b"8/256", b"256/0", b"8/", b"ping", b"", b"08/0", b"8/0/0"),
-    b"ct": values.BAD_STATES + (b"NEW,DNAT,SNAT", b"INVALID,SNAT", b"UNTRACKED,DNAT", b"SNAT", b"NEW,NEW", b"NEW,SNAT,"), b"ttl": values.BAD_TIMES,
+    b"src": values.BAD_HOSTS + (b"10.0.0.0/8",), b"dst": values.BAD_HOSTS, b"proto": values.BAD_PROTOCOLS + (b"all",) * 3,
+    b"in": values.BAD_NAMES, b"out": values.BAD_NAMES, b"frag": (b"2", b"2", b"00", b"yes"), b"sport": values.BAD_PORTS + (b"65536",) * 4,
+    b"dport": values.BAD_PORTS + (b"65536",) * 4, b"flags": values.BAD_FLAGS,
+    b"icmp": (b"8", b"8/256", b"256/0", b"8/256", b"256/0", b"8/", b"ping", b"", b"08/0", b"8/0/0"),
+    b"ct": values.BAD_STATES + (b"NEW,DNAT,SNAT", b"INVALID,SNAT", b"UNTRACKED,DNAT", b"SNAT", b"NEW,NEW", b"NEW,SNAT,"),
+    b"ttl": values.BAD_TIMES,
 }
 UNKNOWN = (b"mark=1", b"SRC=1.1.1.1", b"src", b"=", b"=1", b"tos=0", b"src:1.1.1.1", b"", b"in-interface=lo", b"-s=1.1.1.1")
 BAD_HOOKS = (b"input", b"PREROUTING", b"", b"a", b"src=1.1.1.1", b"-A")

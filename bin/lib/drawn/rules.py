@@ -51,7 +51,7 @@ class RuleDraw:
 
     def value(self, kind):
         good, bad = values.KINDS[kind]
-        return (bad if self.dice.chance(self.wrong / 4) else good)(self.dice)
+        return (bad if self.dice.chance(self.wrong / 3) else good)(self.dice)
 
     def option(self, names, kinds, may_invert=True):
         """The words of an option: now and then with a longer name, and with `!`."""

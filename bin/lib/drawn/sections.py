@@ -31,8 +31,8 @@ def with_counters(line, dice, wrong):
 def chain_line(dice, restore, wrong):
     """A chain line: mostly of a name that has none in the section yet."""
     names = [name for name in values.BUILT_IN + values.CHAINS if name not in restore.named]
-    is_again = not names or dice.chance(0.02 + wrong)
-    known = list(values.BUILT_IN + values.CHAINS) if is_again else names
+    is_again = not names or restore.named and dice.chance(0.03 + wrong / 2)
+    known = sorted(restore.named) if is_again else names
     name = dice.one(values.BAD_CHAINS) if dice.chance(wrong / 4) else dice.one(known)
     if dice.chance(0.2 if is_again else wrong / 2):
         policy = dice.one((b"DROP", b"REJECT", b"x", b"", b"- -"))

@@ -17,11 +17,12 @@ PATTERNS = NAMES + (b"eth0+", b"e+", b"+", b"++", b"lo+", b"n" * 14 + b"+", b"!"
 BAD_NAMES = (b"n" * 16, b"", b"a/b", b'a"b', b"a b", b"\xe9", b"\x7f", b"\x1f")
 
 PROTOCOLS = (b"tcp", b"tcp", b"udp", b"udp", b"icmp", b"6", b"17", b"1", b"sctp", b"dccp", b"udplite", b"gre", b"47", b"0", b"58", b"icmpv6",
-             b"ipv6-icmp", b"ah", b"igmp", b"vrrp", b"ospf", b"esp", b"255", b"7", b"33")
+             b"ipv6-icmp", b"ah", b"igmp", b"vrrp", b"ospf", b"esp", b"255", b"7", b"33", b"all")
 BAD_PROTOCOLS = (b"TCP", b"06", b"256", b"ip", b"", b"-1", b"1000000000", b"tcp,udp", b"+6", b"6 ")
 
 PORTS = (b"0", b"1", b"21", b"22", b"23", b"53", b"79", b"80", b"81", b"100", b"110", b"111", b"1024", b"65534", b"65535")
-BAD_PORTS = (b"65536", b"022", b"", b"ssh", b"-1", b"2:1", b"1:2:3", b"22-23", b"22,", b",", b"a:b", b"1000000000", b"22:65536", b"::")
+BAD_PORTS = (b"65536", b"022", b"", b"ssh", b"-1", b"2:1", b"1:2:3", b"22-23", b"22,", b",", b"a:b", b"1000000000", b"22:65536",
+             b"65535:65536", b"::")
 FLAGS = (b"SYN", b"ACK", b"FIN", b"RST", b"URG", b"PSH", b"ALL", b"NONE")
 BAD_FLAGS = (b"", b"SYN,", b"SYN ACK", b"ECE", b",", b"SYN,,ACK", b"0", b"syn|ack")
 STATES = (b"INVALID", b"NEW", b"RELATED", b"ESTABLISHED", b"UNTRACKED")
@@ -77,7 +78,7 @@ def names_of(known):
     """A list of names in any case, with repeats."""
 
     def draw(dice):
-        names = b",".join(dice.some(known, dice.weighted({1: 4, 2: 4, 4: 1})))
+        names = b",".join(dice.some(known, dice.weighted({1: 4, 2: 4, 4: 1})) if dice.chance(0.95) else dice.shuffled(known))
         return dice.cased(names) if dice.chance(0.3) else names
 
     return draw
