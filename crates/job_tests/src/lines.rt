@@ -2,6 +2,7 @@
 use clap::error::ErrorKind;
 use jobs::{Job, LineFault, Task};
 use std::alloc::{AllocError, Global};
+use std::process::Abort;
 use std::test::Fail;
 
 // The words of a line, which are separated by blanks.
@@ -38,6 +39,26 @@ fn program_line_always_refused(rt: HostRuntime) -> Result<(), Fail> {
         let job = Job::read(rt.alloc(), words.as_slice())?;
         assert!(rt; job.task == task, "the task of {line}");
         assert!(rt; job.load == load, "the file of {line}");
+    }
+    Ok(())
+}
+
+// A word of so many bytes is the file's name as it stands.
+fn is_named(rt: &impl Abort, alloc: Global, length: usize) -> Result<(), Fail> {
+    let mut name = String::new(alloc);
+    for _ in 0..length {
+        name.push('x')?;
+    }
+    let words = vec![in alloc; "session", "--load", name.as_str()]?;
+    let job = Job::read(alloc, words.as_slice())?;
+    assert!(rt; job.load == Some(name.as_str()), "a name of {length} bytes");
+    Ok(())
+}
+
+#[test]
+fn long_names(rt: HostRuntime) -> Result<(), Fail> {
+    for length in [255, 256, 257, 300, 4096] {
+        is_named(&rt, rt.alloc(), length)?;
     }
     Ok(())
 }
