@@ -1,4 +1,4 @@
-"""Sessions drawn at random, for bin/runs/plain: their parts, from single values up to whole inputs.
+"""Sessions drawn at random, for bin/compare: their parts, from single values up to whole inputs.
 
     dice       numbers drawn by a seed; words spelled as lines, with and without quotes
     values     good and bad values of options and packet keys: few of each, so that they meet

@@ -1,4 +1,4 @@
-"""A plain model of the program, for bin/plain and bin/runs/plain: its parts, from the words of a line up to sessions.
+"""A plain model of the program, for bin/plain and bin/compare: its parts, from the words of a line up to sessions.
 
     faults     codes, texts and statuses
     words      the lines of an input, and the words of a line
