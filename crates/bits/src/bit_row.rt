@@ -120,6 +120,8 @@ impl BitRow {
         ensures err { OnErr result (self.new.bits ≡ self.old.bits) }
         ensures room { 0 < self.old.room → IsOk result }
         ensures part { length self.old.bits % 64 ≢ 0 → IsOk result }
+        ensures kept { OnOk result (self.old.room ≤ self.new.room + 1) }
+        ensures held { OnErr result (self.old.room ≤ self.new.room) }
     {
         self.reserve()?;
         self.put(at, bit);

@@ -1,8 +1,8 @@
 //! Summaries of words: 64 bits that say which pairs of words have none, so that a search passes over them.
 
-ghost use Rattle.std.specs.Prelude.{ℕ, ◌≡◌, ◌<◌, ◌≤◌, ◌^◌, true, IsTrue, ◌↔◌};
-ghost use Rattle.bits.specs.steps.First.{Nowhere};
-ghost use Rattle.bits.specs.steps.Summaries.{IsMarked};
+ghost use Rattle.std.specs.Prelude.{ℕ, ◌≡◌, ◌<◌, ◌≤◌, ◌^◌, ◌+◌, true, IfSome, IsTrue, ◌↔◌};
+ghost use Rattle.bits.specs.steps.First.{Nowhere, FromOn};
+ghost use Rattle.bits.specs.steps.Summaries.{HasPair, IsMarked};
 
 /// Whether a summary has the bit of a word: else no bit is in the word.
 pub fn is_marked(summary: u64, word: usize) -> bool
@@ -33,20 +33,35 @@ pub(crate) fn kept(summary: u64, words: usize) -> u64
     summary & ((1 << words.div_ceil(2)) - 1)
 }
 
-/// The next of so many words, from one on, that a summary has or before which it was looked at no further.
+// The first pair, from one on, that a summary has. Pairs that are 64 apart share their bit, so the whole summary says what
+// comes after the bits from the pair's on.
+fn next_pair(summary: u64, pair: usize) -> Option<usize>
+    requires { pair < 2 ^ 58 }
+    ensures first { FromOn (HasPair summary) pair result }
+    ensures near { IfSome result (λ n. n < pair + 128) }
+{
+    let first = 64 * (pair / 64);
+    let ahead = summary & (u64::MAX << (pair % 64));
+    if ahead != 0 {
+        return Some(first + ahead.trailing_zeros() as usize);
+    }
+    if summary != 0 {
+        return Some(first + 64 + summary.trailing_zeros() as usize);
+    }
+    None
+}
+
+/// The next of so many words, from one on, that a summary has, or their count where it has none of them.
 pub fn next_marked(summary: u64, start: usize, words: usize) -> usize
     requires few { words < 2 ^ 58 }
     requires within { start ≤ words }
     ensures low { start ≤ result }
     ensures high { result ≤ words }
     ensures none { Nowhere (IsMarked summary) start result }
+    ensures next { result < words → IsMarked summary result }
 {
-    let pair = start / 2;
-    let first = 64 * (pair / 64);
-    let ahead = summary & (u64::MAX << (pair % 64));
-    if ahead == 0 {
-        return words.min(2 * (first + 64));
+    match next_pair(summary, start / 2) {
+        Some(pair) => words.min(start.max(2 * pair)),
+        None => words,
     }
-    let marked = first + ahead.trailing_zeros() as usize;
-    words.min(start.max(2 * marked))
 }

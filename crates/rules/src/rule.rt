@@ -4,7 +4,7 @@ ghost use Rattle.std.specs.List.{list_any};
 ghost use Rattle.fields.specs.declared.numbers.field.Field.{Field};
 ghost use Rattle.rules.specs.rule.Actions.{reject_in, target_with, action_with_chain_name};
 ghost use Rattle.rules.specs.rule.Allows.{asks};
-ghost use Rattle.rules.specs.rule.Crossing.{cross};
+ghost use Rattle.rules.specs.steps.Crossed.{has_both};
 ghost use Rattle.rules.specs.steps.Views.{view_content};
 
 pub(crate) mod action;
@@ -35,7 +35,7 @@ use std::mem::size_of;
 pub struct Rule {
     content: Content,
     asks_both: bool,
-    ghost free: { asks_both ≡ false → (numbers : List ℕ) → cross numbers (view_content content) ≡ true },
+    ghost asked: { asks_both ≡ list_any has_both (view_content content).matches },
 }
 
 const _: () = prove!(size_of::<Rule>() == 136);
@@ -165,9 +165,9 @@ impl Rule {
         Rule { content, asks_both }
     }
 
-    // Whether a condition of its matches asks several fields at once; where none does, they hold of every packet.
+    // Whether a condition of its matches asks several fields at once.
     pub(crate) fn asks_both(&self) -> bool
-        ensures { result ≡ false → (numbers : List ℕ) → cross numbers self.now ≡ true }
+        ensures { result ≡ list_any has_both self.now.matches }
     {
         self.asks_both
     }

@@ -1,12 +1,12 @@
 -- Words whose bits stand for places, and the first of these.
-use Rattle.std.proofs.Common.{◌≡◌, ◌≢◌, ◌↔◌, inl, inr, ℕ, ◌+◌, ◌-◌, ◌*◌, ◌/◌, ◌%◌, ◌^◌, ◌<◌, ◌≤◌, max, sym, ◌∙◌, ap, arith, subst, Some}
+use Rattle.std.proofs.Common.{◌≡◌, ◌≢◌, ◌↔◌, inl, inr, ℕ, ◌+◌, ◌-◌, ◌*◌, ◌/◌, ◌%◌, ◌^◌, ◌<◌, ◌≤◌, max, sym, ◌∙◌, ap, arith, subst, Some, None}
 use Rattle.std.specs.Prelude.{bit_and}
 use Rattle.std.specs.Int.{bit_at, w64}
 use Rattle.std.proofs.lemmas.Nat.{shr-shr, pow_pos}
 use Rattle.std.proofs.lemmas.Nat.Bits.{bit_at-zero, bit_at-trailing_zeros, bit_at_cat_low, bit_at_cat_high, ones_shl, and_high_mask}
 use Rattle.std.proofs.lemmas.Bool.{cases_lt}
 use lib.Count.{count_trailing_zeros}
-use Rattle.bits.specs.steps.First.{Nowhere, IsFirst}
+use Rattle.bits.specs.steps.First.{Nowhere, IsFirst, FromOn}
 use Rattle.bits.specs.steps.Summaries.{HasPair, IsMarked}
 
 -- the bits of a word stand for the places from one on, as far as they are not before `from`: those at which P holds
@@ -83,6 +83,23 @@ summary_marks summary start fits = masked_marks (HasPair summary) start summary 
     let read = ap (λ k. bit_at summary k) e in
     (λ one. read ∙ one, λ on. sym read ∙ on))
 
+-- the whole summary marks the pairs of the next 64
+pub whole_marks : (summary start : ℕ) → MarksPlaces (HasPair summary) start (64 * (start / 64) + 64) summary
+whole_marks summary start i in' =
+    let e : (64 * (start / 64) + 64 + i) % 64 ≡ i = omega arith in
+    let read = ap (λ k. bit_at summary k) e in
+    (λ one. (omega arith, read ∙ one), λ on. sym read ∙ on.1)
+
+-- what is first within a bound is first
+pub from_on : (P : ℕ → Type 0) (from to n : ℕ) → IsFirst P from to (Some n) → FromOn P from (Some n)
+from_on P from to n is = (is.0, is.2, is.3)
+
 -- a word is marked where its pair is
-pub pairs_passed : (summary start to less : ℕ) → less ≤ max start (2 * to) → Nowhere (HasPair summary) (start / 2) to → Nowhere (IsMarked summary) start less
-pairs_passed summary start to less le h k ge below p = h (k / 2) (omega arith) (omega arith) p
+pub pair_passed : (summary start pair less : ℕ) → less ≤ max start (2 * pair) → FromOn (HasPair summary) (start / 2) (Some pair) → Nowhere (IsMarked summary) start less
+pair_passed summary start pair less le is k ge below p = is.2 (k / 2) (omega arith) (omega arith) p
+
+pub pair_next : (summary start pair word : ℕ) → word ≡ max start (2 * pair) → FromOn (HasPair summary) (start / 2) (Some pair) → IsMarked summary word
+pair_next summary start pair word same is = let e : word / 2 ≡ pair = omega (arith, same, is.0) in subst (HasPair summary) (sym e) is.1
+
+pub pairs_gone : (summary start words : ℕ) → FromOn (HasPair summary) (start / 2) None → Nowhere (IsMarked summary) start words
+pairs_gone summary start words none k ge below p = none (k / 2) (omega arith) p

@@ -1,5 +1,5 @@
 -- What matches ask of several fields at once, as the code keeps them.
-use Rattle.std.proofs.Common.{◌≡◌, ◌||◌, ◌&&◌, ℕ, Bool, true, false, List, [], ◌∷◌, Option, Some, None, is_some, refl, sym, ap, ◌∙◌}
+use Rattle.std.proofs.Common.{◌≡◌, ◌||◌, ◌&&◌, ℕ, Bool, true, false, List, [], ◌∷◌, map, Option, Some, None, is_some, refl, sym, ap, ◌∙◌}
 use Rattle.std.specs.List.{list_all, list_any}
 use Rattle.std.proofs.lemmas.Bool.{true≢false}
 use Rattle.std.proofs.lemmas.List.Folds.{list_all-map}
@@ -32,7 +32,15 @@ free_all p q (x ∷ xs) each is =
 free_match : (numbers : List ℕ) (m : viewed.Match) → has_both m ≡ false → match_crosses numbers m ≡ true
 free_match numbers m = free_all is_both (setting_crosses numbers) m.settings (λ (s : Setting). free_ports s.inverted (both_ports_in s.value) numbers)
 
--- of matches of which none asks several fields at once, each holds of every packet
-pub free_matches : (ms : List Match) → list_any (λ m. has_both (view_match m)) ms ≡ false → (numbers : List ℕ) → list_all (match_crosses numbers) (view_matches ms) ≡ true
-free_matches ms is numbers =
-    sym (each_viewed numbers ms) ∙ free_all (λ (m : Match). has_both (view_match m)) (λ (m : Match). match_crosses numbers (view_match m)) ms (λ (m : Match). free_match numbers (view_match m)) is
+-- one of a list that is made of another is so
+pub any_mapped : {A B : Type 0} (p : B → Bool) (f : A → B) (xs : List A) → list_any p (map f xs) ≡ list_any (λ x. p (f x)) xs
+any_mapped p f [] = refl
+any_mapped p f (x ∷ xs) = ap (λ b. p (f x) || b) (any_mapped p f xs)
+
+-- matches of which one asks several fields at once, as the code keeps them
+pub any_viewed : (ms : List Match) → list_any (λ m. has_both (view_match m)) ms ≡ list_any has_both (view_matches ms)
+any_viewed ms = sym (any_mapped has_both view_match ms)
+
+-- of matches of which none does, each holds of every packet
+pub free_matches : (numbers : List ℕ) (ms : List viewed.Match) → list_any has_both ms ≡ false → list_all (match_crosses numbers) ms ≡ true
+free_matches numbers ms = free_all has_both (match_crosses numbers) ms (free_match numbers)

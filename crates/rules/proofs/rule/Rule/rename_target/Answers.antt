@@ -8,4 +8,4 @@ invariant_of-self c = rw c.rename.ensures (renamed_reads c.args.name.now (view_c
 
 pub invariant_of-self-inside : goal.invariant_of-self-inside
 unfolding cross
-invariant_of-self-inside c = (c.self.inside.free, tt)
+invariant_of-self-inside c = (c.self.inside.asked, tt)
