@@ -302,42 +302,20 @@ fn box_of(alloc: Global, line: &str, work: &mut Work) -> Result<Boxed, Fail> {
     Ok(Boxed::of(alloc, &rule, work)?)
 }
 
-// Compares the box of a line, which is one more than were made before.
-fn is_boxed(
-    rt: &impl Abort,
-    alloc: Global,
-    work: &mut Work,
-    made: usize,
-    row: &Row,
-) -> Result<(), Fail> {
-    let (line, asked) = *row;
-    assert!(rt; work.boxes() == made as u64, "{line}");
-    let boxed = box_of(alloc, line, work)?;
-    assert!(rt; allows(&boxed, asked), "{line}");
-    Ok(())
-}
-
-// Compares the boxes of some lines.
-fn are_boxed(rt: &impl Abort, alloc: Global, rows: &[Row], count: u64) -> Result<(), Fail> {
+// Compares the boxes of some lines, each of which is made once.
+fn are_boxed(rt: &impl Abort, alloc: Global, rows: &[Row]) -> Result<(), Fail> {
     let mut work = Work::new();
-    for (made, row) in rows.iter().enumerate() {
-        is_boxed(rt, alloc, &mut work, made, row)?;
+    for (line, asked) in rows {
+        let boxed = box_of(alloc, line, &mut work)?;
+        assert!(rt; allows(&boxed, asked), "{line}");
     }
-    assert!(rt; work.boxes() == count);
+    assert!(rt; work.boxes() == rows.len() as u64);
     Ok(())
 }
 
 #[test]
 fn boxes_have_what_rules_allow(rt: HostRuntime) -> Result<(), Fail> {
-    are_boxed(&rt, rt.alloc(), BOXES, 49)
-}
-
-#[test]
-fn boxes_have_all_of_both_ports(rt: HostRuntime) -> Result<(), Fail> {
-    are_boxed(&rt, rt.alloc(), BOTH_PORTS, 8)
-}
-
-#[test]
-fn boxes_have_times_to_live(rt: HostRuntime) -> Result<(), Fail> {
-    are_boxed(&rt, rt.alloc(), LIVES, 20)
+    are_boxed(&rt, rt.alloc(), BOXES)?;
+    are_boxed(&rt, rt.alloc(), BOTH_PORTS)?;
+    are_boxed(&rt, rt.alloc(), LIVES)
 }
