@@ -1,5 +1,6 @@
-//! Tests of `fields` through its public calls, of what no contract says: that the definitions are the manual's, and
-//! that a call succeeds. They have a crate of their own, so that `fields` is proved once.
+//! Tests of `fields` through its public calls, of what no contract says and no line of a session brings out: taps and
+//! devices, sets of numbers, the numbers of packets, and what values hold of. They have a crate of their own, so that
+//! `fields` is proved once.
 #![tactic(auto)]
 
 #[cfg(test)]

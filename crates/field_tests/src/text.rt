@@ -1,3 +1,1 @@
-mod number;
 mod tap;
-mod words;
