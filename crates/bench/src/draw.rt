@@ -2,26 +2,26 @@
 
 ghost use Rattle.std.specs.Prelude.{◌<◌};
 
+use rand_core::utils::NextWord;
+use rand_pcg::Pcg32;
+
 /// Gives such numbers, one after another.
 #[derive(Drop)]
 pub(crate) struct Draw {
-    state: u64,
+    words: Pcg32,
 }
 
 impl Draw {
     /// Before the first number of a row of numbers; there is a row for each seed.
     pub(crate) fn new(seed: u64) -> Draw {
-        Draw { state: seed }
+        Draw {
+            words: Pcg32::new(seed, 1),
+        }
     }
 
     /// A number of 32 bits.
     pub(crate) fn number(&mut self) -> u32 {
-        self.state = self
-            .state
-            .wrapping_mul(6364136223846793005)
-            .wrapping_add(1442695040888963407);
-        let [a, b, c, d, ..] = self.state.to_be_bytes();
-        u32::from_be_bytes([a, b, c, d])
+        self.words.next_word()
     }
 
     /// A number below a bound.

@@ -83,6 +83,7 @@ leading slots (k ∷ ks) key = leading_in key (row_at slots k) + leading slots k
 -- each chain is as before, but for its count
 pub record AreRecounted (old new : List (Option Row)) : Type 0 where
   pub present : (key : ℕ) → IsSome (slot_at old key) → IsSome (slot_at new key)
+  pub no_more : (key : ℕ) → IsSome (slot_at new key) → IsSome (slot_at old key)
   pub name : (key : ℕ) → (row_at new key).name ≡ (row_at old key).name
   pub entries : (key : ℕ) → (row_at new key).entries ≡ (row_at old key).entries
   pub classifier : (key : ℕ) → (row_at new key).classifier ≡ (row_at old key).classifier
@@ -95,9 +96,10 @@ CountsInAndOut more fewer old new = (key : ℕ) → new key + ones (is_key key f
 abbrev pub references_at : List (Option Row) → ℕ → ℕ
 references_at slots key = (row_at slots key).references
 
--- the chains stand as they should, but for the counts of the rules that name them
+-- the chains stand as they should, but for the counts of the rules that name them: those of the index, and no others
 pub record IsStored (slots : List (Option Row)) (order : List ℕ) : Type 0 where
   pub present : (i : ℕ) → i < length order → IsSome (slot_at slots (slice_index order i))
+  pub no_more : (key : ℕ) → IsSome (slot_at slots key) → IsIn order key
   pub apart : (i j : ℕ) → i < length order → j < length order → slice_index order i ≡ slice_index order j → i ≡ j
   pub linked : (i : ℕ) → i < length order → All (IsLinked slots order) (row_at slots (slice_index order i)).entries
   pub classified : (i : ℕ) → i < length order → IsClassified (row_at slots (slice_index order i))

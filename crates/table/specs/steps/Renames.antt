@@ -18,6 +18,7 @@ retargeted key name entry =
 -- the first chains of the index have the name in their rules that lead to the chain under the key, and all else is as before
 pub record AreRetargeted (old new : List (Option Row)) (order : List ℕ) (key : ℕ) (name : List ℕ) (upto : ℕ) : Type 0 where
   pub present : (k : ℕ) → IsSome (slot_at old k) → IsSome (slot_at new k)
+  pub no_more : (k : ℕ) → IsSome (slot_at new k) → IsSome (slot_at old k)
   pub named : (k : ℕ) → (row_at new k).name ≡ (row_at old k).name
   pub references : (k : ℕ) → (row_at new k).references ≡ (row_at old k).references
   pub classified : (j : ℕ) → j < length order → IsClassified (row_at new (slice_index order j))

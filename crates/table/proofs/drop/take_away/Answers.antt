@@ -1,6 +1,6 @@
 use Rattle.std.proofs.Common.{◌≡◌, ◌∙◌, sym, ap, subst, List, ℕ, get_or}
 use Rattle.std.proofs.lemmas.List.{get_or_default}
-use Rattle.table.specs.steps.Kept.{IsIn, IsKept, table_of}
+use Rattle.table.specs.steps.Kept.{IsIn, IsKept, slot_at, table_of}
 use Rattle.table.proofs.laws.edits.DropLaws.{IsGone, in_left, kept_gone, table_gone}
 use Rattle.table.proofs.drop.take_away.Goals as goal
 
@@ -10,7 +10,7 @@ returns-clause-kept c =
     let order = c.args.order.now.items in
     let key = c.remove-key.result in
     let at : get_or order c.args.place 0 ≡ key = get_or_default order c.args.place 0 key c.requires.place ∙ sym c.remove-key.ensures.value in
-    let g : IsGone slots c.remove.new.self.slots order c.args.place = record { place = c.requires.place; others = λ k ne. c.remove.ensures.updates.others k (λ q. ne (q ∙ sym at)) } in
+    let g : IsGone slots c.remove.new.self.slots order c.args.place = record { place = c.requires.place; gone = ap (slot_at c.remove.new.self.slots) at ∙ c.remove.ensures.updates.changed; others = λ k ne. c.remove.ensures.updates.others k (λ q. ne (q ∙ sym at)) } in
     let P : List ℕ → Type 0 = λ ks. IsKept c.remove.new.self.slots ks in
     subst P (sym c.remove-key.ensures.items) (kept_gone slots c.remove.new.self.slots order c.args.place c.requires.kept g c.requires.accepted)
 
@@ -20,7 +20,7 @@ returns-clause-table c =
     let order = c.args.order.now.items in
     let key = c.remove-key.result in
     let at : get_or order c.args.place 0 ≡ key = get_or_default order c.args.place 0 key c.requires.place ∙ sym c.remove-key.ensures.value in
-    let g : IsGone slots c.remove.new.self.slots order c.args.place = record { place = c.requires.place; others = λ k ne. c.remove.ensures.updates.others k (λ q. ne (q ∙ sym at)) } in
+    let g : IsGone slots c.remove.new.self.slots order c.args.place = record { place = c.requires.place; gone = ap (slot_at c.remove.new.self.slots) at ∙ c.remove.ensures.updates.changed; others = λ k ne. c.remove.ensures.updates.others k (λ q. ne (q ∙ sym at)) } in
     ap (table_of c.remove.new.self.slots) c.remove-key.ensures.items ∙ table_gone slots c.remove.new.self.slots order c.args.place c.requires.kept.stored g
 
 pub returns-clause-fewer : goal.returns-clause-fewer

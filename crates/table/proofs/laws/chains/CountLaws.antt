@@ -92,6 +92,7 @@ pub stored_recounted : (slots new : List (Option Row)) (order : List ℕ) → Ar
 stored_recounted slots new order r s =
     record {
       present = λ i lt. r.present (get_or order i 0) (s.present i lt);
+      no_more = λ key there. s.no_more key (r.no_more key there);
       apart = s.apart;
       linked = λ i lt.
           (let P : List Entry → Type 0 = λ (es : List Entry). All (IsLinked new order) es in

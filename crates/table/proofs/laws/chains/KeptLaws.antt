@@ -32,6 +32,13 @@ some_set slots key k row lt h =
       | inr ne ↦ subst P (sym (get_or-set_other slots key k (Some row) None ne)) h
     ]
 
+-- no chain is there that wasn't
+pub set_some : (slots : List (Option Row)) (key k : ℕ) (row : Row) → IsSome (slot_at slots key) → IsSome (slot_at (set slots key (Some row)) k) → IsSome (slot_at slots k)
+set_some slots key k row there h =
+    let P : Option Row → Type 0 = λ (o : Option Row). IsSome o in
+    let Q : ℕ → Type 0 = λ j. IsSome (slot_at slots j) in
+    elim (cases_eq k key) [ inl same ↦ subst Q (sym same) there | inr ne ↦ subst P (get_or-set_other slots key k (Some row) None ne) h ]
+
 pub name_set : (slots : List (Option Row)) (key k : ℕ) (row : Row) → key < length slots → row.name ≡ (row_at slots key).name → (row_at (set slots key (Some row)) k).name ≡ (row_at slots k).name
 name_set slots key k row lt e =
     elim (cases_eq k key) [
@@ -120,6 +127,7 @@ stored_set slots order i key row new u f named linked classified is sound =
     let weaker : (es : List Entry) → All (IsLinked slots order) es → All (IsLinked after order) es = λ es. All-weaker (IsLinked slots order) (IsLinked after order) (λ e l. link_kept slots after order same e l) es in
     record {
       present = λ k lk. some_set slots key (get_or order k 0) new f.within (f.stored.present k lk);
+      no_more = λ k there. (let O : Option Row → Type 0 = λ (o : Option Row). IsSome o in f.stored.no_more k (set_some slots key k new (subst O (sym f.slot) refl) there));
       apart = f.stored.apart;
       linked = λ k lk.
           (let Q : Row → Type 0 = λ (r : Row). All (IsLinked after order) r.entries in

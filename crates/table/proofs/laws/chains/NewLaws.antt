@@ -1,10 +1,11 @@
 -- The first table.
-use Rattle.std.proofs.Common.{◌≡◌, ◌≢◌, ℕ, zero, suc, ◌<◌, Bool, false, List, [], ◌∷◌, length, get_or, map, refl, sym, ◌∙◌, ap, arith, subst, Option, Some, None, IsSome, unwrap_or, All}
+use Rattle.std.proofs.Common.{◌≡◌, ◌≢◌, inl, inr, ℕ, zero, suc, ◌<◌, Bool, false, List, [], ◌∷◌, length, get_or, map, refl, sym, ◌∙◌, ap, arith, subst, Option, Some, None, IsSome, unwrap_or, All}
 use Rattle.std.specs.Prelude.{codes, count_by}
+use Rattle.std.proofs.lemmas.Bool.{cases_eq, false≢true}
 use Rattle.std.proofs.lemmas.List.Elements.{All-nil}
 use Rattle.table.specs.chains.Sound.{IsSound}
 use Rattle.table.specs.chains.Table.{Chain, Policy, Accept, empty_table, empty_chain}
-use Rattle.table.specs.steps.Kept.{blank, slot_at, row_at, listed, listed_at, listed_row, leading, leading_in, IsLinked, IsWhole}
+use Rattle.table.specs.steps.Kept.{blank, slot_at, row_at, listed, listed_at, listed_row, leading, leading_in, IsIn, IsLinked, IsWhole}
 use Rattle.table.specs.steps.Rows.{Row, leads_to, IsClassified}
 use Rattle.table.specs.declared.chain.entry.Entry.{Entry}
 use Rattle.table.proofs.laws.chains.SoundLaws.{empty_sound}
@@ -19,6 +20,7 @@ pub record IsBare (row : Row) (name : List ℕ) : Type 0 where
 -- three slots one after another
 pub record Three (s1 s2 s3 : List (Option Row)) (a b c : ℕ) (ra rb rc : Row) : Type 0 where
   pub first : slot_at s1 a ≡ Some ra
+  pub others1 : (k : ℕ) → k ≢ a → slot_at s1 k ≡ None
   pub free2 : slot_at s1 b ≡ None
   pub second : slot_at s2 b ≡ Some rb
   pub others2 : (k : ℕ) → k ≢ b → slot_at s2 k ≡ slot_at s1 k
@@ -61,6 +63,21 @@ module _ (s1 s2 s3 : List (Option Row)) (a b c : ℕ) (ra rb rc : Row) (t : Thre
   each P pa pb pc (suc zero) lt = pb
   each P pa pb pc (suc (suc zero)) lt = pc
   each P pa pb pc (suc (suc (suc i))) lt = absurd (omega (arith, lt))
+
+  -- no other key has a chain
+  only_three : (k : ℕ) → IsSome (slot_at s3 k) → IsIn (a ∷ b ∷ c ∷ []) k
+  only_three k there =
+      let O : Option Row → Type 0 = λ (o : Option Row). IsSome o in
+      elim (cases_eq k c) [
+        | inl q ↦ (2, omega arith, sym q)
+        | inr nc ↦ elim (cases_eq k b) [
+          | inl q ↦ (1, omega arith, sym q)
+          | inr nb ↦ elim (cases_eq k a) [
+            | inl q ↦ (0, omega arith, sym q)
+            | inr na ↦ absurd (false≢true (subst O (t.others3 k nc ∙ t.others2 k nb ∙ t.others1 k na) there))
+          ]
+        ]
+      ]
 
   empty_at : (k : ℕ) (row : Row) (name : List ℕ) → slot_at s3 k ≡ Some row → IsBare row name → (row_at s3 k).entries ≡ []
   empty_at k row name e bare = ap (λ (r : Row). r.entries) (under k row e) ∙ bare.entries
@@ -111,6 +128,7 @@ module _ (s1 s2 s3 : List (Option Row)) (a b c : ℕ) (ra rb rc : Row) (t : Thre
         kept = record {
           stored = record {
             present = each S (subst O (sym at_a) refl) (subst O (sym at_b) refl) (subst O (sym t.third) refl);
+            no_more = only_three;
             apart = three_apart;
             linked = each L (none a ra (codes "INPUT") at_a t.input) (none b rb (codes "FORWARD") at_b t.forward) (none c rc (codes "OUTPUT") t.third t.output);
             classified = each C (right a ra (codes "INPUT") at_a t.input) (right b rb (codes "FORWARD") at_b t.forward) (right c rc (codes "OUTPUT") t.third t.output);

@@ -5,6 +5,7 @@ use Rattle.std.proofs.lemmas.Bool.{cases_Bool, cond-true, cond-false}
 use Rattle.std.proofs.lemmas.List.{length-map}
 use Rattle.std.proofs.lemmas.List.Elements.{All-weaker}
 use Rattle.rules.specs.rule.Rules.{Rule}
+use Rattle.rules.proofs.laws.rule.CrossLaws.{any_mapped}
 use Rattle.std.specs.Option.{IsSome}
 use Rattle.std.proofs.lemmas.Bool.{false≢true}
 use Rattle.fields.specs.Refusals.{Refuses}
@@ -135,23 +136,19 @@ classified_with slots (x ∷ xs) h = (h 0 (omega arith), classified_with slots x
 
 -- Rules by their texts
 
-pub any_mapped : {X Y : Type 0} (f : X → Y) (p : Y → Bool) (xs : List X) → list_any p (map f xs) ≡ list_any (λ x. p (f x)) xs
-any_mapped f p [] = refl
-any_mapped f p (x ∷ xs) = ap (λ b. p (f x) || b) (any_mapped f p xs)
-
 -- no rule of a chain has the text
 pub no_text : (policies : List Policy) (slots : List (Option Row)) (order : List ℕ) (name : List ℕ) (i : ℕ) (rule : Rule) → i < length order → position (is_named name) (listed slots order) ≡ Some i
     → position (has_text rule) (row_at slots (get_or order i 0)).entries ≡ None → (no_such_rule (table_with policies slots order) name rule).0 ≡ true
 no_text policies slots order name i rule lt e none =
     let es : List Entry = (row_at slots (get_or order i 0)).entries in
-    ap not (ap (list_any (same_text rule)) (rules_found policies slots order name i lt e) ∙ any_mapped rule_in (same_text rule) es ∙ any_none (has_text rule) es none)
+    ap not (ap (list_any (same_text rule)) (rules_found policies slots order name i lt e) ∙ any_mapped (same_text rule) rule_in es ∙ any_none (has_text rule) es none)
 
 -- one has
 pub some_text : (policies : List Policy) (slots : List (Option Row)) (order : List ℕ) (name : List ℕ) (i at : ℕ) (rule : Rule) → i < length order → position (is_named name) (listed slots order) ≡ Some i
     → position (has_text rule) (row_at slots (get_or order i 0)).entries ≡ Some at → (no_such_rule (table_with policies slots order) name rule).0 ≡ false
 some_text policies slots order name i at rule lt e found =
     let es : List Entry = (row_at slots (get_or order i 0)).entries in
-    ap not (ap (list_any (same_text rule)) (rules_found policies slots order name i lt e) ∙ any_mapped rule_in (same_text rule) es ∙ any_some (has_text rule) es at (record { rule = rule; course = course.GoesOn }) found)
+    ap not (ap (list_any (same_text rule)) (rules_found policies slots order name i lt e) ∙ any_mapped (same_text rule) rule_in es ∙ any_some (has_text rule) es at (record { rule = rule; course = course.GoesOn }) found)
 
 -- the first rule of the text is the one at its place
 without_at : (rule : Rule) (es : List Entry) (at : ℕ) (d : Entry) → at < length es → ((k : ℕ) → k < at → has_text rule (get_or es k d) ≡ false) → has_text rule (get_or es at d) ≡ true → without_first rule (map rule_in es) ≡ remove (map rule_in es) at

@@ -21,8 +21,9 @@ use Rattle.table.specs.declared.chain.entry.Entry.{Entry}
 use Rattle.table.proofs.laws.chains.FewerLaws.{MayGo, may_go, any_false, delete_chain_sound}
 use Rattle.table.proofs.laws.chains.RowLaws.{map_remove}
 use Rattle.table.proofs.laws.chains.StoreLaws.{names_apart, texts_differ, place_is, built_in_first, user_after, length-listed, listed_get}
-use Rattle.table.proofs.laws.edits.AnswerLaws.{any_mapped, holds, passes, somewhere, count_found}
-use Rattle.table.proofs.laws.edits.MakeLaws.{listed_agree, leading_agree}
+use Rattle.rules.proofs.laws.rule.CrossLaws.{any_mapped}
+use Rattle.table.proofs.laws.edits.AnswerLaws.{holds, passes, somewhere, count_found}
+use Rattle.table.proofs.laws.edits.MakeLaws.{listed_agree, leading_agree, stays_at}
 
 -- A chain is named by a rule just where its count isn't 0
 
@@ -75,7 +76,7 @@ referenced_in slots order (x ∷ xs) i s lt h =
     let n : List ℕ = name_at slots order i in
     let key : ℕ = get_or order i 0 in
     let es : List Entry = (row_at slots x).entries in
-    let own : list_any (names n) (rules_in (row_at slots x)) ≡ nat_lt 0 (leading_in key (row_at slots x)) = any_mapped rule_in (names n) es
+    let own : list_any (names n) (rules_in (row_at slots x)) ≡ nat_lt 0 (leading_in key (row_at slots x)) = any_mapped (names n) rule_in es
     ∙ any_counted (λ (e : Entry). names n e.rule) (λ (e : Entry). leads_to key e.course) es (λ k d le. names_leads slots order i (get_or es k d) s lt (h 0 (omega arith) k d le)) in
     ap (λ b. b || is_referenced (listed slots xs) n) own
     ∙ ap (λ b. nat_lt 0 (leading_in key (row_at slots x)) || b) (referenced_in slots order xs i s lt (λ j le. h (suc j) (omega (arith, le))))
@@ -188,6 +189,7 @@ in_left order i key lt at = let q = left_at order i at.0 lt at.1 in (q.0, q.1, s
 -- the slot under the key of a place of the index is emptied
 pub record IsGone (slots new : List (Option Row)) (order : List ℕ) (i : ℕ) : Type 0 where
   pub place : i < length order
+  pub gone : slot_at new (get_or order i 0) ≡ None
   pub others : (k : ℕ) → k ≢ get_or order i 0 → slot_at new k ≡ slot_at slots k
 
 other_row : (slots new : List (Option Row)) (order : List ℕ) (i k : ℕ) → IsStored slots order → IsGone slots new order i → k < length order → k ≢ i → row_at new (get_or order k 0) ≡ row_at slots (get_or order k 0)
@@ -211,16 +213,8 @@ table_gone slots new order i s g =
 
 user_left : (order : List ℕ) (i to : ℕ) → i < length order → 3 ≤ i → IsUser order to → to ≢ get_or order i 0 → IsUser (remove order i) to
 user_left order i to lt low u ne =
-    elim (cases_lt u.0 i) [
-      | inl below ↦ (u.0, u.1, omega (arith, length-remove order i lt), get_or-remove_below order i 0 u.0 below lt ∙ u.3)
-      | inr ge ↦ elim (cases_eq u.0 i) [
-        | inl e ↦ absurd (ne (sym u.3 ∙ ap (λ (x : ℕ). get_or order x 0) e))
-        | inr un ↦ (
-            let k : ℕ = u.0 - 1 in
-            let back : k + 1 ≡ u.0 = omega (arith, u.1) in
-            (k, omega (arith, ge, un, low), omega (arith, length-remove order i lt, u.2, u.1), get_or-remove_above order i 0 k (omega (arith, ge, un)) lt ∙ ap (λ (x : ℕ). get_or order x 0) back ∙ u.3))
-      ]
-    ]
+    let w = stays_at order i u.0 lt u.2 (λ e. ne (sym u.3 ∙ ap (λ (x : ℕ). get_or order x 0) e)) in
+    (w.0, omega (arith, w.3, low, u.1), w.1, w.2 ∙ u.3)
 
 leading_out : (slots : List (Option Row)) (keys : List ℕ) (i k : ℕ) → i < length keys → leading slots (remove keys i) k + leading_in k (row_at slots (get_or keys i 0)) ≡ leading slots keys k
 leading_out slots [] i k lt = absurd (omega (arith, lt))
@@ -269,6 +263,11 @@ kept_gone slots new order i h g accepted =
     record {
       stored = record {
         present = λ j lt. (let q = at j lt in subst O (sym (ap (slot_at new) q.3 ∙ g.others (get_or order q.0 0) (λ e. q.2 (s.apart q.0 i q.1 g.place e)))) (s.present q.0 q.1));
+        no_more = λ k there. (
+            let ne : k ≢ get_or order i 0 = λ e. false≢true (subst O (ap (slot_at new) e ∙ g.gone) there) in
+            let w = s.no_more k (subst O (g.others k ne) there) in
+            let q = stays_at order i w.0 g.place w.1 (λ e. ne (sym w.2 ∙ ap (λ (x : ℕ). get_or order x 0) e)) in
+            (q.0, q.1, q.2 ∙ w.2));
         apart = λ x y lx ly e. (
             let q = at x lx in
             let r = at y ly in

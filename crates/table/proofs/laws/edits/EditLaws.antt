@@ -217,7 +217,7 @@ out_table slots after order i key at row new f p same =
 
 -- two counts, one after the other
 pub recounted_on : (a b c : List (Option Row)) → AreRecounted a b → AreRecounted b c → AreRecounted a c
-recounted_on a b c r s = record { present = λ k h. s.present k (r.present k h); name = λ k. s.name k ∙ r.name k; entries = λ k. s.entries k ∙ r.entries k; classifier = λ k. s.classifier k ∙ r.classifier k }
+recounted_on a b c r s = record { present = λ k h. s.present k (r.present k h); no_more = λ k h. r.no_more k (s.no_more k h); name = λ k. s.name k ∙ r.name k; entries = λ k. s.entries k ∙ r.entries k; classifier = λ k. s.classifier k ∙ r.classifier k }
 
 pub counts_on : (more fewer : Option ℕ) (f g h : ℕ → ℕ) → CountsInAndOut more None f g → CountsInAndOut None fewer g h → CountsInAndOut more fewer f h
 counts_on more fewer f g h a b k = omega (arith, a k, b k)

@@ -11,7 +11,7 @@ use Rattle.table.specs.steps.Rows.{Row, leads_to, IsClassified}
 use Rattle.table.specs.steps.Kept.{blank, slot_at, row_at, table_of, leading, IsLinked, IsKept}
 use Rattle.table.specs.declared.chain.entry.Entry.{Entry}
 use Rattle.table.proofs.laws.chains.ChainLaws.{flush_all_sound}
-use Rattle.table.proofs.laws.chains.KeptLaws.{key_within, row_set_same, row_set_other, some_set, listed_by}
+use Rattle.table.proofs.laws.chains.KeptLaws.{key_within, row_set_same, row_set_other, some_set, set_some, listed_by}
 
 -- a chain without rules, that no rule names
 pub record IsEmptied (row : Row) : Type 0 where
@@ -22,11 +22,12 @@ pub record IsEmptied (row : Row) : Type 0 where
 -- the first chains of the index are empty, and no name has changed
 pub record AreEmptied (old new : List (Option Row)) (order : List ℕ) (upto : ℕ) : Type 0 where
   pub present : (k : ℕ) → IsSome (slot_at old k) → IsSome (slot_at new k)
+  pub no_more : (k : ℕ) → IsSome (slot_at new k) → IsSome (slot_at old k)
   pub name : (k : ℕ) → (row_at new k).name ≡ (row_at old k).name
   pub emptied : (j : ℕ) → j < upto → IsEmptied (row_at new (get_or order j 0))
 
 pub none_emptied : (slots : List (Option Row)) (order : List ℕ) → AreEmptied slots slots order 0
-none_emptied slots order = record { present = λ k h. h; name = λ k. refl; emptied = λ j lt. absurd (omega (arith, lt)) }
+none_emptied slots order = record { present = λ k h. h; no_more = λ k h. h; name = λ k. refl; emptied = λ j lt. absurd (omega (arith, lt)) }
 
 pub next_emptied : (old now : List (Option Row)) (order : List ℕ) (upto key : ℕ) (row new : Row) → AreEmptied old now order upto → get_or order upto 0 ≡ key → slot_at now key ≡ Some row → new.name ≡ row.name → IsEmptied new
     → AreEmptied old (set now key (Some new)) order (upto + 1)
@@ -36,6 +37,7 @@ next_emptied old now order upto key row new h at slot named empty =
     let is : row_at now key ≡ row = ap (λ (o : Option Row). unwrap_or o blank) slot in
     record {
       present = λ k there. some_set now key k new within (h.present k there);
+      no_more = λ k there. h.no_more k (set_some now key k new (subst O (sym slot) refl) there);
       name = λ k.
           elim (cases_eq k key) [
             | inl q ↦ ap (λ (j : ℕ). (row_at (set now key (Some new)) j).name) q ∙ ap (λ (r : Row). r.name) (row_set_same now key new within) ∙ named ∙ ap (λ (r : Row). r.name) (sym is)
@@ -69,6 +71,7 @@ all_kept old new order h e =
     record {
       stored = record {
         present = λ i lt. e.present (get_or order i 0) (h.stored.present i lt);
+        no_more = λ k there. h.stored.no_more k (e.no_more k there);
         apart = h.stored.apart;
         linked = λ i lt. subst L (sym (e.emptied i lt).entries) (All-nil (IsLinked new order));
         classified = λ i lt. (e.emptied i lt).classified;

@@ -1,8 +1,8 @@
 -- A new chain in the index.
 use Rattle.std.proofs.Common.{◌≡◌, ◌≢◌, ◌⊎◌, inl, inr, ℕ, zero, suc, ◌+◌, ◌-◌, ◌<◌, ◌≤◌, Bool, true, false, cond, ◌||◌, not, List, [], ◌∷◌, length, get_or, map, refl, sym, ◌∙◌, ap, arith, subst, Option, Some, None, IsSome, unwrap_or, All}
-use Rattle.std.specs.Prelude.{count_by, insert, filter}
+use Rattle.std.specs.Prelude.{count_by, insert, remove, filter, min}
 use Rattle.std.proofs.lemmas.Bool.{cases_Bool, cases_eq, cases_lt, cond-true, cond-false, false≢true, or_right, or_left, ne_eqb}
-use Rattle.std.proofs.lemmas.List.Edits.{get_or-insert_below, get_or-insert_at, get_or-insert_above, length-insert}
+use Rattle.std.proofs.lemmas.List.Edits.{get_or-insert_below, get_or-insert_at, get_or-insert_above, get_or-remove_above, get_or-remove_below, length-insert, length-remove}
 use Rattle.std.proofs.lemmas.List.Elements.{All-nil, All-weaker}
 use Rattle.std.proofs.lemmas.List.Sums.{sum_by-cons}
 use Rattle.table.specs.chains.Sound.{IsSound}
@@ -43,6 +43,17 @@ shifted_at order j key k le lt =
     elim (cases_lt k j) [
       | inl below ↦ (k, omega (arith, length-insert order j key le), get_or-insert_below order j key 0 k below le, omega arith)
       | inr ge ↦ (k + 1, omega (arith, length-insert order j key le), get_or-insert_above order j key 0 k ge le, omega arith)
+    ]
+
+-- where a key is after another was taken out
+pub stays_at : (order : List ℕ) (j k : ℕ) → j < length order → k < length order → k ≢ j → (i : ℕ) × (i < length (remove order j)) × (get_or (remove order j) i 0 ≡ get_or order k 0) × (min j k ≤ i)
+stays_at order j k lt within ne =
+    elim (cases_lt k j) [
+      | inl below ↦ (k, omega (arith, length-remove order j lt), get_or-remove_below order j 0 k below lt, omega arith)
+      | inr ge ↦ (
+          let i : ℕ = k - 1 in
+          let back : i + 1 ≡ k = omega (arith, ge, ne) in
+          (i, omega (arith, length-remove order j lt, within, back), get_or-remove_above order j 0 i (omega (arith, ge, ne, back)) lt ∙ ap (λ (x : ℕ). get_or order x 0) back, omega (arith, ge, back)))
     ]
 
 -- what a new slot leaves
@@ -169,6 +180,10 @@ kept_made slots new order i key row name h a p named none zero_refs classified a
         present = λ j lt. elim (insert_cases order i key j le lt) [
           | inl at ↦ subst O (sym (ap (slot_at new) at.1 ∙ a.is)) refl
           | inr q ↦ subst O (sym (ap (slot_at new) q.2 ∙ a.others (get_or order q.0 0) (differs q.0 q.1))) (s.present q.0 q.1)
+        ];
+        no_more = λ k there. elim (cases_eq k key) [
+          | inl own ↦ (i, omega (arith, size, le), get_or-insert_at order i key 0 le ∙ sym own)
+          | inr ne ↦ (let w = s.no_more k (subst O (a.others k ne) there) in let q = shifted_at order i key w.0 le w.1 in (q.0, q.1, q.2 ∙ w.2))
         ];
         apart = λ x y lx ly e. elim (insert_cases order i key x le lx) [
           | inl u ↦ elim (insert_cases order i key y le ly) [

@@ -1,7 +1,7 @@
 -- A renamed chain under its key, at the place of its new name.
 use Rattle.std.proofs.Common.{◌≡◌, ◌≢◌, ◌⊎◌, inl, inr, ℕ, zero, suc, ◌+◌, ◌-◌, ◌<◌, ◌≤◌, Bool, true, false, cond, ◌||◌, List, [], ◌∷◌, length, get_or, map, refl, sym, ◌∙◌, ap, arith, subst, Option, Some, None, IsSome, All, option_map}
 use Rattle.std.proofs.Math.ListN.{set}
-use Rattle.std.specs.Prelude.{count_by, insert, remove, nat_lt, nat_eq}
+use Rattle.std.specs.Prelude.{count_by, insert, remove, min, nat_lt, nat_eq}
 use Rattle.std.specs.List.{list_any, position}
 use Rattle.std.specs.Str.{bytes_eq}
 use Rattle.std.proofs.lemmas.Bool.{cases_Bool, cases_eq, cases_lt, cond-true, cond-false, false≢true, or_left, or_right, eq-eqb, ne_eqb, eqb-true, eqb-false, lt-ltb, le-ltb}
@@ -22,24 +22,25 @@ use Rattle.rules.specs.rule.Rules.{Rule}
 use Rattle.table.specs.chains.Sound.{IsSound}
 use Rattle.table.specs.chains.Table.{Table, Chain, Policy, Accept, chain_in, comes_before, is_built_in, is_named, is_this, names, names_of}
 use Rattle.table.specs.edits.Edits.{Rename, edited, placed, renamed_rule, renamed_chain}
-use Rattle.table.specs.steps.Kept.{blank, slot_at, row_at, name_at, listed, listed_at, listed_row, table_of, leading, leading_in, IsUser, LinksTo, IsLinked, IsPlaceFor, IsStored, IsKept}
+use Rattle.table.specs.steps.Kept.{blank, slot_at, row_at, name_at, listed, listed_at, listed_row, table_of, leading, leading_in, IsIn, IsUser, LinksTo, IsLinked, IsPlaceFor, IsStored, IsKept}
 use Rattle.table.specs.steps.Renames.{AreRetargeted, moved_key, retargeted}
 use Rattle.table.specs.steps.Rows.{Row, course_of, leads_to, ones, rule_in, rules_in, IsClassified}
 use Rattle.table.specs.declared.chain.entry.Entry.{Entry}
-use Rattle.table.proofs.laws.chains.KeptLaws.{key_within, listed_by, row_set_other, row_set_same, some_set}
+use Rattle.table.proofs.laws.chains.KeptLaws.{key_within, listed_by, row_set_other, row_set_same, some_set, set_some}
 use Rattle.table.proofs.laws.chains.CountLaws.{part_kept}
 use Rattle.table.proofs.laws.chains.PlaceLaws.{any_none, any_some}
 use Rattle.table.proofs.laws.chains.RenamedLaws.{IsRename, moved_is, names_at, names_rest, own_at, rename_sound, renamed_all, renamed_at, renamed_get, renamed_other, renamed_own}
 use Rattle.table.proofs.laws.chains.RowLaws.{map_insert, map_remove}
 use Rattle.table.proofs.laws.chains.StoreLaws.{built_in_first, length-listed, length-names, listed_get, names_apart, names_get, texts_differ, user_after}
 use Rattle.table.proofs.laws.edits.AnswerLaws.{table_with}
-use Rattle.table.proofs.laws.edits.MakeLaws.{insert_cases, leading_insert, not_turned, placed_is, shifted_at}
+use Rattle.table.proofs.laws.edits.MakeLaws.{insert_cases, leading_insert, not_turned, placed_is, shifted_at, stays_at}
 
 -- The chains under their keys
 
 -- the chain under the key has the name, and so have the rules that lead to it
 pub record IsRenamed (slots new : List (Option Row)) (order : List ℕ) (key : ℕ) (name : List ℕ) : Type 0 where
   pub present : (j : ℕ) → j < length order → IsSome (slot_at new (get_or order j 0))
+  pub no_more : (k : ℕ) → IsSome (slot_at new k) → IsSome (slot_at slots k)
   pub own : (row_at new key).name ≡ name
   pub others : (k : ℕ) → k ≢ key → (row_at new k).name ≡ (row_at slots k).name
   pub references : (k : ℕ) → (row_at new k).references ≡ (row_at slots k).references
@@ -54,6 +55,7 @@ renamed_set slots mid order place key name row new s lt at h slot named entries 
     let after : List (Option Row) = set mid key (Some new) in
     record {
       present = λ j lj. some_set mid key (get_or order j 0) new within (h.present (get_or order j 0) (s.present j lj));
+      no_more = λ k there. h.no_more k (set_some mid key k new (subst O (sym slot) refl) there);
       own = ap (λ (r : Row). r.name) (row_set_same mid key new within) ∙ named;
       others = λ k ne. ap (λ (r : Row). r.name) (row_set_other mid key k new ne) ∙ h.named k;
       references = λ k. part_kept mid key row new (λ (r : Row). r.references) slot refs k ∙ h.references k;
@@ -149,6 +151,7 @@ record IsMoved (order after : List ℕ) : Type 0 where
   pub size : length after ≡ length order
   pub from : (j : ℕ) → j < length after → (k : ℕ) × (k < length order) × (get_or after j 0 ≡ get_or order k 0)
   pub apart : (i j : ℕ) → i < length after → j < length after → get_or after i 0 ≡ get_or after j 0 → i ≡ j
+  pub stay : (k : ℕ) → IsIn order k → IsIn after k
   pub user : (to : ℕ) → IsUser order to → IsUser after to
   pub leads : (slots : List (Option Row)) (k : ℕ) → leading slots after k ≡ leading slots order k
 
@@ -159,7 +162,15 @@ moves order place x apart user lt ge below =
     let rest : List ℕ = remove order place in
     let less : length rest + 1 ≡ length order = length-remove order place lt in
     let le : x ≤ length rest = omega (arith, less, below) in
-    let size : length (insert rest x key) ≡ length rest + 1 = length-insert rest x key le in
+    let after : List ℕ = insert rest x key in
+    let size : length after ≡ length rest + 1 = length-insert rest x key le in
+    let stays : (k : ℕ) → k < length order → (i : ℕ) × (i < length after) × (get_or after i 0 ≡ get_or order k 0) × (min 3 k ≤ i) = λ k lk. elim (cases_eq k place) [
+      | inl q ↦ (x, omega (arith, size, le), get_or-insert_at rest x key 0 le ∙ ap (λ (n : ℕ). get_or order n 0) (sym q), omega (arith, ge))
+      | inr ne ↦ (
+          let w = stays_at order place k lt lk ne in
+          let z = shifted_at rest x key w.0 le w.1 in
+          (z.0, z.1, z.2 ∙ w.2, omega (arith, user, w.3, z.3)))
+    ] in
     record {
       size = size ∙ less;
       from = λ j lj.
@@ -184,22 +195,8 @@ moves order place x apart user lt ge below =
                       omega (arith, same, u.3, v.3))
                 ])
           ];
-      user = λ to u.
-          (let there : u.0 < length order = u.2 in
-          let after : 3 ≤ u.0 = u.1 in
-          elim (cases_lt u.0 place) [
-            | inl early ↦ (
-                let w = shifted_at rest x key u.0 le (omega (arith, less, early, lt)) in
-                (w.0, omega (arith, after, w.3), w.1, w.2 ∙ get_or-remove_below order place 0 u.0 early lt ∙ u.3))
-            | inr late ↦ elim (cases_eq u.0 place) [
-              | inl q ↦ (x, ge, omega (arith, size, le), get_or-insert_at rest x key 0 le ∙ ap (λ (n : ℕ). get_or order n 0) (sym q) ∙ u.3)
-              | inr ne ↦ (
-                  let k : ℕ = u.0 - 1 in
-                  let back : k + 1 ≡ u.0 = omega (arith, after) in
-                  let w = shifted_at rest x key k le (omega (arith, less, there, back)) in
-                  (w.0, omega (arith, late, ne, user, back, w.3), w.1, w.2 ∙ get_or-remove_above order place 0 k (omega (arith, late, ne, back)) lt ∙ ap (λ (n : ℕ). get_or order n 0) back ∙ u.3))
-            ]
-          ]);
+      stay = λ k there. (let w = stays there.0 there.1 in (w.0, w.1, w.2 ∙ there.2));
+      user = λ to u. (let w = stays u.0 u.2 in (w.0, omega (arith, w.3, u.1), w.1, w.2 ∙ u.3));
       leads = λ slots k. omega (arith, leading_insert slots rest x key k le, leading_remove slots order place k lt);
     }
 
@@ -355,6 +352,7 @@ kept_renamed slots new order place to key old name h lt at own p m r reads =
     record {
       stored = record {
         present = λ j lj. (let w = v.from j lj in subst O (sym w.2) (r.present w.0 w.1));
+        no_more = λ k there. v.stay k (s.no_more k (r.no_more k there));
         apart = v.apart;
         linked = λ j lj. (let w = v.from j lj in subst L (sym w.2) (linked w.0 w.1));
         classified = λ j lj. (let w = v.from j lj in subst C (sym w.2) (r.classified w.0 w.1));

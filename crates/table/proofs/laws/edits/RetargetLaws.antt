@@ -18,7 +18,7 @@ use Rattle.table.specs.steps.Kept.{blank, slot_at, row_at, leading, references_a
 use Rattle.table.specs.steps.Renames.{NameChains, retargeted, AreRetargeted}
 use Rattle.table.specs.steps.Rows.{Row, leads_to, key_in, course_of, ones, rule_in, IsClassified}
 use Rattle.table.specs.declared.chain.entry.Entry.{Entry}
-use Rattle.table.proofs.laws.chains.KeptLaws.{key_within, row_set_same, row_set_other, some_set}
+use Rattle.table.proofs.laws.chains.KeptLaws.{key_within, row_set_same, row_set_other, some_set, set_some}
 use Rattle.table.proofs.laws.chains.CountLaws.{part_kept, leading_part}
 
 -- a target is no number that a rule allows
@@ -61,7 +61,7 @@ name_chains slots now order key name i at row s h lt is slot =
 
 pub none_retargeted : (slots : List (Option Row)) (order : List ℕ) (key : ℕ) (name : List ℕ) → IsStored slots order → AreRetargeted slots slots order key name 0
 none_retargeted slots order key name s =
-    record { present = λ k h. h; named = λ k. refl; references = λ k. refl; classified = s.classified; done = λ j lt below. absurd (omega (arith, lt)); rest = λ j ge lt. refl }
+    record { present = λ k h. h; no_more = λ k h. h; named = λ k. refl; references = λ k. refl; classified = s.classified; done = λ j lt below. absurd (omega (arith, lt)); rest = λ j ge lt. refl }
 
 pub next_retargeted : (slots now : List (Option Row)) (order : List ℕ) (key : ℕ) (name : List ℕ) (i at : ℕ) (row new : Row) → IsStored slots order → AreRetargeted slots now order key name i → i < length order → get_or order i 0 ≡ at → slot_at now at ≡ Some row
     → new.name ≡ row.name → new.entries ≡ map (retargeted key name) row.entries → new.references ≡ row.references → IsClassified new → AreRetargeted slots (set now at (Some new)) order key name (i + 1)
@@ -73,6 +73,7 @@ next_retargeted slots now order key name i at row new s h lt is slot named entri
     let was : row.entries ≡ (row_at slots (get_or order i 0)).entries = ap (λ (o : Option Row). (unwrap_or o blank).entries) (sym slot) ∙ ap (λ (k : ℕ). (row_at now k).entries) (sym is) ∙ h.rest i (omega arith) lt in
     record {
       present = λ k there. some_set now at k new within (h.present k there);
+      no_more = λ k there. h.no_more k (set_some now at k new (subst O (sym slot) refl) there);
       named = λ k. part_kept now at row new (λ (r : Row). r.name) slot named k ∙ h.named k;
       references = λ k. part_kept now at row new (λ (r : Row). r.references) slot refs k ∙ h.references k;
       classified = λ j lj.
@@ -114,6 +115,7 @@ no_rule_retargeted slots order key name h at none =
     let c : references_at slots key ≡ leading slots order key = subst R at.2 (h.counted at.0 at.1) in
     record {
       present = λ k there. there;
+      no_more = λ k there. there;
       named = λ k. refl;
       references = λ k. refl;
       classified = h.stored.classified;

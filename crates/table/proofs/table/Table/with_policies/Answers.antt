@@ -1,4 +1,7 @@
-use Rattle.std.proofs.Common.{◌∙◌, ap, arith, Bool, false, List, get_or}
+use Rattle.std.proofs.Common.{◌∙◌, ap, arith, Bool, false, List, Option, get_or}
+use Rattle.slab.specs.Slab.{Slab}
+use Rattle.table.specs.steps.Kept.{slot_at}
+use Rattle.table.specs.steps.Rows.{Row}
 use Rattle.table.proofs.laws.chains.NewLaws.{whole_three}
 use Rattle.table.proofs.table.Table.with_policies.Goals as goal
 
@@ -8,6 +11,7 @@ invariant_of-result c =
     c.insert_reserved-input.result c.insert_reserved-forward.result c.insert_reserved-output.result c.in_ok-new.field-0 c.in_ok-new-2.field-0 c.in_ok-new-3.field-0
     (record {
       first = c.insert_reserved-input.ensures.updates.changed;
+      others1 = λ k ne. c.insert_reserved-input.ensures.updates.others k ne ∙ ap (λ (s : Slab Row). slot_at s.slots k) c.reserve.ensures.rest_kept ∙ ap (λ (slots : List (Option Row)). slot_at slots k) c.new-chains.ensures.empty;
       free2 = c.insert_reserved-forward.ensures.was_vacant;
       second = c.insert_reserved-forward.ensures.updates.changed;
       others2 = c.insert_reserved-forward.ensures.updates.others;
