@@ -1,4 +1,5 @@
 pub mod Cutting
+pub mod GivenNumbers
 pub mod IcmpTable
 pub mod LineSteps
 pub mod NamedFlags

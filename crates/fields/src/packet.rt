@@ -1,17 +1,19 @@
 //! Packets, and the words of a packet line.
-ghost use Rattle.std.specs.Prelude.{◌≡◌, ◌<◌, ◌≤◌, [], find, map, length, take, drop, slice_index_or, option_map, IfOk};
+ghost use Rattle.std.specs.Prelude.{◌≡◌, ◌<◌, ◌≤◌, [], map, length, drop, IfOk};
 ghost use Rattle.std.specs.List.{list_any};
 ghost use Rattle.fields.specs.declared.numbers.field.Field.{Field};
 ghost use Rattle.fields.specs.numbers.Field.{number_on, top};
-ghost use Rattle.fields.specs.packet.Packet.{has_key, field_of, text_in, text_of, word_fault, leftmost_fault, shape_of, strays, lacks, value_on};
+ghost use Rattle.fields.specs.packet.Packet.{leftmost_fault};
+ghost use Rattle.fields.specs.steps.GivenNumbers.{AllFit, value_in, shape_in, strays_in, lacks_in, checked_in};
 
+mod given;
 pub(crate) mod hook;
 pub(crate) mod keys;
 
 use crate::numbers::field::{FIELDS, Field};
+use crate::packet::given::{given_by, number_in};
 use crate::packet::hook::Hook;
 use crate::packet::keys::{KeyRow, Shape};
-use crate::text::cut::cut_at;
 use crate::text::words::Words;
 use std::marker::Model;
 use thiserror::Error;
@@ -53,195 +55,101 @@ impl Model for Packet {
     ghost inverse = { λ p. record { hook = p.hook; values = p.values } };
 }
 
-fn has_key(field: Field, key: &[u8]) -> bool
-    ensures { result ≡ has_key key.now field }
+fn value_on(given: &[Option<u128>; FIELDS], field: Field) -> u128
+    ensures { result ≡ value_in given.now field }
 {
-    field.name() == key
+    number_in(given, field).unwrap_or(KeyRow::of(field).absent)
 }
 
-fn field_among(fields: &[Field], key: &[u8]) -> Option<Field>
-    ensures { result ≡ find (has_key key.now) fields.now }
+// The shape, which decides the keys that the packet carries.
+fn shape_of(hook: Hook, given: &[Option<u128>; FIELDS]) -> Shape
+    ensures { result ≡ shape_in hook given.now }
 {
-    fields.iter().copied().find(|field| has_key(*field, key))
-}
-
-// The field of a key: the one whose name is the key.
-fn field_of(key: &[u8]) -> Option<Field>
-    ensures { result ≡ field_of key.now }
-{
-    field_among(&Field::ALL, key)
-}
-
-// The text that a word gives a field.
-fn text_in(word: &[u8], field: Field) -> Option<&[u8]>
-    ensures { option_map (λ t. t.now) result ≡ text_in field word.now }
-{
-    let (key, text) = cut_at(word, b'=')?;
-    if field.name() == key {
-        Some(text)
-    } else {
-        None
-    }
-}
-
-// The text that the words from `first` up to `end` give a field.
-fn text_of(words: &Words, first: usize, end: usize, field: Field) -> Option<&[u8]>
-    requires ordered { first ≤ end }
-    requires within { end ≤ length words.now }
-    ensures { option_map (λ t. t.now) result ≡ text_of field (drop first (take end words.now)) }
-{
-    for place in first..end {
-        if let Some(text) = text_in(words.get(place), field) {
-            return Some(text);
-        }
-    }
-    None
-}
-
-// The fault of the word at a place, after those from `first` on.
-fn word_fault(words: &Words, first: usize, place: usize) -> Option<PacketFault>
-    requires ordered { first ≤ place }
-    requires within { place < length words.now }
-    ensures { result ≡ word_fault (drop first (take place words.now)) (slice_index_or words.now place []) }
-{
-    let Some((key, text)) = cut_at(words.get(place), b'=') else {
-        return Some(PacketFault::UnknownKey);
-    };
-    let Some(field) = field_of(key) else {
-        return Some(PacketFault::UnknownKey);
-    };
-    if text_of(words, first, place, field).is_some()
-        || KeyRow::of(field).value.read(text).is_none()
-    {
-        Some(PacketFault::BadValue)
-    } else {
-        None
-    }
-}
-
-// The fault of the leftmost word at fault. Each word before it gave another field, so looking back from a word passes
-// at most `FIELDS` words.
-fn leftmost_fault(words: &Words, first: usize) -> Option<PacketFault>
-    requires { first ≤ length words.now }
-    ensures { result ≡ leftmost_fault [] (drop first words.now) }
-{
-    for place in first..words.len() {
-        if let Some(fault) = word_fault(words, first, place) {
-            return Some(fault);
-        }
-    }
-    None
-}
-
-fn value_on(words: &Words, first: usize, field: Field) -> u128
-    requires { first ≤ length words.now }
-    ensures { result ≡ value_on (drop first words.now) field }
-{
-    let row = KeyRow::of(field);
-    match text_of(words, first, words.len(), field) {
-        None => row.absent,
-        Some(text) => row.value.read(text).unwrap_or(row.absent),
-    }
-}
-
-// The shape that decide which others the packet carries.
-fn shape_of(hook: Hook, words: &Words, first: usize) -> Shape
-    requires { first ≤ length words.now }
-    ensures { result ≡ shape_of hook (drop first words.now) }
-{
-    let protocol = match text_of(words, first, words.len(), Field::Protocol) {
-        None => None,
-        Some(text) => KeyRow::of(Field::Protocol).value.read(text),
-    };
     Shape {
         hook,
-        protocol,
-        fragment: value_on(words, first, Field::Fragment),
+        protocol: number_in(given, Field::Protocol),
+        fragment: value_on(given, Field::Fragment),
     }
 }
 
 // Tells whether the key of a field is given, of a packet that doesn't carry it.
-fn strays(shape: Shape, words: &Words, first: usize, field: Field) -> bool
-    requires { first ≤ length words.now }
-    ensures { result ≡ strays shape (drop first words.now) field }
+fn strays(shape: Shape, given: &[Option<u128>; FIELDS], field: Field) -> bool
+    ensures { result ≡ strays_in shape given.now field }
 {
-    text_of(words, first, words.len(), field).is_some() && !shape.carry(KeyRow::of(field).carrier)
+    number_in(given, field).is_some() && !shape.carry(KeyRow::of(field).carrier)
 }
 
-fn strays_any(shape: Shape, words: &Words, first: usize, fields: &[Field]) -> bool
-    requires { first ≤ length words.now }
-    ensures { result ≡ list_any (strays shape (drop first words.now)) fields.now }
+fn strays_any(shape: Shape, given: &[Option<u128>; FIELDS], fields: &[Field]) -> bool
+    ensures { result ≡ list_any (strays_in shape given.now) fields.now }
 {
-    fields
-        .iter()
-        .any(|field| strays(shape, words, first, *field))
+    fields.iter().any(|field| strays(shape, given, *field))
 }
 
 // Tells whether the key of a field has to be given and isn't.
-fn lacks(shape: Shape, words: &Words, first: usize, field: Field) -> bool
-    requires { first ≤ length words.now }
-    ensures { result ≡ lacks shape (drop first words.now) field }
+fn lacks(shape: Shape, given: &[Option<u128>; FIELDS], field: Field) -> bool
+    ensures { result ≡ lacks_in shape given.now field }
 {
     KeyRow::of(field).is_required
         && shape.carry(KeyRow::of(field).carrier)
-        && text_of(words, first, words.len(), field).is_none()
+        && number_in(given, field).is_none()
 }
 
-fn lacks_any(shape: Shape, words: &Words, first: usize, fields: &[Field]) -> bool
-    requires { first ≤ length words.now }
-    ensures { result ≡ list_any (lacks shape (drop first words.now)) fields.now }
+fn lacks_any(shape: Shape, given: &[Option<u128>; FIELDS], fields: &[Field]) -> bool
+    ensures { result ≡ list_any (lacks_in shape given.now) fields.now }
 {
-    fields
-        .iter()
-        .any(|field| lacks(shape, words, first, *field))
+    fields.iter().any(|field| lacks(shape, given, *field))
 }
 
-fn put_values(words: &Words, first: usize, fields: &[Field], values: &mut [u128])
-    requires within { first ≤ length words.now }
-    requires paired { length values.old ≡ length fields.now }
-    ensures { values.new ≡ map (value_on (drop first words.now)) fields.now }
+fn put_values(given: &[Option<u128>; FIELDS], fields: &[Field], values: &mut [u128])
+    requires { length values.old ≡ length fields.now }
+    ensures { values.new ≡ map (value_in given.now) fields.now }
 {
     for (i, field) in fields.iter().enumerate() {
-        values[i] = value_on(words, first, *field);
+        values[i] = value_on(given, *field);
     }
 }
 
-fn values_of(words: &Words, first: usize) -> [u128; FIELDS]
-    requires { first ≤ length words.now }
-    ensures { result ≡ map (value_on (drop first words.now)) Field.ALL }
+fn values_of(given: &[Option<u128>; FIELDS]) -> [u128; FIELDS]
+    ensures { result ≡ map (value_in given.now) Field.ALL }
 {
     let mut values = [0; FIELDS];
-    put_values(words, first, &Field::ALL, &mut values);
+    put_values(given, &Field::ALL, &mut values);
     values
 }
 
 impl Packet {
     ghost use Rattle.fields.specs.packet.Packet.{IsPacket, checked, packet_of, point};
 
+    // The packet that the numbers of a line make at a hook.
+    fn of_given(hook: Hook, given: &[Option<u128>; FIELDS]) -> Result<Packet, PacketFault>
+        requires { AllFit given.now }
+        ensures value { result ≡ checked_in hook given.now }
+        ensures valid { IfOk result (λ p. IsPacket p) }
+    {
+        let shape = shape_of(hook, given);
+        if strays_any(shape, given, &Field::ALL) {
+            return Err(PacketFault::NotCarried);
+        }
+        if lacks_any(shape, given, &Field::ALL) {
+            return Err(PacketFault::KeyMissing);
+        }
+        let values = values_of(given);
+        Ok(Packet { hook, values })
+    }
+
     fn after_hook(hook: Hook, words: &Words, first: usize) -> Result<Packet, PacketFault>
         requires { first ≤ length words.now }
         ensures value { result ≡ checked hook (drop first words.now) (leftmost_fault [] (drop first words.now)) }
         ensures valid { IfOk result (λ p. IsPacket p) }
     {
-        match leftmost_fault(words, first) {
-            Some(fault) => Err(fault),
-            None => {
-                let shape = shape_of(hook, words, first);
-                if strays_any(shape, words, first, &Field::ALL) {
-                    return Err(PacketFault::NotCarried);
-                }
-                if lacks_any(shape, words, first, &Field::ALL) {
-                    return Err(PacketFault::KeyMissing);
-                }
-                let values = values_of(words, first);
-                Ok(Packet { hook, values })
-            }
-        }
+        let given = given_by(words, first)?;
+        Packet::of_given(hook, &given)
     }
 
     /// The packet that the words from a place on write: the hook, and then `key=value` in any order. The fault is that
-    /// of the leftmost word at fault, else F4, else F2. Takes no memory. A word is compared with those before it, which
-    /// are at most as many as the fields: the first word that repeats a key ends the reading.
+    /// of the leftmost word at fault, else F4, else F2. Takes no memory. Each word is cut, its key looked up and its
+    /// value read once. A word that repeats a key ends the reading, so it takes at most one word more than there are
+    /// fields.
     pub fn read(words: &Words, from: usize) -> Result<Packet, PacketFault>
         ensures value { result ≡ packet_of (drop from words.now) }
         ensures valid { IfOk result (λ p. IsPacket p) }

@@ -1,2 +1,3 @@
+pub mod GivenLaws
 pub mod PacketLaws
 mod PacketRows

@@ -1,5 +1,5 @@
 //! Taps: a reader or a writer, and whether a call of it has failed.
-ghost use Rattle.std.specs.Prelude.{◌≡◌, [], IfSome, ◌+◌, ◌-◌, ◌^◌, ◌<◌, ◌≤◌, true, false, length, IfOk, OnOk, IsOk, IsErr, is_err, flat_map};
+ghost use Rattle.std.specs.Prelude.{◌≡◌, [], IfSome, ◌+◌, ◌-◌, ◌^◌, ◌<◌, true, false, length, IfOk, OnOk, IsOk, IsErr, is_err, flat_map};
 ghost use Rattle.fields.specs.text.Tap.{has_failed, device, is_unflushed, known, turns_left, Keeps, Puts};
 ghost use Rattle.fields.specs.contracts.text.tap.Tap.{the_row};
 ghost use Rattle.std.specs.Borrow.{sem};

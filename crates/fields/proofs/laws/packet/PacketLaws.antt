@@ -1,17 +1,18 @@
 -- Laws of the words of a packet line.
-use Rattle.std.proofs.Common.{◌≡◌, ℕ, ◌+◌, ◌*◌, ◌<◌, ◌≤◌, find, option_map, leb-true, List, [], ◌∷◌, ◌++◌, length, map, get_or, take, drop, length-take, get_or-take, Option, None, Some, Err, Bool, true, false, cond, lit≤, refl, sym, subst, ap, ◌∙◌, arith}
+use Rattle.std.proofs.Common.{◌≡◌, ℕ, ◌+◌, ◌*◌, ◌<◌, ◌≤◌, find, option_map, leb-true, List, [], length, map, drop, Option, None, Some, Err, Bool, true, false, cond, lit≤, refl, sym, subst, ap, ◌∙◌, arith}
 use Rattle.std.specs.Prelude.{slice_get, slice_index, unwrap_or, nat_le}
 use Rattle.std.specs.Str.{bytes_eq}
 use Rattle.std.specs.List.{list_all}
 use Rattle.std.specs.Option.{option_or}
-use Rattle.std.proofs.lemmas.List.{drop_more, take_more, drop-append-le}
+use Rattle.std.proofs.lemmas.List.{drop_more}
 use Rattle.std.proofs.lemmas.Option.{get_or_from_slice_get}
 use Rattle.fields.specs.Sequence.{◌>>=◌}
 use Rattle.fields.specs.numbers.Field.{index, top}
 use Rattle.fields.specs.packet.Hook.{hook_of}
 use Rattle.fields.specs.packet.Keys.{key_of, value_of}
 use Rattle.fields.specs.text.Number.{number_to}
-use Rattle.fields.specs.packet.Packet.{IsPacket, text_in, text_of, number_of_text, word_fault, leftmost_fault, value_on, checked, packet_at, packet_of}
+use Rattle.fields.specs.packet.Packet.{IsPacket, number_of_text, leftmost_fault, checked, packet_at, packet_of}
+use Rattle.fields.specs.steps.GivenNumbers.{number_in, AllFit, value_in}
 use Rattle.fields.specs.declared.numbers.field.Field.{Field}
 use Rattle.fields.specs.declared.numbers.field.Field.TheVariants as fields
 use Rattle.fields.specs.declared.numbers.field.TheConstants.Field.{ALL}
@@ -31,38 +32,6 @@ use Rattle.fields.proofs.laws.values.TtlLaws.{within as ttl_within}
 use Rattle.fields.proofs.laws.text.CutLaws.{step_before, same_some}
 use Rattle.fields.proofs.laws.text.NumberLaws.{number_to_sound}
 use Rattle.fields.proofs.laws.values.PrefixLaws.{address_of_sound}
-
--- a word, and those behind it up to an end
-word_first : (words : List (List ℕ)) (place end : ℕ) (word : List ℕ) → place < end → end ≤ length words → slice_get words place ≡ Some word
-    → drop place (take end words) ≡ word ∷ drop (place + 1) (take end words)
-word_first words place end word before within is =
-    let inside : place < length (take end words) = grind (arith, length-take {A = List ℕ}) in
-    let same : get_or (take end words) place [] ≡ word = get_or-take end words place [] before ∙ get_or_from_slice_get words place word [] is in
-    drop_more (take end words) place [] inside ∙ ap (λ w. w ∷ drop (place + 1) (take end words)) same
-
-module _ (field : Field) (words : List (List ℕ)) (place end : ℕ) (word : List ℕ) (before : place < end) (within : end ≤ length words) (is : slice_get words place ≡ Some word) where
-  text_of_first : text_of field (drop place (take end words)) ≡ option_or (text_in field word) (text_of field (drop (place + 1) (take end words)))
-  text_of_first = ap (text_of field) (word_first words place end word before within is)
-
-  -- the first word gives the text
-  pub text_of_here : (text : List ℕ) → Some text ≡ text_in field word → text_of field (drop place (take end words)) ≡ Some text
-  text_of_here text gives = text_of_first ∙ ap (λ o. option_or o (text_of field (drop (place + 1) (take end words)))) (sym gives)
-
-  -- it gives none
-  pub text_of_further : None ≡ text_in field word → text_of field (drop place (take end words)) ≡ text_of field (drop (place + 1) (take end words))
-  text_of_further none = text_of_first ∙ ap (λ o. option_or o (text_of field (drop (place + 1) (take end words)))) (sym none)
-
--- the word at a place, behind those from the first on
-pub leftmost_fault_first : (words : List (List ℕ)) (first place : ℕ) → first ≤ place → place < length words
-    → leftmost_fault (drop first (take place words)) (drop place words)
-    ≡ option_or (word_fault (drop first (take place words)) (get_or words place [])) (leftmost_fault (drop first (take (place + 1) words)) (drop (place + 1) words))
-leftmost_fault_first words first place ordered within =
-    let before = drop first (take place words) in
-    let word = get_or words place [] in
-    let inside : first ≤ length (take place words) = grind (arith, length-take {A = List ℕ}) in
-    let grown : drop first (take (place + 1) words) ≡ before ++ word ∷ [] =
-    ap (drop first) (take_more words place [] within) ∙ drop-append-le first (take place words) (word ∷ []) inside in
-    ap (leftmost_fault before) (drop_more words place [] within) ∙ ap (λ l. option_or (word_fault before word) (leftmost_fault l (drop (place + 1) words))) (sym grown)
 
 -- the hook, and the words behind it
 pub packet_of_first : (words : List (List ℕ)) (from : ℕ) (word : List ℕ) → from < length words → slice_get words from ≡ Some word
@@ -162,27 +131,27 @@ absent_fits : (field : Field) → (key_of field).absent ≤ top field
 absent_fits fields.Source = lit≤ tt
 absent_fits _ = lit≤ tt
 
-number_on_fits : (field : Field) (text : List ℕ) (n : ℕ) → number_of_text field text ≡ Some n → n ≤ top field
+pub number_on_fits : (field : Field) (text : List ℕ) (n : ℕ) → number_of_text field text ≡ Some n → n ≤ top field
 number_on_fits field text n e = let kind = value_of_fits (key_of field).value text n e in let whole = greatest_fits field in omega (arith, kind, whole)
 
-value_on_fits : (words : List (List ℕ)) (field : Field) → value_on words field ≤ top field
-value_on_fits words field = go (text_of field words >>= λ text. number_of_text field text) refl
+value_in_fits : (given : List (Option ℕ)) → AllFit given → (field : Field) → value_in given field ≤ top field
+value_in_fits given fit field = go (number_in given field) (fit field)
   where
-    go : (o : Option ℕ) → (text_of field words >>= λ text. number_of_text field text) ≡ o → unwrap_or o (key_of field).absent ≤ top field
-    go None e = absent_fits field
-    go (Some n) e = let (text, given, is) = step_before (text_of field words) (λ t. number_of_text field t) n e in number_on_fits field text n is
+    go : (o : Option ℕ) → ((n : ℕ) → o ≡ Some n → n ≤ top field) → unwrap_or o (key_of field).absent ≤ top field
+    go None small = absent_fits field
+    go (Some n) small = small n refl
 
 -- a list of one value a field has each at the field's index
 at_index : (f : Field → ℕ) (field : Field) → slice_index (map f ALL) (index field) ≡ f field
 at_index f fields.Source = refl
 at_index f _ = refl
 
-pub values_fit : (hook : Hook) (words : List (List ℕ)) (values : List ℕ) → values ≡ map (value_on words) ALL → IsPacket (record { hook = hook; values = values })
-values_fit hook words values are =
+pub values_fit : (hook : Hook) (given : List (Option ℕ)) (values : List ℕ) → AllFit given → values ≡ map (value_in given) ALL → IsPacket (record { hook = hook; values = values })
+values_fit hook given values fit are =
     subst
     (λ (vs : List ℕ). IsPacket (record { hook = hook; values = vs }))
     (sym are)
     (record {
       whole = refl;
-      within = λ field. subst (λ n. n ≤ top field) (sym (at_index (value_on words) field)) (value_on_fits words field);
+      within = λ field. subst (λ n. n ≤ top field) (sym (at_index (value_in given) field)) (value_in_fits given fit field);
     })

@@ -1,9 +1,12 @@
-use Rattle.std.proofs.Common.{drop}
-use Rattle.fields.proofs.laws.packet.PacketLaws.{values_fit}
+use Rattle.std.proofs.Common.{◌∙◌, ap, drop}
+use Rattle.fields.specs.packet.Packet.{checked}
+use Rattle.fields.proofs.laws.packet.GivenLaws.{given_fit, checked_same}
 use Rattle.fields.proofs.packet.Packet.after_hook.Goals as goal
 
-pub invariant_of-result : goal.invariant_of-result
-invariant_of-result c = values_fit c.args.hook (drop c.args.first c.args.words.now) c.values_of-values.result c.values_of-values.ensures
+pub of_given-requires : goal.of_given-requires
+of_given-requires c = given_fit c.in_ok-given.given (drop c.args.first c.args.words.now) c.in_ok-given.ensures.given
 
-pub returns-else-lacks_any-clause-valid : goal.returns-else-lacks_any-clause-valid
-returns-else-lacks_any-clause-valid c = values_fit c.args.hook (drop c.args.first c.args.words.now) c.values_of-values.result c.values_of-values.ensures
+pub returns-clause-value : goal.returns-clause-value
+returns-clause-value c =
+    let words = drop c.args.first c.args.words.now in
+    c.of_given.ensures.value ∙ checked_same c.args.hook c.in_ok-given.given words c.in_ok-given.ensures.given ∙ ap (checked c.args.hook words) c.in_ok-given.ensures.fault
