@@ -1,5 +1,5 @@
 //! The trail of a packet: the rules that match it, in turn.
-ghost use Rattle.std.specs.Prelude.{◌≡◌, ◌<◌, length, false, true, IfOk, Some};
+ghost use Rattle.std.specs.Prelude.{◌≡◌, ◌<◌, ◌≤◌, length, false, true, IfNone, IfOk, IfSome, Some};
 ghost use Rattle.table.specs.steps.Kept.{IsIn, IsStored, listed};
 ghost use Rattle.table.specs.steps.Walking.{entry_before, walk_at};
 ghost use Rattle.table.specs.walk.Trail.{Shows, shown};
@@ -7,7 +7,7 @@ ghost use Rattle.table.specs.walk.Trail.{Shows, shown};
 use crate::chain::Chain;
 use crate::store::place_of;
 use crate::verdict::Verdict;
-use crate::walk::{LIMIT, Pending, STACK, Turn, advance, follow};
+use crate::walk::{LIMIT, Pending, SHORT, STACK, Turn, advance, follow};
 use arrayvec::ArrayVec;
 use fields::Packet;
 use slab::Slab;
@@ -91,7 +91,48 @@ fn step_before(chains: &Slab<Chain>, order: &Vec<usize>, at: Pending) -> Step
     }
 }
 
-// The trail of a packet, from the first rule of the chain at a place of the listing on.
+// The trail of a packet, from the first rule of the chain at a place of the listing on, by a walk with room for so many
+// rests that wait. There is none where more would wait. It isn't inlined, so that a walk with few places pays for no more.
+#[inline(never)]
+fn trace_within<const DEPTH: usize>(
+    alloc: Global,
+    chains: &Slab<Chain>,
+    order: &Vec<usize>,
+    hook: usize,
+    policy: Verdict,
+    packet: &Packet,
+) -> Result<Option<Trail>, AllocError>
+    requires depth { DEPTH ≤ 1024 }
+    requires kept { IsStored chains.now.slots order.now.items }
+    requires hook { hook < length order.now.items }
+    ensures some { IfOk result (λ found. IfSome found (Shows (listed chains.now.slots order.now.items)
+        (walk_at 65536 chains.now.slots order.now.items hook policy packet.now.values))) }
+    ensures none { IfOk result (λ found. IfNone found (DEPTH < 1024)) }
+{
+    let mut at = Pending::start(order[hook]);
+    let mut stack: ArrayVec<Pending, DEPTH> = ArrayVec::new();
+    let mut left = LIMIT;
+    let mut steps = Vec::new(alloc);
+    'walk: loop {
+        let Some(course) = advance(chains, order, packet, &mut at, &mut stack) else {
+            return Ok(Some(Trail::undecided(steps, policy)));
+        };
+        if left == 0 {
+            return Ok(Some(Trail::decided(Vec::new(alloc), Verdict::TooLong)));
+        }
+        left -= 1;
+        steps.push(step_before(chains, order, at))?;
+        match follow(course, &mut at, &mut stack) {
+            Turn::Decides(verdict) => return Ok(Some(Trail::decided(steps, verdict))),
+            Turn::Policy => return Ok(Some(Trail::undecided(steps, policy))),
+            Turn::Goes => {}
+            Turn::Full => return Ok(None),
+        }
+    }
+}
+
+// The trail of a packet, from the first rule of the chain at a place of the listing on. A walk that needs more places than
+// the short stack has is walked again from its start, with a place for each user chain.
 pub(crate) fn trace(
     alloc: Global,
     chains: &Slab<Chain>,
@@ -105,24 +146,11 @@ pub(crate) fn trace(
     ensures { IfOk result (Shows (listed chains.now.slots order.now.items)
         (walk_at 65536 chains.now.slots order.now.items hook policy packet.now.values)) }
 {
-    let mut at = Pending::start(order[hook]);
-    let mut stack: ArrayVec<Pending, STACK> = ArrayVec::new();
-    let mut left = LIMIT;
-    let mut steps = Vec::new(alloc);
-    'walk: loop {
-        let Some(course) = advance(chains, order, packet, &mut at, &mut stack) else {
-            return Ok(Trail::undecided(steps, policy));
-        };
-        if left == 0 {
-            return Ok(Trail::decided(Vec::new(alloc), Verdict::TooLong));
-        }
-        left -= 1;
-        steps.push(step_before(chains, order, at))?;
-        match follow(course, &mut at, &mut stack) {
-            Turn::Decides(verdict) => return Ok(Trail::decided(steps, verdict)),
-            Turn::Policy => return Ok(Trail::undecided(steps, policy)),
-            Turn::Goes => {}
-            Turn::Full => unreachable!(),
-        }
+    if let Some(trail) = trace_within::<SHORT>(alloc, chains, order, hook, policy, packet)? {
+        return Ok(trail);
+    }
+    match trace_within::<STACK>(alloc, chains, order, hook, policy, packet)? {
+        Some(trail) => Ok(trail),
+        None => unreachable!(),
     }
 }

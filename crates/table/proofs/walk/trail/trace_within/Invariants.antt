@@ -4,10 +4,10 @@ use Rattle.table.specs.steps.Walking.{state_of, IsState, walk_at}
 use Rattle.table.specs.walk.Depth.{depth_within}
 use Rattle.table.specs.walk.Walk.{Entry, walk_within}
 use Rattle.table.proofs.laws.walk.TrailLaws.{after, AreShown}
-use Rattle.table.proofs.walk.trail.trace.Given as goal
+use Rattle.table.proofs.walk.trail.trace_within.Given as goal
 
 abbrev pub invariant-walk : goal.invariant-walk
-invariant-walk l = record {
+invariant-walk g l = record {
   entries : List Entry;
   shown : AreShown (listed l.chains.slots l.order.items) entries l.steps.items;
   same : after entries (walk_within l.left (listed l.chains.slots l.order.items) l.policy l.packet.values (state_of l.chains.slots l.at l.stack.items))
@@ -17,4 +17,4 @@ invariant-walk l = record {
 }
 
 abbrev pub decreases-walk : goal.decreases-walk
-decreases-walk l = l.left
+decreases-walk g l = l.left
