@@ -2,7 +2,7 @@
 
 ghost use Rattle.std.specs.Prelude.{◌<◌};
 
-use crate::commands::Filter;
+use crate::filter::Filter;
 use crate::plain::{Draft, NAMES, Plain};
 use rand_core::utils::NextWord;
 use rand_pcg::Pcg32;
@@ -96,7 +96,8 @@ impl Pair {
         fault: Option<TableFault>,
     ) -> Result<(), Fail> {
         let line = self.line(command, chain, number, draft)?;
-        self.filter.answers(rt, line.as_str(), answer(fault))
+        let reply = self.filter.answer(answer(fault))?;
+        self.filter.replies(rt, line.as_str(), reply.as_str())
     }
 
     fn append(&mut self, rt: &impl Abort, chain: usize, draft: Draft) -> Result<(), Fail> {
@@ -271,25 +272,25 @@ impl Pair {
     // Compares what the table lists with the plain lists.
     fn check_listed(&self, rt: &impl Abort) -> Result<(), Fail> {
         let listed = self.plain.listed(self.filter.alloc)?;
-        self.filter.lists(rt, listed.as_str())
+        self.filter.lists(rt, listed.as_str(), "the plain lists")
     }
 
     // Compares all that the table shows with what a table made anew shows.
     fn check_shown(&self, rt: &impl Abort, anew: &Filter) -> Result<(), Fail> {
         let shown = anew.shown(rt)?;
-        self.filter.still_shows(rt, shown.as_str(), "made anew")
+        self.filter.shows(rt, shown.as_str(), "made anew")
     }
 
-    // Compares the reply to a packet with that of a table made anew.
-    fn check_reply(&self, rt: &impl Abort, anew: &Filter, packet: &str) -> Result<(), Fail> {
-        let reply = anew.reply(rt, packet)?;
-        self.filter.replies(rt, packet, reply.as_str())
+    // Compares the walk of a packet with that in a table made anew.
+    fn check_walk(&self, rt: &impl Abort, anew: &Filter, packet: &str) -> Result<(), Fail> {
+        let walk = anew.walk(rt, packet)?;
+        self.filter.walks(rt, packet, walk.as_str())
     }
 
-    // Compares the replies to the packets with those of a table made anew.
-    fn check_replies(&self, rt: &impl Abort, anew: &Filter) -> Result<(), Fail> {
+    // Compares the walks of the packets with those in a table made anew.
+    fn check_walks(&self, rt: &impl Abort, anew: &Filter) -> Result<(), Fail> {
         for packet in PACKETS.iter() {
-            self.check_reply(rt, anew, packet)?;
+            self.check_walk(rt, anew, packet)?;
         }
         Ok(())
     }
@@ -299,7 +300,7 @@ impl Pair {
         self.check_listed(rt)?;
         let anew = self.anew(rt)?;
         self.check_shown(rt, &anew.filter)?;
-        self.check_replies(rt, &anew.filter)
+        self.check_walks(rt, &anew.filter)
     }
 }
 

@@ -1,24 +1,20 @@
-//! Tests of `table` through its public calls, as commands, packets and their replies. Every expected value is the
-//! manuals'. They have a crate of their own, so that `table` is proved once.
+//! Tests of `table` and of `restore` through their public calls, where they say more than a session does: copies, rules that
+//! are lent, boxes, values of faults, transactions, writers that fail, and edits drawn at random. What a session shows as
+//! well is a case, played by the program `cases`. Every expected value is the manuals'. They have a crate of their own, so
+//! that `table` and `restore` are proved once.
 #![tactic(auto)]
 
 #[cfg(test)]
-mod candidates;
-#[cfg(test)]
-mod chains;
-#[cfg(test)]
-mod commands;
+mod calls;
 #[cfg(test)]
 mod draws;
 #[cfg(test)]
-mod edits;
-#[cfg(test)]
-mod faults;
-#[cfg(test)]
-mod limits;
+mod filter;
 #[cfg(test)]
 mod plain;
 #[cfg(test)]
-mod shown;
+mod refused;
 #[cfg(test)]
-mod walks;
+mod transactions;
+#[cfg(test)]
+mod writers;

@@ -7,7 +7,7 @@ use table::TableFault;
 // The names that chains have, in the order of a listing. A chain is given by its place here.
 pub(crate) const NAMES: [&str; 8] = ["INPUT", "FORWARD", "OUTPUT", "a", "ab", "b", "c", "gone"];
 
-// Conditions, and whether they ask for the interface that a packet comes in by or goes out by.
+// Conditions as they are listed, and whether they ask for the interface that a packet comes in by or goes out by.
 const CONDITIONS: [(&str, bool, bool); 12] = [
     ("", false, false),
     (" -s 10.0.0.0/8", false, false),
@@ -29,7 +29,7 @@ const TARGETS: [&str; 8] = [
     " -j DROP",
     " -j RETURN",
     " -j LOG",
-    " -j REJECT",
+    " -j REJECT --reject-with icmp-port-unreachable",
     " -j REJECT --reject-with icmp-host-unreachable",
     " -j LOG --log-uid",
 ];
@@ -253,17 +253,38 @@ impl Plain {
         }
     }
 
-    // Writes the names of the chains with the counts of their rules, separated by blanks.
+    // Writes the line of a chain.
+    fn write_chain(&self, text: &mut String, chain: usize) -> Result<(), AllocError> {
+        if self.has(chain) {
+            let name = NAMES[chain % 8];
+            let policy = if chain < 3 { "ACCEPT" } else { "-" };
+            write!(text, ":{name} {policy} [0:0]\n")?;
+        }
+        Ok(())
+    }
+
+    // Writes the rules of a chain.
+    fn write_rules(&self, text: &mut String, chain: usize) -> Result<(), AllocError> {
+        let name = NAMES[chain % 8];
+        for draft in self.rules(chain) {
+            write!(text, "-A {name}")?;
+            draft.write(text)?;
+            text.push_str("\n")?;
+        }
+        Ok(())
+    }
+
+    // The listing of the chains and their rules, with the policies of a new table.
     pub(crate) fn listed(&self, alloc: Global) -> Result<String, AllocError> {
         let mut text = String::new(alloc);
+        text.push_str("*filter\n")?;
         for chain in 0..8usize {
-            if self.has(chain) {
-                let name = NAMES[chain];
-                let count = self.rules(chain).len();
-                text.push_str(if chain == 0 { "" } else { " " })?;
-                write!(text, "{name}:{count}")?;
-            }
+            self.write_chain(&mut text, chain)?;
         }
+        for chain in 0..8usize {
+            self.write_rules(&mut text, chain)?;
+        }
+        text.push_str("COMMIT\n")?;
         Ok(text)
     }
 }
