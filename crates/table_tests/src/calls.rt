@@ -100,6 +100,7 @@ fn words_from_a_place_on(rt: HostRuntime) -> Result<(), Fail> {
     const ROWS: &[(&str, usize, &str)] = &[
         ("x -F x", 1, ""),
         ("-F -F -A x -j LOG", 2, ""),
+        ("-F -F -A -j -f", 2, "no such chain"),
         ("-N -S x", 1, "-N x\n-A x -j LOG\n"),
         ("-N x -A INPUT 1 -j DROP", 2, "unknown option"),
         ("-t nat -D x 2", 2, "number out of range"),
