@@ -1,5 +1,5 @@
 -- Lines of bytes, and what a call takes of them.
-use Rattle.std.specs.Prelude.{◌≡◌, ℕ, ◌+◌, ◌<◌, ◌≤◌, ◌==◌, Bool, List, [], ◌∷◌, ◌++◌, length, Result, Ok, Err, Option, OnSome}
+use Rattle.std.specs.Prelude.{◌≡◌, ℕ, ◌+◌, ◌<◌, ◌≤◌, ◌==◌, Bool, List, [], ◌∷◌, ◌++◌, length, Result, Ok, Err, Option, Some, None, OnSome}
 use Rattle.std.specs.Prelude.{if◌then◌else◌}
 use Rattle.std.specs.Bool.{MatchBool}
 use Rattle.std.specs.Io.KnownBytes.{Consumes, IsAtEnd}
@@ -31,6 +31,17 @@ LineOf old new turns left max items (Err e) text = Consumes old new text
 -- the same, of a reader with these steps left before and after
 abbrev pub ReadsLine : {E : Type 0} → Option (List ℕ) → Option (List ℕ) → ℕ → ℕ → ℕ → List ℕ → Result LineRead E → Type 0
 ReadsLine old new turns left max items r = (text : List ℕ) × IsOneLine text × LineOf old new turns left max items r text
+
+-- a part of a line was read, in at most a step a byte, and is held
+abbrev pub ReadsPart : Option (List ℕ) → Option (List ℕ) → ℕ → ℕ → ℕ → List ℕ → Bool → Type 0
+ReadsPart old new turns left max items too_long =
+    (text : List ℕ) × IsOneLine text × IsHeld max text items too_long × Consumes old new text × (turns ≤ left + length text)
+
+-- a line was read on: a part of it is read still, or the line was read, or the reader failed
+abbrev pub ReadsOn : {E : Type 0} → Option (List ℕ) → Option (List ℕ) → ℕ → ℕ → ℕ → List ℕ → Bool → Result (Option LineRead) E → Type 0
+ReadsOn old new turns left max items too_long (Ok None) = ReadsPart old new turns left max items too_long
+ReadsOn {E} old new turns left max items too_long (Ok (Some read)) = ReadsLine {E = E} old new turns left max items (Ok read)
+ReadsOn old new turns left max items too_long (Err e) = ReadsLine old new turns left max items (Err e)
 
 -- a byte before those of the first line
 abbrev pub onto_first : ℕ → List (List ℕ) → List (List ℕ)

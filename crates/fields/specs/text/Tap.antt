@@ -1,11 +1,12 @@
 -- What a clause reads of a `Tap`, and what its calls do.
-use Rattle.std.specs.Prelude.{◌≡◌, ℕ, Bool, true, false, List, [], ◌++◌, Option, Result, MatchResult}
+use Rattle.std.specs.Prelude.{◌≡◌, ℕ, Bool, true, false, List, [], ◌++◌, length, Option, Result, Ok, Err, MatchResult}
+use Rattle.std.specs.Borrow.{Bor}
 use Rattle.std.specs.Io.KnownBytes.{Appends}
 use Rattle.fields.specs.declared.text.tap.Tap.{Tap}
 
 -- `t.failed()`
 abbrev pub has_failed : {T : Type 0} → Tap T → Bool
-has_failed t = t.failed
+has_failed t = t.seen.failed
 
 -- the device
 abbrev pub device : {T : Type 0} → Tap T → T
@@ -18,6 +19,15 @@ known bytes t = bytes t.device
 -- how many steps of reading are left
 abbrev pub turns_left : {T : Type 0} → Tap T → ℕ
 turns_left t = t.turns
+
+-- how many of the bytes that `fill` last lent weren't taken
+abbrev pub shown_left : {T : Type 0} → Tap T → ℕ
+shown_left t = t.seen.shown
+
+-- how many bytes a `fill` lent
+abbrev pub lent : {E : Type 0} → Result (Bor (List ℕ)) E → ℕ
+lent (Ok bytes) = length bytes.now
+lent (Err e) = 0
 
 -- `t.unflushed()`
 abbrev pub is_unflushed : {T : Type 0} → Tap T → Bool

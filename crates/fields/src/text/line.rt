@@ -1,8 +1,8 @@
 //! Lines from a reader.
-ghost use Rattle.std.specs.Prelude.{◌≡◌, ◌≢◌, ◌<◌, ◌≤◌, ℕ, List, [], ◌∷◌, ◌++◌, true, false, length, take, drop, All, IfOk, OnOk, IsTrue, is_err, slice_index, vec_len, vec_capacity};
+ghost use Rattle.std.specs.Prelude.{◌≡◌, ◌≢◌, ◌+◌, ◌<◌, ◌≤◌, ℕ, List, [], ◌∷◌, ◌++◌, Option, None, Ok, true, false, length, take, drop, All, IfOk, OnOk, IsTrue, is_err, slice_index, vec_len, vec_capacity};
 ghost use Rattle.std.specs.Io.KnownBytes.{Consumes, Keeps, IsAtEnd};
-ghost use Rattle.fields.specs.text.Tap.{has_failed, device, known, turns_left};
-ghost use Rattle.fields.specs.text.Line.{IsHeld, ReadsLine};
+ghost use Rattle.fields.specs.text.Tap.{has_failed, device, known, shown_left, turns_left};
+ghost use Rattle.fields.specs.text.Line.{IsHeld, ReadsLine, ReadsPart, ReadsOn};
 ghost use Rattle.fields.specs.steps.LineSteps.{TakesPart, HoldsMore, IsLast};
 
 use crate::text::tap::{ReadFailed, Tap};
@@ -81,6 +81,7 @@ fn take_part<R: BufRead>(
     ensures capacity { vec_capacity line.old ≤ vec_capacity line.new }
     ensures failed { has_failed tap.new ≡ is_err result }
     ensures turns { turns_left tap.new ≡ turns_left tap.old }
+    ensures shown { result ≡ Ok LineStep.More → shown_left tap.new ≡ 0 }
     ensures takes { TakesPart (known R.remaining tap.old) (known R.remaining tap.new) result
         max line.old.items too_long.old line.new.items too_long.new }
 {
@@ -115,6 +116,47 @@ fn last_line(line: &Vec<u8>, too_long: bool) -> LineRead
 }
 
 impl<R: BufRead> Tap<R> {
+    /// Reads on in a line of which a part was read into `line`, by this call before: takes what the device shows, up to
+    /// and including the first newline. `None` where the line goes on. Before the first part `line` is empty, and
+    /// `too_long` is false.
+    ///
+    /// It takes a step of reading and calls `fill` once. So a caller who has something to do before the device is asked
+    /// for more does it where `has_more` says that nothing is left.
+    ///
+    /// # Errors
+    ///
+    /// `ReadFailed` as of `read_line`.
+    pub fn read_part(
+        &mut self,
+        max: usize,
+        line: &mut Vec<u8>,
+        too_long: &mut bool,
+    ) -> Result<Option<LineRead>, ReadFailed>
+        requires room { max ≤ vec_capacity line.old }
+        requires within { vec_len line.old ≤ max }
+        ensures reads { (first : Option (List ℕ)) (turns : ℕ)
+            → ReadsPart first (known R.remaining self.old) turns (turns_left self.old) max line.old.items too_long.old
+            → ReadsOn first (known R.remaining self.new) turns (turns_left self.new) max line.new.items too_long.new result }
+        ensures failed { has_failed self.new ≡ is_err result }
+        ensures unmoved { has_failed self.old ≡ true → device self.new ≡ device self.old }
+        ensures turns { OnOk result (turns_left self.old ≡ turns_left self.new + 1) }
+        ensures ready { OnOk result (has_failed self.old ≡ false) }
+        ensures shown { result ≡ Ok None → shown_left self.new ≡ 0 }
+        ensures within { vec_len line.new ≤ max }
+        ensures capacity { vec_capacity line.old ≤ vec_capacity line.new }
+    {
+        self.step()?;
+        match take_part(self, max, line, too_long) {
+            Ok(LineStep::More) => Ok(None),
+            Ok(LineStep::Newline) => Ok(Some(LineRead {
+                end: LineEnd::Newline,
+                too_long: *too_long,
+            })),
+            Ok(LineStep::End) => Ok(Some(last_line(line, *too_long))),
+            Err(failed) => Err(failed),
+        }
+    }
+
     /// Reads the next line into `line`, which has room for `max` bytes. The newline is none of them. A longer line is
     /// read to its end too, and `too_long` says so: what stands in `line` then isn't the line.
     ///
@@ -135,16 +177,9 @@ impl<R: BufRead> Tap<R> {
         line.clear();
         let mut too_long = false;
         loop {
-            self.step()?;
-            match take_part(self, max, line, &mut too_long) {
-                Ok(LineStep::More) => {}
-                Ok(LineStep::Newline) => {
-                    return Ok(LineRead {
-                        end: LineEnd::Newline,
-                        too_long,
-                    });
-                }
-                Ok(LineStep::End) => return Ok(last_line(line, too_long)),
+            match self.read_part(max, line, &mut too_long) {
+                Ok(None) => {}
+                Ok(Some(read)) => return Ok(read),
                 Err(failed) => return Err(failed),
             }
         }

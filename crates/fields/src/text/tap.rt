@@ -1,6 +1,6 @@
 //! Taps: a reader or a writer, and whether a call of it has failed.
-ghost use Rattle.std.specs.Prelude.{◌≡◌, [], IfSome, ◌+◌, ◌-◌, ◌^◌, ◌<◌, true, false, length, IfOk, OnOk, IsOk, IsErr, is_err, flat_map};
-ghost use Rattle.fields.specs.text.Tap.{has_failed, device, is_unflushed, known, turns_left, Keeps, Puts};
+ghost use Rattle.std.specs.Prelude.{◌≡◌, [], IfSome, ◌+◌, ◌-◌, ◌^◌, ◌<◌, ◌↔◌, true, false, length, IfOk, OnOk, IsOk, IsErr, IsTrue, is_err, flat_map};
+ghost use Rattle.fields.specs.text.Tap.{has_failed, device, is_unflushed, known, lent, shown_left, turns_left, Keeps, Puts};
 ghost use Rattle.fields.specs.contracts.text.tap.Tap.{the_row};
 ghost use Rattle.std.specs.Borrow.{sem};
 ghost use Rattle.std.specs.Io.{StartsWith};
@@ -19,30 +19,41 @@ pub struct ReadFailed;
 #[error("a write failed")]
 pub struct WriteFailed;
 
-/// A reader or a writer, whether it has failed, and whether bytes were written since it was last flushed. Once it has
-/// failed, no further call reaches the device.
+// What came of the calls of a device: whether one failed, and how many of the bytes that `fill` last lent weren't taken.
+#[derive(Drop)]
+struct Seen {
+    failed: bool,
+    shown: usize,
+}
+
+/// A reader or a writer, whether it has failed, how many bytes it shows that weren't taken, and whether bytes were
+/// written since it was last flushed. Once it has failed, no further call reaches the device.
 ///
 /// A tap fails where a call of its device fails, where a write takes no byte, and where its steps of reading are used
 /// up, and nowhere else. It has 2 to the 64 less 1 steps, so that every loop over a device that never ends has an end.
 #[derive(Drop)]
 pub struct Tap<T> {
     device: T,
-    failed: bool,
+    seen: Seen,
     turns: u64,
     unflushed: bool,
 }
 
 impl<T> Tap<T> {
-    /// A tap over a device, which has not failed, has all its steps of reading, and has written nothing.
+    /// A tap over a device, which has not failed, has all its steps of reading, and has shown and written nothing.
     pub fn new(inner: T) -> Tap<T>
         ensures fresh { has_failed result ≡ false }
         ensures inner { device result ≡ inner }
         ensures turns { turns_left result ≡ 2 ^ 64 - 1 }
         ensures flushed { is_unflushed result ≡ false }
+        ensures shown { shown_left result ≡ 0 }
     {
         Tap {
             device: inner,
-            failed: false,
+            seen: Seen {
+                failed: false,
+                shown: 0,
+            },
             turns: u64::MAX,
             unflushed: false,
         }
@@ -54,7 +65,7 @@ impl<T> Tap<T> {
     {
         let Tap {
             device,
-            failed: _,
+            seen: _,
             turns: _,
             unflushed: _,
         } = self;
@@ -66,7 +77,7 @@ impl<T> Tap<T> {
     pub fn failed(&self) -> bool
         ensures { result ≡ has_failed self.now }
     {
-        self.failed
+        self.seen.failed
     }
 
     /// How many steps of reading are left.
@@ -91,11 +102,11 @@ impl<T> Tap<T> {
         ensures unmoved { device self.new ≡ device self.old }
         ensures due { has_failed self.old ≡ false → 0 < turns_left self.old → IsOk result }
     {
-        if self.failed {
+        if self.seen.failed {
             return Err(ReadFailed);
         }
         if self.turns == 0 {
-            self.failed = true;
+            self.seen.failed = true;
             return Err(ReadFailed);
         }
         self.turns -= 1;
@@ -114,12 +125,13 @@ impl<R: BufRead> Tap<R> {
             FillKeeps (known R.remaining self.old) (known R.remaining new) (known R.consumable_len new) result
             × (has_failed new ≡ is_err result)
             × (turns_left new ≡ turns_left self.old)
+            × (shown_left new ≡ lent result)
             × (has_failed self.old ≡ true → device new ≡ device self.old))) }
         ensures front { IfSome (known R.remaining self.old) (λ xs. IfOk result (λ s. StartsWith xs s.now)) }
         ensures end { IfSome (known R.remaining self.old) (λ xs. IfOk result (λ s. length s.now ≡ 0 → xs ≡ [])) }
         ensures spent { has_failed self.old ≡ true → IsErr result }
     {
-        fill_from(&mut self.device, &mut self.failed)
+        fill_from(&mut self.device, &mut self.seen)
     }
 
     /// Takes the first `amount` bytes of those that `fill` lent. A failed tap takes none.
@@ -129,33 +141,47 @@ impl<R: BufRead> Tap<R> {
         ensures failed { has_failed self.new ≡ has_failed self.old }
         ensures turns { turns_left self.new ≡ turns_left self.old }
         ensures unmoved { has_failed self.old ≡ true → device self.new ≡ device self.old }
+        ensures shown { shown_left self.new ≡ shown_left self.old - amount }
     {
-        if !self.failed {
+        if !self.seen.failed {
             self.device.consume(amount);
         }
+        self.seen.shown = self.seen.shown.saturating_sub(amount);
+    }
+
+    /// Whether bytes that `fill` lent are left, not taken by `eat`: the device shows them without being asked for more,
+    /// as a `BufRead` does, and so the next `fill` waits for nothing.
+    pub fn has_more(&self) -> bool
+        ensures { IsTrue result ↔ 0 < shown_left self.now }
+    {
+        self.seen.shown > 0
     }
 }
 
 // What the device shows, where no call of it has failed.
 fn fill_from<'a, 'b, R: BufRead>(
     device: &'a mut R,
-    failed: &'b mut bool,
+    seen: &'b mut Seen,
 ) -> Result<&'a [u8], ReadFailed>
     ensures* after_borrow { sem 𝓛 (Rests R.row device.entry (λ new.
         FillKeeps (R.remaining device.old) (R.remaining new) (R.consumable_len new) result
-        × (failed.old ≡ true → new ≡ device.old))) }
+        × (seen.old.failed ≡ true → new ≡ device.old))) }
     ensures front { IfSome (R.remaining device.old) (λ xs. IfOk result (λ s. StartsWith xs s.now)) }
     ensures end { IfSome (R.remaining device.old) (λ xs. IfOk result (λ s. length s.now ≡ 0 → xs ≡ [])) }
-    ensures spent { failed.old ≡ true → IsErr result }
-    ensures failed { failed.new ≡ is_err result }
+    ensures spent { seen.old.failed ≡ true → IsErr result }
+    ensures seen { (seen.new.failed ≡ is_err result) × (seen.new.shown ≡ lent result) }
 {
-    if *failed {
+    seen.shown = 0;
+    if seen.failed {
         return Err(ReadFailed);
     }
     match device.fill_buf() {
-        Ok(shown) => Ok(shown),
+        Ok(bytes) => {
+            seen.shown = bytes.len();
+            Ok(bytes)
+        }
         Err(_) => {
-            *failed = true;
+            seen.failed = true;
             Err(ReadFailed)
         }
     }
@@ -175,7 +201,7 @@ impl<W: Write> Tap<W> {
         ensures unmoved { bytes.now ≡ [] → self.new ≡ self.old }
         ensures keeps { OnOk result (Keeps self.old self.new bytes.now) }
     {
-        if self.failed {
+        if self.seen.failed {
             return Err(WriteFailed);
         }
         if bytes.is_empty() {
@@ -187,7 +213,7 @@ impl<W: Write> Tap<W> {
             match self.device.write(rest) {
                 Ok(n) if n > 0 => rest = &rest[n..],
                 _ => {
-                    self.failed = true;
+                    self.seen.failed = true;
                     return Err(WriteFailed);
                 }
             }
@@ -205,7 +231,7 @@ impl<W: Write> Tap<W> {
         ensures turns { turns_left self.new ≡ turns_left self.old }
         ensures keeps { OnOk result (Keeps self.old self.new (flat_map (λ text. text.now) texts.now)) }
     {
-        if self.failed {
+        if self.seen.failed {
             return Err(WriteFailed);
         }
         for text in texts {
@@ -224,7 +250,7 @@ impl<W: Write> Tap<W> {
         ensures turns { turns_left self.new ≡ turns_left self.old }
         ensures flushed { OnOk result (is_unflushed self.new ≡ false) }
     {
-        if self.failed {
+        if self.seen.failed {
             return Err(WriteFailed);
         }
         match self.device.flush() {
@@ -233,7 +259,7 @@ impl<W: Write> Tap<W> {
                 Ok(())
             }
             Err(_) => {
-                self.failed = true;
+                self.seen.failed = true;
                 Err(WriteFailed)
             }
         }

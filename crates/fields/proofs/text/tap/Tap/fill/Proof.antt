@@ -1,7 +1,7 @@
 -- `fill` by hand: the borrow of the tap is cut into those of its two fields, and both end when `fill_from` returns.
-use mathlib.Core.Path.{◌≡◌, refl}
+use mathlib.Core.Path.{◌≡◌, refl, sym}
 use Prim.Native.Nat.{ℕ, zero, ◌+◌}
-use mathlib.Core.Bool.{Bool, true, false}
+use mathlib.Core.Bool.{true, false}
 use mathlib.Core.List.{List, [], ◌∷◌}
 use seplogic.Ra.Ura.{Ura}
 use base.Fraction.{full_share}
@@ -23,7 +23,6 @@ use contract.Monad.{fact}
 use contract.Running.{tables}
 use denote.RattleType.{RattleType}
 use denote.Memory.{part_at, mem}
-use denote.Builtin.{bool}
 use denote.Exit.{no}
 use denote.Param.{param, layout, bounded}
 use denote.Param.Laws.{Laws, param_laws, of_field}
@@ -42,6 +41,8 @@ use Rattle.std.specs.Io.BufRead.{Rests, FillKeeps}
 use Rattle.std.specs.contracts.result.Result.{the_row as Result-row}
 use Rattle.std.proofs.result.Result.TheLaws.{the_row_laws as Result-laws}
 use Rattle.fields.specs.contracts.text.tap.ReadFailed.{the_row as ReadFailed-row}
+use Rattle.fields.specs.contracts.text.tap.Seen.{the_row as Seen-row, the_type as Seen-type, the_field as Seen-field}
+use Rattle.fields.proofs.text.tap.Seen.TheLaws.{the_field_laws as Seen-laws}
 use Rattle.fields.proofs.text.tap.ReadFailed.TheLaws.{the_row_laws as ReadFailed-laws}
 use Rattle.fields.specs.declared.text.tap.ReadFailed.{ReadFailed}
 use denote.Struct.Members.{Member}
@@ -53,10 +54,13 @@ use denote.Triple.Clauses.{lasts, Lasts}
 use denote.Triple.Spec.{triple_of}
 use denote.Triple.Table.{framed}
 use denote.Triple.Walked.{Stays, stay_dropped, Goes-spent_ref, ends_at}
+use borrow.Struct.Lend.{own_same}
 use borrow.Struct.LendTwo.{kept_but, cuts_first, cuts_but, fills_but, Fills-first}
 use denote.Plain.{bool_Lawful, uint_Lawful}
 use Rattle.std.proofs.raw_atomic.Walks.{proved}
+use Rattle.fields.specs.declared.text.tap.Seen.{Seen}
 use Rattle.fields.specs.declared.text.tap.Tap.{Tap}
+use Rattle.fields.specs.text.Tap.{lent}
 use Rattle.fields.specs.contracts.text.tap.Tap.{the_row, the_type}
 use Rattle.fields.specs.contracts.text.tap.Tap.fill as f
 use Rattle.fields.proofs.text.tap.Tap.fill.Statement.{statement}
@@ -72,16 +76,16 @@ module _ (R : RattleType) where
   W = the_row P
 
   abbrev ms : List Member
-  ms = record { row = (row_field P).row; ty = layout R } ∷ record { row = bool-field.row; ty = ty_bool } ∷ record { row = u64-field.row; ty = ty_int w64 } ∷ record { row = bool-field.row; ty = ty_bool } ∷ []
+  ms = record { row = (row_field P).row; ty = layout R } ∷ record { row = Seen-field.row; ty = layout Seen-row } ∷ record { row = u64-field.row; ty = ty_int w64 } ∷ record { row = bool-field.row; ty = ty_bool } ∷ []
 
   abbrev d0 : ℕ
   d0 = up (align (layout R)) zero
 
   abbrev d1 : ℕ
-  d1 = up (align ty_bool) (d0 + size (layout R))
+  d1 = up (align (layout Seen-row)) (d0 + size (layout R))
 
-  abbrev with_both : Tap R.Denot → R.Denot → Bool → Tap R.Denot
-  with_both h w v = record h { device = w; failed = v }
+  abbrev with_both : Tap R.Denot → R.Denot → Seen → Tap R.Denot
+  with_both h w v = record h { device = w; seen = v }
 
   module _ (L : Laws R) {M : Type 1} {𝓤 : Ura M} (𝓛 : Logic 𝓤) (h : Tap R.Denot) (b o : ℕ) where
     abbrev T : Declared
@@ -90,15 +94,15 @@ module _ (R : RattleType) where
     abbrev Rest : SProp 𝓤
     Rest = mean 𝓛 (kept_but T.name ms T.D T.to T.to_one (true ∷ true ∷ false ∷ false ∷ []) M 𝓤 𝓛 h b o)
 
-    cut : ent 𝓤 (sem 𝓛 (part_at W full_share h b o)) (sep 𝓤 (sem 𝓛 (part_at P full_share h.device b (o + d0))) (sep 𝓤 (sem 𝓛 (part_at bool full_share h.failed b (o + d1))) Rest))
+    cut : ent 𝓤 (sem 𝓛 (part_at W full_share h b o)) (sep 𝓤 (sem 𝓛 (part_at P full_share h.device b (o + d0))) (sep 𝓤 (sem 𝓛 (part_at Seen-row full_share h.seen b (o + d1))) Rest))
     cut = via 𝓤 (sep 𝓤 (sem 𝓛 (part_at P full_share h.device b (o + d0))) (mean 𝓛 (kept_but T.name ms T.D T.to T.to_one (true ∷ false ∷ false ∷ false ∷ []) M 𝓤 𝓛 h b o)))
-        (cuts_first T.name ms T.D T.to T.to_one 𝓛 ((param_laws 0 R L).lawful 𝓛, (bool_Lawful 𝓛, (uint_Lawful 𝓛 w64, (bool_Lawful 𝓛, tt)))) 0 tt P d0 (λ k. k.device) (λ k b' o'. refl) h b o)
-        (mono_r 𝓤 (sem 𝓛 (part_at P full_share h.device b (o + d0))) (cuts_but T.name ms T.D T.to T.to_one (true ∷ false ∷ false ∷ false ∷ []) 1 tt bool d1 (λ k. k.failed) (λ k b' o'. refl) M 𝓤 𝓛 h b o))
+        (cuts_first T.name ms T.D T.to T.to_one 𝓛 ((param_laws 0 R L).lawful 𝓛, (Seen-laws.lawful 𝓛, (uint_Lawful 𝓛 w64, (bool_Lawful 𝓛, tt)))) 0 tt P d0 (λ k. k.device) (λ k b' o'. refl) h b o)
+        (mono_r 𝓤 (sem 𝓛 (part_at P full_share h.device b (o + d0))) (cuts_but T.name ms T.D T.to T.to_one (true ∷ false ∷ false ∷ false ∷ []) 1 tt Seen-row d1 (λ k. k.seen) (λ k b' o'. sym (own_same Seen-type k.seen b' (o' + d1))) M 𝓤 𝓛 h b o))
 
-    back : (w : R.Denot) (v : Bool) → ent 𝓤 (sep 𝓤 (sem 𝓛 (part_at P full_share w b (o + d0))) (sep 𝓤 (sem 𝓛 (part_at bool full_share v b (o + d1))) Rest)) (sem 𝓛 (part_at W full_share (with_both h w v) b o))
-    back w v = via 𝓤 (sep 𝓤 (sem 𝓛 (part_at P full_share w b (o + d0))) (mean 𝓛 (kept_but T.name ms T.D T.to T.to_one (true ∷ false ∷ false ∷ false ∷ []) M 𝓤 𝓛 (record h { failed = v }) b o)))
-        (mono_r 𝓤 (sem 𝓛 (part_at P full_share w b (o + d0))) (fills_but T.name ms T.D T.to T.to_one (true ∷ false ∷ false ∷ false ∷ []) 1 tt bool d1 (λ k x. record k { failed = x }) (λ k x b' o'. refl) (λ k x b' o'. refl) M 𝓤 𝓛 h v b o))
-        (Fills-first T.name ms T.D T.to T.to_one 0 tt P d0 (λ k x. record k { device = x }) (λ k x b' o'. refl) (λ k x b' o'. refl) M 𝓤 𝓛 (record h { failed = v }) w b o)
+    back : (w : R.Denot) (v : Seen) → ent 𝓤 (sep 𝓤 (sem 𝓛 (part_at P full_share w b (o + d0))) (sep 𝓤 (sem 𝓛 (part_at Seen-row full_share v b (o + d1))) Rest)) (sem 𝓛 (part_at W full_share (with_both h w v) b o))
+    back w v = via 𝓤 (sep 𝓤 (sem 𝓛 (part_at P full_share w b (o + d0))) (mean 𝓛 (kept_but T.name ms T.D T.to T.to_one (true ∷ false ∷ false ∷ false ∷ []) M 𝓤 𝓛 (record h { seen = v }) b o)))
+        (mono_r 𝓤 (sem 𝓛 (part_at P full_share w b (o + d0))) (fills_but T.name ms T.D T.to T.to_one (true ∷ false ∷ false ∷ false ∷ []) 1 tt Seen-row d1 (λ k x. record k { seen = x }) (λ k x b' o'. sym (own_same Seen-type x b' (o' + d1))) (λ k x b' o'. refl) M 𝓤 𝓛 h v b o))
+        (Fills-first T.name ms T.D T.to T.to_one 0 tt P d0 (λ k x. record k { device = x }) (λ k x b' o'. refl) (λ k x b' o'. refl) M 𝓤 𝓛 (record h { seen = v }) w b o)
 
 -- the result
 abbrev shown_field : Lft → Field
@@ -115,7 +119,7 @@ shown_laws κ = Result-laws (shown_field κ).row ReadFailed-row
 
 -- what the clause says of the tap afterwards
 abbrev IsFilled : {D : Type 0} → BufRead-ghosts D → Read-ghosts D → Tap D → Result (Bor (List ℕ)) ReadFailed → Tap D → Type 0
-IsFilled gB gR h r new = FillKeeps (gR.remaining h.device) (gR.remaining new.device) (gB.consumable_len new.device) r × (new.failed ≡ is_err r) × (new.turns ≡ h.turns) × (h.failed ≡ true → new.device ≡ h.device)
+IsFilled gB gR h r new = FillKeeps (gR.remaining h.device) (gR.remaining new.device) (gB.consumable_len new.device) r × (new.seen.failed ≡ is_err r) × (new.turns ≡ h.turns) × (new.seen.shown ≡ lent r) × (h.seen.failed ≡ true → new.device ≡ h.device)
 
 pub fill_spec : {M : Type 1} → statement M
 unfolding such_by follows_by
@@ -137,12 +141,12 @@ fill_spec {M} 𝓤 𝓛 𝓜 𝓡 wired R L gB dB gR dR mB mR =
     sets ! (addr ! (through ! refl (fld ! refl (stop !)))) refl (tt, tt) $
     sets ! (addr ! (through ! refl (fld ! refl (stop !)))) refl (tt, tt) $
     open_ref ! tt (mem (W R)) {b = b} {o = o} $
-    use1 𝓛 (‵ (part_at (P R) full_share h.device b (o + d0 R)) ⊛ ‵ (part_at bool full_share h.failed b (o + d1 R)) ⊛ raw (Rest R L 𝓛 h b o)) (cut R L 𝓛 h b o) $ split3 ! $
+    use1 𝓛 (‵ (part_at (P R) full_share h.device b (o + d0 R)) ⊛ ‵ (part_at Seen-row full_share h.seen b (o + d1 R)) ⊛ raw (Rest R L 𝓛 h b o)) (cut R L 𝓛 h b o) $ split3 ! $
     move ! (3 ∷ 4 ∷ 5 ∷ 0 ∷ 1 ∷ 2 ∷ []) $ group ! 6 $
     use1 𝓛 (later (some (λ (γs : GName × GName). (‵ (fobs γs.0 ((P R).coded.code h.device)) ⊛ ‵ (fbor κ (Body (mem (P R)) b (o + d0 R) γs.0)))
-    ⊛ (‵ (fobs γs.1 (bool.coded.code h.failed)) ⊛ ‵ (fbor κ (Body (mem bool) b (o + d1 R) γs.1)))
-    ⊛ ‵ (flft κ q) ⊛ ‵ (after₂ (mem (W R)) (mem (P R)) (mem bool) γ γs.0 γs.1 (with_both R h)))))
-    (takes_two 𝓛 (mem (W R)) (mem (P R)) (mem bool) (with_both R h) κ q b o b (o + d0 R) b (o + d1 R) γ (Rest R L 𝓛 h b o) (back R L 𝓛 h b o) ((W R).coded.code h) ((W R).coded.code h) h.device h.failed) $
+    ⊛ (‵ (fobs γs.1 (Seen-row.coded.code h.seen)) ⊛ ‵ (fbor κ (Body (mem Seen-row) b (o + d1 R) γs.1)))
+    ⊛ ‵ (flft κ q) ⊛ ‵ (after₂ (mem (W R)) (mem (P R)) (mem Seen-row) γ γs.0 γs.1 (with_both R h)))))
+    (takes_two 𝓛 (mem (W R)) (mem (P R)) (mem Seen-row) (with_both R h) κ q b o b (o + d0 R) b (o + d1 R) γ (Rest R L 𝓛 h b o) (back R L 𝓛 h b o) ((W R).coded.code h) ((W R).coded.code h) h.device h.seen) $
     await ! tt $ pick ! (λ γs. split ! $ split ! $ move ! (2 ∷ []) $ split ! $ split ! $ move ! (2 ∷ []) $ split ! $
     let half = common q q in
     use1 𝓛 (‵ (flft κ half.0) ⊛ ‵ (flft κ half.1)) (𝓛.lfts.lft_cut κ q half.0 half.1 half.3) $ split ! $
@@ -154,7 +158,7 @@ fill_spec {M} 𝓤 𝓛 𝓜 𝓡 wired R L gB dB gR dR mB mR =
     move ! (0 ∷ 2 ∷ []) $
     let G = triple_of 𝓛 (g.signature R) (g.spec R gB dB gR dR 𝓛 𝓜.mem 𝓡.returns) in
     let device : MutBor R.Denot = record { ref_ptr = (b, o + d0 R); ghost_name = γs.0; now = h.device } in
-    let flag : MutBor Bool = record { ref_ptr = (b, o + d1 R); ghost_name = γs.1; now = h.failed } in
+    let flag : MutBor Seen = record { ref_ptr = (b, o + d1 R); ghost_name = γs.1; now = h.seen } in
     let z : G.Ghost = (((κ, (κ, (κs.1.0, tt))), (half.0, (half.1, (qs.1.0, tt))), bounds, (device, (flag, tt)), (mut_vals device, (mut_vals flag, tt))), tt) in
     use2 𝓛 (raw (G.pre z)) (id⊢ 𝓤 _) $
     calls_at ! (framed 𝓤 𝓛.H 𝓜 (tables 𝓤 𝓛.H 𝓜 𝓡 𝓡.env)) G (met 𝓤 𝓛 𝓜 𝓡 (code.calls-fields::text::tap::fill_from 𝓡.env wired) R L gB dB gR dR mB mR) z
@@ -162,11 +166,11 @@ fill_spec {M} 𝓤 𝓛 𝓜 𝓡 wired R L gB dB gR dR mB mR =
     use1 𝓛 (later (some (λ (r' : Result (Bor (List ℕ)) ReadFailed).
     ((‵ (flft κ half.0) ⊛ ‵ (flft κ half.1) ⊛ ‵ (flft κs.1.0 qs.1.0) ⊛ ‵ ftrue) ⊛ ‵ ((Shown κ).own_val r' (v ∷ [])))
     ⊛ some (λ (ws : Lasts (g.ended R gB dB gR dR) z.0.0 z.0.3). ‵ (lasts (g.ended R gB dB gR dR) z.0.0 z.0.3 ws)
-    ⊛ ‵ (Rests (P R) device (λ new. FillKeeps (gR.remaining h.device) (gR.remaining new) (gB.consumable_len new) r' × (h.failed ≡ true → new ≡ h.device)))
+    ⊛ ‵ (Rests (P R) device (λ new. FillKeeps (gR.remaining h.device) (gR.remaining new) (gB.consumable_len new) r' × (h.seen.failed ≡ true → new ≡ h.device)))
     ⊛ raw (fact 𝓤 (IfSome (gR.remaining h.device) (λ xs. IfOk r' (λ shown. StartsWith xs shown.now))))
     ⊛ raw (fact 𝓤 (IfSome (gR.remaining h.device) (λ xs. IfOk r' (λ shown. length shown.now ≡ 0 → xs ≡ []))))
-    ⊛ raw (fact 𝓤 (h.failed ≡ true → IsErr r'))
-    ⊛ raw (fact 𝓤 (ws.1.0 ≡ is_err r')))))) (id⊢ 𝓤 _) $
+    ⊛ raw (fact 𝓤 (h.seen.failed ≡ true → IsErr r'))
+    ⊛ raw (fact 𝓤 ((ws.1.0.failed ≡ is_err r') × (ws.1.0.shown ≡ lent r'))))))) (id⊢ 𝓤 _) $
     await ! tt $ pick ! (λ r'. split ! $ split ! $ split ! $ move ! (1 ∷ []) $ split ! $ move ! (2 ∷ 0 ∷ []) $
     use2 𝓛 (‵ (flft κ q)) (𝓛.lfts.lft_glue κ q half.0 half.1 half.3) $ move ! (1 ∷ []) $ split ! $
     -- [the other token; nothing; the token; the result; the last values; after]
@@ -179,13 +183,13 @@ fill_spec {M} 𝓤 𝓛 𝓜 𝓡 wired R L gB dB gR dR mB mR =
     -- [the flag's last value; its borrow; nothing; nothing; the device's last value; the other token; nothing; the token; the result; after]
     move ! (4 ∷ 0 ∷ []) $ join ! $ move ! (0 ∷ 8 ∷ []) $
     use2 𝓛 (‵ (fres γ ((W R).coded.code (with_both R h s.0.1 ws.1.0))))
-    (followed₂ 𝓛 (mem (W R)) (mem (P R)) (mem bool) (with_both R h) γ γs.0 γs.1 s.0.1 ws.1.0) $
+    (followed₂ 𝓛 (mem (W R)) (mem (P R)) (mem Seen-row) (with_both R h) γ γs.0 γs.1 s.0.1 ws.1.0) $
     move ! (7 ∷ []) $ peeks ! (Shown κ) _ (shows 𝓛 (Shown κ)) r' (v ∷ []) (λ sh.
     lands_as ! refl refl (((shown_laws κ).lawful 𝓛).typed r' (v ∷ []) sh).0 $
     returns ! (look_at ! 0 refl) $ free_all ! refl $ keep ! (1 ∷ 0 ∷ 5 ∷ 7 ∷ 8 ∷ []) $
     let last : Tap R.Denot = with_both R h s.0.1 ws.1.0 in
     suffices ! _ (ends_at 𝓛 ended stayed c ((κs, qs, bounds, a, (vs, tt)), tt) v r' (tt, tt) (tt, tt)) $
     fpack ! ((u : (Tap R.Denot → Tap R.Denot) × Tap R.Denot) × ((w : Tap R.Denot) → ⊤) × IsFilled gB gR h r' u.1)
-    (λ u. fres γ ((W R).coded.code u.0.1)) (((λ _. last), last), (λ _. tt), (s.2.0, is, refl, s.2.1)) $
+    (λ u. fres γ ((W R).coded.code u.0.1)) (((λ _. last), last), (λ _. tt), (s.2.0, is.0, refl, is.1, s.2.1)) $
     move ! (0 ∷ 4 ∷ []) $ join ! $
     nothing ! $ nothing ! $ fjoin ! $ move ! (0 ∷ 2 ∷ []) $ join ! $ nothing ! $ move ! (3 ∷ 0 ∷ []) $ join ! $ move ! (3 ∷ 0 ∷ []) $ join ! $ join ! $ done !)))))))))
