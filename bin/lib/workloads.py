@@ -1,0 +1,114 @@
+"""Rules and packets of three kinds, drawn with a fixed seed: what `bin/costs` gives to the program.
+
+- generated: two prefixes or hosts, TCP or UDP, and mostly a port or some in a row, all drawn at random;
+- distinct: no two rules share a packet: each has two prefixes and two ports of its own, in an order that jumps about;
+- mixed: as a machine's dump has them: few prefixes, ports and interfaces, each in many rules, and rules that ask for little.
+"""
+
+import random
+
+KINDS = ("generated", "distinct", "mixed")
+COMMON_PORTS = (22, 25, 53, 80, 110, 123, 143, 443, 465, 587, 993, 995, 3306, 5432, 8080, 8443)
+
+
+def address(number):
+    return ".".join(str(number >> shift & 255) for shift in (24, 16, 8, 0))
+
+
+def mask(length):
+    return 0xFFFFFFFF << (32 - length) & 0xFFFFFFFF
+
+
+def prefix(dice, least, most):
+    length = dice.randint(least, most)
+    return dice.randrange(0x0A000000, 0xDF000000) & mask(length), length
+
+
+def host(dice, within):
+    """An address of a prefix, or any where there is none."""
+    if within is None:
+        return dice.randrange(0xDF000000)
+    return within[0] | dice.getrandbits(32) & ~mask(within[1]) & 0xFFFFFFFF
+
+
+def ports(option, first, last):
+    return f" --{option} {first}" if first == last else f" --{option} {first}:{last}"
+
+
+def packet(dice, source, destination, protocol, interface, source_port, port):
+    line = f"packet INPUT src={address(host(dice, source))} dst={address(host(dice, destination))} proto={protocol} in={interface}"
+    return line + (f" sport={source_port} dport={port}" if protocol in ("tcp", "udp") else "")
+
+
+def generated(dice):
+    """A rule, and a packet of it."""
+    protocol = dice.choice(("tcp", "tcp", "udp"))
+    shape = dice.randrange(3)
+    if shape == 0:
+        source, destination = prefix(dice, 32, 32), prefix(dice, 24, 32)
+        first = last = dice.randrange(65536)
+    elif shape == 1:
+        source, destination = prefix(dice, 12, 28), prefix(dice, 16, 30)
+        first = last = dice.choice((22, 25, 53, 80, 443, 8080, dice.randrange(65536)))
+    else:
+        source, destination = prefix(dice, 6, 16), prefix(dice, 10, 24)
+        first = dice.randrange(60000)
+        last = first + dice.randrange(1, 5000)
+    rule = f"-s {address(source[0])}/{source[1]} -d {address(destination[0])}/{destination[1]} -p {protocol} -m {protocol}"
+    rule += ports("dport", first, last) + f" -j {dice.choice(('ACCEPT', 'DROP'))}"
+    return rule, packet(dice, source, destination, protocol, "eth0", dice.randrange(65536), dice.randint(first, last))
+
+
+def distinct(dice, place):
+    jump = lambda step: place * step % 8192
+    source, destination = (0x0A000000 + 512 * jump(2741), 24), (0x14000000 + 512 * jump(5003), 24)
+    source_port, port = 1024 + 2 * jump(3571), 20000 + 2 * jump(6229)
+    rule = f"-s {address(source[0])}/24 -d {address(destination[0])}/24 -p tcp -m tcp --sport {source_port} --dport {port} -j ACCEPT"
+    return rule, packet(dice, source, destination, "tcp", "eth0", source_port, port)
+
+
+def mixed(dice, pool, known):
+    source = dice.choice(pool) if dice.random() < 0.7 else None
+    destination = dice.choice(pool) if source is None or dice.random() < 0.5 else None
+    interface = dice.choice(("eth0", "eth1", "ppp0", "br-lan")) if dice.random() < 0.3 else None
+    words = [f"{option} {address(of[0])}/{of[1]}" for option, of in (("-s", source), ("-d", destination)) if of]
+    words += [f"-i {interface}"] if interface else []
+    share, protocol, port = dice.random(), "tcp", dice.choice(known)
+    if share < 0.55:
+        words.append(f"-p tcp -m tcp --dport {port}")
+    elif share < 0.7:
+        protocol = "udp"
+        words.append(f"-p udp -m udp --dport {port}")
+    elif share < 0.76:
+        first = dice.randrange(1024, 60000)
+        port = dice.randrange(first, first + 2000)
+        words.append(f"-p tcp -m tcp --sport 1024:65535 --dport {first}:{first + 2000}")
+    elif share < 0.82:
+        several = sorted(dice.sample(known, 5))
+        port = dice.choice(several)
+        words.append("-p tcp -m multiport --dports " + ",".join(map(str, several)))
+    elif share < 0.86:
+        protocol = "udp"
+        words.append("-p udp")
+    elif share < 0.93:
+        words.append("-p tcp")
+    words += ["-m state --state NEW"] if dice.random() < 0.1 else []
+    rule = " ".join(words) + f" -j {dice.choice(('ACCEPT', 'DROP'))}"
+    return rule, packet(dice, source, destination, protocol, interface or dice.choice(("eth0", "eth1")), dice.randrange(1024, 65536), port)
+
+
+def of_kind(kind, count):
+    """So many rules, and a packet of each, of which every fourth goes somewhere else."""
+    dice = random.Random(7)
+    pool = [prefix(dice, length, length) for length in dice.choices((8, 16, 20, 22, 24, 28, 30, 32), k=max(count // 4, 1))]
+    known = list(COMMON_PORTS) + [dice.randrange(1024, 65536) for _ in range(80)]
+    make = {"generated": lambda place: generated(dice), "distinct": lambda place: distinct(dice, place), "mixed": lambda place: mixed(dice, pool, known)}[kind]
+    rules, packets = zip(*(make(place) for place in range(count)))
+    packets = [packet(dice, None, None, "tcp", "eth0", 1024, 80) if place % 4 == 0 else line for place, line in enumerate(packets)]
+    dice.shuffle(packets)
+    return rules, packets
+
+
+def restore(rules):
+    """The file that restores these rules into INPUT."""
+    return "*filter\n:INPUT DROP [0:0]\n:FORWARD ACCEPT [0:0]\n:OUTPUT ACCEPT [0:0]\n" + "".join(f"-A INPUT {rule}\n" for rule in rules) + "COMMIT\n"
