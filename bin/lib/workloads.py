@@ -109,6 +109,16 @@ def of_kind(kind, count):
     return rules, packets
 
 
+def hurting(count):
+    """Rules made to hurt: each leaves out sixteen ranges of each address, and so cuts two lines at 32 places."""
+    dice, rules = random.Random(3), []
+    for _ in range(count):
+        firsts = [dice.getrandbits(32) & ~7 for _ in range(32)]
+        ranges = [f"{address(first)}-{address(first | 7)}" for first in firsts]
+        rules.append("".join(f" -m iprange ! --src-range {ranges[k]} ! --dst-range {ranges[k + 1]}" for k in range(0, 32, 2))[1:] + " -j ACCEPT")
+    return rules
+
+
 def restore(rules):
     """The file that restores these rules into INPUT."""
     return "*filter\n:INPUT DROP [0:0]\n:FORWARD ACCEPT [0:0]\n:OUTPUT ACCEPT [0:0]\n" + "".join(f"-A INPUT {rule}\n" for rule in rules) + "COMMIT\n"

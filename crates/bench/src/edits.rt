@@ -1,5 +1,5 @@
-//! What one edit costs, at the front of many rules, in their middle and at their end: by a session's lines, and by the
-//! classifier alone.
+//! What one edit of the classifier costs, at the front of many rules, in their middle and at their end; and the lines of
+//! such edits.
 
 use crate::column::{Column, Unit};
 use crate::load;
@@ -7,7 +7,6 @@ use crate::script::Script;
 use anyhow::Result;
 use classify::Classifier;
 use rules::Boxed;
-use sessions::Session;
 use std::alloc::Global;
 use std::rt::Clock;
 use std::time::Instant;
@@ -27,8 +26,6 @@ pub(crate) enum Spot {
 #[derive(Clone, Copy)]
 struct Facts {
     name: &'static str,
-    delete: &'static str,
-    insert: &'static str,
     remove: &'static str,
     put: &'static str,
 }
@@ -41,22 +38,16 @@ impl Spot {
         match self {
             Spot::Front => Facts {
                 name: "at the front",
-                delete: "-D at the front",
-                insert: "-I at the front",
                 remove: "box taken out at the front",
                 put: "box put in at the front",
             },
             Spot::Middle => Facts {
                 name: "in the middle",
-                delete: "-D in the middle",
-                insert: "-I in the middle",
                 remove: "box taken out in the middle",
                 put: "box put in in the middle",
             },
             Spot::End => Facts {
                 name: "at the end",
-                delete: "-D at the end",
-                insert: "-I at the end",
                 remove: "box taken out at the end",
                 put: "box put in at the end",
             },
@@ -97,7 +88,6 @@ pub(crate) fn insert(alloc: Global, place: usize, text: &str) -> Result<Script> 
 struct Spent {
     out: u128,
     back: u128,
-    wrong: usize,
 }
 
 impl Spent {
@@ -106,7 +96,6 @@ impl Spent {
         Spent {
             out: u128::MAX,
             back: u128::MAX,
-            wrong: 0,
         }
     }
 
@@ -116,56 +105,11 @@ impl Spent {
         self.back = self.back.min(back);
     }
 
-    /// Counts an edit that was refused or answered.
-    fn check(&mut self, is_met: bool) {
-        if !is_met {
-            self.wrong = self.wrong.saturating_add(1);
-        }
-    }
-
     /// Notes what the quickest took.
     fn note(&self, column: &mut Column, out: &'static str, back: &'static str) -> Result<()> {
         column.note(out, Unit::Microseconds, self.out)?;
-        column.note(back, Unit::Microseconds, self.back)?;
-        column.note_wrong(self.wrong);
-        Ok(())
+        Ok(column.note(back, Unit::Microseconds, self.back)?)
     }
-}
-
-/// Takes the rule of a text out at a place and puts it in again, by lines of a session.
-fn edit_session<R: Clock + AllocGlobal>(
-    rt: &R,
-    session: &mut Session,
-    place: usize,
-    text: &str,
-) -> Result<Spent> {
-    let delete = delete(rt.alloc(), place)?;
-    let insert = insert(rt.alloc(), place, text)?;
-    let mut spent = Spent::new();
-    for _ in 0..TIMES {
-        let (out, is_out) = delete.time(rt, session)?;
-        let (back, is_back) = insert.time(rt, session)?;
-        spent.add(out, back);
-        spent.check(is_out && is_back);
-    }
-    Ok(spent)
-}
-
-/// Edits a session whose chain INPUT has the rules of these texts, and leaves it as it was.
-pub(crate) fn measure_session<R: Clock + AllocGlobal>(
-    rt: &R,
-    session: &mut Session,
-    texts: &[String],
-    column: &mut Column,
-) -> Result<()> {
-    for spot in Spot::ALL {
-        let place = spot.place(texts.len());
-        if let Some(text) = texts.get(place) {
-            let spent = edit_session(rt, session, place, text.as_str())?;
-            spent.note(column, spot.facts().delete, spot.facts().insert)?;
-        }
-    }
-    Ok(())
 }
 
 /// The nanoseconds that it takes to take the box at a place out.
@@ -192,7 +136,7 @@ fn time_insert(
 }
 
 /// Takes the box of a text's rule out at a place and puts it in again.
-fn edit_classifier<R: Clock + AllocGlobal>(
+fn edit<R: Clock + AllocGlobal>(
     rt: &R,
     classifier: &mut Classifier,
     place: usize,
@@ -209,7 +153,7 @@ fn edit_classifier<R: Clock + AllocGlobal>(
 }
 
 /// Edits the classifier of the rules of these texts, and leaves it as it was.
-pub(crate) fn measure_classifier<R: Clock + AllocGlobal>(
+pub(crate) fn measure<R: Clock + AllocGlobal>(
     rt: &R,
     classifier: &mut Classifier,
     texts: &[String],
@@ -218,7 +162,7 @@ pub(crate) fn measure_classifier<R: Clock + AllocGlobal>(
     for spot in Spot::ALL {
         let place = spot.place(texts.len());
         if let Some(text) = texts.get(place) {
-            let spent = edit_classifier(rt, classifier, place, text.as_str())?;
+            let spent = edit(rt, classifier, place, text.as_str())?;
             spent.note(column, spot.facts().remove, spot.facts().put)?;
         }
     }

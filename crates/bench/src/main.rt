@@ -1,9 +1,9 @@
-//! The program `bench`: what the classifier and sessions cost, for three kinds of rules side by side, and beside a
-//! plain walk over the boxes.
+//! The program `bench`: what searches, verdicts and edits of the classifier cost, for three kinds of rules side by side,
+//! and beside a plain walk over the boxes. What the program `iptsim` costs, `bin/costs` counts.
 //!
 //! `bench N ..` prints it for each number N of rules, up to 8,192; with the word `front` also what it costs to put many
-//! rules in one by one at the front. `bench hurt` prints what rules cost that are made to cost much. With no word it
-//! compares answers and outputs with those that are due, and prints only what never varies.
+//! rules in one by one at the front. With no word it compares answers and outputs with those that are due, and prints
+//! only what never varies.
 #![tactic(auto)]
 
 mod agree;
@@ -12,7 +12,6 @@ mod column;
 mod draft;
 mod draw;
 mod edits;
-mod hurt;
 mod kinds;
 mod known;
 mod load;
@@ -33,27 +32,22 @@ use std::rt::{Clock, Env};
 enum Job {
     Agree,
     Measure { counts: Vec<usize>, front: bool },
-    Hurt,
     Refused,
 }
 
 fn read_job<R: Env + Alloc + AllocGlobal>(rt: &R) -> Result<Job> {
     let mut counts = Vec::new(rt.alloc());
     let mut front = false;
-    let mut hurt = false;
     let mut words = env::args(rt)?;
     let _name = words.next();
     for word in words {
         match word.as_str().parse::<usize>() {
             Ok(count) if count > 0 && count <= kinds::MOST_RULES => counts.push(count)?,
             Err(_) if word.as_str() == "front" => front = true,
-            Err(_) if word.as_str() == "hurt" => hurt = true,
             _ => return Ok(Job::Refused),
         }
     }
-    Ok(if hurt {
-        Job::Hurt
-    } else if counts.is_empty() {
+    Ok(if counts.is_empty() {
         Job::Agree
     } else {
         Job::Measure { counts, front }
@@ -75,9 +69,8 @@ fn main(rt: HostRuntime) -> Result<()> {
     match read_job(&rt)? {
         Job::Agree => agree::run(&rt),
         Job::Measure { counts, front } => measure_all(&rt, counts, front),
-        Job::Hurt => hurt::run(&rt),
         Job::Refused => {
-            rt.println("usage: bench [hurt | [front] [NUMBER OF RULES, UP TO 8192] ..]")?;
+            rt.println("usage: bench [front] [NUMBER OF RULES, UP TO 8192] ..")?;
             Ok(())
         }
     }

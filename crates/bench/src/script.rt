@@ -6,8 +6,6 @@ use fields::{Fuse, FusedReader, FusedWriter, Tap};
 use sessions::Session;
 use std::alloc::{AllocError, Global};
 use std::fmt::Write;
-use std::rt::Clock;
-use std::time::Instant;
 
 /// How many bytes a read or a write moves, at most.
 const MOVED: usize = 65536;
@@ -98,11 +96,6 @@ impl Script {
         })
     }
 
-    /// How many bytes the input has.
-    pub(crate) fn input_bytes(&self) -> usize {
-        self.input.len()
-    }
-
     /// Room for the output.
     fn room(&self, alloc: Global) -> Result<Vec<u8>, AllocError> {
         Vec::with_capacity(alloc, self.wanted.len())
@@ -135,18 +128,5 @@ impl Script {
     pub(crate) fn holds(&self, alloc: Global, session: &mut Session) -> Result<bool> {
         let writer = self.run(session, self.room(alloc)?);
         Ok(self.is_met(&writer))
-    }
-
-    /// The nanoseconds that a session takes for the input, and whether that is so.
-    pub(crate) fn time<R: Clock + AllocGlobal>(
-        &self,
-        rt: &R,
-        session: &mut Session,
-    ) -> Result<(u128, bool)> {
-        let room = self.room(rt.alloc())?;
-        let start = Instant::now(rt)?;
-        let writer = self.run(session, room);
-        let took = start.elapsed(rt)?.as_nanos();
-        Ok((took, self.is_met(&writer)))
     }
 }
