@@ -14,10 +14,10 @@ enum Kind {
 // Whether the value of a text holds of a number, if the text is a value.
 fn holds(kind: Kind, text: &[u8], number: u128) -> Option<bool> {
     match kind {
-        Kind::Prefix => Some(Prefix::read(text)?.holds(number as u32)),
-        Kind::Range => Some(IpRange::read(text)?.holds(number as u32)),
+        Kind::Prefix => Some(Prefix::read(text)?.holds(u32::try_from(number).ok()?)),
+        Kind::Range => Some(IpRange::read(text)?.holds(u32::try_from(number).ok()?)),
         Kind::Interface => Some(IfPattern::read(text)?.holds(number)),
-        Kind::Icmp => Some(IcmpType::read(text)?.holds(number as u16)),
+        Kind::Icmp => Some(IcmpType::read(text)?.holds(u16::try_from(number).ok()?)),
     }
 }
 
