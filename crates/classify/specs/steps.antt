@@ -3,6 +3,7 @@ pub mod CommonPlaces
 pub mod Cuts
 pub mod Edits
 pub mod Fields
+pub mod Kept
 pub mod Pieces
 pub mod Runs
 pub mod Summaries

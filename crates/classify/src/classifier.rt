@@ -48,14 +48,14 @@ impl Model for Classifier {
 
     ghost Value = { ClassifiedAndRoom };
 
-    ghost use Rattle.classify.specs.steps.Fields.{shown_line, room_beside, EachLine, IsKept, IsWhole};
+    ghost use Rattle.classify.specs.steps.Fields.{shown_line, room_beside, IsKept};
 
     ghost view = { λ c. record {
       shown = record { len = c.len; lines = map shown_line c.lines };
       room = room_beside c.len c.lines;
     } };
 
-    ghost invariant = { λ c. IsKept (record { len = c.len; lines = map shown_line c.lines }) × EachLine (IsWhole c.len) c.lines };
+    ghost invariant = { λ c. IsKept c.len c.lines };
 }
 
 impl Classifier {
@@ -78,8 +78,7 @@ impl Classifier {
         ensures boxes { IfOk result (λ classifier. IsClassifierOf [] classifier.shown) }
         ensures rules { IfOk result (λ classifier. IsClassifierOfRules [] classifier.shown) }
     {
-        let mut lines: [OwnedLine; FIELDS] = array::from_fn(|_| OwnedLine::bare(alloc));
-        lines::open_lines(&mut lines, alloc)?;
+        let lines: [OwnedLine; FIELDS] = array::try_from_fn(|_| OwnedLine::open(alloc))?;
         Ok(Classifier { len: 0, lines })
     }
 
@@ -91,8 +90,7 @@ impl Classifier {
     pub fn copy(&self, alloc: Global) -> Result<Classifier, AllocError>
         ensures { IfOk result (λ classifier. classifier.shown ≡ self.now.shown) }
     {
-        let mut lines: [OwnedLine; FIELDS] = array::from_fn(|_| OwnedLine::bare(alloc));
-        lines::copy_lines(&mut lines, &self.lines, alloc)?;
+        let lines: [OwnedLine; FIELDS] = self.lines.each_ref().try_map(|line| line.copy(alloc))?;
         Ok(Classifier {
             len: self.len,
             lines,

@@ -6,6 +6,7 @@ pub mod EditLaws
 pub mod EndLaws
 pub mod JoinLaws
 pub mod KeepApartLaws
+pub mod KeptLaws
 pub mod LineLaws
 pub mod LineOfLaws
 pub mod ListLoopLaws

@@ -51,17 +51,6 @@ IsEndOf s x = (x ≡ s.first) ⊎ (x ≡ s.last + 1)
 abbrev pub Says : ℕ → List (List Interval) → List (ℕ × List Bool) → Type 0
 Says top sets line = (x : ℕ) → x ≤ top → row_in line x ≡ row_at has sets x
 
--- each row has so many bits
-abbrev pub EachRow : ℕ → List (ℕ × List Bool) → Type 0
-EachRow n [] = Unit {0}
-EachRow n (p ∷ ps) = (length p.1 ≡ n) × EachRow n ps
-
--- a line as it stands between edits: its pieces rise from 0, no two neighbours are equal, and each row has so many bits
-pub record IsSound (top n : ℕ) (line : List (ℕ × List Bool)) : Type 0 where
-  pub rising : IsRising top line
-  pub differ : Differ line
-  pub rows : EachRow n line
-
 -- the row of a piece
 abbrev pub row_of : List (ℕ × List Bool) → ℕ → List Bool
 row_of line j = let none : ℕ × List Bool = (0, []) in let p : ℕ × List Bool = slice_index_or line j none in p.1

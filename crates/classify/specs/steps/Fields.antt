@@ -1,5 +1,5 @@
 -- The lines of all fields at once, each at its field's place.
-use Rattle.std.specs.Prelude.{◌≡◌, ℕ, ◌+◌, ◌*◌, ◌^◌, ◌-◌, ◌≤◌, ◌<◌, ◌%◌, min, Bool, List, [], ◌∷◌, map, length, slice_index}
+use Rattle.std.specs.Prelude.{◌≡◌, ℕ, ◌+◌, ◌*◌, ◌^◌, ◌-◌, ◌≤◌, ◌<◌, min, Bool, List, [], ◌∷◌, map, length, slice_index}
 use Rattle.std.specs.Prelude.{slice_index_or, slice_set, insert, remove}
 use Rattle.fields.specs.declared.numbers.field.TheConstants.{FIELDS}
 use Rattle.fields.specs.declared.numbers.spans.Interval.{Interval}
@@ -7,9 +7,9 @@ use Rattle.fields.specs.numbers.Field.{all_fields, top}
 use Rattle.fields.specs.numbers.Spans.{SpanSet, has}
 use Rattle.classify.specs.line.Line.{IsLineOf}
 use Rattle.classify.specs.steps.Cuts.{CutsStart, IsApart}
-use Rattle.classify.specs.steps.Edits.{IsSound, IsMergeOf, EachRow, Says}
-use Rattle.classify.specs.steps.Pieces.{IsRising, IsSplitOf, PiecesAndRoom}
-use Rattle.classify.specs.classifier.Classifier.{Classified}
+use Rattle.classify.specs.steps.Edits.{IsMergeOf, Says}
+use Rattle.classify.specs.steps.Pieces.{IsRising, IsSplitOf, Differ, row_bits}
+use Rattle.classify.specs.steps.Kept.{PiecesAndRoom, IsSound}
 
 -- the cuts and rows of a line
 abbrev pub shown_line : PiecesAndRoom → List (ℕ × List Bool)
@@ -23,15 +23,11 @@ tops = map top all_fields
 abbrev pub most_boxes : ℕ
 most_boxes = 64 * (2 ^ 58 - 1)
 
--- a classifier as it stands between edits
-pub record IsKept (c : Classified) : Type 0 where
-  pub few : c.len ≤ most_boxes
-  pub fields : length c.lines ≡ FIELDS
-  pub lines : (k : ℕ) → k < FIELDS → IsSound (slice_index tops k) c.len (slice_index_or c.lines k [])
-
--- n bits of each row of a line and its room fill words
-abbrev pub IsWhole : ℕ → PiecesAndRoom → Type 0
-IsWhole n l = (n + l.room) % 64 ≡ 0
+-- the lines of so many boxes as they stand between edits
+pub record IsKept (len : ℕ) (lines : List PiecesAndRoom) : Type 0 where
+  pub few : len ≤ most_boxes
+  pub fields : length lines ≡ FIELDS
+  pub sound : (k : ℕ) (l : PiecesAndRoom) → k < length lines → IsSound (slice_index tops k) len (slice_index_or lines k l)
 
 -- the least room of some lines, and n at most
 unfoldable pub room_of_lines : ℕ → List PiecesAndRoom → ℕ
@@ -56,7 +52,7 @@ ShowTheSame = EachEdit (λ l m. m.pieces ≡ l.pieces)
 
 -- each line is that of no box
 abbrev pub AreEmpty : List PiecesAndRoom → List PiecesAndRoom → Type 0
-AreEmpty = EachEdit (λ _ m. (m.pieces ≡ (0, []) ∷ []) × IsWhole 0 m)
+AreEmpty = EachEdit (λ _ m. m.pieces ≡ (0, []) ∷ [])
 
 -- each line stands in R to its field's set and to the line of its field before
 abbrev pub EachField : (SpanSet → PiecesAndRoom → PiecesAndRoom → Type 0) → List SpanSet → List PiecesAndRoom → List PiecesAndRoom → Type 0
@@ -91,15 +87,10 @@ KeepsRoom l m = l.room ≤ m.room
 abbrev pub HasSameRoom : PiecesAndRoom → PiecesAndRoom → Type 0
 HasSameRoom l m = m.room ≡ l.room
 
--- where m bits and the room filled words, n bits and the new room do
-abbrev pub StaysWhole : ℕ → ℕ → PiecesAndRoom → PiecesAndRoom → Type 0
-StaysWhole m n old new = IsWhole m old → IsWhole n new
-
--- the same line, with no less room, by whole words
+-- the same line, with no less room
 pub record IsRoomier (l m : PiecesAndRoom) : Type 0 where
   pub same : m.pieces ≡ l.pieces
   pub room : KeepsRoom l m
-  pub whole : m.room % 64 ≡ l.room % 64
 
 -- the room of one bit is used, and no more
 abbrev pub UsesRoom : PiecesAndRoom → PiecesAndRoom → Type 0
@@ -111,11 +102,11 @@ FreesRoom l m = m.room ≡ l.room + 1
 
 -- each row has room for all bits that it had, beside what it had room for
 abbrev pub FreesAll : PiecesAndRoom → PiecesAndRoom → Type 0
-FreesAll l m = (n : ℕ) → EachRow n l.pieces → m.room ≡ l.room + n
+FreesAll l m = m.room ≡ l.room + row_bits l.pieces
 
 -- a line as it stands between edits, with so many bits a row
 abbrev pub Stands : ℕ → SpanSet → PiecesAndRoom → Type 0
-Stands n s l = IsSound s.top n l.pieces
+Stands n s l = IsSound s.top n l
 
 -- the line with more cuts, where the set begins or ends
 abbrev pub IsCutMore : SpanSet → PiecesAndRoom → PiecesAndRoom → Type 0
@@ -143,9 +134,9 @@ pub record IsReady (s : SpanSet) (l : PiecesAndRoom) : Type 0 where
 
 -- a box's set put in at a place: the line of any sets becomes that of the sets with it, and the rows are longer by one bit
 pub record TakesIn (at : ℕ) (s : SpanSet) (old new : PiecesAndRoom) : Type 0 where
-  pub line : (n : ℕ) (sets : List (List Interval)) → at ≤ n → EachRow n old.pieces → Says s.top sets old.pieces
+  pub line : (sets : List (List Interval)) → Says s.top sets old.pieces
       → IsLineOf has s.top (insert sets at s.intervals) new.pieces
-  pub sound : (n : ℕ) → at ≤ n → EachRow n old.pieces → IsSound s.top (n + 1) new.pieces
+  pub sound : IsSound s.top (row_bits old.pieces + 1) new
   pub room : new.room + 1 ≡ old.room
 
 -- nothing need grow for the set's answers: pieces start where they change, and each row has room for a bit
@@ -157,16 +148,16 @@ pub record HasRoom (s : SpanSet) (l : PiecesAndRoom) : Type 0 where
 pub record TakesOver (at : ℕ) (s : SpanSet) (old new : PiecesAndRoom) : Type 0 where
   pub line : (sets : List (List Interval)) → Says s.top sets old.pieces
       → IsLineOf has s.top (slice_set sets at s.intervals) new.pieces
-  pub sound : (n : ℕ) → at < n → EachRow n old.pieces → IsSound s.top n new.pieces
+  pub sound : IsSound s.top (row_bits old.pieces) new
   pub room : HasSameRoom old new
 
--- a line as it stands between edits, up to some top, that has a bit at a place in each row
+-- each row has a bit at a place, and no two neighbours are equal
 abbrev pub HasPlace : ℕ → PiecesAndRoom → Type 0
-HasPlace at l = (top : ℕ) × (n : ℕ) × (at < n) × IsSound top n l.pieces
+HasPlace at l = (at < row_bits l.pieces) × Differ l.pieces
 
 -- a box taken out: the line of any sets becomes that of the others, and the rows are shorter by one bit
 pub record LosesBox (at : ℕ) (old new : PiecesAndRoom) : Type 0 where
   pub line : (top : ℕ) (sets : List (List Interval)) → IsLineOf has top sets old.pieces
       → IsLineOf has top (remove sets at) new.pieces
-  pub sound : (top n : ℕ) → at < n → IsSound top n old.pieces → IsSound top (n - 1) new.pieces
+  pub sound : (top : ℕ) → IsRising top old.pieces → IsSound top (row_bits old.pieces - 1) new
   pub room : FreesRoom old new

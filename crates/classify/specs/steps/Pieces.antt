@@ -1,12 +1,7 @@
 -- What a line says of each number, whether or not it is the shortest that says so.
 use Rattle.fields.specs.declared.numbers.spans.Interval.{Interval}
 use Rattle.fields.specs.numbers.Spans.{has}
-use Rattle.std.specs.Prelude.{◌≡◌, ◌≢◌, ℕ, suc, ◌<◌, ◌≤◌, nat_le, Bool, List, [], ◌∷◌, if◌then◌else◌, ◌⊎◌}
-
--- what a line shows as it is kept: where each piece starts, with its row; and how many bits more go into each row before memory is needed
-pub record PiecesAndRoom : Type 0 where
-  pub pieces : List (ℕ × List Bool)
-  pub room : ℕ
+use Rattle.std.specs.Prelude.{◌≡◌, ◌≢◌, ℕ, suc, ◌<◌, ◌≤◌, nat_le, Bool, List, [], ◌∷◌, if◌then◌else◌, ◌⊎◌, length}
 
 -- the last piece that starts at or before x, and `first` where there is none
 abbrev pub piece_at : ℕ × List Bool → List (ℕ × List Bool) → ℕ → ℕ × List Bool
@@ -57,7 +52,12 @@ pub record IsSplitOf (top : ℕ) (spans : List Interval) (old new : List (ℕ ×
   pub keeps : (x : ℕ) → StartsAt x old → StartsAt x new
   pub only : (x : ℕ) → StartsAt (suc x) new → StartsAt (suc x) old ⊎ (has spans x ≢ has spans (suc x))
 
--- there is a first piece, and it starts at 0
-abbrev pub StartsAtZero : List (ℕ × List Bool) → Type 0
-StartsAtZero [] = ⊥
-StartsAtZero (p ∷ ps) = p.0 ≡ 0
+-- each row has so many bits
+abbrev pub EachRow : ℕ → List (ℕ × List Bool) → Type 0
+EachRow n [] = Unit {0}
+EachRow n (p ∷ ps) = (length p.1 ≡ n) × EachRow n ps
+
+-- how many bits the first row has
+abbrev pub row_bits : List (ℕ × List Bool) → ℕ
+row_bits [] = 0
+row_bits (p ∷ ps) = length p.1

@@ -1,43 +1,17 @@
 //! The lines of all fields: each step on every line in turn.
 
 ghost use Rattle.std.specs.Prelude.{◌≡◌, ◌<◌, ◌≤◌, ◌+◌, ◌%◌, ℕ, length, OnOk, OnErr, IsOk};
-ghost use Rattle.classify.specs.steps.Pieces.{StartsAtZero};
-ghost use Rattle.classify.specs.steps.Edits.{EachRow};
+ghost use Rattle.classify.specs.steps.Pieces.{row_bits};
 ghost use Rattle.classify.specs.steps.Fields.{EachLine, EachEdit, ShowTheSame, AreEmpty, EachField, OnEach};
 ghost use Rattle.classify.specs.steps.Fields.{Rises, HasCuts, HasOnlyCuts, Stands, IsCutMore, IsJoinedUp, InsertsSet};
 ghost use Rattle.classify.specs.steps.Fields.{ReplacesSet, UsesRoom, FreesAll};
 ghost use Rattle.classify.specs.steps.Fields.{IsReady, HasRoom, TakesIn, TakesOver, HasPlace, LosesBox};
-ghost use Rattle.classify.specs.steps.Fields.{IsKeptWithCuts, HasSameRoom, IsWhole, StaysWhole, IsRoomier, KeepsRoom};
+ghost use Rattle.classify.specs.steps.Fields.{IsKeptWithCuts, HasSameRoom, IsRoomier, KeepsRoom};
 
 use crate::line::edit;
 use crate::line::owned::OwnedLine;
 use fields::Spans;
 use std::alloc::{AllocError, Global};
-
-// Makes every line that of no box.
-pub(crate) fn open_lines(lines: &mut [OwnedLine], alloc: Global) -> Result<(), AllocError>
-    ensures { OnOk result (AreEmpty lines.old lines.new) }
-{
-    for k in 0..lines.len() {
-        lines[k] = OwnedLine::open(alloc)?;
-    }
-    Ok(())
-}
-
-// Makes every line a copy of its field's line among others.
-pub(crate) fn copy_lines(
-    lines: &mut [OwnedLine],
-    others: &[OwnedLine],
-    alloc: Global,
-) -> Result<(), AllocError>
-    requires { length others.now ≡ length lines.old }
-    ensures { OnOk result (EachEdit (λ l m. m ≡ l) others.now lines.new) }
-{
-    for k in 0..lines.len() {
-        lines[k] = others[k].copy(alloc)?;
-    }
-    Ok(())
-}
 
 // Cuts every line wherever the box's answers change on its field.
 fn split_lines(lines: &mut [OwnedLine], spans: &[Spans]) -> Result<(), AllocError>
@@ -77,7 +51,6 @@ fn prepare_lines(lines: &mut [OwnedLine], spans: &[Spans]) -> Result<(), AllocEr
     ensures ready { OnOk result (EachField (λ s _ m. IsReady s m) spans.now lines.old lines.new) }
     ensures there { OnEach HasRoom spans.now lines.old → IsOk result }
     ensures room { EachEdit KeepsRoom lines.old lines.new }
-    ensures whole { EachEdit (λ l m. m.room % 64 ≡ l.room % 64) lines.old lines.new }
 {
     split_lines(lines, spans)?;
     reserve_lines(lines)
@@ -103,7 +76,7 @@ fn commit_lines(lines: &mut [OwnedLine], at: usize, spans: &[Spans])
     requires rising { OnEach Rises spans.now lines.old }
     requires ready { OnEach IsReady spans.now lines.old }
     requires apart { OnEach HasOnlyCuts spans.now lines.old }
-    requires place { (n : ℕ) × (at ≤ n) × EachLine (λ l. EachRow n l.pieces) lines.old }
+    requires place { EachLine (λ l. at ≤ row_bits l.pieces) lines.old }
     ensures { EachField (TakesIn at) spans.now lines.old lines.new }
 {
     for k in 0..lines.len() {
@@ -126,10 +99,8 @@ pub(crate) fn insert_lines(
     ensures sound { OnOk result (EachField (λ s _ m. Stands (len + 1) s m) spans.now lines.old lines.new) }
     ensures there { OnEach HasRoom spans.now lines.old → IsOk result }
     ensures room { OnOk result (EachEdit UsesRoom lines.old lines.new) }
-    ensures whole { OnOk result (EachEdit (StaysWhole len (len + 1)) lines.old lines.new) }
     ensures err { OnErr result (ShowTheSame lines.old lines.new) }
     ensures back { OnErr result (EachEdit KeepsRoom lines.old lines.new) }
-    ensures back_whole { OnErr result (EachEdit (StaysWhole len len) lines.old lines.new) }
 {
     let _len = len;
     match prepare_lines(lines, spans) {
@@ -150,7 +121,7 @@ fn settle_lines(lines: &mut [OwnedLine], at: usize, spans: &[Spans])
     requires rising { OnEach Rises spans.now lines.old }
     requires cuts { OnEach HasCuts spans.now lines.old }
     requires apart { OnEach HasOnlyCuts spans.now lines.old }
-    requires place { (n : ℕ) × (at < n) × EachLine (λ l. EachRow n l.pieces) lines.old }
+    requires place { EachLine (λ l. at < row_bits l.pieces) lines.old }
     ensures { EachField (TakesOver at) spans.now lines.old lines.new }
 {
     for k in 0..lines.len() {
@@ -200,8 +171,6 @@ pub(crate) fn remove_lines(lines: &mut [OwnedLine], at: usize)
 
 // Takes every box out, in every line.
 pub(crate) fn clear_lines(lines: &mut [OwnedLine])
-    requires zero { EachLine (λ l. StartsAtZero l.pieces) lines.old }
-    requires whole { (n : ℕ) × EachLine (λ l. EachRow n l.pieces × IsWhole n l) lines.old }
     ensures empty { AreEmpty lines.old lines.new }
     ensures room { EachEdit FreesAll lines.old lines.new }
 {

@@ -4,11 +4,12 @@ ghost use Rattle.fields.specs.declared.numbers.spans.Interval.{Interval};
 ghost use Rattle.std.specs.Prelude.{◌≡◌, ◌<◌, ◌≤◌, ◌+◌, ◌-◌, ℕ, length, OnOk, IsOk, List, map, insert};
 ghost use Rattle.std.specs.Prelude.{remove, slice_set, slice_index_or, false, [], ◌∷◌};
 ghost use Rattle.classify.specs.line.Line.{IsLineOf};
-ghost use Rattle.classify.specs.steps.Pieces.{IsRising, IsRisingLine, IsSplitOf, StartsAt, StartsAtZero};
+ghost use Rattle.classify.specs.steps.Pieces.{Differ, IsRising, IsSplitOf, StartsAt, row_bits};
 ghost use Rattle.fields.specs.numbers.Spans.{has};
 ghost use Rattle.classify.specs.steps.Cuts.{CutsStart, EndsStart, ChangesAt, IsApart};
 ghost use Rattle.classify.specs.steps.Edits.{with_written, IsMergeOf, IsUnsplitAt};
-ghost use Rattle.classify.specs.steps.Edits.{IsNumber, IsEndOf, IsJoined, KeepsApart, Says, EachRow, IsSound, row_of};
+ghost use Rattle.classify.specs.steps.Edits.{IsNumber, IsEndOf, IsJoined, KeepsApart, Says, row_of};
+ghost use Rattle.classify.specs.steps.Kept.{IsSound};
 
 use crate::line::owned::OwnedLine;
 use crate::line::put::put_answers;
@@ -17,13 +18,11 @@ use std::alloc::AllocError;
 
 // Cuts the piece that x is in, so that a piece starts at x: both halves have its row.
 fn split(line: &mut OwnedLine, x: u128) -> Result<(), AllocError>
-    requires { IsRisingLine line.old.pieces }
     ensures split { (top : ℕ) (spans : List Interval) → x ≤ top → ChangesAt spans x → IsRising top line.old.pieces
         → IsSplitOf top spans line.old.pieces line.new.pieces }
     ensures ok { OnOk result (StartsAt x line.new.pieces) }
-    ensures there { (top : ℕ) → IsRising top line.old.pieces → StartsAt x line.old.pieces → IsOk result }
-    ensures kept { (top : ℕ) → IsRising top line.old.pieces → StartsAt x line.old.pieces
-        → line.new.pieces ≡ line.old.pieces }
+    ensures there { StartsAt x line.old.pieces → IsOk result }
+    ensures kept { StartsAt x line.old.pieces → line.new.pieces ≡ line.old.pieces }
     ensures room { line.new.room ≡ line.old.room }
 {
     let place = line.place_of(x);
@@ -71,7 +70,6 @@ pub(crate) fn split_all(line: &mut OwnedLine, spans: &Spans) -> Result<(), Alloc
 
 // Takes the cut at x back where the rows on its two sides are equal.
 fn unsplit(line: &mut OwnedLine, x: u128)
-    requires { IsRisingLine line.old.pieces }
     ensures unsplit { (top : ℕ) → IsRising top line.old.pieces → IsUnsplitAt (IsNumber x) top line.old.pieces line.new.pieces }
     ensures room { line.new.room ≡ line.old.room }
 {
@@ -116,10 +114,11 @@ pub(crate) fn unsplit_all(line: &mut OwnedLine, spans: &Spans)
 // Writes a box's answer into a piece's row, and answers with what stood there.
 fn write_in(line: &mut OwnedLine, k: usize, at: usize, spans: &Spans) -> bool
     requires within { k < length line.old.pieces }
-    requires place { at < length (row_of line.old.pieces k) }
+    requires place { at < row_bits line.old.pieces }
     ensures row { line.new.pieces ≡ slice_set line.old.pieces k
         (with_written at spans.now.intervals (slice_index_or line.old.pieces k (0, []))) }
     ensures bit { result ≡ slice_index_or (row_of line.old.pieces k) at false }
+    ensures long { row_bits line.new.pieces ≡ row_bits line.old.pieces }
     ensures room { line.new.room ≡ line.old.room }
 {
     let bit = line.get(k, at);
@@ -135,6 +134,7 @@ fn write_in(line: &mut OwnedLine, k: usize, at: usize, spans: &Spans) -> bool
 fn join(line: &mut OwnedLine, k: usize, bit: bool, above: bool)
     requires { k < length line.old.pieces }
     ensures joined { IsJoined bit above k line.old.pieces line.new.pieces }
+    ensures long { row_bits line.new.pieces ≡ row_bits line.old.pieces }
     ensures room { line.new.room ≡ line.old.room }
 {
     if bit == above {
@@ -150,11 +150,11 @@ fn join(line: &mut OwnedLine, k: usize, bit: bool, above: bool)
 
 // Writes a box's answers over another's, and joins the pieces that only the other's kept apart.
 fn set_answers(line: &mut OwnedLine, at: usize, spans: &Spans)
-    requires zero { StartsAtZero line.old.pieces }
-    requires place { (j : ℕ) → j < length line.old.pieces → at < length (row_of line.old.pieces j) }
+    requires place { at < row_bits line.old.pieces }
     requires keeps_apart { KeepsApart (with_written at spans.now.intervals) at line.old.pieces }
     ensures merge { (top : ℕ) → IsRising top (map (with_written at spans.now.intervals) line.old.pieces)
         → IsMergeOf top (map (with_written at spans.now.intervals) line.old.pieces) line.new.pieces }
+    ensures long { row_bits line.new.pieces ≡ row_bits line.old.pieces }
     ensures room { line.new.room ≡ line.old.room }
 {
     let mut above = false;
@@ -172,11 +172,10 @@ pub(crate) fn commit(line: &mut OwnedLine, at: usize, spans: &Spans)
     requires rising { IsRising spans.now.top line.old.pieces }
     requires cuts { CutsStart spans.now.top spans.now.intervals line.old.pieces }
     requires apart { IsApart spans.now.intervals line.old.pieces }
-    requires place { (n : ℕ) × (at ≤ n) × EachRow n line.old.pieces }
+    requires place { at ≤ row_bits line.old.pieces }
     requires room { 0 < line.old.room }
-    ensures sound { (n : ℕ) → at ≤ n → EachRow n line.old.pieces → IsSound spans.now.top (n + 1) line.new.pieces }
-    ensures line { (n : ℕ) (sets : List (List Interval)) → at ≤ n → EachRow n line.old.pieces
-        → Says spans.now.top sets line.old.pieces
+    ensures sound { IsSound spans.now.top (row_bits line.old.pieces + 1) line.new }
+    ensures line { (sets : List (List Interval)) → Says spans.now.top sets line.old.pieces
         → IsLineOf has spans.now.top (insert sets at spans.now.intervals) line.new.pieces }
     ensures room { line.new.room + 1 ≡ line.old.room }
 {
@@ -185,8 +184,9 @@ pub(crate) fn commit(line: &mut OwnedLine, at: usize, spans: &Spans)
 
 // Takes a box out: first its answers, with the cuts that only these made, and then its place.
 pub(crate) fn remove_box(line: &mut OwnedLine, at: usize)
-    requires { (top : ℕ) × (n : ℕ) × (at < n) × IsSound top n line.old.pieces }
-    ensures sound { (top n : ℕ) → at < n → IsSound top n line.old.pieces → IsSound top (n - 1) line.new.pieces }
+    requires place { at < row_bits line.old.pieces }
+    requires differ { Differ line.old.pieces }
+    ensures sound { (top : ℕ) → IsRising top line.old.pieces → IsSound top (row_bits line.old.pieces - 1) line.new }
     ensures line { (top : ℕ) (sets : List (List Interval)) → IsLineOf has top sets line.old.pieces
         → IsLineOf has top (remove sets at) line.new.pieces }
     ensures room { line.new.room ≡ line.old.room + 1 }
@@ -201,8 +201,8 @@ pub(crate) fn replace_box(line: &mut OwnedLine, at: usize, spans: &Spans)
     requires rising { IsRising spans.now.top line.old.pieces }
     requires cuts { CutsStart spans.now.top spans.now.intervals line.old.pieces }
     requires apart { IsApart spans.now.intervals line.old.pieces }
-    requires place { (n : ℕ) × (at < n) × EachRow n line.old.pieces }
-    ensures sound { (n : ℕ) → at < n → EachRow n line.old.pieces → IsSound spans.now.top n line.new.pieces }
+    requires place { at < row_bits line.old.pieces }
+    ensures sound { IsSound spans.now.top (row_bits line.old.pieces) line.new }
     ensures line { (sets : List (List Interval)) → Says spans.now.top sets line.old.pieces
         → IsLineOf has spans.now.top (slice_set sets at spans.now.intervals) line.new.pieces }
     ensures room { line.new.room ≡ line.old.room }
@@ -212,9 +212,8 @@ pub(crate) fn replace_box(line: &mut OwnedLine, at: usize, spans: &Spans)
 
 // Takes every box out: one piece without a bit is left.
 pub(crate) fn clear(line: &mut OwnedLine)
-    requires { StartsAtZero line.old.pieces }
     ensures empty { line.new.pieces ≡ (0, []) ∷ [] }
-    ensures room { (n : ℕ) → EachRow n line.old.pieces → line.new.room ≡ line.old.room + n }
+    ensures room { line.new.room ≡ line.old.room + row_bits line.old.pieces }
 {
     line.clear();
 }

@@ -4,9 +4,11 @@ ghost use Rattle.std.specs.Prelude.{ℕ, ◌≡◌, ◌<◌, ◌≤◌, ◌+◌,
 ghost use Rattle.std.specs.Prelude.{false, true, IfOk, IsOk, OnOk, OnErr, IsTrue, ◌↔◌, [], ◌∷◌};
 ghost use Rattle.bits.specs.steps.Packing.{all_bits, IsPacked};
 ghost use Rattle.classify.specs.line.Line.{starts};
-ghost use Rattle.classify.specs.steps.Pieces.{IsRisingLine, row_in};
+ghost use Rattle.classify.specs.steps.Kept.{IsLine, line_prop};
+ghost use Rattle.classify.specs.steps.Pieces.{row_bits, row_in};
 ghost use Rattle.classify.specs.steps.Edits.{row_of};
 ghost use Rattle.bits.specs.steps.Summaries.{IsSummaryOf};
+ghost use Rattle.std.specs.List.{zip};
 
 use crate::line::starts::Starts;
 use bits::Rows;
@@ -25,34 +27,29 @@ pub(crate) struct LentRow<'a> {
     pub(crate) summary: u64,
 }
 
-/// The pieces of a line, in rising order: the first number of each, and the answer of each box, at the box's place.
+/// The pieces of a line, in rising order from 0: the first number of each, and the answer of each box, at the box's place.
 #[derive(Drop)]
 pub(crate) struct OwnedLine {
     starts: Starts,
     rows: Rows,
+    ghost stands: { IsLine (zip starts rows.rows) rows.room } by { line_prop (zip starts rows.rows) rows.room },
 }
 
 impl Model for OwnedLine {
     ghost use Rattle.std.specs.Prelude.{◌≡◌, length};
     ghost use Rattle.std.specs.List.{zip};
-    ghost use Rattle.classify.specs.steps.Pieces.{PiecesAndRoom};
+    ghost use Rattle.classify.specs.steps.Kept.{PiecesAndRoom, line_code};
 
     ghost Value = { PiecesAndRoom };
 
-    ghost view = { λ l. record { pieces = zip l.starts l.rows.rows; room = l.rows.room } };
+    ghost coded = { line_code };
+
+    ghost view = { λ l. record { pieces = zip l.starts l.rows.rows; room = l.rows.room; stands = l.stands } };
 
     ghost invariant = { λ l. length l.rows.rows ≡ length l.starts };
 }
 
 impl OwnedLine {
-    // A line without a piece, which no classifier keeps: the place for one.
-    pub(crate) fn bare(alloc: Global) -> OwnedLine {
-        OwnedLine {
-            starts: Starts::new(alloc),
-            rows: Rows::bare(alloc),
-        }
-    }
-
     // The line of no box: one piece without a bit.
     pub(crate) fn open(alloc: Global) -> Result<OwnedLine, AllocError>
         ensures { IfOk result (λ line. (line.pieces ≡ (0, []) ∷ []) × (line.room ≡ 0)) }
@@ -87,7 +84,6 @@ impl OwnedLine {
 
     // The place of the piece that a number is in: a binary search.
     pub(crate) fn place_of(&self, x: u128) -> usize
-        requires { IsRisingLine self.now.pieces }
         ensures within { result < length self.now.pieces }
         ensures low { slice_index (starts self.now.pieces) result ≤ x }
         ensures high { result + 1 < length self.now.pieces → x < slice_index (starts self.now.pieces) (result + 1) }
@@ -126,7 +122,6 @@ impl OwnedLine {
 
     // The row of the piece that a number is in; it is lent.
     pub(crate) fn row_at(&self, x: u128) -> LentRow<'_>
-        requires { IsRisingLine self.now.pieces }
         ensures packed { IsPacked result.words.now (length (row_in self.now.pieces x)) }
         ensures bits { take (length (row_in self.now.pieces x)) (all_bits result.words.now) ≡ row_in self.now.pieces x }
         ensures summed { IsSummaryOf result.summary (row_in self.now.pieces x) }
@@ -141,7 +136,7 @@ impl OwnedLine {
     // The bit at a place of a row.
     pub(crate) fn get(&self, k: usize, at: usize) -> bool
         requires piece { k < length self.now.pieces }
-        requires place { at < length (row_of self.now.pieces k) }
+        requires place { at < row_bits self.now.pieces }
         ensures { result ≡ slice_index_or (row_of self.now.pieces k) at false }
     {
         let _starts = &self.starts;
@@ -151,9 +146,10 @@ impl OwnedLine {
     // Writes the bit at a place of a row.
     pub(crate) fn set(&mut self, k: usize, at: usize, bit: bool)
         requires piece { k < length self.old.pieces }
-        requires place { at < length (row_of self.old.pieces k) }
+        requires place { at < row_bits self.old.pieces }
         ensures pieces { self.new.pieces
             ≡ slice_set self.old.pieces k (slice_index (starts self.old.pieces) k, slice_set (row_of self.old.pieces k) at bit) }
+        ensures long { row_bits self.new.pieces ≡ row_bits self.old.pieces }
         ensures room { self.new.room ≡ self.old.room }
     {
         let _starts = &self.starts;
@@ -162,8 +158,7 @@ impl OwnedLine {
 
     // Writes a 1 at a place of each row.
     pub(crate) fn set_all(&mut self, at: usize)
-        requires some { 0 < length self.old.pieces }
-        requires place { (k : ℕ) → k < length self.old.pieces → at < length (row_of self.old.pieces k) }
+        requires { at < row_bits self.old.pieces }
         ensures pieces { self.new.pieces ≡ map (λ p. (p.0, slice_set p.1 at true)) self.old.pieces }
         ensures room { self.new.room ≡ self.old.room }
     {
@@ -174,6 +169,7 @@ impl OwnedLine {
     // Cuts a piece at a number: the new one has its row. Where memory is refused the pieces are as before.
     pub(crate) fn split_at(&mut self, k: usize, x: u128) -> Result<(), AllocError>
         requires piece { k < length self.old.pieces }
+        requires above { slice_index (starts self.old.pieces) k < x }
         requires below { k + 1 < length self.old.pieces → x < slice_index (starts self.old.pieces) (k + 1) }
         ensures ok { OnOk result (self.new.pieces ≡ insert self.old.pieces (k + 1) (x, row_of self.old.pieces k)) }
         ensures err { OnErr result (self.new.pieces ≡ self.old.pieces) }
@@ -199,9 +195,10 @@ impl OwnedLine {
         self.rows.same(k, k + 1)
     }
 
-    // Takes a piece out.
+    // Takes a piece out, which is not the first.
     pub(crate) fn remove(&mut self, k: usize)
-        requires { k < length self.old.pieces }
+        requires later { 0 < k }
+        requires piece { k < length self.old.pieces }
         ensures pieces { self.new.pieces ≡ remove self.old.pieces k }
         ensures room { self.new.room ≡ self.old.room }
     {
@@ -211,8 +208,7 @@ impl OwnedLine {
 
     // Puts a 0 into each row at a place, where there is room: the later bits move up by one.
     pub(crate) fn open_place(&mut self, at: usize)
-        requires some { 0 < length self.old.pieces }
-        requires place { (k : ℕ) → k < length self.old.pieces → at ≤ length (row_of self.old.pieces k) }
+        requires place { at ≤ row_bits self.old.pieces }
         requires room { 0 < self.old.room }
         ensures pieces { self.new.pieces ≡ map (λ p. (p.0, insert p.1 at false)) self.old.pieces }
         ensures room { self.new.room + 1 ≡ self.old.room }
@@ -223,8 +219,7 @@ impl OwnedLine {
 
     // Takes a bit out of each row at a place: the later ones move down by one.
     pub(crate) fn close_place(&mut self, at: usize)
-        requires some { 0 < length self.old.pieces }
-        requires place { (k : ℕ) → k < length self.old.pieces → at < length (row_of self.old.pieces k) }
+        requires { at < row_bits self.old.pieces }
         ensures pieces { self.new.pieces ≡ map (λ p. (p.0, remove p.1 at)) self.old.pieces }
         ensures room { self.new.room ≡ self.old.room + 1 }
     {
@@ -236,7 +231,6 @@ impl OwnedLine {
     pub(crate) fn reserve(&mut self) -> Result<(), AllocError>
         ensures pieces { self.new.pieces ≡ self.old.pieces }
         ensures more { self.old.room ≤ self.new.room }
-        ensures whole { self.new.room % 64 ≡ self.old.room % 64 }
         ensures ok { OnOk result (0 < self.new.room) }
         ensures there { 0 < self.old.room → IsOk result }
     {
@@ -246,9 +240,8 @@ impl OwnedLine {
 
     // Leaves the first piece alone, without a bit.
     pub(crate) fn clear(&mut self)
-        requires { 0 < length self.old.pieces }
-        ensures pieces { self.new.pieces ≡ (slice_index (starts self.old.pieces) 0, []) ∷ [] }
-        ensures room { self.new.room ≡ self.old.room + length (row_of self.old.pieces 0) }
+        ensures pieces { self.new.pieces ≡ (0, []) ∷ [] }
+        ensures room { self.new.room ≡ self.old.room + row_bits self.old.pieces }
     {
         self.starts.keep_first();
         self.rows.clear();

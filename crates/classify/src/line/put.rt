@@ -3,7 +3,7 @@
 ghost use Rattle.std.specs.Prelude.{◌≡◌, ◌<◌, ◌≤◌, ◌+◌, ℕ, length, map, false, slice_index_or};
 ghost use Rattle.classify.specs.steps.Cuts.{CutsStart};
 ghost use Rattle.classify.specs.steps.Edits.{row_of, with_answer, with_written};
-ghost use Rattle.classify.specs.steps.Pieces.{IsRising, IsRisingLine, StartsAt};
+ghost use Rattle.classify.specs.steps.Pieces.{StartsAt, row_bits};
 ghost use Rattle.classify.specs.steps.Runs.{IsRunIn, IsRunWritten};
 
 use crate::line::owned::OwnedLine;
@@ -18,7 +18,6 @@ struct Run {
 
 // The pieces in an interval, where one starts where it begins.
 fn run_in(line: &OwnedLine, interval: Interval) -> Run
-    requires rising { IsRisingLine line.now.pieces }
     requires begins { StartsAt interval.first line.now.pieces }
     requires some { interval.first ≤ interval.last }
     ensures { IsRunIn interval result.from result.to line.now.pieces }
@@ -34,7 +33,7 @@ fn run_in(line: &OwnedLine, interval: Interval) -> Run
 fn write_run(line: &mut OwnedLine, at: usize, run: Run, bit: bool)
     requires order { run.from ≤ run.to }
     requires within { run.to ≤ length line.old.pieces }
-    requires place { (j : ℕ) → j < length line.old.pieces → at < length (row_of line.old.pieces j) }
+    requires place { at < row_bits line.old.pieces }
     ensures written { IsRunWritten at bit run.from run.to line.old.pieces line.new.pieces }
     ensures room { line.new.room ≡ line.old.room }
 {
@@ -45,9 +44,8 @@ fn write_run(line: &mut OwnedLine, at: usize, run: Run, bit: bool)
 
 // Writes a 1 for each piece that a box allows, interval by interval, where a 0 stands for all.
 fn put_few(line: &mut OwnedLine, at: usize, spans: &Spans)
-    requires rising { IsRising spans.now.top line.old.pieces }
     requires cuts { CutsStart spans.now.top spans.now.intervals line.old.pieces }
-    requires place { (j : ℕ) → j < length line.old.pieces → at < length (row_of line.old.pieces j) }
+    requires place { at < row_bits line.old.pieces }
     requires none { (j : ℕ) → j < length line.old.pieces → slice_index_or (row_of line.old.pieces j) at false ≡ false }
     ensures answers { line.new.pieces ≡ map (with_written at spans.now.intervals) line.old.pieces }
     ensures room { line.new.room ≡ line.old.room }
@@ -60,9 +58,8 @@ fn put_few(line: &mut OwnedLine, at: usize, spans: &Spans)
 
 // Writes a 1 for all pieces, in the order of their slots, and then a 0 for those between a box's intervals.
 fn put_most(line: &mut OwnedLine, at: usize, spans: &Spans)
-    requires rising { IsRising spans.now.top line.old.pieces }
     requires cuts { CutsStart spans.now.top spans.now.intervals line.old.pieces }
-    requires place { (j : ℕ) → j < length line.old.pieces → at < length (row_of line.old.pieces j) }
+    requires place { at < row_bits line.old.pieces }
     ensures answers { line.new.pieces ≡ map (with_written at spans.now.intervals) line.old.pieces }
     ensures room { line.new.room ≡ line.old.room }
 {
@@ -94,9 +91,7 @@ fn put_most(line: &mut OwnedLine, at: usize, spans: &Spans)
 }
 
 // Whether a box allows more than half of a line's pieces; of a single interval, whether it is the whole line.
-fn allows_most(line: &OwnedLine, spans: &Spans) -> bool
-    requires { IsRisingLine line.now.pieces }
-{
+fn allows_most(line: &OwnedLine, spans: &Spans) -> bool {
     let intervals = spans.intervals();
     if intervals.len() < 2 {
         return spans.has(0) && spans.has(spans.top());
@@ -116,9 +111,8 @@ fn allows_most(line: &OwnedLine, spans: &Spans) -> bool
 // row, it touches the pieces alone that the box allows; where these are most, all pieces in the order of their slots, and
 // then those alone that it doesn't allow.
 pub(crate) fn put_answers(line: &mut OwnedLine, at: usize, spans: &Spans)
-    requires rising { IsRising spans.now.top line.old.pieces }
     requires cuts { CutsStart spans.now.top spans.now.intervals line.old.pieces }
-    requires place { (j : ℕ) → j < length line.old.pieces → at ≤ length (row_of line.old.pieces j) }
+    requires place { at ≤ row_bits line.old.pieces }
     requires room { 0 < line.old.room }
     ensures answers { line.new.pieces ≡ map (with_answer at spans.now.intervals) line.old.pieces }
     ensures room { line.new.room + 1 ≡ line.old.room }

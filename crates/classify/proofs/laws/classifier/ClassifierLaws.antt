@@ -1,5 +1,6 @@
 -- The lines of all fields are the classifier of the boxes.
 use Rattle.std.proofs.Common.{◌≡◌, ℕ, zero, suc, ◌+◌, ◌-◌, ◌<◌, ◌≤◌, Bool, true, false, cond, List, [], ◌∷◌, ◌++◌, length, take, drop, get_or, refl, sym, ◌∙◌, ap, arith, subst, map}
+use Rattle.std.specs.Borrow.{Bor}
 use Rattle.std.specs.List.{insert, remove, range_with_len}
 use Rattle.std.specs.Prelude.{slice_index, Result, Ok, Err, OnErr}
 use Rattle.std.proofs.Math.Dec.{leb}
@@ -17,13 +18,13 @@ use Rattle.rules.proofs.laws.boxing.BoxLaws.{index-lt, box_long}
 use Rattle.rules.proofs.laws.boxing.BoxLaws as box_laws
 use Rattle.classify.specs.line.Line.{row_at, IsLineOf}
 use Rattle.classify.specs.steps.Cuts.{CutsStart}
-use Rattle.classify.specs.steps.Edits.{IsSound, EachRow}
-use Rattle.classify.specs.steps.Pieces.{PiecesAndRoom, piece_at, row_in}
+use Rattle.classify.specs.steps.Pieces.{IsRising, Differ, row_bits}
 use Rattle.classify.specs.steps.Fields.{shown_line, tops, IsKept, most_boxes, LosesBox}
 use Rattle.classify.specs.classifier.Classifier.{box_allows, line_on, IsClassifierOf, HasNoNewCut}
 use Rattle.classify.proofs.laws.line.ShownLaws.{row_in_first}
 use Rattle.classify.proofs.laws.line.BoxLaws.{empty_line, empty_sound}
 use Rattle.classify.proofs.laws.line.LineLaws.{AreSteps, line_from_steps, steps_from_line, starts_from_test}
+use Rattle.classify.specs.steps.Kept.{PiecesAndRoom, IsSound}
 
 -- ---- fields and their places
 
@@ -169,26 +170,6 @@ classifier_without old new boxes len at n m lt step h =
     let V : List (List Interval) → Type 0 = λ ss. IsLineOf has (slice_index tops (index field)) ss (shown_line (get_or new (index field) l)) in
     subst V (sym (sets-remove field boxes at)) ((step (index field) l lt').line (slice_index tops (index field)) (map (set_on field) boxes) before))) h
 
-pub line_sound : (old : List PiecesAndRoom) (len : ℕ) → length old ≡ FIELDS → IsKept (record { len = len; lines = map shown_line old })
-    → (k : ℕ) (l : PiecesAndRoom) → k < length old → IsSound (slice_index tops k) len (shown_line (get_or old k l))
-line_sound old len n h k l lt =
-    let lt' : k < FIELDS = omega arith in
-    let P : List (ℕ × List Bool) → Type 0 = λ line. IsSound (slice_index tops k) len line in
-    subst P (shown_at_place old k l lt) (h.lines k lt')
-
-pub still_kept : (new : List PiecesAndRoom) (len : ℕ) → length new ≡ FIELDS → len ≤ most_boxes
-    → ((k : ℕ) (l : PiecesAndRoom) → k < length new → IsSound (slice_index tops k) len (shown_line (get_or new k l))) → IsKept (record { len = len; lines = map shown_line new })
-still_kept new len n few h =
-    record {
-      few = few;
-      fields = fields_long new n;
-      lines = λ k lt.
-          (let lt' : k < length new = omega arith in
-          let a = line_at new k lt' in
-          let P : List (ℕ × List Bool) → Type 0 = λ line. IsSound (slice_index tops k) len line in
-          subst P (sym (shown_at_place new k a.0 lt')) (h k a.0 lt'));
-    }
-
 pub classifier_empty : (new : List PiecesAndRoom) → length new ≡ FIELDS → ((k : ℕ) (l : PiecesAndRoom) → k < length new → shown_line (get_or new k l) ≡ (0, []) ∷ []) → IsClassifierOf [] (record { len = 0; lines = map shown_line new })
 classifier_empty new n h =
     record {
@@ -201,25 +182,42 @@ classifier_empty new n h =
           subst P (sym (shown_at_place new (index field) a.0 lt ∙ h (index field) a.0 lt)) (empty_line (λ box x. box_allows box field x) (top field)));
     }
 
-pub kept_empty : (new : List PiecesAndRoom) → length new ≡ FIELDS → ((k : ℕ) (l : PiecesAndRoom) → k < length new → shown_line (get_or new k l) ≡ (0, []) ∷ []) → IsKept (record { len = 0; lines = map shown_line new })
-kept_empty new n h =
-    still_kept new 0 n (omega arith) (λ k l lt. (let P : List (ℕ × List Bool) → Type 0 = λ line. IsSound (slice_index tops k) 0 line in subst P (sym (h k l lt)) (empty_sound (slice_index tops k))))
+pub kept_empty : (new : List PiecesAndRoom) → length new ≡ FIELDS → ((k : ℕ) (l : PiecesAndRoom) → k < length new → shown_line (get_or new k l) ≡ (0, []) ∷ []) → IsKept 0 new
+kept_empty new n h = record { few = omega arith; fields = n; sound = λ k l lt. empty_sound (slice_index tops k) (get_or new k l) (h k l lt) }
 
-pub sound_lines : (old : List PiecesAndRoom) (spans box : List SpanSet) (len : ℕ) → length old ≡ FIELDS → spans ≡ box → IsBox box → IsKept (record { len = len; lines = map shown_line old })
-    → (k : ℕ) (s : SpanSet) (l : PiecesAndRoom) → k < length old → IsSound (get_or spans k s).top len (shown_line (get_or old k l))
+-- the tops of a box's sets are those of the fields
+tops_of : (spans box : List SpanSet) (k : ℕ) (s : SpanSet) → spans ≡ box → IsBox box → k < FIELDS → (get_or spans k s).top ≡ slice_index tops k
+tops_of spans box k s same whole lt = ap (λ (ss : List SpanSet). (get_or ss k s).top) same ∙ box_tops box whole k s lt
+
+pub sound_lines : (old : List PiecesAndRoom) (spans box : List SpanSet) (len : ℕ) → length old ≡ FIELDS → spans ≡ box → IsBox box → IsKept len old
+    → (k : ℕ) (s : SpanSet) (l : PiecesAndRoom) → k < length old → IsSound (get_or spans k s).top len (get_or old k l)
 sound_lines old spans box len n same whole h k s l lt =
-    let lt' : k < FIELDS = omega arith in
-    let P : List (ℕ × List Bool) → Type 0 = λ line. IsSound (slice_index tops k) len line in
-    let Q : ℕ → Type 0 = λ t. IsSound t len (shown_line (get_or old k l)) in
-    subst Q (sym (ap (λ (ss : List SpanSet). (get_or ss k s).top) same ∙ box_tops box whole k s lt')) (subst P (shown_at_place old k l lt) (h.lines k lt'))
+    let Q : ℕ → Type 0 = λ t. IsSound t len (get_or old k l) in
+    subst Q (sym (tops_of spans box k s same whole (omega arith))) (h.sound k l lt)
 
 pub still_sound : (new : List PiecesAndRoom) (spans box : List SpanSet) (len : ℕ) → length new ≡ FIELDS → spans ≡ box → IsBox box → len ≤ most_boxes
-    → ((k : ℕ) (s : SpanSet) (l : PiecesAndRoom) → k < length new → IsSound (get_or spans k s).top len (shown_line (get_or new k l))) → IsKept (record { len = len; lines = map shown_line new })
+    → ((k : ℕ) (s : SpanSet) (l : PiecesAndRoom) → k < length new → IsSound (get_or spans k s).top len (get_or new k l)) → IsKept len new
 still_sound new spans box len n same whole few h =
-    still_kept new len n few (λ k l lt.
-    (let lt' : k < FIELDS = omega arith in
-    let Q : ℕ → Type 0 = λ t. IsSound t len (shown_line (get_or new k l)) in
-    subst Q (ap (λ (ss : List SpanSet). (get_or ss k no_set).top) same ∙ box_tops box whole k no_set lt') (h k no_set l lt)))
+    record {
+      few = few;
+      fields = n;
+      sound = λ k l lt.
+          (let Q : ℕ → Type 0 = λ t. IsSound t len (get_or new k l) in
+          subst Q (tops_of spans box k no_set same whole (omega arith)) (h k no_set l lt));
+    }
+
+pub kept_shown : (old new : List PiecesAndRoom) (len : ℕ) → length new ≡ length old → ((k : ℕ) (l : PiecesAndRoom) → k < length old → shown_line (get_or new k l) ≡ shown_line (get_or old k l)) → IsKept len old → IsKept len new
+kept_shown old new len n same h =
+    record {
+      few = h.few;
+      fields = n ∙ h.fields;
+      sound = λ k l lt.
+          (let lt' : k < length old = omega arith in
+          let was = h.sound k l lt' in
+          let P : List (ℕ × List Bool) → Type 0 = λ line. IsRising (slice_index tops k) line × Differ line × (row_bits line ≡ len) in
+          let is = subst P (sym (same k l lt')) (was.rising, was.differ, was.bits) in
+          record { rising = is.0; differ = is.1; bits = is.2 });
+    }
 
 pub same_shown : (old new : List PiecesAndRoom) → length new ≡ length old → ((k : ℕ) (l : PiecesAndRoom) → k < length old → shown_line (get_or new k l) ≡ shown_line (get_or old k l)) → map shown_line new ≡ map shown_line old
 same_shown [] [] n h = refl
@@ -230,6 +228,14 @@ same_shown (l ∷ ls) (m ∷ ms) n h =
     let tail : map shown_line ms ≡ map shown_line ls = same_shown ls ms (omega arith) (λ k d lt. h (suc k) d (omega arith)) in
     λ i. head i ∷ tail i
 
+-- lines that were copied one by one from those lent
+pub copied : (lent : List (Bor PiecesAndRoom)) (old new : List PiecesAndRoom) → map (λ r. r.now) lent ≡ old → ((k : ℕ) (r : Bor PiecesAndRoom) (l : PiecesAndRoom) → k < length old → get_or new k l ≡ (get_or lent k r).now)
+    → (k : ℕ) (l : PiecesAndRoom) → k < length old → shown_line (get_or new k l) ≡ shown_line (get_or old k l)
+copied lent old new from each k l lt =
+    let r : Bor PiecesAndRoom = record { ref_ptr = (0, 0); now = l } in
+    let long : length lent ≡ length old = sym (length-map lent (λ (s : Bor PiecesAndRoom). s.now)) ∙ ap length from in
+    ap shown_line (each k r l lt ∙ sym (get_or-map (λ (s : Bor PiecesAndRoom). s.now) lent k r l (omega arith)) ∙ ap (λ (ls : List PiecesAndRoom). get_or ls k l) from)
+
 pub no_new_cuts : (old : List PiecesAndRoom) (spans box : List SpanSet) (len : ℕ) → length old ≡ FIELDS → spans ≡ box → IsBox box → HasNoNewCut box (record { len = len; lines = map shown_line old })
     → (k : ℕ) (s : SpanSet) (l : PiecesAndRoom) → k < length old → CutsStart (get_or spans k s).top (get_or spans k s).intervals (shown_line (get_or old k l))
 no_new_cuts old spans box len n same whole h k s l lt =
@@ -237,7 +243,7 @@ no_new_cuts old spans box len n same whole h k s l lt =
     let f = field_at k lt' in
     let long : length spans ≡ FIELDS = ap length same ∙ box_long box whole in
     let own : get_or spans k no_set ≡ get_or spans k s = get_or_default spans k no_set s (omega arith) in
-    let e : top f.0 ≡ (get_or spans k s).top = sym (top_at f.0) ∙ ap (λ j. slice_index tops j) f.1 ∙ sym (ap (λ (ss : List SpanSet). (get_or ss k s).top) same ∙ box_tops box whole k s lt') in
+    let e : top f.0 ≡ (get_or spans k s).top = sym (top_at f.0) ∙ ap (λ j. slice_index tops j) f.1 ∙ sym (tops_of spans box k s same whole lt') in
     let i : set_on f.0 box ≡ (get_or spans k s).intervals =
     ap (λ j. (get_or box j no_set).intervals) f.1 ∙ sym (ap (λ (ss : List SpanSet). (get_or ss k no_set).intervals) same) ∙ ap (λ (t : SpanSet). t.intervals) own in
     let c : line_on f.0 (record { len = len; lines = map shown_line old }) ≡ shown_line (get_or old k l) = ap (λ j. get_or (map shown_line old) j []) f.1 ∙ shown_at_place old k l lt in
@@ -245,17 +251,6 @@ no_new_cuts old spans box len n same whole h k s l lt =
     let Q : List Interval → Type 0 = λ ss. CutsStart (get_or spans k s).top ss (line_on f.0 (record { len = len; lines = map shown_line old })) in
     let R : List (ℕ × List Bool) → Type 0 = λ line. CutsStart (get_or spans k s).top (get_or spans k s).intervals line in
     subst R c (subst Q i (subst P e (λ x le ne. starts_from_test (suc x) (line_on f.0 (record { len = len; lines = map shown_line old })) (h f.0 x le ne))))
-
-rows_long : (n : ℕ) (d : ℕ × List Bool) (ps : List (ℕ × List Bool)) (x : ℕ) → length d.1 ≡ n → EachRow n ps → length (piece_at d ps x).1 ≡ n
-rows_long n d [] x h hs = h
-rows_long n d (p ∷ ps) x h hs =
-    let P : ℕ × List Bool → Type 0 = λ q. length q.1 ≡ n in
-    let here : P (cond (leb p.0 x) p d) = elim (leb p.0 x) as (λ (b : Bool). P (cond b p d)) [ true ↦ hs.0 | false ↦ h ] in
-    rows_long n (cond (leb p.0 x) p d) ps x here hs.1
-
-pub row_long : (top n : ℕ) (line : List (ℕ × List Bool)) (x : ℕ) → IsSound top n line → length (row_in line x) ≡ n
-row_long top n [] x h = absurd h.rising
-row_long top n (d ∷ ps) x h = ap length (row_in_first d ps x h.rising.0) ∙ rows_long n d ps x h.rows.0 h.rows.1
 
 -- what holds anyway holds after a refusal
 pub on_err_anyway : {T E : Type 0} (r : Result T E) {P : Type 0} → P → OnErr r P

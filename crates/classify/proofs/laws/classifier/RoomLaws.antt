@@ -1,11 +1,8 @@
 -- The room of a classifier is the least of all its lines.
 use Rattle.std.proofs.Common.{◌≡◌, ◌≢◌, ℕ, zero, suc, ◌+◌, ◌-◌, ◌<◌, ◌≤◌, ◌%◌, List, [], ◌∷◌, length, get_or, sym, ◌∙◌, arith, map}
-use Rattle.std.proofs.lemmas.List.{length-map}
 use Rattle.std.proofs.lemmas.List.Elements.{All-nil, All-cons, All-head, All-tail}
-use Rattle.fields.specs.declared.numbers.field.TheConstants.{FIELDS}
-use Rattle.classify.specs.steps.Pieces.{PiecesAndRoom}
-use Rattle.classify.specs.steps.Fields.{shown_line, most_boxes, room_of_lines, room_beside, IsKept, EachLine, EachEdit, KeepsRoom, HasSameRoom, UsesRoom, FreesRoom, FreesAll, IsWhole, StaysWhole}
-use Rattle.classify.proofs.laws.classifier.ClassifierLaws.{line_sound}
+use Rattle.classify.specs.steps.Fields.{most_boxes, room_of_lines, room_beside, IsKept, EachLine, EachEdit, KeepsRoom, UsesRoom, FreesRoom, FreesAll}
+use Rattle.classify.specs.steps.Kept.{PiecesAndRoom}
 
 abbrev Fits : ℕ → PiecesAndRoom → Type 0
 Fits n l = n ≤ l.room
@@ -54,25 +51,15 @@ freed_room old new len some few long step =
     omega arith
 
 -- all boxes taken out leave room for as many more
-pub room_of_all : (old new : List PiecesAndRoom) (len : ℕ) → IsKept (record { len = len; lines = map shown_line old }) → length new ≡ length old → EachEdit FreesAll old new
-    → room_beside len old + len ≤ room_beside 0 new
+pub room_of_all : (old new : List PiecesAndRoom) (len : ℕ) → IsKept len old → length new ≡ length old → EachEdit FreesAll old new → room_beside len old + len ≤ room_beside 0 new
 room_of_all old new len kept long step =
-    let fields : length old ≡ FIELDS = sym (length-map old shown_line) ∙ kept.fields in
     let n : ℕ = room_beside len old in
     let few : len ≤ most_boxes = kept.few in
-    moved_room old new (most_boxes - len) (most_boxes - 0) n (n + len) (omega arith) (λ le. omega arith) long
-    (λ k l lt h. omega (arith, step k l lt len (line_sound old len fields kept k l lt).rows))
-
--- ---- rows and their room fill words
+    moved_room old new (most_boxes - len) (most_boxes - 0) n (n + len) (omega arith) (λ le. omega arith) long (λ k l lt h. omega (arith, step k l lt, (kept.sound k l lt).bits))
 
 -- no row's last word is full, so there is room
-pub last_words_room : (lines : List PiecesAndRoom) (len : ℕ) → len ≤ most_boxes → EachLine (IsWhole len) lines → len % 64 ≢ 0 → 0 < room_beside len lines
-last_words_room lines len few whole part =
-    let one : 1 ≤ room_beside len lines = least_line 1 (most_boxes - len) lines (omega arith) (λ k l lt. omega (arith, whole k l lt)) in
+pub last_words_room : (lines : List PiecesAndRoom) (len : ℕ) → IsKept len lines → len % 64 ≢ 0 → 0 < room_beside len lines
+last_words_room lines len kept part =
+    let few : len ≤ most_boxes = kept.few in
+    let one : 1 ≤ room_beside len lines = least_line 1 (most_boxes - len) lines (omega arith) (λ k l lt. omega (arith, (get_or lines k l).stands.whole, (kept.sound k l lt).bits)) in
     omega arith
-
-pub still_whole : (old new : List PiecesAndRoom) (m n : ℕ) → length new ≡ length old → EachEdit (StaysWhole m n) old new → EachLine (IsWhole m) old → EachLine (IsWhole n) new
-still_whole old new m n long step whole k l lt = let lt' : k < length old = omega arith in step k l lt' (whole k l lt')
-
-pub same_whole : (old new : List PiecesAndRoom) (n : ℕ) → length new ≡ length old → EachEdit HasSameRoom old new → EachLine (IsWhole n) old → EachLine (IsWhole n) new
-same_whole old new n long step whole = still_whole old new n n long (λ k l lt was. omega (arith, step k l lt, was)) whole

@@ -5,8 +5,8 @@ use Rattle.std.proofs.lemmas.Bool.{le-leb, lt-leb, true≢false, false≢true}
 use Rattle.fields.specs.declared.numbers.spans.Interval.{Interval}
 use Rattle.fields.specs.numbers.Spans.{has, AreSpansFrom}
 use Rattle.classify.specs.steps.Cuts.{CutsStart, ChangesAt, IsApart}
-use Rattle.classify.specs.steps.Pieces.{piece_at, row_in, IsRisingFrom, IsRising, DifferFrom, Differ, StartsAt, IsSplitOf}
-use Rattle.classify.specs.steps.Edits.{with_answer, EachRow}
+use Rattle.classify.specs.steps.Pieces.{piece_at, row_in, IsRisingFrom, IsRising, DifferFrom, Differ, StartsAt, IsSplitOf, EachRow}
+use Rattle.classify.specs.steps.Edits.{with_answer}
 use Rattle.classify.proofs.laws.line.StepLaws.{EachPiece, before_all, starts_above, starts_within, row_changes, piece_at_each}
 use Rattle.classify.proofs.laws.line.EditLaws.{rows_say, rows_rising, same_over_piece}
 use Rattle.classify.proofs.laws.line.ShownLaws.{row_in_first}

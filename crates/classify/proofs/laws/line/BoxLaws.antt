@@ -8,11 +8,13 @@ use Rattle.std.proofs.lemmas.List.Edits.{length-insert, length-remove}
 use Rattle.classify.specs.line.Line.{row_at, IsLineOf}
 use Rattle.fields.specs.numbers.Spans.{has}
 use Rattle.classify.specs.steps.Cuts.{CutsStart}
-use Rattle.classify.specs.steps.Pieces.{piece_at, row_in, IsRising, Differ, StartsAt, IsSplitOf, SayTheSame}
-use Rattle.classify.specs.steps.Edits.{IsMergeOf, with_answer, with_test, with_written, without_answer, Says, EachRow, IsSound}
+use Rattle.classify.specs.steps.Pieces.{piece_at, row_in, IsRising, Differ, StartsAt, IsSplitOf, SayTheSame, row_bits}
+use Rattle.classify.specs.steps.Kept.{PiecesAndRoom, IsSound}
+use Rattle.classify.specs.steps.Edits.{IsMergeOf, with_answer, with_test, with_written, without_answer, Says}
 use Rattle.classify.proofs.laws.line.StepLaws.{EachPiece, AreStepsOf, steps_from, says_from_steps, one_list_of_steps, piece_at_each, rows_from, before_all}
 use Rattle.classify.proofs.laws.line.LineLaws.{AreSteps, line_from_steps, steps_from_line, cases_rows}
 use Rattle.classify.proofs.laws.line.EditLaws.{rows_say, rows_rising, same_over_piece}
+use Rattle.classify.proofs.laws.line.KeptLaws.{bits_said}
 use Rattle.classify.proofs.laws.line.ShownLaws.{row_in_first}
 
 abbrev pub Cut : Type 0
@@ -112,10 +114,6 @@ pub written_rising : (top at : ℕ) (s : List Interval) (line : List Cut) → Is
 written_rising top at s [] r = r
 written_rising top at s (d ∷ ps) r = (r.0, rows_rising top 0 (λ p. set p.1 at (has s p.0)) ps r.1)
 
-pub as_long : (n at : ℕ) (s : List Interval) (line : List Cut) → EachRow n line → EachRow n (map (with_written at s) line)
-as_long n at s [] h = tt
-as_long n at s (p ∷ ps) h = (length-set p.1 at (has s p.0) ∙ h.0, as_long n at s ps h.1)
-
 -- ---- a box taken out
 
 pub without_say : (top at : ℕ) (sets : Sets) (line : List Cut) → IsRising top line → Says top sets line → Says top (remove sets at) (map (without_answer at) line)
@@ -148,32 +146,24 @@ rows_kept P top (d ∷ ps) (e ∷ qs) r t s h =
 
 -- ---- how long the rows are
 
-each_from_rows : (n : ℕ) (line : List Cut) → EachRow n line → EachPiece (λ p. length p.1 ≡ n) line
-each_from_rows n [] h = tt
-each_from_rows n (p ∷ ps) h = (h.0, each_from_rows n ps h.1)
+pub longer : (top at : ℕ) (s : List Interval) (line : List Cut) → IsRising top line → at ≤ row_bits line → row_bits (map (with_answer at s) line) ≡ row_bits line + 1
+longer top at s [] r le = absurd r
+longer top at s (p ∷ ps) r le = omega (arith, length-insert p.1 at (has s p.0) le)
 
-rows_from_each : (n : ℕ) (line : List Cut) → EachPiece (λ p. length p.1 ≡ n) line → EachRow n line
-rows_from_each n [] h = tt
-rows_from_each n (p ∷ ps) h = (h.0, rows_from_each n ps h.1)
+pub shorter : (at : ℕ) (line : List Cut) → at < row_bits line → row_bits (map (without_answer at) line) ≡ row_bits line - 1
+shorter at [] lt = absurd (omega arith)
+shorter at (p ∷ ps) lt = omega (arith, length-remove p.1 at lt)
 
-pub long_after : (n top : ℕ) (old now : List Cut) → IsRising top old → IsRising top now → SayTheSame old now → EachRow n old → EachRow n now
-long_after n top old now r t s h = rows_from_each n now (rows_kept (λ bs. length bs ≡ n) top old now r t s (each_from_rows n old h))
-
-pub longer : (n at : ℕ) (s : List Interval) (line : List Cut) → at ≤ n → EachRow n line → EachRow (n + 1) (map (with_answer at s) line)
-longer n at s [] le h = tt
-longer n at s (p ∷ ps) le h = (let in' : at ≤ length p.1 = omega (arith, h.0) in omega (arith, length-insert p.1 at (has s p.0) in', h.0), longer n at s ps le h.1)
-
-pub shorter : (n at : ℕ) (line : List Cut) → at < n → EachRow n line → EachRow (n - 1) (map (without_answer at) line)
-shorter n at [] le h = tt
-shorter n at (p ∷ ps) le h = (let in' : at < length p.1 = omega (arith, h.0) in omega (arith, length-remove p.1 at in', h.0), shorter n at ps le h.1)
-
-pub sound_from_merge : (n top : ℕ) (old new : List Cut) → IsRising top old → EachRow n old → IsMergeOf top old new → IsSound top n new
-sound_from_merge n top old new r h m = record { rising = m.rising; differ = m.differ; rows = long_after n top old new r m.rising m.same h }
+pub sound_from_merge : (n top : ℕ) (old : List Cut) (new : PiecesAndRoom) → IsRising top old → row_bits old ≡ n → IsMergeOf top old new.pieces → IsSound top n new
+sound_from_merge n top old new r h m = record { rising = m.rising; differ = m.differ; bits = bits_said top old new.pieces r m.rising m.same ∙ h }
 
 -- ---- no box at all
 
 pub empty_line : {B : Type 0} (allows : B → ℕ → Bool) (top : ℕ) → IsLineOf allows top [] ((0, []) ∷ [])
 empty_line allows top = line_from_steps allows top [] ((0, []) ∷ []) (steps_of_line (row_at allows []) top ((0, []) ∷ []) (refl, tt) tt (λ x le. row_in_first (0, []) [] x refl))
 
-pub empty_sound : (top : ℕ) → IsSound top 0 ((0, []) ∷ [])
-empty_sound top = record { rising = (refl, tt); differ = tt; rows = (refl, tt) }
+pub empty_sound : (top : ℕ) (l : PiecesAndRoom) → l.pieces ≡ (0, []) ∷ [] → IsSound top 0 l
+empty_sound top l e =
+    let P : List Cut → Type 0 = λ line. IsRising top line × Differ line × (row_bits line ≡ 0) in
+    let h = subst P (sym e) ((refl, tt), tt, refl) in
+    record { rising = h.0; differ = h.1; bits = h.2 }

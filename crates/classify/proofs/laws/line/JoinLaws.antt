@@ -5,7 +5,7 @@ use Rattle.std.specs.List.{remove}
 use Rattle.std.proofs.lemmas.List.{length-map, length-set, get_or-set_same, get_or-set_other, get_or-take, take_all, drop_all, append-nil}
 use Rattle.std.proofs.lemmas.List.Edits.{get_or-remove_below, length-remove}
 use Rattle.std.proofs.lemmas.Bool.{cases_lt}
-use Rattle.classify.specs.steps.Pieces.{StartsAtZero, IsRising}
+use Rattle.classify.specs.steps.Pieces.{IsRising}
 use Rattle.classify.specs.steps.Edits.{IsMergeOf, IsJoined, KeepsApart}
 use Rattle.classify.proofs.laws.line.LineLaws.{cases_same}
 use Rattle.classify.proofs.laws.line.LoopLaws.{Merging, merging_first, merging_skip, merging_drop, merging_done, no_cut}
@@ -89,13 +89,9 @@ working_read g at old now j above h =
     let lt : j < suc j = omega arith in
     sym (get_or-take (suc j) now j no_cut lt) ∙ ap (λ (cs : List Cut). get_or cs j no_cut) h.prefix ∙ get_or-take (suc j) old j no_cut lt
 
-zero_kept : (g : Cut → Cut) (line : List Cut) → ((p : Cut) → (g p).0 ≡ p.0) → StartsAtZero line → StartsAtZero (map g line)
-zero_kept g [] starts h = h
-zero_kept g (p ∷ ps) starts h = starts p ∙ h
-
-pub working_next : (g : Cut → Cut) (at : ℕ) (old now new final : List Cut) (j : ℕ) (above bit : Bool) → ((p : Cut) → (g p).0 ≡ p.0) → StartsAtZero old → KeepsApart g at old → Working g at old now (suc j) above
+pub working_next : (g : Cut → Cut) (at : ℕ) (old now new final : List Cut) (j : ℕ) (above bit : Bool) → 0 < length old → KeepsApart g at old → Working g at old now (suc j) above
     → new ≡ set now j (g (get_or now j no_cut)) → bit ≡ get_or (get_or now j no_cut).1 at false → IsJoined bit above j new final → Working g at old final j bit
-working_next g at old now new final j above bit starts origin keeps_apart h made tested joined =
+working_next g at old now new final j above bit filled keeps_apart h made tested joined =
     let in' : j < length now = omega (arith, h.place) in
     let in_old : j < length old = omega (arith, h.fits) in
     let was : get_or now j no_cut ≡ get_or old j no_cut = working_read g at old now j above h in
@@ -130,7 +126,7 @@ working_next g at old now new final j above bit starts origin keeps_apart h made
                 ap (λ (cs : List Cut). changed g cs (suc j)) whole ∙ ap (λ (cs : List Cut). map g cs ++ drop (suc j) old) (take_all (suc j) old ge) ∙ ap (λ (cs : List Cut). map g old ++ cs) (drop_all (suc j) old ge) ∙ append-nil (map g old) in
                 let R : List Cut → Type 0 = λ cs. Merging (map g old) cs j in
                 let last : j ≡ length (map g old) - 1 = omega (arith, length-map old g, h.fits) in
-                subst R (sym all) (merging_first (map g old) j (zero_kept g old starts origin) last))
+                subst R (sym all) (merging_first (map g old) j (omega (arith, length-map old g, filled)) last))
           ])) in
           subst P (sym same) (record {
             place = omega arith;
@@ -175,25 +171,18 @@ working_next g at old now new final j above bit starts origin keeps_apart h made
     later : (o n m : List Cut) (f : Cut → Cut) → Working f at o n (suc j) above → length m ≡ length n → suc j < length m → suc j < length o
     later o n m f w e lt = elim (cases_lt (suc j) (length o)) [ inl in'' ↦ in'' | inr ge ↦ absurd (let whole : n ≡ o = w.start ge in omega (arith, ap length whole)) ]
 
-pub working_done : (g : Cut → Cut) (at : ℕ) (old now : List Cut) (k : ℕ) (above : Bool) → StartsAtZero old → Working g at old now k above → k ≡ 0 → (top : ℕ) → IsRising top (map g old) → IsMergeOf top (map g old) now
-working_done g at [] now k above origin h e top r = absurd origin
-working_done g at (p ∷ ps) now k above origin h e top r =
+pub working_done : (g : Cut → Cut) (at : ℕ) (old now : List Cut) (k : ℕ) (above : Bool) → 0 < length old → Working g at old now k above → k ≡ 0 → (top : ℕ) → IsRising top (map g old) → IsMergeOf top (map g old) now
+working_done g at [] now k above filled h e top r = absurd (omega arith)
+working_done g at (p ∷ ps) now k above filled h e top r =
     let P : ℕ → Type 0 = λ n. Working g at (p ∷ ps) now n above in
     let w : Working g at (p ∷ ps) now 0 above = subst P e h in
     let some : 0 < length (p ∷ ps) = omega arith in
     merging_done (map g (p ∷ ps)) now 0 (w.merging some) refl top r
 
 -- the same for the loop's counter, which is one above the place
-pub working_step : (g : Cut → Cut) (at : ℕ) (old now new final : List Cut) (k : ℕ) (above bit : Bool) → ((p : Cut) → (g p).0 ≡ p.0) → StartsAtZero old → KeepsApart g at old → Working g at old now k above → 0 < k
+pub working_step : (g : Cut → Cut) (at : ℕ) (old now new final : List Cut) (k : ℕ) (above bit : Bool) → 0 < length old → KeepsApart g at old → Working g at old now k above → 0 < k
     → new ≡ set now (k - 1) (g (get_or now (k - 1) no_cut)) → bit ≡ get_or (get_or now (k - 1) no_cut).1 at false → IsJoined bit above (k - 1) new final → Working g at old final (k - 1) bit
-working_step g at old now new final k above bit starts origin keeps_apart h some made tested joined =
+working_step g at old now new final k above bit filled keeps_apart h some made tested joined =
     let e : k ≡ suc (k - 1) = omega arith in
     let P : ℕ → Type 0 = λ n. Working g at old now n above in
-    working_next g at old now new final (k - 1) above bit starts origin keeps_apart (subst P e h) made tested joined
-
-pub working_place : (g : Cut → Cut) (at : ℕ) (old now : List Cut) (k : ℕ) (above : Bool) → Working g at old now k above → 0 < k → ((j : ℕ) → j < length old → at < length (get_or old j no_cut).1) → at < length (get_or now (k - 1) no_cut).1
-working_place g at old now k above h some each =
-    let e : k ≡ suc (k - 1) = omega arith in
-    let P : ℕ → Type 0 = λ n. Working g at old now n above in
-    let Q : Cut → Type 0 = λ c. at < length c.1 in
-    subst Q (sym (working_read g at old now (k - 1) above (subst P e h))) (each (k - 1) (omega (arith, h.fits)))
+    working_next g at old now new final (k - 1) above bit filled keeps_apart (subst P e h) made tested joined

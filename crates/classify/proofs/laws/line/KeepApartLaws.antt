@@ -7,22 +7,19 @@ use Rattle.fields.specs.declared.numbers.spans.Interval.{Interval}
 use Rattle.fields.specs.numbers.Spans.{has}
 use Rattle.classify.specs.line.Line.{starts}
 use Rattle.classify.specs.steps.Cuts.{CutsStart, IsApart}
-use Rattle.classify.specs.steps.Pieces.{piece_at, IsRisingFrom, IsRising, DifferFrom, Differ, StartsAt}
-use Rattle.classify.specs.steps.Edits.{with_written, without_answer, EachRow, KeepsApart}
+use Rattle.classify.specs.steps.Pieces.{piece_at, IsRisingFrom, IsRising, DifferFrom, Differ, StartsAt, row_bits}
+use Rattle.classify.specs.steps.Kept.{PiecesAndRoom}
+use Rattle.classify.specs.steps.Edits.{with_written, without_answer, KeepsApart}
 use Rattle.classify.proofs.laws.line.EditLaws.{same_over_piece}
 use Rattle.classify.proofs.laws.line.ShownLaws.{row_in_first, here_at, start_in, starts_here}
 use Rattle.classify.proofs.laws.line.ApartLaws.{cuts_behind}
+use Rattle.classify.proofs.laws.line.KeptLaws.{row_long}
 
 abbrev Cut : Type 0
 Cut = ℕ × List Bool
 
 abbrev none : Cut
 none = (0, [])
-
-pub long_at : (n : ℕ) (line : List Cut) (j : ℕ) → EachRow n line → j < length line → length (get_or line j none).1 ≡ n
-long_at n [] j h lt = absurd (omega arith)
-long_at n (p ∷ ps) zero h lt = h.0
-long_at n (p ∷ ps) (suc j) h lt = long_at n ps j h.1 (omega arith)
 
 differ_next : (d : Cut) (ps : List Cut) (j : ℕ) → DifferFrom d.1 ps → j < length ps → (get_or (d ∷ ps) j none).1 ≢ (get_or ps j none).1
 differ_next d [] j h lt = absurd (omega arith)
@@ -77,11 +74,11 @@ set_tells (x ∷ xs) (y ∷ ys) (suc at) a b lt n e r =
 
 -- ---- a box taken out
 
-pub apart_without : (n at : ℕ) (line : List Cut) → Differ line → EachRow n line → at < n → KeepsApart (without_answer at) at line
-apart_without n at line differ rows lt j more bits same =
-    let a : length (get_or line j none).1 ≡ n = long_at n line j rows (omega arith) in
-    let b : length (get_or line (suc j) none).1 ≡ n = long_at n line (suc j) rows more in
-    differ_at line j differ more (remove_tells (get_or line j none).1 (get_or line (suc j) none).1 at (omega arith) (a ∙ sym b) bits same)
+pub apart_without : (at : ℕ) (l : PiecesAndRoom) → Differ l.pieces → at < row_bits l.pieces → KeepsApart (without_answer at) at l.pieces
+apart_without at l differ lt j more bits same =
+    let a = row_long l j (omega arith) in
+    let b = row_long l (suc j) more in
+    differ_at l.pieces j differ more (remove_tells (get_or l.pieces j none).1 (get_or l.pieces (suc j) none).1 at (omega (arith, a)) (a ∙ sym b) bits same)
 
 -- ---- a box in the place of another
 
@@ -114,9 +111,9 @@ neighbours_apart top s (d ∷ ps) j r c apart lt =
       | inr ne ↦ inr (λ same. ne (sym over ∙ ap (λ (o : Cut). has s o.0) here ∙ same ∙ ap (has s) (sym e)))
     ]
 
-pub apart_written : (top n at : ℕ) (s : List Interval) (line : List Cut) → IsRising top line → CutsStart top s line → IsApart s line → EachRow n line → at < n → KeepsApart (with_written at s) at line
-apart_written top n at s line r c apart rows lt j more bits same =
-    let a : length (get_or line j none).1 ≡ n = long_at n line j rows (omega arith) in
-    let b : length (get_or line (suc j) none).1 ≡ n = long_at n line (suc j) rows more in
-    let both = set_tells (get_or line j none).1 (get_or line (suc j) none).1 at (has s (get_or line j none).0) (has s (get_or line (suc j) none).0) (omega arith) (a ∙ sym b) bits same in
-    elim (neighbours_apart top s line j r c apart more) [ inl ne ↦ ne both.0 | inr ne ↦ ne both.1 ]
+pub apart_written : (top at : ℕ) (s : List Interval) (l : PiecesAndRoom) → IsRising top l.pieces → CutsStart top s l.pieces → IsApart s l.pieces → at < row_bits l.pieces → KeepsApart (with_written at s) at l.pieces
+apart_written top at s l r c apart lt j more bits same =
+    let a = row_long l j (omega arith) in
+    let b = row_long l (suc j) more in
+    let both = set_tells (get_or l.pieces j none).1 (get_or l.pieces (suc j) none).1 at (has s (get_or l.pieces j none).0) (has s (get_or l.pieces (suc j) none).0) (omega (arith, a)) (a ∙ sym b) bits same in
+    elim (neighbours_apart top s l.pieces j r c apart more) [ inl ne ↦ ne both.0 | inr ne ↦ ne both.1 ]

@@ -9,7 +9,7 @@ use Rattle.std.proofs.lemmas.List.Elements.{All-weaker, All-more}
 use Rattle.std.proofs.lemmas.Bool.{le-leb, lt-leb, cases_lt, cases_eq}
 use Rattle.fields.specs.numbers.Spans.{has, in_span, AreSpansFrom}
 use Rattle.classify.specs.steps.Cuts.{CutsStart, EndsStart}
-use Rattle.classify.specs.steps.Pieces.{IsRisingFrom, IsRising, DifferFrom, Differ, StartsAt, StartsAtZero, IsSplitOf, SayTheSame}
+use Rattle.classify.specs.steps.Pieces.{IsRisingFrom, IsRising, DifferFrom, Differ, StartsAt, IsSplitOf, SayTheSame}
 use Rattle.classify.specs.steps.Edits.{IsMergeOf, IsEndOf}
 use Rattle.classify.proofs.laws.line.ShownLaws.{Cut, row_in_first}
 use Rattle.classify.proofs.laws.line.EndLaws.{ends_from_cuts, starts_zero}
@@ -64,10 +64,6 @@ spans_within top low [] i d h lt = absurd (omega arith)
 spans_within top low (s ∷ ss) zero d h lt = (omega (arith, h.1, h.2), h.2)
 spans_within top low (s ∷ ss) (suc i) d h lt = spans_within top (s.last + 2) ss i d h.3 (omega arith)
 
-pub zero_from_rising : (top : ℕ) (line : List Cut) → IsRising top line → StartsAtZero line
-zero_from_rising top [] h = h
-zero_from_rising top (p ∷ ps) h = h.0
-
 pub split_twice : (top : ℕ) (spans : List Interval) (a b c : List Cut) → IsSplitOf top spans a b → IsSplitOf top spans b c → IsSplitOf top spans a c
 split_twice top spans a b c g h = record { rising = h.rising; same = λ x. h.same x ∙ g.same x; keeps = λ x s. h.keeps x (g.keeps x s); only = λ x s. elim (h.only x s) [ inl t ↦ g.only x t | inr ne ↦ inr ne ] }
 
@@ -110,8 +106,8 @@ pub record Merging (old now : List Cut) (j : ℕ) : Type 0 where
   pub same : (top : ℕ) → IsRising top old → SayTheSame old now
   pub differ : DifferFrom (get_or now j no_cut).1 (drop (suc j) now)
 
-pub merging_first : (line : List Cut) (j : ℕ) → StartsAtZero line → j ≡ length line - 1 → Merging line line j
-merging_first [] j h e = absurd h
+pub merging_first : (line : List Cut) (j : ℕ) → 0 < length line → j ≡ length line - 1 → Merging line line j
+merging_first [] j h e = absurd (omega arith)
 merging_first (d ∷ ps) j h e =
     let P : List Cut → Type 0 = λ cs. DifferFrom (get_or (d ∷ ps) j no_cut).1 cs in
     record {

@@ -5,36 +5,36 @@ use Rattle.std.proofs.Math.ListN.{set}
 use Rattle.std.proofs.lemmas.List.{get_or_default, length-map}
 use Rattle.std.proofs.lemmas.Slice.Zip.{firsts-zip, get_or-zip}
 use Rattle.classify.specs.line.Line.{starts}
-use Rattle.classify.specs.steps.Pieces.{PiecesAndRoom}
 use Rattle.classify.specs.steps.Edits.{row_of}
 use Rattle.classify.proofs.laws.line.ShownLaws.{Cut}
+use Rattle.classify.specs.steps.Kept.{IsLine, PiecesAndRoom}
 
 abbrev Row : Type 0
 Row = List Bool
 
 -- starts and rows that show a line
-abbrev pub Show : List ℕ → List Row → ℕ → PiecesAndRoom → Type 0
-Show ss rs n l = record { pieces = zip ss rs; room = n } ≡ l
+abbrev pub Show : (ss : List ℕ) (rs : List Row) (n : ℕ) → IsLine (zip ss rs) n → PiecesAndRoom → Type 0
+Show ss rs n s l = record { pieces = zip ss rs; room = n; stands = s } ≡ l
 
-pub kept_pieces : (ss : List ℕ) (rs : List Row) (n : ℕ) (l : PiecesAndRoom) → Show ss rs n l → zip ss rs ≡ l.pieces
-kept_pieces ss rs n l v = ap (λ (k : PiecesAndRoom). k.pieces) v
+pub kept_pieces : (ss : List ℕ) (rs : List Row) (n : ℕ) (s : IsLine (zip ss rs) n) (l : PiecesAndRoom) → Show ss rs n s l → zip ss rs ≡ l.pieces
+kept_pieces ss rs n s l v = ap (λ (k : PiecesAndRoom). k.pieces) v
 
-pub kept_starts : (ss : List ℕ) (rs : List Row) (n : ℕ) (l : PiecesAndRoom) → length rs ≡ length ss → Show ss rs n l → starts l.pieces ≡ ss
-kept_starts ss rs n l e v = sym (ap starts (kept_pieces ss rs n l v)) ∙ firsts-zip ss rs e
+pub kept_starts : (ss : List ℕ) (rs : List Row) (n : ℕ) (s : IsLine (zip ss rs) n) (l : PiecesAndRoom) → length rs ≡ length ss → Show ss rs n s l → starts l.pieces ≡ ss
+kept_starts ss rs n s l e v = sym (ap starts (kept_pieces ss rs n s l v)) ∙ firsts-zip ss rs e
 
-pub kept_long : (ss : List ℕ) (rs : List Row) (n : ℕ) (l : PiecesAndRoom) → length rs ≡ length ss → Show ss rs n l → length l.pieces ≡ length ss
-kept_long ss rs n l e v = sym (length-map l.pieces (λ (p : Cut). p.0)) ∙ ap length (kept_starts ss rs n l e v)
+pub kept_long : (ss : List ℕ) (rs : List Row) (n : ℕ) (s : IsLine (zip ss rs) n) (l : PiecesAndRoom) → length rs ≡ length ss → Show ss rs n s l → length l.pieces ≡ length ss
+kept_long ss rs n s l e v = sym (length-map l.pieces (λ (p : Cut). p.0)) ∙ ap length (kept_starts ss rs n s l e v)
 
-pub kept_row : (ss : List ℕ) (rs : List Row) (n : ℕ) (l : PiecesAndRoom) (k : ℕ) → length rs ≡ length ss → Show ss rs n l → k < length ss → row_of l.pieces k ≡ get_or rs k []
-kept_row ss rs n l k e v lt =
+pub kept_row : (ss : List ℕ) (rs : List Row) (n : ℕ) (s : IsLine (zip ss rs) n) (l : PiecesAndRoom) (k : ℕ) → length rs ≡ length ss → Show ss rs n s l → k < length ss → row_of l.pieces k ≡ get_or rs k []
+kept_row ss rs n s l k e v lt =
     let none : Cut = (0, []) in
-    ap (λ (p : Cut). p.1) (sym (ap (λ (ps : List Cut). get_or ps k none) (kept_pieces ss rs n l v)) ∙ get_or-zip ss rs k none lt (omega arith))
+    ap (λ (p : Cut). p.1) (sym (ap (λ (ps : List Cut). get_or ps k none) (kept_pieces ss rs n s l v)) ∙ get_or-zip ss rs k none lt (omega arith))
 
 -- what holds of each row of the line holds of the rows
-pub each_row_kept : (P : Row → Type 0) (ss : List ℕ) (rs : List Row) (n : ℕ) (l : PiecesAndRoom) → length rs ≡ length ss → Show ss rs n l → ((k : ℕ) → k < length l.pieces → P (row_of l.pieces k)) → All P rs
-each_row_kept P ss rs n l e v h = λ k d lt.
+pub each_row_kept : (P : Row → Type 0) (ss : List ℕ) (rs : List Row) (n : ℕ) (s : IsLine (zip ss rs) n) (l : PiecesAndRoom) → length rs ≡ length ss → Show ss rs n s l → ((k : ℕ) → k < length l.pieces → P (row_of l.pieces k)) → All P rs
+each_row_kept P ss rs n s l e v h = λ k d lt.
     let below : k < length ss = omega arith in
-    subst P (kept_row ss rs n l k e v below ∙ get_or_default rs k [] d lt) (h k (omega (arith, kept_long ss rs n l e v)))
+    subst P (kept_row ss rs n s l k e v below ∙ get_or_default rs k [] d lt) (h k (omega (arith, kept_long ss rs n s l e v)))
 
 -- ---- edits of both
 
@@ -64,6 +64,22 @@ pub zip-map : (ss : List ℕ) (rs : List Row) (f : Row → Row) → zip ss (map 
 zip-map [] rs f = refl
 zip-map (s ∷ ss) [] f = refl
 zip-map (s ∷ ss) (r ∷ rs) f = ap (λ (ps : List Cut). (s, f r) ∷ ps) (zip-map ss rs f)
+
+-- ---- the same of the line that both show
+
+pub pieces_inserted : (ss ts : List ℕ) (rs qs : List Row) (k x : ℕ) (r row : Row) (line : List Cut) → length rs ≡ length ss → k ≤ length ss → zip ss rs ≡ line → ts ≡ insert ss k x → qs ≡ insert rs k row → row ≡ r
+    → zip ts qs ≡ insert line k (x, r)
+pieces_inserted ss ts rs qs k x r row line n le shown e f same = (λ i. zip (e i) (f i)) ∙ zip-insert ss rs k x row n le ∙ (λ i. insert (shown i) k (x, same i))
+
+pub pieces_removed : (ss ts : List ℕ) (rs qs : List Row) (k : ℕ) (line : List Cut) → length rs ≡ length ss → zip ss rs ≡ line → ts ≡ remove ss k → qs ≡ remove rs k → zip ts qs ≡ remove line k
+pieces_removed ss ts rs qs k line n shown e f = (λ i. zip (e i) (f i)) ∙ zip-remove ss rs k n ∙ (λ i. remove (shown i) k)
+
+pub pieces_set : (ss : List ℕ) (rs qs : List Row) (k : ℕ) (r row : Row) (line : List Cut) → length rs ≡ length ss → k < length ss → zip ss rs ≡ line → starts line ≡ ss → qs ≡ set rs k row → row ≡ r
+    → zip ss qs ≡ set line k (get_or (starts line) k 0, r)
+pieces_set ss rs qs k r row line n lt shown own f same = (λ i. zip ss (f i)) ∙ zip-set ss rs k row n lt ∙ (λ i. set (shown i) k (get_or (sym own i) k 0, same i))
+
+pub pieces_mapped : (ss : List ℕ) (rs qs : List Row) (f : Row → Row) (line : List Cut) → zip ss rs ≡ line → qs ≡ map f rs → zip ss qs ≡ map (λ (p : Cut). (p.0, f p.1)) line
+pieces_mapped ss rs qs f line shown e = (λ i. zip ss (e i)) ∙ zip-map ss rs f ∙ (λ i. map (λ (p : Cut). (p.0, f p.1)) (shown i))
 
 -- what was put in taken out again
 pub remove-insert : {A : Type 0} (xs : List A) (i : ℕ) (y : A) → i ≤ length xs → remove (insert xs i y) i ≡ xs

@@ -13,14 +13,15 @@ use Rattle.fields.specs.numbers.Spans.{has, in_span, AreSpansFrom}
 use Rattle.fields.proofs.laws.numbers.SpanLaws.{in_it, out_above, out_below}
 use Rattle.classify.specs.line.Line.{starts}
 use Rattle.classify.specs.steps.Cuts.{CutsStart}
-use Rattle.classify.specs.steps.Pieces.{IsRising, StartsAt}
+use Rattle.classify.specs.steps.Pieces.{IsRising, StartsAt, row_bits}
+use Rattle.classify.specs.steps.Kept.{PiecesAndRoom, most_start}
 use Rattle.classify.specs.steps.Edits.{with_answer, with_bit, with_test, with_written, row_of}
 use Rattle.classify.specs.steps.Runs.{IsRunIn, IsRunWritten}
 use Rattle.classify.proofs.laws.line.ShownLaws.{Cut}
 use Rattle.classify.proofs.laws.line.BitPlaceLaws.{set-insert}
-use Rattle.classify.proofs.laws.line.BoxLaws.{tests_rising}
+use Rattle.classify.proofs.laws.line.KeptLaws.{row_long}
 use Rattle.classify.proofs.laws.line.EndLaws.{ends_from_cuts, starts_zero}
-use Rattle.classify.proofs.laws.line.RunLaws.{bits_place, bits_rising, bits_start, bits_written, start_was}
+use Rattle.classify.proofs.laws.line.RunLaws.{bits_as_long, bits_start, bits_written, start_was}
 
 abbrev none : Cut
 none = (0, [])
@@ -97,19 +98,16 @@ interval_some top low (s ∷ ss) (suc i) d h lt = interval_some top (s.last + 2)
 
 -- ---- what holds of the line while answers are written
 
-pub now_rising : (top at : ℕ) (test : ℕ → Bool) (old now : List Cut) → now ≡ map (with_bit at test) old → IsRising top old → IsRising top now
-now_rising top at test old now is r = let P : List Cut → Type 0 = λ line. IsRising top line in subst P (sym is) (bits_rising top at test old r)
+pub now_place : (at : ℕ) (test : ℕ → Bool) (old now : List Cut) → now ≡ map (with_bit at test) old → at < row_bits old → at < row_bits now
+now_place at test old now is place = omega (arith, ap row_bits is, bits_as_long at test old, place)
 
-pub now_place : (at : ℕ) (test : ℕ → Bool) (old now : List Cut) → now ≡ map (with_bit at test) old → ((j : ℕ) → j < length old → at < length (row_of old j)) → (j : ℕ) → j < length now → at < length (row_of now j)
-now_place at test old now is place = let P : List Cut → Type 0 = λ line. (j : ℕ) → j < length line → at < length (row_of line j) in subst P (sym is) (λ j lt. bits_place at j test old place lt)
-
-pub now_begins : (top at i : ℕ) (test : ℕ → Bool) (spans own : List Interval) (d : Interval) (old now : List Cut) → now ≡ map (with_bit at test) old → spans ≡ own → AreSpansFrom top 0 own → IsRising top old → CutsStart top own old → i < length spans
+pub now_begins : (top at i : ℕ) (test : ℕ → Bool) (spans own : List Interval) (d : Interval) (l : PiecesAndRoom) (now : List Cut) → now ≡ map (with_bit at test) l.pieces → spans ≡ own → AreSpansFrom top 0 own → CutsStart top own l.pieces → i < length spans
     → StartsAt (get_or spans i d).first now
-now_begins top at i test spans own d old now is same canonical r cuts lt =
-    let all = ends_from_cuts top 0 old own canonical (λ x _ le ne. cuts x le ne) (λ _. starts_zero top old r) in
+now_begins top at i test spans own d l now is same canonical cuts lt =
+    let all = ends_from_cuts top 0 l.pieces own canonical (λ x _ le ne. cuts x le ne) (λ _. starts_zero most_start l.pieces l.stands.rising) in
     let P : List Cut → Type 0 = λ line. StartsAt (get_or spans i d).first line in
-    let Q : Interval → Type 0 = λ s. StartsAt s.first old in
-    subst P (sym is) (bits_start at _ test old (subst Q (ap (λ (ss : List Interval). get_or ss i d) (sym same)) (all i d (omega (arith, ap length same))).0))
+    let Q : Interval → Type 0 = λ s. StartsAt s.first l.pieces in
+    subst P (sym is) (bits_start at _ test l.pieces (subst Q (ap (λ (ss : List Interval). get_or ss i d) (sym same)) (all i d (omega (arith, ap length same))).0))
 
 -- ---- a 1 written within each interval
 
@@ -228,9 +226,6 @@ most_last at i spans own next end old now new ge same is_end is h w =
 abbrev pub IsOpened : ℕ → List Cut → List Cut → Type 0
 IsOpened at old now = now ≡ map (with_test at (λ _. false)) old
 
-pub opened_rising : (top at : ℕ) (old now : List Cut) → IsOpened at old now → IsRising top old → IsRising top now
-opened_rising top at old now is r = let P : List Cut → Type 0 = λ line. IsRising top line in subst P (sym is) (tests_rising top at (λ _. false) old r)
-
 tests_start : (at x : ℕ) (test : ℕ → Bool) (line : List Cut) → StartsAt x line → StartsAt x (map (with_test at test) line)
 tests_start at x test [] s = s
 tests_start at x test (p ∷ ps) s = elim s [ inl e ↦ inl e | inr t ↦ inr (tests_start at x test ps t) ]
@@ -243,15 +238,19 @@ opened_row at j old now is lt =
     let in' : j < length old = omega (arith, ap (λ (l : List Cut). length l) is, length-map old (with_test at (λ _. false))) in
     (in', ap (λ (l : List Cut). row_of l j) is ∙ ap (λ (p : Cut). p.1) (get_or-map (with_test at (λ _. false)) old j none none in'))
 
-pub opened_place : (at : ℕ) (old now : List Cut) → IsOpened at old now → ((j : ℕ) → j < length old → at ≤ length (row_of old j)) → (j : ℕ) → j < length now → at < length (row_of now j)
-opened_place at old now is place j lt =
-    let row = opened_row at j old now is lt in
-    omega (arith, ap (λ (bs : List Bool). length bs) row.1, length-insert (row_of old j) at false (place j row.0), place j row.0)
+pub opened_place : (at : ℕ) (l : PiecesAndRoom) (now : List Cut) → IsOpened at l.pieces now → at ≤ row_bits l.pieces → at < row_bits now
+opened_place at l now is le =
+    let P : List Cut → Type 0 = λ line. at < row_bits line in
+    subst P (sym is) (go l.pieces l.stands.rising le)
+  where
+    go : (line : List Cut) → IsRising most_start line → at ≤ row_bits line → at < row_bits (map (with_test at (λ _. false)) line)
+    go [] r le' = absurd r
+    go (p ∷ ps) r le' = omega (arith, length-insert p.1 at false le')
 
-pub opened_none : (at : ℕ) (old now : List Cut) → IsOpened at old now → ((j : ℕ) → j < length old → at ≤ length (row_of old j)) → (j : ℕ) → j < length now → get_or (row_of now j) at false ≡ false
-opened_none at old now is place j lt =
-    let row = opened_row at j old now is lt in
-    ap (λ (bs : List Bool). get_or bs at false) row.1 ∙ get_or-insert_at (row_of old j) at false false (place j row.0)
+pub opened_none : (at : ℕ) (l : PiecesAndRoom) (now : List Cut) → IsOpened at l.pieces now → at ≤ row_bits l.pieces → (j : ℕ) → j < length now → get_or (row_of now j) at false ≡ false
+opened_none at l now is le j lt =
+    let row = opened_row at j l.pieces now is lt in
+    ap (λ (bs : List Bool). get_or bs at false) row.1 ∙ get_or-insert_at (row_of l.pieces j) at false false (omega (arith, row_long l j row.0))
 
 written_again : (at : ℕ) (test : ℕ → Bool) (line : List Cut) → ((j : ℕ) → j < length line → at ≤ length (row_of line j)) → map (with_bit at test) (map (with_test at (λ _. false)) line) ≡ map (with_test at test) line
 written_again at test [] place = refl
@@ -260,5 +259,6 @@ written_again at test (p ∷ ps) place =
     let rest = written_again at test ps (λ j lt. place (suc j) (omega arith)) in
     λ i. (p.0, row i) ∷ rest i
 
-pub opened_written : (at : ℕ) (spans : List Interval) (old now new : List Cut) → IsOpened at old now → ((j : ℕ) → j < length old → at ≤ length (row_of old j)) → new ≡ map (with_written at spans) now → new ≡ map (with_answer at spans) old
-opened_written at spans old now new is place made = made ∙ ap (λ (line : List Cut). map (with_written at spans) line) is ∙ written_again at (has spans) old place
+pub opened_written : (at : ℕ) (spans : List Interval) (l : PiecesAndRoom) (now new : List Cut) → IsOpened at l.pieces now → at ≤ row_bits l.pieces → new ≡ map (with_written at spans) now → new ≡ map (with_answer at spans) l.pieces
+opened_written at spans l now new is le made =
+    made ∙ ap (λ (line : List Cut). map (with_written at spans) line) is ∙ written_again at (has spans) l.pieces (λ j lt. omega (arith, row_long l j lt))

@@ -6,11 +6,10 @@ use Rattle.std.proofs.Math.ListN.{set}
 use Rattle.std.proofs.lemmas.List.{length-map, length-set, get_or-map, get_or_default, get_or-set_same, get_or-set_other, same_lists}
 use Rattle.std.proofs.lemmas.Bool.{cases_lt, cases_eq}
 use Rattle.classify.specs.line.Line.{starts}
-use Rattle.classify.specs.steps.Pieces.{IsRising, StartsAt}
+use Rattle.classify.specs.steps.Pieces.{IsRising, StartsAt, row_bits}
 use Rattle.classify.specs.steps.Edits.{with_bit, row_of}
 use Rattle.classify.specs.steps.Runs.{IsRunIn, IsRunWritten}
 use Rattle.classify.proofs.laws.line.ShownLaws.{Cut, IsIn, start_in, no_piece_between}
-use Rattle.classify.proofs.laws.line.EditLaws.{rows_rising}
 use Rattle.classify.proofs.laws.line.PlaceLaws.{rise_before, rise_all}
 
 abbrev none : Cut
@@ -72,36 +71,18 @@ writing_more at bit from k old now new h begun lt is =
       after = λ j d ge. others j d (λ e. absurd (omega arith)) ∙ h.after j d (omega arith);
     }
 
--- each row has the place still
-pub written_place : (at : ℕ) (bit : Bool) (from k : ℕ) (old now : List Cut) → IsRunWritten at bit from k old now → ((j : ℕ) → j < length old → at < length (row_of old j)) → (j : ℕ) → j < length now → at < length (row_of now j)
-written_place at bit from k old now h place j lt =
-    let there : at < length (row_of old j) = place j (omega (arith, h.as_long)) in
-    elim (cases_lt j from) [
-      | inl less ↦ omega (arith, ap (λ (p : Cut). length p.1) (h.before j none less))
-      | inr ge ↦ elim (cases_lt j k) [
-        | inl below ↦ omega (arith, ap (λ (p : Cut). length p.1) (h.written j none ge below), length-set (row_of old j) at bit)
-        | inr past ↦ omega (arith, ap (λ (p : Cut). length p.1) (h.after j none past))
-      ]
-    ]
-
 -- ---- what answers with written bits show
 
 bits_long : (at : ℕ) (test : ℕ → Bool) (line : List Cut) → length (map (with_bit at test) line) ≡ length line
 bits_long at test line = length-map line (with_bit at test)
 
-pub bits_rising : (top at : ℕ) (test : ℕ → Bool) (line : List Cut) → IsRising top line → IsRising top (map (with_bit at test) line)
-bits_rising top at test [] r = r
-bits_rising top at test (d ∷ ps) r = (r.0, rows_rising top 0 (λ p. set p.1 at (test p.0)) ps r.1)
+pub bits_as_long : (at : ℕ) (test : ℕ → Bool) (line : List Cut) → row_bits (map (with_bit at test) line) ≡ row_bits line
+bits_as_long at test [] = refl
+bits_as_long at test (p ∷ ps) = length-set p.1 at (test p.0)
 
 pub bits_start : (at x : ℕ) (test : ℕ → Bool) (line : List Cut) → StartsAt x line → StartsAt x (map (with_bit at test) line)
 bits_start at x test [] s = s
 bits_start at x test (p ∷ ps) s = elim s [ inl e ↦ inl e | inr t ↦ inr (bits_start at x test ps t) ]
-
-pub bits_place : (at j : ℕ) (test : ℕ → Bool) (line : List Cut) → ((j : ℕ) → j < length line → at < length (row_of line j)) → j < length (map (with_bit at test) line) → at < length (row_of (map (with_bit at test) line) j)
-bits_place at j test line h lt =
-    let in' : j < length line = omega (arith, bits_long at test line) in
-    let row : row_of (map (with_bit at test) line) j ≡ set (row_of line j) at (test (get_or line j none).0) = ap (λ (p : Cut). p.1) (get_or-map (with_bit at test) line j none none in') in
-    omega (arith, ap (λ (bs : List Bool). length bs) row, length-set (row_of line j) at (test (get_or line j none).0), h j in')
 
 -- the pieces start where they started
 bits_start_of : (at j : ℕ) (test : ℕ → Bool) (line : List Cut) → j < length line → slice_index (starts (map (with_bit at test) line)) j ≡ (get_or line j none).0

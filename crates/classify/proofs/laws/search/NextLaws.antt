@@ -20,8 +20,7 @@ use Rattle.fields.specs.numbers.Field.{index, top}
 use Rattle.fields.specs.numbers.Spans.{SpanSet}
 use Rattle.bits.specs.steps.Packing.{all_bits, IsPacked}
 use Rattle.classify.specs.line.Line.{row_at}
-use Rattle.classify.specs.steps.Pieces.{PiecesAndRoom, row_in, IsRising}
-use Rattle.classify.specs.steps.Edits.{IsSound}
+use Rattle.classify.specs.steps.Pieces.{row_in, IsRising}
 use Rattle.classify.specs.steps.Fields.{shown_line, tops, IsKept}
 use Rattle.bits.specs.steps.First.{IsFirst}
 use Rattle.classify.specs.steps.CommonPlaces.{IsRowAt, AreRowsAt, HaveAll}
@@ -32,22 +31,20 @@ use Rattle.fields.specs.numbers.Field.{number_on}
 use Rattle.classify.specs.search.NextMatch.{next_match}
 use Rattle.classify.proofs.laws.line.BoxLaws.{says_from_line}
 use Rattle.bits.proofs.laws.WordLaws.{length-all_bits}
-use Rattle.classify.proofs.laws.classifier.ClassifierLaws.{field_at, row_of_sets, line_of_sets, shown_at_place, row_long}
+use Rattle.classify.proofs.laws.classifier.ClassifierLaws.{field_at, row_of_sets, line_of_sets, shown_at_place}
+use Rattle.classify.proofs.laws.line.KeptLaws.{said_long}
+use Rattle.classify.specs.steps.Kept.{PiecesAndRoom}
 
 -- ---- the row of a field at a number
 
 pub record IsField (lines : List PiecesAndRoom) (len k x : ℕ) (now : PiecesAndRoom) : Type 0 where
-  pub rising : IsRising (slice_index tops k) now.pieces
   pub long : length (row_in now.pieces x) ≡ len
   pub same : now.pieces ≡ get_or (map shown_line lines) k []
 
-pub field_row : (lines : List PiecesAndRoom) (len k x : ℕ) (d : PiecesAndRoom) → length lines ≡ FIELDS → IsKept (record { len = len; lines = map shown_line lines }) → k < FIELDS → IsField lines len k x (get_or lines k d)
+pub field_row : (lines : List PiecesAndRoom) (len k x : ℕ) (d : PiecesAndRoom) → length lines ≡ FIELDS → IsKept len lines → k < FIELDS → IsField lines len k x (get_or lines k d)
 field_row lines len k x d n h lt =
-    let now : PiecesAndRoom = get_or lines k d in
-    let same : now.pieces ≡ get_or (map shown_line lines) k [] = sym (shown_at_place lines k d (omega arith)) in
-    let P : List (ℕ × List Bool) → Type 0 = λ line. IsSound (slice_index tops k) len line in
-    let sound : IsSound (slice_index tops k) len now.pieces = subst P (sym same) (h.lines k lt) in
-    record { rising = sound.rising; long = row_long (slice_index tops k) len now.pieces x sound; same = same }
+    let lt' : k < length lines = omega arith in
+    record { long = said_long (get_or lines k d) x ∙ (h.sound k d lt').bits; same = sym (shown_at_place lines k d lt') }
 
 -- ---- all rows
 

@@ -2,29 +2,26 @@ use Rattle.std.proofs.Common.{arith, ap, length, ◌+◌, ◌-◌, ◌≤◌, Li
 use Rattle.std.proofs.lemmas.Bool.{false≢true}
 use Rattle.fields.specs.declared.numbers.field.TheConstants.{FIELDS}
 use Rattle.classify.specs.classifier.Classifier.{Classified, ClassifiedAndRoom, IsClassifierOf, HasNoNewCut}
-use Rattle.classify.specs.steps.Fields.{IsKept, most_boxes, room_beside}
-use Rattle.classify.proofs.laws.classifier.ClassifierLaws.{classifier_with, sound_lines, still_sound, same_shown, no_new_cuts, on_err_anyway}
-use Rattle.classify.proofs.laws.classifier.RoomLaws.{each_line, used_room, kept_room, still_whole}
+use Rattle.classify.specs.steps.Fields.{most_boxes, room_beside}
+use Rattle.classify.proofs.laws.classifier.ClassifierLaws.{classifier_with, sound_lines, still_sound, kept_shown, same_shown, no_new_cuts, on_err_anyway}
+use Rattle.classify.proofs.laws.classifier.RoomLaws.{each_line, used_room, kept_room}
 use Rattle.classify.proofs.laws.classifier.RuleLaws.{rules_inserted}
 use Rattle.classify.proofs.classifier.Classifier.insert.Goals as goal
 
 pub insert_lines-requires-clause-sound : goal.insert_lines-requires-clause-sound
 insert_lines-requires-clause-sound c =
-    let n : length c.self.inside.lines ≡ FIELDS = search rules in
-    sound_lines c.self.inside.lines c.spans.result.now c.args.boxed c.self.inside.len n c.spans.ensures.value c.spans.ensures.whole c.self.invariant.0
+    let n : length c.self.inside.lines ≡ FIELDS = c.self.invariant.fields in
+    sound_lines c.self.inside.lines c.spans.result.now c.args.boxed c.self.inside.len n c.spans.ensures.value c.spans.ensures.whole c.self.invariant
 
 pub invariant_of-self-2 : goal.invariant_of-self-2
 invariant_of-self-2 c =
-    let n : length c.self.inside.lines ≡ FIELDS = search rules in
-    let m : length c.insert_lines.new.lines ≡ length c.self.inside.lines = c.insert_lines.auto.lines in (
-      still_sound c.insert_lines.new.lines c.spans.result.now c.args.boxed (c.self.inside.len + 1) (m ∙ n) c.spans.ensures.value c.spans.ensures.whole (omega arith)
-          (λ k s l lt. c.in_ok-insert_lines.ensures.sound k s l (omega arith)),
-      still_whole c.self.inside.lines c.insert_lines.new.lines c.self.inside.len (c.self.inside.len + 1) m c.in_ok-insert_lines.ensures.whole c.self.invariant.1,
-    )
+    let n : length c.self.inside.lines ≡ FIELDS = c.self.invariant.fields in
+    still_sound c.insert_lines.new.lines c.spans.result.now c.args.boxed (c.self.inside.len + 1) (c.insert_lines.auto.lines ∙ n) c.spans.ensures.value c.spans.ensures.whole (omega arith)
+    (λ k s l lt. c.in_ok-insert_lines.ensures.sound k s l (omega (arith, c.insert_lines.auto.lines)))
 
 pub returns-clause-boxes : goal.returns-clause-boxes
 returns-clause-boxes c boxes h =
-    let n : length c.self.inside.lines ≡ FIELDS = search rules in
+    let n : length c.self.inside.lines ≡ FIELDS = c.self.invariant.fields in
     let m : length c.insert_lines.new.lines ≡ length c.self.inside.lines = c.insert_lines.auto.lines in
     let P : Classified → Type 0 = λ k. IsClassifierOf boxes k in
     classifier_with c.self.inside.lines c.insert_lines.new.lines c.spans.result.now c.args.boxed boxes c.self.inside.len c.args.at n m c.spans.ensures.value c.spans.ensures.whole
@@ -34,12 +31,7 @@ pub returns-clause-rules : goal.returns-clause-rules
 returns-clause-rules c rule is rules h = rules_inserted rules c.args.at rule c.args.boxed c.args.self.now.shown _ (returns-clause-boxes c) h is
 
 pub invariant_of-self : goal.invariant_of-self
-invariant_of-self c =
-    let m : length c.insert_lines.new.lines ≡ length c.self.inside.lines = c.insert_lines.auto.lines in
-    let P : List (List (ℕ × List Bool)) → Type 0 = λ lines. IsKept (record { len = c.self.inside.len; lines = lines }) in (
-      subst P (sym (same_shown c.self.inside.lines c.insert_lines.new.lines m c.in_err-insert_lines.ensures.err)) c.self.invariant.0,
-      still_whole c.self.inside.lines c.insert_lines.new.lines c.self.inside.len c.self.inside.len m c.in_err-insert_lines.ensures.back_whole c.self.invariant.1,
-    )
+invariant_of-self c = kept_shown c.self.inside.lines c.insert_lines.new.lines c.self.inside.len c.insert_lines.auto.lines c.in_err-insert_lines.ensures.err c.self.invariant
 
 pub returns-in_err-insert_lines-clause-err : goal.returns-in_err-insert_lines-clause-err
 returns-in_err-insert_lines-clause-err c =
@@ -54,7 +46,7 @@ returns-then-self-ge-MOST_BITS-clause-there c room none =
 
 pub returns-in_err-insert_lines-clause-there : goal.returns-in_err-insert_lines-clause-there
 returns-in_err-insert_lines-clause-there c room none =
-    let n : length c.self.inside.lines ≡ FIELDS = search rules in
+    let n : length c.self.inside.lines ≡ FIELDS = c.self.invariant.fields in
     let some : room_beside c.self.inside.len c.self.inside.lines ≡ c.args.self.now.room = ap (λ (k : ClassifiedAndRoom). k.room) c.self.view_is in
     let each = each_line 1 (most_boxes - c.self.inside.len) c.self.inside.lines (omega arith) in
     let P : Classified → Type 0 = λ k. HasNoNewCut c.args.boxed k in

@@ -2,29 +2,26 @@ use Rattle.std.proofs.Common.{arith, ap, length, ◌≤◌, List, ℕ, subst, �
 use Rattle.std.proofs.lemmas.Bool.{false≢true}
 use Rattle.fields.specs.declared.numbers.field.TheConstants.{FIELDS}
 use Rattle.classify.specs.classifier.Classifier.{Classified, ClassifiedAndRoom, IsClassifierOf, HasNoNewCut}
-use Rattle.classify.specs.steps.Fields.{IsKept, room_beside}
-use Rattle.classify.proofs.laws.classifier.ClassifierLaws.{classifier_written, sound_lines, still_sound, same_shown, no_new_cuts, on_err_anyway}
-use Rattle.classify.proofs.laws.classifier.RoomLaws.{kept_room, same_whole}
+use Rattle.classify.specs.steps.Fields.{room_beside}
+use Rattle.classify.proofs.laws.classifier.ClassifierLaws.{classifier_written, sound_lines, still_sound, kept_shown, same_shown, no_new_cuts, on_err_anyway}
+use Rattle.classify.proofs.laws.classifier.RoomLaws.{kept_room}
 use Rattle.classify.proofs.laws.classifier.RuleLaws.{rules_replaced}
 use Rattle.classify.proofs.classifier.Classifier.replace.Goals as goal
 
 pub replace_lines-requires-clause-sound : goal.replace_lines-requires-clause-sound
 replace_lines-requires-clause-sound c =
-    let n : length c.self.inside.lines ≡ FIELDS = search rules in
-    sound_lines c.self.inside.lines c.spans.result.now c.args.boxed c.self.inside.len n c.spans.ensures.value c.spans.ensures.whole c.self.invariant.0
+    let n : length c.self.inside.lines ≡ FIELDS = c.self.invariant.fields in
+    sound_lines c.self.inside.lines c.spans.result.now c.args.boxed c.self.inside.len n c.spans.ensures.value c.spans.ensures.whole c.self.invariant
 
 pub invariant_of-self-2 : goal.invariant_of-self-2
 invariant_of-self-2 c =
-    let n : length c.self.inside.lines ≡ FIELDS = search rules in
-    let m : length c.replace_lines.new.lines ≡ length c.self.inside.lines = c.replace_lines.auto.lines in (
-      still_sound c.replace_lines.new.lines c.spans.result.now c.args.boxed c.self.inside.len (m ∙ n) c.spans.ensures.value c.spans.ensures.whole c.self.invariant.0.few
-          (λ k s l lt. c.in_ok-replace_lines.ensures.sound k s l (omega arith)),
-      same_whole c.self.inside.lines c.replace_lines.new.lines c.self.inside.len m c.replace_lines.ensures.room c.self.invariant.1,
-    )
+    let n : length c.self.inside.lines ≡ FIELDS = c.self.invariant.fields in
+    still_sound c.replace_lines.new.lines c.spans.result.now c.args.boxed c.self.inside.len (c.replace_lines.auto.lines ∙ n) c.spans.ensures.value c.spans.ensures.whole c.self.invariant.few
+    (λ k s l lt. c.in_ok-replace_lines.ensures.sound k s l (omega (arith, c.replace_lines.auto.lines)))
 
 pub returns-clause-boxes : goal.returns-clause-boxes
 returns-clause-boxes c boxes h =
-    let n : length c.self.inside.lines ≡ FIELDS = search rules in
+    let n : length c.self.inside.lines ≡ FIELDS = c.self.invariant.fields in
     let m : length c.replace_lines.new.lines ≡ length c.self.inside.lines = c.replace_lines.auto.lines in
     let P : Classified → Type 0 = λ k. IsClassifierOf boxes k in
     classifier_written c.self.inside.lines c.replace_lines.new.lines c.spans.result.now c.args.boxed boxes c.self.inside.len c.args.at n m c.spans.ensures.value c.spans.ensures.whole
@@ -34,12 +31,7 @@ pub returns-clause-rules : goal.returns-clause-rules
 returns-clause-rules c rule is rules h = rules_replaced rules c.args.at rule c.args.boxed c.args.self.now.shown _ (returns-clause-boxes c) h is
 
 pub invariant_of-self : goal.invariant_of-self
-invariant_of-self c =
-    let m : length c.replace_lines.new.lines ≡ length c.self.inside.lines = c.replace_lines.auto.lines in
-    let P : List (List (ℕ × List Bool)) → Type 0 = λ lines. IsKept (record { len = c.self.inside.len; lines = lines }) in (
-      subst P (sym (same_shown c.self.inside.lines c.replace_lines.new.lines m c.in_err-replace_lines.ensures.err)) c.self.invariant.0,
-      same_whole c.self.inside.lines c.replace_lines.new.lines c.self.inside.len m c.replace_lines.ensures.room c.self.invariant.1,
-    )
+invariant_of-self c = kept_shown c.self.inside.lines c.replace_lines.new.lines c.self.inside.len c.replace_lines.auto.lines c.in_err-replace_lines.ensures.err c.self.invariant
 
 pub returns-in_err-replace_lines-clause-err : goal.returns-in_err-replace_lines-clause-err
 returns-in_err-replace_lines-clause-err c =
@@ -49,7 +41,7 @@ returns-in_err-replace_lines-clause-err c =
 
 pub returns-in_err-replace_lines-clause-there : goal.returns-in_err-replace_lines-clause-there
 returns-in_err-replace_lines-clause-there c none =
-    let n : length c.self.inside.lines ≡ FIELDS = search rules in
+    let n : length c.self.inside.lines ≡ FIELDS = c.self.invariant.fields in
     let P : Classified → Type 0 = λ k. HasNoNewCut c.args.boxed k in
     absurd (false≢true (c.in_err-replace_lines.ensures.there (no_new_cuts c.self.inside.lines c.spans.result.now c.args.boxed c.self.inside.len n c.spans.ensures.value c.spans.ensures.whole (subst P (sym (ap (λ (k : ClassifiedAndRoom). k.shown) c.self.view_is)) none))))
 

@@ -1,21 +1,14 @@
 use Rattle.std.proofs.Common.{◌≡◌, ap, get_or, List, [], ℕ, subst, ◌∙◌, sym, rules, Bool, take}
-use Rattle.std.specs.Prelude.{slice_index}
 use Rattle.bits.specs.steps.Packing.{IsPacked, all_bits}
-use Rattle.classify.specs.steps.Fields.{tops}
 use Rattle.classify.specs.steps.Pieces.{row_in}
 use Rattle.bits.specs.steps.Summaries.{IsSummaryOf}
 use Rattle.classify.specs.classifier.Classifier.{ClassifiedAndRoom}
 use Rattle.classify.proofs.laws.search.NextLaws.{field_row}
 use Rattle.classify.proofs.classifier.Classifier.row.Goals as goal
 
-pub row_at-requires : goal.row_at-requires
-row_at-requires c =
-    let f = field_row c.self.inside.lines c.self.inside.len c.args.place c.args.x c.index-self-place.result (search rules) c.self.invariant.0 c.requires in
-    (slice_index tops c.args.place, f.rising)
-
 pub returns-clause-row : goal.returns-clause-row
 returns-clause-row c =
-    let f = field_row c.self.inside.lines c.self.inside.len c.args.place c.args.x c.index-self-place.result (search rules) c.self.invariant.0 c.requires in
+    let f = field_row c.self.inside.lines c.self.inside.len c.args.place c.args.x c.index-self-place.result c.self.invariant.fields c.self.invariant c.requires in
     let e : c.self.inside.len ≡ c.args.self.now.shown.len = ap (λ (k : ClassifiedAndRoom). k.shown.len) c.self.view_is in
     let P : ℕ → Type 0 = λ n. IsPacked c.row_at.result.words.now n in
     record {
@@ -26,6 +19,6 @@ returns-clause-row c =
 
 pub returns-clause-summed : goal.returns-clause-summed
 returns-clause-summed c =
-    let f = field_row c.self.inside.lines c.self.inside.len c.args.place c.args.x c.index-self-place.result (search rules) c.self.invariant.0 c.requires in
+    let f = field_row c.self.inside.lines c.self.inside.len c.args.place c.args.x c.index-self-place.result c.self.invariant.fields c.self.invariant c.requires in
     let P : List (ℕ × List Bool) → Type 0 = λ line. IsSummaryOf c.row_at.result.summary (row_in line c.args.x) in
     subst P (f.same ∙ ap (λ (k : ClassifiedAndRoom). get_or k.shown.lines c.args.place []) c.self.view_is) c.row_at.ensures.summed

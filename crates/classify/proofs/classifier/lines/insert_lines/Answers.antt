@@ -2,7 +2,8 @@ use Rattle.std.proofs.Common.{arith, length, ◌<◌, [], ◌∙◌}
 use Rattle.std.proofs.lemmas.Bool.{false≢true}
 use Rattle.fields.specs.numbers.Spans.{SpanSet}
 use Rattle.classify.proofs.laws.line.ApartLaws.{apart_after}
-use Rattle.classify.proofs.laws.line.BoxLaws.{says_from_line, long_after, same_after_merge}
+use Rattle.classify.proofs.laws.line.BoxLaws.{says_from_line, same_after_merge}
+use Rattle.classify.proofs.laws.line.KeptLaws.{bits_said}
 use Rattle.classify.proofs.classifier.lines.insert_lines.Goals as goal
 
 abbrev no_set : SpanSet
@@ -15,15 +16,11 @@ pub commit_lines-requires-clause-rising : goal.commit_lines-requires-clause-risi
 commit_lines-requires-clause-rising c k s l lt = (c.prepare_lines.ensures.split k s l (omega (arith, c.prepare_lines.auto.lines))).rising
 
 pub commit_lines-requires-clause-place : goal.commit_lines-requires-clause-place
-commit_lines-requires-clause-place c = (
-  c.args.len,
-  c.requires.place,
-  λ k l lt.
-      (let lt' : k < length c.args.lines.now = omega (arith, c.prepare_lines.auto.lines) in
-      let sound = c.requires.sound k no_set l lt' in
-      let split = c.prepare_lines.ensures.split k no_set l lt' in
-      long_after c.args.len _ _ _ sound.rising split.rising split.same sound.rows),
-)
+commit_lines-requires-clause-place c k l lt =
+    let lt' : k < length c.args.lines.now = omega (arith, c.prepare_lines.auto.lines) in
+    let sound = c.requires.sound k no_set l lt' in
+    let split = c.prepare_lines.ensures.split k no_set l lt' in
+    omega (arith, c.requires.place, sound.bits, bits_said _ _ _ sound.rising split.rising split.same)
 
 pub unsplit_lines-requires-clause-rising : goal.unsplit_lines-requires-clause-rising
 unsplit_lines-requires-clause-rising c k s l lt = (c.prepare_lines.ensures.split k s l (omega (arith, c.prepare_lines.auto.lines))).rising
@@ -38,15 +35,15 @@ pub returns-in-Ok-clause-ok : goal.returns-in-Ok-clause-ok
 returns-in-Ok-clause-ok c k s l lt sets line =
     let lt' : k < length c.prepare_lines.new.lines = omega (arith, c.prepare_lines.auto.lines) in
     let split = c.prepare_lines.ensures.split k s l lt in
-    let sound = c.requires.sound k s l lt in
-    (c.commit_lines.ensures k s l lt').line c.args.len sets c.requires.place (long_after c.args.len _ _ _ sound.rising split.rising split.same sound.rows) (λ x le. split.same x ∙ says_from_line _ sets _ line x le)
+    (c.commit_lines.ensures k s l lt').line sets (λ x le. split.same x ∙ says_from_line _ sets _ line x le)
 
 pub returns-in-Ok-clause-sound : goal.returns-in-Ok-clause-sound
 returns-in-Ok-clause-sound c k s l lt =
     let lt' : k < length c.prepare_lines.new.lines = omega (arith, c.prepare_lines.auto.lines) in
     let sound = c.requires.sound k s l lt in
     let split = c.prepare_lines.ensures.split k s l lt in
-    (c.commit_lines.ensures k s l lt').sound c.args.len c.requires.place (long_after c.args.len _ _ _ sound.rising split.rising split.same sound.rows)
+    let made = (c.commit_lines.ensures k s l lt').sound in
+    record { rising = made.rising; differ = made.differ; bits = omega (arith, made.bits, sound.bits, bits_said _ _ _ sound.rising split.rising split.same) }
 
 pub returns-in-Err-clause-err : goal.returns-in-Err-clause-err
 returns-in-Err-clause-err c k l lt =
@@ -63,11 +60,6 @@ returns-in-Ok-clause-room c k l lt =
     let lt' : k < length c.prepare_lines.new.lines = omega (arith, c.prepare_lines.auto.lines) in
     omega (arith, (c.commit_lines.ensures k no_set l lt').room, c.prepare_lines.ensures.room k l lt)
 
-pub returns-in-Ok-clause-whole : goal.returns-in-Ok-clause-whole
-returns-in-Ok-clause-whole c k l lt whole =
-    let lt' : k < length c.prepare_lines.new.lines = omega (arith, c.prepare_lines.auto.lines) in
-    omega (arith, (c.commit_lines.ensures k no_set l lt').room, c.prepare_lines.ensures.whole k l lt, whole)
-
 pub commit_lines-requires-clause-apart : goal.commit_lines-requires-clause-apart
 commit_lines-requires-clause-apart c k s l lt =
     let lt' : k < length c.args.lines.now = omega (arith, c.prepare_lines.auto.lines) in
@@ -78,8 +70,3 @@ pub returns-in-Err-clause-back : goal.returns-in-Err-clause-back
 returns-in-Err-clause-back c k l lt =
     let lt' : k < length c.prepare_lines.new.lines = omega (arith, c.prepare_lines.auto.lines) in
     omega (arith, c.unsplit_lines.ensures.room k l lt', c.prepare_lines.ensures.room k l lt)
-
-pub returns-in-Err-clause-back_whole : goal.returns-in-Err-clause-back_whole
-returns-in-Err-clause-back_whole c k l lt whole =
-    let lt' : k < length c.prepare_lines.new.lines = omega (arith, c.prepare_lines.auto.lines) in
-    omega (arith, c.unsplit_lines.ensures.room k l lt', c.prepare_lines.ensures.whole k l lt, whole)

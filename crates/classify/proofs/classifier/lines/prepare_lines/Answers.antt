@@ -37,12 +37,5 @@ pub returns-clause-room : goal.returns-clause-room
 returns-clause-room c k l lt =
     omega (arith, c.split_lines.ensures.room k l lt, (c.reserve_lines.ensures.more k l (omega (arith, c.split_lines.auto.lines))).room)
 
-pub returns-clause-whole : goal.returns-clause-whole
-returns-clause-whole c k l lt =
-    (c.reserve_lines.ensures.more k l (omega (arith, c.split_lines.auto.lines))).whole ∙ ap (λ (n : ℕ). n % 64) (c.split_lines.ensures.room k l lt)
-
 pub returns-in_err-split_lines-clause-room : goal.returns-in_err-split_lines-clause-room
 returns-in_err-split_lines-clause-room c k l lt = omega (arith, c.split_lines.ensures.room k l lt)
-
-pub returns-in_err-split_lines-clause-whole : goal.returns-in_err-split_lines-clause-whole
-returns-in_err-split_lines-clause-whole c k l lt = ap (λ (n : ℕ). n % 64) (c.split_lines.ensures.room k l lt)

@@ -1,7 +1,8 @@
 use Rattle.std.proofs.Common.{arith, length, ◌<◌, [], ◌∙◌}
 use Rattle.std.proofs.lemmas.Bool.{false≢true}
 use Rattle.fields.specs.numbers.Spans.{SpanSet}
-use Rattle.classify.proofs.laws.line.BoxLaws.{says_from_line, long_after, same_after_merge}
+use Rattle.classify.proofs.laws.line.BoxLaws.{says_from_line, same_after_merge}
+use Rattle.classify.proofs.laws.line.KeptLaws.{bits_said}
 use Rattle.classify.proofs.laws.line.ApartLaws.{apart_after}
 use Rattle.classify.proofs.classifier.lines.replace_lines.Goals as goal
 
@@ -15,15 +16,11 @@ pub settle_lines-requires-clause-rising : goal.settle_lines-requires-clause-risi
 settle_lines-requires-clause-rising c k s l lt = (c.split_lines.ensures.split k s l (omega (arith, c.split_lines.auto.lines))).rising
 
 pub settle_lines-requires-clause-place : goal.settle_lines-requires-clause-place
-settle_lines-requires-clause-place c = (
-  c.args.len,
-  c.requires.place,
-  λ k l lt.
-      (let lt' : k < length c.args.lines.now = omega (arith, c.split_lines.auto.lines) in
-      let sound = c.requires.sound k no_set l lt' in
-      let split = c.split_lines.ensures.split k no_set l lt' in
-      long_after c.args.len _ _ _ sound.rising split.rising split.same sound.rows),
-)
+settle_lines-requires-clause-place c k l lt =
+    let lt' : k < length c.args.lines.now = omega (arith, c.split_lines.auto.lines) in
+    let sound = c.requires.sound k no_set l lt' in
+    let split = c.split_lines.ensures.split k no_set l lt' in
+    omega (arith, c.requires.place, sound.bits, bits_said _ _ _ sound.rising split.rising split.same)
 
 pub settle_lines-requires-clause-apart : goal.settle_lines-requires-clause-apart
 settle_lines-requires-clause-apart c k s l lt =
@@ -51,7 +48,8 @@ returns-in-Ok-clause-sound c k s l lt =
     let lt' : k < length c.split_lines.new.lines = omega (arith, c.split_lines.auto.lines) in
     let sound = c.requires.sound k s l lt in
     let split = c.split_lines.ensures.split k s l lt in
-    (c.settle_lines.ensures k s l lt').sound c.args.len c.requires.place (long_after c.args.len _ _ _ sound.rising split.rising split.same sound.rows)
+    let made = (c.settle_lines.ensures k s l lt').sound in
+    record { rising = made.rising; differ = made.differ; bits = made.bits ∙ bits_said _ _ _ sound.rising split.rising split.same ∙ sound.bits }
 
 pub returns-in-Err-clause-err : goal.returns-in-Err-clause-err
 returns-in-Err-clause-err c k l lt =

@@ -1,6 +1,5 @@
 use Rattle.std.proofs.Common.{arith, ap, length, get_or, ◌<◌, ◌+◌, ℕ, subst, ◌≡◌, ◌∙◌, sym, refl}
 use Rattle.std.proofs.lemmas.List.{get_or_default}
-use Rattle.classify.specs.steps.Pieces.{PiecesAndRoom}
 use Rattle.fields.specs.numbers.Spans.{SpanSet}
 use Rattle.classify.specs.steps.Fields.{shown_line, IsKeptWithCuts, HasSameRoom}
 use Rattle.classify.specs.steps.Cuts.{CutsStart}
@@ -10,6 +9,7 @@ use Rattle.classify.proofs.laws.line.ListLoopLaws.{Edited, edited_more, edited_a
 use Rattle.classify.proofs.laws.line.ShownLaws.{split_same}
 use Rattle.std.proofs.Math.ListN.{set}
 use Rattle.classify.proofs.laws.classifier.ClassifierLaws.{no_set}
+use Rattle.classify.specs.steps.Kept.{PiecesAndRoom}
 use Rattle.classify.proofs.classifier.lines.split_lines.Goals as goal
 
 pub split_all-requires : goal.split_all-requires

@@ -1,6 +1,5 @@
 use Rattle.std.proofs.Common.{arith, ap, length, get_or, ◌<◌, subst, ◌≡◌, ◌∙◌, sym}
 use Rattle.std.proofs.lemmas.List.{get_or_default}
-use Rattle.classify.specs.steps.Pieces.{PiecesAndRoom}
 use Rattle.fields.specs.numbers.Spans.{SpanSet}
 use Rattle.classify.specs.steps.Fields.{shown_line, HasSameRoom}
 use Rattle.classify.specs.steps.Pieces.{IsRising}
@@ -8,6 +7,7 @@ use Rattle.classify.specs.steps.Edits.{IsMergeOf}
 use Rattle.classify.specs.steps.Cuts.{IsApart}
 use Rattle.classify.proofs.laws.line.ListLoopLaws.{edited_more}
 use Rattle.classify.proofs.laws.classifier.ClassifierLaws.{no_set}
+use Rattle.classify.specs.steps.Kept.{PiecesAndRoom}
 use Rattle.classify.proofs.classifier.lines.unsplit_lines.Goals as goal
 
 pub unsplit_all-requires : goal.unsplit_all-requires

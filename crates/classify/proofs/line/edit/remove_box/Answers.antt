@@ -1,48 +1,36 @@
-use Rattle.std.proofs.Common.{arith, remove, ◌-◌, ap, sym, subst, List, map}
-use Rattle.classify.specs.steps.Pieces.{IsRising}
+use Rattle.std.proofs.Common.{arith, remove, ◌-◌, ◌∙◌, ap, sym, subst, List, map}
+use Rattle.classify.specs.steps.Pieces.{IsRising, row_bits}
 use Rattle.classify.specs.steps.Edits.{KeepsApart, IsMergeOf, with_written, without_answer}
 use Rattle.fields.specs.declared.numbers.spans.Interval.{Interval}
 use Rattle.fields.specs.numbers.Spans.{SpanSet}
 use Rattle.classify.proofs.laws.line.BoxLaws.{Cut, without_say, without_rising, written_rising, line_from_merge, says_from_line, rising_from_line, shorter, sound_from_merge}
-use Rattle.classify.proofs.laws.line.BitPlaceLaws.{apart_cleared, closed_merge, places_after}
-use Rattle.classify.proofs.laws.line.LoopLaws.{zero_from_rising}
-use Rattle.classify.proofs.laws.line.KeepApartLaws.{long_at}
+use Rattle.classify.proofs.laws.line.BitPlaceLaws.{apart_cleared, closed_merge}
 use Rattle.classify.proofs.line.edit.remove_box.Goals as goal
 
-pub set_answers-requires : goal.set_answers-requires
-set_answers-requires c =
-    let s = c.requires.3 in
+pub set_answers-requires-clause-keeps_apart : goal.set_answers-requires-clause-keeps_apart
+set_answers-requires-clause-keeps_apart c =
     let P : List Interval → Type 0 = λ spans. KeepsApart (with_written c.args.at spans) c.args.at c.args.line.now.pieces in
-    record {
-      zero = zero_from_rising c.requires.0 c.args.line.now.pieces s.rising;
-      place = λ j lt. omega (arith, c.requires.2, long_at c.requires.1 c.args.line.now.pieces j s.rows lt);
-      keeps_apart = subst P (sym (ap (λ (spans : SpanSet). spans.intervals) c.none-none.ensures)) (apart_cleared c.requires.1 c.args.at c.args.line.now.pieces s.differ s.rows c.requires.2);
-    }
+    subst P (sym (ap (λ (spans : SpanSet). spans.intervals) c.none-none.ensures)) (apart_cleared c.args.at c.args.line.now c.requires.differ c.requires.place)
 
 pub close_place-requires : goal.close_place-requires
-close_place-requires c =
-    let s = c.requires.3 in
-    let P : List Interval → Type 0 = λ spans. IsMergeOf c.requires.0 (map (with_written c.args.at spans) c.args.line.now.pieces) c.set_answers.new.line.pieces in
-    let merge = c.set_answers.ensures.merge c.requires.0 (written_rising c.requires.0 c.args.at c.none-none.result.intervals c.args.line.now.pieces s.rising) in
-    let after = places_after c.requires.0 c.requires.1 c.args.at _ _ s.rising s.rows c.requires.2 (subst P (ap (λ (spans : SpanSet). spans.intervals) c.none-none.ensures) merge) in
-    record { some = after.0; place = after.1 }
+close_place-requires c = omega (arith, c.set_answers.ensures.long, c.requires.place)
 
-pub returns-clause-sound : goal.returns-clause-sound
-returns-clause-sound c top n lt sound =
-    let r = without_rising top c.args.at _ sound.rising in
+-- the answers cleared and the place closed: as if the box's answers were taken out, and the pieces joined
+merged : (c : goal.After-drop-none-inside) (top : _) → IsRising top c.args.line.now.pieces → IsMergeOf top (map (without_answer c.args.at) c.args.line.now.pieces) c.close_place.new.self.pieces
+merged c top r =
     let P : List Interval → Type 0 = λ spans. IsMergeOf top (map (with_written c.args.at spans) c.args.line.now.pieces) c.set_answers.new.line.pieces in
     let Q : List Cut → Type 0 = λ line. IsMergeOf top (map (without_answer c.args.at) c.args.line.now.pieces) line in
-    let merge = subst P (ap (λ (spans : SpanSet). spans.intervals) c.none-none.ensures) (c.set_answers.ensures.merge top (written_rising top c.args.at c.none-none.result.intervals c.args.line.now.pieces sound.rising)) in
-    sound_from_merge (n - 1) top _ _ r (shorter n c.args.at _ lt sound.rows) (subst Q (sym c.close_place.ensures.pieces) (closed_merge top n c.args.at _ _ sound.rising sound.rows lt merge))
+    let merge = subst P (ap (λ (spans : SpanSet). spans.intervals) c.none-none.ensures) (c.set_answers.ensures.merge top (written_rising top c.args.at c.none-none.result.intervals c.args.line.now.pieces r)) in
+    subst Q (sym c.close_place.ensures.pieces) (closed_merge top c.args.at c.args.line.now c.set_answers.new.line r c.requires.place (omega (arith, c.set_answers.ensures.long, c.requires.place)) merge)
+
+pub returns-clause-sound : goal.returns-clause-sound
+returns-clause-sound c top r =
+    sound_from_merge (row_bits c.args.line.now.pieces - 1) top _ _ (without_rising top c.args.at _ r) (shorter c.args.at _ c.requires.place) (merged c top r)
 
 pub returns-clause-line : goal.returns-clause-line
 returns-clause-line c top sets line =
     let r : IsRising top c.args.line.now.pieces = rising_from_line top sets _ line in
-    let s = c.requires.3 in
-    let P : List Interval → Type 0 = λ spans. IsMergeOf top (map (with_written c.args.at spans) c.args.line.now.pieces) c.set_answers.new.line.pieces in
-    let Q : List Cut → Type 0 = λ l. IsMergeOf top (map (without_answer c.args.at) c.args.line.now.pieces) l in
-    let merge = subst P (ap (λ (spans : SpanSet). spans.intervals) c.none-none.ensures) (c.set_answers.ensures.merge top (written_rising top c.args.at c.none-none.result.intervals c.args.line.now.pieces r)) in
-    line_from_merge top (remove sets c.args.at) _ _ (subst Q (sym c.close_place.ensures.pieces) (closed_merge top c.requires.1 c.args.at _ _ r s.rows c.requires.2 merge)) (without_say top c.args.at sets _ r (says_from_line top sets _ line))
+    line_from_merge top (remove sets c.args.at) _ _ (merged c top r) (without_say top c.args.at sets _ r (says_from_line top sets _ line))
 
 pub returns-clause-room : goal.returns-clause-room
 returns-clause-room c = omega (arith, c.close_place.ensures.room, c.set_answers.ensures.room)

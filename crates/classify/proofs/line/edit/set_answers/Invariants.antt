@@ -1,4 +1,5 @@
 use Rattle.std.proofs.Common.{◌≡◌}
+use Rattle.classify.specs.steps.Pieces.{row_bits}
 use Rattle.classify.specs.steps.Edits.{with_written}
 use Rattle.classify.proofs.laws.line.JoinLaws.{Working}
 use Rattle.classify.proofs.line.edit.set_answers.Given as goal
@@ -6,6 +7,7 @@ use Rattle.classify.proofs.line.edit.set_answers.Given as goal
 abbrev pub invariant-loop-k : goal.invariant-loop-k
 invariant-loop-k l = record {
   working : Working (with_written l.at l.spans.intervals) l.at l.fn.line.pieces l.line.pieces l.k l.above;
+  long : row_bits l.line.pieces ≡ row_bits l.fn.line.pieces;
   room : l.line.room ≡ l.fn.line.room;
 }
 

@@ -1,5 +1,6 @@
 use Rattle.std.proofs.Common.{arith, sym, subst, List}
 use Rattle.classify.specs.steps.Pieces.{IsSplitOf}
+use Rattle.classify.specs.steps.Kept.{most_start}
 use Rattle.classify.proofs.laws.line.ShownLaws.{Cut, IsIn, split_same, split_done, split_done_starts, split_not_there, split_there}
 use Rattle.classify.proofs.line.edit.split.Goals as goal
 
@@ -9,9 +10,9 @@ returns-in_err-split_at-clause-split c top spans le ch r =
     subst P (sym c.in_err-split_at.ensures.err) (split_same top spans c.args.line.now.pieces r)
 
 pub returns-in_err-split_at-clause-there : goal.returns-in_err-split_at-clause-there
-returns-in_err-split_at-clause-there c top r s =
+returns-in_err-split_at-clause-there c s =
     let h : IsIn c.args.line.now.pieces c.args.x c.place_of-place.result = record { within = c.place_of-place.ensures.within; high = c.place_of-place.ensures.high } in
-    absurd (split_not_there _ _ _ h (omega (arith, c.start.ensures, c.if-start-x.true)) top r s)
+    absurd (split_not_there _ _ _ h (omega (arith, c.start.ensures, c.if-start-x.true)) most_start c.args.line.now.stands.rising s)
 
 pub returns-in_ok-split_at-clause-split : goal.returns-in_ok-split_at-clause-split
 returns-in_ok-split_at-clause-split c =
@@ -24,9 +25,9 @@ returns-in_ok-split_at-clause-ok c =
     split_done_starts _ _ _ _ h c.in_ok-split_at.ensures.ok
 
 pub returns-in_ok-split_at-clause-kept : goal.returns-in_ok-split_at-clause-kept
-returns-in_ok-split_at-clause-kept c top r s =
+returns-in_ok-split_at-clause-kept c s =
     let h : IsIn c.args.line.now.pieces c.args.x c.place_of-place.result = record { within = c.place_of-place.ensures.within; high = c.place_of-place.ensures.high } in
-    absurd (split_not_there _ _ _ h (omega (arith, c.start.ensures, c.if-start-x.true)) top r s)
+    absurd (split_not_there _ _ _ h (omega (arith, c.start.ensures, c.if-start-x.true)) most_start c.args.line.now.stands.rising s)
 
 pub returns-else-start-x-clause-ok : goal.returns-else-start-x-clause-ok
 returns-else-start-x-clause-ok c =

@@ -7,9 +7,6 @@ use Rattle.classify.proofs.line.edit.split_interval.Goals as goal
 pub returns-in_err-split-clause-split : goal.returns-in_err-split-clause-split
 returns-in_err-split-clause-split c spans a b = c.split.ensures.split c.args.top spans c.requires.begins a c.requires.rising
 
-pub split-requires-then-interval-top : goal.split-requires-then-interval-top
-split-requires-then-interval-top c = (c.args.top, (c.split.ensures.split c.args.top (begins_at c.args.interval.first) c.requires.begins (begins_there c.args.interval.first) c.requires.rising).rising)
-
 pub returns-in_err-split-2-clause-split : goal.returns-in_err-split-2-clause-split
 returns-in_err-split-2-clause-split c spans a b =
     let g = c.split.ensures.split c.args.top spans c.requires.begins a c.requires.rising in
@@ -30,31 +27,28 @@ pub returns-clause-split : goal.returns-clause-split
 returns-clause-split c spans a b = c.split.ensures.split c.args.top spans c.requires.begins a c.requires.rising
 
 pub returns-in_err-split-clause-there : goal.returns-in_err-split-clause-there
-returns-in_err-split-clause-there c e = absurd (false≢true (c.in_err-split.ensures.there c.args.top c.requires.rising e.0))
+returns-in_err-split-clause-there c e = absurd (false≢true (c.in_err-split.ensures.there e.0))
 
 pub returns-in_err-split-2-clause-there : goal.returns-in_err-split-2-clause-there
 returns-in_err-split-2-clause-there c e =
     let g = c.split.ensures.split c.args.top (begins_at c.args.interval.first) c.requires.begins (begins_there c.args.interval.first) c.requires.rising in
-    absurd (false≢true (c.in_err-split-2.ensures.there c.args.top g.rising (g.keeps (c.args.interval.last + 1) (e.1 c.if-interval-top.true))))
-
-pub split-requires : goal.split-requires
-split-requires c = (c.args.top, c.requires.rising)
+    absurd (false≢true (c.in_err-split-2.ensures.there (g.keeps (c.args.interval.last + 1) (e.1 c.if-interval-top.true))))
 
 pub returns-in_err-split-clause-kept : goal.returns-in_err-split-clause-kept
-returns-in_err-split-clause-kept c e = c.split.ensures.kept c.args.top c.requires.rising e.0
+returns-in_err-split-clause-kept c e = c.split.ensures.kept e.0
 
 pub returns-in_err-split-2-clause-kept : goal.returns-in_err-split-2-clause-kept
 returns-in_err-split-2-clause-kept c e =
     let g = c.split.ensures.split c.args.top (begins_at c.args.interval.first) c.requires.begins (begins_there c.args.interval.first) c.requires.rising in
-    c.split-then-interval-top.ensures.kept c.args.top g.rising (g.keeps (c.args.interval.last + 1) (e.1 c.if-interval-top.true)) ∙ c.split.ensures.kept c.args.top c.requires.rising e.0
+    c.split-then-interval-top.ensures.kept (g.keeps (c.args.interval.last + 1) (e.1 c.if-interval-top.true)) ∙ c.split.ensures.kept e.0
 
 pub returns-then-interval-top-clause-kept : goal.returns-then-interval-top-clause-kept
 returns-then-interval-top-clause-kept c e =
     let g = c.split.ensures.split c.args.top (begins_at c.args.interval.first) c.requires.begins (begins_there c.args.interval.first) c.requires.rising in
-    c.split-then-interval-top.ensures.kept c.args.top g.rising (g.keeps (c.args.interval.last + 1) (e.1 c.if-interval-top.true)) ∙ c.split.ensures.kept c.args.top c.requires.rising e.0
+    c.split-then-interval-top.ensures.kept (g.keeps (c.args.interval.last + 1) (e.1 c.if-interval-top.true)) ∙ c.split.ensures.kept e.0
 
 pub returns-clause-kept : goal.returns-clause-kept
-returns-clause-kept c e = c.split.ensures.kept c.args.top c.requires.rising e.0
+returns-clause-kept c e = c.split.ensures.kept e.0
 
 pub returns-in_err-split-2-clause-room : goal.returns-in_err-split-2-clause-room
 returns-in_err-split-2-clause-room c = c.split-then-interval-top.ensures.room ∙ c.split.ensures.room

@@ -2,9 +2,6 @@ use Rattle.std.proofs.Common.{◌∙◌}
 use Rattle.classify.proofs.laws.line.UnsplitLaws.{ends_unsplit, end_unsplit}
 use Rattle.classify.proofs.line.edit.unsplit_interval.Goals as goal
 
-pub unsplit-requires-then-interval-top : goal.unsplit-requires-then-interval-top
-unsplit-requires-then-interval-top c = (c.args.top, (c.unsplit.ensures.unsplit c.args.top c.requires).rising)
-
 pub returns-then-interval-top-clause-unsplit : goal.returns-then-interval-top-clause-unsplit
 returns-then-interval-top-clause-unsplit c =
     let first = c.unsplit.ensures.unsplit c.args.top c.requires in

@@ -3,7 +3,7 @@ use Rattle.std.proofs.Common.{arith, refl, ◌∙◌, ◌≡◌, ap, subst, sym,
 use Rattle.std.proofs.lemmas.List.{take_all}
 use Rattle.fields.specs.numbers.Spans.{has, AreSpansFrom}
 use Rattle.classify.specs.steps.Edits.{with_bit}
-use Rattle.classify.proofs.laws.line.PutLaws.{few_first, few_more, interval_some, now_rising, now_place, now_begins}
+use Rattle.classify.proofs.laws.line.PutLaws.{few_first, few_more, interval_some, now_place, now_begins}
 use Rattle.classify.proofs.line.put.put_few.Goals as goal
 
 abbrev no_span : Interval
@@ -12,12 +12,9 @@ no_span = record { first = 0; last = 0 }
 pub loop-interval-init : goal.loop-interval-init
 loop-interval-init c = record { answers = few_first c.args.at c.args.line.now.pieces c.requires.none; room = refl }
 
-pub run_in-run-requires-clause-rising : goal.run_in-run-requires-clause-rising
-run_in-run-requires-clause-rising c = (c.args.spans.now.top, now_rising _ c.args.at _ _ _ c.loop-interval.invariant.answers c.requires.rising)
-
 pub run_in-run-requires-clause-begins : goal.run_in-run-requires-clause-begins
 run_in-run-requires-clause-begins c =
-    now_begins c.args.spans.now.top c.args.at c.loop-interval.interval-index _ _ _ no_span _ _ c.loop-interval.invariant.answers c.intervals-interval-items.ensures.value c.intervals-interval-items.ensures.canonical c.requires.rising c.requires.cuts (omega arith)
+    now_begins c.args.spans.now.top c.args.at c.loop-interval.interval-index _ _ _ no_span c.args.line.now _ c.loop-interval.invariant.answers c.intervals-interval-items.ensures.value c.intervals-interval-items.ensures.canonical c.requires.cuts (omega arith)
 
 pub run_in-run-requires-clause-some : goal.run_in-run-requires-clause-some
 run_in-run-requires-clause-some c =

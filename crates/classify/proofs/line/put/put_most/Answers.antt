@@ -3,18 +3,15 @@ use Rattle.std.proofs.Common.{arith, ◌∙◌, ap, subst, sym, length, take, Li
 use Rattle.std.proofs.lemmas.List.{length-map}
 use Rattle.fields.specs.numbers.Spans.{AreSpansFrom}
 use Rattle.classify.specs.steps.Edits.{with_bit}
-use Rattle.classify.proofs.laws.line.PutLaws.{is_open, interval_some, now_rising, now_place, now_begins, past_next, next_before, most_more, most_last}
+use Rattle.classify.proofs.laws.line.PutLaws.{is_open, interval_some, now_place, now_begins, past_next, next_before, most_more, most_last}
 use Rattle.classify.proofs.line.put.put_most.Goals as goal
 
 abbrev no_span : Interval
 no_span = record { first = 0; last = 0 }
 
-pub run_in-from-requires-clause-rising : goal.run_in-from-requires-clause-rising
-run_in-from-requires-clause-rising c = (c.args.spans.now.top, now_rising _ c.args.at _ _ _ c.loop-interval.invariant.answers c.requires.rising)
-
 pub run_in-from-requires-clause-begins : goal.run_in-from-requires-clause-begins
 run_in-from-requires-clause-begins c =
-    now_begins c.args.spans.now.top c.args.at c.loop-interval.interval-index _ _ _ no_span _ _ c.loop-interval.invariant.answers c.intervals-interval-items.ensures.value c.intervals-interval-items.ensures.canonical c.requires.rising c.requires.cuts (omega arith)
+    now_begins c.args.spans.now.top c.args.at c.loop-interval.interval-index _ _ _ no_span c.args.line.now _ c.loop-interval.invariant.answers c.intervals-interval-items.ensures.value c.intervals-interval-items.ensures.canonical c.requires.cuts (omega arith)
 
 pub run_in-from-requires-clause-some : goal.run_in-from-requires-clause-some
 run_in-from-requires-clause-some c =

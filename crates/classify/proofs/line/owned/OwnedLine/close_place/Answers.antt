@@ -1,13 +1,21 @@
-use Rattle.std.proofs.Common.{◌<◌, ◌∙◌, ap, length, remove, List, Bool, map}
-use Rattle.std.specs.List.{zip}
-use Rattle.classify.proofs.laws.line.ShownLaws.{Cut}
-use Rattle.classify.proofs.laws.line.PieceLaws.{each_row_kept, zip-map, kept_pieces}
+use Rattle.std.proofs.Common.{◌-◌, ◌≡◌, ◌<◌, ap, arith, length, remove, List, Bool}
+use Rattle.std.proofs.lemmas.List.Edits.{length-remove}
+use Rattle.classify.specs.steps.Pieces.{row_bits}
+use Rattle.classify.specs.steps.Kept.{PiecesAndRoom}
+use Rattle.classify.proofs.laws.line.PieceLaws.{each_row_kept, kept_pieces, pieces_mapped}
+use Rattle.classify.proofs.laws.line.KeptLaws.{row_long, mapped_line}
 use Rattle.classify.proofs.line.owned.OwnedLine.close_place.Goals as goal
 
 pub close_place-requires-clause-place : goal.close_place-requires-clause-place
-close_place-requires-clause-place c = each_row_kept (λ row. c.args.at < length row) _ _ _ c.args.self.now c.self.invariant c.self.view_is c.requires.place
+close_place-requires-clause-place c =
+    each_row_kept (λ row. c.args.at < length row) _ _ _ _ c.args.self.now c.self.invariant c.self.view_is (λ k lt. omega (arith, row_long c.args.self.now k lt, c.requires))
+
+pub invariant_of-self-inside : goal.invariant_of-self-inside
+invariant_of-self-inside c = (
+  mapped_line (λ row. remove row c.args.at) (row_bits c.args.self.now.pieces - 1) _ c.args.self.now (λ bs e. omega (arith, length-remove bs c.args.at (omega (arith, c.requires)), e)) (omega (arith, c.args.self.now.stands.whole, c.requires, c.close_place.ensures.room, ap (λ (l : PiecesAndRoom). l.room) c.self.view_is)) _
+      (pieces_mapped _ _ _ (λ row. remove row c.args.at) _ (kept_pieces _ _ _ _ _ c.self.view_is) c.close_place.ensures.rows),
+  tt,
+)
 
 pub returns-clause-pieces : goal.returns-clause-pieces
-returns-clause-pieces c =
-    ap (λ (rows : List (List Bool)). zip c.self.inside.starts rows) c.close_place.ensures.rows ∙ zip-map c.self.inside.starts c.self.inside.rows.rows (λ row. remove row c.args.at)
-    ∙ ap (λ (line : List Cut). map (λ (p : Cut). (p.0, remove p.1 c.args.at)) line) (kept_pieces _ _ _ _ c.self.view_is)
+returns-clause-pieces c = pieces_mapped _ _ _ (λ row. remove row c.args.at) _ (kept_pieces _ _ _ _ _ c.self.view_is) c.close_place.ensures.rows

@@ -4,17 +4,17 @@ use Rattle.classify.proofs.line.owned.OwnedLine.is_same_after.Goals as goal
 
 pub overflow_add-k : goal.overflow_add-k
 overflow_add-k c =
-    omega (arith, c.count-pieces.ensures, c.self.invariant, kept_long _ _ _ _ c.self.invariant c.self.view_is, c.requires)
+    omega (arith, c.count-pieces.ensures, c.self.invariant, kept_long _ _ _ _ _ c.self.invariant c.self.view_is, c.requires)
 
 pub same-requires-clause-one : goal.same-requires-clause-one
-same-requires-clause-one c = omega (arith, c.self.invariant, kept_long _ _ _ _ c.self.invariant c.self.view_is, c.requires)
+same-requires-clause-one c = omega (arith, c.self.invariant, kept_long _ _ _ _ _ c.self.invariant c.self.view_is, c.requires)
 
 pub same-requires-clause-other : goal.same-requires-clause-other
-same-requires-clause-other c = omega (arith, c.self.invariant, kept_long _ _ _ _ c.self.invariant c.self.view_is, c.requires)
+same-requires-clause-other c = omega (arith, c.self.invariant, kept_long _ _ _ _ _ c.self.invariant c.self.view_is, c.requires)
 
 pub returns : goal.returns
 returns c =
-    let n = kept_long _ _ _ _ c.self.invariant c.self.view_is in
-    let one = kept_row _ _ _ _ c.args.k c.self.invariant c.self.view_is (omega (arith, n, c.requires)) in
-    let other = kept_row _ _ _ _ (c.args.k + 1) c.self.invariant c.self.view_is (omega (arith, n, c.requires)) in
+    let n = kept_long _ _ _ _ _ c.self.invariant c.self.view_is in
+    let one = kept_row _ _ _ _ _ c.args.k c.self.invariant c.self.view_is (omega (arith, n, c.requires)) in
+    let other = kept_row _ _ _ _ _ (c.args.k + 1) c.self.invariant c.self.view_is (omega (arith, n, c.requires)) in
     (λ t. one ∙ c.same.ensures.0 t ∙ sym other, λ e. c.same.ensures.1 (sym one ∙ e ∙ other))

@@ -1,13 +1,21 @@
-use Rattle.std.proofs.Common.{◌<◌, ◌∙◌, ap, length, set, true, List, Bool, map}
-use Rattle.std.specs.List.{zip}
-use Rattle.classify.proofs.laws.line.ShownLaws.{Cut}
-use Rattle.classify.proofs.laws.line.PieceLaws.{each_row_kept, zip-map, kept_pieces}
+use Rattle.std.proofs.Common.{◌∙◌, ◌≡◌, ◌<◌, ap, arith, length, set, true, List, Bool}
+use Rattle.std.proofs.lemmas.List.{length-set}
+use Rattle.classify.specs.steps.Pieces.{row_bits}
+use Rattle.classify.specs.steps.Kept.{PiecesAndRoom}
+use Rattle.classify.proofs.laws.line.PieceLaws.{each_row_kept, kept_pieces, pieces_mapped}
+use Rattle.classify.proofs.laws.line.KeptLaws.{row_long, mapped_line}
 use Rattle.classify.proofs.line.owned.OwnedLine.set_all.Goals as goal
 
 pub set_all-requires-clause-place : goal.set_all-requires-clause-place
-set_all-requires-clause-place c = each_row_kept (λ row. c.args.at < length row) _ _ _ c.args.self.now c.self.invariant c.self.view_is c.requires.place
+set_all-requires-clause-place c =
+    each_row_kept (λ row. c.args.at < length row) _ _ _ _ c.args.self.now c.self.invariant c.self.view_is (λ k lt. omega (arith, row_long c.args.self.now k lt, c.requires))
+
+pub invariant_of-self-inside : goal.invariant_of-self-inside
+invariant_of-self-inside c = (
+  mapped_line (λ row. set row c.args.at true) (row_bits c.args.self.now.pieces) _ c.args.self.now (λ bs e. length-set bs c.args.at true ∙ e) (omega (arith, c.args.self.now.stands.whole, c.set_all.ensures.room, ap (λ (l : PiecesAndRoom). l.room) c.self.view_is)) _
+      (pieces_mapped _ _ _ (λ row. set row c.args.at true) _ (kept_pieces _ _ _ _ _ c.self.view_is) c.set_all.ensures.rows),
+  tt,
+)
 
 pub returns-clause-pieces : goal.returns-clause-pieces
-returns-clause-pieces c =
-    ap (λ (rows : List (List Bool)). zip c.self.inside.starts rows) c.set_all.ensures.rows ∙ zip-map c.self.inside.starts c.self.inside.rows.rows (λ row. set row c.args.at true)
-    ∙ ap (λ (line : List Cut). map (λ (p : Cut). (p.0, set p.1 c.args.at true)) line) (kept_pieces _ _ _ _ c.self.view_is)
+returns-clause-pieces c = pieces_mapped _ _ _ (λ row. set row c.args.at true) _ (kept_pieces _ _ _ _ _ c.self.view_is) c.set_all.ensures.rows

@@ -2,43 +2,44 @@ use Rattle.std.proofs.Common.{◌≡◌, ◌<◌, ◌+◌, ◌∙◌, sym, ap, a
 use Rattle.std.specs.List.{zip}
 use Rattle.std.specs.Prelude.{slice_index}
 use Rattle.std.proofs.lemmas.List.Edits.{length-insert}
-use Rattle.classify.proofs.laws.line.ShownLaws.{Cut}
-use Rattle.classify.proofs.laws.line.PieceLaws.{kept_long, kept_row, kept_pieces, kept_starts, zip-insert, remove-insert}
+use Rattle.classify.proofs.laws.line.PieceLaws.{kept_long, kept_row, kept_pieces, kept_starts, pieces_inserted, remove-insert}
+use Rattle.classify.proofs.laws.line.KeptLaws.{split_kept, same_kept}
+use Rattle.classify.specs.steps.Kept.{PiecesAndRoom}
 use Rattle.classify.proofs.line.owned.OwnedLine.split_at.Goals as goal
 
 pub double-requires : goal.double-requires
-double-requires c = omega (arith, c.self.invariant, kept_long _ _ _ _ c.self.invariant c.self.view_is, c.requires.piece)
+double-requires c = omega (arith, c.self.invariant, kept_long _ _ _ _ _ c.self.invariant c.self.view_is, c.requires.piece)
 
 pub overflow_add-k : goal.overflow_add-k
 overflow_add-k c =
-    let lt : c.args.k < length c.self.inside.rows.rows = omega (arith, c.self.invariant, kept_long _ _ _ _ c.self.invariant c.self.view_is, c.requires.piece) in
+    let lt : c.args.k < length c.self.inside.rows.rows = omega (arith, c.self.invariant, kept_long _ _ _ _ _ c.self.invariant c.self.view_is, c.requires.piece) in
     omega (arith, c.in_ok-double.ensures.few, ap length c.in_ok-double.ensures.ok, length-insert c.self.inside.rows.rows (c.args.k + 1) (get_or c.self.inside.rows.rows c.args.k []) (omega arith), lt)
 
 pub insert-requires-clause-place : goal.insert-requires-clause-place
-insert-requires-clause-place c = omega (arith, kept_long _ _ _ _ c.self.invariant c.self.view_is, c.requires.piece)
+insert-requires-clause-place c = omega (arith, kept_long _ _ _ _ _ c.self.invariant c.self.view_is, c.requires.piece)
 
 pub insert-requires-clause-below : goal.insert-requires-clause-below
 insert-requires-clause-below c lt =
-    omega (arith, c.requires.below (omega (arith, kept_long _ _ _ _ c.self.invariant c.self.view_is)), ap (λ (ss : List ℕ). slice_index ss (c.args.k + 1)) (kept_starts _ _ _ _ c.self.invariant c.self.view_is))
+    omega (arith, c.requires.below (omega (arith, kept_long _ _ _ _ _ c.self.invariant c.self.view_is)), ap (λ (ss : List ℕ). slice_index ss (c.args.k + 1)) (kept_starts _ _ _ _ _ c.self.invariant c.self.view_is))
 
 pub insert-requires-clause-few : goal.insert-requires-clause-few
 insert-requires-clause-few c =
-    let lt : c.args.k < length c.self.inside.rows.rows = omega (arith, c.self.invariant, kept_long _ _ _ _ c.self.invariant c.self.view_is, c.requires.piece) in
+    let lt : c.args.k < length c.self.inside.rows.rows = omega (arith, c.self.invariant, kept_long _ _ _ _ _ c.self.invariant c.self.view_is, c.requires.piece) in
     omega (arith, c.in_ok-double.ensures.few, ap length c.in_ok-double.ensures.ok, length-insert c.self.inside.rows.rows (c.args.k + 1) (get_or c.self.inside.rows.rows c.args.k []) (omega arith), c.self.invariant)
 
 pub overflow_add-k-in-Err : goal.overflow_add-k-in-Err
 overflow_add-k-in-Err c =
-    let lt : c.args.k < length c.self.inside.rows.rows = omega (arith, c.self.invariant, kept_long _ _ _ _ c.self.invariant c.self.view_is, c.requires.piece) in
+    let lt : c.args.k < length c.self.inside.rows.rows = omega (arith, c.self.invariant, kept_long _ _ _ _ _ c.self.invariant c.self.view_is, c.requires.piece) in
     omega (arith, c.in_ok-double.ensures.few, ap length c.in_ok-double.ensures.ok, length-insert c.self.inside.rows.rows (c.args.k + 1) (get_or c.self.inside.rows.rows c.args.k []) (omega arith), lt)
 
 pub remove-requires : goal.remove-requires
 remove-requires c =
-    let lt : c.args.k < length c.self.inside.rows.rows = omega (arith, c.self.invariant, kept_long _ _ _ _ c.self.invariant c.self.view_is, c.requires.piece) in
+    let lt : c.args.k < length c.self.inside.rows.rows = omega (arith, c.self.invariant, kept_long _ _ _ _ _ c.self.invariant c.self.view_is, c.requires.piece) in
     omega (arith, ap length c.in_ok-double.ensures.ok, length-insert c.self.inside.rows.rows (c.args.k + 1) (get_or c.self.inside.rows.rows c.args.k []) (omega arith), lt)
 
 pub invariant_of-self-in-Ok : goal.invariant_of-self-in-Ok
 invariant_of-self-in-Ok c =
-    let lt : c.args.k < length c.self.inside.rows.rows = omega (arith, c.self.invariant, kept_long _ _ _ _ c.self.invariant c.self.view_is, c.requires.piece) in
+    let lt : c.args.k < length c.self.inside.rows.rows = omega (arith, c.self.invariant, kept_long _ _ _ _ _ c.self.invariant c.self.view_is, c.requires.piece) in
     omega (
       arith,
       ap length c.in_ok-double.ensures.ok,
@@ -51,22 +52,33 @@ invariant_of-self-in-Ok c =
 pub invariant_of-self-in-Err : goal.invariant_of-self-in-Err
 invariant_of-self-in-Err c =
     let row : List Bool = get_or c.self.inside.rows.rows c.args.k [] in
-    let lt : c.args.k < length c.self.inside.rows.rows = omega (arith, c.self.invariant, kept_long _ _ _ _ c.self.invariant c.self.view_is, c.requires.piece) in
+    let lt : c.args.k < length c.self.inside.rows.rows = omega (arith, c.self.invariant, kept_long _ _ _ _ _ c.self.invariant c.self.view_is, c.requires.piece) in
     let back : c.remove.new.self.rows ≡ c.self.inside.rows.rows = c.remove.ensures.rows ∙ ap (λ (rs : List (List Bool)). remove rs (c.args.k + 1)) c.in_ok-double.ensures.ok ∙ remove-insert c.self.inside.rows.rows (c.args.k + 1) row (omega arith) in
     ap length back ∙ c.self.invariant ∙ sym (ap length c.in-Err.ensures.err)
 
+pub invariant_of-self-inside-in-Ok : goal.invariant_of-self-inside-in-Ok
+invariant_of-self-inside-in-Ok c =
+    let lt : c.args.k < length c.self.inside.starts = omega (arith, kept_long _ _ _ _ _ c.self.invariant c.self.view_is, c.requires.piece) in (
+      split_kept c.args.self.now c.args.k c.args.x _ c.requires.piece c.requires.above c.requires.below (omega (arith, c.ranges.x)) (omega (arith, c.double.ensures.room, ap (λ (l : PiecesAndRoom). l.room) c.self.view_is)) _
+          (pieces_inserted _ _ _ _ (c.args.k + 1) c.args.x _ (get_or c.self.inside.rows.rows c.args.k []) _ c.self.invariant (omega arith) (kept_pieces _ _ _ _ _ c.self.view_is) c.in-Ok.ensures.ok c.in_ok-double.ensures.ok (sym (kept_row _ _ _ _ _ c.args.k c.self.invariant c.self.view_is lt))),
+      tt,
+    )
+
+pub invariant_of-self-inside-in-Err : goal.invariant_of-self-inside-in-Err
+invariant_of-self-inside-in-Err c =
+    let row : List Bool = get_or c.self.inside.rows.rows c.args.k [] in
+    let lt : c.args.k < length c.self.inside.rows.rows = omega (arith, c.self.invariant, kept_long _ _ _ _ _ c.self.invariant c.self.view_is, c.requires.piece) in
+    let back : c.remove.new.self.rows ≡ c.self.inside.rows.rows = c.remove.ensures.rows ∙ ap (λ (rs : List (List Bool)). remove rs (c.args.k + 1)) c.in_ok-double.ensures.ok ∙ remove-insert c.self.inside.rows.rows (c.args.k + 1) row (omega arith) in
+    (same_kept c.args.self.now _ (omega (arith, c.remove.ensures.room, c.double.ensures.room, ap (λ (l : PiecesAndRoom). l.room) c.self.view_is)) _ ((λ i. zip (c.in-Err.ensures.err i) (back i)) ∙ kept_pieces _ _ _ _ _ c.self.view_is), tt)
+
 pub returns-in-Ok-clause-ok : goal.returns-in-Ok-clause-ok
 returns-in-Ok-clause-ok c =
-    let lt : c.args.k < length c.self.inside.starts = omega (arith, kept_long _ _ _ _ c.self.invariant c.self.view_is, c.requires.piece) in
-    let row : List Bool = get_or c.self.inside.rows.rows c.args.k [] in
-    ap (λ (ss : List ℕ). zip ss c.double.new.self.rows) c.in-Ok.ensures.ok ∙ ap (λ (rs : List (List Bool)). zip (insert c.self.inside.starts (c.args.k + 1) c.args.x) rs) c.in_ok-double.ensures.ok
-    ∙ zip-insert c.self.inside.starts c.self.inside.rows.rows (c.args.k + 1) c.args.x row c.self.invariant (omega arith)
-    ∙ ap (λ (line : List Cut). insert line (c.args.k + 1) (c.args.x, row)) (kept_pieces _ _ _ _ c.self.view_is)
-    ∙ ap (λ (r : List Bool). insert c.args.self.now.pieces (c.args.k + 1) (c.args.x, r)) (sym (kept_row _ _ _ _ c.args.k c.self.invariant c.self.view_is lt))
+    let lt : c.args.k < length c.self.inside.starts = omega (arith, kept_long _ _ _ _ _ c.self.invariant c.self.view_is, c.requires.piece) in
+    pieces_inserted _ _ _ _ (c.args.k + 1) c.args.x _ (get_or c.self.inside.rows.rows c.args.k []) _ c.self.invariant (omega arith) (kept_pieces _ _ _ _ _ c.self.view_is) c.in-Ok.ensures.ok c.in_ok-double.ensures.ok (sym (kept_row _ _ _ _ _ c.args.k c.self.invariant c.self.view_is lt))
 
 pub returns-in-Err-clause-err : goal.returns-in-Err-clause-err
 returns-in-Err-clause-err c =
     let row : List Bool = get_or c.self.inside.rows.rows c.args.k [] in
-    let lt : c.args.k < length c.self.inside.rows.rows = omega (arith, c.self.invariant, kept_long _ _ _ _ c.self.invariant c.self.view_is, c.requires.piece) in
+    let lt : c.args.k < length c.self.inside.rows.rows = omega (arith, c.self.invariant, kept_long _ _ _ _ _ c.self.invariant c.self.view_is, c.requires.piece) in
     let back : c.remove.new.self.rows ≡ c.self.inside.rows.rows = c.remove.ensures.rows ∙ ap (λ (rs : List (List Bool)). remove rs (c.args.k + 1)) c.in_ok-double.ensures.ok ∙ remove-insert c.self.inside.rows.rows (c.args.k + 1) row (omega arith) in
-    ap (λ (ss : List ℕ). zip ss c.remove.new.self.rows) c.in-Err.ensures.err ∙ ap (λ (rs : List (List Bool)). zip c.self.inside.starts rs) back ∙ kept_pieces _ _ _ _ c.self.view_is
+    (λ i. zip (c.in-Err.ensures.err i) (back i)) ∙ kept_pieces _ _ _ _ _ c.self.view_is

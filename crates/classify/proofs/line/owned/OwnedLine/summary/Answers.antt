@@ -4,10 +4,10 @@ use Rattle.classify.proofs.laws.line.PieceLaws.{kept_long, kept_row}
 use Rattle.classify.proofs.line.owned.OwnedLine.summary.Goals as goal
 
 pub summary-requires : goal.summary-requires
-summary-requires c = omega (arith, c.self.invariant, kept_long _ _ _ _ c.self.invariant c.self.view_is, c.requires)
+summary-requires c = omega (arith, c.self.invariant, kept_long _ _ _ _ _ c.self.invariant c.self.view_is, c.requires)
 
 pub returns : goal.returns
 returns c =
-    let lt : c.args.k < length c.self.inside.starts = omega (arith, kept_long _ _ _ _ c.self.invariant c.self.view_is, c.requires) in
+    let lt : c.args.k < length c.self.inside.starts = omega (arith, kept_long _ _ _ _ _ c.self.invariant c.self.view_is, c.requires) in
     let P : List Bool → Type 0 = λ row. IsSummaryOf c.summary.result row in
-    subst P (sym (kept_row _ _ _ _ c.args.k c.self.invariant c.self.view_is lt)) c.summary.ensures
+    subst P (sym (kept_row _ _ _ _ _ c.args.k c.self.invariant c.self.view_is lt)) c.summary.ensures

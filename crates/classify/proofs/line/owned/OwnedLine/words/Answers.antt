@@ -4,16 +4,16 @@ use Rattle.classify.proofs.laws.line.PieceLaws.{kept_long, kept_row}
 use Rattle.classify.proofs.line.owned.OwnedLine.words.Goals as goal
 
 pub row-requires : goal.row-requires
-row-requires c = omega (arith, c.self.invariant, kept_long _ _ _ _ c.self.invariant c.self.view_is, c.requires)
+row-requires c = omega (arith, c.self.invariant, kept_long _ _ _ _ _ c.self.invariant c.self.view_is, c.requires)
 
 pub returns-clause-packed : goal.returns-clause-packed
 returns-clause-packed c =
-    let lt : c.args.k < length c.self.inside.starts = omega (arith, kept_long _ _ _ _ c.self.invariant c.self.view_is, c.requires) in
+    let lt : c.args.k < length c.self.inside.starts = omega (arith, kept_long _ _ _ _ _ c.self.invariant c.self.view_is, c.requires) in
     let P : List Bool → Type 0 = λ row. IsPacked c.row.result.now (length row) in
-    subst P (sym (kept_row _ _ _ _ c.args.k c.self.invariant c.self.view_is lt)) c.row.ensures.packed
+    subst P (sym (kept_row _ _ _ _ _ c.args.k c.self.invariant c.self.view_is lt)) c.row.ensures.packed
 
 pub returns-clause-bits : goal.returns-clause-bits
 returns-clause-bits c =
-    let lt : c.args.k < length c.self.inside.starts = omega (arith, kept_long _ _ _ _ c.self.invariant c.self.view_is, c.requires) in
+    let lt : c.args.k < length c.self.inside.starts = omega (arith, kept_long _ _ _ _ _ c.self.invariant c.self.view_is, c.requires) in
     let P : List Bool → Type 0 = λ row. take (length row) (all_bits c.row.result.now) ≡ row in
-    subst P (sym (kept_row _ _ _ _ c.args.k c.self.invariant c.self.view_is lt)) c.row.ensures.bits
+    subst P (sym (kept_row _ _ _ _ _ c.args.k c.self.invariant c.self.view_is lt)) c.row.ensures.bits
