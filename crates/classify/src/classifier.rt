@@ -188,7 +188,6 @@ impl Classifier {
         ensures row { IsRowAt self.now.shown place x result.words.now }
         ensures summed { IsSummaryOf result.summary (row_in (slice_index_or self.now.shown.lines place []) x) }
     {
-        let _len = self.len;
         let line = &self.lines[place];
         line.row_at(x)
     }

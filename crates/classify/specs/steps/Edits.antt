@@ -1,6 +1,6 @@
 -- What the steps of an edit leave of a line.
 use Rattle.fields.specs.declared.numbers.spans.Interval.{Interval}
-use Rattle.std.specs.Prelude.{◌≡◌, ℕ, ◌+◌, ◌≤◌, Bool, List, [], ◌∷◌, length, insert, remove, slice_set, slice_index_or, ◌≢◌, ◌⊎◌, ◌<◌, suc}
+use Rattle.std.specs.Prelude.{◌≡◌, ℕ, ◌+◌, ◌≤◌, Bool, List, [], length, insert, remove, slice_set, slice_index_or, ◌≢◌, ◌⊎◌, ◌<◌, suc}
 use Rattle.std.specs.Prelude.{false}
 use Rattle.fields.specs.numbers.Spans.{has}
 use Rattle.classify.specs.line.Line.{row_at}

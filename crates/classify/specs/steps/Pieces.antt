@@ -22,10 +22,6 @@ abbrev pub IsRising : ℕ → List (ℕ × List Bool) → Type 0
 IsRising top [] = ⊥
 IsRising top (p ∷ ps) = (p.0 ≡ 0) × IsRisingFrom top 0 ps
 
--- the same, up to some top
-abbrev pub IsRisingLine : List (ℕ × List Bool) → Type 0
-IsRisingLine line = (top : ℕ) × IsRising top line
-
 -- no two neighbours have equal rows, nor the first and `row`
 abbrev pub DifferFrom : List Bool → List (ℕ × List Bool) → Type 0
 DifferFrom row [] = Unit {0}

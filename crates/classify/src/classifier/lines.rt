@@ -102,7 +102,6 @@ pub(crate) fn insert_lines(
     ensures err { OnErr result (ShowTheSame lines.old lines.new) }
     ensures back { OnErr result (EachEdit KeepsRoom lines.old lines.new) }
 {
-    let _len = len;
     match prepare_lines(lines, spans) {
         Ok(()) => {
             commit_lines(lines, at, spans);

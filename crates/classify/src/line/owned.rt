@@ -69,7 +69,6 @@ impl OwnedLine {
     pub(crate) fn len(&self) -> usize
         ensures { result ≡ length self.now.pieces }
     {
-        let _starts = &self.starts;
         self.rows.count()
     }
 
@@ -78,7 +77,6 @@ impl OwnedLine {
         requires { k < length self.now.pieces }
         ensures { result ≡ slice_index (starts self.now.pieces) k }
     {
-        let _rows = &self.rows;
         self.starts.get(k)
     }
 
@@ -88,7 +86,6 @@ impl OwnedLine {
         ensures low { slice_index (starts self.now.pieces) result ≤ x }
         ensures high { result + 1 < length self.now.pieces → x < slice_index (starts self.now.pieces) (result + 1) }
     {
-        let _rows = &self.rows;
         self.starts.count_to(x) - 1
     }
 
@@ -97,7 +94,6 @@ impl OwnedLine {
         requires { k < length self.now.pieces }
         ensures { result ≡ length (row_of self.now.pieces k) }
     {
-        let _starts = &self.starts;
         self.rows.bits(k)
     }
 
@@ -107,7 +103,6 @@ impl OwnedLine {
         ensures packed { IsPacked result.now (length (row_of self.now.pieces k)) }
         ensures bits { take (length (row_of self.now.pieces k)) (all_bits result.now) ≡ row_of self.now.pieces k }
     {
-        let _starts = &self.starts;
         self.rows.row(k)
     }
 
@@ -116,7 +111,6 @@ impl OwnedLine {
         requires { k < length self.now.pieces }
         ensures { IsSummaryOf result (row_of self.now.pieces k) }
     {
-        let _starts = &self.starts;
         self.rows.summary(k)
     }
 
@@ -139,7 +133,6 @@ impl OwnedLine {
         requires place { at < row_bits self.now.pieces }
         ensures { result ≡ slice_index_or (row_of self.now.pieces k) at false }
     {
-        let _starts = &self.starts;
         self.rows.get(k, at)
     }
 
@@ -152,7 +145,6 @@ impl OwnedLine {
         ensures long { row_bits self.new.pieces ≡ row_bits self.old.pieces }
         ensures room { self.new.room ≡ self.old.room }
     {
-        let _starts = &self.starts;
         self.rows.set(k, at, bit);
     }
 
@@ -162,7 +154,6 @@ impl OwnedLine {
         ensures pieces { self.new.pieces ≡ map (λ p. (p.0, slice_set p.1 at true)) self.old.pieces }
         ensures room { self.new.room ≡ self.old.room }
     {
-        let _starts = &self.starts;
         self.rows.set_all(at);
     }
 
@@ -190,7 +181,6 @@ impl OwnedLine {
         requires { k + 1 < length self.now.pieces }
         ensures { IsTrue result ↔ (row_of self.now.pieces k ≡ row_of self.now.pieces (k + 1)) }
     {
-        let _starts = &self.starts;
         let _pieces = self.rows.count();
         self.rows.same(k, k + 1)
     }
@@ -213,7 +203,6 @@ impl OwnedLine {
         ensures pieces { self.new.pieces ≡ map (λ p. (p.0, insert p.1 at false)) self.old.pieces }
         ensures room { self.new.room + 1 ≡ self.old.room }
     {
-        let _starts = &self.starts;
         self.rows.open_place(at);
     }
 
@@ -223,7 +212,6 @@ impl OwnedLine {
         ensures pieces { self.new.pieces ≡ map (λ p. (p.0, remove p.1 at)) self.old.pieces }
         ensures room { self.new.room ≡ self.old.room + 1 }
     {
-        let _starts = &self.starts;
         self.rows.close_place(at);
     }
 
@@ -234,7 +222,6 @@ impl OwnedLine {
         ensures ok { OnOk result (0 < self.new.room) }
         ensures there { 0 < self.old.room → IsOk result }
     {
-        let _starts = &self.starts;
         self.rows.reserve()
     }
 

@@ -26,16 +26,6 @@ impl Model for Starts {
 }
 
 impl Starts {
-    // No number: it takes no memory.
-    pub(crate) fn new(alloc: Global) -> Starts
-        ensures { result ≡ [] }
-    {
-        Starts {
-            narrow: Vec::new(alloc),
-            wide: Vec::new(alloc),
-        }
-    }
-
     // The number 0 alone.
     pub(crate) fn zero(alloc: Global) -> Result<Starts, AllocError>
         ensures { IfOk result (λ starts. starts ≡ 0 ∷ []) }
@@ -128,7 +118,6 @@ impl Starts {
     pub(crate) fn copy(&self, alloc: Global) -> Result<Starts, AllocError>
         ensures { IfOk result (λ starts. starts ≡ self.now) }
     {
-        let _len = self.narrow.len();
         Ok(Starts {
             narrow: Vec::from_slice(alloc, &self.narrow)?,
             wide: Vec::from_slice(alloc, &self.wide)?,

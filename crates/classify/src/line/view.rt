@@ -42,7 +42,6 @@ impl<'a> Row<'a> {
         requires { at < length self.now }
         ensures { result ≡ slice_index_or self.now at false }
     {
-        let _len = self.len;
         bit_at(self.words, at)
     }
 
@@ -53,7 +52,6 @@ impl<'a> Row<'a> {
     pub fn next_set(&self, from: usize) -> Option<usize>
         ensures { result ≡ next_match (λ bit. bit) self.now from }
     {
-        let _len = self.len;
         let words = self.words;
         search::first_common(&[words], self.summary, words.len(), from)
     }

@@ -1,9 +1,8 @@
 -- The lines of all fields are the classifier of the boxes.
-use Rattle.std.proofs.Common.{◌≡◌, ℕ, zero, suc, ◌+◌, ◌-◌, ◌<◌, ◌≤◌, Bool, true, false, cond, List, [], ◌∷◌, ◌++◌, length, take, drop, get_or, refl, sym, ◌∙◌, ap, arith, subst, map}
+use Rattle.std.proofs.Common.{◌≡◌, ℕ, zero, suc, ◌+◌, ◌-◌, ◌<◌, ◌≤◌, Bool, List, [], ◌∷◌, ◌++◌, length, take, drop, get_or, refl, sym, ◌∙◌, ap, arith, subst, map}
 use Rattle.std.specs.Borrow.{Bor}
 use Rattle.std.specs.List.{insert, remove, range_with_len}
 use Rattle.std.specs.Prelude.{slice_index, Result, Ok, Err, OnErr}
-use Rattle.std.proofs.Math.Dec.{leb}
 use Rattle.std.proofs.lemmas.List.{map-append, take-map, drop-map, get_or_default, get_or-map, map-set, length-map, length-set}
 use Rattle.std.proofs.Math.ListN.{set}
 use Rattle.std.proofs.lemmas.List.Edits.{length-insert, length-remove}
@@ -21,7 +20,6 @@ use Rattle.classify.specs.steps.Cuts.{CutsStart}
 use Rattle.classify.specs.steps.Pieces.{IsRising, Differ, row_bits}
 use Rattle.classify.specs.steps.Fields.{shown_line, tops, IsKept, most_boxes, LosesBox}
 use Rattle.classify.specs.classifier.Classifier.{box_allows, line_on, IsClassifierOf, HasNoNewCut}
-use Rattle.classify.proofs.laws.line.ShownLaws.{row_in_first}
 use Rattle.classify.proofs.laws.line.BoxLaws.{empty_line, empty_sound}
 use Rattle.classify.proofs.laws.line.LineLaws.{AreSteps, line_from_steps, steps_from_line, starts_from_test}
 use Rattle.classify.specs.steps.Kept.{PiecesAndRoom, IsSound}

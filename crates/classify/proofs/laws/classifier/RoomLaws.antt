@@ -1,5 +1,5 @@
 -- The room of a classifier is the least of all its lines.
-use Rattle.std.proofs.Common.{◌≡◌, ◌≢◌, ℕ, zero, suc, ◌+◌, ◌-◌, ◌<◌, ◌≤◌, ◌%◌, List, [], ◌∷◌, length, get_or, sym, ◌∙◌, arith, map}
+use Rattle.std.proofs.Common.{◌≡◌, ◌≢◌, ℕ, zero, suc, ◌+◌, ◌-◌, ◌<◌, ◌≤◌, ◌%◌, List, [], ◌∷◌, length, get_or, arith}
 use Rattle.std.proofs.lemmas.List.Elements.{All-nil, All-cons, All-head, All-tail}
 use Rattle.classify.specs.steps.Fields.{most_boxes, room_of_lines, room_beside, IsKept, EachLine, EachEdit, KeepsRoom, UsesRoom, FreesRoom, FreesAll}
 use Rattle.classify.specs.steps.Kept.{PiecesAndRoom}

@@ -1,9 +1,9 @@
 -- A box put in or taken out leaves the line of the boxes as they are then.
 use Rattle.fields.specs.declared.numbers.spans.Interval.{Interval}
-use Rattle.std.proofs.Common.{◌≡◌, ◌≢◌, inl, inr, ℕ, suc, ◌+◌, ◌-◌, ◌<◌, ◌≤◌, Bool, List, [], ◌∷◌, ◌++◌, length, take, drop, refl, sym, ◌∙◌, ap, arith, subst, map}
+use Rattle.std.proofs.Common.{◌≡◌, ◌≢◌, inl, inr, ℕ, suc, ◌+◌, ◌-◌, ◌<◌, ◌≤◌, Bool, List, [], ◌∷◌, ◌++◌, take, drop, refl, sym, ◌∙◌, ap, arith, subst, map}
 use Rattle.std.specs.List.{insert, remove}
 use Rattle.std.proofs.Math.ListN.{set}
-use Rattle.std.proofs.lemmas.List.{map-append, take-map, drop-map, map-set, length-set}
+use Rattle.std.proofs.lemmas.List.{map-append, take-map, drop-map, map-set}
 use Rattle.std.proofs.lemmas.List.Edits.{length-insert, length-remove}
 use Rattle.classify.specs.line.Line.{row_at, IsLineOf}
 use Rattle.fields.specs.numbers.Spans.{has}

@@ -38,7 +38,7 @@ each_row_kept P ss rs n s l e v h = λ k d lt.
 
 -- ---- edits of both
 
-pub zip-insert : (ss : List ℕ) (rs : List Row) (k x : ℕ) (r : Row) → length rs ≡ length ss → k ≤ length ss → zip (insert ss k x) (insert rs k r) ≡ insert (zip ss rs) k (x, r)
+zip-insert : (ss : List ℕ) (rs : List Row) (k x : ℕ) (r : Row) → length rs ≡ length ss → k ≤ length ss → zip (insert ss k x) (insert rs k r) ≡ insert (zip ss rs) k (x, r)
 zip-insert [] [] zero x r e le = refl
 zip-insert [] [] (suc k) x r e le = absurd (omega arith)
 zip-insert [] (q ∷ qs) k x r e le = absurd (omega arith)
@@ -46,7 +46,7 @@ zip-insert (s ∷ ss) [] k x r e le = absurd (omega arith)
 zip-insert (s ∷ ss) (q ∷ qs) zero x r e le = refl
 zip-insert (s ∷ ss) (q ∷ qs) (suc k) x r e le = ap (λ (ps : List Cut). (s, q) ∷ ps) (zip-insert ss qs k x r (omega arith) (omega arith))
 
-pub zip-remove : (ss : List ℕ) (rs : List Row) (k : ℕ) → length rs ≡ length ss → zip (remove ss k) (remove rs k) ≡ remove (zip ss rs) k
+zip-remove : (ss : List ℕ) (rs : List Row) (k : ℕ) → length rs ≡ length ss → zip (remove ss k) (remove rs k) ≡ remove (zip ss rs) k
 zip-remove [] [] zero e = refl
 zip-remove [] [] (suc k) e = refl
 zip-remove [] (q ∷ qs) k e = absurd (omega arith)
@@ -54,13 +54,13 @@ zip-remove (s ∷ ss) [] k e = absurd (omega arith)
 zip-remove (s ∷ ss) (q ∷ qs) zero e = refl
 zip-remove (s ∷ ss) (q ∷ qs) (suc k) e = ap (λ (ps : List Cut). (s, q) ∷ ps) (zip-remove ss qs k (omega arith))
 
-pub zip-set : (ss : List ℕ) (rs : List Row) (k : ℕ) (r : Row) → length rs ≡ length ss → k < length ss → zip ss (set rs k r) ≡ set (zip ss rs) k (get_or ss k 0, r)
+zip-set : (ss : List ℕ) (rs : List Row) (k : ℕ) (r : Row) → length rs ≡ length ss → k < length ss → zip ss (set rs k r) ≡ set (zip ss rs) k (get_or ss k 0, r)
 zip-set [] rs k r e lt = absurd (omega arith)
 zip-set (s ∷ ss) [] k r e lt = absurd (omega arith)
 zip-set (s ∷ ss) (q ∷ qs) zero r e lt = refl
 zip-set (s ∷ ss) (q ∷ qs) (suc k) r e lt = ap (λ (ps : List Cut). (s, q) ∷ ps) (zip-set ss qs k r (omega arith) (omega arith))
 
-pub zip-map : (ss : List ℕ) (rs : List Row) (f : Row → Row) → zip ss (map f rs) ≡ map (λ (p : Cut). (p.0, f p.1)) (zip ss rs)
+zip-map : (ss : List ℕ) (rs : List Row) (f : Row → Row) → zip ss (map f rs) ≡ map (λ (p : Cut). (p.0, f p.1)) (zip ss rs)
 zip-map [] rs f = refl
 zip-map (s ∷ ss) [] f = refl
 zip-map (s ∷ ss) (r ∷ rs) f = ap (λ (ps : List Cut). (s, f r) ∷ ps) (zip-map ss rs f)

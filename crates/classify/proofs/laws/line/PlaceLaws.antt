@@ -33,17 +33,6 @@ rise_below top low (p ∷ ps) i zero d h lt in' = absurd (omega arith)
 rise_below top low (p ∷ ps) zero (suc j) d h lt in' = starts_from top p.0 ps j d h.2 (omega arith)
 rise_below top low (p ∷ ps) (suc i) (suc j) d h lt in' = rise_below top p.0 ps i j d h.2 (omega arith) (omega arith)
 
--- no piece starts above the top
-from_within : (top a j : ℕ) (line : List Cut) → IsRisingFrom top a line → j < length line → slice_index (starts line) j ≤ top
-from_within top a j [] h lt = absurd (omega arith)
-from_within top a zero (p ∷ ps) h lt = h.1
-from_within top a (suc j) (p ∷ ps) h lt = from_within top p.0 j ps h.2 (omega arith)
-
-pub start_within : (top : ℕ) (line : List Cut) (j : ℕ) → IsRising top line → j < length line → slice_index (starts line) j ≤ top
-start_within top [] j h lt = absurd (omega arith)
-start_within top (p ∷ ps) zero h lt = omega (arith, h.0)
-start_within top (p ∷ ps) (suc j) h lt = from_within top 0 j ps h.1 (omega arith)
-
 pub rise_before : (top : ℕ) (line : List Cut) (i j : ℕ) → IsRising top line → i < j → j < length line → slice_index (starts line) i < slice_index (starts line) j
 rise_before top [] i j h lt in' = absurd (omega arith)
 rise_before top (p ∷ ps) i zero h lt in' = absurd (omega arith)

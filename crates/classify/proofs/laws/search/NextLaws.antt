@@ -20,8 +20,8 @@ use Rattle.fields.specs.numbers.Field.{index, top}
 use Rattle.fields.specs.numbers.Spans.{SpanSet}
 use Rattle.bits.specs.steps.Packing.{all_bits, IsPacked}
 use Rattle.classify.specs.line.Line.{row_at}
-use Rattle.classify.specs.steps.Pieces.{row_in, IsRising}
-use Rattle.classify.specs.steps.Fields.{shown_line, tops, IsKept}
+use Rattle.classify.specs.steps.Pieces.{row_in}
+use Rattle.classify.specs.steps.Fields.{shown_line, IsKept}
 use Rattle.bits.specs.steps.First.{IsFirst}
 use Rattle.classify.specs.steps.CommonPlaces.{IsRowAt, AreRowsAt, HaveAll}
 use Rattle.rules.specs.boxing.Boxed.{set_on}

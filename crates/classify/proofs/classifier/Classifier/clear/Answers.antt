@@ -1,4 +1,4 @@
-use Rattle.std.proofs.Common.{arith, length, ◌≡◌, ◌≤◌, ◌+◌, ◌∙◌, subst, rules}
+use Rattle.std.proofs.Common.{arith, length, ◌≡◌, ◌≤◌, ◌+◌, ◌∙◌, subst}
 use Rattle.fields.specs.declared.numbers.field.TheConstants.{FIELDS}
 use Rattle.classify.specs.steps.Fields.{room_beside}
 use Rattle.classify.specs.classifier.Classifier.{ClassifiedAndRoom}

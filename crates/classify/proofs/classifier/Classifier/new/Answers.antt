@@ -1,5 +1,4 @@
-use Rattle.std.proofs.Common.{arith, length, ◌≡◌, ◌∙◌, rules, of_calls}
-use Rattle.fields.specs.declared.numbers.field.TheConstants.{FIELDS}
+use Rattle.std.proofs.Common.{arith, of_calls}
 use Rattle.classify.proofs.laws.classifier.ClassifierLaws.{classifier_empty, kept_empty}
 use Rattle.classify.proofs.laws.classifier.RuleLaws.{no_rules}
 use Rattle.classify.proofs.classifier.Classifier.new.Goals as goal

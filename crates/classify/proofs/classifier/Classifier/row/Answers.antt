@@ -1,4 +1,4 @@
-use Rattle.std.proofs.Common.{◌≡◌, ap, get_or, List, [], ℕ, subst, ◌∙◌, sym, rules, Bool, take}
+use Rattle.std.proofs.Common.{◌≡◌, ap, get_or, List, [], ℕ, subst, ◌∙◌, sym, Bool, take}
 use Rattle.bits.specs.steps.Packing.{IsPacked, all_bits}
 use Rattle.classify.specs.steps.Pieces.{row_in}
 use Rattle.bits.specs.steps.Summaries.{IsSummaryOf}

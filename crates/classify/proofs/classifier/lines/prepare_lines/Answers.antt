@@ -1,4 +1,4 @@
-use Rattle.std.proofs.Common.{arith, get_or, length, ◌<◌, ◌∙◌, ap, sym, subst, List, ℕ, ◌%◌}
+use Rattle.std.proofs.Common.{arith, get_or, length, ◌<◌, sym, subst, List}
 use Rattle.std.proofs.lemmas.Bool.{false≢true}
 use Rattle.std.proofs.lemmas.Result.{on_ok_weaker}
 use Rattle.classify.specs.steps.Cuts.{CutsStart}

@@ -1,4 +1,4 @@
-use Rattle.std.proofs.Common.{arith, remove, ◌-◌, ◌∙◌, ap, sym, subst, List, map}
+use Rattle.std.proofs.Common.{arith, remove, ◌-◌, ap, sym, subst, List, map}
 use Rattle.classify.specs.steps.Pieces.{IsRising, row_bits}
 use Rattle.classify.specs.steps.Edits.{KeepsApart, IsMergeOf, with_written, without_answer}
 use Rattle.fields.specs.declared.numbers.spans.Interval.{Interval}

@@ -1,4 +1,4 @@
-use Rattle.std.proofs.Common.{◌-◌, ◌≡◌, ◌<◌, ap, arith, length, remove, List, Bool}
+use Rattle.std.proofs.Common.{◌-◌, ◌<◌, ap, arith, length, remove}
 use Rattle.std.proofs.lemmas.List.Edits.{length-remove}
 use Rattle.classify.specs.steps.Pieces.{row_bits}
 use Rattle.classify.specs.steps.Kept.{PiecesAndRoom}

@@ -1,4 +1,4 @@
-use Rattle.std.proofs.Common.{◌≡◌, ◌∙◌, ap, refl}
+use Rattle.std.proofs.Common.{◌∙◌, ap}
 use Rattle.std.specs.List.{zip}
 use Rattle.bits.specs.Rows.{RowsAndRoom}
 use Rattle.classify.specs.steps.Kept.{PiecesAndRoom}

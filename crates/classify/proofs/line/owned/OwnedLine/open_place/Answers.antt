@@ -1,4 +1,4 @@
-use Rattle.std.proofs.Common.{◌+◌, ◌≡◌, ◌≤◌, ap, arith, length, insert, false, List, Bool}
+use Rattle.std.proofs.Common.{◌+◌, ◌≤◌, ap, arith, length, insert, false}
 use Rattle.std.proofs.lemmas.List.Edits.{length-insert}
 use Rattle.classify.specs.steps.Pieces.{row_bits}
 use Rattle.classify.specs.steps.Kept.{PiecesAndRoom}

@@ -1,4 +1,4 @@
-use Rattle.std.proofs.Common.{◌≡◌, ap, arith, ℕ}
+use Rattle.std.proofs.Common.{ap, arith}
 use Rattle.classify.specs.steps.Kept.{PiecesAndRoom}
 use Rattle.classify.proofs.laws.line.PieceLaws.{kept_long, kept_pieces, pieces_removed}
 use Rattle.classify.proofs.laws.line.KeptLaws.{left_kept}

@@ -1,4 +1,4 @@
-use Rattle.std.proofs.Common.{◌≡◌, ◌<◌, ◌∙◌, sym, ap, arith, length, get_or, slice_set, refl, [], List, Bool}
+use Rattle.std.proofs.Common.{◌<◌, ◌∙◌, sym, ap, arith, length, get_or, slice_set, refl, [], List, Bool}
 use Rattle.std.proofs.lemmas.List.{length-set}
 use Rattle.classify.specs.steps.Edits.{row_of}
 use Rattle.classify.specs.steps.Kept.{PiecesAndRoom}

@@ -1,4 +1,4 @@
-use Rattle.std.proofs.Common.{◌∙◌, ◌≡◌, ◌<◌, ap, arith, length, set, true, List, Bool}
+use Rattle.std.proofs.Common.{◌∙◌, ◌<◌, ap, arith, length, set, true}
 use Rattle.std.proofs.lemmas.List.{length-set}
 use Rattle.classify.specs.steps.Pieces.{row_bits}
 use Rattle.classify.specs.steps.Kept.{PiecesAndRoom}
