@@ -127,10 +127,11 @@ ReplacesSet at s l m =
     (sets : List (List Interval)) → IsLineOf has s.top sets l.pieces
     → IsLineOf has s.top (slice_set sets at s.intervals) m.pieces
 
--- all memory for a set's answers is taken, and the line is cut where they change
-pub record IsReady (s : SpanSet) (l : PiecesAndRoom) : Type 0 where
-  pub cuts : CutsStart s.top s.intervals l.pieces
-  pub room : 0 < l.room
+-- the pieces rise from 0 up to the set's top, and start wherever the set begins or ends, and else only where the row changes
+pub record IsCutFor (s : SpanSet) (l : PiecesAndRoom) : Type 0 where
+  pub rising : Rises s l
+  pub cuts : HasCuts s l
+  pub apart : HasOnlyCuts s l
 
 -- a box's set put in at a place: the line of any sets becomes that of the sets with it, and the rows are longer by one bit
 pub record TakesIn (at : ℕ) (s : SpanSet) (old new : PiecesAndRoom) : Type 0 where

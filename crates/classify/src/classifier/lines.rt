@@ -5,7 +5,7 @@ ghost use Rattle.classify.specs.steps.Pieces.{row_bits};
 ghost use Rattle.classify.specs.steps.Fields.{EachLine, EachEdit, ShowTheSame, AreEmpty, EachField, OnEach};
 ghost use Rattle.classify.specs.steps.Fields.{Rises, HasCuts, HasOnlyCuts, Stands, IsCutMore, IsJoinedUp, InsertsSet};
 ghost use Rattle.classify.specs.steps.Fields.{ReplacesSet, UsesRoom, FreesAll};
-ghost use Rattle.classify.specs.steps.Fields.{IsReady, HasRoom, TakesIn, TakesOver, HasPlace, LosesBox};
+ghost use Rattle.classify.specs.steps.Fields.{IsCutFor, HasRoom, TakesIn, TakesOver, HasPlace, LosesBox};
 ghost use Rattle.classify.specs.steps.Fields.{IsKeptWithCuts, HasSameRoom, IsRoomier, KeepsRoom};
 
 use crate::line::edit;
@@ -48,7 +48,8 @@ fn prepare_lines(lines: &mut [OwnedLine], spans: &[Spans]) -> Result<(), AllocEr
     requires as_long { length spans.now ≡ length lines.old }
     requires rising { OnEach Rises spans.now lines.old }
     ensures split { EachField IsCutMore spans.now lines.old lines.new }
-    ensures ready { OnOk result (EachField (λ s _ m. IsReady s m) spans.now lines.old lines.new) }
+    ensures cuts { OnOk result (EachField (λ s _ m. HasCuts s m) spans.now lines.old lines.new) }
+    ensures ready { OnOk result (EachLine (λ m. 0 < m.room) lines.new) }
     ensures there { OnEach HasRoom spans.now lines.old → IsOk result }
     ensures room { EachEdit KeepsRoom lines.old lines.new }
 {
@@ -73,9 +74,8 @@ fn unsplit_lines(lines: &mut [OwnedLine], spans: &[Spans])
 // Puts a box in, in every line, for which all memory is taken.
 fn commit_lines(lines: &mut [OwnedLine], at: usize, spans: &[Spans])
     requires as_long { length spans.now ≡ length lines.old }
-    requires rising { OnEach Rises spans.now lines.old }
-    requires ready { OnEach IsReady spans.now lines.old }
-    requires apart { OnEach HasOnlyCuts spans.now lines.old }
+    requires cut { OnEach IsCutFor spans.now lines.old }
+    requires room { EachLine (λ l. 0 < l.room) lines.old }
     requires place { EachLine (λ l. at ≤ row_bits l.pieces) lines.old }
     ensures { EachField (TakesIn at) spans.now lines.old lines.new }
 {
@@ -117,9 +117,7 @@ pub(crate) fn insert_lines(
 // Puts a box in the place of another, in every line, where all cuts are there.
 fn settle_lines(lines: &mut [OwnedLine], at: usize, spans: &[Spans])
     requires as_long { length spans.now ≡ length lines.old }
-    requires rising { OnEach Rises spans.now lines.old }
-    requires cuts { OnEach HasCuts spans.now lines.old }
-    requires apart { OnEach HasOnlyCuts spans.now lines.old }
+    requires cut { OnEach IsCutFor spans.now lines.old }
     requires place { EachLine (λ l. at < row_bits l.pieces) lines.old }
     ensures { EachField (TakesOver at) spans.now lines.old lines.new }
 {

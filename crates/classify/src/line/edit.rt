@@ -9,6 +9,7 @@ ghost use Rattle.fields.specs.numbers.Spans.{has};
 ghost use Rattle.classify.specs.steps.Cuts.{CutsStart, EndsStart, ChangesAt, IsApart};
 ghost use Rattle.classify.specs.steps.Edits.{with_written, IsMergeOf, IsUnsplitAt};
 ghost use Rattle.classify.specs.steps.Edits.{IsNumber, IsEndOf, IsJoined, KeepsApart, Says, row_of};
+ghost use Rattle.classify.specs.steps.Fields.{IsCutFor};
 ghost use Rattle.classify.specs.steps.Kept.{IsSound};
 
 use crate::line::owned::OwnedLine;
@@ -169,9 +170,7 @@ fn set_answers(line: &mut OwnedLine, at: usize, spans: &Spans)
 
 // Puts a box's answers in, for which all memory is taken. No cut goes: at each one the rows still differ.
 pub(crate) fn commit(line: &mut OwnedLine, at: usize, spans: &Spans)
-    requires rising { IsRising spans.now.top line.old.pieces }
-    requires cuts { CutsStart spans.now.top spans.now.intervals line.old.pieces }
-    requires apart { IsApart spans.now.intervals line.old.pieces }
+    requires cut { IsCutFor spans.now line.old }
     requires place { at ≤ row_bits line.old.pieces }
     requires room { 0 < line.old.room }
     ensures sound { IsSound spans.now.top (row_bits line.old.pieces + 1) line.new }
@@ -198,9 +197,7 @@ pub(crate) fn remove_box(line: &mut OwnedLine, at: usize)
 
 // Puts a box in the place of another, where the line is cut wherever its answers change.
 pub(crate) fn replace_box(line: &mut OwnedLine, at: usize, spans: &Spans)
-    requires rising { IsRising spans.now.top line.old.pieces }
-    requires cuts { CutsStart spans.now.top spans.now.intervals line.old.pieces }
-    requires apart { IsApart spans.now.intervals line.old.pieces }
+    requires cut { IsCutFor spans.now line.old }
     requires place { at < row_bits line.old.pieces }
     ensures sound { IsSound spans.now.top (row_bits line.old.pieces) line.new }
     ensures line { (sets : List (List Interval)) → Says spans.now.top sets line.old.pieces

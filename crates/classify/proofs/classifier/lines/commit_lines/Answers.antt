@@ -1,9 +1,8 @@
 use Rattle.std.proofs.Common.{arith, ap, length, get_or, ◌<◌, subst, ◌≡◌, ◌∙◌, sym, ◌≤◌}
 use Rattle.std.proofs.lemmas.List.{get_or_default}
 use Rattle.fields.specs.numbers.Spans.{SpanSet}
-use Rattle.classify.specs.steps.Fields.{shown_line, IsReady, TakesIn}
-use Rattle.classify.specs.steps.Pieces.{IsRising, row_bits}
-use Rattle.classify.specs.steps.Cuts.{IsApart}
+use Rattle.classify.specs.steps.Fields.{IsCutFor, TakesIn}
+use Rattle.classify.specs.steps.Pieces.{row_bits}
 use Rattle.classify.proofs.laws.line.ListLoopLaws.{edited_more}
 use Rattle.classify.specs.steps.Kept.{PiecesAndRoom}
 use Rattle.classify.proofs.classifier.lines.commit_lines.Goals as goal
@@ -12,13 +11,12 @@ pub commit-requires : goal.commit-requires
 commit-requires c =
     let h = c.loop-k.invariant in
     let lt : c.loop-k.k < length c.args.lines.now = omega (arith, h.as_long) in
-    let same = sym (h.rest c.loop-k.k c.index-lines-k.result (omega arith)) in
     let own : PiecesAndRoom = get_or c.args.lines.now c.loop-k.k c.index-lines-k.result in
-    let P : PiecesAndRoom → Type 0 = λ p. IsRising c.index-spans-k.result.top (shown_line p) × IsReady c.index-spans-k.result p × IsApart c.index-spans-k.result.intervals (shown_line p) × (c.args.at ≤ row_bits (shown_line p)) in
-    let Q : SpanSet → Type 0 = λ s. IsRising s.top (shown_line own) × IsReady s own × IsApart s.intervals (shown_line own) × (c.args.at ≤ row_bits (shown_line own)) in
-    let all = subst P same (subst Q (sym c.index-spans-k.is)
-    (c.requires.rising c.loop-k.k c.index-spans-k.result c.index-lines-k.result lt, c.requires.ready c.loop-k.k c.index-spans-k.result c.index-lines-k.result lt, c.requires.apart c.loop-k.k c.index-spans-k.result c.index-lines-k.result lt, c.requires.place c.loop-k.k c.index-lines-k.result lt)) in
-    record { rising = all.0; cuts = all.1.cuts; apart = all.2; place = all.3; room = all.1.room }
+    let P : PiecesAndRoom → Type 0 = λ p. IsCutFor c.index-spans-k.result p × (c.args.at ≤ row_bits p.pieces) × (0 < p.room) in
+    let Q : SpanSet → Type 0 = λ s. IsCutFor s own in
+    let all = subst P (sym (h.rest c.loop-k.k c.index-lines-k.result (omega arith)))
+    (subst Q (sym c.index-spans-k.is) (c.requires.cut c.loop-k.k c.index-spans-k.result c.index-lines-k.result lt), c.requires.place c.loop-k.k c.index-lines-k.result lt, c.requires.room c.loop-k.k c.index-lines-k.result lt) in
+    record { cut = all.0; place = all.1; room = all.2 }
 
 pub loop-k-preserved : goal.loop-k-preserved
 loop-k-preserved c =

@@ -12,8 +12,12 @@ no_set = record { top = 0; intervals = [] }
 pub prepare_lines-requires-clause-rising : goal.prepare_lines-requires-clause-rising
 prepare_lines-requires-clause-rising c k s l lt = (c.requires.sound k s l lt).rising
 
-pub commit_lines-requires-clause-rising : goal.commit_lines-requires-clause-rising
-commit_lines-requires-clause-rising c k s l lt = (c.prepare_lines.ensures.split k s l (omega (arith, c.prepare_lines.auto.lines))).rising
+pub commit_lines-requires-clause-cut : goal.commit_lines-requires-clause-cut
+commit_lines-requires-clause-cut c k s l lt =
+    let lt' : k < length c.args.lines.now = omega (arith, c.prepare_lines.auto.lines) in
+    let sound = c.requires.sound k s l lt' in
+    let split = c.prepare_lines.ensures.split k s l lt' in
+    record { rising = split.rising; cuts = c.in-Ok.ensures.cuts k s l lt'; apart = apart_after _ _ _ _ sound.rising sound.differ split }
 
 pub commit_lines-requires-clause-place : goal.commit_lines-requires-clause-place
 commit_lines-requires-clause-place c k l lt =
@@ -59,12 +63,6 @@ pub returns-in-Ok-clause-room : goal.returns-in-Ok-clause-room
 returns-in-Ok-clause-room c k l lt =
     let lt' : k < length c.prepare_lines.new.lines = omega (arith, c.prepare_lines.auto.lines) in
     omega (arith, (c.commit_lines.ensures k no_set l lt').room, c.prepare_lines.ensures.room k l lt)
-
-pub commit_lines-requires-clause-apart : goal.commit_lines-requires-clause-apart
-commit_lines-requires-clause-apart c k s l lt =
-    let lt' : k < length c.args.lines.now = omega (arith, c.prepare_lines.auto.lines) in
-    let sound = c.requires.sound k s l lt' in
-    apart_after _ _ _ _ sound.rising sound.differ (c.prepare_lines.ensures.split k s l lt')
 
 pub returns-in-Err-clause-back : goal.returns-in-Err-clause-back
 returns-in-Err-clause-back c k l lt =

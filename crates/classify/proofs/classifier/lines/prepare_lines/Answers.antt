@@ -2,7 +2,7 @@ use Rattle.std.proofs.Common.{arith, get_or, length, ◌<◌, sym, subst, List}
 use Rattle.std.proofs.lemmas.Bool.{false≢true}
 use Rattle.std.proofs.lemmas.Result.{on_ok_weaker}
 use Rattle.classify.specs.steps.Cuts.{CutsStart}
-use Rattle.classify.specs.steps.Fields.{EachEdit, EachField, IsReady}
+use Rattle.classify.specs.steps.Fields.{EachEdit, EachField, EachLine, HasCuts}
 use Rattle.classify.specs.steps.Pieces.{IsSplitOf}
 use Rattle.classify.proofs.laws.line.ShownLaws.{Cut}
 use Rattle.classify.proofs.laws.classifier.ClassifierLaws.{no_set}
@@ -13,16 +13,17 @@ returns-clause-split c k s l lt =
     let P : List Cut → Type 0 = λ line. IsSplitOf (get_or c.args.spans.now k s).top (get_or c.args.spans.now k s).intervals (get_or c.args.lines.now k l).pieces line in
     subst P (sym (c.reserve_lines.ensures.more k l (omega (arith, c.split_lines.auto.lines))).same) (c.split_lines.ensures.split k s l lt)
 
+pub returns-clause-cuts : goal.returns-clause-cuts
+returns-clause-cuts c =
+    let cuts : EachEdit (λ _ m. 0 < m.room) c.split_lines.new.lines c.reserve_lines.new.lines → EachField (λ s _ m. HasCuts s m) c.args.spans.now c.args.lines.now c.reserve_lines.new.lines =
+    λ _ k s l lt.
+    (let P : List Cut → Type 0 = λ line. CutsStart (get_or c.args.spans.now k s).top (get_or c.args.spans.now k s).intervals line in
+    subst P (sym (c.reserve_lines.ensures.more k l (omega (arith, c.split_lines.auto.lines))).same) (c.in_ok-split_lines.ensures.cuts k s l lt)) in
+    on_ok_weaker c.reserve_lines.result cuts c.reserve_lines.ensures.room
+
 pub returns-clause-ready : goal.returns-clause-ready
 returns-clause-ready c =
-    let ready : EachEdit (λ _ m. 0 < m.room) c.split_lines.new.lines c.reserve_lines.new.lines → EachField (λ s _ m. IsReady s m) c.args.spans.now c.args.lines.now c.reserve_lines.new.lines =
-    λ room k s l lt.
-    (let lt' : k < length c.split_lines.new.lines = omega (arith, c.split_lines.auto.lines) in
-    let P : List Cut → Type 0 = λ line. CutsStart (get_or c.args.spans.now k s).top (get_or c.args.spans.now k s).intervals line in
-    record {
-      cuts = subst P (sym (c.reserve_lines.ensures.more k l lt').same) (c.in_ok-split_lines.ensures.cuts k s l lt);
-      room = room k l lt';
-    }) in
+    let ready : EachEdit (λ _ m. 0 < m.room) c.split_lines.new.lines c.reserve_lines.new.lines → EachLine (λ m. 0 < m.room) c.reserve_lines.new.lines = λ room k l lt. room k l (omega (arith, c.reserve_lines.auto.lines)) in
     on_ok_weaker c.reserve_lines.result ready c.reserve_lines.ensures.room
 
 pub returns-in_err-split_lines-clause-there : goal.returns-in_err-split_lines-clause-there

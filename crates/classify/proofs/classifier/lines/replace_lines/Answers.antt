@@ -12,8 +12,12 @@ no_set = record { top = 0; intervals = [] }
 pub split_lines-requires-clause-rising : goal.split_lines-requires-clause-rising
 split_lines-requires-clause-rising c k s l lt = (c.requires.sound k s l lt).rising
 
-pub settle_lines-requires-clause-rising : goal.settle_lines-requires-clause-rising
-settle_lines-requires-clause-rising c k s l lt = (c.split_lines.ensures.split k s l (omega (arith, c.split_lines.auto.lines))).rising
+pub settle_lines-requires-clause-cut : goal.settle_lines-requires-clause-cut
+settle_lines-requires-clause-cut c k s l lt =
+    let lt' : k < length c.args.lines.now = omega (arith, c.split_lines.auto.lines) in
+    let sound = c.requires.sound k s l lt' in
+    let split = c.split_lines.ensures.split k s l lt' in
+    record { rising = split.rising; cuts = c.in-Ok.ensures.cuts k s l lt'; apart = apart_after _ _ _ _ sound.rising sound.differ split }
 
 pub settle_lines-requires-clause-place : goal.settle_lines-requires-clause-place
 settle_lines-requires-clause-place c k l lt =
@@ -21,12 +25,6 @@ settle_lines-requires-clause-place c k l lt =
     let sound = c.requires.sound k no_set l lt' in
     let split = c.split_lines.ensures.split k no_set l lt' in
     omega (arith, c.requires.place, sound.bits, bits_said _ _ _ sound.rising split.rising split.same)
-
-pub settle_lines-requires-clause-apart : goal.settle_lines-requires-clause-apart
-settle_lines-requires-clause-apart c k s l lt =
-    let lt' : k < length c.args.lines.now = omega (arith, c.split_lines.auto.lines) in
-    let sound = c.requires.sound k s l lt' in
-    apart_after _ _ _ _ sound.rising sound.differ (c.split_lines.ensures.split k s l lt')
 
 pub unsplit_lines-requires-clause-rising : goal.unsplit_lines-requires-clause-rising
 unsplit_lines-requires-clause-rising c k s l lt = (c.split_lines.ensures.split k s l (omega (arith, c.split_lines.auto.lines))).rising
