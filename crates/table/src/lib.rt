@@ -8,6 +8,7 @@ mod edit;
 mod fault;
 mod headline;
 mod made;
+mod parts;
 mod policy;
 mod put;
 mod references;

@@ -1,26 +1,30 @@
 //! A new name for a chain, and for the rules that name it.
 ghost use Rattle.std.specs.Prelude.{◌≡◌, ◌<◌, ◌≤◌, length};
 ghost use Rattle.table.specs.edits.Edits.{Rename, edited};
-ghost use Rattle.table.specs.steps.Kept.{IsIn, IsKept, IsPlaceFor, name_at, table_of};
+ghost use Rattle.table.specs.steps.Kept.{IsIn, AreKept, IsPlaceFor, name_at, table_of};
 ghost use Rattle.table.specs.steps.Renames.{AreRetargeted, moved_key};
 
-use crate::chain::Chain;
+use crate::parts::Parts;
 use fields::Name;
 use rules::renamed_reads_back;
-use slab::Slab;
 
-// Puts the name into all rules that lead to the chain under a key. Where the chain counts none, no rule is looked at.
-fn retarget_all(chains: &mut Slab<Chain>, order: &Vec<usize>, key: usize, name: &Name)
-    requires kept { IsKept chains.old.slots order.now.items }
-    requires key { IsIn order.now.items key }
-    ensures { AreRetargeted chains.old.slots chains.new.slots order.now.items key name.now (length order.now.items) }
-{
-    if chains[key].references() == 0 {
-        return;
-    }
-    for place in 0..order.len() {
-        let at = order[place];
-        chains[at].retarget(key, name);
+impl Parts {
+    // Puts the name into all rules that lead to the chain under a key. Where the chain counts none, no rule is looked at.
+    fn retarget_all(&mut self, key: usize, name: &Name)
+        requires kept { AreKept self.old }
+        requires key { IsIn self.old.order.items key }
+        ensures policies { self.new.policies ≡ self.old.policies }
+        ensures order { self.new.order.items ≡ self.old.order.items }
+        ensures rules { AreRetargeted self.old.chains.slots self.new.chains.slots self.old.order.items key name.now (length self.old.order.items) }
+    {
+        if self.chains[key].references() == 0 {
+            return;
+        }
+        let chains = &mut self.chains;
+        for place in 0..self.order.len() {
+            let at = self.order[place];
+            chains[at].retarget(key, name);
+        }
     }
 }
 
@@ -40,28 +44,24 @@ fn move_key(order: &mut Vec<usize>, place: usize, to: usize)
     }
 }
 
-// Renames the user chain at a place of the index, and moves it to the place of its new name. It takes no memory.
-pub(crate) fn rename(
-    chains: &mut Slab<Chain>,
-    order: &mut Vec<usize>,
-    place: usize,
-    to: usize,
-    name: Name,
-)
-    requires kept { IsKept chains.old.slots order.old.items }
-    requires user { 3 ≤ place }
-    requires place { place < length order.old.items }
-    requires to { IsPlaceFor name chains.old.slots order.old.items to }
-    ensures kept { IsKept chains.new.slots order.new.items }
-    ensures moved { order.new.items ≡ moved_key order.old.items place to }
-    ensures table { table_of chains.new.slots order.new.items
-        ≡ edited (Rename (name_at chains.old.slots order.old.items place) name)
-        (table_of chains.old.slots order.old.items) }
-{
-    let _form = name.bytes();
-    let key = order[place];
-    retarget_all(chains, order, key, &name);
-    chains[key].set_name(name);
-    move_key(order, place, to);
-    renamed_reads_back();
+impl Parts {
+    // Renames the user chain at a place of the index, and moves it to the place of its new name. It takes no memory.
+    pub(crate) fn rename(&mut self, place: usize, to: usize, name: Name)
+        requires kept { AreKept self.old }
+        requires user { 3 ≤ place }
+        requires place { place < length self.old.order.items }
+        requires to { IsPlaceFor name self.old.chains.slots self.old.order.items to }
+        ensures kept { AreKept self.new }
+        ensures moved { self.new.order.items ≡ moved_key self.old.order.items place to }
+        ensures table { table_of self.new
+            ≡ edited (Rename (name_at self.old.chains.slots self.old.order.items place) name)
+            (table_of self.old) }
+    {
+        let _form = name.bytes();
+        let key = self.order[place];
+        self.retarget_all(key, &name);
+        self.chains[key].set_name(name);
+        move_key(&mut self.order, place, to);
+        renamed_reads_back();
+    }
 }

@@ -2,13 +2,12 @@
 ghost use Rattle.std.specs.Prelude.{◌≡◌, ◌<◌, ◌≤◌, ◌+◌, ℕ, OnOk, length, false, slice_index, slice_index_or, IfSome};
 ghost use Rattle.std.specs.Prelude.{IsFalse};
 ghost use Rattle.table.specs.edits.Edits.{leads};
-ghost use Rattle.table.specs.steps.Kept.{IsIn, IsStored, listed, row_at};
+ghost use Rattle.table.specs.steps.Kept.{IsIn, AreStored, listed, row_at};
 ghost use Rattle.table.specs.steps.Search.{IsMarked, IsSearch, Marks};
 ghost use Rattle.table.specs.steps.Kept.{IsUnmarked};
 
-use crate::chain::Chain;
+use crate::parts::Parts;
 use arrayvec::ArrayVec;
-use slab::Slab;
 use std::alloc::AllocError;
 
 // The most chains that a table has: three built-in ones and 1,024 user chains.
@@ -30,24 +29,20 @@ fn mark(key: Option<usize>, seen: &mut Vec<bool>, reached: &mut ArrayVec<usize, 
     }
 }
 
-// Visits the chain whose key stands at a place among those reached: marks each chain that its rules lead to.
-fn visit(
-    chains: &Slab<Chain>,
-    order: &Vec<usize>,
-    at: usize,
-    seen: &mut Vec<bool>,
-    reached: &mut ArrayVec<usize, CHAINS>,
-)
-    requires kept { IsStored chains.now.slots order.now.items }
-    requires at { at < length reached.old.items }
-    requires search { IsSearch chains.now.slots order.now.items (slice_index reached.old.items 0)
-        seen.old.items reached.old.items at }
-    ensures { IsSearch chains.now.slots order.now.items (slice_index reached.old.items 0)
-        seen.new.items reached.new.items (at + 1) }
-{
-    let chain = &chains[reached[at]];
-    for place in 0..chain.len() {
-        mark(chain.entry(place).course.key(), seen, reached);
+impl Parts {
+    // Visits the chain whose key stands at a place among those reached: marks each chain that its rules lead to.
+    fn visit(&self, at: usize, seen: &mut Vec<bool>, reached: &mut ArrayVec<usize, CHAINS>)
+        requires kept { AreStored self.now }
+        requires at { at < length reached.old.items }
+        requires search { IsSearch self.now.chains.slots self.now.order.items (slice_index reached.old.items 0)
+            seen.old.items reached.old.items at }
+        ensures { IsSearch self.now.chains.slots self.now.order.items (slice_index reached.old.items 0)
+            seen.new.items reached.new.items (at + 1) }
+    {
+        let chain = &self.chains[reached[at]];
+        for place in 0..chain.len() {
+            mark(chain.entry(place).course.key(), seen, reached);
+        }
     }
 }
 
@@ -61,33 +56,29 @@ fn unmark(order: &Vec<usize>, seen: &mut Vec<bool>, reached: &ArrayVec<usize, CH
     }
 }
 
-// Whether a path of jumps and gotos leads from the chain under one key to that under another, also one of no step. It
-// visits each chain at most once, and takes no memory.
-pub(crate) fn leads(
-    chains: &Slab<Chain>,
-    order: &Vec<usize>,
-    seen: &mut Vec<bool>,
-    from: usize,
-    goal: usize,
-) -> bool
-    requires kept { IsStored chains.now.slots order.now.items }
-    requires clear { IsUnmarked order.now.items seen.old.items }
-    requires from { IsIn order.now.items from }
-    requires goal { IsIn order.now.items goal }
-    ensures clear { IsUnmarked order.now.items seen.new.items }
-    ensures found { result ≡ leads (listed chains.now.slots order.now.items)
-        (row_at chains.now.slots from).name (row_at chains.now.slots goal).name }
-{
-    let mut reached = ArrayVec::new();
-    mark(Some(from), seen, &mut reached);
-    let mut at = 0;
-    while at < reached.len() && !seen[goal] {
-        visit(chains, order, at, seen, &mut reached);
-        at += 1;
+impl Parts {
+    // Whether a path of jumps and gotos leads from the chain under one key to that under another, also one of no step. It
+    // visits each chain at most once, and takes no memory.
+    pub(crate) fn leads(&self, seen: &mut Vec<bool>, from: usize, goal: usize) -> bool
+        requires kept { AreStored self.now }
+        requires clear { IsUnmarked self.now.order.items seen.old.items }
+        requires from { IsIn self.now.order.items from }
+        requires goal { IsIn self.now.order.items goal }
+        ensures clear { IsUnmarked self.now.order.items seen.new.items }
+        ensures found { result ≡ leads (listed self.now.chains.slots self.now.order.items)
+            (row_at self.now.chains.slots from).name (row_at self.now.chains.slots goal).name }
+    {
+        let mut reached = ArrayVec::new();
+        mark(Some(from), seen, &mut reached);
+        let mut at = 0;
+        while at < reached.len() && !seen[goal] {
+            self.visit(at, seen, &mut reached);
+            at += 1;
+        }
+        let found = seen[goal];
+        unmark(&self.order, seen, &reached);
+        found
     }
-    let found = seen[goal];
-    unmark(order, seen, &reached);
-    found
 }
 
 // Makes a place for the mark of a key.

@@ -6,12 +6,11 @@ ghost use Rattle.fields.specs.packet.Hook.{name};
 ghost use Rattle.table.specs.chains.Table.{built_in_names, is_named};
 ghost use Rattle.table.specs.edits.Edits.{out_of_range};
 ghost use Rattle.table.specs.steps.Rows.{has_text};
-ghost use Rattle.table.specs.steps.Kept.{IsPlaceFor, IsPlaceOf, IsStored, hook_place, listed, row_at};
+ghost use Rattle.table.specs.steps.Kept.{IsPlaceFor, IsPlaceOf, AreStored, hook_place, listed, row_at};
 
-use crate::chain::Chain;
+use crate::parts::Parts;
 use fields::{Hook, Name};
 use rules::Rule;
-use slab::Slab;
 use std::cmp::Ordering;
 
 // How many built-in chains there are: their keys stand first in the index.
@@ -52,82 +51,79 @@ fn built_in_place(name: &[u8]) -> Option<usize>
     }
 }
 
-// Where the chain of a name stands in the index, or else where it would stand. The names of the user chains rise,
-// so this halves what is left of them.
-fn search(chains: &Slab<Chain>, order: &Vec<usize>, name: &[u8]) -> Result<usize, usize>
-    requires { IsStored chains.now.slots order.now.items }
-    ensures { MatchResult result (IsPlaceOf name.now chains.now.slots order.now.items)
-        (IsPlaceFor name.now chains.now.slots order.now.items) }
-{
-    if let Some(place) = built_in_place(name) {
-        return Ok(place);
+impl Parts {
+    // Where the chain of a name stands in the index, or else where it would stand. The names of the user chains rise,
+    // so this halves what is left of them.
+    fn search(&self, name: &[u8]) -> Result<usize, usize>
+        requires { AreStored self.now }
+        ensures { MatchResult result (IsPlaceOf name.now self.now.chains.slots self.now.order.items)
+            (IsPlaceFor name.now self.now.chains.slots self.now.order.items) }
+    {
+        if let Some(place) = built_in_place(name) {
+            return Ok(place);
+        }
+        let mut low = BUILT_IN;
+        let mut high = self.order.len();
+        while low < high {
+            let middle = low + (high - low) / 2;
+            let key = self.order[middle];
+            let chain = &self.chains[key];
+            match name.cmp(chain.name().bytes()) {
+                Ordering::Less => high = middle,
+                Ordering::Equal => return Ok(middle),
+                Ordering::Greater => low = middle + 1,
+            }
+        }
+        Err(low)
     }
-    let mut low = BUILT_IN;
-    let mut high = order.len();
-    while low < high {
-        let middle = low + (high - low) / 2;
-        let key = order[middle];
-        let chain = &chains[key];
-        match name.cmp(chain.name().bytes()) {
-            Ordering::Less => high = middle,
-            Ordering::Equal => return Ok(middle),
-            Ordering::Greater => low = middle + 1,
+
+    // Where the chain of a name stands in the index.
+    pub(crate) fn place_of(&self, name: &[u8]) -> Option<usize>
+        requires { AreStored self.now }
+        ensures place { result ≡ position (is_named name.now) (listed self.now.chains.slots self.now.order.items) }
+        ensures within { IfSome result (λ i. i < length self.now.order.items) }
+    {
+        match self.search(name) {
+            Ok(place) => Some(place),
+            Err(_) => None,
         }
     }
-    Err(low)
-}
 
-// Where the chain of a name stands in the index.
-pub(crate) fn place_of(chains: &Slab<Chain>, order: &Vec<usize>, name: &[u8]) -> Option<usize>
-    requires { IsStored chains.now.slots order.now.items }
-    ensures place { result ≡ position (is_named name.now) (listed chains.now.slots order.now.items) }
-    ensures within { IfSome result (λ i. i < length order.now.items) }
-{
-    match search(chains, order, name) {
-        Ok(place) => Some(place),
-        Err(_) => None,
+    // Where a new chain of a name is to stand in the index; nowhere if there is one.
+    pub(crate) fn place_for(&self, name: &[u8]) -> Option<usize>
+        requires { AreStored self.now }
+        ensures { MatchOption result (IsSome (position (is_named name.now) (listed self.now.chains.slots self.now.order.items)))
+            (IsPlaceFor name.now self.now.chains.slots self.now.order.items) }
+    {
+        match self.search(name) {
+            Ok(_) => None,
+            Err(place) => Some(place),
+        }
     }
-}
 
-// Where a new chain of a name is to stand in the index; nowhere if there is one.
-pub(crate) fn place_for(chains: &Slab<Chain>, order: &Vec<usize>, name: &[u8]) -> Option<usize>
-    requires { IsStored chains.now.slots order.now.items }
-    ensures { MatchOption result (IsSome (position (is_named name.now) (listed chains.now.slots order.now.items)))
-        (IsPlaceFor name.now chains.now.slots order.now.items) }
-{
-    match search(chains, order, name) {
-        Ok(_) => None,
-        Err(place) => Some(place),
+    // How many rules the chain at a place of the index has.
+    pub(crate) fn count_at(&self, place: usize) -> usize
+        requires kept { AreStored self.now }
+        requires place { place < length self.now.order.items }
+        ensures value { result ≡ length (row_at self.now.chains.slots (slice_index self.now.order.items place)).entries }
+        ensures few { result ≤ 8192 }
+    {
+        let key = self.order[place];
+        self.chains[key].len()
     }
-}
 
-// How many rules the chain at a place of the index has.
-pub(crate) fn count_at(chains: &Slab<Chain>, order: &Vec<usize>, place: usize) -> usize
-    requires kept { IsStored chains.now.slots order.now.items }
-    requires place { place < length order.now.items }
-    ensures value { result ≡ length (row_at chains.now.slots (slice_index order.now.items place)).entries }
-    ensures few { result ≤ 8192 }
-{
-    let key = order[place];
-    chains[key].len()
-}
-
-// The place of the first rule with a rule's text, in the chain at a place of the index.
-pub(crate) fn rule_place(
-    chains: &Slab<Chain>,
-    order: &Vec<usize>,
-    place: usize,
-    rule: &Rule,
-) -> Option<usize>
-    requires kept { IsStored chains.now.slots order.now.items }
-    requires place { place < length order.now.items }
-    ensures value { result
-        ≡ position (has_text rule.now) (row_at chains.now.slots (slice_index order.now.items place)).entries }
-    ensures within { IfSome result (λ at. at
-        < length (row_at chains.now.slots (slice_index order.now.items place)).entries) }
-{
-    let key = order[place];
-    chains[key].place_of(rule)
+    // The place of the first rule with a rule's text, in the chain at a place of the index.
+    pub(crate) fn rule_place(&self, place: usize, rule: &Rule) -> Option<usize>
+        requires kept { AreStored self.now }
+        requires place { place < length self.now.order.items }
+        ensures value { result
+            ≡ position (has_text rule.now) (row_at self.now.chains.slots (slice_index self.now.order.items place)).entries }
+        ensures within { IfSome result (λ at. at
+            < length (row_at self.now.chains.slots (slice_index self.now.order.items place)).entries) }
+    {
+        let key = self.order[place];
+        self.chains[key].place_of(rule)
+    }
 }
 
 // Whether a number is none of 1 to the last.

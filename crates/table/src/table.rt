@@ -15,10 +15,11 @@ ghost use Rattle.table.specs.edits.Edits.{DeleteChain, DeleteChains, Rename};
 
 use crate::chain::Chain;
 use crate::fault::TableFault;
+use crate::parts::Parts;
 use crate::policy::Policy;
 use crate::verdict::Verdict;
-use crate::walk::trail::{Trail, trace};
-use crate::{drop, edit, put, rename, search, store, walk};
+use crate::walk::trail::Trail;
+use crate::{search, store};
 use classify::Classifier;
 use fields::{Hook, Name, Packet};
 use rules::{Rule, Work};
@@ -36,25 +37,19 @@ const CHAINS_MAX: usize = 1027;
 /// Rules count from 1.
 #[derive(Drop)]
 pub struct Table {
-    alloc: Global,
-    policies: [Policy; 3],
-    chains: Slab<Chain>,
-    order: Vec<usize>,
+    parts: Parts,
     seen: Vec<bool>,
 }
 
 impl Model for Table {
     ghost use Rattle.table.specs.chains.Table.{TableView};
-    ghost use Rattle.table.specs.steps.Kept.{IsWhole, classifiers, listed};
+    ghost use Rattle.table.specs.steps.Kept.{IsWhole, view_of};
 
     ghost Value = { TableView };
 
-    ghost view = { λ t. record {
-      table = record { policies = t.policies; chains = listed t.chains.slots t.order.items };
-      classifiers = classifiers t.chains.slots t.order.items;
-    } };
+    ghost view = { λ t. view_of t.parts };
 
-    ghost invariant = { λ t. IsWhole t.policies t.chains.slots t.order.items t.seen.items };
+    ghost invariant = { λ t. IsWhole t.parts t.seen.items };
 }
 
 impl Table {
@@ -65,7 +60,7 @@ impl Table {
         ensures classified { AreClassified self.now.table.chains self.now.classifiers }
         ensures loops { LeadsByPaths self.now.table.chains }
     {
-        let _count = self.order.len();
+        let _count = self.parts.order.len();
     }
 
     /// A table of the three built-in chains, without rules, each with the policy ACCEPT.
@@ -87,7 +82,7 @@ impl Table {
     pub fn emptied(&self) -> Result<Table, AllocError>
         ensures { IfOk result (λ made. made.table ≡ emptied self.now.table) }
     {
-        Table::with_policies(self.alloc, self.policies)
+        Table::with_policies(self.parts.alloc, self.parts.policies)
     }
 
     // A table of the three built-in chains, without rules, with these policies.
@@ -112,13 +107,13 @@ impl Table {
         search::cover(&mut seen, input)?;
         search::cover(&mut seen, forward)?;
         search::cover(&mut seen, output)?;
-        Ok(Table {
+        let parts = Parts {
             alloc,
             policies,
             chains,
             order,
-            seen,
-        })
+        };
+        Ok(Table { parts, seen })
     }
 
     /// A table that shows the same. It copies rules and classifiers, and makes no box.
@@ -129,23 +124,23 @@ impl Table {
     pub fn copy(&self) -> Result<Table, AllocError>
         ensures { IfOk result (λ copy. copy ≡ self.now) }
     {
-        let chains = self.chains.clone()?;
-        let order = self.order.clone()?;
+        let chains = self.parts.chains.clone()?;
+        let order = self.parts.order.clone()?;
         let seen = self.seen.clone()?;
-        Ok(Table {
-            alloc: self.alloc,
-            policies: self.policies,
+        let parts = Parts {
+            alloc: self.parts.alloc,
+            policies: self.parts.policies,
             chains,
             order,
-            seen,
-        })
+        };
+        Ok(Table { parts, seen })
     }
 
     /// How many chains there are, the three built-in ones among them.
     pub fn chain_count(&self) -> usize
         ensures { result ≡ length self.now.table.chains }
     {
-        self.order.len()
+        self.parts.order.len()
     }
 
     /// The name of the chain at a place in the order of a listing, from 0; it is lent.
@@ -153,8 +148,8 @@ impl Table {
         requires { place < length self.now.table.chains }
         ensures { result.now ≡ (chain_at self.now.table place).name }
     {
-        let key = self.order[place];
-        self.chains[key].name().bytes()
+        let key = self.parts.order[place];
+        self.parts.chains[key].name().bytes()
     }
 
     /// Where the chain of a name stands in the order of a listing, from 0. It takes no memory.
@@ -163,14 +158,14 @@ impl Table {
     pub fn place_of(&self, name: &[u8]) -> Option<usize>
         ensures { result ≡ position (is_named name.now) self.now.table.chains }
     {
-        store::place_of(&self.chains, &self.order, name)
+        self.parts.place_of(name)
     }
 
     /// The policy of the chain at a place, if it is a built-in one.
     pub fn policy(&self, place: usize) -> Option<Policy>
         ensures { result ≡ slice_get self.now.table.policies place }
     {
-        self.policies.get(place).copied()
+        self.parts.policies.get(place).copied()
     }
 
     /// How many rules the chain at a place has.
@@ -178,7 +173,7 @@ impl Table {
         requires { place < length self.now.table.chains }
         ensures { result ≡ length (chain_at self.now.table place).rules }
     {
-        store::count_at(&self.chains, &self.order, place)
+        self.parts.count_at(place)
     }
 
     /// Rule `number` of the chain at a place, from 1; it is lent.
@@ -189,8 +184,8 @@ impl Table {
         ensures { result.now
             ≡ slice_index_or (chain_at self.now.table place).rules (number - 1) result.now }
     {
-        let key = self.order[place];
-        &self.chains[key].entry(number - 1).rule
+        let key = self.parts.order[place];
+        &self.parts.chains[key].entry(number - 1).rule
     }
 
     /// The classifier of the rules of the chain at a place; it is lent.
@@ -199,8 +194,8 @@ impl Table {
         ensures value { result.now.shown ≡ slice_index_or self.now.classifiers place result.now.shown }
         ensures rules { IsClassifierOfRules (chain_at self.now.table place).rules result.now.shown }
     {
-        let key = self.order[place];
-        self.chains[key].classifier()
+        let key = self.parts.order[place];
+        self.parts.chains[key].classifier()
     }
 
     /// What becomes of a packet, by the classifiers of the chains: the verdict of its walk. It takes no memory.
@@ -209,8 +204,8 @@ impl Table {
         ensures cases { (w : Walked) → Walks self.now.table packet.now w → result ≡ w.verdict }
     {
         let hook = store::hook_place(packet.hook());
-        let policy = self.policies[hook].verdict();
-        walk::decide(&self.chains, &self.order, hook, policy, packet)
+        let policy = self.parts.policies[hook].verdict();
+        self.parts.decide(hook, policy, packet)
     }
 
     /// The walk of a packet: the rules that matched, the verdict, and whether the policy gave it.
@@ -224,8 +219,8 @@ impl Table {
             → IfOk result (Shows self.now.table.chains w) }
     {
         let hook = store::hook_place(packet.hook());
-        let policy = self.policies[hook].verdict();
-        trace(self.alloc, &self.chains, &self.order, hook, policy, packet)
+        let policy = self.parts.policies[hook].verdict();
+        self.parts.trace(hook, policy, packet)
     }
 
     /// Puts a rule last in a chain (`-A chain rule`). The rule is gone after a refusal too.
@@ -241,20 +236,11 @@ impl Table {
         ensures step { IsStepIfRoom (Append chain.now rule) self.old self.new result }
         ensures work { MakesOneBoxAtMost work.old work.new }
     {
-        let Some(place) = store::place_of(&self.chains, &self.order, chain) else {
+        let Some(place) = self.parts.place_of(chain) else {
             return Err(TableFault::NoSuchChain);
         };
-        let last = store::count_at(&self.chains, &self.order, place);
-        put::put_in(
-            self.alloc,
-            &mut self.chains,
-            &self.order,
-            &mut self.seen,
-            place,
-            last,
-            rule,
-            work,
-        )
+        let last = self.parts.count_at(place);
+        self.parts.put_in(&mut self.seen, place, last, rule, work)
     }
 
     /// Puts a rule in as rule `number` of a chain, from 1 to one more than there are (`-I chain number rule`). The
@@ -273,23 +259,15 @@ impl Table {
         ensures step { IsStepIfRoom (Insert chain.now number rule) self.old self.new result }
         ensures work { MakesOneBoxAtMost work.old work.new }
     {
-        let Some(place) = store::place_of(&self.chains, &self.order, chain) else {
+        let Some(place) = self.parts.place_of(chain) else {
             return Err(TableFault::NoSuchChain);
         };
-        let last = store::count_at(&self.chains, &self.order, place);
+        let last = self.parts.count_at(place);
         if store::out_of_range(number, last + 1) {
             return Err(TableFault::NumberOutOfRange);
         }
-        put::put_in(
-            self.alloc,
-            &mut self.chains,
-            &self.order,
-            &mut self.seen,
-            place,
-            number - 1,
-            rule,
-            work,
-        )
+        self.parts
+            .put_in(&mut self.seen, place, number - 1, rule, work)
     }
 
     /// Puts a rule in the place of rule `number` of a chain (`-R chain number rule`). The rule is gone after a
@@ -309,23 +287,15 @@ impl Table {
         ensures step { IsStepIfRoom (Replace chain.now number rule) self.old self.new result }
         ensures work { MakesOneBoxAtMost work.old work.new }
     {
-        let Some(place) = store::place_of(&self.chains, &self.order, chain) else {
+        let Some(place) = self.parts.place_of(chain) else {
             return Err(TableFault::NoSuchChain);
         };
-        let last = store::count_at(&self.chains, &self.order, place);
+        let last = self.parts.count_at(place);
         if store::out_of_range(number, last) {
             return Err(TableFault::NumberOutOfRange);
         }
-        put::put_over(
-            self.alloc,
-            &mut self.chains,
-            &self.order,
-            &mut self.seen,
-            place,
-            number - 1,
-            rule,
-            work,
-        )
+        self.parts
+            .put_over(&mut self.seen, place, number - 1, rule, work)
     }
 
     /// Takes rule `number` of a chain out (`-D chain number`). It takes no memory.
@@ -336,14 +306,14 @@ impl Table {
     pub fn delete_at(&mut self, chain: &[u8], number: usize) -> Result<(), TableFault>
         ensures { IsStep (DeleteAt chain.now number) self.old self.new result }
     {
-        let Some(place) = store::place_of(&self.chains, &self.order, chain) else {
+        let Some(place) = self.parts.place_of(chain) else {
             return Err(TableFault::NoSuchChain);
         };
-        let last = store::count_at(&self.chains, &self.order, place);
+        let last = self.parts.count_at(place);
         if store::out_of_range(number, last) {
             return Err(TableFault::NumberOutOfRange);
         }
-        edit::take_out(&mut self.chains, &self.order, place, number - 1);
+        self.parts.take_out(place, number - 1);
         Ok(())
     }
 
@@ -355,13 +325,13 @@ impl Table {
     pub fn delete_rule(&mut self, chain: &[u8], rule: &Rule) -> Result<(), TableFault>
         ensures { IsStep (DeleteRule chain.now rule.now) self.old self.new result }
     {
-        let Some(place) = store::place_of(&self.chains, &self.order, chain) else {
+        let Some(place) = self.parts.place_of(chain) else {
             return Err(TableFault::NoSuchChain);
         };
-        let Some(at) = store::rule_place(&self.chains, &self.order, place, rule) else {
+        let Some(at) = self.parts.rule_place(place, rule) else {
             return Err(TableFault::NoSuchRule);
         };
-        edit::take_out(&mut self.chains, &self.order, place, at);
+        self.parts.take_out(place, at);
         Ok(())
     }
 
@@ -373,10 +343,10 @@ impl Table {
     pub fn has_rule(&self, chain: &[u8], rule: &Rule) -> Result<(), TableFault>
         ensures { IsStep (Has chain.now rule.now) self.now self.now result }
     {
-        let Some(place) = store::place_of(&self.chains, &self.order, chain) else {
+        let Some(place) = self.parts.place_of(chain) else {
             return Err(TableFault::NoSuchChain);
         };
-        match store::rule_place(&self.chains, &self.order, place, rule) {
+        match self.parts.rule_place(place, rule) {
             Some(_) => Ok(()),
             None => Err(TableFault::NoSuchRule),
         }
@@ -390,10 +360,10 @@ impl Table {
     pub fn flush(&mut self, chain: &[u8]) -> Result<(), TableFault>
         ensures { IsStep (Flush chain.now) self.old self.new result }
     {
-        let Some(place) = store::place_of(&self.chains, &self.order, chain) else {
+        let Some(place) = self.parts.place_of(chain) else {
             return Err(TableFault::NoSuchChain);
         };
-        edit::empty(&mut self.chains, &self.order, place);
+        self.parts.empty(place);
         Ok(())
     }
 
@@ -405,7 +375,7 @@ impl Table {
     pub fn flush_all(&mut self) -> Result<(), TableFault>
         ensures { IsStep FlushAll self.old self.new result }
     {
-        edit::empty_all(&mut self.chains, &self.order);
+        self.parts.empty_all();
         Ok(())
     }
 
@@ -417,7 +387,7 @@ impl Table {
     pub fn set_policy(&mut self, chain: &[u8], policy: &[u8]) -> Result<(), TableFault>
         ensures { IsStep (SetPolicy chain.now policy.now) self.old self.new result }
     {
-        let Some(place) = store::place_of(&self.chains, &self.order, chain) else {
+        let Some(place) = self.parts.place_of(chain) else {
             return Err(TableFault::NoSuchChain);
         };
         if place >= store::BUILT_IN {
@@ -426,7 +396,7 @@ impl Table {
         let Some(policy) = Policy::read(policy) else {
             return Err(TableFault::BadPolicy);
         };
-        self.policies[place] = policy;
+        self.parts.policies[place] = policy;
         Ok(())
     }
 
@@ -442,17 +412,17 @@ impl Table {
         let Some(owned) = Name::read(name) else {
             return Err(TableFault::BadChainName);
         };
-        let Some(place) = store::place_for(&self.chains, &self.order, name) else {
+        let Some(place) = self.parts.place_for(name) else {
             return Err(TableFault::ChainExists);
         };
-        if self.order.len() >= CHAINS_MAX {
+        if self.parts.order.len() >= CHAINS_MAX {
             return Err(TableFault::TooManyChains);
         }
-        let key = self.chains.vacant_key();
+        let key = self.parts.chains.vacant_key();
         let Ok(()) = search::cover(&mut self.seen, key) else {
             return Err(TableFault::NoMemory);
         };
-        match edit::make(self.alloc, &mut self.chains, &mut self.order, place, owned) {
+        match self.parts.make(place, owned) {
             Ok(()) => Ok(()),
             Err(_) => return Err(TableFault::NoMemory),
         }
@@ -466,13 +436,13 @@ impl Table {
     pub fn delete_chain(&mut self, chain: &[u8]) -> Result<(), TableFault>
         ensures { IsStep (DeleteChain chain.now) self.old self.new result }
     {
-        let Some(place) = store::place_of(&self.chains, &self.order, chain) else {
+        let Some(place) = self.parts.place_of(chain) else {
             return Err(TableFault::NoSuchChain);
         };
-        if let Some(fault) = drop::refusal(&self.chains, &self.order, place) {
+        if let Some(fault) = self.parts.refusal(place) {
             return Err(fault);
         }
-        drop::take_away(&mut self.chains, &mut self.order, place);
+        self.parts.take_away(place);
         Ok(())
     }
 
@@ -485,10 +455,10 @@ impl Table {
     pub fn delete_chains(&mut self) -> Result<(), TableFault>
         ensures { IsStep DeleteChains self.old self.new result }
     {
-        if let Some(fault) = drop::refusal_of_all(&self.chains, &self.order) {
+        if let Some(fault) = self.parts.refusal_of_all() {
             return Err(fault);
         }
-        drop::take_all_away(&mut self.chains, &mut self.order);
+        self.parts.take_all_away();
         Ok(())
     }
 
@@ -500,7 +470,7 @@ impl Table {
     pub fn rename(&mut self, old: &[u8], new: &[u8]) -> Result<(), TableFault>
         ensures { IsStep (Rename old.now new.now) self.old self.new result }
     {
-        let Some(place) = store::place_of(&self.chains, &self.order, old) else {
+        let Some(place) = self.parts.place_of(old) else {
             return Err(TableFault::NoSuchChain);
         };
         if place < store::BUILT_IN {
@@ -509,10 +479,10 @@ impl Table {
         let Some(name) = Name::read(new) else {
             return Err(TableFault::BadChainName);
         };
-        let Some(to) = store::place_for(&self.chains, &self.order, new) else {
+        let Some(to) = self.parts.place_for(new) else {
             return Err(TableFault::ChainExists);
         };
-        rename::rename(&mut self.chains, &mut self.order, place, to, name);
+        self.parts.rename(place, to, name);
         Ok(())
     }
 }

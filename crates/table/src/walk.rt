@@ -1,6 +1,6 @@
 //! The walk of a packet.
 ghost use Rattle.std.specs.Prelude.{◌≡◌, ◌<◌, ◌≤◌, ℕ, List, length, IfSome, IfNone, Option, Some, None};
-ghost use Rattle.table.specs.steps.Kept.{IsStored, listed};
+ghost use Rattle.table.specs.steps.Kept.{AreStored, listed};
 ghost use Rattle.table.specs.steps.Rows.{Row};
 ghost use Rattle.table.specs.steps.Walking.{Follows, IsHit, IsState, LeadsIn, NoRoom, next_by, start, state_of};
 ghost use Rattle.table.specs.steps.Walking.{walk_at};
@@ -9,12 +9,11 @@ ghost use Rattle.table.specs.walk.Walk.{first_hit};
 pub(crate) mod depth;
 pub(crate) mod trail;
 
-use crate::chain::Chain;
 use crate::chain::entry::Course;
+use crate::parts::Parts;
 use crate::verdict::Verdict;
 use arrayvec::ArrayVec;
 use fields::Packet;
-use slab::Slab;
 
 // What is left of a chain: its key, and how many of its rules were passed.
 #[derive(Clone, Copy, Default)]
@@ -52,33 +51,34 @@ const STACK: usize = 1024;
 // places.
 const SHORT: usize = 16;
 
-// Goes to the first rule that matches.
-pub(crate) fn advance<const DEPTH: usize>(
-    chains: &Slab<Chain>,
-    order: &Vec<usize>,
-    packet: &Packet,
-    at: &mut Pending,
-    stack: &mut ArrayVec<Pending, DEPTH>,
-) -> Option<Course>
-    requires kept { IsStored chains.now.slots order.now.items }
-    requires state { IsState order.now.items at.old stack.old.items }
-    ensures none { IfNone result (first_hit (listed chains.now.slots order.now.items) packet.now.values
-        (state_of chains.now.slots at.old stack.old.items) ≡ None) }
-    ensures some { IfSome result (λ course. IsHit chains.now.slots order.now.items
-        (first_hit (listed chains.now.slots order.now.items) packet.now.values
-        (state_of chains.now.slots at.old stack.old.items)) course at.new stack.new.items) }
-{
-    'rests: loop {
-        let chain = &chains[at.chain];
-        match chain.next(packet, at.passed) {
-            Some(place) => {
-                at.passed = place + 1;
-                return Some(chain.entry(place).course);
+impl Parts {
+    // Goes to the first rule that matches.
+    pub(crate) fn advance<const DEPTH: usize>(
+        &self,
+        packet: &Packet,
+        at: &mut Pending,
+        stack: &mut ArrayVec<Pending, DEPTH>,
+    ) -> Option<Course>
+        requires kept { AreStored self.now }
+        requires state { IsState self.now.order.items at.old stack.old.items }
+        ensures none { IfNone result (first_hit (listed self.now.chains.slots self.now.order.items) packet.now.values
+            (state_of self.now.chains.slots at.old stack.old.items) ≡ None) }
+        ensures some { IfSome result (λ course. IsHit self.now.chains.slots self.now.order.items
+            (first_hit (listed self.now.chains.slots self.now.order.items) packet.now.values
+            (state_of self.now.chains.slots at.old stack.old.items)) course at.new stack.new.items) }
+    {
+        'rests: loop {
+            let chain = &self.chains[at.chain];
+            match chain.next(packet, at.passed) {
+                Some(place) => {
+                    at.passed = place + 1;
+                    return Some(chain.entry(place).course);
+                }
+                None => match stack.pop() {
+                    Some(rest) => *at = rest,
+                    None => return None,
+                },
             }
-            None => match stack.pop() {
-                Some(rest) => *at = rest,
-                None => return None,
-            },
         }
     }
 }
@@ -123,62 +123,57 @@ pub(crate) fn follow<const DEPTH: usize>(
 // A walk may match so many rules.
 const LIMIT: u32 = 65536;
 
-// The verdict on a packet, from the first rule of the chain at a place of the listing on, by a walk with room for so
-// many rests that wait. There is none where more would wait. It isn't inlined, so that a walk with few places pays for
-// no more.
-#[inline(never)]
-fn decide_within<const DEPTH: usize>(
-    chains: &Slab<Chain>,
-    order: &Vec<usize>,
-    hook: usize,
-    policy: Verdict,
-    packet: &Packet,
-) -> Option<Verdict>
-    requires depth { DEPTH ≤ 1024 }
-    requires kept { IsStored chains.now.slots order.now.items }
-    requires hook { hook < length order.now.items }
-    ensures some { IfSome result (λ verdict. verdict
-        ≡ (walk_at 65536 chains.now.slots order.now.items hook policy packet.now.values).verdict) }
-    ensures none { IfNone result (DEPTH < 1024) }
-{
-    let mut at = Pending::start(order[hook]);
-    let mut stack: ArrayVec<Pending, DEPTH> = ArrayVec::new();
-    let mut left = LIMIT;
-    'walk: loop {
-        let Some(course) = advance(chains, order, packet, &mut at, &mut stack) else {
-            return Some(policy);
-        };
-        if left == 0 {
-            return Some(Verdict::TooLong);
-        }
-        left -= 1;
-        match follow(course, &mut at, &mut stack) {
-            Turn::Decides(verdict) => return Some(verdict),
-            Turn::Policy => return Some(policy),
-            Turn::Goes => {}
-            Turn::Full => return None,
+impl Parts {
+    // The verdict on a packet, from the first rule of the chain at a place of the listing on, by a walk with room for so
+    // many rests that wait. There is none where more would wait. It isn't inlined, so that a walk with few places pays for
+    // no more.
+    #[inline(never)]
+    fn decide_within<const DEPTH: usize>(
+        &self,
+        hook: usize,
+        policy: Verdict,
+        packet: &Packet,
+    ) -> Option<Verdict>
+        requires depth { DEPTH ≤ 1024 }
+        requires kept { AreStored self.now }
+        requires hook { hook < length self.now.order.items }
+        ensures some { IfSome result (λ verdict. verdict
+            ≡ (walk_at 65536 self.now.chains.slots self.now.order.items hook policy packet.now.values).verdict) }
+        ensures none { IfNone result (DEPTH < 1024) }
+    {
+        let mut at = Pending::start(self.order[hook]);
+        let mut stack: ArrayVec<Pending, DEPTH> = ArrayVec::new();
+        let mut left = LIMIT;
+        'walk: loop {
+            let Some(course) = self.advance(packet, &mut at, &mut stack) else {
+                return Some(policy);
+            };
+            if left == 0 {
+                return Some(Verdict::TooLong);
+            }
+            left -= 1;
+            match follow(course, &mut at, &mut stack) {
+                Turn::Decides(verdict) => return Some(verdict),
+                Turn::Policy => return Some(policy),
+                Turn::Goes => {}
+                Turn::Full => return None,
+            }
         }
     }
-}
 
-// The verdict on a packet, from the first rule of the chain at a place of the listing on. A walk that needs more places
-// than the short stack has is walked again from its start, with a place for each user chain.
-pub(crate) fn decide(
-    chains: &Slab<Chain>,
-    order: &Vec<usize>,
-    hook: usize,
-    policy: Verdict,
-    packet: &Packet,
-) -> Verdict
-    requires kept { IsStored chains.now.slots order.now.items }
-    requires hook { hook < length order.now.items }
-    ensures { result ≡ (walk_at 65536 chains.now.slots order.now.items hook policy packet.now.values).verdict }
-{
-    if let Some(verdict) = decide_within::<SHORT>(chains, order, hook, policy, packet) {
-        return verdict;
-    }
-    match decide_within::<STACK>(chains, order, hook, policy, packet) {
-        Some(verdict) => verdict,
-        None => unreachable!(),
+    // The verdict on a packet, from the first rule of the chain at a place of the listing on. A walk that needs more places
+    // than the short stack has is walked again from its start, with a place for each user chain.
+    pub(crate) fn decide(&self, hook: usize, policy: Verdict, packet: &Packet) -> Verdict
+        requires kept { AreStored self.now }
+        requires hook { hook < length self.now.order.items }
+        ensures { result ≡ (walk_at 65536 self.now.chains.slots self.now.order.items hook policy packet.now.values).verdict }
+    {
+        if let Some(verdict) = self.decide_within::<SHORT>(hook, policy, packet) {
+            return verdict;
+        }
+        match self.decide_within::<STACK>(hook, policy, packet) {
+            Some(verdict) => verdict,
+            None => unreachable!(),
+        }
     }
 }

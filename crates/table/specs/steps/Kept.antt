@@ -7,9 +7,10 @@ use Rattle.classify.specs.classifier.Classifier.{Classified}
 use Rattle.std.specs.Prelude.{position, true, false, IsFalse}
 use Rattle.rules.specs.rule.Actions.{target_of}
 use Rattle.table.specs.chains.Sound.{IsSound}
-use Rattle.table.specs.chains.Table.{Chain, Table, Policy, Accept, chain_named_by, is_named, comes_before}
+use Rattle.table.specs.chains.Table.{Chain, Table, TableView, Policy, chain_named_by, is_named, comes_before}
 use Rattle.table.specs.steps.Rows.{Row, rules_in, course_of, leads_to, is_key, ones, IsClassified}
 use Rattle.table.specs.declared.chain.entry.Entry.{Entry}
+use Rattle.table.specs.declared.parts.Parts.{Parts}
 
 -- no chain
 abbrev pub blank : Row
@@ -49,9 +50,17 @@ name_at slots order place = (row_at slots (slice_index order place)).name
 abbrev pub classifiers : List (Option Row) → List ℕ → List Classified
 classifiers slots order = map (λ key. (row_at slots key).classifier) order
 
--- these chains, as a table with the policies ACCEPT
-abbrev pub table_of : List (Option Row) → List ℕ → Table
-table_of slots order = record { policies = Accept ∷ Accept ∷ Accept ∷ []; chains = listed slots order }
+-- the table of these policies and chains
+abbrev pub table_with : List Policy → List (Option Row) → List ℕ → Table
+table_with policies slots order = record { policies = policies; chains = listed slots order }
+
+-- the table that the parts show
+abbrev pub table_of : Parts → Table
+table_of parts = table_with parts.policies parts.chains.slots parts.order.items
+
+-- what they show: the table, and the classifiers of its chains
+abbrev pub view_of : Parts → TableView
+view_of parts = record { table = table_of parts; classifiers = classifiers parts.chains.slots parts.order.items }
 
 -- the key stands in the index
 abbrev pub IsIn : List ℕ → ℕ → Type 0
@@ -97,13 +106,13 @@ abbrev pub references_at : List (Option Row) → ℕ → ℕ
 references_at slots key = (row_at slots key).references
 
 -- the chains stand as they should, but for the counts of the rules that name them: those of the index, and no others
-pub record IsStored (slots : List (Option Row)) (order : List ℕ) : Type 0 where
+pub record IsStored (policies : List Policy) (slots : List (Option Row)) (order : List ℕ) : Type 0 where
   pub present : (i : ℕ) → i < length order → IsSome (slot_at slots (slice_index order i))
   pub no_more : (key : ℕ) → IsSome (slot_at slots key) → IsIn order key
   pub apart : (i j : ℕ) → i < length order → j < length order → slice_index order i ≡ slice_index order j → i ≡ j
   pub linked : (i : ℕ) → i < length order → All (IsLinked slots order) (row_at slots (slice_index order i)).entries
   pub classified : (i : ℕ) → i < length order → IsClassified (row_at slots (slice_index order i))
-  pub sound : IsSound (table_of slots order)
+  pub sound : IsSound (table_with policies slots order)
 
 -- the chain of the name stands at the place
 pub record IsPlaceOf (name : List ℕ) (slots : List (Option Row)) (order : List ℕ) (i : ℕ) : Type 0 where
@@ -124,9 +133,25 @@ IsCounted slots order =
     (i : ℕ) → i < length order → (row_at slots (slice_index order i)).references ≡ leading slots order (slice_index order i)
 
 -- the chains stand as they should
-pub record IsKept (slots : List (Option Row)) (order : List ℕ) : Type 0 where
-  pub stored : IsStored slots order
+pub record IsKept (policies : List Policy) (slots : List (Option Row)) (order : List ℕ) : Type 0 where
+  pub stored : IsStored policies slots order
   pub counted : IsCounted slots order
+
+-- the chain at a place of the index
+abbrev pub row_in : Parts → ℕ → Row
+row_in parts place = row_at parts.chains.slots (slice_index parts.order.items place)
+
+-- its name
+abbrev pub name_in : Parts → ℕ → List ℕ
+name_in parts place = (row_in parts place).name
+
+-- the parts stand as they should, but for the counts
+abbrev pub AreStored : Parts → Type 0
+AreStored parts = IsStored parts.policies parts.chains.slots parts.order.items
+
+-- the parts stand as they should
+abbrev pub AreKept : Parts → Type 0
+AreKept parts = IsKept parts.policies parts.chains.slots parts.order.items
 
 -- each key of the index has a place for its mark, and no mark is set
 pub record IsUnmarked (order : List ℕ) (seen : List Bool) : Type 0 where
@@ -134,7 +159,6 @@ pub record IsUnmarked (order : List ℕ) (seen : List Bool) : Type 0 where
   pub clear : (key : ℕ) → IsFalse (slice_index_or seen key false)
 
 -- a table stands as it should
-pub record IsWhole (held : List Policy) (slots : List (Option Row)) (order : List ℕ) (seen : List Bool) : Type 0 where
-  pub policies : length held ≡ 3
-  pub kept : IsKept slots order
-  pub unmarked : IsUnmarked order seen
+pub record IsWhole (parts : Parts) (seen : List Bool) : Type 0 where
+  pub kept : AreKept parts
+  pub unmarked : IsUnmarked parts.order.items seen

@@ -1,16 +1,14 @@
 //! The trail of a packet: the rules that match it, in turn.
 ghost use Rattle.std.specs.Prelude.{◌≡◌, ◌<◌, ◌≤◌, length, false, true, IfNone, IfOk, IfSome, Some};
-ghost use Rattle.table.specs.steps.Kept.{IsIn, IsStored, listed};
+ghost use Rattle.table.specs.steps.Kept.{IsIn, AreStored, listed};
 ghost use Rattle.table.specs.steps.Walking.{entry_before, walk_at};
 ghost use Rattle.table.specs.walk.Trail.{Shows, shown};
 
-use crate::chain::Chain;
-use crate::store::place_of;
+use crate::parts::Parts;
 use crate::verdict::Verdict;
-use crate::walk::{LIMIT, Pending, SHORT, STACK, Turn, advance, follow};
+use crate::walk::{LIMIT, Pending, SHORT, STACK, Turn, follow};
 use arrayvec::ArrayVec;
 use fields::Packet;
-use slab::Slab;
 use std::alloc::{AllocError, Global};
 
 /// A rule that matched: the place of its chain in the order of a listing, from 0, and its number in the chain, from 1.
@@ -75,82 +73,80 @@ impl Trail {
     }
 }
 
-// The rule just before a place, as a step of the trail.
-fn step_before(chains: &Slab<Chain>, order: &Vec<usize>, at: Pending) -> Step
-    requires kept { IsStored chains.now.slots order.now.items }
-    requires present { IsIn order.now.items at.chain }
-    ensures { shown (listed chains.now.slots order.now.items) (entry_before chains.now.slots at) ≡ Some result }
-{
-    let chain = &chains[at.chain];
-    match place_of(chains, order, chain.name().bytes()) {
-        Some(place) => Step {
-            chain: place,
-            number: at.passed,
-        },
-        None => unreachable!(),
-    }
-}
-
-// The trail of a packet, from the first rule of the chain at a place of the listing on, by a walk with room for so many
-// rests that wait. There is none where more would wait. It isn't inlined, so that a walk with few places pays for no more.
-#[inline(never)]
-fn trace_within<const DEPTH: usize>(
-    alloc: Global,
-    chains: &Slab<Chain>,
-    order: &Vec<usize>,
-    hook: usize,
-    policy: Verdict,
-    packet: &Packet,
-) -> Result<Option<Trail>, AllocError>
-    requires depth { DEPTH ≤ 1024 }
-    requires kept { IsStored chains.now.slots order.now.items }
-    requires hook { hook < length order.now.items }
-    ensures some { IfOk result (λ found. IfSome found (Shows (listed chains.now.slots order.now.items)
-        (walk_at 65536 chains.now.slots order.now.items hook policy packet.now.values))) }
-    ensures none { IfOk result (λ found. IfNone found (DEPTH < 1024)) }
-{
-    let mut at = Pending::start(order[hook]);
-    let mut stack: ArrayVec<Pending, DEPTH> = ArrayVec::new();
-    let mut left = LIMIT;
-    let mut steps = Vec::new(alloc);
-    'walk: loop {
-        let Some(course) = advance(chains, order, packet, &mut at, &mut stack) else {
-            return Ok(Some(Trail::undecided(steps, policy)));
-        };
-        if left == 0 {
-            return Ok(Some(Trail::decided(Vec::new(alloc), Verdict::TooLong)));
-        }
-        left -= 1;
-        steps.push(step_before(chains, order, at))?;
-        match follow(course, &mut at, &mut stack) {
-            Turn::Decides(verdict) => return Ok(Some(Trail::decided(steps, verdict))),
-            Turn::Policy => return Ok(Some(Trail::undecided(steps, policy))),
-            Turn::Goes => {}
-            Turn::Full => return Ok(None),
+impl Parts {
+    // The rule just before a place, as a step of the trail.
+    fn step_before(&self, at: Pending) -> Step
+        requires kept { AreStored self.now }
+        requires present { IsIn self.now.order.items at.chain }
+        ensures { shown (listed self.now.chains.slots self.now.order.items) (entry_before self.now.chains.slots at) ≡ Some result }
+    {
+        let chain = &self.chains[at.chain];
+        match self.place_of(chain.name().bytes()) {
+            Some(place) => Step {
+                chain: place,
+                number: at.passed,
+            },
+            None => unreachable!(),
         }
     }
-}
 
-// The trail of a packet, from the first rule of the chain at a place of the listing on. A walk that needs more places than
-// the short stack has is walked again from its start, with a place for each user chain.
-pub(crate) fn trace(
-    alloc: Global,
-    chains: &Slab<Chain>,
-    order: &Vec<usize>,
-    hook: usize,
-    policy: Verdict,
-    packet: &Packet,
-) -> Result<Trail, AllocError>
-    requires kept { IsStored chains.now.slots order.now.items }
-    requires hook { hook < length order.now.items }
-    ensures { IfOk result (Shows (listed chains.now.slots order.now.items)
-        (walk_at 65536 chains.now.slots order.now.items hook policy packet.now.values)) }
-{
-    if let Some(trail) = trace_within::<SHORT>(alloc, chains, order, hook, policy, packet)? {
-        return Ok(trail);
+    // The trail of a packet, from the first rule of the chain at a place of the listing on, by a walk with room for so many
+    // rests that wait. There is none where more would wait. It isn't inlined, so that a walk with few places pays for no more.
+    #[inline(never)]
+    fn trace_within<const DEPTH: usize>(
+        &self,
+        hook: usize,
+        policy: Verdict,
+        packet: &Packet,
+    ) -> Result<Option<Trail>, AllocError>
+        requires depth { DEPTH ≤ 1024 }
+        requires kept { AreStored self.now }
+        requires hook { hook < length self.now.order.items }
+        ensures some { IfOk result (λ found. IfSome found (Shows (listed self.now.chains.slots self.now.order.items)
+            (walk_at 65536 self.now.chains.slots self.now.order.items hook policy packet.now.values))) }
+        ensures none { IfOk result (λ found. IfNone found (DEPTH < 1024)) }
+    {
+        let mut at = Pending::start(self.order[hook]);
+        let mut stack: ArrayVec<Pending, DEPTH> = ArrayVec::new();
+        let mut left = LIMIT;
+        let mut steps = Vec::new(self.alloc);
+        'walk: loop {
+            let Some(course) = self.advance(packet, &mut at, &mut stack) else {
+                return Ok(Some(Trail::undecided(steps, policy)));
+            };
+            if left == 0 {
+                return Ok(Some(Trail::decided(Vec::new(self.alloc), Verdict::TooLong)));
+            }
+            left -= 1;
+            steps.push(self.step_before(at))?;
+            match follow(course, &mut at, &mut stack) {
+                Turn::Decides(verdict) => return Ok(Some(Trail::decided(steps, verdict))),
+                Turn::Policy => return Ok(Some(Trail::undecided(steps, policy))),
+                Turn::Goes => {}
+                Turn::Full => return Ok(None),
+            }
+        }
     }
-    match trace_within::<STACK>(alloc, chains, order, hook, policy, packet)? {
-        Some(trail) => Ok(trail),
-        None => unreachable!(),
+
+    // The trail of a packet, from the first rule of the chain at a place of the listing on. A walk that needs more places than
+    // the short stack has is walked again from its start, with a place for each user chain.
+    pub(crate) fn trace(
+        &self,
+        hook: usize,
+        policy: Verdict,
+        packet: &Packet,
+    ) -> Result<Trail, AllocError>
+        requires kept { AreStored self.now }
+        requires hook { hook < length self.now.order.items }
+        ensures { IfOk result (Shows (listed self.now.chains.slots self.now.order.items)
+            (walk_at 65536 self.now.chains.slots self.now.order.items hook policy packet.now.values)) }
+    {
+        if let Some(trail) = self.trace_within::<SHORT>(hook, policy, packet)? {
+            return Ok(trail);
+        }
+        match self.trace_within::<STACK>(hook, policy, packet)? {
+            Some(trail) => Ok(trail),
+            None => unreachable!(),
+        }
     }
 }

@@ -8,9 +8,9 @@ use Rattle.std.proofs.lemmas.List.Sums.{count_by-le-length}
 use Rattle.std.proofs.lemmas.List.Elements.{All-weaker, All-head, All-tail}
 use Rattle.classify.specs.classifier.Classifier.{Classified, IsClassifierOfRules}
 use Rattle.table.specs.chains.Sound.{IsSound, IsSoundChain, IsUserName}
-use Rattle.table.specs.chains.Table.{Chain, Accept, names_of, user_chains}
+use Rattle.table.specs.chains.Table.{Policy, Chain, Accept, names_of, user_chains}
 use Rattle.table.specs.steps.Rows.{Row, rules_in, leads_to}
-use Rattle.table.specs.steps.Kept.{blank, slot_at, row_at, listed, classifiers, table_of, leading_in, leading, references_at, AreRecounted, CountsInAndOut, IsIn, IsLinked, IsStored, IsCounted}
+use Rattle.table.specs.steps.Kept.{blank, slot_at, row_at, listed, classifiers, table_with, leading_in, leading, references_at, AreRecounted, CountsInAndOut, IsIn, IsLinked, IsStored, IsCounted}
 use Rattle.table.specs.declared.chain.entry.Entry.{Entry}
 use Rattle.table.proofs.laws.chains.PathLaws.{Mem, Differing}
 use Rattle.table.proofs.laws.chains.KeepLaws.{is_user_name, users_by_names}
@@ -88,8 +88,8 @@ pub classifiers_recounted : (slots new : List (Option Row)) (keys : List ℕ) �
 classifiers_recounted slots new [] r = refl
 classifiers_recounted slots new (x ∷ xs) r = λ i. r.classifier x i ∷ classifiers_recounted slots new xs r i
 
-pub stored_recounted : (slots new : List (Option Row)) (order : List ℕ) → AreRecounted slots new → IsStored slots order → IsStored new order
-stored_recounted slots new order r s =
+pub stored_recounted : (ps : List Policy) (slots new : List (Option Row)) (order : List ℕ) → AreRecounted slots new → IsStored ps slots order → IsStored ps new order
+stored_recounted ps slots new order r s =
     record {
       present = λ i lt. r.present (get_or order i 0) (s.present i lt);
       no_more = λ key there. s.no_more key (r.no_more key there);
@@ -101,7 +101,7 @@ stored_recounted slots new order r s =
           (let P : List Entry → Type 0 = λ (es : List Entry). IsClassifierOfRules (map (λ (e : Entry). e.rule) es) (row_at new (get_or order i 0)).classifier in
           let Q : Classified → Type 0 = λ (c : Classified). IsClassifierOfRules (rules_in (row_at slots (get_or order i 0))) c in
           subst P (sym (r.entries (get_or order i 0))) (subst Q (sym (r.classifier (get_or order i 0))) (s.classified i lt)));
-      sound = let P : List Chain → Type 0 = λ (cs : List Chain). IsSound (record { policies = Accept ∷ Accept ∷ Accept ∷ []; chains = cs }) in subst P (sym (listed_recounted slots new order r)) s.sound;
+      sound = let P : List Chain → Type 0 = λ (cs : List Chain). IsSound (record { policies = ps; chains = cs }) in subst P (sym (listed_recounted slots new order r)) s.sound;
     }
 
 -- counts that move as the rules do stay right
@@ -129,17 +129,17 @@ key_mem [] i key lt e = absurd (omega (arith, lt))
 key_mem (x ∷ xs) zero key lt e = inl (sym e)
 key_mem (x ∷ xs) (suc i) key lt e = inr (key_mem xs i key (omega (arith, lt)) e)
 
-pub found_leading : (slots : List (Option Row)) (order : List ℕ) (i key k : ℕ) (row new : Row) → Found slots order i key row
+pub found_leading : (ps : List Policy) (slots : List (Option Row)) (order : List ℕ) (i key k : ℕ) (row new : Row) → Found ps slots order i key row
     → leading (set slots key (Some new)) order k + leading_in k row ≡ leading slots order k + leading_in k new
-found_leading slots order i key k row new f = leading_set slots order key k row new f.slot (keys_differ order f.stored.apart) (key_mem order i key f.place f.at)
+found_leading ps slots order i key k row new f = leading_set slots order key k row new f.slot (keys_differ order f.stored.apart) (key_mem order i key f.place f.at)
 
 -- There are few of them
 
-pub rules_few : (slots : List (Option Row)) (order : List ℕ) → IsStored slots order → (i : ℕ) → i < length order → length (row_at slots (get_or order i 0)).entries ≤ 8192
-rules_few slots order s i lt =
+pub rules_few : (ps : List Policy) (slots : List (Option Row)) (order : List ℕ) → IsStored ps slots order → (i : ℕ) → i < length order → length (row_at slots (get_or order i 0)).entries ≤ 8192
+rules_few ps slots order s i lt =
     let d : Chain = record { name = []; rules = [] } in
     let c : Chain = get_or (listed slots order) i d in
-    let h : IsSoundChain (table_of slots order) c = s.sound.chains i d (omega (arith, lt, length-listed slots order)) in
+    let h : IsSoundChain (table_with ps slots order) c = s.sound.chains i d (omega (arith, lt, length-listed slots order)) in
     let few : length c.rules ≤ 8192 = h.few in
     omega (arith, few, ap (λ (x : Chain). length x.rules) (listed_get slots order i d lt), length-map (row_at slots (get_or order i 0)).entries (λ (e : Entry). e.rule))
 
@@ -157,16 +157,16 @@ users_from (suc n) (x ∷ xs) h =
     ]
 
 -- the chains are at most 1,027
-pub chains_few : (slots : List (Option Row)) (order : List ℕ) → IsStored slots order → length order ≤ 1027
-chains_few slots order s =
+pub chains_few : (ps : List Policy) (slots : List (Option Row)) (order : List ℕ) → IsStored ps slots order → length order ≤ 1027
+chains_few ps slots order s =
     let ns : List (List ℕ) = names_of (listed slots order) in
     let few : length (user_chains (listed slots order)) ≤ 1024 = s.sound.few in
     omega (arith, few, users_from 3 ns s.sound.listed.user, users_by_names (listed slots order), length-names slots order)
 
 -- a count has room for one more
-pub count_has_room : (slots : List (Option Row)) (order : List ℕ) (key : ℕ) → IsStored slots order → IsCounted slots order → IsIn order key → references_at slots key + 1 < 2 ^ 64
-count_has_room slots order key s h at =
+pub count_has_room : (ps : List Policy) (slots : List (Option Row)) (order : List ℕ) (key : ℕ) → IsStored ps slots order → IsCounted slots order → IsIn order key → references_at slots key + 1 < 2 ^ 64
+count_has_room ps slots order key s h at =
     let c : references_at slots key ≡ leading slots order key = let P : ℕ → Type 0 = λ k. references_at slots k ≡ leading slots order k in subst P at.2 (h at.0 at.1) in
-    let a : leading slots order key ≤ length order * 8192 = leading_few slots order key 8192 (rules_few slots order s) in
-    let b : length order ≤ 1027 = chains_few slots order s in
+    let a : leading slots order key ≤ length order * 8192 = leading_few slots order key 8192 (rules_few ps slots order s) in
+    let b : length order ≤ 1027 = chains_few ps slots order s in
     omega (arith, a, b, c)

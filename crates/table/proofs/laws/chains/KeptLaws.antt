@@ -7,10 +7,10 @@ use Rattle.std.proofs.lemmas.List.Elements.{All-weaker}
 use Rattle.std.proofs.lemmas.Slice.Eq.{bytes_eq-Decides}
 use Rattle.rules.specs.rule.Rules.{Rule}
 use Rattle.table.specs.chains.Sound.{IsSound}
-use Rattle.table.specs.chains.Table.{Chain, Table, is_named, chain_named_by}
+use Rattle.table.specs.chains.Table.{Policy, Chain, Table, is_named, chain_named_by}
 use Rattle.table.specs.edits.Edits.{changed_chain}
 use Rattle.table.specs.steps.Rows.{Row, rules_in, IsClassified}
-use Rattle.table.specs.steps.Kept.{blank, slot_at, row_at, listed_row, listed_at, listed, table_of, LinksTo, IsLinked, IsStored}
+use Rattle.table.specs.steps.Kept.{blank, slot_at, row_at, listed_row, listed_at, listed, table_with, LinksTo, IsLinked, IsStored}
 use Rattle.table.specs.declared.chain.entry.Entry.{Entry}
 use Rattle.table.specs.steps.Kept.{name_at}
 use Rattle.table.proofs.laws.chains.StoreLaws.{names_apart, texts_differ}
@@ -61,16 +61,16 @@ listed_by g slots new [] h = refl
 listed_by g slots new (x ∷ xs) h = λ i. h 0 (omega arith) i ∷ listed_by g slots new xs (λ k lt. h (suc k) (omega (arith, lt))) i
 
 -- a chain that was looked up by its place
-pub record Found (slots : List (Option Row)) (order : List ℕ) (i key : ℕ) (row : Row) : Type 0 where
-  pub stored : IsStored slots order
+pub record Found (ps : List Policy) (slots : List (Option Row)) (order : List ℕ) (i key : ℕ) (row : Row) : Type 0 where
+  pub stored : IsStored ps slots order
   pub place : i < length order
   pub at : get_or order i 0 ≡ key
   pub slot : slot_at slots key ≡ Some row
   pub within : key < length slots
   pub is : row_at slots key ≡ row
 
-pub found_key : (slots : List (Option Row)) (order : List ℕ) (i key : ℕ) (row : Row) → IsStored slots order → i < length order → get_or order i 0 ≡ key → slot_at slots key ≡ Some row → Found slots order i key row
-found_key slots order i key row s lt at slot =
+pub found_key : (ps : List Policy) (slots : List (Option Row)) (order : List ℕ) (i key : ℕ) (row : Row) → IsStored ps slots order → i < length order → get_or order i 0 ≡ key → slot_at slots key ≡ Some row → Found ps slots order i key row
+found_key ps slots order i key row s lt at slot =
     let P : Option Row → Type 0 = λ (o : Option Row). IsSome o in
     record {
       stored = s;
@@ -81,17 +81,17 @@ found_key slots order i key row s lt at slot =
       is = ap (λ (o : Option Row). unwrap_or o blank) slot;
     }
 
-pub found : (slots : List (Option Row)) (order : List ℕ) (i key : ℕ) (row : Row) → IsStored slots order → i < length order → key ≡ get_or order i key → slot_at slots key ≡ Some row → Found slots order i key row
-found slots order i key row s lt at slot = found_key slots order i key row s lt (get_or_default order i 0 key lt ∙ sym at) slot
+pub found : (ps : List Policy) (slots : List (Option Row)) (order : List ℕ) (i key : ℕ) (row : Row) → IsStored ps slots order → i < length order → key ≡ get_or order i key → slot_at slots key ≡ Some row → Found ps slots order i key row
+found ps slots order i key row s lt at slot = found_key ps slots order i key row s lt (get_or_default order i 0 key lt ∙ sym at) slot
 
 -- another key of the index is not the found one's
-other_key : (slots : List (Option Row)) (order : List ℕ) (i key k : ℕ) (row : Row) → Found slots order i key row → k < length order → k ≢ i → get_or order k 0 ≢ key
-other_key slots order i key k row f lk ne q = ne (f.stored.apart k i lk f.place (q ∙ sym f.at))
+other_key : (ps : List Policy) (slots : List (Option Row)) (order : List ℕ) (i key k : ℕ) (row : Row) → Found ps slots order i key row → k < length order → k ≢ i → get_or order k 0 ≢ key
+other_key ps slots order i key k row f lk ne q = ne (f.stored.apart k i lk f.place (q ∙ sym f.at))
 
 -- the rules of one chain are changed
-pub listed_set : (slots : List (Option Row)) (order : List ℕ) (i key : ℕ) (row new : Row) (edit : List Rule → List Rule) → Found slots order i key row → new.name ≡ row.name → rules_in new ≡ edit (rules_in row)
+pub listed_set : (ps : List Policy) (slots : List (Option Row)) (order : List ℕ) (i key : ℕ) (row new : Row) (edit : List Rule → List Rule) → Found ps slots order i key row → new.name ≡ row.name → rules_in new ≡ edit (rules_in row)
     → listed (set slots key (Some new)) order ≡ map (changed_chain edit row.name) (listed slots order)
-listed_set slots order i key row new edit f named rules =
+listed_set ps slots order i key row new edit f named rules =
     let after : List (Option Row) = set slots key (Some new) in
     let name : (j : ℕ) → j < length order → get_or order j 0 ≡ key → name_at slots order j ≡ row.name = λ j lt q. ap (λ (k : ℕ). (row_at slots k).name) q ∙ ap (λ (r : Row). r.name) f.is in
     listed_by (changed_chain edit row.name) slots after order
@@ -105,8 +105,8 @@ listed_set slots order i key row new edit f named rules =
           ap (listed_at after) at ∙ ap listed_row (row_set_same slots key new f.within) ∙ is
           ∙ sym (cond-true (is_named row.name (listed_row row)) _ _ ((bytes_eq-Decides row.name row.name).1 refl)) ∙ ap (changed_chain edit row.name) (sym was))
       | inr ne ↦ (
-          let differs : name_at slots order k ≢ row.name = λ q. ne (names_apart slots order f.stored k i lk f.place (q ∙ sym (name i f.place f.at))) in
-          ap listed_row (row_set_other slots key (get_or order k 0) new (other_key slots order i key k row f lk ne))
+          let differs : name_at slots order k ≢ row.name = λ q. ne (names_apart ps slots order f.stored k i lk f.place (q ∙ sym (name i f.place f.at))) in
+          ap listed_row (row_set_other slots key (get_or order k 0) new (other_key ps slots order i key k row f lk ne))
           ∙ sym (cond-false (is_named row.name (listed_at slots (get_or order k 0))) _ _ (texts_differ (name_at slots order k) row.name differs)))
     ])
 
@@ -119,9 +119,9 @@ link_kept slots new order same e l = (l.0, l.1, go l.0 (chain_named_by e.rule) l
     go to (Some n) h = (h.0, same to ∙ h.1)
 
 -- the chains stand as they should after the change, where the plain table is sound
-pub stored_set : (slots : List (Option Row)) (order : List ℕ) (i key : ℕ) (row new : Row) (u : Table) → Found slots order i key row → new.name ≡ row.name → All (IsLinked slots order) new.entries → IsClassified new
-    → table_of (set slots key (Some new)) order ≡ u → IsSound u → IsStored (set slots key (Some new)) order
-stored_set slots order i key row new u f named linked classified is sound =
+pub stored_set : (ps : List Policy) (slots : List (Option Row)) (order : List ℕ) (i key : ℕ) (row new : Row) (u : Table) → Found ps slots order i key row → new.name ≡ row.name → All (IsLinked slots order) new.entries → IsClassified new
+    → table_with ps (set slots key (Some new)) order ≡ u → IsSound u → IsStored ps (set slots key (Some new)) order
+stored_set ps slots order i key row new u f named linked classified is sound =
     let after : List (Option Row) = set slots key (Some new) in
     let same : (k : ℕ) → (row_at after k).name ≡ (row_at slots k).name = λ k. name_set slots key k new f.within (named ∙ ap (λ (r : Row). r.name) (sym f.is)) in
     let weaker : (es : List Entry) → All (IsLinked slots order) es → All (IsLinked after order) es = λ es. All-weaker (IsLinked slots order) (IsLinked after order) (λ e l. link_kept slots after order same e l) es in
@@ -133,16 +133,16 @@ stored_set slots order i key row new u f named linked classified is sound =
           (let Q : Row → Type 0 = λ (r : Row). All (IsLinked after order) r.entries in
           elim (cases_eq k i) [
             | inl q ↦ subst Q (sym (ap (λ (j : ℕ). row_at after (get_or order j 0)) q ∙ ap (row_at after) f.at ∙ row_set_same slots key new f.within)) (weaker new.entries linked)
-            | inr ne ↦ subst Q (sym (row_set_other slots key (get_or order k 0) new (other_key slots order i key k row f lk ne))) (weaker _ (f.stored.linked k lk))
+            | inr ne ↦ subst Q (sym (row_set_other slots key (get_or order k 0) new (other_key ps slots order i key k row f lk ne))) (weaker _ (f.stored.linked k lk))
           ]);
       classified = λ k lk.
           elim (cases_eq k i) [
             | inl q ↦ subst IsClassified (sym (ap (λ (j : ℕ). row_at after (get_or order j 0)) q ∙ ap (row_at after) f.at ∙ row_set_same slots key new f.within)) classified
-            | inr ne ↦ subst IsClassified (sym (row_set_other slots key (get_or order k 0) new (other_key slots order i key k row f lk ne))) (f.stored.classified k lk)
+            | inr ne ↦ subst IsClassified (sym (row_set_other slots key (get_or order k 0) new (other_key ps slots order i key k row f lk ne))) (f.stored.classified k lk)
           ];
       sound = subst IsSound (sym is) sound;
     }
 
 -- nothing is changed
-pub found_same : (slots : List (Option Row)) (order : List ℕ) (i key : ℕ) (row new : Row) → Found slots order i key row → new ≡ row → set slots key (Some new) ≡ slots
-found_same slots order i key row new f same = ap (λ (o : Option Row). set slots key o) (ap (λ (r : Row). Some r) same ∙ sym f.slot) ∙ set-get_or slots key None
+pub found_same : (ps : List Policy) (slots : List (Option Row)) (order : List ℕ) (i key : ℕ) (row new : Row) → Found ps slots order i key row → new ≡ row → set slots key (Some new) ≡ slots
+found_same ps slots order i key row new f same = ap (λ (o : Option Row). set slots key o) (ap (λ (r : Row). Some r) same ∙ sym f.slot) ∙ set-get_or slots key None

@@ -5,7 +5,7 @@ use Rattle.std.proofs.lemmas.Bool.{cases_eq, false≢true}
 use Rattle.std.proofs.lemmas.List.Elements.{All-nil}
 use Rattle.table.specs.chains.Sound.{IsSound}
 use Rattle.table.specs.chains.Table.{Chain, Policy, Accept, empty_table, empty_chain}
-use Rattle.table.specs.steps.Kept.{blank, slot_at, row_at, listed, listed_at, listed_row, leading, leading_in, IsIn, IsLinked, IsWhole}
+use Rattle.table.specs.steps.Kept.{blank, slot_at, row_at, listed, listed_at, listed_row, leading, leading_in, IsIn, IsLinked, IsKept, IsUnmarked}
 use Rattle.table.specs.steps.Rows.{Row, leads_to, IsClassified}
 use Rattle.table.specs.declared.chain.entry.Entry.{Entry}
 use Rattle.table.proofs.laws.chains.SoundLaws.{empty_sound}
@@ -110,9 +110,9 @@ module _ (s1 s2 s3 : List (Option Row)) (a b c : ℕ) (ra rb rc : Row) (t : Thre
   counted_at : (k : ℕ) (row : Row) (name : List ℕ) → slot_at s3 k ≡ Some row → IsBare row name → (row_at s3 k).references ≡ leading s3 (a ∷ b ∷ c ∷ []) k
   counted_at k row name e bare = ap (λ (r : Row). r.references) (under k row e) ∙ bare.references ∙ sym (nothing_leads k)
 
-  pub whole_three : (ps : List Policy) (order : List ℕ) (seen : List Bool) → length ps ≡ 3 → order ≡ a ∷ b ∷ c ∷ [] → ((k : ℕ) → get_or seen k false ≡ false) → a < length seen → b < length seen → c < length seen → IsWhole ps s3 order seen
+  pub whole_three : (ps : List Policy) (order : List ℕ) (seen : List Bool) → length ps ≡ 3 → order ≡ a ∷ b ∷ c ∷ [] → ((k : ℕ) → get_or seen k false ≡ false) → a < length seen → b < length seen → c < length seen → IsKept ps s3 order × IsUnmarked order seen
   whole_three ps order seen three_policies is clear an bn cn =
-      let P : List ℕ → Type 0 = λ ks. IsWhole ps s3 ks seen in
+      let P : List ℕ → Type 0 = λ ks. IsKept ps s3 ks × IsUnmarked ks seen in
       let S : ℕ → Type 0 = λ k. IsSome (slot_at s3 k) in
       let O : Option Row → Type 0 = λ (o : Option Row). IsSome o in
       let three : List ℕ = a ∷ b ∷ c ∷ [] in
@@ -120,26 +120,25 @@ module _ (s1 s2 s3 : List (Option Row)) (a b c : ℕ) (ra rb rc : Row) (t : Thre
       let E : List Entry → Type 0 = λ (es : List Entry). All (IsLinked s3 three) es in
       let C : ℕ → Type 0 = λ k. IsClassified (row_at s3 k) in
       let R : ℕ → Type 0 = λ k. (row_at s3 k).references ≡ leading s3 three k in
-      let T : List Chain → Type 0 = λ (cs : List Chain). IsSound (record { policies = Accept ∷ Accept ∷ Accept ∷ []; chains = cs }) in
+      let T : List Chain → Type 0 = λ (cs : List Chain). IsSound (record { policies = ps; chains = cs }) in
       let none : (k : ℕ) (row : Row) (name : List ℕ) → slot_at s3 k ≡ Some row → IsBare row name → L k = λ k row name e bare. subst E (sym (empty_at k row name e bare)) (All-nil (IsLinked s3 three)) in
       let right : (k : ℕ) (row : Row) (name : List ℕ) → slot_at s3 k ≡ Some row → IsBare row name → C k = λ k row name e bare. subst IsClassified (sym (under k row e)) bare.classified in
-      subst P (sym is) (record {
-        policies = three_policies;
-        kept = record {
+      subst P (sym is) (
+        record {
           stored = record {
             present = each S (subst O (sym at_a) refl) (subst O (sym at_b) refl) (subst O (sym t.third) refl);
             no_more = only_three;
             apart = three_apart;
             linked = each L (none a ra (codes "INPUT") at_a t.input) (none b rb (codes "FORWARD") at_b t.forward) (none c rc (codes "OUTPUT") t.third t.output);
             classified = each C (right a ra (codes "INPUT") at_a t.input) (right b rb (codes "FORWARD") at_b t.forward) (right c rc (codes "OUTPUT") t.third t.output);
-            sound = subst T (sym listed_three) empty_sound;
+            sound = subst T (sym listed_three) (empty_sound (record { policies = ps; chains = [] }) three_policies);
           };
           counted = each R (counted_at a ra (codes "INPUT") at_a t.input) (counted_at b rb (codes "FORWARD") at_b t.forward) (counted_at c rc (codes "OUTPUT") t.third t.output);
-        };
-        unmarked = record {
+        },
+        record {
           within = λ k inn. (
               let W : ℕ → Type 0 = λ x. x < length seen in
               subst W inn.2 (each W an bn cn inn.0 inn.1));
           clear = clear;
-        };
-      })
+        },
+      )

@@ -5,21 +5,21 @@ use Rattle.std.proofs.lemmas.Bool.{cases_Bool, cond-true, cond-false, false≢tr
 use Rattle.std.proofs.lemmas.Slice.Eq.{bytes_eq-Decides}
 use Rattle.std.specs.Str.{bytes_eq}
 use Rattle.rules.specs.rule.Rules.{Rule}
-use Rattle.table.specs.chains.Table.{Chain, Table, built_in_names, empty_chain, empty_table, is_named, rules_of, chain_named_by}
+use Rattle.table.specs.chains.Table.{Chain, Table, built_in_names, empty_chain, empty_table, is_named, rules_of, chain_named_by, emptied}
 use Rattle.table.specs.edits.Edits.{leads, changed_chain, changed}
 use Rattle.table.specs.chains.Sound.{Names, Path, Leads, HasNoLoop, IsSoundChain, IsSound}
 use Rattle.table.proofs.laws.chains.PathLaws.{step_on, path_is_led}
 
 -- The first table
 
-empty_sound_chain : (name : List ℕ) → IsSoundChain empty_table (empty_chain name)
-empty_sound_chain name = record { rules = λ k d lt. absurd (omega arith); few = omega arith }
+empty_sound_chain : (t : Table) (name : List ℕ) → IsSoundChain (emptied t) (empty_chain name)
+empty_sound_chain t name = record { rules = λ k d lt. absurd (omega arith); few = omega arith }
 
-empty_sound_chains : (k : ℕ) (d : Chain) → k < 3 → IsSoundChain empty_table (slice_index_or empty_table.chains k d)
-empty_sound_chains zero d lt = empty_sound_chain (codes "INPUT")
-empty_sound_chains (suc zero) d lt = empty_sound_chain (codes "FORWARD")
-empty_sound_chains (suc (suc zero)) d lt = empty_sound_chain (codes "OUTPUT")
-empty_sound_chains (suc (suc (suc k))) d lt = absurd (omega arith)
+empty_sound_chains : (t : Table) (k : ℕ) (d : Chain) → k < 3 → IsSoundChain (emptied t) (slice_index_or empty_table.chains k d)
+empty_sound_chains t zero d lt = empty_sound_chain t (codes "INPUT")
+empty_sound_chains t (suc zero) d lt = empty_sound_chain t (codes "FORWARD")
+empty_sound_chains t (suc (suc zero)) d lt = empty_sound_chain t (codes "OUTPUT")
+empty_sound_chains t (suc (suc (suc k))) d lt = absurd (omega arith)
 
 no_rules : (names : List (List ℕ)) (a : List ℕ) → length (rules_of (map empty_chain names) a) ≡ 0
 no_rules [] a = refl
@@ -29,11 +29,11 @@ no_rules (n ∷ ns) a =
       | inr un ↦ ap (λ (rs : List Rule). length rs) (cond-false (is_named a (empty_chain n)) _ _ un) ∙ no_rules ns a
     ]
 
-pub empty_sound : IsSound empty_table
-empty_sound = record {
-  policies = refl;
+pub empty_sound : (t : Table) → length t.policies ≡ 3 → IsSound (emptied t)
+empty_sound t three = record {
+  policies = three;
   listed = record { built_in = refl; user = λ k d lt. absurd (omega arith); order = λ i j d below lt. absurd (omega arith) };
-  chains = λ k d lt. empty_sound_chains k d lt;
+  chains = λ k d lt. empty_sound_chains t k d lt;
   no_loop = λ n a p. absurd (let e = no_rules built_in_names a in omega (arith, e, p.1.1.1));
   few = omega arith;
 }

@@ -3,14 +3,12 @@ use Rattle.std.proofs.Common.{◌≡◌, inl, inr, ℕ, zero, suc, ◌<◌, Bool
 use Rattle.std.specs.List.{list_any, position}
 use Rattle.std.proofs.lemmas.Bool.{cases_Bool, cond-true, cond-false}
 use Rattle.std.proofs.lemmas.List.{length-map}
-use Rattle.std.proofs.lemmas.List.Elements.{All-weaker}
 use Rattle.rules.specs.rule.Rules.{Rule}
 use Rattle.rules.proofs.laws.rule.CrossLaws.{any_mapped}
 use Rattle.std.specs.Option.{IsSome}
 use Rattle.std.proofs.lemmas.Bool.{false≢true}
 use Rattle.fields.specs.Refusals.{Refuses}
 use Rattle.fields.specs.values.Name.{is_name, name_of}
-use Rattle.table.specs.chains.Sound.{IsSound}
 use Rattle.table.specs.chains.Table.{Table, TableView, Chain, Policy, AreClassified, is_named, has_chain, rules_of}
 use Rattle.table.specs.edits.Edits.{Edit, Cause, same_text, without_first, no_such_rule, changed_chain, TableFault, NoSuchChain, fault_of, first_fault, edited, changed, step, refusal_of, Answers, IsStep, IsStepIfRoom, NoMemory, no_such_chain}
 use Rattle.table.specs.declared.chain.entry.Course.TheVariants as course
@@ -19,19 +17,25 @@ use Rattle.std.specs.Prelude.{remove}
 use Rattle.std.proofs.lemmas.List.Quantifiers.{position-Some}
 use Rattle.std.proofs.lemmas.Slice.Eq.{bytes_eq-Decides}
 use Rattle.table.specs.steps.Rows.{Row, rule_in, rules_in, has_text, IsClassified}
-use Rattle.table.specs.steps.Kept.{row_at, name_at, listed, listed_row, blank, classifiers, table_of, IsStored}
+use Rattle.table.specs.steps.Kept.{row_at, name_at, listed, listed_row, blank, classifiers, table_of, table_with, name_in, row_in, AreStored}
+use Rattle.table.specs.declared.parts.Parts.{Parts}
 use Rattle.table.proofs.laws.chains.PlaceLaws.{any_none, any_some, IsPlaced, placed_at, placed_nowhere}
 use Rattle.table.proofs.laws.chains.StoreLaws.{names_apart, listed_get, length-listed}
-use Rattle.table.proofs.laws.chains.ChainLaws.{sound_weaker}
 use Rattle.table.proofs.laws.edits.MemoryLaws.{never_memory}
 
 -- An answer is right
 
-pub refused : (edit : Edit) (old : TableView) (f : TableFault) → fault_of edit old.table ≡ Some f → IsStep edit old old (Err f)
-refused edit old f h = let P : Option TableFault → Type 0 = λ (o : Option TableFault). Answers (elim o [ None ↦ Ok (edited edit old.table) | Some g ↦ Err g ]) old old (Err f) in subst P (sym h) (refl, refl)
+pub refused : (edit : Edit) {shown old : TableView} → shown ≡ old → (f : TableFault) → fault_of edit shown.table ≡ Some f → IsStep edit old old (Err f)
+refused edit {shown} {old} is f h =
+    let P : Option TableFault → Type 0 = λ (o : Option TableFault). Answers (elim o [ None ↦ Ok (edited edit shown.table) | Some g ↦ Err g ]) shown shown (Err f) in
+    let Q : TableView → Type 0 = λ v. IsStep edit v v (Err f) in
+    subst Q is (subst P (sym h) (refl, refl))
 
-pub done : (edit : Edit) (old new : TableView) → fault_of edit old.table ≡ None → new.table ≡ edited edit old.table → IsStep edit old new (Ok tt)
-done edit old new h is = let P : Option TableFault → Type 0 = λ (o : Option TableFault). Answers (elim o [ None ↦ Ok (edited edit old.table) | Some g ↦ Err g ]) old new (Ok tt) in subst P (sym h) (refl, is)
+pub done : (edit : Edit) {shown old : TableView} → shown ≡ old → (new : TableView) → fault_of edit shown.table ≡ None → new.table ≡ edited edit shown.table → IsStep edit old new (Ok tt)
+done edit {shown} {old} is new h e =
+    let P : Option TableFault → Type 0 = λ (o : Option TableFault). Answers (elim o [ None ↦ Ok (edited edit shown.table) | Some g ↦ Err g ]) shown new (Ok tt) in
+    let Q : TableView → Type 0 = λ v. IsStep edit v new (Ok tt) in
+    subst Q is (subst P (sym h) (refl, e))
 
 -- a fault is a refusal, or says that memory ran out
 refuses : (f : TableFault) (given : Result Table TableFault) → given ≡ Err f → Refuses (refusal_of f) given
@@ -55,15 +59,17 @@ if_room edit old new r = go (fault_of edit old.table) refl
         let late : f ≡ NoMemory → fault_of edit old.table ≡ None = λ is. absurd (never_memory edit old.table (due ∙ ap Some is)) in
         subst (IsStepIfRoom edit old new) (sym a.0) (refuses f (step edit old.table) gives, (a.1, late))
 
-pub refused_if_room : (edit : Edit) (old : TableView) (f : TableFault) → fault_of edit old.table ≡ Some f → IsStepIfRoom edit old old (Err f)
-refused_if_room edit old f h = if_room edit old old (Err f) (refused edit old f h)
+pub refused_if_room : (edit : Edit) {shown old : TableView} → shown ≡ old → (f : TableFault) → fault_of edit shown.table ≡ Some f → IsStepIfRoom edit old old (Err f)
+refused_if_room edit {shown} {old} is f h = if_room edit old old (Err f) (refused edit is f h)
 
-pub done_if_room : (edit : Edit) (old new : TableView) → fault_of edit old.table ≡ None → new.table ≡ edited edit old.table → IsStepIfRoom edit old new (Ok tt)
-done_if_room edit old new h is = if_room edit old new (Ok tt) (done edit old new h is)
+pub done_if_room : (edit : Edit) {shown old : TableView} → shown ≡ old → (new : TableView) → fault_of edit shown.table ≡ None → new.table ≡ edited edit shown.table → IsStepIfRoom edit old new (Ok tt)
+done_if_room edit {shown} {old} is new h e = if_room edit old new (Ok tt) (done edit is new h e)
 
 -- where nothing but memory refuses
-pub no_room : (edit : Edit) (old : TableView) → fault_of edit old.table ≡ None → IsStepIfRoom edit old old (Err NoMemory)
-no_room edit old h = (tt, (refl, λ is. h))
+pub no_room : (edit : Edit) {shown old : TableView} → shown ≡ old → (new : TableView) → new ≡ shown → fault_of edit shown.table ≡ None → IsStepIfRoom edit old new (Err NoMemory)
+no_room edit {shown} {old} is new same h =
+    let P : TableView → Type 0 = λ v. fault_of edit v.table ≡ None in
+    (tt, (same ∙ is, λ e. subst P is h))
 
 -- Causes, one after another
 
@@ -81,53 +87,35 @@ nowhere t name cs e = holds (no_such_chain t name) cs (ap not (placed_nowhere t 
 pub somewhere : (t : Table) (name : List ℕ) (i : ℕ) (cs : List Cause) → position (is_named name) t.chains ≡ Some i → first_fault (no_such_chain t name ∷ cs) ≡ first_fault cs
 somewhere t name i cs e = passes (no_such_chain t name) cs (let p : IsPlaced t name i = placed_at t name i e in ap not p.there)
 
--- What a table shows
+-- A chain that was found
 
-abbrev pub table_with : List Policy → List (Option Row) → List ℕ → Table
-table_with policies slots order = record { policies = policies; chains = listed slots order }
+module _ (ps : List Policy) (slots : List (Option Row)) (order name : List ℕ) (i : ℕ) (lt : i < length order) (e : position (is_named name) (listed slots order) ≡ Some i) where
+  placed_here : IsPlaced (table_with ps slots order) name i
+  placed_here = placed_at (table_with ps slots order) name i e
 
-abbrev pub view_with : List Policy → List (Option Row) → List ℕ → TableView
-view_with policies slots order = record { table = table_with policies slots order; classifiers = classifiers slots order }
+  pub rules_placed : rules_of (listed slots order) name ≡ rules_in (row_at slots (get_or order i 0))
+  rules_placed = placed_here.rules (listed_row blank) ∙ ap (λ (c : Chain). c.rules) (listed_get slots order i (listed_row blank) lt)
 
--- what holds of what a table's fields show holds of what it shows
-pub by_view : (P : TableView → Type 0) {shown view : TableView} → shown ≡ view → P shown → P view
-by_view P e h = subst P e h
+  pub count_placed : length (rules_of (listed slots order) name) ≡ length (row_at slots (get_or order i 0)).entries
+  count_placed = ap (λ (rs : List Rule). length rs) rules_placed ∙ length-map (row_at slots (get_or order i 0)).entries (λ x. x.rule)
 
--- the rules of a chain that was found
-pub rules_found : (policies : List Policy) (slots : List (Option Row)) (order : List ℕ) (name : List ℕ) (i : ℕ) → i < length order → position (is_named name) (listed slots order) ≡ Some i
-    → rules_of (listed slots order) name ≡ rules_in (row_at slots (get_or order i 0))
-rules_found policies slots order name i lt e =
-    let p : IsPlaced (table_with policies slots order) name i = placed_at (table_with policies slots order) name i e in
-    p.rules (listed_row blank) ∙ ap (λ (c : Chain). c.rules) (listed_get slots order i (listed_row blank) lt)
+  pub name_placed : name_at slots order i ≡ name
+  name_placed = ap (λ (c : Chain). c.name) (sym (listed_get slots order i (listed_row blank) lt)) ∙ placed_here.named (listed_row blank)
 
-pub count_found : (policies : List Policy) (slots : List (Option Row)) (order : List ℕ) (name : List ℕ) (i : ℕ) → i < length order → position (is_named name) (listed slots order) ≡ Some i
-    → length (rules_of (listed slots order) name) ≡ length (row_at slots (get_or order i 0)).entries
-count_found policies slots order name i lt e = ap (λ (rs : List Rule). length rs) (rules_found policies slots order name i lt e) ∙ length-map (row_at slots (get_or order i 0)).entries (λ x. x.rule)
+-- of parts: its rules, how many there are, and its name
+pub rules_found : (p : Parts) (name : List ℕ) (i : ℕ) → i < length p.order.items → position (is_named name) (table_of p).chains ≡ Some i → rules_of (table_of p).chains name ≡ rules_in (row_in p i)
+rules_found p name i lt e = rules_placed p.policies p.chains.slots p.order.items name i lt e
 
-pub name_found : (policies : List Policy) (slots : List (Option Row)) (order : List ℕ) (name : List ℕ) (i : ℕ) → i < length order → position (is_named name) (listed slots order) ≡ Some i → name_at slots order i ≡ name
-name_found policies slots order name i lt e =
-    let p : IsPlaced (table_with policies slots order) name i = placed_at (table_with policies slots order) name i e in
-    ap (λ (c : Chain). c.name) (sym (listed_get slots order i (listed_row blank) lt)) ∙ p.named (listed_row blank)
+pub count_found : (p : Parts) (name : List ℕ) (i : ℕ) → i < length p.order.items → position (is_named name) (table_of p).chains ≡ Some i → length (rules_of (table_of p).chains name) ≡ length (row_in p i).entries
+count_found p name i lt e = count_placed p.policies p.chains.slots p.order.items name i lt e
 
--- the table after an edit of a chain that was found
-pub changed_found : (policies : List Policy) (slots new : List (Option Row)) (order : List ℕ) (name : List ℕ) (i : ℕ) (edit : List Rule → List Rule) → i < length order → position (is_named name) (listed slots order) ≡ Some i
-    → table_of new order ≡ changed edit (name_at slots order i) (table_of slots order) → table_with policies new order ≡ changed edit name (table_with policies slots order)
-changed_found policies slots new order name i edit lt e is =
-    let P : Table → Table = λ (t : Table). record { policies = policies; chains = t.chains } in
-    ap P is ∙ ap (λ n. changed edit n (table_with policies slots order)) (name_found policies slots order name i lt e)
+pub name_found : (p : Parts) (name : List ℕ) (i : ℕ) → i < length p.order.items → position (is_named name) (table_of p).chains ≡ Some i → name_in p i ≡ name
+name_found p name i lt e = name_placed p.policies p.chains.slots p.order.items name i lt e
 
--- soundness, whatever the policies
-pub sound_with : (policies : List Policy) (slots : List (Option Row)) (order : List ℕ) → length policies ≡ 3 → IsSound (table_of slots order) → IsSound (table_with policies slots order)
-sound_with policies slots order three s =
-    let t : Table = table_of slots order in
-    let u : Table = table_with policies slots order in
-    record {
-      policies = three;
-      listed = s.listed;
-      chains = All-weaker _ _ (sound_weaker t u (λ n e. e)) t.chains s.chains;
-      no_loop = s.no_loop;
-      few = s.few;
-    }
+-- the table after an edit of it
+pub changed_found : (p new : Parts) (name : List ℕ) (i : ℕ) (edit : List Rule → List Rule) → i < length p.order.items → position (is_named name) (table_of p).chains ≡ Some i
+    → table_of new ≡ changed edit (name_in p i) (table_of p) → table_of new ≡ changed edit name (table_of p)
+changed_found p new name i edit lt e is = is ∙ ap (λ n. changed edit n (table_of p)) (name_found p name i lt e)
 
 -- each chain's classifier is that of its rules
 pub classified_with : (slots : List (Option Row)) (keys : List ℕ) → ((i : ℕ) → i < length keys → IsClassified (row_at slots (get_or keys i 0))) → AreClassified (listed slots keys) (classifiers slots keys)
@@ -137,18 +125,18 @@ classified_with slots (x ∷ xs) h = (h 0 (omega arith), classified_with slots x
 -- Rules by their texts
 
 -- no rule of a chain has the text
-pub no_text : (policies : List Policy) (slots : List (Option Row)) (order : List ℕ) (name : List ℕ) (i : ℕ) (rule : Rule) → i < length order → position (is_named name) (listed slots order) ≡ Some i
-    → position (has_text rule) (row_at slots (get_or order i 0)).entries ≡ None → (no_such_rule (table_with policies slots order) name rule).0 ≡ true
-no_text policies slots order name i rule lt e none =
-    let es : List Entry = (row_at slots (get_or order i 0)).entries in
-    ap not (ap (list_any (same_text rule)) (rules_found policies slots order name i lt e) ∙ any_mapped (same_text rule) rule_in es ∙ any_none (has_text rule) es none)
+pub no_text : (p : Parts) (name : List ℕ) (i : ℕ) (rule : Rule) → i < length p.order.items → position (is_named name) (table_of p).chains ≡ Some i
+    → position (has_text rule) (row_in p i).entries ≡ None → (no_such_rule (table_of p) name rule).0 ≡ true
+no_text p name i rule lt e none =
+    let es : List Entry = (row_in p i).entries in
+    ap not (ap (list_any (same_text rule)) (rules_found p name i lt e) ∙ any_mapped (same_text rule) rule_in es ∙ any_none (has_text rule) es none)
 
 -- one has
-pub some_text : (policies : List Policy) (slots : List (Option Row)) (order : List ℕ) (name : List ℕ) (i at : ℕ) (rule : Rule) → i < length order → position (is_named name) (listed slots order) ≡ Some i
-    → position (has_text rule) (row_at slots (get_or order i 0)).entries ≡ Some at → (no_such_rule (table_with policies slots order) name rule).0 ≡ false
-some_text policies slots order name i at rule lt e found =
-    let es : List Entry = (row_at slots (get_or order i 0)).entries in
-    ap not (ap (list_any (same_text rule)) (rules_found policies slots order name i lt e) ∙ any_mapped (same_text rule) rule_in es ∙ any_some (has_text rule) es at (record { rule = rule; course = course.GoesOn }) found)
+pub some_text : (p : Parts) (name : List ℕ) (i at : ℕ) (rule : Rule) → i < length p.order.items → position (is_named name) (table_of p).chains ≡ Some i
+    → position (has_text rule) (row_in p i).entries ≡ Some at → (no_such_rule (table_of p) name rule).0 ≡ false
+some_text p name i at rule lt e found =
+    let es : List Entry = (row_in p i).entries in
+    ap not (ap (list_any (same_text rule)) (rules_found p name i lt e) ∙ any_mapped (same_text rule) rule_in es ∙ any_some (has_text rule) es at (record { rule = rule; course = course.GoesOn }) found)
 
 -- the first rule of the text is the one at its place
 without_at : (rule : Rule) (es : List Entry) (at : ℕ) (d : Entry) → at < length es → ((k : ℕ) → k < at → has_text rule (get_or es k d) ≡ false) → has_text rule (get_or es at d) ≡ true → without_first rule (map rule_in es) ≡ remove (map rule_in es) at
@@ -169,11 +157,13 @@ map_agree : (f g : Chain → Chain) (cs : List Chain) (d : Chain) → ((k : ℕ)
 map_agree f g [] d h = refl
 map_agree f g (c ∷ cs) d h = λ i. h 0 (omega arith) i ∷ map_agree f g cs d (λ k lt. h (suc k) (omega (arith, lt))) i
 
-pub changed_agree : (policies : List Policy) (slots : List (Option Row)) (order : List ℕ) (name : List ℕ) (i : ℕ) (f g : List Rule → List Rule) → IsStored slots order → i < length order → name_at slots order i ≡ name
-    → f (rules_in (row_at slots (get_or order i 0))) ≡ g (rules_in (row_at slots (get_or order i 0))) → changed f name (table_with policies slots order) ≡ changed g name (table_with policies slots order)
-changed_agree policies slots order name i f g s lt named same =
+pub changed_agree : (p : Parts) (name : List ℕ) (i : ℕ) (f g : List Rule → List Rule) → AreStored p → i < length p.order.items → name_in p i ≡ name
+    → f (rules_in (row_in p i)) ≡ g (rules_in (row_in p i)) → changed f name (table_of p) ≡ changed g name (table_of p)
+changed_agree p name i f g s lt named same =
+    let slots : List (Option Row) = p.chains.slots in
+    let order : List ℕ = p.order.items in
     let d : Chain = listed_row blank in
-    let P : List Chain → Table = λ (cs : List Chain). record { policies = policies; chains = cs } in
+    let P : List Chain → Table = λ (cs : List Chain). record { policies = p.policies; chains = cs } in
     ap P (map_agree (changed_chain f name) (changed_chain g name) (listed slots order) d
     (λ k lk.
     let below : k < length order = omega (arith, lk, length-listed slots order) in
@@ -182,7 +172,7 @@ changed_agree policies slots order name i f g s lt named same =
     ap (changed_chain f name) at
     ∙ elim (cases_Bool (is_named name c)) [
       | inl own ↦ (
-          let q : k ≡ i = names_apart slots order s k i below lt ((bytes_eq-Decides c.name name).0 own ∙ sym named) in
+          let q : k ≡ i = names_apart p.policies slots order s k i below lt ((bytes_eq-Decides c.name name).0 own ∙ sym named) in
           let R : ℕ → Type 0 = λ j. f (rules_in (row_at slots (get_or order j 0))) ≡ g (rules_in (row_at slots (get_or order j 0))) in
           let e : f c.rules ≡ g c.rules = subst R (sym q) same in
           cond-true (is_named name c) _ _ own ∙ ap (λ (rs : List Rule). record { name = c.name; rules = rs }) e ∙ sym (cond-true (is_named name c) _ _ own))

@@ -5,10 +5,10 @@ use Rattle.std.specs.List.{list_any}
 use Rattle.std.proofs.lemmas.Bool.{cases_Bool, cases_lt, cond-true, cond-false, false≢true, or_left, or_right, or_cases}
 use Rattle.std.proofs.lemmas.List.{length-map}
 use Rattle.std.proofs.lemmas.List.Elements.{All-filter, All-contains_itself}
-use Rattle.table.specs.chains.Table.{Table, Chain, Accept, is_built_in, is_user, user_chains, names, is_referenced}
+use Rattle.table.specs.chains.Table.{Policy, Table, Chain, Accept, is_built_in, is_user, user_chains, names, is_referenced}
 use Rattle.table.specs.edits.Edits.{Cause, DeleteChain, DeleteChains, ChainNotEmpty, ChainReferenced, has_rules, causes, edited, fault_of}
 use Rattle.table.specs.steps.Rows.{Row, rule_in}
-use Rattle.table.specs.steps.Kept.{row_at, name_at, listed, listed_at, table_of, IsStored}
+use Rattle.table.specs.steps.Kept.{row_at, name_at, listed, listed_at, table_with, IsStored}
 use Rattle.table.proofs.laws.chains.FewerLaws.{any_kind, none_kind, filter_within, filter_all, other_than, others_kept, MayGo, may_go}
 use Rattle.table.proofs.laws.chains.StepLaws.{none_holds, first_clear}
 use Rattle.table.proofs.laws.chains.StoreLaws.{built_in_first, user_after, length-listed, listed_get}
@@ -17,27 +17,27 @@ use Rattle.table.proofs.laws.edits.DropLaws.{empty_cause, named_cause, user_faul
 
 -- A test of the user chains, by their places
 
-pub users_any : (slots : List (Option Row)) (order : List ℕ) (f : Chain → Bool) (i : ℕ) → IsStored slots order → 3 ≤ i → i < length order → f (listed_at slots (get_or order i 0)) ≡ true → list_any f (user_chains (listed slots order)) ≡ true
-users_any slots order f i s user lt is =
+pub users_any : (ps : List Policy) (slots : List (Option Row)) (order : List ℕ) (f : Chain → Bool) (i : ℕ) → IsStored ps slots order → 3 ≤ i → i < length order → f (listed_at slots (get_or order i 0)) ≡ true → list_any f (user_chains (listed slots order)) ≡ true
+users_any ps slots order f i s user lt is =
     let d : Chain = listed_at slots (get_or order i 0) in
     let at = listed_get slots order i d lt in
-    any_kind is_user f (listed slots order) i d (omega (arith, lt, length-listed slots order)) (ap is_user at ∙ ap not (user_after slots order (name_at slots order i) i s user lt refl)) (ap f at ∙ is)
+    any_kind is_user f (listed slots order) i d (omega (arith, lt, length-listed slots order)) (ap is_user at ∙ ap not (user_after ps slots order (name_at slots order i) i s user lt refl)) (ap f at ∙ is)
 
-pub users_none : (slots : List (Option Row)) (order : List ℕ) (f : Chain → Bool) → IsStored slots order → ((i : ℕ) → 3 ≤ i → i < length order → f (listed_at slots (get_or order i 0)) ≡ false) → list_any f (user_chains (listed slots order)) ≡ false
-users_none slots order f s h =
+pub users_none : (ps : List Policy) (slots : List (Option Row)) (order : List ℕ) (f : Chain → Bool) → IsStored ps slots order → ((i : ℕ) → 3 ≤ i → i < length order → f (listed_at slots (get_or order i 0)) ≡ false) → list_any f (user_chains (listed slots order)) ≡ false
+users_none ps slots order f s h =
     let d : Chain = listed_at slots 0 in
     none_kind is_user f (listed slots order) d (λ k lt kind.
     (let below : k < length order = omega (arith, lt, length-listed slots order) in
     let at = listed_get slots order k d below in
     elim (cases_lt k 3) [
-      | inl first ↦ absurd (false≢true (sym (ap is_user at ∙ ap not (built_in_first slots order (name_at slots order k) k s first refl)) ∙ kind))
+      | inl first ↦ absurd (false≢true (sym (ap is_user at ∙ ap not (built_in_first ps slots order (name_at slots order k) k s first refl)) ∙ kind))
       | inr user ↦ ap f at ∙ h k user below
     ]))
 
-users_free : (slots : List (Option Row)) (order : List ℕ) (f : Chain → Bool) (i : ℕ) → IsStored slots order → 3 ≤ i → i < length order → list_any f (user_chains (listed slots order)) ≡ false → f (listed_at slots (get_or order i 0)) ≡ false
-users_free slots order f i s user lt none =
+users_free : (ps : List Policy) (slots : List (Option Row)) (order : List ℕ) (f : Chain → Bool) (i : ℕ) → IsStored ps slots order → 3 ≤ i → i < length order → list_any f (user_chains (listed slots order)) ≡ false → f (listed_at slots (get_or order i 0)) ≡ false
+users_free ps slots order f i s user lt none =
     elim (cases_Bool (f (listed_at slots (get_or order i 0)))) [
-      | inl t ↦ absurd (false≢true (sym none ∙ users_any slots order f i s user lt t))
+      | inl t ↦ absurd (false≢true (sym none ∙ users_any ps slots order f i s user lt t))
       | inr n ↦ n
     ]
 
@@ -71,14 +71,14 @@ all_go t none free = passes (all_empty t) (all_unnamed t ∷ []) none ∙ passes
 -- One after another
 
 -- each of them may go
-pub one_goes : (slots : List (Option Row)) (order : List ℕ) (i : ℕ) → IsStored slots order → 3 ≤ i → i < length order → fault_of DeleteChains (table_of slots order) ≡ None → fault_of (DeleteChain (name_at slots order i)) (table_of slots order) ≡ None
-one_goes slots order i s user lt none =
-    let t : Table = table_of slots order in
+pub one_goes : (ps : List Policy) (slots : List (Option Row)) (order : List ℕ) (i : ℕ) → IsStored ps slots order → 3 ≤ i → i < length order → fault_of DeleteChains (table_with ps slots order) ≡ None → fault_of (DeleteChain (name_at slots order i)) (table_with ps slots order) ≡ None
+one_goes ps slots order i s user lt none =
+    let t : Table = table_with ps slots order in
     let n : List ℕ = name_at slots order i in
     let m : MayAllGo t = all_may_go t none in
-    user_fault slots order i s lt user
-    ∙ passes (empty_cause t n) (named_cause t n ∷ []) (ap (nat_lt 0) (many_rules slots order i s lt ∙ sym (length-map (row_at slots (get_or order i 0)).entries rule_in)) ∙ users_free slots order has_rules i s user lt m.empty)
-    ∙ passes (named_cause t n) [] (users_free slots order (λ (c : Chain). is_referenced t.chains c.name) i s user lt m.unnamed)
+    user_fault ps slots order i s lt user
+    ∙ passes (empty_cause t n) (named_cause t n ∷ []) (ap (nat_lt 0) (many_rules ps slots order i s lt ∙ sym (length-map (row_at slots (get_or order i 0)).entries rule_in)) ∙ users_free ps slots order has_rules i s user lt m.empty)
+    ∙ passes (named_cause t n) [] (users_free ps slots order (λ (c : Chain). is_referenced t.chains c.name) i s user lt m.unnamed)
 
 any_of_fewer : {X : Type 0} (f p : X → Bool) (xs : List X) → list_any f (filter p xs) ≡ true → list_any f xs ≡ true
 any_of_fewer f p [] h = h
@@ -118,10 +118,10 @@ same_left t u c is none =
     ap (edited DeleteChains) is ∙ ap P (filter_within (λ (x : Chain). is_built_in x.name) (λ (x : Chain). other_than c x.name) t.chains (λ x b. others_kept c m.user x.name b))
 
 -- none is left
-pub none_left : (slots : List (Option Row)) (order : List ℕ) → IsStored slots order → length order ≤ 3 → edited DeleteChains (table_of slots order) ≡ table_of slots order
-none_left slots order s few =
+pub none_left : (ps : List Policy) (slots : List (Option Row)) (order : List ℕ) → IsStored ps slots order → length order ≤ 3 → edited DeleteChains (table_with ps slots order) ≡ table_with ps slots order
+none_left ps slots order s few =
     let d : Chain = listed_at slots 0 in
-    let P : List Chain → Table = λ (cs : List Chain). record { policies = Accept ∷ Accept ∷ Accept ∷ []; chains = cs } in
+    let P : List Chain → Table = λ (cs : List Chain). record { policies = ps; chains = cs } in
     ap P (filter_all (λ (x : Chain). is_built_in x.name) (listed slots order) d (λ k lt.
     (let below : k < length order = omega (arith, lt, length-listed slots order) in
-    ap (λ (x : Chain). is_built_in x.name) (listed_get slots order k d below) ∙ built_in_first slots order (name_at slots order k) k s (omega (arith, below, few)) refl)))
+    ap (λ (x : Chain). is_built_in x.name) (listed_get slots order k d below) ∙ built_in_first ps slots order (name_at slots order k) k s (omega (arith, below, few)) refl)))

@@ -13,23 +13,23 @@ use Rattle.rules.specs.rule.Rules.{Rule}
 use Rattle.rules.specs.declared.rule.target.Target.{Target}
 use Rattle.rules.specs.declared.rule.target.Target.TheVariants as target
 use Rattle.table.specs.chains.Sound.{IsSound}
-use Rattle.table.specs.chains.Table.{Table, Chain, Accept, is_named, is_this, chain_in, chain_named_by, names, is_referenced, rules_of}
+use Rattle.table.specs.chains.Table.{Policy, Table, Chain, Accept, is_named, is_this, chain_in, chain_named_by, names, is_referenced, rules_of}
 use Rattle.table.specs.edits.Edits.{Cause, DeleteChain, ChainNotEmpty, ChainReferenced, BuiltInChain, no_such_chain, built_in, first_fault, without, edited, fault_of}
 use Rattle.table.specs.steps.Rows.{Row, rule_in, rules_in, leads_to, course_of, IsClassified}
-use Rattle.table.specs.steps.Kept.{blank, slot_at, row_at, name_at, listed, listed_at, listed_row, table_of, leading, leading_in, references_at, IsIn, IsUser, LinksTo, IsLinked, IsStored, IsKept}
+use Rattle.table.specs.steps.Kept.{blank, slot_at, row_at, name_at, listed, listed_at, listed_row, table_with, leading, leading_in, references_at, IsIn, IsUser, LinksTo, IsLinked, IsStored, IsKept}
 use Rattle.table.specs.declared.chain.entry.Entry.{Entry}
 use Rattle.table.proofs.laws.chains.FewerLaws.{MayGo, may_go, any_false, delete_chain_sound}
 use Rattle.table.proofs.laws.chains.RowLaws.{map_remove}
 use Rattle.table.proofs.laws.chains.StoreLaws.{names_apart, texts_differ, place_is, built_in_first, user_after, length-listed, listed_get}
 use Rattle.rules.proofs.laws.rule.CrossLaws.{any_mapped}
-use Rattle.table.proofs.laws.edits.AnswerLaws.{holds, passes, somewhere, count_found}
+use Rattle.table.proofs.laws.edits.AnswerLaws.{holds, passes, somewhere, count_placed}
 use Rattle.table.proofs.laws.edits.MakeLaws.{listed_agree, leading_agree, stays_at}
 
 -- A chain is named by a rule just where its count isn't 0
 
 -- a rule names a chain just where it leads to its key
-names_leads : (slots : List (Option Row)) (order : List ℕ) (i : ℕ) (e : Entry) → IsStored slots order → i < length order → IsLinked slots order e → names (name_at slots order i) e.rule ≡ leads_to (get_or order i 0) e.course
-names_leads slots order i e s lt l = go (target_of e.rule) l.0 l.2 ∙ ap (leads_to (get_or order i 0)) (sym l.1)
+names_leads : (ps : List Policy) (slots : List (Option Row)) (order : List ℕ) (i : ℕ) (e : Entry) → IsStored ps slots order → i < length order → IsLinked slots order e → names (name_at slots order i) e.rule ≡ leads_to (get_or order i 0) e.course
+names_leads ps slots order i e s lt l = go (target_of e.rule) l.0 l.2 ∙ ap (leads_to (get_or order i 0)) (sym l.1)
   where
     same : (n : List ℕ) (to : ℕ) → LinksTo slots order to (Some n) → bytes_eq n (name_at slots order i) ≡ nat_eq to (get_or order i 0)
     same n to h =
@@ -38,7 +38,7 @@ names_leads slots order i e s lt l = go (target_of e.rule) l.0 l.2 ∙ ap (leads
         let named : name_at slots order j ≡ n = ap (λ (k : ℕ). (row_at slots k).name) at ∙ h.1 in
         elim (cases_eq j i) [
           | inl q ↦ (bytes_eq-Decides n (name_at slots order i)).1 (sym named ∙ ap (name_at slots order) q) ∙ sym (eq-eqb to (get_or order i 0) (sym at ∙ ap (λ (k : ℕ). get_or order k 0) q))
-          | inr ne ↦ texts_differ n (name_at slots order i) (λ q. ne (names_apart slots order s j i h.0.2 lt (named ∙ q))) ∙ sym (ne_eqb to (get_or order i 0) (λ q. ne (s.apart j i h.0.2 lt (at ∙ q))))
+          | inr ne ↦ texts_differ n (name_at slots order i) (λ q. ne (names_apart ps slots order s j i h.0.2 lt (named ∙ q))) ∙ sym (ne_eqb to (get_or order i 0) (λ q. ne (s.apart j i h.0.2 lt (at ∙ q))))
         ]
 
     go : (o : Option Target) (to : ℕ) → LinksTo slots order to (chain_in o) → is_this (name_at slots order i) (chain_in o) ≡ leads_to (get_or order i 0) (course_of o to)
@@ -69,21 +69,21 @@ any_counted {X} p q (x ∷ xs) h =
     let rest : list_any p xs ≡ nat_lt 0 (count_by q xs) = any_counted p q xs (λ k d lt. h (suc k) d (omega (arith, lt))) in
     ap (λ b. b || list_any p xs) (h 0 x (omega arith) ∙ lt_one (q x)) ∙ ap (λ b. nat_lt 0 (cond (q x) 1 0) || b) rest ∙ lt_sum (cond (q x) 1 0) (count_by q xs) ∙ ap (nat_lt 0) (sym (sum_by-cons (λ (y : X). cond (q y) 1 0) x xs))
 
-referenced_in : (slots : List (Option Row)) (order keys : List ℕ) (i : ℕ) → IsStored slots order → i < length order → ((j : ℕ) → j < length keys → All (IsLinked slots order) (row_at slots (get_or keys j 0)).entries)
+referenced_in : (ps : List Policy) (slots : List (Option Row)) (order keys : List ℕ) (i : ℕ) → IsStored ps slots order → i < length order → ((j : ℕ) → j < length keys → All (IsLinked slots order) (row_at slots (get_or keys j 0)).entries)
     → is_referenced (listed slots keys) (name_at slots order i) ≡ nat_lt 0 (leading slots keys (get_or order i 0))
-referenced_in slots order [] i s lt h = refl
-referenced_in slots order (x ∷ xs) i s lt h =
+referenced_in ps slots order [] i s lt h = refl
+referenced_in ps slots order (x ∷ xs) i s lt h =
     let n : List ℕ = name_at slots order i in
     let key : ℕ = get_or order i 0 in
     let es : List Entry = (row_at slots x).entries in
     let own : list_any (names n) (rules_in (row_at slots x)) ≡ nat_lt 0 (leading_in key (row_at slots x)) = any_mapped (names n) rule_in es
-    ∙ any_counted (λ (e : Entry). names n e.rule) (λ (e : Entry). leads_to key e.course) es (λ k d le. names_leads slots order i (get_or es k d) s lt (h 0 (omega arith) k d le)) in
+    ∙ any_counted (λ (e : Entry). names n e.rule) (λ (e : Entry). leads_to key e.course) es (λ k d le. names_leads ps slots order i (get_or es k d) s lt (h 0 (omega arith) k d le)) in
     ap (λ b. b || is_referenced (listed slots xs) n) own
-    ∙ ap (λ b. nat_lt 0 (leading_in key (row_at slots x)) || b) (referenced_in slots order xs i s lt (λ j le. h (suc j) (omega (arith, le))))
+    ∙ ap (λ b. nat_lt 0 (leading_in key (row_at slots x)) || b) (referenced_in ps slots order xs i s lt (λ j le. h (suc j) (omega (arith, le))))
     ∙ lt_sum (leading_in key (row_at slots x)) (leading slots xs key)
 
-pub referenced_is : (slots : List (Option Row)) (order : List ℕ) (i : ℕ) → IsKept slots order → i < length order → is_referenced (listed slots order) (name_at slots order i) ≡ nat_lt 0 (references_at slots (get_or order i 0))
-referenced_is slots order i h lt = referenced_in slots order order i h.stored lt h.stored.linked ∙ ap (nat_lt 0) (sym (h.counted i lt))
+pub referenced_is : (ps : List Policy) (slots : List (Option Row)) (order : List ℕ) (i : ℕ) → IsKept ps slots order → i < length order → is_referenced (listed slots order) (name_at slots order i) ≡ nat_lt 0 (references_at slots (get_or order i 0))
+referenced_is ps slots order i h lt = referenced_in ps slots order order i h.stored lt h.stored.linked ∙ ap (nat_lt 0) (sym (h.counted i lt))
 
 -- Why a chain may not go
 
@@ -93,48 +93,48 @@ empty_cause t c = (nat_lt 0 (length (rules_of t.chains c)), ChainNotEmpty)
 abbrev pub named_cause : Table → List ℕ → Cause
 named_cause t c = (is_referenced t.chains c, ChainReferenced)
 
-is_there : (slots : List (Option Row)) (order : List ℕ) (i : ℕ) (cs : List Cause) → IsStored slots order → i < length order → first_fault (no_such_chain (table_of slots order) (name_at slots order i) ∷ cs) ≡ first_fault cs
-is_there slots order i cs s lt = somewhere (table_of slots order) (name_at slots order i) i cs (place_is slots order (name_at slots order i) i s lt refl)
+is_there : (ps : List Policy) (slots : List (Option Row)) (order : List ℕ) (i : ℕ) (cs : List Cause) → IsStored ps slots order → i < length order → first_fault (no_such_chain (table_with ps slots order) (name_at slots order i) ∷ cs) ≡ first_fault cs
+is_there ps slots order i cs s lt = somewhere (table_with ps slots order) (name_at slots order i) i cs (place_is ps slots order (name_at slots order i) i s lt refl)
 
-pub built_in_stays : (slots : List (Option Row)) (order : List ℕ) (i : ℕ) → IsStored slots order → i < length order → i < 3 → fault_of (DeleteChain (name_at slots order i)) (table_of slots order) ≡ Some BuiltInChain
-built_in_stays slots order i s lt first =
-    let t : Table = table_of slots order in
+pub built_in_stays : (ps : List Policy) (slots : List (Option Row)) (order : List ℕ) (i : ℕ) → IsStored ps slots order → i < length order → i < 3 → fault_of (DeleteChain (name_at slots order i)) (table_with ps slots order) ≡ Some BuiltInChain
+built_in_stays ps slots order i s lt first =
+    let t : Table = table_with ps slots order in
     let n : List ℕ = name_at slots order i in
-    is_there slots order i (built_in n ∷ empty_cause t n ∷ named_cause t n ∷ []) s lt ∙ holds (built_in n) (empty_cause t n ∷ named_cause t n ∷ []) (built_in_first slots order n i s first refl)
+    is_there ps slots order i (built_in n ∷ empty_cause t n ∷ named_cause t n ∷ []) s lt ∙ holds (built_in n) (empty_cause t n ∷ named_cause t n ∷ []) (built_in_first ps slots order n i s first refl)
 
 -- of a user chain, by its rules and its count
-pub user_fault : (slots : List (Option Row)) (order : List ℕ) (i : ℕ) → IsStored slots order → i < length order → 3 ≤ i
-    → fault_of (DeleteChain (name_at slots order i)) (table_of slots order) ≡ first_fault (empty_cause (table_of slots order) (name_at slots order i) ∷ named_cause (table_of slots order) (name_at slots order i) ∷ [])
-user_fault slots order i s lt user =
-    let t : Table = table_of slots order in
+pub user_fault : (ps : List Policy) (slots : List (Option Row)) (order : List ℕ) (i : ℕ) → IsStored ps slots order → i < length order → 3 ≤ i
+    → fault_of (DeleteChain (name_at slots order i)) (table_with ps slots order) ≡ first_fault (empty_cause (table_with ps slots order) (name_at slots order i) ∷ named_cause (table_with ps slots order) (name_at slots order i) ∷ [])
+user_fault ps slots order i s lt user =
+    let t : Table = table_with ps slots order in
     let n : List ℕ = name_at slots order i in
-    is_there slots order i (built_in n ∷ empty_cause t n ∷ named_cause t n ∷ []) s lt ∙ passes (built_in n) (empty_cause t n ∷ named_cause t n ∷ []) (user_after slots order n i s user lt refl)
+    is_there ps slots order i (built_in n ∷ empty_cause t n ∷ named_cause t n ∷ []) s lt ∙ passes (built_in n) (empty_cause t n ∷ named_cause t n ∷ []) (user_after ps slots order n i s user lt refl)
 
-pub many_rules : (slots : List (Option Row)) (order : List ℕ) (i : ℕ) → IsStored slots order → i < length order → length (rules_of (listed slots order) (name_at slots order i)) ≡ length (row_at slots (get_or order i 0)).entries
-many_rules slots order i s lt = count_found (Accept ∷ Accept ∷ Accept ∷ []) slots order (name_at slots order i) i lt (place_is slots order (name_at slots order i) i s lt refl)
+pub many_rules : (ps : List Policy) (slots : List (Option Row)) (order : List ℕ) (i : ℕ) → IsStored ps slots order → i < length order → length (rules_of (listed slots order) (name_at slots order i)) ≡ length (row_at slots (get_or order i 0)).entries
+many_rules ps slots order i s lt = count_placed ps slots order (name_at slots order i) i lt (place_is ps slots order (name_at slots order i) i s lt refl)
 
-pub filled_stays : (slots : List (Option Row)) (order : List ℕ) (i : ℕ) → IsStored slots order → i < length order → 3 ≤ i → 0 < length (row_at slots (get_or order i 0)).entries
-    → fault_of (DeleteChain (name_at slots order i)) (table_of slots order) ≡ Some ChainNotEmpty
-filled_stays slots order i s lt user some =
-    let t : Table = table_of slots order in
+pub filled_stays : (ps : List Policy) (slots : List (Option Row)) (order : List ℕ) (i : ℕ) → IsStored ps slots order → i < length order → 3 ≤ i → 0 < length (row_at slots (get_or order i 0)).entries
+    → fault_of (DeleteChain (name_at slots order i)) (table_with ps slots order) ≡ Some ChainNotEmpty
+filled_stays ps slots order i s lt user some =
+    let t : Table = table_with ps slots order in
     let n : List ℕ = name_at slots order i in
-    user_fault slots order i s lt user ∙ holds (empty_cause t n) (named_cause t n ∷ []) (ap (nat_lt 0) (many_rules slots order i s lt) ∙ lt-ltb 0 _ some)
+    user_fault ps slots order i s lt user ∙ holds (empty_cause t n) (named_cause t n ∷ []) (ap (nat_lt 0) (many_rules ps slots order i s lt) ∙ lt-ltb 0 _ some)
 
-pub named_stays : (slots : List (Option Row)) (order : List ℕ) (i : ℕ) → IsKept slots order → i < length order → 3 ≤ i → length (row_at slots (get_or order i 0)).entries ≤ 0 → 0 < references_at slots (get_or order i 0)
-    → fault_of (DeleteChain (name_at slots order i)) (table_of slots order) ≡ Some ChainReferenced
-named_stays slots order i h lt user none some =
-    let t : Table = table_of slots order in
+pub named_stays : (ps : List Policy) (slots : List (Option Row)) (order : List ℕ) (i : ℕ) → IsKept ps slots order → i < length order → 3 ≤ i → length (row_at slots (get_or order i 0)).entries ≤ 0 → 0 < references_at slots (get_or order i 0)
+    → fault_of (DeleteChain (name_at slots order i)) (table_with ps slots order) ≡ Some ChainReferenced
+named_stays ps slots order i h lt user none some =
+    let t : Table = table_with ps slots order in
     let n : List ℕ = name_at slots order i in
-    user_fault slots order i h.stored lt user ∙ passes (empty_cause t n) (named_cause t n ∷ []) (ap (nat_lt 0) (many_rules slots order i h.stored lt) ∙ le-ltb 0 _ none)
-    ∙ holds (named_cause t n) [] (referenced_is slots order i h lt ∙ lt-ltb 0 _ some)
+    user_fault ps slots order i h.stored lt user ∙ passes (empty_cause t n) (named_cause t n ∷ []) (ap (nat_lt 0) (many_rules ps slots order i h.stored lt) ∙ le-ltb 0 _ none)
+    ∙ holds (named_cause t n) [] (referenced_is ps slots order i h lt ∙ lt-ltb 0 _ some)
 
-pub free_goes : (slots : List (Option Row)) (order : List ℕ) (i : ℕ) → IsKept slots order → i < length order → 3 ≤ i → length (row_at slots (get_or order i 0)).entries ≤ 0 → references_at slots (get_or order i 0) ≤ 0
-    → fault_of (DeleteChain (name_at slots order i)) (table_of slots order) ≡ None
-free_goes slots order i h lt user none zero_refs =
-    let t : Table = table_of slots order in
+pub free_goes : (ps : List Policy) (slots : List (Option Row)) (order : List ℕ) (i : ℕ) → IsKept ps slots order → i < length order → 3 ≤ i → length (row_at slots (get_or order i 0)).entries ≤ 0 → references_at slots (get_or order i 0) ≤ 0
+    → fault_of (DeleteChain (name_at slots order i)) (table_with ps slots order) ≡ None
+free_goes ps slots order i h lt user none zero_refs =
+    let t : Table = table_with ps slots order in
     let n : List ℕ = name_at slots order i in
-    user_fault slots order i h.stored lt user ∙ passes (empty_cause t n) (named_cause t n ∷ []) (ap (nat_lt 0) (many_rules slots order i h.stored lt) ∙ le-ltb 0 _ none)
-    ∙ passes (named_cause t n) [] (referenced_is slots order i h lt ∙ le-ltb 0 _ zero_refs)
+    user_fault ps slots order i h.stored lt user ∙ passes (empty_cause t n) (named_cause t n ∷ []) (ap (nat_lt 0) (many_rules ps slots order i h.stored lt) ∙ le-ltb 0 _ none)
+    ∙ passes (named_cause t n) [] (referenced_is ps slots order i h lt ∙ le-ltb 0 _ zero_refs)
 
 -- What is left
 
@@ -144,18 +144,18 @@ pub record IsIdle (slots : List (Option Row)) (order : List ℕ) (i : ℕ) : Typ
   pub empty : length (row_at slots (get_or order i 0)).entries ≡ 0
   pub unnamed : references_at slots (get_or order i 0) ≡ 0
 
-pub idle : (slots : List (Option Row)) (order : List ℕ) (i : ℕ) → IsKept slots order → i < length order → fault_of (DeleteChain (name_at slots order i)) (table_of slots order) ≡ None → IsIdle slots order i
-idle slots order i h lt none =
-    let t : Table = table_of slots order in
+pub idle : (ps : List Policy) (slots : List (Option Row)) (order : List ℕ) (i : ℕ) → IsKept ps slots order → i < length order → fault_of (DeleteChain (name_at slots order i)) (table_with ps slots order) ≡ None → IsIdle slots order i
+idle ps slots order i h lt none =
+    let t : Table = table_with ps slots order in
     let m : MayGo t (name_at slots order i) = may_go t (name_at slots order i) none in
     let few : length (rules_of t.chains (name_at slots order i)) ≤ 0 = ltb-false 0 _ m.empty in
-    let refs : references_at slots (get_or order i 0) ≤ 0 = ltb-false 0 _ (sym (referenced_is slots order i h lt) ∙ m.unnamed) in
+    let refs : references_at slots (get_or order i 0) ≤ 0 = ltb-false 0 _ (sym (referenced_is ps slots order i h lt) ∙ m.unnamed) in
     record {
       user = elim (cases_lt i 3) [
-        | inl first ↦ absurd (false≢true (sym m.user ∙ built_in_first slots order (name_at slots order i) i h.stored first refl))
+        | inl first ↦ absurd (false≢true (sym m.user ∙ built_in_first ps slots order (name_at slots order i) i h.stored first refl))
         | inr ge ↦ ge
       ];
-      empty = omega (arith, few, many_rules slots order i h.stored lt);
+      empty = omega (arith, few, many_rules ps slots order i h.stored lt);
       unnamed = omega (arith, refs);
     }
 
@@ -192,24 +192,24 @@ pub record IsGone (slots new : List (Option Row)) (order : List ℕ) (i : ℕ) :
   pub gone : slot_at new (get_or order i 0) ≡ None
   pub others : (k : ℕ) → k ≢ get_or order i 0 → slot_at new k ≡ slot_at slots k
 
-other_row : (slots new : List (Option Row)) (order : List ℕ) (i k : ℕ) → IsStored slots order → IsGone slots new order i → k < length order → k ≢ i → row_at new (get_or order k 0) ≡ row_at slots (get_or order k 0)
-other_row slots new order i k s g lt ne = ap (λ (o : Option Row). unwrap_or o blank) (g.others (get_or order k 0) (λ q. ne (s.apart k i lt g.place q)))
+other_row : (ps : List Policy) (slots new : List (Option Row)) (order : List ℕ) (i k : ℕ) → IsStored ps slots order → IsGone slots new order i → k < length order → k ≢ i → row_at new (get_or order k 0) ≡ row_at slots (get_or order k 0)
+other_row ps slots new order i k s g lt ne = ap (λ (o : Option Row). unwrap_or o blank) (g.others (get_or order k 0) (λ q. ne (s.apart k i lt g.place q)))
 
-row_left : (slots new : List (Option Row)) (order : List ℕ) (i j : ℕ) → IsStored slots order → IsGone slots new order i → j < length (remove order i) → row_at new (get_or (remove order i) j 0) ≡ row_at slots (get_or (remove order i) j 0)
-row_left slots new order i j s g lt =
+row_left : (ps : List Policy) (slots new : List (Option Row)) (order : List ℕ) (i j : ℕ) → IsStored ps slots order → IsGone slots new order i → j < length (remove order i) → row_at new (get_or (remove order i) j 0) ≡ row_at slots (get_or (remove order i) j 0)
+row_left ps slots new order i j s g lt =
     let q = left_at order i j g.place lt in
-    ap (row_at new) q.3 ∙ other_row slots new order i q.0 s g q.1 q.2 ∙ sym (ap (row_at slots) q.3)
+    ap (row_at new) q.3 ∙ other_row ps slots new order i q.0 s g q.1 q.2 ∙ sym (ap (row_at slots) q.3)
 
-pub table_gone : (slots new : List (Option Row)) (order : List ℕ) (i : ℕ) → IsStored slots order → IsGone slots new order i → table_of new (remove order i) ≡ edited (DeleteChain (name_at slots order i)) (table_of slots order)
-table_gone slots new order i s g =
-    let P : List Chain → Table = λ (cs : List Chain). record { policies = Accept ∷ Accept ∷ Accept ∷ []; chains = cs } in
+pub table_gone : (ps : List Policy) (slots new : List (Option Row)) (order : List ℕ) (i : ℕ) → IsStored ps slots order → IsGone slots new order i → table_with ps new (remove order i) ≡ edited (DeleteChain (name_at slots order i)) (table_with ps slots order)
+table_gone ps slots new order i s g =
+    let P : List Chain → Table = λ (cs : List Chain). record { policies = ps; chains = cs } in
     let d : Chain = listed_row blank in
     let n : List ℕ = name_at slots order i in
     let many : length (listed slots order) ≡ length order = length-listed slots order in
     let is : (k : ℕ) → k < length order → is_named n (get_or (listed slots order) k d) ≡ bytes_eq (name_at slots order k) n = λ k lt. ap (is_named n) (listed_get slots order k d lt) in
-    ap P (listed_agree slots new (remove order i) (λ j lt. row_left slots new order i j s g lt) ∙ map_remove (listed_at slots) order i
+    ap P (listed_agree slots new (remove order i) (λ j lt. row_left ps slots new order i j s g lt) ∙ map_remove (listed_at slots) order i
     ∙ sym (without_is n (listed slots order) i d (omega (arith, g.place, many)) (is i g.place ∙ (bytes_eq-Decides n n).1 refl)
-    (λ k lt ne. (let below : k < length order = omega (arith, lt, many) in is k below ∙ texts_differ (name_at slots order k) n (λ q. ne (names_apart slots order s k i below g.place q))))))
+    (λ k lt ne. (let below : k < length order = omega (arith, lt, many) in is k below ∙ texts_differ (name_at slots order k) n (λ q. ne (names_apart ps slots order s k i below g.place q))))))
 
 user_left : (order : List ℕ) (i to : ℕ) → i < length order → 3 ≤ i → IsUser order to → to ≢ get_or order i 0 → IsUser (remove order i) to
 user_left order i to lt low u ne =
@@ -222,8 +222,8 @@ leading_out slots (x ∷ xs) zero k lt = omega arith
 leading_out slots (x ∷ xs) (suc i) k lt = let h = leading_out slots xs i k (omega (arith, lt)) in omega (arith, h)
 
 -- no rule leads to the chain that went
-pub link_left : (slots new : List (Option Row)) (order : List ℕ) (i : ℕ) (e : Entry) → IsStored slots order → IsGone slots new order i → 3 ≤ i → names (name_at slots order i) e.rule ≡ false → IsLinked slots order e → IsLinked new (remove order i) e
-link_left slots new order i e s g low unnamed l = (l.0, l.1, go (chain_named_by e.rule) refl l.2)
+pub link_left : (ps : List Policy) (slots new : List (Option Row)) (order : List ℕ) (i : ℕ) (e : Entry) → IsStored ps slots order → IsGone slots new order i → 3 ≤ i → names (name_at slots order i) e.rule ≡ false → IsLinked slots order e → IsLinked new (remove order i) e
+link_left ps slots new order i e s g low unnamed l = (l.0, l.1, go (chain_named_by e.rule) refl l.2)
   where
     go : (o : Option (List ℕ)) → chain_named_by e.rule ≡ o → LinksTo slots order l.0 o → LinksTo new (remove order i) l.0 o
     go None is h = tt
@@ -242,15 +242,15 @@ unnamed_entry slots order name none k m d lt le =
     (any_false (λ (c : Chain). list_any (names name) c.rules) (listed slots order) chain none (k, omega (arith, lt, length-listed slots order), listed_get slots order k chain lt))
     (m, omega (arith, le, length-map es rule_in), get_or-map rule_in es m d rule le)
 
-pub kept_gone : (slots new : List (Option Row)) (order : List ℕ) (i : ℕ) → IsKept slots order → IsGone slots new order i → fault_of (DeleteChain (name_at slots order i)) (table_of slots order) ≡ None → IsKept new (remove order i)
-kept_gone slots new order i h g accepted =
-    let s : IsStored slots order = h.stored in
+pub kept_gone : (ps : List Policy) (slots new : List (Option Row)) (order : List ℕ) (i : ℕ) → IsKept ps slots order → IsGone slots new order i → fault_of (DeleteChain (name_at slots order i)) (table_with ps slots order) ≡ None → IsKept ps new (remove order i)
+kept_gone ps slots new order i h g accepted =
+    let s : IsStored ps slots order = h.stored in
     let after : List ℕ = remove order i in
     let n : List ℕ = name_at slots order i in
-    let free : IsIdle slots order i = idle slots order i h g.place accepted in
-    let m : MayGo (table_of slots order) n = may_go (table_of slots order) n accepted in
+    let free : IsIdle slots order i = idle ps slots order i h g.place accepted in
+    let m : MayGo (table_with ps slots order) n = may_go (table_with ps slots order) n accepted in
     let at : (j : ℕ) → j < length after → Left order after i j = λ j lt. left_at order i j g.place lt in
-    let same : (j : ℕ) → j < length after → row_at new (get_or after j 0) ≡ row_at slots (get_or after j 0) = λ j lt. row_left slots new order i j s g lt in
+    let same : (j : ℕ) → j < length after → row_at new (get_or after j 0) ≡ row_at slots (get_or after j 0) = λ j lt. row_left ps slots new order i j s g lt in
     let O : Option Row → Type 0 = λ (o : Option Row). IsSome o in
     let Q : Row → Type 0 = λ (r : Row). All (IsLinked new after) r.entries in
     let T : Table → Type 0 = λ (t : Table). IsSound t in
@@ -277,9 +277,9 @@ kept_gone slots new order i h g accepted =
             let q = at j lt in
             let es : List Entry = (row_at slots (get_or order q.0 0)).entries in
             subst Q (sym (same j lt ∙ ap (row_at slots) q.3))
-            (λ k d le. link_left slots new order i (get_or es k d) s g free.user (unnamed_entry slots order n m.unnamed q.0 k d q.1 le) (s.linked q.0 q.1 k d le)));
+            (λ k d le. link_left ps slots new order i (get_or es k d) s g free.user (unnamed_entry slots order n m.unnamed q.0 k d q.1 le) (s.linked q.0 q.1 k d le)));
         classified = λ j lt. (let q = at j lt in subst IsClassified (sym (same j lt ∙ ap (row_at slots) q.3)) (s.classified q.0 q.1));
-        sound = subst T (sym (table_gone slots new order i s g)) (delete_chain_sound (table_of slots order) n s.sound accepted);
+        sound = subst T (sym (table_gone ps slots new order i s g)) (delete_chain_sound (table_with ps slots order) n s.sound accepted);
       };
       counted = λ j lt. (
           let q = at j lt in

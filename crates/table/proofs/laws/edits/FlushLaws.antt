@@ -5,10 +5,10 @@ use Rattle.std.specs.Prelude.{count_by}
 use Rattle.std.proofs.lemmas.Bool.{cases_eq}
 use Rattle.std.proofs.lemmas.List.Elements.{All-nil}
 use Rattle.table.specs.chains.Sound.{IsSound}
-use Rattle.table.specs.chains.Table.{Table, Chain, Accept, empty_chain}
+use Rattle.table.specs.chains.Table.{Policy, Table, Chain, Accept, empty_chain}
 use Rattle.table.specs.edits.Edits.{FlushAll, edited}
 use Rattle.table.specs.steps.Rows.{Row, leads_to, IsClassified}
-use Rattle.table.specs.steps.Kept.{blank, slot_at, row_at, table_of, leading, IsLinked, IsKept}
+use Rattle.table.specs.steps.Kept.{blank, slot_at, row_at, table_with, leading, IsLinked, IsKept}
 use Rattle.table.specs.declared.chain.entry.Entry.{Entry}
 use Rattle.table.proofs.laws.chains.ChainLaws.{flush_all_sound}
 use Rattle.table.proofs.laws.chains.KeptLaws.{key_within, row_set_same, row_set_other, some_set, set_some, listed_by}
@@ -53,9 +53,9 @@ next_emptied old now order upto key row new h at slot named empty =
     }
 
 -- all of them are
-pub all_emptied : (old new : List (Option Row)) (order : List ℕ) → IsKept old order → AreEmptied old new order (length order) → table_of new order ≡ edited FlushAll (table_of old order)
-all_emptied old new order h e =
-    let P : List Chain → Table = λ (cs : List Chain). record { policies = Accept ∷ Accept ∷ Accept ∷ []; chains = cs } in
+pub all_emptied : (ps : List Policy) (old new : List (Option Row)) (order : List ℕ) → IsKept ps old order → AreEmptied old new order (length order) → table_with ps new order ≡ edited FlushAll (table_with ps old order)
+all_emptied ps old new order h e =
+    let P : List Chain → Table = λ (cs : List Chain). record { policies = ps; chains = cs } in
     ap P (listed_by (λ (c : Chain). empty_chain c.name) old new order
     (λ k lt. (λ i. record { name = e.name (get_or order k 0) i; rules = map (λ (x : Entry). x.rule) ((e.emptied k lt).entries i) })))
 
@@ -64,8 +64,8 @@ nothing_leads slots [] k h = refl
 nothing_leads slots (x ∷ xs) k h =
     omega (arith, ap (λ (es : List Entry). count_by (λ (y : Entry). leads_to k y.course) es) (h 0 (omega arith)).entries, nothing_leads slots xs k (λ j lt. h (suc j) (omega (arith, lt))))
 
-pub all_kept : (old new : List (Option Row)) (order : List ℕ) → IsKept old order → AreEmptied old new order (length order) → IsKept new order
-all_kept old new order h e =
+pub all_kept : (ps : List Policy) (old new : List (Option Row)) (order : List ℕ) → IsKept ps old order → AreEmptied old new order (length order) → IsKept ps new order
+all_kept ps old new order h e =
     let T : Table → Type 0 = λ (t : Table). IsSound t in
     let L : List Entry → Type 0 = λ (es : List Entry). All (IsLinked new order) es in
     record {
@@ -75,7 +75,7 @@ all_kept old new order h e =
         apart = h.stored.apart;
         linked = λ i lt. subst L (sym (e.emptied i lt).entries) (All-nil (IsLinked new order));
         classified = λ i lt. (e.emptied i lt).classified;
-        sound = subst T (sym (all_emptied old new order h e)) (flush_all_sound (table_of old order) h.stored.sound);
+        sound = subst T (sym (all_emptied ps old new order h e)) (flush_all_sound (table_with ps old order) h.stored.sound);
       };
       counted = λ i lt. (e.emptied i lt).references ∙ sym (nothing_leads new order (get_or order i 0) e.emptied);
     }

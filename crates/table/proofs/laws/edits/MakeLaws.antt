@@ -1,15 +1,18 @@
 -- A new chain in the index.
 use Rattle.std.proofs.Common.{◌≡◌, ◌≢◌, ◌⊎◌, inl, inr, ℕ, zero, suc, ◌+◌, ◌-◌, ◌<◌, ◌≤◌, Bool, true, false, cond, ◌||◌, not, List, [], ◌∷◌, length, get_or, map, refl, sym, ◌∙◌, ap, arith, subst, Option, Some, None, IsSome, unwrap_or, All}
-use Rattle.std.specs.Prelude.{count_by, insert, remove, filter, min}
-use Rattle.std.proofs.lemmas.Bool.{cases_Bool, cases_eq, cases_lt, cond-true, cond-false, false≢true, or_right, or_left, ne_eqb}
+use Rattle.std.specs.Prelude.{count_by, insert, remove, filter, min, nat_le}
+use Rattle.std.specs.List.{position}
+use Rattle.fields.specs.values.Name.{name_of}
+use Rattle.std.proofs.lemmas.Bool.{cases_Bool, cases_eq, cases_lt, cond-true, cond-false, false≢true, or_right, or_left, ne_eqb, le-leb, lt-leb}
 use Rattle.std.proofs.lemmas.List.Edits.{get_or-insert_below, get_or-insert_at, get_or-insert_above, get_or-remove_above, get_or-remove_below, length-insert, length-remove}
 use Rattle.std.proofs.lemmas.List.Elements.{All-nil, All-weaker}
 use Rattle.std.proofs.lemmas.List.Sums.{sum_by-cons}
 use Rattle.table.specs.chains.Sound.{IsSound}
-use Rattle.table.specs.chains.Table.{Table, Chain, Accept, is_built_in, comes_before, empty_chain, user_chains, names_of, chain_named_by}
-use Rattle.table.specs.edits.Edits.{NewChain, edited, fault_of, placed}
+use Rattle.table.specs.chains.Table.{Policy, Table, Chain, is_built_in, is_named, comes_before, empty_chain, user_chains, names_of, chain_named_by}
+use Rattle.table.specs.edits.Edits.{Cause, NewChain, TooManyChains, bad_name, edited, exists_already, fault_of, placed}
 use Rattle.table.specs.steps.Rows.{Row, leads_to, is_key, key_in, rule_in, IsClassified}
-use Rattle.table.specs.steps.Kept.{blank, slot_at, row_at, name_at, listed, listed_at, listed_row, table_of, leading, leading_in, IsIn, IsUser, LinksTo, IsLinked, IsPlaceFor, IsStored, IsKept, IsUnmarked}
+use Rattle.table.specs.steps.Kept.{blank, slot_at, row_at, name_at, listed, listed_at, listed_row, table_with, leading, leading_in, IsIn, IsUser, LinksTo, IsLinked, IsPlaceFor, IsStored, IsKept, IsUnmarked, AreStored, table_of}
+use Rattle.table.specs.declared.parts.Parts.{Parts}
 use Rattle.table.specs.declared.chain.entry.Entry.{Entry}
 use Rattle.table.proofs.laws.chains.ChainLaws.{new_chain_sound}
 use Rattle.table.proofs.laws.chains.KeepLaws.{is_user_name, users_by_names, itself_not_before}
@@ -17,6 +20,8 @@ use Rattle.table.proofs.laws.chains.OrderLaws.{before_trans}
 use Rattle.table.proofs.laws.chains.RowLaws.{map_insert}
 use Rattle.table.proofs.laws.chains.StoreLaws.{long, built_in_first, user_after, length-listed, length-names, listed_get, names_get}
 use Rattle.table.proofs.laws.chains.CountLaws.{users_from}
+use Rattle.table.proofs.laws.chains.PlaceLaws.{placed_nowhere}
+use Rattle.table.proofs.laws.edits.AnswerLaws.{name_read, passes}
 use Rattle.table.proofs.laws.edits.EditLaws.{link_user}
 
 -- The index with one key more
@@ -86,8 +91,8 @@ placed_is c (x ∷ cs) (suc i) d le before at =
 pub not_turned : (a b : List ℕ) → comes_before a b ≡ true → comes_before b a ≡ false
 not_turned a b e = elim (cases_Bool (comes_before b a)) [ inl t ↦ absurd (false≢true (sym (itself_not_before a) ∙ before_trans a b a e t)) | inr f ↦ f ]
 
-pub placed_in : (slots : List (Option Row)) (order : List ℕ) (name : List ℕ) (i : ℕ) → IsStored slots order → IsPlaceFor name slots order i → placed (empty_chain name) (listed slots order) ≡ insert (listed slots order) i (empty_chain name)
-placed_in slots order name i s p =
+pub placed_in : (ps : List Policy) (slots : List (Option Row)) (order : List ℕ) (name : List ℕ) (i : ℕ) → IsStored ps slots order → IsPlaceFor name slots order i → placed (empty_chain name) (listed slots order) ≡ insert (listed slots order) i (empty_chain name)
+placed_in ps slots order name i s p =
     let d : Chain = listed_row blank in
     let c : Chain = empty_chain name in
     let long : length (listed slots order) ≡ length order = length-listed slots order in
@@ -97,29 +102,29 @@ placed_in slots order name i s p =
     let below : k < length order = omega (arith, lt, p.within) in
     ap (λ (x : Chain). T x.name) (listed_get slots order k d below)
     ∙ elim (cases_lt k 3) [
-      | inl first ↦ or_left (is_built_in (name_at slots order k)) _ (built_in_first slots order (name_at slots order k) k s first refl)
+      | inl first ↦ or_left (is_built_in (name_at slots order k)) _ (built_in_first ps slots order (name_at slots order k) k s first refl)
       | inr user ↦ or_right (is_built_in (name_at slots order k)) _ (p.before k user lt)
     ])
     (λ lt.
     let below : i < length order = omega (arith, lt, long) in
     ap (λ (x : Chain). T x.name) (listed_get slots order i d below)
-    ∙ ap (λ b. b || comes_before (name_at slots order i) name) (user_after slots order (name_at slots order i) i s p.user below refl) ∙ not_turned name (name_at slots order i) (p.after i (omega arith) below))
+    ∙ ap (λ b. b || comes_before (name_at slots order i) name) (user_after ps slots order (name_at slots order i) i s p.user below refl) ∙ not_turned name (name_at slots order i) (p.after i (omega arith) below))
 
 pub listed_agree : (slots new : List (Option Row)) (keys : List ℕ) → ((k : ℕ) → k < length keys → row_at new (get_or keys k 0) ≡ row_at slots (get_or keys k 0)) → listed new keys ≡ listed slots keys
 listed_agree slots new [] h = refl
 listed_agree slots new (x ∷ xs) h = λ i. listed_row (h 0 (omega arith) i) ∷ listed_agree slots new xs (λ k lt. h (suc k) (omega (arith, lt))) i
 
 -- the rows of the old index are as before
-pub rows_kept : (slots new : List (Option Row)) (order : List ℕ) (key : ℕ) (row : Row) → IsStored slots order → IsAdded slots new key row → (k : ℕ) → k < length order → row_at new (get_or order k 0) ≡ row_at slots (get_or order k 0)
-rows_kept slots new order key row s a k lt = added_other slots new key (get_or order k 0) row a (there_differs slots new key (get_or order k 0) row a (s.present k lt))
+pub rows_kept : (ps : List Policy) (slots new : List (Option Row)) (order : List ℕ) (key : ℕ) (row : Row) → IsStored ps slots order → IsAdded slots new key row → (k : ℕ) → k < length order → row_at new (get_or order k 0) ≡ row_at slots (get_or order k 0)
+rows_kept ps slots new order key row s a k lt = added_other slots new key (get_or order k 0) row a (there_differs slots new key (get_or order k 0) row a (s.present k lt))
 
-pub table_made : (slots new : List (Option Row)) (order : List ℕ) (i key : ℕ) (row : Row) (name : List ℕ) → IsStored slots order → IsAdded slots new key row → IsPlaceFor name slots order i → row.name ≡ name → row.entries ≡ []
-    → table_of new (insert order i key) ≡ edited (NewChain name) (table_of slots order)
-table_made slots new order i key row name s a p named none =
-    let P : List Chain → Table = λ (cs : List Chain). record { policies = Accept ∷ Accept ∷ Accept ∷ []; chains = cs } in
+pub table_made : (ps : List Policy) (slots new : List (Option Row)) (order : List ℕ) (i key : ℕ) (row : Row) (name : List ℕ) → IsStored ps slots order → IsAdded slots new key row → IsPlaceFor name slots order i → row.name ≡ name → row.entries ≡ []
+    → table_with ps new (insert order i key) ≡ edited (NewChain name) (table_with ps slots order)
+table_made ps slots new order i key row name s a p named none =
+    let P : List Chain → Table = λ (cs : List Chain). record { policies = ps; chains = cs } in
     let is : listed_row row ≡ empty_chain name = λ j. record { name = named j; rules = map rule_in (none j) } in
     ap P (map_insert (listed_at new) order i key ∙ ap (λ (c : Chain). insert (listed new order) i c) (ap listed_row (added_row slots new key row a) ∙ is)
-    ∙ ap (λ (cs : List Chain). insert cs i (empty_chain name)) (listed_agree slots new order (rows_kept slots new order key row s a)) ∙ sym (placed_in slots order name i s p))
+    ∙ ap (λ (cs : List Chain). insert cs i (empty_chain name)) (listed_agree slots new order (rows_kept ps slots new order key row s a)) ∙ sym (placed_in ps slots order name i s p))
 
 -- The chains as they are kept
 
@@ -152,14 +157,14 @@ link_more : (slots new : List (Option Row)) (order after : List ℕ) → ((to : 
 link_more slots new order after user name to None l = tt
 link_more slots new order after user name to (Some n) l = (user to l.0, name to l.0 ∙ l.1)
 
-pub kept_made : (slots new : List (Option Row)) (order : List ℕ) (i key : ℕ) (row : Row) (name : List ℕ) → IsKept slots order → IsAdded slots new key row → IsPlaceFor name slots order i → row.name ≡ name → row.entries ≡ [] → row.references ≡ 0 → IsClassified row
-    → fault_of (NewChain name) (table_of slots order) ≡ None → IsKept new (insert order i key)
-kept_made slots new order i key row name h a p named none zero_refs classified accepted =
-    let s : IsStored slots order = h.stored in
+pub kept_made : (ps : List Policy) (slots new : List (Option Row)) (order : List ℕ) (i key : ℕ) (row : Row) (name : List ℕ) → IsKept ps slots order → IsAdded slots new key row → IsPlaceFor name slots order i → row.name ≡ name → row.entries ≡ [] → row.references ≡ 0 → IsClassified row
+    → fault_of (NewChain name) (table_with ps slots order) ≡ None → IsKept ps new (insert order i key)
+kept_made ps slots new order i key row name h a p named none zero_refs classified accepted =
+    let s : IsStored ps slots order = h.stored in
     let after : List ℕ = insert order i key in
     let le : i ≤ length order = p.within in
     let size : length after ≡ length order + 1 = length-insert order i key le in
-    let same : (k : ℕ) → k < length order → row_at new (get_or order k 0) ≡ row_at slots (get_or order k 0) = rows_kept slots new order key row s a in
+    let same : (k : ℕ) → k < length order → row_at new (get_or order k 0) ≡ row_at slots (get_or order k 0) = rows_kept ps slots new order key row s a in
     let differs : (k : ℕ) → k < length order → get_or order k 0 ≢ key = λ k lt. there_differs slots new key (get_or order k 0) row a (s.present k lt) in
     let user : (to : ℕ) → IsUser order to → IsUser after to = λ to u. (let q = shifted_at order i key u.0 le u.2 in (q.0, omega (arith, u.1, q.3), q.1, q.2 ∙ u.3)) in
     let name_in : (to : ℕ) → IsUser order to → (row_at new to).name ≡ (row_at slots to).name =
@@ -203,7 +208,7 @@ kept_made slots new order i key row name h a p named none zero_refs classified a
           | inl at ↦ subst IsClassified (sym (ap (row_at new) at.1 ∙ added_row slots new key row a)) classified
           | inr q ↦ subst IsClassified (sym (ap (row_at new) q.2 ∙ same q.0 q.1)) (s.classified q.0 q.1)
         ];
-        sound = subst T (sym (table_made slots new order i key row name s a p named none)) (new_chain_sound (table_of slots order) name s.sound accepted);
+        sound = subst T (sym (table_made ps slots new order i key row name s a p named none)) (new_chain_sound (table_with ps slots order) name s.sound accepted);
       };
       counted = λ j lt. elim (insert_cases order i key j le lt) [
         | inl at ↦ ap (λ (k : ℕ). (row_at new k).references) at.1 ∙ ap (λ (r : Row). r.references) (added_row slots new key row a) ∙ zero_refs
@@ -229,12 +234,12 @@ users_upto (suc n) (x ∷ xs) le h =
     omega (arith, a, ap (λ (ys : List (List ℕ)). length ys) (cond-false (is_user_name x) (x ∷ filter is_user_name xs) (filter is_user_name xs) (h 0 (omega arith))))
 
 -- all but the three built-in ones
-pub users_are : (slots : List (Option Row)) (order : List ℕ) → IsStored slots order → length (user_chains (listed slots order)) + 3 ≡ length order
-users_are slots order s =
+pub users_are : (ps : List Policy) (slots : List (Option Row)) (order : List ℕ) → IsStored ps slots order → length (user_chains (listed slots order)) + 3 ≡ length order
+users_are ps slots order s =
     let ns : List (List ℕ) = names_of (listed slots order) in
     let a : length ns ≤ 3 + length (filter is_user_name ns) = users_from 3 ns s.sound.listed.user in
-    let b : length (filter is_user_name ns) + 3 ≤ length ns = users_upto 3 ns (omega (arith, long slots order s, length-names slots order))
-    (λ k lt. ap is_user_name (names_get slots order k [] (omega (arith, lt, long slots order s))) ∙ ap not (built_in_first slots order (name_at slots order k) k s lt refl)) in
+    let b : length (filter is_user_name ns) + 3 ≤ length ns = users_upto 3 ns (omega (arith, long ps slots order s, length-names slots order))
+    (λ k lt. ap is_user_name (names_get slots order k [] (omega (arith, lt, long ps slots order s))) ∙ ap not (built_in_first ps slots order (name_at slots order k) k s lt refl)) in
     omega (arith, a, b, users_by_names (listed slots order), length-names slots order)
 
 -- Marks
@@ -259,3 +264,20 @@ more_unmarked order after seen i key u le lt is =
 -- nor do keys that leave the index
 pub fewer_unmarked : (order after : List ℕ) (seen : List Bool) → IsUnmarked order seen → ((k : ℕ) → IsIn after k → IsIn order k) → IsUnmarked after seen
 fewer_unmarked order after seen u fewer = record { within = λ k inn. u.within k (fewer k inn); clear = u.clear }
+
+-- the causes that refuse a new chain, beside its name's form
+abbrev pub too_many : Table → Cause
+too_many t = (nat_le 1024 (length (user_chains t.chains)), TooManyChains)
+
+-- there are as many chains as there may be
+pub chains_full : (p : Parts) (n : ℕ) → AreStored p → n ≡ length p.order.items → 1027 ≤ n → (too_many (table_of p)).0 ≡ true
+chains_full p n s is many = le-leb 1024 _ (omega (arith, users_are p.policies p.chains.slots p.order.items s, is, many))
+
+-- none refuses it
+pub may_be_made : (p : Parts) (text name : List ℕ) (n : ℕ) → AreStored p → name_of text ≡ Some name → position (is_named text) (table_of p).chains ≡ None → n ≡ length p.order.items → n < 1027
+    → fault_of (NewChain text) (table_of p) ≡ None
+may_be_made p text name n s read free is few =
+    let t : Table = table_of p in
+    let twice : Cause = exists_already t text in
+    passes (bad_name text) (twice ∷ too_many t ∷ []) (ap not (name_read text name read).0) ∙ passes twice (too_many t ∷ []) (placed_nowhere t text free)
+    ∙ passes (too_many t) [] (lt-leb 1024 _ (omega (arith, users_are p.policies p.chains.slots p.order.items s, is, few)))

@@ -22,7 +22,7 @@ use Rattle.rules.specs.rule.Rules.{Rule}
 use Rattle.table.specs.chains.Sound.{IsSound}
 use Rattle.table.specs.chains.Table.{Table, Chain, Policy, Accept, chain_in, comes_before, is_built_in, is_named, is_this, names, names_of}
 use Rattle.table.specs.edits.Edits.{Rename, edited, placed, renamed_rule, renamed_chain}
-use Rattle.table.specs.steps.Kept.{blank, slot_at, row_at, name_at, listed, listed_at, listed_row, table_of, leading, leading_in, IsIn, IsUser, LinksTo, IsLinked, IsPlaceFor, IsStored, IsKept}
+use Rattle.table.specs.steps.Kept.{blank, slot_at, row_at, name_at, listed, listed_at, listed_row, table_with, leading, leading_in, IsIn, IsUser, LinksTo, IsLinked, IsPlaceFor, IsStored, IsKept}
 use Rattle.table.specs.steps.Renames.{AreRetargeted, moved_key, retargeted}
 use Rattle.table.specs.steps.Rows.{Row, course_of, leads_to, ones, rule_in, rules_in, IsClassified}
 use Rattle.table.specs.declared.chain.entry.Entry.{Entry}
@@ -32,7 +32,6 @@ use Rattle.table.proofs.laws.chains.PlaceLaws.{any_none, any_some}
 use Rattle.table.proofs.laws.chains.RenamedLaws.{IsRename, moved_is, names_at, names_rest, own_at, rename_sound, renamed_all, renamed_at, renamed_get, renamed_other, renamed_own}
 use Rattle.table.proofs.laws.chains.RowLaws.{map_insert, map_remove}
 use Rattle.table.proofs.laws.chains.StoreLaws.{built_in_first, length-listed, length-names, listed_get, names_apart, names_get, texts_differ, user_after}
-use Rattle.table.proofs.laws.edits.AnswerLaws.{table_with}
 use Rattle.table.proofs.laws.edits.MakeLaws.{insert_cases, leading_insert, not_turned, placed_is, shifted_at, stays_at}
 
 -- The chains under their keys
@@ -47,9 +46,9 @@ pub record IsRenamed (slots new : List (Option Row)) (order : List ℕ) (key : �
   pub classified : (j : ℕ) → j < length order → IsClassified (row_at new (get_or order j 0))
   pub entries : (j : ℕ) → j < length order → (row_at new (get_or order j 0)).entries ≡ map (retargeted key name) (row_at slots (get_or order j 0)).entries
 
-pub renamed_set : (slots mid : List (Option Row)) (order : List ℕ) (place key : ℕ) (name : List ℕ) (row new : Row) → IsStored slots order → place < length order → get_or order place 0 ≡ key → AreRetargeted slots mid order key name (length order)
+pub renamed_set : (ps : List Policy) (slots mid : List (Option Row)) (order : List ℕ) (place key : ℕ) (name : List ℕ) (row new : Row) → IsStored ps slots order → place < length order → get_or order place 0 ≡ key → AreRetargeted slots mid order key name (length order)
     → slot_at mid key ≡ Some row → new.name ≡ name → new.entries ≡ row.entries → new.references ≡ row.references → IsClassified new → IsRenamed slots (set mid key (Some new)) order key name
-renamed_set slots mid order place key name row new s lt at h slot named entries refs classified =
+renamed_set ps slots mid order place key name row new s lt at h slot named entries refs classified =
     let O : Option Row → Type 0 = λ (o : Option Row). IsSome o in
     let within : key < length mid = key_within mid key (subst O (sym slot) refl) in
     let after : List (Option Row) = set mid key (Some new) in
@@ -68,52 +67,52 @@ renamed_set slots mid order place key name row new s lt at h slot named entries 
     }
 
 -- a rule leads to the chain where it names it
-same_key : (slots : List (Option Row)) (order : List ℕ) (place key to : ℕ) (old n : List ℕ) → IsStored slots order → place < length order → get_or order place 0 ≡ key → (row_at slots key).name ≡ old
+same_key : (ps : List Policy) (slots : List (Option Row)) (order : List ℕ) (place key to : ℕ) (old n : List ℕ) → IsStored ps slots order → place < length order → get_or order place 0 ≡ key → (row_at slots key).name ≡ old
     → IsUser order to → (row_at slots to).name ≡ n → nat_eq to key ≡ bytes_eq n old
-same_key slots order place key to old n s lt at own u named =
+same_key ps slots order place key to old n s lt at own u named =
     elim (cases_eq to key) [
       | inl e ↦ eq-eqb to key e ∙ sym ((bytes_eq-Decides n old).1 (sym named ∙ ap (λ (k : ℕ). (row_at slots k).name) e ∙ own))
       | inr ne ↦ ne_eqb to key ne ∙ sym (texts_differ n old (λ q.
           (let same : name_at slots order u.0 ≡ name_at slots order place = ap (λ (k : ℕ). (row_at slots k).name) u.3 ∙ named ∙ q ∙ sym own ∙ ap (λ (k : ℕ). (row_at slots k).name) (sym at) in
-          let i : u.0 ≡ place = names_apart slots order s u.0 place u.2 lt same in
+          let i : u.0 ≡ place = names_apart ps slots order s u.0 place u.2 lt same in
           ne (sym u.3 ∙ ap (λ (j : ℕ). get_or order j 0) i ∙ at))))
     ]
 
-leads_names : (slots : List (Option Row)) (order : List ℕ) (place key : ℕ) (old : List ℕ) → IsStored slots order → place < length order → get_or order place 0 ≡ key → (row_at slots key).name ≡ old → (o : Option Target) (to : ℕ)
+leads_names : (ps : List Policy) (slots : List (Option Row)) (order : List ℕ) (place key : ℕ) (old : List ℕ) → IsStored ps slots order → place < length order → get_or order place 0 ≡ key → (row_at slots key).name ≡ old → (o : Option Target) (to : ℕ)
     → LinksTo slots order to (chain_in o) → leads_to key (course_of o to) ≡ is_this old (chain_in o)
-leads_names slots order place key old s lt at own None to l = refl
-leads_names slots order place key old s lt at own (Some target.Log) to l = refl
-leads_names slots order place key old s lt at own (Some target.Accept) to l = refl
-leads_names slots order place key old s lt at own (Some target.Drop) to l = refl
-leads_names slots order place key old s lt at own (Some (target.Reject kind)) to l = refl
-leads_names slots order place key old s lt at own (Some target.Return) to l = refl
-leads_names slots order place key old s lt at own (Some (target.Jump n)) to l = same_key slots order place key to old n s lt at own l.0 l.1
-leads_names slots order place key old s lt at own (Some (target.Goto n)) to l = same_key slots order place key to old n s lt at own l.0 l.1
+leads_names ps slots order place key old s lt at own None to l = refl
+leads_names ps slots order place key old s lt at own (Some target.Log) to l = refl
+leads_names ps slots order place key old s lt at own (Some target.Accept) to l = refl
+leads_names ps slots order place key old s lt at own (Some target.Drop) to l = refl
+leads_names ps slots order place key old s lt at own (Some (target.Reject kind)) to l = refl
+leads_names ps slots order place key old s lt at own (Some target.Return) to l = refl
+leads_names ps slots order place key old s lt at own (Some (target.Jump n)) to l = same_key ps slots order place key to old n s lt at own l.0 l.1
+leads_names ps slots order place key old s lt at own (Some (target.Goto n)) to l = same_key ps slots order place key to old n s lt at own l.0 l.1
 
 -- so the rules follow as the definition says
-rules_follow : (slots : List (Option Row)) (order : List ℕ) (place key : ℕ) (old name : List ℕ) → IsStored slots order → place < length order → get_or order place 0 ≡ key → (row_at slots key).name ≡ old → (es : List Entry)
+rules_follow : (ps : List Policy) (slots : List (Option Row)) (order : List ℕ) (place key : ℕ) (old name : List ℕ) → IsStored ps slots order → place < length order → get_or order place 0 ≡ key → (row_at slots key).name ≡ old → (es : List Entry)
     → All (IsLinked slots order) es → map rule_in (map (retargeted key name) es) ≡ map (renamed_rule old name) (map rule_in es)
-rules_follow slots order place key old name s lt at own [] h = refl
-rules_follow slots order place key old name s lt at own (e ∷ es) h =
+rules_follow ps slots order place key old name s lt at own [] h = refl
+rules_follow ps slots order place key old name s lt at own (e ∷ es) h =
     let l : IsLinked slots order e = All-head (IsLinked slots order) e es h in
-    let same : leads_to key e.course ≡ names old e.rule = ap (leads_to key) l.1 ∙ leads_names slots order place key old s lt at own (target_of e.rule) l.0 l.2 in
+    let same : leads_to key e.course ≡ names old e.rule = ap (leads_to key) l.1 ∙ leads_names ps slots order place key old s lt at own (target_of e.rule) l.0 l.2 in
     let head : rule_in (retargeted key name e) ≡ renamed_rule old name e.rule = ap (λ b. cond b (with_chain_name name e.rule) e.rule) same in
-    let tail = rules_follow slots order place key old name s lt at own es (All-tail (IsLinked slots order) e es h) in
+    let tail = rules_follow ps slots order place key old name s lt at own es (All-tail (IsLinked slots order) e es h) in
     λ i. head i ∷ tail i
 
-pub listed_follows : (slots new : List (Option Row)) (order : List ℕ) (place key : ℕ) (old name : List ℕ) → IsStored slots order → place < length order → get_or order place 0 ≡ key → (row_at slots key).name ≡ old → IsRenamed slots new order key name
+pub listed_follows : (ps : List Policy) (slots new : List (Option Row)) (order : List ℕ) (place key : ℕ) (old name : List ℕ) → IsStored ps slots order → place < length order → get_or order place 0 ≡ key → (row_at slots key).name ≡ old → IsRenamed slots new order key name
     → listed new order ≡ renamed_all old name (listed slots order)
-listed_follows slots new order place key old name s lt at own r =
+listed_follows ps slots new order place key old name s lt at own r =
     listed_by (renamed_chain old name) slots new order
     (λ k lk.
     let x : Chain = listed_at slots (get_or order k 0) in
     let rules : rules_in (row_at new (get_or order k 0)) ≡ map (renamed_rule old name) (rules_in (row_at slots (get_or order k 0))) =
-    ap (map rule_in) (r.entries k lk) ∙ rules_follow slots order place key old name s lt at own (row_at slots (get_or order k 0)).entries (s.linked k lk) in
+    ap (map rule_in) (r.entries k lk) ∙ rules_follow ps slots order place key old name s lt at own (row_at slots (get_or order k 0)).entries (s.linked k lk) in
     let named : (row_at new (get_or order k 0)).name ≡ (renamed_chain old name x).name = elim (cases_eq (get_or order k 0) key) [
       | inl q ↦ ap (λ (j : ℕ). (row_at new j).name) q ∙ r.own ∙ sym (renamed_own old name x ((bytes_eq-Decides x.name old).1 (ap (λ (j : ℕ). (row_at slots j).name) q ∙ own)))
       | inr ne ↦ r.others (get_or order k 0) ne ∙ sym (renamed_other old name x (texts_differ x.name old (λ q.
           (let same : name_at slots order k ≡ name_at slots order place = q ∙ sym own ∙ ap (λ (j : ℕ). (row_at slots j).name) (sym at) in
-          let i : k ≡ place = names_apart slots order s k place lk lt same in
+          let i : k ≡ place = names_apart ps slots order s k place lk lt same in
           ne (ap (λ (j : ℕ). get_or order j 0) i ∙ at)))))
     ] in
     λ i. record { name = named i; rules = rules i })
@@ -203,9 +202,9 @@ moves order place x apart user lt ge below =
 -- The plain table
 
 -- the name at a place without the chain's own
-rest_name : (slots : List (Option Row)) (order : List ℕ) (old name : List ℕ) (place k : ℕ) (d : Chain) → IsRename (table_of slots order) old name place → k < length (remove (renamed_all old name (listed slots order)) place)
+rest_name : (ps : List Policy) (slots : List (Option Row)) (order : List ℕ) (old name : List ℕ) (place k : ℕ) (d : Chain) → IsRename (table_with ps slots order) old name place → k < length (remove (renamed_all old name (listed slots order)) place)
     → (q : ℕ) × (q < length order) × ((get_or (remove (renamed_all old name (listed slots order)) place) k d).name ≡ name_at slots order q) × (((k < place) × (q ≡ k)) ⊎ ((place ≤ k) × (q ≡ k + 1)))
-rest_name slots order old name place k d m lk =
+rest_name ps slots order old name place k d m lk =
     let ds : List Chain = renamed_all old name (listed slots order) in
     let ns : List (List ℕ) = names_of (listed slots order) in
     let long : length ns ≡ length order = length-names slots order in
@@ -217,15 +216,15 @@ rest_name slots order old name place k d m lk =
     let two = length-remove ns place at in
     let w = rest_get ns place k [] at (omega (arith, lk, one, two, renamed_long, long, listed_long)) in
     let below : w.0 < length order = omega (arith, w.1, long) in
-    (w.0, below, sym (names_at (remove ds place) k d lk) ∙ ap (λ (xs : List (List ℕ)). get_or xs k []) (names_rest (table_of slots order) old name place d m) ∙ w.3 ∙ names_get slots order w.0 [] below, w.4)
+    (w.0, below, sym (names_at (remove ds place) k d lk) ∙ ap (λ (xs : List (List ℕ)). get_or xs k []) (names_rest (table_with ps slots order) old name place d m) ∙ w.3 ∙ names_get slots order w.0 [] below, w.4)
 
-lands : (slots : List (Option Row)) (order : List ℕ) (old name : List ℕ) (place to : ℕ) (d : Chain) → IsStored slots order → IsPlaceFor name slots order to → IsRename (table_of slots order) old name place → place < length order
-    → placed (renamed_at (table_of slots order) old name place d) (remove (renamed_all old name (listed slots order)) place)
-    ≡ insert (remove (renamed_all old name (listed slots order)) place) (landing place to) (renamed_at (table_of slots order) old name place d)
-lands slots order old name place to d s p m lt =
+lands : (ps : List Policy) (slots : List (Option Row)) (order : List ℕ) (old name : List ℕ) (place to : ℕ) (d : Chain) → IsStored ps slots order → IsPlaceFor name slots order to → IsRename (table_with ps slots order) old name place → place < length order
+    → placed (renamed_at (table_with ps slots order) old name place d) (remove (renamed_all old name (listed slots order)) place)
+    ≡ insert (remove (renamed_all old name (listed slots order)) place) (landing place to) (renamed_at (table_with ps slots order) old name place d)
+lands ps slots order old name place to d s p m lt =
     let ds : List Chain = renamed_all old name (listed slots order) in
     let rest : List Chain = remove ds place in
-    let c : Chain = renamed_at (table_of slots order) old name place d in
+    let c : Chain = renamed_at (table_with ps slots order) old name place d in
     let size : length ds ≡ length order = length-map (listed slots order) (renamed_chain old name) ∙ length-listed slots order in
     let less : length rest + 1 ≡ length ds = length-remove ds place (omega (arith, size, lt)) in
     let land = landing_is place to in
@@ -233,38 +232,38 @@ lands slots order old name place to d s p m lt =
     let T : List ℕ → Bool = λ n. is_built_in n || comes_before n name in
     placed_is c rest (landing place to) d (omega (arith, land, size, less, within, lt))
     (λ k below.
-    let w = rest_name slots order old name place k d m (omega (arith, below, land, size, less, within, lt)) in
+    let w = rest_name ps slots order old name place k d m (omega (arith, below, land, size, less, within, lt)) in
     ap T w.2
     ∙ elim (cases_lt w.0 3) [
-      | inl first ↦ or_left (is_built_in (name_at slots order w.0)) _ (built_in_first slots order (name_at slots order w.0) w.0 s first refl)
+      | inl first ↦ or_left (is_built_in (name_at slots order w.0)) _ (built_in_first ps slots order (name_at slots order w.0) w.0 s first refl)
       | inr user ↦ or_right (is_built_in (name_at slots order w.0)) _ (p.before w.0 user (omega (arith, below, land, w.3)))
     ])
     (λ below.
-    let w = rest_name slots order old name place (landing place to) d m below in
+    let w = rest_name ps slots order old name place (landing place to) d m below in
     let user : 3 ≤ to = p.user in
     let late : to ≤ w.0 = omega (arith, land, w.3) in
     ap T w.2
-    ∙ ap (λ b. b || comes_before (name_at slots order w.0) name) (user_after slots order (name_at slots order w.0) w.0 s (omega (arith, late, user)) w.1 refl)
+    ∙ ap (λ b. b || comes_before (name_at slots order w.0) name) (user_after ps slots order (name_at slots order w.0) w.0 s (omega (arith, late, user)) w.1 refl)
     ∙ not_turned name (name_at slots order w.0) (p.after w.0 late w.1))
 
-pub table_renamed : (slots new : List (Option Row)) (order : List ℕ) (place to key : ℕ) (old name : List ℕ) → IsStored slots order → place < length order → get_or order place 0 ≡ key → (row_at slots key).name ≡ old → IsPlaceFor name slots order to
-    → IsRename (table_of slots order) old name place → IsRenamed slots new order key name → table_of new (moved_key order place to) ≡ edited (Rename old name) (table_of slots order)
-table_renamed slots new order place to key old name s lt at own p m r =
+pub table_renamed : (ps : List Policy) (slots new : List (Option Row)) (order : List ℕ) (place to key : ℕ) (old name : List ℕ) → IsStored ps slots order → place < length order → get_or order place 0 ≡ key → (row_at slots key).name ≡ old → IsPlaceFor name slots order to
+    → IsRename (table_with ps slots order) old name place → IsRenamed slots new order key name → table_with ps new (moved_key order place to) ≡ edited (Rename old name) (table_with ps slots order)
+table_renamed ps slots new order place to key old name s lt at own p m r =
     let d : Chain = listed_row blank in
-    let P : List Chain → Table = λ (cs : List Chain). record { policies = Accept ∷ Accept ∷ Accept ∷ []; chains = cs } in
+    let P : List Chain → Table = λ (cs : List Chain). record { policies = ps; chains = cs } in
     let cs : List Chain = listed slots order in
     let ds : List Chain = renamed_all old name cs in
     let x : ℕ = landing place to in
     let first : ℕ = get_or order place 0 in
-    let c : Chain = renamed_at (table_of slots order) old name place d in
-    let follows : listed new order ≡ ds = listed_follows slots new order place key old name s lt at own r in
+    let c : Chain = renamed_at (table_with ps slots order) old name place d in
+    let follows : listed new order ≡ ds = listed_follows ps slots new order place key old name s lt at own r in
     let as_new : List ℕ → Chain = λ n. record { name = n; rules = map (renamed_rule old name) (get_or cs place d).rules } in
-    let moved_one : listed_at new first ≡ c = sym (listed_get new order place d lt) ∙ ap (λ (xs : List Chain). get_or xs place d) follows ∙ renamed_get (table_of slots order) old name place d m.within
-    ∙ ap as_new (renamed_own old name (get_or cs place d) (own_at (table_of slots order) old name place d m)) in
+    let moved_one : listed_at new first ≡ c = sym (listed_get new order place d lt) ∙ ap (λ (xs : List Chain). get_or xs place d) follows ∙ renamed_get (table_with ps slots order) old name place d m.within
+    ∙ ap as_new (renamed_own old name (get_or cs place d) (own_at (table_with ps slots order) old name place d m)) in
     ap P (map_insert (listed_at new) (remove order place) x first
     ∙ ap (λ (xs : List Chain). insert xs x (listed_at new first)) (map_remove (listed_at new) order place ∙ ap (λ (xs : List Chain). remove xs place) follows)
     ∙ ap (λ (y : Chain). insert (remove ds place) x y) moved_one
-    ∙ sym (lands slots order old name place to d s p m lt) ∙ sym (moved_is (table_of slots order) old name place d m))
+    ∙ sym (lands ps slots order old name place to d s p m lt) ∙ sym (moved_is (table_with ps slots order) old name place d m))
 
 -- The chains as they are kept
 
@@ -330,10 +329,10 @@ leading_same : (slots new : List (Option Row)) (keys : List ℕ) (k : ℕ) → (
 leading_same slots new [] k h = refl
 leading_same slots new (x ∷ xs) k h = let a = h 0 (omega arith) in let b = leading_same slots new xs k (λ j lt. h (suc j) (omega (arith, lt))) in omega (arith, a, b)
 
-pub kept_renamed : (slots new : List (Option Row)) (order : List ℕ) (place to key : ℕ) (old name : List ℕ) → IsKept slots order → place < length order → get_or order place 0 ≡ key → (row_at slots key).name ≡ old → IsPlaceFor name slots order to
-    → IsRename (table_of slots order) old name place → IsRenamed slots new order key name → RenamedReadsBack → IsKept new (moved_key order place to)
-kept_renamed slots new order place to key old name h lt at own p m r reads =
-    let s : IsStored slots order = h.stored in
+pub kept_renamed : (ps : List Policy) (slots new : List (Option Row)) (order : List ℕ) (place to key : ℕ) (old name : List ℕ) → IsKept ps slots order → place < length order → get_or order place 0 ≡ key → (row_at slots key).name ≡ old → IsPlaceFor name slots order to
+    → IsRename (table_with ps slots order) old name place → IsRenamed slots new order key name → RenamedReadsBack → IsKept ps new (moved_key order place to)
+kept_renamed ps slots new order place to key old name h lt at own p m r reads =
+    let s : IsStored ps slots order = h.stored in
     let after : List ℕ = moved_key order place to in
     let land = landing_is place to in
     let user : 3 ≤ place = m.user in
@@ -356,7 +355,7 @@ kept_renamed slots new order place to key old name h lt at own p m r reads =
         apart = v.apart;
         linked = λ j lj. (let w = v.from j lj in subst L (sym w.2) (linked w.0 w.1));
         classified = λ j lj. (let w = v.from j lj in subst C (sym w.2) (r.classified w.0 w.1));
-        sound = subst IsSound (sym (table_renamed slots new order place to key old name s lt at own p m r)) (rename_sound (table_of slots order) old name place m reads);
+        sound = subst IsSound (sym (table_renamed ps slots new order place to key old name s lt at own p m r)) (rename_sound (table_with ps slots order) old name place m reads);
       };
       counted = λ j lj.
           (let w = v.from j lj in
@@ -372,9 +371,9 @@ name_form name h = elim (cases_Bool (is_name name)) [ inl t ↦ t | inr f ↦ (l
     none_some : {X : Type 0} {x : X} → None ≡ Some x → ⊥
     none_some e = cc
 
-pub is_rename : (slots : List (Option Row)) (order : List ℕ) (place to : ℕ) (name : List ℕ) → IsStored slots order → 3 ≤ place → place < length order → IsPlaceFor name slots order to → name_of name ≡ Some name
-    → IsRename (table_of slots order) (name_at slots order place) name place
-is_rename slots order place to name s ge lt p form =
+pub is_rename : (ps : List Policy) (slots : List (Option Row)) (order : List ℕ) (place to : ℕ) (name : List ℕ) → IsStored ps slots order → 3 ≤ place → place < length order → IsPlaceFor name slots order to → name_of name ≡ Some name
+    → IsRename (table_with ps slots order) (name_at slots order place) name place
+is_rename ps slots order place to name s ge lt p form =
     record {
       sound = s.sound;
       user = ge;
@@ -416,10 +415,3 @@ name_taken cs name h = let w = which (position (is_named name) cs) h in any_some
     which : (o : Option ℕ) → IsSome o → (i : ℕ) × (o ≡ Some i)
     which None e = absurd (false≢true e)
     which (Some i) e = (i, refl)
-
--- the table after a rename, whatever the policies
-pub renamed_found : (policies : List Policy) (slots new : List (Option Row)) (order after : List ℕ) (place : ℕ) (old text name : List ℕ) → name_at slots order place ≡ old → name ≡ text
-    → table_of new after ≡ edited (Rename (name_at slots order place) name) (table_of slots order) → table_with policies new after ≡ edited (Rename old text) (table_with policies slots order)
-renamed_found policies slots new order after place old text name was now is =
-    let P : Table → Table = λ (t : Table). record { policies = policies; chains = t.chains } in
-    ap P is ∙ (λ i. edited (Rename (was i) (now i)) (table_with policies slots order))

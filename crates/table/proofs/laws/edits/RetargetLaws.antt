@@ -14,6 +14,7 @@ use Rattle.rules.specs.rule.Allows.{allows}
 use Rattle.rules.specs.rule.Rules.{Rule}
 use Rattle.rules.specs.declared.rule.target.Target.{Target}
 use Rattle.rules.specs.declared.rule.target.Target.TheVariants as target
+use Rattle.table.specs.chains.Table.{Policy}
 use Rattle.table.specs.steps.Kept.{blank, slot_at, row_at, leading, references_at, IsIn, IsLinked, IsStored, IsKept}
 use Rattle.table.specs.steps.Renames.{NameChains, retargeted, AreRetargeted}
 use Rattle.table.specs.steps.Rows.{Row, leads_to, key_in, course_of, ones, rule_in, IsClassified}
@@ -52,20 +53,20 @@ linked_one slots order e l h = let P : Option ℕ → Type 0 = λ (o : Option �
 -- The chains one after another
 
 -- those not passed name chains, too
-pub name_chains : (slots now : List (Option Row)) (order : List ℕ) (key : ℕ) (name : List ℕ) (i at : ℕ) (row : Row) → IsStored slots order → AreRetargeted slots now order key name i → i < length order → get_or order i 0 ≡ at → slot_at now at ≡ Some row
+pub name_chains : (ps : List Policy) (slots now : List (Option Row)) (order : List ℕ) (key : ℕ) (name : List ℕ) (i at : ℕ) (row : Row) → IsStored ps slots order → AreRetargeted slots now order key name i → i < length order → get_or order i 0 ≡ at → slot_at now at ≡ Some row
     → NameChains row.entries
-name_chains slots now order key name i at row s h lt is slot =
+name_chains ps slots now order key name i at row s h lt is slot =
     let Q : List Entry → Type 0 = λ (es : List Entry). NameChains es in
     let same : (row_at slots (get_or order i 0)).entries ≡ row.entries = sym (h.rest i (omega arith) lt) ∙ ap (λ (k : ℕ). (row_at now k).entries) is ∙ ap (λ (o : Option Row). (unwrap_or o blank).entries) slot in
     subst Q same (All-weaker (IsLinked slots order) (λ (e : Entry). IsSome (key_in e.course) → IsTrue (names_chain (target_of e.rule))) (linked_one slots order) _ (s.linked i lt))
 
-pub none_retargeted : (slots : List (Option Row)) (order : List ℕ) (key : ℕ) (name : List ℕ) → IsStored slots order → AreRetargeted slots slots order key name 0
-none_retargeted slots order key name s =
+pub none_retargeted : (ps : List Policy) (slots : List (Option Row)) (order : List ℕ) (key : ℕ) (name : List ℕ) → IsStored ps slots order → AreRetargeted slots slots order key name 0
+none_retargeted ps slots order key name s =
     record { present = λ k h. h; no_more = λ k h. h; named = λ k. refl; references = λ k. refl; classified = s.classified; done = λ j lt below. absurd (omega (arith, lt)); rest = λ j ge lt. refl }
 
-pub next_retargeted : (slots now : List (Option Row)) (order : List ℕ) (key : ℕ) (name : List ℕ) (i at : ℕ) (row new : Row) → IsStored slots order → AreRetargeted slots now order key name i → i < length order → get_or order i 0 ≡ at → slot_at now at ≡ Some row
+pub next_retargeted : (ps : List Policy) (slots now : List (Option Row)) (order : List ℕ) (key : ℕ) (name : List ℕ) (i at : ℕ) (row new : Row) → IsStored ps slots order → AreRetargeted slots now order key name i → i < length order → get_or order i 0 ≡ at → slot_at now at ≡ Some row
     → new.name ≡ row.name → new.entries ≡ map (retargeted key name) row.entries → new.references ≡ row.references → IsClassified new → AreRetargeted slots (set now at (Some new)) order key name (i + 1)
-next_retargeted slots now order key name i at row new s h lt is slot named entries refs classified =
+next_retargeted ps slots now order key name i at row new s h lt is slot named entries refs classified =
     let O : Option Row → Type 0 = λ (o : Option Row). IsSome o in
     let within : at < length now = key_within now at (subst O (sym slot) refl) in
     let other : (j : ℕ) → j < length order → j ≢ i → get_or order j 0 ≢ at = λ j lj ne q. ne (s.apart j i lj lt (q ∙ sym is)) in
@@ -109,8 +110,8 @@ stays key name (e ∷ es) h =
           λ i. head i ∷ tail i)
     ]
 
-pub no_rule_retargeted : (slots : List (Option Row)) (order : List ℕ) (key : ℕ) (name : List ℕ) → IsKept slots order → IsIn order key → references_at slots key ≡ 0 → AreRetargeted slots slots order key name (length order)
-no_rule_retargeted slots order key name h at none =
+pub no_rule_retargeted : (ps : List Policy) (slots : List (Option Row)) (order : List ℕ) (key : ℕ) (name : List ℕ) → IsKept ps slots order → IsIn order key → references_at slots key ≡ 0 → AreRetargeted slots slots order key name (length order)
+no_rule_retargeted ps slots order key name h at none =
     let R : ℕ → Type 0 = λ k. references_at slots k ≡ leading slots order k in
     let c : references_at slots key ≡ leading slots order key = subst R at.2 (h.counted at.0 at.1) in
     record {

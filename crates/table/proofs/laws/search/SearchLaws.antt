@@ -10,7 +10,7 @@ use Rattle.rules.specs.rule.Rules.{Rule}
 use Rattle.rules.specs.declared.rule.target.Target.{Target}
 use Rattle.rules.specs.declared.rule.target.Target.TheVariants as target
 use Rattle.table.specs.chains.Sound.{Names, Path, Leads}
-use Rattle.table.specs.chains.Table.{Chain, chain_in, chain_named_by}
+use Rattle.table.specs.chains.Table.{Policy, Chain, chain_in, chain_named_by}
 use Rattle.table.specs.edits.Edits.{leads}
 use Rattle.table.specs.steps.Kept.{slot_at, row_at, listed, IsIn, LinksTo, IsLinked, IsStored}
 use Rattle.table.specs.steps.Rows.{Row, rule_in, rules_in, key_in, course_of}
@@ -85,25 +85,25 @@ marked_more order seen reached k h at new =
     }
 
 -- while a key is not marked, there is room for it among those reached
-pub room_for : (slots : List (Option Row)) (order : List ℕ) (seen : List Bool) (reached : List ℕ) (k : ℕ) → IsStored slots order → IsMarked order seen reached → IsIn order k → get_or seen k false ≡ false → length reached < 1027
-room_for slots order seen reached k s h at new =
+pub room_for : (ps : List Policy) (slots : List (Option Row)) (order : List ℕ) (seen : List Bool) (reached : List ℕ) (k : ℕ) → IsStored ps slots order → IsMarked order seen reached → IsIn order k → get_or seen k false ≡ false → length reached < 1027
+room_for ps slots order seen reached k s h at new =
     let differ : Differing (k ∷ reached) = (λ m. false≢true (sym new ∙ h.marked k (key_place reached k m)), keys_differ reached h.apart) in
     let among : (x : ℕ) → Mem x (k ∷ reached) → Mem x order = λ x m. elim m [
       | inl e ↦ key_mem order at.0 x at.1 (at.2 ∙ sym e)
       | inr rest ↦ (let i = h.known x (key_place reached x rest) in key_mem order i.0 x i.1 i.2)
     ] in
     let few : length (k ∷ reached) ≤ length order = pigeon (k ∷ reached) order differ among in
-    omega (arith, few, chains_few slots order s)
+    omega (arith, few, chains_few ps slots order s)
 
 -- Rules and links
 
 -- the chain under a key of the index leads to those that its rules lead to
-edge : (slots : List (Option Row)) (order : List ℕ) (key k : ℕ) (e : Entry) → IsStored slots order → IsIn order key → Contains (row_at slots key).entries e → key_in e.course ≡ Some k → Names (listed slots order) (row_at slots key).name (row_at slots k).name
-edge slots order key k e s at own is =
+edge : (ps : List Policy) (slots : List (Option Row)) (order : List ℕ) (key k : ℕ) (e : Entry) → IsStored ps slots order → IsIn order key → Contains (row_at slots key).entries e → key_in e.course ≡ Some k → Names (listed slots order) (row_at slots key).name (row_at slots k).name
+edge ps slots order key k e s at own is =
     let P : List Rule → Type 0 = λ (rs : List Rule). Contains rs e.rule in
     let c : Contains (rules_in (row_at slots key)) e.rule =
     (own.0, omega (arith, own.1, length-map (row_at slots key).entries rule_in), get_or-map rule_in (row_at slots key).entries own.0 e e.rule own.1 ∙ ap rule_in own.2) in
-    (e.rule, subst P (sym (rules_under slots order key s at)) c, link_named slots order e k (linked_under slots order key e s at own) is)
+    (e.rule, subst P (sym (rules_under ps slots order key s at)) c, link_named slots order e k (linked_under ps slots order key e s at own) is)
 
 link_back : (slots : List (Option Row)) (order : List ℕ) (name : List ℕ) (o : Option Target) (to : ℕ) → LinksTo slots order to (chain_in o) → chain_in o ≡ Some name → (key_in (course_of o to) ≡ Some to) × ((row_at slots to).name ≡ name)
 link_back slots order name None to h q = absurd (none_some q)
@@ -116,19 +116,19 @@ link_back slots order name (Some (target.Jump n)) to h q = (refl, h.1 ∙ some_s
 link_back slots order name (Some (target.Goto n)) to h q = (refl, h.1 ∙ some_same q)
 
 -- what a chain names, a rule of it leads to
-link_key : (slots : List (Option Row)) (order : List ℕ) (key : ℕ) (name : List ℕ) → IsStored slots order → IsIn order key → Names (listed slots order) (row_at slots key).name name
+link_key : (ps : List Policy) (slots : List (Option Row)) (order : List ℕ) (key : ℕ) (name : List ℕ) → IsStored ps slots order → IsIn order key → Names (listed slots order) (row_at slots key).name name
     → (e : Entry) × Contains (row_at slots key).entries e × ((k : ℕ) × (key_in e.course ≡ Some k) × ((row_at slots k).name ≡ name))
-link_key slots order key name s at n =
+link_key ps slots order key name s at n =
     let r : Rule = n.0 in
     let es : List Entry = (row_at slots key).entries in
     let P : List Rule → Type 0 = λ (rs : List Rule). Contains rs r in
-    let c : Contains (map rule_in es) r = subst P (rules_under slots order key s at) n.1 in
+    let c : Contains (map rule_in es) r = subst P (rules_under ps slots order key s at) n.1 in
     let lt : c.0 < length es = omega (arith, c.1, length-map es rule_in) in
     let none : Entry = record { rule = r; course = course_of None 0 } in
     let e : Entry = get_or es c.0 none in
     let own : Contains es e = Contains-get_or es c.0 none lt in
     let rule : e.rule ≡ r = sym (get_or-map rule_in es c.0 none r lt) ∙ c.2 in
-    let l : IsLinked slots order e = linked_under slots order key e s at own in
+    let l : IsLinked slots order e = linked_under ps slots order key e s at own in
     let b = link_back slots order name (target_of e.rule) l.0 l.2 (ap chain_named_by rule ∙ n.2) in
     (e, own, (l.0, ap key_in l.1 ∙ b.0, b.1))
 
@@ -148,8 +148,8 @@ pub record IsVisit (slots : List (Option Row)) (order : List ℕ) (from : ℕ) (
 pub at_key : (slots : List (Option Row)) (order : List ℕ) (from : ℕ) (seen : List Bool) (reached : List ℕ) (at : ℕ) → IsSearch slots order from seen reached at → at < length reached → IsIn order (get_or reached at 0)
 at_key slots order from seen reached at s lt = s.marked.known (get_or reached at 0) (at, lt, refl)
 
-pub at_there : (slots : List (Option Row)) (order : List ℕ) (from key : ℕ) (seen : List Bool) (reached : List ℕ) (at : ℕ) → IsStored slots order → IsSearch slots order from seen reached at → at < length reached → key ≡ get_or reached at 0 → IsSome (slot_at slots key)
-at_there slots order from key seen reached at h s lt is =
+pub at_there : (ps : List Policy) (slots : List (Option Row)) (order : List ℕ) (from key : ℕ) (seen : List Bool) (reached : List ℕ) (at : ℕ) → IsStored ps slots order → IsSearch slots order from seen reached at → at < length reached → key ≡ get_or reached at 0 → IsSome (slot_at slots key)
+at_there ps slots order from key seen reached at h s lt is =
     let P : ℕ → Type 0 = λ k. IsSome (slot_at slots k) in
     let i = at_key slots order from seen reached at s lt in
     subst P (i.2 ∙ sym is) (h.present i.0 i.1)
@@ -162,22 +162,22 @@ own_entry : (slots : List (Option Row)) (order : List ℕ) (from : ℕ) (seen : 
     → Contains (row_at slots (get_or reached at 0)).entries e
 own_entry slots order from seen reached at row upto e v own = let P : Row → Type 0 = λ (r : Row). Contains r.entries e in subst P (sym v.here) own
 
-pub link_in : (slots : List (Option Row)) (order : List ℕ) (from : ℕ) (seen : List Bool) (reached : List ℕ) (at : ℕ) (row : Row) (upto k : ℕ) (e : Entry) → IsStored slots order → IsVisit slots order from seen reached at row upto
+pub link_in : (ps : List Policy) (slots : List (Option Row)) (order : List ℕ) (from : ℕ) (seen : List Bool) (reached : List ℕ) (at : ℕ) (row : Row) (upto k : ℕ) (e : Entry) → IsStored ps slots order → IsVisit slots order from seen reached at row upto
     → upto < length row.entries → e ≡ get_or row.entries upto e → key_in e.course ≡ Some k → IsIn order k
-link_in slots order from seen reached at row upto k e h v lt is link =
+link_in ps slots order from seen reached at row upto k e h v lt is link =
     let own = own_entry slots order from seen reached at row upto e v (entry_own row upto e lt is) in
-    let u = link_user slots order e k (linked_under slots order (get_or reached at 0) e h (at_key slots order from seen reached at v.search v.stands) own) link in
+    let u = link_user slots order e k (linked_under ps slots order (get_or reached at 0) e h (at_key slots order from seen reached at v.search v.stands) own) link in
     (u.0, u.2, u.3)
 
-pub link_within : (slots : List (Option Row)) (order : List ℕ) (from : ℕ) (seen : List Bool) (reached : List ℕ) (at : ℕ) (row : Row) (upto : ℕ) (e : Entry) (link : Option ℕ) → IsStored slots order → IsVisit slots order from seen reached at row upto
+pub link_within : (ps : List Policy) (slots : List (Option Row)) (order : List ℕ) (from : ℕ) (seen : List Bool) (reached : List ℕ) (at : ℕ) (row : Row) (upto : ℕ) (e : Entry) (link : Option ℕ) → IsStored ps slots order → IsVisit slots order from seen reached at row upto
     → upto < length row.entries → e ≡ get_or row.entries upto e → link ≡ key_in e.course → IfSome link (λ k. k < length seen)
-link_within slots order from seen reached at row upto e link h v lt is q =
-    if_some link _ (λ k some. v.search.marked.within k (link_in slots order from seen reached at row upto k e h v lt is (sym q ∙ some)))
+link_within ps slots order from seen reached at row upto e link h v lt is q =
+    if_some link _ (λ k some. v.search.marked.within k (link_in ps slots order from seen reached at row upto k e h v lt is (sym q ∙ some)))
 
-pub link_room : (slots : List (Option Row)) (order : List ℕ) (from : ℕ) (seen : List Bool) (reached : List ℕ) (at : ℕ) (row : Row) (upto : ℕ) (e : Entry) (link : Option ℕ) → IsStored slots order → IsVisit slots order from seen reached at row upto
+pub link_room : (ps : List Policy) (slots : List (Option Row)) (order : List ℕ) (from : ℕ) (seen : List Bool) (reached : List ℕ) (at : ℕ) (row : Row) (upto : ℕ) (e : Entry) (link : Option ℕ) → IsStored ps slots order → IsVisit slots order from seen reached at row upto
     → upto < length row.entries → e ≡ get_or row.entries upto e → link ≡ key_in e.course → IfSome link (λ k. get_or seen k false ≡ false → length reached < 1027)
-link_room slots order from seen reached at row upto e link h v lt is q =
-    if_some link _ (λ k some new. room_for slots order seen reached k h v.search.marked (link_in slots order from seen reached at row upto k e h v lt is (sym q ∙ some)) new)
+link_room ps slots order from seen reached at row upto e link h v lt is q =
+    if_some link _ (λ k some new. room_for ps slots order seen reached k h v.search.marked (link_in ps slots order from seen reached at row upto k e h v lt is (sym q ∙ some)) new)
 
 one_more : (es : List Entry) (i : ℕ) (e : Entry) (seen : List Bool) → e ≡ get_or es i e → AreMarked es i seen → ((k : ℕ) → key_in e.course ≡ Some k → IsSeen seen k) → i < length es → AreMarked es (i + 1) seen
 one_more es i e seen is below here lt m x k b own link =
@@ -204,9 +204,9 @@ reach slots order from seen reached at k s lt there path new =
       visited = λ i le. subst Q (left i (omega (arith, le, lt))) (λ m e x below own link. seen_more seen k x within (s.visited i le m e x below own link));
     }
 
-pub visit_next : (slots : List (Option Row)) (order : List ℕ) (from : ℕ) (seen : List Bool) (reached : List ℕ) (at : ℕ) (row : Row) (upto : ℕ) (e : Entry) (link : Option ℕ) (seen' : List Bool) (reached' : List ℕ) → IsStored slots order
+pub visit_next : (ps : List Policy) (slots : List (Option Row)) (order : List ℕ) (from : ℕ) (seen : List Bool) (reached : List ℕ) (at : ℕ) (row : Row) (upto : ℕ) (e : Entry) (link : Option ℕ) (seen' : List Bool) (reached' : List ℕ) → IsStored ps slots order
     → IsVisit slots order from seen reached at row upto → upto < length row.entries → e ≡ get_or row.entries upto e → link ≡ key_in e.course → Marks link seen reached seen' reached' → IsVisit slots order from seen' reached' at row (upto + 1)
-visit_next slots order from seen reached at row upto e link seen' reached' h v lt is q (inl m) =
+visit_next ps slots order from seen reached at row upto e link seen' reached' h v lt is q (inl m) =
     let P : List Bool → Type 0 = λ xs. IsVisit slots order from xs reached' at row (upto + 1) in
     let Q : List ℕ → Type 0 = λ xs. IsVisit slots order from seen xs at row (upto + 1) in
     subst P (sym m.1) (subst Q (sym m.2) (record {
@@ -215,16 +215,16 @@ visit_next slots order from seen reached at row upto e link seen' reached' h v l
       here = v.here;
       passed = one_more row.entries upto e seen is v.passed (λ k some. m.0 k (q ∙ some)) lt;
     }))
-visit_next slots order from seen reached at row upto e link seen' reached' h v lt is q (inr m) =
+visit_next ps slots order from seen reached at row upto e link seen' reached' h v lt is q (inr m) =
     let k : ℕ = m.0 in
     let P : List Bool → Type 0 = λ xs. IsVisit slots order from xs reached' at row (upto + 1) in
     let Q : List ℕ → Type 0 = λ xs. IsVisit slots order from (set seen k true) xs at row (upto + 1) in
-    let there : IsIn order k = link_in slots order from seen reached at row upto k e h v lt is (sym q ∙ m.1) in
+    let there : IsIn order k = link_in ps slots order from seen reached at row upto k e h v lt is (sym q ∙ m.1) in
     let within : k < length seen = v.search.marked.within k there in
     let own = own_entry slots order from seen reached at row upto e v (entry_own row upto e lt is) in
     let here : IsIn order (get_or reached at 0) = at_key slots order from seen reached at v.search v.stands in
     let way = v.search.led (get_or reached at 0) (at, v.stands, refl) in
-    let path = path_then (listed slots order) way.0 (row_at slots from).name (row_at slots (get_or reached at 0)).name (row_at slots k).name way.1 (edge slots order (get_or reached at 0) k e h here own (sym q ∙ m.1)) in
+    let path = path_then (listed slots order) way.0 (row_at slots from).name (row_at slots (get_or reached at 0)).name (row_at slots k).name way.1 (edge ps slots order (get_or reached at 0) k e h here own (sym q ∙ m.1)) in
     subst P (sym m.3) (subst Q (sym m.4) (record {
       search = reach slots order from seen reached at k v.search v.stands there path m.2;
       stands = omega (arith, v.stands, length_push reached k);
@@ -235,10 +235,10 @@ visit_next slots order from seen reached at row upto e link seen' reached' h v l
 
 -- The whole search
 
-pub search_first : (slots : List (Option Row)) (order : List ℕ) (from : ℕ) (seen : List Bool) (none : List ℕ) (link : Option ℕ) (seen' : List Bool) (reached' : List ℕ) → IsStored slots order → IsIn order from → IsUnmarked order seen → none ≡ [] → link ≡ Some from
+pub search_first : (ps : List Policy) (slots : List (Option Row)) (order : List ℕ) (from : ℕ) (seen : List Bool) (none : List ℕ) (link : Option ℕ) (seen' : List Bool) (reached' : List ℕ) → IsStored ps slots order → IsIn order from → IsUnmarked order seen → none ≡ [] → link ≡ Some from
     → Marks link seen none seen' reached' → IsSearch slots order from seen' reached' 0
-search_first slots order from seen none link seen' reached' h at u empty is (inl m) = absurd (false≢true (sym (u.clear from) ∙ m.0 from is))
-search_first slots order from seen none link seen' reached' h at u empty is (inr m) =
+search_first ps slots order from seen none link seen' reached' h at u empty is (inl m) = absurd (false≢true (sym (u.clear from) ∙ m.0 from is))
+search_first ps slots order from seen none link seen' reached' h at u empty is (inr m) =
     let k : ℕ = m.0 in
     let same : k ≡ from = some_same (sym m.1 ∙ is) in
     let P : List Bool → Type 0 = λ xs. IsSearch slots order from xs reached' 0 in
@@ -260,28 +260,28 @@ search_first slots order from seen none link seen' reached' h at u empty is (inr
     }))
 
 -- along a path from what was reached all is reached, once all that was reached was visited
-closed : (slots : List (Option Row)) (order : List ℕ) (from : ℕ) (seen : List Bool) (reached : List ℕ) (at : ℕ) → IsStored slots order → IsSearch slots order from seen reached at → length reached ≤ at
+closed : (ps : List Policy) (slots : List (Option Row)) (order : List ℕ) (from : ℕ) (seen : List Bool) (reached : List ℕ) (at : ℕ) → IsStored ps slots order → IsSearch slots order from seen reached at → length reached ≤ at
     → (n k : ℕ) (b : List ℕ) → IsIn reached k → Path (listed slots order) n (row_at slots k).name b → (j : ℕ) × IsIn reached j × ((row_at slots j).name ≡ b)
-closed slots order from seen reached at h s le zero k b i p = (k, i, p)
-closed slots order from seen reached at h s le (suc n) k b i p =
-    let f = link_key slots order k p.0 h (s.marked.known k i) p.1 in
+closed ps slots order from seen reached at h s le zero k b i p = (k, i, p)
+closed ps slots order from seen reached at h s le (suc n) k b i p =
+    let f = link_key ps slots order k p.0 h (s.marked.known k i) p.1 in
     let Q : ℕ → Type 0 = λ x. AreMarked (row_at slots x).entries (length (row_at slots x).entries) seen in
     let all : AreMarked (row_at slots k).entries (length (row_at slots k).entries) seen = subst Q i.2 (s.visited i.0 (omega (arith, i.1, le))) in
     let next : IsSeen seen f.2.0 = all f.1.0 f.0 f.2.0 f.1.1 f.1.2 f.2.1 in
     let P : List ℕ → Type 0 = λ x. Path (listed slots order) n x b in
-    closed slots order from seen reached at h s le n f.2.0 b (s.marked.only f.2.0 next) (subst P (sym f.2.2) p.2)
+    closed ps slots order from seen reached at h s le n f.2.0 b (s.marked.only f.2.0 next) (subst P (sym f.2.2) p.2)
 
 -- a key of the index is that of its name
-key_of_name : (slots : List (Option Row)) (order : List ℕ) (j k : ℕ) → IsStored slots order → IsIn order j → IsIn order k → (row_at slots j).name ≡ (row_at slots k).name → j ≡ k
-key_of_name slots order j k h a b e =
+key_of_name : (ps : List Policy) (slots : List (Option Row)) (order : List ℕ) (j k : ℕ) → IsStored ps slots order → IsIn order j → IsIn order k → (row_at slots j).name ≡ (row_at slots k).name → j ≡ k
+key_of_name ps slots order j k h a b e =
     let name : ℕ → List ℕ = λ x. (row_at slots x).name in
-    let same : a.0 ≡ b.0 = names_apart slots order h a.0 b.0 a.1 b.1 (ap name a.2 ∙ e ∙ ap name (sym b.2)) in
+    let same : a.0 ≡ b.0 = names_apart ps slots order h a.0 b.0 a.1 b.1 (ap name a.2 ∙ e ∙ ap name (sym b.2)) in
     sym a.2 ∙ ap (λ (x : ℕ). get_or order x 0) same ∙ b.2
 
 -- the mark of the goal says whether a path leads there
-pub search_found : (slots : List (Option Row)) (order : List ℕ) (from goal : ℕ) (seen : List Bool) (reached : List ℕ) (at : ℕ) → IsStored slots order → IsIn order goal → IsSearch slots order from seen reached at
+pub search_found : (ps : List Policy) (slots : List (Option Row)) (order : List ℕ) (from goal : ℕ) (seen : List Bool) (reached : List ℕ) (at : ℕ) → IsStored ps slots order → IsIn order goal → IsSearch slots order from seen reached at
     → (get_or seen goal false ≡ false → length reached ≤ at) → get_or seen goal false ≡ leads (listed slots order) (row_at slots from).name (row_at slots goal).name
-search_found slots order from goal seen reached at h there s end =
+search_found ps slots order from goal seen reached at h there s end =
     let cs : List Chain = listed slots order in
     let a : List ℕ = (row_at slots from).name in
     let b : List ℕ = (row_at slots goal).name in
@@ -290,8 +290,8 @@ search_found slots order from goal seen reached at h there s end =
       | inr missed ↦ elim (cases_Bool (leads cs a b)) [
         | inl led ↦ (
             let p = leads_is_path cs a b led in
-            let r = closed slots order from seen reached at h s (end missed) p.0 from b (0, s.some, s.first) p.1 in
-            let same : r.0 ≡ goal = key_of_name slots order r.0 goal h (s.marked.known r.0 r.1) there r.2 in
+            let r = closed ps slots order from seen reached at h s (end missed) p.0 from b (0, s.some, s.first) p.1 in
+            let same : r.0 ≡ goal = key_of_name ps slots order r.0 goal h (s.marked.known r.0 r.1) there r.2 in
             absurd (false≢true (sym missed ∙ ap (λ (x : ℕ). get_or seen x false) (sym same) ∙ s.marked.marked r.0 r.1)))
         | inr none ↦ missed ∙ sym none
       ]

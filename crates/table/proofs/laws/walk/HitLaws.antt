@@ -8,7 +8,7 @@ use Rattle.rules.specs.rule.Allows.{matches}
 use Rattle.rules.specs.rule.Rules.{Rule, empty_rule}
 use Rattle.rules.specs.declared.rule.target.Target.{Target}
 use Rattle.rules.specs.declared.rule.target.Target.TheVariants as target
-use Rattle.table.specs.chains.Table.{Chain, chain_in, rules_of}
+use Rattle.table.specs.chains.Table.{Policy, Chain, chain_in, rules_of}
 use Rattle.table.specs.steps.Kept.{slot_at, row_at, listed, IsIn, IsUser, IsLinked, LinksTo, IsStored}
 use Rattle.table.specs.steps.Rows.{Row, rule_in, rules_in, course_of}
 use Rattle.table.specs.steps.Walking.{rest_of, rests_of, state_of, next_by, LeadsIn, IsState, IsHit}
@@ -22,16 +22,16 @@ abbrev hit_by : List Chain → List ℕ → Rest → List Rest → Option ℕ �
 hit_by cs values rest stack o = elim o as (λ x. Option Hit) [ None ↦ first_hit cs values stack | Some place ↦ Some (hit_at cs rest.chain stack place) ]
 
 -- what the classifier of the chain under the key answers is the next match in the chain
-found_under : (slots : List (Option Row)) (order values : List ℕ) (at : Pending) (stack : List Pending) (row : Row) (o : Option ℕ) → IsStored slots order → IsState order at stack → slot_at slots at.chain ≡ Some row
+found_under : (ps : List Policy) (slots : List (Option Row)) (order values : List ℕ) (at : Pending) (stack : List Pending) (row : Row) (o : Option ℕ) → IsStored ps slots order → IsState order at stack → slot_at slots at.chain ≡ Some row
     → o ≡ next_match (matches values) (rules_in row) at.passed → first_hit (listed slots order) values (state_of slots at stack) ≡ hit_by (listed slots order) values (rest_of slots at) (rests_of slots stack) o
-found_under slots order values at stack row o h s is e =
-    let rules : rules_of (listed slots order) (row_at slots at.chain).name ≡ rules_in row = rules_under slots order at.chain h s.present ∙ ap rules_in (row_is slots at.chain row is) in
+found_under ps slots order values at stack row o h s is e =
+    let rules : rules_of (listed slots order) (row_at slots at.chain).name ≡ rules_in row = rules_under ps slots order at.chain h s.present ∙ ap rules_in (row_is slots at.chain row is) in
     ap (hit_by (listed slots order) values (rest_of slots at) (rests_of slots stack)) (ap (λ (rs : List Rule). next_match (matches values) rs at.passed) rules ∙ sym e)
 
 -- none in the present chain
-pub past_chain : (slots : List (Option Row)) (order values : List ℕ) (at : Pending) (stack : List Pending) (row : Row) → IsStored slots order → IsState order at stack → slot_at slots at.chain ≡ Some row
+pub past_chain : (ps : List Policy) (slots : List (Option Row)) (order values : List ℕ) (at : Pending) (stack : List Pending) (row : Row) → IsStored ps slots order → IsState order at stack → slot_at slots at.chain ≡ Some row
     → None ≡ next_match (matches values) (rules_in row) at.passed → first_hit (listed slots order) values (state_of slots at stack) ≡ first_hit (listed slots order) values (rests_of slots stack)
-past_chain slots order values at stack row h s is e = found_under slots order values at stack row None h s is e
+past_chain ps slots order values at stack row h s is e = found_under ps slots order values at stack row None h s is e
 
 -- Where a rule leaves the walk
 
@@ -60,22 +60,22 @@ leads_in slots order (Some (target.Jump name)) key l = user_in order key l.0
 leads_in slots order (Some (target.Goto name)) key l = user_in order key l.0
 
 -- a match in the present chain
-pub hit_under : (slots : List (Option Row)) (order values : List ℕ) (at : Pending) (stack : List Pending) (row : Row) (place : ℕ) (e : Entry) (course : Course) (found : Option Hit) → IsStored slots order → IsState order at stack
+pub hit_under : (ps : List Policy) (slots : List (Option Row)) (order values : List ℕ) (at : Pending) (stack : List Pending) (row : Row) (place : ℕ) (e : Entry) (course : Course) (found : Option Hit) → IsStored ps slots order → IsState order at stack
     → slot_at slots at.chain ≡ Some row → Some place ≡ next_match (matches values) (rules_in row) at.passed → place < length row.entries → e ≡ get_or row.entries place e → course ≡ e.course
     → found ≡ first_hit (listed slots order) values (state_of slots at stack) → IsHit slots order found course (record { chain = at.chain; passed = place + 1 }) stack
-hit_under slots order values at stack row place e course found h s is next lt own by same =
+hit_under ps slots order values at stack row place e course found h s is next lt own by same =
     let now : Pending = record { chain = at.chain; passed = place + 1 } in
     let cs : List Chain = listed slots order in
     let name : List ℕ = (row_at slots at.chain).name in
     let P : Row → Type 0 = λ r. Contains r.entries e in
-    let link : IsLinked slots order e = linked_under slots order at.chain e h s.present (subst P (sym (row_is slots at.chain row is)) (place, lt, sym own)) in
-    let rules : rules_of cs name ≡ rules_in row = rules_under slots order at.chain h s.present ∙ ap rules_in (row_is slots at.chain row is) in
+    let link : IsLinked slots order e = linked_under ps slots order at.chain e h s.present (subst P (sym (row_is slots at.chain row is)) (place, lt, sym own)) in
+    let rules : rules_of cs name ≡ rules_in row = rules_under ps slots order at.chain h s.present ∙ ap rules_in (row_is slots at.chain row is) in
     let rule : get_or (rules_of cs name) place empty_rule ≡ e.rule = ap (λ (rs : List Rule). get_or rs place empty_rule) rules ∙ get_or-map rule_in row.entries place e empty_rule lt ∙ ap rule_in (sym own) in
     let Q : Course → Type 0 = λ (c : Course). LeadsIn order c in
     let way : e.course ≡ course_of (target_of e.rule) link.0 = link.1 in
     record {
       hit = hit_at cs name (rests_of slots stack) place;
-      is = same ∙ found_under slots order values at stack row (Some place) h s is next;
+      is = same ∙ found_under ps slots order values at stack row (Some place) h s is next;
       entry = refl;
       next = ap (λ (r : Rule). after_match (target_of r) (rest_of slots now) (rests_of slots stack)) rule
           ∙ next_is slots order (target_of e.rule) link.0 now stack link.2

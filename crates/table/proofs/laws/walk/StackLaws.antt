@@ -3,8 +3,8 @@ use Rattle.std.proofs.Common.{◌≡◌, ℕ, ◌+◌, List, [], ◌∷◌, ◌+
 use Rattle.std.proofs.lemmas.List.{get_or-map, length-map, reverse-append, get_or_append_left, get_or_push, length_push}
 use Rattle.std.proofs.lemmas.List.Elements.{All-contains, All-push}
 use Rattle.std.specs.List.{position}
-use Rattle.table.specs.chains.Table.{Chain, is_named, rules_of}
-use Rattle.table.specs.steps.Kept.{blank, slot_at, row_at, name_at, listed_at, listed, table_of, IsIn, IsLinked, IsStored}
+use Rattle.table.specs.chains.Table.{Policy, Chain, is_named, rules_of}
+use Rattle.table.specs.steps.Kept.{blank, slot_at, row_at, name_at, listed_at, listed, table_with, IsIn, IsLinked, IsStored}
 use Rattle.table.specs.steps.Rows.{Row, rules_in}
 use Rattle.table.specs.steps.Walking.{rest_of, rests_of, state_of, start, IsState}
 use Rattle.table.specs.declared.chain.entry.Entry.{Entry}
@@ -41,21 +41,21 @@ pub row_is : (slots : List (Option Row)) (key : ℕ) (row : Row) → slot_at slo
 row_is slots key row e = ap (λ (o : Option Row). unwrap_or o blank) e
 
 -- it is the listed chain of its name
-pub rules_under : (slots : List (Option Row)) (order : List ℕ) (key : ℕ) → IsStored slots order → IsIn order key → rules_of (listed slots order) (row_at slots key).name ≡ rules_in (row_at slots key)
-rules_under slots order key h at =
+pub rules_under : (ps : List Policy) (slots : List (Option Row)) (order : List ℕ) (key : ℕ) → IsStored ps slots order → IsIn order key → rules_of (listed slots order) (row_at slots key).name ≡ rules_in (row_at slots key)
+rules_under ps slots order key h at =
     let c : Chain = listed_at slots key in
     let there : Contains (listed slots order) c = (at.0, omega (arith, at.1, length-map order (listed_at slots)), get_or-map (listed_at slots) order at.0 0 c at.1 ∙ ap (listed_at slots) at.2) in
-    rules_by_name (table_of slots order) c h.sound there
+    rules_by_name (table_with ps slots order) c h.sound there
 
-pub linked_under : (slots : List (Option Row)) (order : List ℕ) (key : ℕ) (e : Entry) → IsStored slots order → IsIn order key → Contains (row_at slots key).entries e → IsLinked slots order e
-linked_under slots order key e h at own =
+pub linked_under : (ps : List Policy) (slots : List (Option Row)) (order : List ℕ) (key : ℕ) (e : Entry) → IsStored ps slots order → IsIn order key → Contains (row_at slots key).entries e → IsLinked slots order e
+linked_under ps slots order key e h at own =
     let P : ℕ → Type 0 = λ k. All (IsLinked slots order) (row_at slots k).entries in
     All-contains (IsLinked slots order) (row_at slots key).entries e (subst P at.2 (h.linked at.0 at.1)) own
 
 -- it stands in the listing
-pub place_under : (slots : List (Option Row)) (order : List ℕ) (key : ℕ) (row : Row) (name : List ℕ) → IsStored slots order → IsIn order key → slot_at slots key ≡ Some row → name ≡ row.name
+pub place_under : (ps : List Policy) (slots : List (Option Row)) (order : List ℕ) (key : ℕ) (row : Row) (name : List ℕ) → IsStored ps slots order → IsIn order key → slot_at slots key ≡ Some row → name ≡ row.name
     → position (is_named name) (listed slots order) ≡ None → ⊥
-place_under slots order key row name h at is e none =
+place_under ps slots order key row name h at is e none =
     let own : name_at slots order at.0 ≡ name = ap (λ k. (row_at slots k).name) at.2 ∙ ap (λ (r : Row). r.name) (row_is slots key row is) ∙ sym e in
-    let some : Some at.0 ≡ None = sym (place_is slots order name at.0 h at.1 own) ∙ none in
+    let some : Some at.0 ≡ None = sym (place_is ps slots order name at.0 h at.1 own) ∙ none in
     cc

@@ -2,8 +2,8 @@
 use Rattle.std.proofs.Common.{◌≡◌, ℕ, zero, suc, ◌-◌, ◌<◌, ◌≤◌, max, List, [], ◌∷◌, length, get_or, reverse, refl, sym, ◌∙◌, ap, arith, subst, Option, Some, None, unwrap_or}
 use Rattle.std.specs.Option.{option_map}
 use Rattle.std.proofs.lemmas.List.{get_or_default, length-map, length-reverse}
-use Rattle.table.specs.chains.Table.{Chain, user_chains}
-use Rattle.table.specs.steps.Kept.{row_at, name_at, listed, table_of, IsStored}
+use Rattle.table.specs.chains.Table.{Policy, Chain, user_chains}
+use Rattle.table.specs.steps.Kept.{row_at, name_at, listed, table_with, IsStored}
 use Rattle.table.specs.steps.Rows.{Row}
 use Rattle.table.specs.steps.Walking.{rest_of, state_of, start, NoRoom, IsState, IsHit}
 use Rattle.table.specs.walk.Depth.{stacked, deeper, depth_within}
@@ -109,8 +109,8 @@ pub start_rests : (slots : List (Option Row)) (order : List ℕ) (hook key : ℕ
 start_rests slots order hook key at stack lt own is e =
     ap (λ x. state_of slots x stack) is ∙ ap (state_of slots (start key)) e ∙ ap (λ k. whole (row_at slots k).name ∷ []) (sym (key_is order hook key lt own))
 
-pub start_depth : (room : ℕ) (slots : List (Option Row)) (order values : List ℕ) (rests : List Rest) (name : List ℕ) → IsStored slots order → rests ≡ whole name ∷ [] → depth_within room (listed slots order) values rests ≤ 1024
-start_depth room slots order values rests name h e =
+pub start_depth : (ps : List Policy) (room : ℕ) (slots : List (Option Row)) (order values : List ℕ) (rests : List Rest) (name : List ℕ) → IsStored ps slots order → rests ≡ whole name ∷ [] → depth_within room (listed slots order) values rests ≤ 1024
+start_depth ps room slots order values rests name h e =
     let few : length (user_chains (listed slots order)) ≤ 1024 = h.sound.few in
     let is : depth_within room (listed slots order) values rests ≡ depth_within room (listed slots order) values (whole name ∷ []) = ap (depth_within room (listed slots order) values) e in
-    omega (arith, few, is, depth_from room (table_of slots order) values name h.sound)
+    omega (arith, few, is, depth_from room (table_with ps slots order) values name h.sound)

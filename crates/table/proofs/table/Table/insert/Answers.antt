@@ -1,60 +1,39 @@
-use Rattle.std.proofs.Common.{◌∙◌, ◌-◌, ◌+◌, sym, ap, Err, List, [], ◌∷◌, ◌++◌, ℕ, length}
+use Rattle.std.proofs.Common.{◌∙◌, ◌-◌, ◌+◌, refl, sym, ap, List, [], ◌++◌, ◌∷◌, ℕ, length}
 use Rattle.std.specs.Prelude.{insert}
 use Rattle.table.specs.chains.Table.{rules_of}
-use Rattle.table.specs.edits.Edits.{IsStepIfRoom, changed, NoSuchChain, NumberOutOfRange, Insert, Cause, first_fault, full, rule_causes, out_of_range}
-use Rattle.table.specs.steps.Kept.{name_at}
-use Rattle.table.proofs.laws.edits.AnswerLaws.{by_view, refused_if_room, nowhere, somewhere, holds, passes, view_with, table_with, name_found, count_found}
-use Rattle.table.proofs.laws.edits.PutLaws.{put_step}
+use Rattle.table.specs.edits.Edits.{Insert, Cause, NoSuchChain, NumberOutOfRange, full, out_of_range, rule_causes}
+use Rattle.table.specs.steps.Kept.{table_of}
+use Rattle.table.proofs.laws.edits.AnswerLaws.{refused_if_room, nowhere, somewhere, holds, passes, count_found}
+use Rattle.table.proofs.laws.edits.PutLaws.{put_found}
 use Rattle.table.proofs.table.Table.insert.Goals as goal
 
 pub returns-in_default-clause-step : goal.returns-in_default-clause-step
 returns-in_default-clause-step c =
-    let slots = c.self.inside.chains.slots in
-    let order = c.self.inside.order.items in
-    let ps = c.self.inside.policies in
-    let t = table_with ps slots order in
+    let t = table_of c.self.inside.parts in
     let chain = c.args.chain.now in
-    let rule = c.args.rule in
     let range : Cause = out_of_range c.args.number (length (rules_of t.chains chain) + 1) in
-    by_view (λ v. IsStepIfRoom (Insert chain c.args.number rule) v v (Err NoSuchChain)) c.self.view_is
-    (refused_if_room (Insert chain c.args.number rule) (view_with ps slots order) NoSuchChain (nowhere t chain (range ∷ (rule_causes t chain rule ++ full t chain ∷ [])) (sym c.in_default.ensures.place)))
+    refused_if_room (Insert chain c.args.number c.args.rule) c.self.view_is NoSuchChain (nowhere t chain (range ∷ (rule_causes t chain c.args.rule ++ full t chain ∷ [])) (sym c.in_default.ensures.place))
 
 pub returns-then-out_of_range-clause-step : goal.returns-then-out_of_range-clause-step
 returns-then-out_of_range-clause-step c =
-    let slots = c.self.inside.chains.slots in
-    let order = c.self.inside.order.items in
-    let ps = c.self.inside.policies in
-    let t = table_with ps slots order in
+    let p = c.self.inside.parts in
+    let t = table_of p in
     let chain = c.args.chain.now in
-    let rule = c.args.rule in
     let range : Cause = out_of_range c.args.number (length (rules_of t.chains chain) + 1) in
-    let place = c.in-Some.place in
     let at = sym c.in-Some.ensures.place in
-    let within = c.in-Some.ensures.within in
-    let named = name_found ps slots order chain place within at in
-    let many = count_found ps slots order chain place within at in
-    let last = ap (λ n. (out_of_range c.args.number n).0) (ap (λ n. n + 1) (many ∙ sym c.count_at-last.ensures.value)) in
-    by_view (λ v. IsStepIfRoom (Insert chain c.args.number rule) v v (Err NumberOutOfRange)) c.self.view_is
-    (refused_if_room (Insert chain c.args.number rule) (view_with ps slots order) NumberOutOfRange
-    (somewhere t chain place (range ∷ (rule_causes t chain rule ++ full t chain ∷ [])) at ∙ holds range (rule_causes t chain rule ++ full t chain ∷ []) (last ∙ sym c.out_of_range.ensures ∙ c.if-out_of_range.true)))
+    let last = ap (λ n. (out_of_range c.args.number (n + 1)).0) (count_found p chain c.in-Some.place c.in-Some.ensures.within at ∙ sym c.count_at-last.ensures.value) in
+    refused_if_room (Insert chain c.args.number c.args.rule) c.self.view_is NumberOutOfRange
+    (somewhere t chain c.in-Some.place (range ∷ (rule_causes t chain c.args.rule ++ full t chain ∷ [])) at ∙ holds range (rule_causes t chain c.args.rule ++ full t chain ∷ []) (last ∙ sym c.out_of_range.ensures ∙ c.if-out_of_range.true))
 
 pub returns-clause-step : goal.returns-clause-step
 returns-clause-step c =
-    let slots = c.self.inside.chains.slots in
-    let order = c.self.inside.order.items in
-    let ps = c.self.inside.policies in
-    let t = table_with ps slots order in
+    let p = c.self.inside.parts in
+    let t = table_of p in
     let chain = c.args.chain.now in
     let rule = c.args.rule in
     let range : Cause = out_of_range c.args.number (length (rules_of t.chains chain) + 1) in
-    let place = c.in-Some.place in
     let at = sym c.in-Some.ensures.place in
-    let within = c.in-Some.ensures.within in
-    let named = name_found ps slots order chain place within at in
-    let many = count_found ps slots order chain place within at in
-    let last = ap (λ n. (out_of_range c.args.number n).0) (ap (λ n. n + 1) (many ∙ sym c.count_at-last.ensures.value)) in
-    by_view (λ v. IsStepIfRoom (Insert chain c.args.number rule) v (view_with ps c.put_in.new.chains.slots order) c.put_in.result) c.self.view_is
-    (put_step (Insert chain c.args.number rule) ps slots c.put_in.new.chains.slots order place ((λ (n : List ℕ). rule_causes t n rule ++ full t n ∷ []) (name_at slots order place)) (λ rules. insert rules (c.args.number - 1) rule) c.put_in.result
-    (somewhere t chain place (range ∷ (rule_causes t chain rule ++ full t chain ∷ [])) at ∙ passes range (rule_causes t chain rule ++ full t chain ∷ []) (last ∙ sym c.out_of_range.ensures ∙ c.if-out_of_range.false) ∙ ap (λ (n : List ℕ). first_fault ((λ (n : List ℕ). rule_causes t n rule ++ full t n ∷ []) n)) (sym named))
-    (ap (λ (n : List ℕ). changed (λ rules. insert rules (c.args.number - 1) rule) n t) named)
-    c.put_in.ensures.answer)
+    let last = ap (λ n. (out_of_range c.args.number (n + 1)).0) (count_found p chain c.in-Some.place c.in-Some.ensures.within at ∙ sym c.count_at-last.ensures.value) in
+    let causes : List ℕ → List Cause = λ (n : List ℕ). (rule_causes t n rule ++ full t n ∷ []) in
+    put_found (Insert chain c.args.number rule) p c.put_in.new.self chain c.in-Some.place causes (λ rules. insert rules (c.args.number - 1) rule) c.put_in.result c.self.view_is c.in-Some.ensures.within at
+    (somewhere t chain c.in-Some.place (range ∷ causes chain) at ∙ passes range (causes chain) (last ∙ sym c.out_of_range.ensures ∙ c.if-out_of_range.false)) refl c.put_in.ensures.answer

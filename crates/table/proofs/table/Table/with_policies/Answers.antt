@@ -7,7 +7,7 @@ use Rattle.table.proofs.table.Table.with_policies.Goals as goal
 
 pub invariant_of-result : goal.invariant_of-result
 invariant_of-result c =
-    whole_three c.insert_reserved-input.new.self.slots c.insert_reserved-forward.new.self.slots c.insert_reserved-output.new.self.slots
+    let w = whole_three c.insert_reserved-input.new.self.slots c.insert_reserved-forward.new.self.slots c.insert_reserved-output.new.self.slots
     c.insert_reserved-input.result c.insert_reserved-forward.result c.insert_reserved-output.result c.in_ok-new.field-0 c.in_ok-new-2.field-0 c.in_ok-new-3.field-0
     (record {
       first = c.insert_reserved-input.ensures.updates.changed;
@@ -23,4 +23,5 @@ invariant_of-result c =
       output = (record { named = c.in_ok-new-3.ensures.name ∙ c.built_in_name-3.ensures; entries = c.in_ok-new-3.ensures.entries; classified = c.in_ok-new-3.ensures.classified; references = c.in_ok-new-3.ensures.references });
     }) c.args.policies c.in_ok-order.order.items c.cover-3.new.seen.items c.requires c.in_ok-order.ensures.items
     (λ k. c.in_ok-cover-3.ensures.marks k ∙ c.in_ok-cover-2.ensures.marks k ∙ c.in_ok-cover.ensures.marks k ∙ ap (λ (xs : List Bool). get_or xs k false) c.new-seen.ensures.items)
-    (omega (arith, c.in_ok-cover.ensures.covered, c.in_ok-cover-2.ensures.longer, c.in_ok-cover-3.ensures.longer)) (omega (arith, c.in_ok-cover-2.ensures.covered, c.in_ok-cover-3.ensures.longer)) c.in_ok-cover-3.ensures.covered
+    (omega (arith, c.in_ok-cover.ensures.covered, c.in_ok-cover-2.ensures.longer, c.in_ok-cover-3.ensures.longer)) (omega (arith, c.in_ok-cover-2.ensures.covered, c.in_ok-cover-3.ensures.longer)) c.in_ok-cover-3.ensures.covered in
+    record { kept = w.0; unmarked = w.1 }

@@ -1,7 +1,0 @@
-use Rattle.std.proofs.Common.{get_or}
-use Rattle.table.proofs.laws.search.SearchLaws.{IsVisit}
-use Rattle.table.proofs.search.visit.Given as goal
-
-abbrev pub invariant-loop-place : goal.invariant-loop-place
-invariant-loop-place l =
-    IsVisit l.chains.slots l.order.items (get_or l.fn.reached.items 0 0) l.seen.items l.reached.items l.at l.chain l.place
