@@ -1,7 +1,7 @@
 //! Whether a rule may stand in a chain, and what the walk does after it.
 ghost use Rattle.std.specs.Prelude.{◌≡◌, ◌<◌, Some, None, length, IfOk, IfErr};
 ghost use Rattle.table.specs.edits.Edits.{asks_absent_interface, first_fault, rule_causes, target_causes};
-ghost use Rattle.table.specs.steps.Kept.{IsLinked, AreStored, LinksTo, name_at, table_of};
+ghost use Rattle.table.specs.steps.Kept.{AreStored, IsLinked, LinksTo, name_in, table_of};
 ghost use Rattle.table.specs.steps.Kept.{IsUnmarked};
 
 use crate::chain::entry::Course;
@@ -28,9 +28,9 @@ impl Parts {
         ensures clear { IsUnmarked self.now.order.items seen.new.items }
         ensures links { IfOk result (λ key. LinksTo self.now.chains.slots self.now.order.items key (Some name.now)) }
         ensures ok { IfOk result (λ key. first_fault (target_causes (table_of self.now)
-            (name_at self.now.chains.slots self.now.order.items place) (Some name.now)) ≡ None) }
+            (name_in self.now place) (Some name.now)) ≡ None) }
         ensures err { IfErr result (λ fault. first_fault (target_causes (table_of self.now)
-            (name_at self.now.chains.slots self.now.order.items place) (Some name.now)) ≡ Some fault) }
+            (name_in self.now place) (Some name.now)) ≡ Some fault) }
     {
         let Some(to) = self.place_of(name) else {
             return Err(TableFault::TargetMissing);
@@ -60,9 +60,9 @@ impl Parts {
         ensures links { IfOk result (λ course. IsLinked self.now.chains.slots self.now.order.items
             (record { rule = rule.now; course = course })) }
         ensures ok { IfOk result (λ course. first_fault (rule_causes (table_of self.now)
-            (name_at self.now.chains.slots self.now.order.items place) rule.now) ≡ None) }
+            (name_in self.now place) rule.now) ≡ None) }
         ensures err { IfErr result (λ fault. first_fault (rule_causes (table_of self.now)
-            (name_at self.now.chains.slots self.now.order.items place) rule.now) ≡ Some fault) }
+            (name_in self.now place) rule.now) ≡ Some fault) }
     {
         let chain = &self.chains[self.order[place]];
         if asks_absent_interface(chain.name().bytes(), rule) {

@@ -3,7 +3,7 @@ ghost use Rattle.std.specs.Prelude.{◌≡◌, ◌<◌, ℕ, length, remove, Non
 ghost use Rattle.std.specs.List.{list_any};
 ghost use Rattle.table.specs.chains.Table.{is_referenced, user_chains};
 ghost use Rattle.table.specs.edits.Edits.{DeleteChain, DeleteChains, edited, fault_of, has_rules};
-ghost use Rattle.table.specs.steps.Kept.{IsIn, AreKept, listed, name_at, table_of};
+ghost use Rattle.table.specs.steps.Kept.{AreKept, IsIn, listed, name_in, table_of};
 
 use crate::fault::TableFault;
 use crate::parts::Parts;
@@ -14,7 +14,7 @@ impl Parts {
     pub(crate) fn refusal(&self, place: usize) -> Option<TableFault>
         requires kept { AreKept self.now }
         requires place { place < length self.now.order.items }
-        ensures { result ≡ fault_of (DeleteChain (name_at self.now.chains.slots self.now.order.items place))
+        ensures { result ≡ fault_of (DeleteChain (name_in self.now place))
             (table_of self.now) }
     {
         if place < BUILT_IN {
@@ -34,11 +34,10 @@ impl Parts {
     pub(crate) fn take_away(&mut self, place: usize)
         requires kept { AreKept self.old }
         requires place { place < length self.old.order.items }
-        requires accepted { fault_of (DeleteChain (name_at self.old.chains.slots self.old.order.items place))
+        requires accepted { fault_of (DeleteChain (name_in self.old place))
             (table_of self.old) ≡ None }
         ensures kept { AreKept self.new }
-        ensures table { table_of self.new
-            ≡ edited (DeleteChain (name_at self.old.chains.slots self.old.order.items place))
+        ensures table { table_of self.new ≡ edited (DeleteChain (name_in self.old place))
             (table_of self.old) }
         ensures order { self.new.order.items ≡ remove self.old.order.items place }
         ensures fewer { (key : ℕ) → IsIn self.new.order.items key → IsIn self.old.order.items key }
@@ -93,8 +92,7 @@ impl Parts {
         requires kept { AreKept self.old }
         requires accepted { fault_of DeleteChains (table_of self.old) ≡ None }
         ensures kept { AreKept self.new }
-        ensures table { table_of self.new
-            ≡ edited DeleteChains (table_of self.old) }
+        ensures table { table_of self.new ≡ edited DeleteChains (table_of self.old) }
         ensures fewer { (key : ℕ) → IsIn self.new.order.items key → IsIn self.old.order.items key }
     {
         while self.order.len() > BUILT_IN {

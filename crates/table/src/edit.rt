@@ -1,9 +1,9 @@
 //! Edits of one chain's rules, with the counts of the chains that they lead to.
-ghost use Rattle.std.specs.Prelude.{◌≡◌, ◌<◌, ◌≤◌, ◌+◌, ℕ, [], length, slice_index, insert, remove, slice_set, OnOk};
+ghost use Rattle.std.specs.Prelude.{◌≡◌, ◌<◌, ◌≤◌, ◌+◌, ℕ, [], length, insert, remove, slice_set, OnOk};
 ghost use Rattle.std.specs.Prelude.{OnErr, None};
 ghost use Rattle.table.specs.chains.Sound.{IsSound};
 ghost use Rattle.table.specs.edits.Edits.{FlushAll, NewChain, changed, edited, fault_of};
-ghost use Rattle.table.specs.steps.Kept.{AreRecounted, IsIn, AreKept, IsLinked, IsPlaceFor, leading_in, name_at};
+ghost use Rattle.table.specs.steps.Kept.{AreKept, AreRecounted, IsIn, IsLinked, IsPlaceFor, leading_in, name_in, row_in};
 ghost use Rattle.table.specs.steps.Kept.{references_at, row_at, table_of, view_of};
 ghost use Rattle.table.specs.edits.Boxes.{MakesOneBoxAtMost};
 
@@ -26,14 +26,13 @@ impl Parts {
     ) -> Result<(), AllocError>
         requires kept { AreKept self.old }
         requires place { place < length self.old.order.items }
-        requires at { at ≤ length (row_at self.old.chains.slots (slice_index self.old.order.items place)).entries }
+        requires at { at ≤ length (row_in self.old place).entries }
         requires linked { IsLinked self.old.chains.slots self.old.order.items entry }
         requires sound { IsSound (changed (λ rules. insert rules at entry.rule)
-            (name_at self.old.chains.slots self.old.order.items place)
-            (table_of self.old)) }
+            (name_in self.old place) (table_of self.old)) }
         ensures kept { AreKept self.new }
         ensures ok { OnOk result (table_of self.new ≡ changed (λ rules. insert rules at entry.rule)
-            (name_at self.old.chains.slots self.old.order.items place) (table_of self.old)) }
+            (name_in self.old place) (table_of self.old)) }
         ensures order { self.new.order.items ≡ self.old.order.items }
         ensures err { OnErr result (view_of self.new ≡ view_of self.old) }
         ensures work { MakesOneBoxAtMost work.old work.new }
@@ -55,15 +54,13 @@ impl Parts {
     ) -> Result<(), AllocError>
         requires kept { AreKept self.old }
         requires place { place < length self.old.order.items }
-        requires at { at < length (row_at self.old.chains.slots (slice_index self.old.order.items place)).entries }
+        requires at { at < length (row_in self.old place).entries }
         requires linked { IsLinked self.old.chains.slots self.old.order.items entry }
         requires sound { IsSound (changed (λ rules. slice_set rules at entry.rule)
-            (name_at self.old.chains.slots self.old.order.items place)
-            (table_of self.old)) }
+            (name_in self.old place) (table_of self.old)) }
         ensures kept { AreKept self.new }
-        ensures ok { OnOk result (table_of self.new
-            ≡ changed (λ rules. slice_set rules at entry.rule)
-            (name_at self.old.chains.slots self.old.order.items place) (table_of self.old)) }
+        ensures ok { OnOk result (table_of self.new ≡ changed (λ rules. slice_set rules at entry.rule)
+            (name_in self.old place) (table_of self.old)) }
         ensures order { self.new.order.items ≡ self.old.order.items }
         ensures err { OnErr result (view_of self.new ≡ view_of self.old) }
         ensures work { MakesOneBoxAtMost work.old work.new }
@@ -81,11 +78,11 @@ impl Parts {
     pub(crate) fn take_out(&mut self, place: usize, at: usize)
         requires kept { AreKept self.old }
         requires place { place < length self.old.order.items }
-        requires at { at < length (row_at self.old.chains.slots (slice_index self.old.order.items place)).entries }
+        requires at { at < length (row_in self.old place).entries }
         ensures kept { AreKept self.new }
         ensures order { self.new.order.items ≡ self.old.order.items }
         ensures table { table_of self.new ≡ changed (λ rules. remove rules at)
-            (name_at self.old.chains.slots self.old.order.items place) (table_of self.old) }
+            (name_in self.old place) (table_of self.old) }
     {
         let key = self.order[place];
         let link = self.chains[key].entry(at).course.key();
@@ -117,7 +114,7 @@ impl Parts {
         ensures kept { AreKept self.new }
         ensures order { self.new.order.items ≡ self.old.order.items }
         ensures table { table_of self.new ≡ changed (λ rules. [])
-            (name_at self.old.chains.slots self.old.order.items place) (table_of self.old) }
+            (name_in self.old place) (table_of self.old) }
     {
         let key = self.order[place];
         self.count_all_out(key);
@@ -129,8 +126,7 @@ impl Parts {
         requires { AreKept self.old }
         ensures kept { AreKept self.new }
         ensures order { self.new.order.items ≡ self.old.order.items }
-        ensures table { table_of self.new
-            ≡ edited FlushAll (table_of self.old) }
+        ensures table { table_of self.new ≡ edited FlushAll (table_of self.old) }
     {
         let chains = &mut self.chains;
         for place in 0..self.order.len() {
@@ -145,8 +141,7 @@ impl Parts {
         requires place { IsPlaceFor name self.old.chains.slots self.old.order.items place }
         requires accepted { fault_of (NewChain name) (table_of self.old) ≡ None }
         ensures kept { AreKept self.new }
-        ensures ok { OnOk result (table_of self.new
-            ≡ edited (NewChain name) (table_of self.old)) }
+        ensures ok { OnOk result (table_of self.new ≡ edited (NewChain name) (table_of self.old)) }
         ensures key { OnOk result (self.new.order.items ≡ insert self.old.order.items place self.old.chains.vacant_key) }
         ensures err { OnErr result (view_of self.new ≡ view_of self.old) }
         ensures err_order { OnErr result (self.new.order.items ≡ self.old.order.items) }

@@ -1,6 +1,6 @@
 //! Rules put into chains where they may stand.
-ghost use Rattle.std.specs.Prelude.{◌<◌, ◌≤◌, length, slice_index};
-ghost use Rattle.table.specs.steps.Kept.{AreKept, IsUnmarked, row_at};
+ghost use Rattle.std.specs.Prelude.{◌<◌, ◌≤◌, length};
+ghost use Rattle.table.specs.steps.Kept.{AreKept, IsUnmarked, row_in};
 ghost use Rattle.table.specs.steps.Puts.{IsPutIn, IsPutOver};
 ghost use Rattle.table.specs.edits.Boxes.{MakesOneBoxAtMost};
 
@@ -25,7 +25,7 @@ impl Parts {
         requires kept { AreKept self.old }
         requires unmarked { IsUnmarked self.old.order.items seen.old.items }
         requires place { place < length self.old.order.items }
-        requires at { at ≤ length (row_at self.old.chains.slots (slice_index self.old.order.items place)).entries }
+        requires at { at ≤ length (row_in self.old place).entries }
         ensures kept { AreKept self.new }
         ensures unmarked { IsUnmarked self.new.order.items seen.new.items }
         ensures answer { IsPutIn self.old self.new place at rule result }
@@ -57,7 +57,7 @@ impl Parts {
         requires kept { AreKept self.old }
         requires unmarked { IsUnmarked self.old.order.items seen.old.items }
         requires place { place < length self.old.order.items }
-        requires at { at < length (row_at self.old.chains.slots (slice_index self.old.order.items place)).entries }
+        requires at { at < length (row_in self.old place).entries }
         ensures kept { AreKept self.new }
         ensures unmarked { IsUnmarked self.new.order.items seen.new.items }
         ensures answer { IsPutOver self.old self.new place at rule result }

@@ -1,12 +1,12 @@
 //! Chains under keys, and the index of the keys in listing order.
-ghost use Rattle.std.specs.Prelude.{◌≡◌, ◌≢◌, ◌<◌, ◌≤◌, ℕ, [], length, slice_index, slice_index_or, IfSome, IsSome};
+ghost use Rattle.std.specs.Prelude.{◌≡◌, ◌≢◌, ◌<◌, ◌≤◌, ℕ, [], length, slice_index_or, IfSome, IsSome};
 ghost use Rattle.std.specs.Prelude.{MatchOption, MatchResult};
 ghost use Rattle.std.specs.List.{position};
 ghost use Rattle.fields.specs.packet.Hook.{name};
 ghost use Rattle.table.specs.chains.Table.{built_in_names, is_named};
 ghost use Rattle.table.specs.edits.Edits.{out_of_range};
 ghost use Rattle.table.specs.steps.Rows.{has_text};
-ghost use Rattle.table.specs.steps.Kept.{IsPlaceFor, IsPlaceOf, AreStored, hook_place, listed, row_at};
+ghost use Rattle.table.specs.steps.Kept.{AreStored, IsPlaceFor, IsPlaceOf, hook_place, listed, row_in};
 
 use crate::parts::Parts;
 use fields::{Hook, Name};
@@ -105,7 +105,7 @@ impl Parts {
     pub(crate) fn count_at(&self, place: usize) -> usize
         requires kept { AreStored self.now }
         requires place { place < length self.now.order.items }
-        ensures value { result ≡ length (row_at self.now.chains.slots (slice_index self.now.order.items place)).entries }
+        ensures value { result ≡ length (row_in self.now place).entries }
         ensures few { result ≤ 8192 }
     {
         let key = self.order[place];
@@ -117,9 +117,9 @@ impl Parts {
         requires kept { AreStored self.now }
         requires place { place < length self.now.order.items }
         ensures value { result
-            ≡ position (has_text rule.now) (row_at self.now.chains.slots (slice_index self.now.order.items place)).entries }
+            ≡ position (has_text rule.now) (row_in self.now place).entries }
         ensures within { IfSome result (λ at. at
-            < length (row_at self.now.chains.slots (slice_index self.now.order.items place)).entries) }
+            < length (row_in self.now place).entries) }
     {
         let key = self.order[place];
         self.chains[key].place_of(rule)

@@ -8,7 +8,7 @@ use Rattle.std.proofs.lemmas.List.Sums.{count_by-le-length}
 use Rattle.std.proofs.lemmas.List.Elements.{All-weaker, All-head, All-tail}
 use Rattle.classify.specs.classifier.Classifier.{Classified, IsClassifierOfRules}
 use Rattle.table.specs.chains.Sound.{IsSound, IsSoundChain, IsUserName}
-use Rattle.table.specs.chains.Table.{Policy, Chain, Accept, names_of, user_chains}
+use Rattle.table.specs.chains.Table.{Policy, Chain, names_of, user_chains}
 use Rattle.table.specs.steps.Rows.{Row, rules_in, leads_to}
 use Rattle.table.specs.steps.Kept.{blank, slot_at, row_at, listed, classifiers, table_with, leading_in, leading, references_at, AreRecounted, CountsInAndOut, IsIn, IsLinked, IsStored, IsCounted}
 use Rattle.table.specs.declared.chain.entry.Entry.{Entry}

@@ -4,7 +4,7 @@ use Rattle.std.specs.Prelude.{codes, count_by}
 use Rattle.std.proofs.lemmas.Bool.{cases_eq, false≢true}
 use Rattle.std.proofs.lemmas.List.Elements.{All-nil}
 use Rattle.table.specs.chains.Sound.{IsSound}
-use Rattle.table.specs.chains.Table.{Chain, Policy, Accept, empty_table, empty_chain}
+use Rattle.table.specs.chains.Table.{Chain, Policy, empty_table, empty_chain}
 use Rattle.table.specs.steps.Kept.{blank, slot_at, row_at, listed, listed_at, listed_row, leading, leading_in, IsIn, IsLinked, IsKept, IsUnmarked}
 use Rattle.table.specs.steps.Rows.{Row, leads_to, IsClassified}
 use Rattle.table.specs.declared.chain.entry.Entry.{Entry}

@@ -5,7 +5,7 @@ use Rattle.std.specs.List.{list_any}
 use Rattle.std.proofs.lemmas.Bool.{cases_Bool, cases_lt, cond-true, cond-false, false≢true, or_left, or_right, or_cases}
 use Rattle.std.proofs.lemmas.List.{length-map}
 use Rattle.std.proofs.lemmas.List.Elements.{All-filter, All-contains_itself}
-use Rattle.table.specs.chains.Table.{Policy, Table, Chain, Accept, is_built_in, is_user, user_chains, names, is_referenced}
+use Rattle.table.specs.chains.Table.{Policy, Table, Chain, is_built_in, is_user, user_chains, names, is_referenced}
 use Rattle.table.specs.edits.Edits.{Cause, DeleteChain, DeleteChains, ChainNotEmpty, ChainReferenced, has_rules, causes, edited, fault_of}
 use Rattle.table.specs.steps.Rows.{Row, rule_in}
 use Rattle.table.specs.steps.Kept.{row_at, name_at, listed, listed_at, table_with, IsStored}

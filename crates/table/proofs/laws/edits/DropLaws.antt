@@ -13,7 +13,7 @@ use Rattle.rules.specs.rule.Rules.{Rule}
 use Rattle.rules.specs.declared.rule.target.Target.{Target}
 use Rattle.rules.specs.declared.rule.target.Target.TheVariants as target
 use Rattle.table.specs.chains.Sound.{IsSound}
-use Rattle.table.specs.chains.Table.{Policy, Table, Chain, Accept, is_named, is_this, chain_in, chain_named_by, names, is_referenced, rules_of}
+use Rattle.table.specs.chains.Table.{Policy, Table, Chain, is_named, is_this, chain_in, chain_named_by, names, is_referenced, rules_of}
 use Rattle.table.specs.edits.Edits.{Cause, DeleteChain, ChainNotEmpty, ChainReferenced, BuiltInChain, no_such_chain, built_in, first_fault, without, edited, fault_of}
 use Rattle.table.specs.steps.Rows.{Row, rule_in, rules_in, leads_to, course_of, IsClassified}
 use Rattle.table.specs.steps.Kept.{blank, slot_at, row_at, name_at, listed, listed_at, listed_row, table_with, leading, leading_in, references_at, IsIn, IsUser, LinksTo, IsLinked, IsStored, IsKept}

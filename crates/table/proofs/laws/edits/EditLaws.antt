@@ -12,7 +12,7 @@ use Rattle.rules.specs.rule.Rules.{Rule}
 use Rattle.rules.specs.declared.rule.target.Target.{Target}
 use Rattle.rules.specs.declared.rule.target.Target.TheVariants as target
 use Rattle.table.specs.chains.Sound.{IsSound}
-use Rattle.table.specs.chains.Table.{Policy, Table, Chain, Accept, chain_in, chain_named_by}
+use Rattle.table.specs.chains.Table.{Policy, Table, Chain, chain_in, chain_named_by}
 use Rattle.table.specs.edits.Edits.{changed}
 use Rattle.table.specs.steps.Rows.{Row, rule_in, rules_in, leads_to, is_key, key_in, course_of, ones, IsClassified}
 use Rattle.table.specs.steps.Kept.{blank, slot_at, row_at, name_at, table_with, leading_in, leading, references_at, AreRecounted, CountsInAndOut, IsIn, IsUser, LinksTo, IsLinked, IsStored, IsKept}

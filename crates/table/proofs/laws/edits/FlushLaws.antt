@@ -5,7 +5,7 @@ use Rattle.std.specs.Prelude.{count_by}
 use Rattle.std.proofs.lemmas.Bool.{cases_eq}
 use Rattle.std.proofs.lemmas.List.Elements.{All-nil}
 use Rattle.table.specs.chains.Sound.{IsSound}
-use Rattle.table.specs.chains.Table.{Policy, Table, Chain, Accept, empty_chain}
+use Rattle.table.specs.chains.Table.{Policy, Table, Chain, empty_chain}
 use Rattle.table.specs.edits.Edits.{FlushAll, edited}
 use Rattle.table.specs.steps.Rows.{Row, leads_to, IsClassified}
 use Rattle.table.specs.steps.Kept.{blank, slot_at, row_at, table_with, leading, IsLinked, IsKept}

@@ -20,7 +20,7 @@ use Rattle.rules.specs.printing.RoundTrip.{RenamedReadsBack}
 use Rattle.rules.specs.rule.Actions.{action_with_chain_name, target_of, target_with, with_chain_name}
 use Rattle.rules.specs.rule.Rules.{Rule}
 use Rattle.table.specs.chains.Sound.{IsSound}
-use Rattle.table.specs.chains.Table.{Table, Chain, Policy, Accept, chain_in, comes_before, is_built_in, is_named, is_this, names, names_of}
+use Rattle.table.specs.chains.Table.{Table, Chain, Policy, chain_in, comes_before, is_built_in, is_named, is_this, names, names_of}
 use Rattle.table.specs.edits.Edits.{Rename, edited, placed, renamed_rule, renamed_chain}
 use Rattle.table.specs.steps.Kept.{blank, slot_at, row_at, name_at, listed, listed_at, listed_row, table_with, leading, leading_in, IsIn, IsUser, LinksTo, IsLinked, IsPlaceFor, IsStored, IsKept}
 use Rattle.table.specs.steps.Renames.{AreRetargeted, moved_key, retargeted}

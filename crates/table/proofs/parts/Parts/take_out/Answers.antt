@@ -1,4 +1,4 @@
-use Rattle.std.proofs.Common.{◌≡◌, ◌∙◌, ◌<◌, sym, ap, arith, length, List, get_or}
+use Rattle.std.proofs.Common.{◌≡◌, ◌∙◌, ◌<◌, refl, sym, ap, arith, length, List, get_or}
 use Rattle.table.specs.steps.Rows.{Row, key_in}
 use Rattle.table.specs.declared.chain.entry.Entry.{Entry}
 use Rattle.table.proofs.laws.chains.KeptLaws.{found}
@@ -15,24 +15,21 @@ count_out-requires c =
     let own : get_or c.index_mut.result.now.entries c.args.at c.entry.result.now ≡ c.entry.result.now = ap (λ (r : Row). get_or r.entries c.args.at c.entry.result.now) same ∙ sym c.entry.ensures in
     counts_out_there c.args.self.now.policies slots order c.args.place c.index-key.result.now c.args.at c.index_mut.result.now c.remove.new.self c.entry.result.now c.key-link.result c.requires.kept f c.remove.ensures.references lt own c.key-link.ensures
 
-pub returns-clause-kept : goal.returns-clause-kept
-returns-clause-kept c =
+pub returns : goal.returns
+returns c =
+    let ps = c.args.self.now.policies in
     let slots = c.args.self.now.chains.slots in
     let order = c.args.self.now.order.items in
-    let f = found c.args.self.now.policies slots order c.args.place c.index-key.result.now c.index_mut.result.now c.requires.kept.stored c.requires.place c.index-key.ensures c.index_mut.ensures.value in
-    let lt : c.args.at < length c.index_mut.result.now.entries = omega (arith, c.requires.at, ap (λ (es : List Entry). length es) (found_entries c.args.self.now.policies slots order c.args.place c.index-key.result.now c.index_mut.result.now f)) in
-    let same : c.index_mut.result.now ≡ c.index.result.now = some_same (sym c.index_mut.ensures.value ∙ c.index.ensures) in
-    let own : get_or c.index_mut.result.now.entries c.args.at c.entry.result.now ≡ c.entry.result.now = ap (λ (r : Row). get_or r.entries c.args.at c.entry.result.now) same ∙ sym c.entry.ensures in
-    let p : IsTakenOut c.index_mut.result.now c.remove.new.self c.args.at =
-    record { name = c.remove.ensures.name; references = c.remove.ensures.references; entries = c.remove.ensures.entries; classified = c.remove.ensures.classified } in
-    out_kept c.args.self.now.policies slots c.count_out.new.chains.slots order c.args.place c.index-key.result.now c.args.at c.index_mut.result.now c.remove.new.self c.entry.result.now c.key-link.result c.requires.kept f lt p
-    (c.key-link.ensures ∙ ap (λ (e : Entry). key_in e.course) (sym own)) c.count_out.ensures.same c.count_out.ensures.counted
-
-pub returns-clause-table : goal.returns-clause-table
-returns-clause-table c =
-    let slots = c.args.self.now.chains.slots in
-    let order = c.args.self.now.order.items in
-    let f = found c.args.self.now.policies slots order c.args.place c.index-key.result.now c.index_mut.result.now c.requires.kept.stored c.requires.place c.index-key.ensures c.index_mut.ensures.value in
-    let p : IsTakenOut c.index_mut.result.now c.remove.new.self c.args.at =
-    record { name = c.remove.ensures.name; references = c.remove.ensures.references; entries = c.remove.ensures.entries; classified = c.remove.ensures.classified } in
-    out_table c.args.self.now.policies slots c.count_out.new.chains.slots order c.args.place c.index-key.result.now c.args.at c.index_mut.result.now c.remove.new.self f p c.count_out.ensures.same
+    let key = c.index-key.result.now in
+    let row = c.index_mut.result.now in
+    let f = found ps slots order c.args.place key row c.requires.kept.stored c.requires.place c.index-key.ensures c.index_mut.ensures.value in
+    let lt : c.args.at < length row.entries = omega (arith, c.requires.at, ap (λ (es : List Entry). length es) (found_entries ps slots order c.args.place key row f)) in
+    let same : row ≡ c.index.result.now = some_same (sym c.index_mut.ensures.value ∙ c.index.ensures) in
+    let own : get_or row.entries c.args.at c.entry.result.now ≡ c.entry.result.now = ap (λ (r : Row). get_or r.entries c.args.at c.entry.result.now) same ∙ sym c.entry.ensures in
+    let p : IsTakenOut row c.remove.new.self c.args.at = record { name = c.remove.ensures.name; references = c.remove.ensures.references; entries = c.remove.ensures.entries; classified = c.remove.ensures.classified } in
+    record {
+      kept = out_kept ps slots c.count_out.new.chains.slots order c.args.place key c.args.at row c.remove.new.self c.entry.result.now c.key-link.result c.requires.kept f lt p (c.key-link.ensures ∙ ap (λ (e : Entry). key_in e.course) (sym own)) c.count_out.ensures.same
+          c.count_out.ensures.counted;
+      table = out_table ps slots c.count_out.new.chains.slots order c.args.place key c.args.at row c.remove.new.self f p c.count_out.ensures.same;
+      order = refl;
+    }

@@ -1,4 +1,4 @@
-use Rattle.std.proofs.Common.{◌≡◌, ◌<◌, ◌∙◌, ◌-◌, ◌++◌, ◌∷◌, refl, arith, sym, ap, map, true, false, List, [], Some, unwrap_or}
+use Rattle.std.proofs.Common.{◌≡◌, ◌∙◌, ◌-◌, ◌++◌, ◌∷◌, refl, arith, sym, ap, map, true, false, List, [], Some, unwrap_or}
 use Rattle.table.specs.steps.Kept.{listed}
 use Rattle.table.specs.steps.Walking.{state_of}
 use Rattle.table.specs.walk.Trail.{shown}
