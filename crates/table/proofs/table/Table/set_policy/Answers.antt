@@ -1,8 +1,9 @@
-use Rattle.std.proofs.Common.{◌≡◌, ◌∙◌, ◌<◌, sym, ap, subst, Some, not, Option, List, [], ◌∷◌, ℕ}
+use Rattle.std.proofs.Common.{◌≡◌, ◌∙◌, ◌<◌, sym, ap, subst, length, Some, not, Option, List, [], ◌∷◌, ℕ}
 use Rattle.std.specs.Prelude.{is_none, slice_set}
+use Rattle.std.specs.List.{position}
 use Rattle.table.specs.chains.Sound.{IsSound}
-use Rattle.table.specs.chains.Table.{Table, Policy, is_built_in}
-use Rattle.table.specs.edits.Edits.{Cause, SetPolicy, NoSuchChain, NotBuiltInChain, BadPolicy, edited, policy_named, policies_with}
+use Rattle.table.specs.chains.Table.{Table, Policy, is_built_in, is_named}
+use Rattle.table.specs.edits.Edits.{Cause, SetPolicy, NoSuchChain, NotBuiltInChain, BadPolicy, edited, fault_of, first_fault, policy_named, policies_with}
 use Rattle.table.specs.steps.Kept.{classifiers, name_in, table_of, table_with, AreStored}
 use Rattle.table.specs.declared.parts.Parts.{Parts}
 use Rattle.table.proofs.laws.chains.ChainLaws.{set_policy_sound}
@@ -26,6 +27,13 @@ policy_set p chain text k policy s lt named read =
     ap P (ap (λ (o : Option Policy). policies_with (Some k) o p.policies) read
     ∙ ap (λ (o : Option ℕ). policies_with o (policy_named text) p.policies) (sym (place_built_in p.policies p.chains.slots p.order.items chain k s lt named)))
 
+-- a built-in chain has the name: the word is asked
+word_asked : (p : Parts) (chain text : List ℕ) (k : ℕ) → AreStored p → k < 3 → k < length p.order.items → position (is_named chain) (table_of p).chains ≡ Some k
+    → fault_of (SetPolicy chain text) (table_of p) ≡ first_fault (bad text ∷ [])
+word_asked p chain text k s first lt at =
+    somewhere (table_of p) chain k (outside chain ∷ bad text ∷ []) at
+    ∙ passes (outside chain) (bad text ∷ []) (ap not (built_in_first p.policies p.chains.slots p.order.items chain k s first (name_found p chain k lt at)))
+
 pub returns-in_default : goal.returns-in_default
 returns-in_default c =
     let chain = c.args.chain.now in
@@ -35,23 +43,16 @@ pub returns-then-place-ge-BUILT_IN : goal.returns-then-place-ge-BUILT_IN
 returns-then-place-ge-BUILT_IN c =
     let p = c.self.inside.parts in
     let chain = c.args.chain.now in
-    let causes = bad c.args.policy.now ∷ [] in
     let at = sym c.in-Some.ensures.place in
     let within = c.in-Some.ensures.within in
     refused (SetPolicy chain c.args.policy.now) c.self.view_is NotBuiltInChain
-    (somewhere (table_of p) chain c.in-Some.place (outside chain ∷ causes) at
-    ∙ holds (outside chain) causes (ap not (user_after p.policies p.chains.slots p.order.items chain c.in-Some.place c.self.invariant.kept.stored c.if-place-ge-BUILT_IN.true within (name_found p chain c.in-Some.place within at))))
+    (somewhere (table_of p) chain c.in-Some.place (outside chain ∷ bad c.args.policy.now ∷ []) at
+    ∙ holds (outside chain) (bad c.args.policy.now ∷ []) (ap not (user_after p.policies p.chains.slots p.order.items chain c.in-Some.place c.self.invariant.kept.stored c.if-place-ge-BUILT_IN.true within (name_found p chain c.in-Some.place within at))))
 
 pub returns-in_default-read : goal.returns-in_default-read
 returns-in_default-read c =
-    let p = c.self.inside.parts in
-    let chain = c.args.chain.now in
-    let causes = bad c.args.policy.now ∷ [] in
-    let at = sym c.in-Some.ensures.place in
-    let named = name_found p chain c.in-Some.place c.in-Some.ensures.within at in
-    refused (SetPolicy chain c.args.policy.now) c.self.view_is BadPolicy
-    (somewhere (table_of p) chain c.in-Some.place (outside chain ∷ causes) at
-    ∙ passes (outside chain) causes (ap not (built_in_first p.policies p.chains.slots p.order.items chain c.in-Some.place c.self.invariant.kept.stored c.if-place-ge-BUILT_IN.false named))
+    refused (SetPolicy c.args.chain.now c.args.policy.now) c.self.view_is BadPolicy
+    (word_asked c.self.inside.parts c.args.chain.now c.args.policy.now c.in-Some.place c.self.invariant.kept.stored c.if-place-ge-BUILT_IN.false c.in-Some.ensures.within (sym c.in-Some.ensures.place)
     ∙ holds (bad c.args.policy.now) [] (ap (λ (o : Option Policy). is_none o) (sym c.in_default-read.ensures)))
 
 pub returns : goal.returns
@@ -59,16 +60,13 @@ returns c =
     let p = c.self.inside.parts in
     let chain = c.args.chain.now in
     let k = c.in-Some.place in
-    let causes = bad c.args.policy.now ∷ [] in
     let at = sym c.in-Some.ensures.place in
-    let named = name_found p chain k c.in-Some.ensures.within at in
     let stored = c.self.invariant.kept.stored in
+    let first = c.if-place-ge-BUILT_IN.false in
     done (SetPolicy chain c.args.policy.now) c.self.view_is
     (record { table = table_with (slice_set p.policies k c.in-Some-read.policy) p.chains.slots p.order.items; classifiers = classifiers p.chains.slots p.order.items })
-    (somewhere (table_of p) chain k (outside chain ∷ causes) at
-    ∙ passes (outside chain) causes (ap not (built_in_first p.policies p.chains.slots p.order.items chain k stored c.if-place-ge-BUILT_IN.false named))
-    ∙ passes (bad c.args.policy.now) [] (ap (λ (o : Option Policy). is_none o) (sym c.in-Some-read.ensures)))
-    (policy_set p chain c.args.policy.now k c.in-Some-read.policy stored c.if-place-ge-BUILT_IN.false named c.in-Some-read.ensures)
+    (word_asked p chain c.args.policy.now k stored first c.in-Some.ensures.within at ∙ passes (bad c.args.policy.now) [] (ap (λ (o : Option Policy). is_none o) (sym c.in-Some-read.ensures)))
+    (policy_set p chain c.args.policy.now k c.in-Some-read.policy stored first (name_found p chain k c.in-Some.ensures.within at) c.in-Some-read.ensures)
 
 pub invariant_of-self : goal.invariant_of-self
 invariant_of-self c =
