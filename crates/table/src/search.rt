@@ -2,7 +2,7 @@
 ghost use Rattle.std.specs.Prelude.{◌≡◌, ◌<◌, ◌≤◌, ◌+◌, ℕ, OnOk, length, false, slice_index, slice_index_or, IfSome};
 ghost use Rattle.std.specs.Prelude.{IsFalse};
 ghost use Rattle.table.specs.edits.Edits.{leads};
-ghost use Rattle.table.specs.steps.Kept.{IsIn, AreStored, listed, row_at};
+ghost use Rattle.table.specs.steps.Kept.{AreStored, IsIn, listed, row_at};
 ghost use Rattle.table.specs.steps.Search.{IsMarked, IsSearch, Marks};
 ghost use Rattle.table.specs.steps.Kept.{IsUnmarked};
 

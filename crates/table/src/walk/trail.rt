@@ -1,6 +1,6 @@
 //! The trail of a packet: the rules that match it, in turn.
 ghost use Rattle.std.specs.Prelude.{◌≡◌, ◌<◌, ◌≤◌, length, false, true, IfNone, IfOk, IfSome, Some};
-ghost use Rattle.table.specs.steps.Kept.{IsIn, AreStored, listed};
+ghost use Rattle.table.specs.steps.Kept.{AreStored, IsIn, listed};
 ghost use Rattle.table.specs.steps.Walking.{entry_before, walk_at};
 ghost use Rattle.table.specs.walk.Trail.{Shows, shown};
 
