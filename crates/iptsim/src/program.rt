@@ -137,8 +137,8 @@ fn serve<'a, R: Read + Drop, W: Write + Drop>(
     Ok(served?)
 }
 
-// Does a task from a reader to a writer, and answers with the writer. Each reply was flushed, so what its buffer holds at
-// the end is what a failed write left: it is not written again.
+// Does a task from a reader to a writer, and answers with the writer. Replies were flushed before the reader was asked for
+// more, and at the end, so what the buffer holds then is what a failed write left: it is not written again.
 fn serve_between<R: Read + Drop, W: Write + Drop>(
     session: &mut Session,
     task: Task,

@@ -166,15 +166,22 @@ const REPLIES: Script = Script {
     end: "",
 };
 
-// A script flushes its writer just so often: once a reply.
-fn hands_on(rt: &impl Abort, alloc: Global, script: Script, replies: u64) -> Result<(), Fail> {
+// A script whose reader shows so many bytes at once flushes its writer just so often.
+fn hands_on(
+    rt: &impl Abort,
+    alloc: Global,
+    script: Script,
+    most: usize,
+    flushes: u64,
+) -> Result<(), Fail> {
     let input = script.input(alloc)?;
-    let never = Fuse::never(usize::MAX);
-    let ran = called_new(alloc, script.call, input.as_bytes(), never, never)?;
-    assert_eq!(rt; ran.writer.flushes(), replies, "{input}");
-    Ok(())
+    let (reads, never) = (Fuse::never(most), Fuse::never(usize::MAX));
+    let ran = called_new(alloc, script.call, input.as_bytes(), reads, never)?;
+    assert_eq!(rt; ran.writer.flushes(), flushes, "{most} {input}");
+    has_output(rt, alloc, script, &ran)
 }
 
+// A reader shows a byte at once: each reply is handed on before the next byte.
 #[test]
 fn each_reply_is_handed_on(rt: HostRuntime) -> Result<(), Fail> {
     const ROWS: &[(Script, u64)] = &[
@@ -188,9 +195,50 @@ fn each_reply_is_handed_on(rt: HostRuntime) -> Result<(), Fail> {
         (REPLIES, 4),
     ];
     for (script, replies) in ROWS {
-        hands_on(&rt, rt.alloc(), *script, *replies)?;
+        hands_on(&rt, rt.alloc(), *script, 1, *replies)?;
     }
     Ok(())
+}
+
+// A reader shows all lines at once: their replies are handed on at once, and what the end prints after them.
+#[test]
+fn replies_to_lines_that_come_at_once_are_handed_on_at_once(rt: HostRuntime) -> Result<(), Fail> {
+    const ROWS: &[(Script, u64)] = &[
+        (LISTING, 1),
+        (WALK, 1),
+        (REFUSED, 1),
+        (KEPT, 1),
+        (OPEN, 2),
+        (DUMP, 1),
+        (CUT, 1),
+        (REPLIES, 1),
+    ];
+    for (script, flushes) in ROWS {
+        hands_on(&rt, rt.alloc(), *script, usize::MAX, *flushes)?;
+    }
+    Ok(())
+}
+
+// A reader shows lines in parts: the replies are handed on where all that it showed was read, in a line and at the end.
+#[test]
+fn replies_are_handed_on_before_the_rest_of_a_line(rt: HostRuntime) -> Result<(), Fail> {
+    hands_on(&rt, rt.alloc(), REPLIES, 30, 2)
+}
+
+// A flush fails where the reader has shown a line but for its newline: the lines before it were served, and it was not.
+#[test]
+fn a_flush_that_fails_in_a_line(rt: HostRuntime) -> Result<(), Fail> {
+    let alloc = rt.alloc();
+    let mut console = Console::new(alloc)?;
+    let input = b"iptables -P INPUT DROP\nfoo\niptables -P INPUT ACCEPT\n";
+    // The reply takes five writes.
+    let writes = Fuse::failing(usize::MAX, 5, Failure::Error);
+    let ran = called(alloc, &mut console.session, Call::Run, input, Fuse::never(24), writes)?;
+    ran.has_answer(&rt, Err(RunFault::WriteFailed));
+    ran.has_written(&rt, b"line 2: S1 unknown line\n");
+    ran.leaves(&rt, b"\n");
+    assert_eq!(rt; ran.writer.flushes(), 1);
+    console.prints(&rt, "iptables -S INPUT", "-P INPUT DROP\n", 0)
 }
 
 // A script ends with its whole output and a status, over devices that move so many bytes a call at most.

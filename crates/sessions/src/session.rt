@@ -1,7 +1,8 @@
 //! Sessions over a reader and a writer.
-ghost use Rattle.std.specs.Prelude.{◌≡◌, ◌⊎◌, ◌+◌, ◌^◌, ◌<◌, ◌≤◌, ◌↔◌, ℕ, List, [], false, true, IfOk, OnOk, is_err, length, vec_len, vec_capacity};
-ghost use Rattle.fields.specs.text.Tap.{device, has_failed, is_unflushed, known, turns_left, Puts};
-ghost use Rattle.fields.specs.text.Line.{IsHeld, EndsAt, ReadsLine};
+ghost use Rattle.std.specs.Prelude.{◌≡◌, ◌⊎◌, ◌+◌, ◌^◌, ◌<◌, ◌≤◌, ◌↔◌, ℕ, Option, List, [], false, true, IfOk, OnOk, MatchResult, is_err, length, vec_len, vec_capacity};
+ghost use Rattle.std.specs.Io.KnownBytes.{Appends};
+ghost use Rattle.fields.specs.text.Tap.{has_failed, is_unflushed, known, shown_left, turns_left, Puts};
+ghost use Rattle.fields.specs.text.Line.{IsHeld, EndsAt, ReadsLine, ReadsOn, ReadsPart};
 ghost use Rattle.table.specs.chains.Table.{Table as TableOf};
 ghost use Rattle.table.specs.edits.Boxes.{MakesOneBoxAtMost};
 ghost use Rattle.table.specs.edits.Headline.{ChainsHaveOneListOfClassifiers};
@@ -43,6 +44,78 @@ fn hand_on<W: Write>(output: &mut Tap<W>) -> Result<(), WriteFailed>
     Ok(())
 }
 
+// Has the writer hand on what it holds back, unless the reader shows bytes still: those are read before any others.
+fn hand_on_in_time<R: BufRead, W: Write>(
+    input: &Tap<R>,
+    output: &mut Tap<W>,
+) -> Result<(), RunFault>
+    requires { has_failed output.old ≡ false }
+    ensures handed { OnOk result ((0 < shown_left input.now) ⊎ (is_unflushed output.new ≡ false)) }
+    ensures given { Appends (known W.contents output.old) (known W.contents output.new) [] }
+    ensures fault { MatchResult result (λ _. has_failed output.new ≡ false)
+        (λ fault. (fault ≡ RunFault.WriteFailed) × (has_failed output.new ≡ true)) }
+{
+    if input.has_more() {
+        return Ok(());
+    }
+    match hand_on(output) {
+        Ok(()) => Ok(()),
+        Err(_) => Err(RunFault::WriteFailed),
+    }
+}
+
+// Reads on in a line. No byte of a reply is held back where the reader is asked for more.
+fn read_on<R: BufRead, W: Write>(
+    input: &mut Tap<R>,
+    output: &Tap<W>,
+    line: &mut Vec<u8>,
+    too_long: &mut bool,
+) -> Result<Option<LineRead>, ReadFailed>
+    requires handed { (0 < shown_left input.old) ⊎ (is_unflushed output.now ≡ false) }
+    requires room { 10240 ≤ vec_capacity line.old }
+    requires within { vec_len line.old ≤ 10240 }
+    ensures reads { (first : Option (List ℕ)) (turns : ℕ)
+        → ReadsPart first (known R.remaining input.old) turns (turns_left input.old) 10240 line.old.items too_long.old
+        → ReadsOn first (known R.remaining input.new) turns (turns_left input.new) 10240 line.new.items too_long.new result }
+    ensures failed { has_failed input.new ≡ is_err result }
+    ensures turns { OnOk result (turns_left input.old ≡ turns_left input.new + 1) }
+    ensures within { vec_len line.new ≤ 10240 }
+    ensures capacity { vec_capacity line.old ≤ vec_capacity line.new }
+{
+    input.read_part(LINE_MAX, line, too_long)
+}
+
+// Reads the next line. Before the reader is asked for more of it, the replies so far are handed on.
+fn next_line<R: BufRead, W: Write>(
+    input: &mut Tap<R>,
+    output: &mut Tap<W>,
+    line: &mut Vec<u8>,
+) -> Result<LineRead, RunFault>
+    requires input { has_failed input.old ≡ false }
+    requires output { has_failed output.old ≡ false }
+    requires room { 10240 ≤ vec_capacity line.old }
+    ensures reads { ReadsLine (known R.remaining input.old) (known R.remaining input.new)
+        (turns_left input.old) (turns_left input.new) 10240 line.new.items result }
+    ensures given { Appends (known W.contents output.old) (known W.contents output.new) [] }
+    ensures fresh { OnOk result ((has_failed input.new ≡ false) × (has_failed output.new ≡ false)) }
+    ensures read_failed { result ≡ Err RunFault.ReadFailed ↔ has_failed input.new ≡ true }
+    ensures write_failed { result ≡ Err RunFault.WriteFailed ↔ has_failed output.new ≡ true }
+    ensures turns { OnOk result (turns_left input.new < turns_left input.old) }
+    ensures within { vec_len line.new ≤ 10240 }
+    ensures capacity { vec_capacity line.old ≤ vec_capacity line.new }
+{
+    line.clear();
+    let mut too_long = false;
+    'parts: loop {
+        hand_on_in_time(input, output)?;
+        match read_on(input, output, line, &mut too_long) {
+            Ok(None) => {}
+            Ok(Some(read)) => return Ok(read),
+            Err(_) => return Err(RunFault::ReadFailed),
+        }
+    }
+}
+
 // How far a run is: where its next line stands, how many lines there were, and the status of the first fault.
 #[derive(Drop)]
 struct Progress {
@@ -76,47 +149,37 @@ impl Progress {
         }
     }
 
-    // Writes what came of the line at hand, and has the writer hand on all that it holds back.
+    // Writes what came of the line at hand.
     fn report<W: Write>(
         &mut self,
         table: &Table,
         reply: Result<Answer, Fault>,
         output: &mut Tap<W>,
     ) -> Result<(), WriteFailed>
-        requires ready { has_failed output.old ≡ false }
-        requires place { HasPlace table.now.table reply }
+        requires { HasPlace table.now.table reply }
         ensures spot { self.new.spot ≡ self.old.spot }
         ensures number { self.new.number ≡ self.old.number }
         ensures status { (said : Reply) → IsReply table.now.table reply said → self.new.status ≡ status_after self.old.status said }
         ensures puts { (said : Reply) → IsReply table.now.table reply said → Puts W.contents output.old output.new result (reply_text self.old.number said) }
-        ensures handed { OnOk result (is_unflushed output.new ≡ false) }
     {
         self.note(&reply);
-        if matches!(reply, Ok(Answer::Nothing)) {
-            return hand_on(output);
-        }
-        write_reply(table, self.number, reply, output)?;
-        hand_on(output)
+        write_reply(table, self.number, reply, output)
     }
 
-    // Reads the next line. While the reader is asked for it, no byte of a reply is held back.
-    fn next_line<R: BufRead, W: Write>(
-        &self,
-        input: &mut Tap<R>,
-        output: &Tap<W>,
-        line: &mut Vec<u8>,
-    ) -> Result<LineRead, ReadFailed>
-        requires handed { (self.now.number ≡ 0) ⊎ (is_unflushed output.now ≡ false) }
-        requires room { 10240 ≤ vec_capacity line.old }
-        ensures reads { ReadsLine (known R.remaining input.old) (known R.remaining input.new)
-            (turns_left input.old) (turns_left input.new) 10240 line.new.items result }
-        ensures failed { has_failed input.new ≡ is_err result }
-        ensures unmoved { has_failed input.old ≡ true → device input.new ≡ device input.old }
-        ensures turns { OnOk result (turns_left input.new < turns_left input.old) }
-        ensures within { vec_len line.new ≤ 10240 }
-        ensures capacity { vec_capacity line.old ≤ vec_capacity line.new }
+    // The same, and has the writer hand on all that it holds back.
+    fn report_last<W: Write>(
+        &mut self,
+        table: &Table,
+        reply: Result<Answer, Fault>,
+        output: &mut Tap<W>,
+    ) -> Result<(), WriteFailed>
+        requires { HasPlace table.now.table reply }
+        ensures status { (said : Reply) → IsReply table.now.table reply said → self.new.status ≡ status_after self.old.status said }
+        ensures puts { (said : Reply) → IsReply table.now.table reply said → Puts W.contents output.old output.new result (reply_text self.old.number said) }
+        ensures handed { OnOk result (is_unflushed output.new ≡ false) }
     {
-        input.read_line(LINE_MAX, line)
+        self.report(table, reply, output)?;
+        hand_on(output)
     }
 }
 
@@ -124,7 +187,7 @@ impl Progress {
     ghost use Rattle.sessions.specs.runs.Session.{restore_finish, session_finish};
     ghost use Rattle.sessions.specs.steps.Lines.{Ends, Finishes};
 
-    // Writes what is printed at the end of the input, and answers the status.
+    // Writes what is printed at the end of the input, has the writer hand on all that it holds back, and answers the status.
     fn end<W: Write>(
         mut self,
         table: &Table,
@@ -137,7 +200,7 @@ impl Progress {
             → Finishes W.contents (status_after self.status said) (reply_text self.number said) output.old output.new result }
         ensures handed { OnOk result (is_unflushed output.new ≡ false) }
     {
-        match self.report(table, reply, output) {
+        match self.report_last(table, reply, output) {
             Ok(()) => Ok(self.status),
             Err(_) => Err(RunFault::WriteFailed),
         }
@@ -252,7 +315,6 @@ impl Session {
             ServesLine W.contents (table_of self.old).table progress.old (table_of self.new).table progress.new output.old output.new result text }
         ensures number { progress.new.number ≡ progress.old.number + 1 }
         ensures work { MakesOneBoxAtMost (boxes_of self.old) (boxes_of self.new) }
-        ensures handed { OnOk result (is_unflushed output.new ≡ false) }
     {
         progress.number += 1;
         let spot = mem::replace(&mut progress.spot, Spot::Outside);
@@ -288,9 +350,9 @@ impl Session {
     {
         let _limit = input.turns();
         'lines: loop {
-            let read = match progress.next_line(input, output, &mut self.line) {
+            let read = match next_line(input, output, &mut self.line) {
                 Ok(read) => read,
-                Err(_) => return Err(RunFault::ReadFailed),
+                Err(fault) => return Err(fault),
             };
             match read.end {
                 LineEnd::Nothing => return Ok(()),
@@ -337,7 +399,9 @@ impl Session {
     }
 
     /// Runs the lines of the input from the table as it is, and answers the status: that of the first fault, 0 without
-    /// one. Each line is served, and its reply handed on to whoever waits for it, before the next is read.
+    /// one. Each line is served before the next is read. The replies are handed on, by a flush of the writer, before the
+    /// reader's device is asked for more bytes, and at the end of the run. So whoever waits for a reply before the next
+    /// line gets it, and the replies to lines that come at once are handed on at once.
     ///
     /// After a `RunFault` it may be called again, with new taps; a restore that was open is given up.
     ///

@@ -18,6 +18,19 @@ fn shows_and_eats(rt: HostRuntime) {
     assert!(rt; !tap.failed());
 }
 
+// Whether bytes are left of those that were shown, before they are taken and after.
+#[test]
+fn has_more_until_all_is_eaten(rt: HostRuntime) {
+    let mut tap = Tap::new(b"abc".as_slice());
+    assert!(rt; !tap.has_more());
+    assert!(rt; shows(&mut tap, b"abc") && tap.has_more());
+    tap.eat(2);
+    assert!(rt; tap.has_more());
+    tap.eat(1);
+    assert!(rt; !tap.has_more());
+    assert!(rt; shows(&mut tap, b"") && !tap.has_more());
+}
+
 // The next line, for which there has to be room.
 fn next_line<R: BufRead>(
     rt: &impl Abort,
@@ -63,6 +76,29 @@ fn reads_lines(rt: HostRuntime) -> Result<(), Fail> {
     let mut line = Vec::with_capacity(rt.alloc(), 10)?;
     reads(&rt, &mut tap, &mut line, b"ab", LineEnd::Newline)?;
     reads(&rt, &mut tap, &mut line, b"c", LineEnd::Input)
+}
+
+// The next part of a line of ten bytes at most.
+fn next_part(
+    rt: &impl Abort,
+    tap: &mut Tap<FusedReader<'_>>,
+    line: &mut Vec<u8>,
+) -> Result<Option<LineRead>, ReadFailed> {
+    assert!(rt; 10 <= line.capacity() && line.len() <= 10);
+    let mut too_long = false;
+    tap.read_part(10, line, &mut too_long)
+}
+
+// A line that its reader shows in parts, and the beginning of the next.
+#[test]
+fn reads_a_line_in_parts(rt: HostRuntime) -> Result<(), Fail> {
+    let mut tap = Tap::new(FusedReader::new(b"abc\nd", Fuse::never(3)));
+    let mut line = Vec::with_capacity(rt.alloc(), 10)?;
+    assert!(rt; next_part(&rt, &mut tap, &mut line)?.is_none() && !tap.has_more());
+    let read = next_part(&rt, &mut tap, &mut line)?;
+    assert!(rt; matches!(read, Some(LineRead { end: LineEnd::Newline, too_long: false })));
+    assert!(rt; line.as_slice() == b"abc".as_slice() && tap.has_more());
+    Ok(())
 }
 
 // Compares whether the next line is too long for three bytes of room, and how it ends.

@@ -32,13 +32,21 @@ pub record Finished (start : State) (finish : State → State) (lines : List Lin
   pub printed : written ≡ (finish last).printed
   pub answer : status ≡ (finish last).now.status
 
--- The reader failed before or in a line: what was printed is the output of the lines read whole.
-pub record ReadStopped (start : State) (lines : List Line) (bytes written : List ℕ) : Type 0 where
+-- The run stopped before or in a line: what was printed is the output of the lines read whole.
+pub record LineStopped (start : State) (lines : List Line) (bytes written : List ℕ) : Type 0 where
   pub last : State
   pub leads : Lead start lines last
   pub texts : texts_of lines ≡ ended_lines bytes
   pub going : IsFalse (has_ended last.now.spot)
   pub printed : written ≡ last.printed
+
+-- The reader failed there.
+abbrev pub ReadStopped : State → List Line → List ℕ → List ℕ → Type 0
+ReadStopped start lines bytes written = LineStopped start lines bytes written
+
+-- The writer failed there: it was given the output of these lines, and failed to hand it on.
+abbrev pub HandStopped : State → List Line → List ℕ → List ℕ → Type 0
+HandStopped start lines bytes written = LineStopped start lines bytes written
 
 -- what was written holds all that was printed before, and no more than was printed after
 pub record IsBetween (before after : State) (written : List ℕ) : Type 0 where
@@ -70,7 +78,7 @@ abbrev pub Ran : State → (State → State) → List Line → List ℕ → Type
 Ran start finish lines bytes met_end written (Ok status) = Finished start finish lines bytes met_end written status
 Ran start finish lines bytes met_end written (Err ReadFailed) = ReadStopped start lines bytes written
 Ran start finish lines bytes met_end written (Err WriteFailed) =
-    ReplyStopped start lines bytes met_end written ⊎ EndStopped start finish lines bytes met_end written
+    ReplyStopped start lines bytes met_end written ⊎ HandStopped start lines bytes written ⊎ EndStopped start finish lines bytes met_end written
 
 -- What stands before a run or after it: the bytes that the reader has left and those that the writer was given, where they are
 -- known, the session's table, and how many boxes its lines had made.

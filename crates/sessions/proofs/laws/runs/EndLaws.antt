@@ -53,7 +53,7 @@ module _ {W : Type 0} (contents : W → Option (List ℕ)) (left : Option (List 
       written = s.printed ++ stops.part;
       reads = s.reads;
       writes = Appends-trans before.given (known contents o) (known contents o') s.printed stops.part s.writes stops.appends;
-      ran = inr (record {
+      ran = inr (inr (record {
         last = state_of t.table p s.printed;
         leads = s.leads;
         read = s.read;
@@ -62,7 +62,7 @@ module _ {W : Type 0} (contents : W → Option (List ℕ)) (left : Option (List 
           all = (stops.part, refl);
           part = (stops.begins.0, printed s.printed ∙ ap (λ l. s.printed ++ l) stops.begins.1 ∙ sym (append_assoc s.printed stops.part stops.begins.0));
         };
-      });
+      }));
       table = table_is;
       boxes = s.boxes;
     }

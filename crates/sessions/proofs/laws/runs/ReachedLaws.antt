@@ -11,7 +11,7 @@ use Rattle.table.specs.chains.Table.{Table, TableView}
 use Rattle.table.specs.edits.Boxes.{MakesOneBoxAtMost}
 use Rattle.turns.specs.Turn.{Line, has_ended}
 use Rattle.sessions.specs.runs.Session.{State, step, texts_of}
-use Rattle.sessions.specs.runs.Run.{EndsLine, Lead, Moment, Runs, ReadFailed, WriteFailed}
+use Rattle.sessions.specs.runs.Run.{EndsLine, Lead, LineStopped, Moment, Ran, RunFault, Runs, ReadFailed, WriteFailed}
 use Rattle.sessions.specs.steps.Lines.{ServedAll, state_of}
 use Rattle.sessions.specs.declared.session.Progress.{Progress}
 use Rattle.sessions.proofs.laws.runs.LeadLaws.{fold_of, lead_more, texts_more}
@@ -32,6 +32,10 @@ pub record Reached (from : State) (before now : Moment) (p : Progress) : Type 0 
 -- the same moment, but for what the reader has left
 abbrev pub reads_on : Moment → Option (List ℕ) → Moment
 reads_on now left = record { left = left; given = now.given; table = now.table; boxes = now.boxes }
+
+-- the same moment, but for what the writer was given
+abbrev pub gives_on : Moment → Option (List ℕ) → Moment
+gives_on now given = record { left = now.left; given = given; table = now.table; boxes = now.boxes }
 
 -- one line more
 abbrev more : List Line → List ℕ → Bool → List Line
@@ -71,6 +75,21 @@ reached_nothing from before p begins = record {
   boxes = omega arith;
 }
 
+-- the replies may have been handed on, which gives the writer nothing
+pub handed_on : {from : State} {before now : Moment} {p : Progress} → Reached from before now p → (given : Option (List ℕ)) → Appends now.given given [] → Reached from before (gives_on now given) p
+handed_on {before = before} {now = now} r given nothing = record {
+  bytes = r.bytes;
+  lines = r.lines;
+  printed = r.printed;
+  taken = r.taken;
+  whole = r.whole;
+  ended = r.ended;
+  ends = r.ends;
+  leads = r.leads;
+  writes = subst (Appends before.given given) (append-nil r.printed) (Appends-trans before.given now.given given r.printed [] r.writes nothing);
+  boxes = r.boxes;
+}
+
 module _ {from : State} {before now : Moment} {p : Progress} (r : Reached from before now p) (going : has_ended p.spot ≡ false) (left : Option (List ℕ)) (text : List ℕ) (lone : IsOneLine text) where
   taken_all : (piece : List ℕ) → Consumes now.left left piece → Consumes before.left left (r.bytes ++ piece)
   taken_all piece taken = Consumes-trans before.left now.left left r.bytes piece r.taken taken
@@ -78,21 +97,27 @@ module _ {from : State} {before now : Moment} {p : Progress} (r : Reached from b
   met : EndsAt now.left left → EndsAt before.left left
   met end = EndsAt-later before.left now.left left r.bytes r.taken end
 
-  -- the reader failed after a part of a line
-  pub read_failed : (finish : State → State) → Consumes now.left left text → (lines : List Line) × Runs from finish lines before (Err ReadFailed) (reads_on now left)
-  read_failed finish taken =
-      let is = r.ended text ∙ ap (λ ls. texts_of r.lines ++ ls) (ended_lines-part text lone) ∙ append-nil (texts_of r.lines) in (
-        r.lines,
-        record {
-          bytes = r.bytes ++ text;
-          written = r.printed;
-          reads = taken_all text taken;
-          writes = r.writes;
-          ran = record { last = state_of now.table.table p r.printed; leads = r.leads; texts = sym is; going = going; printed = refl };
-          table = ap (λ (s : State). s.now.table) (sym (fold_of from (state_of now.table.table p r.printed) r.lines r.leads));
-          boxes = r.boxes;
-        },
-      )
+  stopped : LineStopped from r.lines (r.bytes ++ text) r.printed
+  stopped =
+      let is = r.ended text ∙ ap (λ ls. texts_of r.lines ++ ls) (ended_lines-part text lone) ∙ append-nil (texts_of r.lines) in
+      record { last = state_of now.table.table p r.printed; leads = r.leads; texts = sym is; going = going; printed = refl }
+
+  ran_so_far : (fault : RunFault) (finish : State → State) → Consumes now.left left text → Ran from finish r.lines (r.bytes ++ text) (EndsAt before.left left) r.printed (Err fault)
+      → Runs from finish r.lines before (Err fault) (reads_on now left)
+  ran_so_far fault finish taken ran = record {
+    bytes = r.bytes ++ text;
+    written = r.printed;
+    reads = taken_all text taken;
+    writes = r.writes;
+    ran = ran;
+    table = ap (λ (s : State). s.now.table) (sym (fold_of from (state_of now.table.table p r.printed) r.lines r.leads));
+    boxes = r.boxes;
+  }
+
+  -- after a part of a line the reader failed, or the writer as it handed the replies on
+  pub line_failed : (fault : RunFault) (finish : State → State) → Consumes now.left left text → (lines : List Line) × Runs from finish lines before (Err fault) (reads_on now left)
+  line_failed ReadFailed finish taken = (r.lines, ran_so_far ReadFailed finish taken stopped)
+  line_failed WriteFailed finish taken = (r.lines, ran_so_far WriteFailed finish taken (inr (inl stopped)))
 
   -- there was no line left
   pub served_nothing : Consumes now.left left [] → EndsAt now.left left → ServedAll from before (reads_on now left) p

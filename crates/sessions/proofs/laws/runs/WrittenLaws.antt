@@ -61,7 +61,8 @@ module _ (kind : Kind) (start : State) (lines : List Line) (before after : Momen
   leads_to (Err ReadFailed) runs = (runs.ran.last, runs.ran.leads)
   leads_to (Err WriteFailed) runs = elim runs.ran [
     | inl q ↦ (step q.first q.line, subst (λ ls. Lead start ls (step q.first q.line)) (sym q.split) (lead_more start q.first q.before q.line q.leads q.replies.0))
-    | inr q ↦ (q.last, q.leads)
+    | inr (inl q) ↦ (q.last, q.leads)
+    | inr (inr q) ↦ (q.last, q.leads)
   ]
 
   pub is_written : (r : Result ℕ RunFault) (runs : Runs start (finish_of kind) lines before r after) (s : State) (line : Line) → IsReadIn start lines s line → IsWritten r (step s line).printed runs.written
@@ -76,5 +77,6 @@ module _ (kind : Kind) (start : State) (lines : List Line) (before after : Momen
         let all = printed_in start s (step q.first q.line) lines line read leads in
         let part : IsBeginning runs.written (step q.first q.line).printed = subst (λ (x : State). IsBeginning runs.written x.printed) q.replies.1 q.between.part in
         compare (step s line).printed runs.written all.0 part.0 (sym all.1 ∙ part.1)
-    | inr q ↦ inl (begins_then (step s line).printed q.last.printed runs.written (printed_in start s q.last lines line read q.leads) q.between.all)
+    | inr (inl q) ↦ inl (subst (IsBeginning (step s line).printed) (sym q.printed) (printed_in start s q.last lines line read q.leads))
+    | inr (inr q) ↦ inl (begins_then (step s line).printed q.last.printed runs.written (printed_in start s q.last lines line read q.leads) q.between.all)
   ]

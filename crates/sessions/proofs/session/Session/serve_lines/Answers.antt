@@ -1,6 +1,6 @@
-use Rattle.std.proofs.Common.{◌∙◌, inl, inr, refl, sym, rules, arith}
+use Rattle.std.proofs.Common.{◌∙◌, refl, sym, rules, arith}
 use Rattle.fields.specs.text.Tap.{known}
-use Rattle.sessions.proofs.laws.runs.ReachedLaws.{last_failed, reached_more, reached_nothing, read_failed, served_last, served_nothing, served_to_fault, write_failed}
+use Rattle.sessions.proofs.laws.runs.ReachedLaws.{handed_on, last_failed, line_failed, reached_more, reached_nothing, served_last, served_nothing, served_to_fault, write_failed}
 use Rattle.sessions.proofs.session.Session.serve_lines.Goals as goal
 
 pub lines-init : goal.lines-init
@@ -10,24 +10,23 @@ lines-init g c = record {
   open_out = c.requires.output;
   going = search rules;
   counted = omega (arith, c.requires.number);
-  handed = inl c.requires.number;
 }
 
 pub returns-in-Err-clause-serves : goal.returns-in-Err-clause-serves
 returns-in-Err-clause-serves g c finish =
     let (text, one, taken) = c.in-Err.ensures.reads in
-    read_failed c.lines.invariant.reached c.lines.invariant.going (known g.R.Read.remaining c.next_line.new.input) text one finish taken
+    line_failed (handed_on c.lines.invariant.reached (known g.W.Write.contents c.next_line.new.output) c.next_line.ensures.given) c.lines.invariant.going (known g.R.Read.remaining c.next_line.new.input) text one c.in-Err.fault finish taken
 
 pub returns-in-Nothing-clause-serves : goal.returns-in-Nothing-clause-serves
 returns-in-Nothing-clause-serves g c =
     let (text, one, (held, taken, counted)) = rw c.in-Nothing.is at c.in-Ok.ensures.reads in
-    served_nothing c.lines.invariant.reached c.lines.invariant.going (known g.R.Read.remaining c.next_line.new.input) text one taken.1 taken.2
+    served_nothing (handed_on c.lines.invariant.reached (known g.W.Write.contents c.next_line.new.output) c.next_line.ensures.given) c.lines.invariant.going (known g.R.Read.remaining c.next_line.new.input) text one taken.1 taken.2
 
 pub returns-then-has_ended-clause-serves : goal.returns-then-has_ended-clause-serves
 returns-then-has_ended-clause-serves g c =
     let (text, one, (held, taken, counted)) = rw c.in-Newline.is at c.in-Ok.ensures.reads in
     let (refused, reply, steps, wrote) = c.in-Ok-serve.ensures.serves text held in
-    served_to_fault c.lines.invariant.reached c.lines.invariant.going (known g.R.Read.remaining c.next_line.new.input) text one refused reply (known g.W.Write.contents c.serve.new.output)
+    served_to_fault (handed_on c.lines.invariant.reached (known g.W.Write.contents c.next_line.new.output) c.next_line.ensures.given) c.lines.invariant.going (known g.R.Read.remaining c.next_line.new.input) text one refused reply (known g.W.Write.contents c.serve.new.output)
     _ _ _ steps c.in-Ok-serve.ensures.work taken wrote.appends (sym c.has_ended.ensures ∙ c.if-has_ended.true)
 
 pub returns-then-has_ended-clause-ready : goal.returns-then-has_ended-clause-ready
@@ -41,27 +40,26 @@ lines-preserved g c =
     let (text, one, (held, taken, counted)) = rw c.in-Newline.is at c.in-Ok.ensures.reads in
     let (refused, reply, steps, wrote) = c.in-Ok-serve.ensures.serves text held in
     record {
-      reached = reached_more c.lines.invariant.reached c.lines.invariant.going (known g.R.Read.remaining c.next_line.new.input) text one refused reply (known g.W.Write.contents c.serve.new.output)
+      reached = reached_more (handed_on c.lines.invariant.reached (known g.W.Write.contents c.next_line.new.output) c.next_line.ensures.given) c.lines.invariant.going (known g.R.Read.remaining c.next_line.new.input) text one refused reply (known g.W.Write.contents c.serve.new.output)
           _ _ _ steps c.in-Ok-serve.ensures.work taken wrote.appends;
       fresh = search rules;
       open_out = wrote.fresh;
       going = sym c.has_ended.ensures ∙ c.if-has_ended.false;
       counted = omega (arith, c.in-Ok.ensures.turns);
-      handed = inr c.in-Ok-serve.ensures.handed;
     }
 
 pub returns-in-Err-serve-clause-serves : goal.returns-in-Err-serve-clause-serves
 returns-in-Err-serve-clause-serves g c finish =
     let (text, one, (held, taken, counted)) = rw c.in-Newline.is at c.in-Ok.ensures.reads in
     let (refused, reply, steps, stopped) = c.in-Err-serve.ensures.serves text held in
-    write_failed c.lines.invariant.reached c.lines.invariant.going (known g.R.Read.remaining c.next_line.new.input) text one refused reply (known g.W.Write.contents c.serve.new.output)
+    write_failed (handed_on c.lines.invariant.reached (known g.W.Write.contents c.next_line.new.output) c.next_line.ensures.given) c.lines.invariant.going (known g.R.Read.remaining c.next_line.new.input) text one refused reply (known g.W.Write.contents c.serve.new.output)
     _ _ _ steps c.in-Err-serve.ensures.work finish taken stopped.part stopped.begins stopped.appends
 
 pub returns-in-Ok-serve-2-clause-serves : goal.returns-in-Ok-serve-2-clause-serves
 returns-in-Ok-serve-2-clause-serves g c =
     let (text, one, (held, taken, counted)) = rw c.in-Input.is at c.in-Ok.ensures.reads in
     let (refused, reply, steps, wrote) = c.in-Ok-serve-2.ensures.serves text held in
-    served_last c.lines.invariant.reached c.lines.invariant.going (known g.R.Read.remaining c.next_line.new.input) text one refused reply (known g.W.Write.contents c.serve-in-Input.new.output)
+    served_last (handed_on c.lines.invariant.reached (known g.W.Write.contents c.next_line.new.output) c.next_line.ensures.given) c.lines.invariant.going (known g.R.Read.remaining c.next_line.new.input) text one refused reply (known g.W.Write.contents c.serve-in-Input.new.output)
     _ _ _ steps c.in-Ok-serve-2.ensures.work taken.0 taken.1 taken.2 wrote.appends
 
 pub returns-in-Ok-serve-2-clause-ready : goal.returns-in-Ok-serve-2-clause-ready
@@ -74,5 +72,5 @@ pub returns-in-Err-serve-2-clause-serves : goal.returns-in-Err-serve-2-clause-se
 returns-in-Err-serve-2-clause-serves g c finish =
     let (text, one, (held, taken, counted)) = rw c.in-Input.is at c.in-Ok.ensures.reads in
     let (refused, reply, steps, stopped) = c.in-Err-serve-2.ensures.serves text held in
-    last_failed c.lines.invariant.reached c.lines.invariant.going (known g.R.Read.remaining c.next_line.new.input) text one refused reply (known g.W.Write.contents c.serve-in-Input.new.output)
+    last_failed (handed_on c.lines.invariant.reached (known g.W.Write.contents c.next_line.new.output) c.next_line.ensures.given) c.lines.invariant.going (known g.R.Read.remaining c.next_line.new.input) text one refused reply (known g.W.Write.contents c.serve-in-Input.new.output)
     _ _ _ steps c.in-Err-serve-2.ensures.work finish taken.0 taken.1 taken.2 stopped.part stopped.begins stopped.appends

@@ -1,5 +1,5 @@
-use Rattle.std.proofs.Common.{◌≡◌, ◌⊎◌, ◌+◌, ◌≤◌, [], false}
-use Rattle.fields.specs.text.Tap.{has_failed, is_unflushed, turns_left}
+use Rattle.std.proofs.Common.{◌≡◌, ◌+◌, ◌≤◌, [], false}
+use Rattle.fields.specs.text.Tap.{has_failed, turns_left}
 use Rattle.turns.specs.Turn.{has_ended}
 use Rattle.sessions.specs.Views.{moment}
 use Rattle.sessions.specs.steps.Lines.{state_of}
@@ -14,7 +14,6 @@ invariant-lines g l = record {
   open_out : has_failed l.output ≡ false;
   going : has_ended l.progress.spot ≡ false;
   counted : l.progress.number + turns_left l.input ≤ l._limit;
-  handed : (l.progress.number ≡ 0) ⊎ (is_unflushed l.output ≡ false);
 }
 
 abbrev pub decreases-lines : goal.decreases-lines
