@@ -233,7 +233,14 @@ fn a_flush_that_fails_in_a_line(rt: HostRuntime) -> Result<(), Fail> {
     let input = b"iptables -P INPUT DROP\nfoo\niptables -P INPUT ACCEPT\n";
     // The reply takes five writes.
     let writes = Fuse::failing(usize::MAX, 5, Failure::Error);
-    let ran = called(alloc, &mut console.session, Call::Run, input, Fuse::never(24), writes)?;
+    let ran = called(
+        alloc,
+        &mut console.session,
+        Call::Run,
+        input,
+        Fuse::never(24),
+        writes,
+    )?;
     ran.has_answer(&rt, Err(RunFault::WriteFailed));
     ran.has_written(&rt, b"line 2: S1 unknown line\n");
     ran.leaves(&rt, b"\n");

@@ -96,7 +96,15 @@ fn reads_a_line_in_parts(rt: HostRuntime) -> Result<(), Fail> {
     let mut line = Vec::with_capacity(rt.alloc(), 10)?;
     assert!(rt; next_part(&rt, &mut tap, &mut line)?.is_none() && !tap.has_more());
     let read = next_part(&rt, &mut tap, &mut line)?;
-    assert!(rt; matches!(read, Some(LineRead { end: LineEnd::Newline, too_long: false })));
+    assert!(rt;
+        matches!(
+            read,
+            Some(LineRead {
+                end: LineEnd::Newline,
+                too_long: false
+            })
+        )
+    );
     assert!(rt; line.as_slice() == b"abc".as_slice() && tap.has_more());
     Ok(())
 }
