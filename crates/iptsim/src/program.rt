@@ -8,8 +8,8 @@ use std::io::{self, BufReader, BufWriter, ErrorKind, Read, Write};
 use std::rt::{Env, Files};
 use std::{env, fs};
 
-// How many bytes of replies are gathered before they are written, at most.
-const REPLY_BUFFER: usize = 65536;
+// How many bytes of input are read at a time, and of replies gathered before they are written, at most.
+const BUFFER: usize = 65536;
 
 /// Does what the words after the program's name ask for, writes a message to `errors` where it cannot, and answers the
 /// program's status.
@@ -127,10 +127,10 @@ fn serve<'a, R: Read + Drop, W: Write + Drop>(
     reader: R,
     writer: W,
 ) -> Result<u8, ProgramFault<'a>> {
-    let Ok(reader) = BufReader::new(alloc, reader) else {
+    let Ok(reader) = BufReader::with_capacity(alloc, BUFFER, reader) else {
         return Err(ProgramFault::NoMemory);
     };
-    let Ok(writer) = BufWriter::with_capacity(alloc, REPLY_BUFFER, writer) else {
+    let Ok(writer) = BufWriter::with_capacity(alloc, BUFFER, writer) else {
         return Err(ProgramFault::NoMemory);
     };
     let (served, _writer) = serve_between(session, task, list, reader, writer);
