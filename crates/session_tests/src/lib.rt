@@ -1,6 +1,8 @@
-//! Tests of `sessions` through its public calls that are no text in and text out: devices that fail, flushes, inputs that
-//! break off at each byte, and inputs drawn at random. The others are cases, played by the program `cases`. They have a
-//! crate of their own, so that `sessions` is proved once.
+//! Tests of `table`, `restore` and `sessions` through their public calls that are no text in and text out: devices that fail,
+//! flushes, inputs that break off at each byte, and inputs drawn at random; and, where tables and restores say more than a
+//! session does, copies, rules that are lent, boxes, values of faults, transactions, writers that fail, and edits drawn at
+//! random. The others are cases, played by the program `cases`. They have a crate of their own, so that these crates are
+//! proved once.
 #![tactic(auto)]
 
 #[cfg(test)]
@@ -17,3 +19,5 @@ mod forms;
 mod random_input;
 #[cfg(test)]
 mod runs;
+#[cfg(test)]
+mod tables;

@@ -1,5 +1,5 @@
 // Listings written to writers that fail.
-use crate::filter::Filter;
+use crate::tables::filter::Filter;
 use fields::{Failure, Fuse, FusedWriter, Tap, WriteFailed};
 use restore::{write_listing, write_rules};
 use std::alloc::Global;

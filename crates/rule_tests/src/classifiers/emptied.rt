@@ -1,9 +1,9 @@
 //! Classifiers that lose all rules, at once or one by one, and are filled again.
 
-use crate::dice::Dice;
-use crate::drawn::Kind;
-use crate::edits::{edit_towards, is_right};
-use crate::pair::Pair;
+use crate::classifiers::dice::Dice;
+use crate::classifiers::drawn::Kind;
+use crate::classifiers::edits::{edit_towards, is_right};
+use crate::classifiers::pair::Pair;
 use std::alloc::Global;
 use std::process::Abort;
 use std::test::Fail;

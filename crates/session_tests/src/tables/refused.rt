@@ -1,5 +1,5 @@
 // Why a line of a section is refused, as a value, and lines that no session can give.
-use crate::filter::Filter;
+use crate::tables::filter::Filter;
 use restore::{CommandFault, Restore, RestoreFault};
 use rules::{Refusal, RuleFault};
 use std::alloc::Global;

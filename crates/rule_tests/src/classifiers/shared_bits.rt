@@ -1,8 +1,8 @@
 //! More than 8,192 rules, where pairs of words share a bit of a row's summary.
 
-use crate::dice::Dice;
-use crate::drawn::{Kind, edges};
-use crate::pair::Pair;
+use crate::classifiers::dice::Dice;
+use crate::classifiers::drawn::{Kind, edges};
+use crate::classifiers::pair::Pair;
 use fields::Field;
 use std::alloc::Global;
 use std::process::Abort;

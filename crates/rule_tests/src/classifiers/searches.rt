@@ -3,7 +3,7 @@
 ghost use Rattle.std.specs.Prelude.{IsTrue};
 ghost use Rattle.classify.specs.classifier.Classifier.{IsPoint};
 
-use crate::texts::append;
+use crate::classifiers::texts::append;
 use classify::Classifier;
 use fields::{FIELDS, Field};
 use std::alloc::Global;

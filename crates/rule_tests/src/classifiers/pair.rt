@@ -1,10 +1,10 @@
 //! A classifier beside the plain list of rules that it has to answer for.
 
-use crate::dice::Dice;
-use crate::drafts::{ASKED, ASKED_COUNT, Draft, allows, numbers, text_of};
-use crate::drawn::edges;
-use crate::searches::is_point;
-use crate::texts::boxed;
+use crate::classifiers::dice::Dice;
+use crate::classifiers::drafts::{ASKED, ASKED_COUNT, Draft, allows, numbers, text_of};
+use crate::classifiers::drawn::edges;
+use crate::classifiers::searches::is_point;
+use crate::classifiers::texts::boxed;
 use classify::{Classifier, Line, Row};
 use fields::{FIELDS, Field};
 use rules::Boxed;

@@ -1,6 +1,6 @@
 //! The lines of a few rules, as text.
 
-use crate::texts::{append, boxed};
+use crate::classifiers::texts::{append, boxed};
 use classify::{Classifier, Line};
 use fields::Field;
 use std::alloc::{AllocError, Global};

@@ -1,7 +1,7 @@
 //! Rules and numbers drawn by lot.
 
-use crate::dice::Dice;
-use crate::drafts::{ASKED, ASKED_COUNT, Draft, Lives, allows, asks, numbers};
+use crate::classifiers::dice::Dice;
+use crate::classifiers::drafts::{ASKED, ASKED_COUNT, Draft, Lives, allows, asks, numbers};
 use fields::Field;
 
 // A kind of rules that are drawn.

@@ -5,7 +5,7 @@ use Rattle.fields.specs.declared.numbers.field.TheConstants.{FIELDS}
 use Rattle.fields.specs.numbers.Field.{number_on}
 use Rattle.rules.proofs.laws.boxing.BoxLaws.{index-lt}
 use Rattle.classify.proofs.laws.classifier.ClassifierLaws.{top_at, tops_at}
-use Rattle.classifier_tests.proofs.searches.is_point.Goals as goal
+use Rattle.rule_tests.proofs.classifiers.searches.is_point.Goals as goal
 
 pub loop-place-preserved : goal.loop-place-preserved
 loop-place-preserved c =

@@ -1,9 +1,9 @@
 //! Edits drawn by lot, against what the rules say of each number.
 
-use crate::dice::Dice;
-use crate::drafts::numbers;
-use crate::drawn::{Kind, some_field};
-use crate::pair::Pair;
+use crate::classifiers::dice::Dice;
+use crate::classifiers::drafts::numbers;
+use crate::classifiers::drawn::{Kind, some_field};
+use crate::classifiers::pair::Pair;
 use std::alloc::Global;
 use std::process::Abort;
 use std::test::Fail;

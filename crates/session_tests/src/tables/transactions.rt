@@ -1,5 +1,5 @@
 // Sections without a restore round them.
-use crate::filter::{Filter, listing_of};
+use crate::tables::filter::{Filter, listing_of};
 use restore::Transaction;
 use std::alloc::Global;
 use std::process::Abort;

@@ -2,8 +2,8 @@
 
 ghost use Rattle.std.specs.Prelude.{◌<◌};
 
-use crate::filter::Filter;
-use crate::plain::{Draft, NAMES, Plain};
+use crate::tables::filter::Filter;
+use crate::tables::plain::{Draft, NAMES, Plain};
 use rand_core::utils::NextWord;
 use rand_pcg::Pcg32;
 use std::alloc::Global;

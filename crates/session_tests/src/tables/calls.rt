@@ -1,5 +1,5 @@
 // Copies of tables, rules that are lent, boxes that are made, and commands from a place of the words on.
-use crate::filter::{Filter, text_of};
+use crate::tables::filter::{Filter, text_of};
 use fields::Tap;
 use rules::write_rule;
 use std::alloc::Global;

@@ -1,0 +1,11 @@
+mod bit_rows;
+mod dice;
+mod drafts;
+mod drawn;
+mod edits;
+mod emptied;
+mod pair;
+mod rows;
+mod searches;
+mod shared_bits;
+mod texts;

@@ -1,0 +1,7 @@
+mod calls;
+mod draws;
+mod filter;
+mod plain;
+mod refused;
+mod transactions;
+mod writers;
