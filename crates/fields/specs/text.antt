@@ -4,4 +4,6 @@ pub mod Number
 pub mod OneLine
 pub mod Printed
 pub mod Tap
+pub mod WordEnds
+pub mod WordSlice
 pub mod Words

@@ -20,6 +20,7 @@ pub use text::cut::cut_at;
 pub use text::line::{LineEnd, LineRead};
 pub use text::number::{read_number, read_number_to};
 pub use text::tap::{ReadFailed, Tap, WriteFailed};
+pub use text::word_slice::WordSlice;
 pub use text::words::{WordFault, Words};
 pub use values::connection_state::CtSet;
 pub use values::flag_test::FlagTest;

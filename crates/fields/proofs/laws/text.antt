@@ -9,4 +9,5 @@ pub mod PrintedLaws
 pub mod PutLaws
 pub mod SplitLaws
 mod WordExamples
+pub mod WordEndsLaws
 pub mod WordLaws

@@ -1,13 +1,14 @@
 -- How the code cuts a line: byte after byte, with the words so far and the word at hand.
-use Rattle.std.specs.Prelude.{ℕ, List, [], ◌∷◌, ◌++◌, map, Option, Some, None, Result, option_and_then}
-use Rattle.std.specs.Global.{Vec}
-use Rattle.fields.specs.text.Words.{Act, act_of}
+use Rattle.std.specs.Prelude.{◌≡◌, ℕ, ◌<◌, Bool, true, false, All, List, [], ◌∷◌, ◌++◌, length, drop, MatchResult, Option, Some, None, Result, option_and_then}
+use Rattle.std.specs.Borrow.{Bor}
+use Rattle.fields.specs.text.WordEnds.{words_to}
+use Rattle.fields.specs.text.Words.{Act, act_of, is_bare, OnQuoting}
 use Rattle.fields.specs.text.Words as line
-use Rattle.fields.specs.declared.text.words.Act.{Act as CodeAct}
-use Rattle.fields.specs.declared.text.words.Act.TheVariants as acts
-use Rattle.fields.specs.declared.text.words.Place.{Place}
-use Rattle.fields.specs.declared.text.words.Place.TheVariants as places
-use Rattle.fields.specs.declared.text.words.Cutting.{Cutting}
+use Rattle.fields.specs.declared.text.cutting.Act.{Act as CodeAct}
+use Rattle.fields.specs.declared.text.cutting.Act.TheVariants as acts
+use Rattle.fields.specs.declared.text.cutting.Place.{Place}
+use Rattle.fields.specs.declared.text.cutting.Place.TheVariants as places
+use Rattle.fields.specs.declared.text.cutting.Cutting.{Cutting}
 use Rattle.fields.specs.declared.text.words.WordFault.{WordFault}
 use Rattle.fields.specs.declared.text.words.WordFault.TheVariants as faults
 use Rattle.fields.specs.Refusals.{GivesFor, or_refused}
@@ -27,9 +28,10 @@ view_act (acts.Joins next) = line.Joins (view_place next)
 view_act (acts.Ends next) = line.Ends (view_place next)
 view_act acts.Breaks = line.Breaks
 
--- the words in vectors
-abbrev pub view_words : List (Vec ℕ) → List (List ℕ)
-view_words items = map (λ (word : Vec ℕ). word.items) items
+-- where the last word ends, or the place before the first
+abbrev pub last_end : ℕ → List ℕ → ℕ
+last_end from [] = from
+last_end from (end ∷ ends) = last_end end ends
 
 -- the words so far, the word at hand, and the place of the next byte
 pub record Cut : Type 0 where
@@ -39,13 +41,28 @@ pub record Cut : Type 0 where
 
 -- the cut that the code's state stands for
 abbrev pub view_cutting : Cutting → Cut
-view_cutting cutting = record { words = view_words cutting.words.items; word = cutting.word.items; place = view_place cutting.place }
+view_cutting cutting =
+    let bytes = cutting.bytes.items in
+    let ends = cutting.ends.items in
+    record { words = words_to bytes 0 ends; word = drop (last_end 0 ends) bytes; place = view_place cutting.place }
+
+-- some bytes more in the word at hand
+abbrev pub joined : List ℕ → Cut → Cut
+joined bytes cut = record { words = cut.words; word = cut.word ++ bytes; place = cut.place }
+
+-- the word at hand ended
+abbrev pub ended : Cut → Cut
+ended cut = record { words = cut.words ++ cut.word ∷ []; word = []; place = cut.place }
+
+-- the same cut, with the next byte at another place
+abbrev pub placed : line.Place → Cut → Cut
+placed place cut = record { words = cut.words; word = cut.word; place = place }
 
 -- what an act makes of a cut
 abbrev pub cut_by : Act → ℕ → Cut → Option Cut
-cut_by (line.Skips next) byte cut = Some (record { words = cut.words; word = cut.word; place = next })
-cut_by (line.Joins next) byte cut = Some (record { words = cut.words; word = cut.word ++ byte ∷ []; place = next })
-cut_by (line.Ends next) byte cut = Some (record { words = cut.words ++ cut.word ∷ []; word = []; place = next })
+cut_by (line.Skips next) byte cut = Some (placed next cut)
+cut_by (line.Joins next) byte cut = Some (placed next (joined (byte ∷ []) cut))
+cut_by (line.Ends next) byte cut = Some (placed next (ended cut))
 cut_by line.Breaks byte cut = None
 
 -- what a byte makes of a cut
@@ -81,3 +98,25 @@ refusal_of faults.NoMemory = None
 -- what came, seen by view, is what is wanted; bad quoting is reported only where nothing is
 abbrev pub Gives : {X Y : Type 0} → (X → Y) → Result X WordFault → Option Y → Type 0
 Gives view result wanted = GivesFor refusal_of view result (or_refused faults.Quoting wanted)
+
+-- a call with memory alone to fail by
+abbrev pub UnlessNoMemory : {X : Type 0} → Result X WordFault → Type 0 → Type 0
+UnlessNoMemory result P = MatchResult result (λ _. P) (λ fault. fault ≡ faults.NoMemory)
+
+-- fewer bytes are left, and the words to come are the same; bad quoting is reported only where there are none
+abbrev pub Advances : Cut → List ℕ → Cut → Result (Bor (List ℕ)) WordFault → Type 0
+Advances old bytes new result =
+    MatchResult result (λ left. (length left.now < length bytes) × (cut_from old bytes ≡ cut_from new left.now))
+    (λ fault. OnQuoting fault (cut_from old bytes ≡ None))
+
+-- an unquoted word begins or goes on there
+abbrev pub is_unquoted : line.Place → Bool
+is_unquoted line.Between = true
+is_unquoted line.Bare = true
+is_unquoted line.Quoted = false
+is_unquoted line.Escaped = false
+is_unquoted line.Closed = false
+
+-- no byte of the run ends an unquoted word
+abbrev pub IsRun : List ℕ → Type 0
+IsRun run = All (λ byte. is_bare byte ≡ true) run

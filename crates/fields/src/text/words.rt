@@ -1,12 +1,13 @@
 //! The words of a line.
 ghost use Rattle.std.specs.Prelude.{◌≡◌, ◌<◌, ◌≤◌, ◌↔◌, ℕ, List, [], length, drop, slice_get, IsTrue, Some, None, MatchResult, OnOk, IfOk, IfErr};
 ghost use Rattle.fields.specs.text.OneLine.{IsOneLine, AreOneLine};
-ghost use Rattle.fields.specs.text.Words.{act_of, words_of, AreWords, OnQuoting};
-ghost use Rattle.fields.specs.steps.Cutting.{view_act, view_place, view_cutting, view_words, after, at_line_end, start, Gives};
+ghost use Rattle.fields.specs.text.Words.{words_of, AreWords, OnQuoting};
+ghost use Rattle.fields.specs.text.WordSlice.{words_in};
 
+use crate::text::cutting::Cutting;
+use crate::text::word_slice::WordSlice;
 use std::alloc::Global;
 use std::marker::Model;
-use std::mem;
 use thiserror::Error;
 
 /// Why a line has no words.
@@ -23,128 +24,21 @@ pub enum WordFault {
 /// The words of a line, in their order.
 #[derive(Drop)]
 pub struct Words {
-    items: Vec<Vec<u8>>,
+    bytes: Vec<u8>,
+    ends: Vec<usize>,
 }
 
 impl Model for Words {
-    ghost use Rattle.std.specs.Prelude.{ℕ, List, map};
+    ghost use Rattle.std.specs.Prelude.{◌≡◌, ℕ, List, true, length};
+    ghost use Rattle.fields.specs.text.OneLine.{AreOneLine};
+    ghost use Rattle.fields.specs.text.WordEnds.{words_to, do_rise};
 
     ghost Value = { List (List ℕ) };
 
-    ghost view = { λ words. map (λ word. word.items) words.items.items };
+    ghost view = { λ words. words_to words.bytes.items 0 words.ends.items };
 
-    ghost use Rattle.fields.specs.text.OneLine.{AreOneLine};
-
-    ghost invariant = { λ words. AreOneLine (map (λ word. word.items) words.items.items) };
-}
-
-// Where a byte of a line stands: between two words, in an unquoted word, between the quotes of a
-// word, after a backslash there, or after the closing quote.
-#[derive(Clone, Copy)]
-enum Place {
-    Between,
-    Bare,
-    Quoted,
-    Escaped,
-    Closed,
-}
-
-// What a byte does: it is no part of a word, joins the word at hand, ends it, or breaks the quoting;
-// and where the next byte stands.
-enum Act {
-    Skips(Place),
-    Joins(Place),
-    Ends(Place),
-    Breaks,
-}
-
-// The words so far, and the one at hand.
-#[derive(Drop)]
-struct Cutting {
-    words: Vec<Vec<u8>>,
-    word: Vec<u8>,
-    place: Place,
-}
-
-// What a byte does where it stands.
-fn act_of(place: Place, byte: u8) -> Act
-    ensures { view_act result ≡ act_of (view_place place) byte }
-{
-    match (place, byte) {
-        (_, b'\n') => Act::Breaks,
-        (Place::Between | Place::Closed, b' ' | b'\t') => Act::Skips(Place::Between),
-        (Place::Between, b'"') => Act::Skips(Place::Quoted),
-        (Place::Bare, b' ' | b'\t') => Act::Ends(Place::Between),
-        (Place::Bare, b'"') | (Place::Closed, _) => Act::Breaks,
-        (Place::Between | Place::Bare, _) => Act::Joins(Place::Bare),
-        (Place::Quoted, b'"') => Act::Ends(Place::Closed),
-        (Place::Quoted, b'\\') => Act::Skips(Place::Escaped),
-        (Place::Quoted | Place::Escaped, _) => Act::Joins(Place::Quoted),
-    }
-}
-
-impl Cutting {
-    fn new(alloc: Global) -> Cutting
-        ensures { view_cutting result ≡ start }
-    {
-        Cutting {
-            words: Vec::new(alloc),
-            word: Vec::new(alloc),
-            place: Place::Between,
-        }
-    }
-
-    // Takes the next byte.
-    #[tactic(auto, unfolding(crate::specs::steps::Cutting::after))]
-    fn take(&mut self, alloc: Global, byte: u8) -> Result<(), WordFault>
-        ensures { Gives (λ _. view_cutting self.new) result (after (view_cutting self.old) byte) }
-    {
-        match act_of(self.place, byte) {
-            Act::Skips(next) => self.place = next,
-            Act::Joins(next) => {
-                self.word.push(byte).map_err(|_| WordFault::NoMemory)?;
-                self.place = next;
-            }
-            Act::Ends(next) => {
-                let word = mem::replace(&mut self.word, Vec::new(alloc));
-                self.words.push(word).map_err(|_| WordFault::NoMemory)?;
-                self.place = next;
-            }
-            Act::Breaks => return Err(WordFault::Quoting),
-        }
-        Ok(())
-    }
-
-    // The words at the line's end.
-    #[tactic(auto, unfolding(crate::specs::steps::Cutting::at_line_end))]
-    fn finish(self) -> Result<Vec<Vec<u8>>, WordFault>
-        ensures { Gives (λ v. view_words v.items) result (at_line_end (view_cutting self)) }
-    {
-        let Cutting {
-            mut words,
-            word,
-            place,
-        } = self;
-        match place {
-            Place::Between | Place::Closed => Ok(words),
-            Place::Bare => {
-                words.push(word).map_err(|_| WordFault::NoMemory)?;
-                Ok(words)
-            }
-            Place::Quoted | Place::Escaped => Err(WordFault::Quoting),
-        }
-    }
-}
-
-// The words of the line, by one pass over its bytes.
-fn cut(alloc: Global, line: &[u8]) -> Result<Vec<Vec<u8>>, WordFault>
-    ensures { Gives (λ v. view_words v.items) result (words_of line.now) }
-{
-    let mut cutting = Cutting::new(alloc);
-    for byte in line {
-        cutting.take(alloc, *byte)?;
-    }
-    cutting.finish()
+    ghost invariant = { λ words. (do_rise 0 words.ends.items (length words.bytes.items) ≡ true)
+        × AreOneLine (words_to words.bytes.items 0 words.ends.items) };
 }
 
 impl Words {
@@ -156,11 +50,12 @@ impl Words {
     ///
     /// # Errors
     ///
-    /// `Quoting` where the line has no words, `NoMemory` where a growth was refused.
+    /// `Quoting` where the line has no words, `NoMemory` where an allocation was refused.
     ///
     /// # Cost
     ///
-    /// One pass: linear in the length of the line.
+    /// One pass: linear in the length of the line. Two allocations, however many words it has: one for their bytes and
+    /// one for the places where they end, each with room for what a line of that length can have.
     pub fn split(alloc: Global, line: &[u8]) -> Result<Words, WordFault>
         // The function that finds the words of a line says what comes.
         ensures exact { MatchResult result (λ words. words_of line.now ≡ Some words)
@@ -181,33 +76,42 @@ impl Words {
         ensures one_line { OnOk result (IsOneLine line.now) }
         ensures words_in_line { IfOk result AreOneLine }
     {
-        let items = cut(alloc, line)?;
-        Ok(Words { items })
+        let cutting = Cutting::of(alloc, line)?;
+        Ok(Words {
+            bytes: cutting.bytes,
+            ends: cutting.ends,
+        })
     }
 
-    /// The words from a place on, counted from 0: none from beyond the last word.
-    pub fn after(&self, from: usize) -> &[Vec<u8>]
-        ensures value { view_words result.now ≡ drop from self.now }
+    // All words.
+    fn all(&self) -> WordSlice<'_>
+        ensures value { words_in result ≡ self.now }
         ensures one_line { AreOneLine self.now }
     {
-        if from >= self.items.len() {
-            return &[];
-        }
-        &self.items[from..]
+        WordSlice::new(self.bytes.as_slice(), self.ends.as_slice())
+    }
+
+    /// The words from a place on, counted from 0, lent: none from beyond the last word.
+    pub fn after(&self, from: usize) -> WordSlice<'_>
+        ensures value { words_in result ≡ drop from self.now }
+        ensures one_line { AreOneLine self.now }
+    {
+        let words = self.all();
+        words.split_at(from.min(words.len())).1
     }
 
     /// How many words there are.
     pub fn len(&self) -> usize
         ensures { result ≡ length self.now }
     {
-        self.items.len()
+        self.all().len()
     }
 
     /// Whether there is no word.
     pub fn is_empty(&self) -> bool
         ensures { IsTrue result ↔ (self.now ≡ []) }
     {
-        self.items.is_empty()
+        self.all().is_empty()
     }
 
     /// The bytes of the word at a place, counted from 0, without quotes and escapes.
@@ -216,6 +120,6 @@ impl Words {
         ensures value { slice_get self.now place ≡ Some result.now }
         ensures one_line { IsOneLine result.now }
     {
-        self.items[place].as_slice()
+        self.all().get(place)
     }
 }

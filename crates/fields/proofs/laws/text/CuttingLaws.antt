@@ -1,8 +1,11 @@
 -- The code cuts a line into the words of the line.
-use Rattle.std.proofs.Common.{◌≡◌, ℕ, List, [], ◌∷◌, ◌++◌, Option, Some, None, option_and_then, refl, sym, ap, ◌∙◌, append_assoc, append-nil}
+use Rattle.std.proofs.Common.{◌≡◌, ◌≢◌, ℕ, ◌<◌, ◌≤◌, Bool, length, take, drop, arith, length-drop, ap₂, true, List, [], ◌∷◌, ◌++◌, Option, Some, None, option_and_then, refl, sym, ap, ◌∙◌, append_assoc, append-nil}
 use Rattle.std.specs.Option.{option_map}
-use Rattle.fields.specs.text.Words.{Place, Between, Bare, Quoted, Escaped, Closed, Act, Skips, Joins, Ends, Breaks, act_of, in_front, acted, words_from, words_of}
-use Rattle.fields.specs.steps.Cutting.{Cut, cut_by, after, at_line_end, cut_from, start}
+use Rattle.fields.specs.text.Words.{Place, Between, Bare, Quoted, Escaped, Closed, Act, Skips, Joins, Ends, Breaks, act_of, is_bare, in_front, acted, words_from, words_of}
+use Rattle.std.proofs.lemmas.List.{take-append-drop, length-take-le}
+use Rattle.std.proofs.lemmas.List.Elements.{All-head, All-tail}
+use Rattle.fields.specs.steps.Cutting.{Cut, cut_by, after, at_line_end, cut_from, start, placed, joined, is_unquoted, IsRun}
+use Rattle.fields.proofs.laws.text.WordLaws.{bare-joins, first-joins}
 
 abbrev at : List (List ℕ) → List ℕ → Place → Cut
 at words word place = record { words = words; word = word; place = place }
@@ -55,3 +58,41 @@ unglued (Some (word ∷ words)) = refl
 -- what the code cuts are the words of the line
 pub cut_from-start : (line : List ℕ) → cut_from start line ≡ words_of line
 cut_from-start line = cut_from-at line [] [] Between ∙ unglued (words_of line)
+
+-- what a byte makes of a cut that it joins
+cut_from-joins : (byte : ℕ) (bytes : List ℕ) (words : List (List ℕ)) (word : List ℕ) (place : Place) → act_of place byte ≡ Joins Bare
+    → cut_from (at words word place) (byte ∷ bytes) ≡ cut_from (at words (word ++ byte ∷ []) Bare) bytes
+unfolding after
+cut_from-joins byte bytes words word place does =
+    ap (λ act. option_and_then (λ next. cut_from next bytes) (cut_by act byte (at words word place))) does
+
+-- a run in an unquoted word
+cut_from-bare : (run rest : List ℕ) (words : List (List ℕ)) (word : List ℕ) → IsRun run → cut_from (at words word Bare) (run ++ rest) ≡ cut_from (at words (word ++ run) Bare) rest
+cut_from-bare [] rest words word bare = ap (λ w. cut_from (at words w Bare) rest) (sym (append-nil word))
+cut_from-bare (byte ∷ run) rest words word bare =
+    cut_from-joins byte (run ++ rest) words word Bare (bare-joins byte (All-head (λ b. is_bare b ≡ true) byte run bare))
+    ∙ cut_from-bare run rest words (word ++ byte ∷ []) (All-tail (λ b. is_bare b ≡ true) byte run bare)
+    ∙ ap (λ w. cut_from (at words w Bare) rest) (append_assoc word (byte ∷ []) run)
+
+-- a run that may begin one
+pub cut_from-run : (run rest : List ℕ) (words : List (List ℕ)) (word : List ℕ) (place : Place) → is_unquoted place ≡ true → run ≢ [] → IsRun run
+    → cut_from (at words word place) (run ++ rest) ≡ cut_from (at words (word ++ run) Bare) rest
+cut_from-run run rest words word Bare unquoted some bare = cut_from-bare run rest words word bare
+cut_from-run [] rest words word Between unquoted some bare = absurd (some refl)
+cut_from-run (byte ∷ run) rest words word Between unquoted some bare =
+    cut_from-joins byte (run ++ rest) words word Between (first-joins byte (All-head (λ b. is_bare b ≡ true) byte run bare))
+    ∙ cut_from-bare run rest words (word ++ byte ∷ []) (All-tail (λ b. is_bare b ≡ true) byte run bare)
+    ∙ ap (λ w. cut_from (at words w Bare) rest) (append_assoc word (byte ∷ []) run)
+cut_from-run run rest words word Quoted unquoted some bare = cc
+cut_from-run run rest words word Escaped unquoted some bare = cc
+cut_from-run run rest words word Closed unquoted some bare = cc
+
+-- a run at the front of the bytes, of which some are left then
+pub advanced : (n : ℕ) (bytes left : List ℕ) (old new : Cut) → 0 < n → n ≤ length bytes → is_unquoted old.place ≡ true → IsRun (take n bytes)
+    → new ≡ placed Bare (joined (take n bytes) old) → left ≡ drop n bytes → (length left < length bytes) × (cut_from old bytes ≡ cut_from new left)
+advanced n bytes left old new some within unquoted bare next rest = (
+  omega (arith, some, within, ap length rest, length-drop n bytes),
+  ap (cut_from old) (sym (take-append-drop n bytes))
+      ∙ cut_from-run (take n bytes) (drop n bytes) old.words old.word old.place unquoted (λ none. let none' = ap length none in omega (arith, some, within, none', length-take-le n bytes within)) bare
+      ∙ ap₂ cut_from (sym next) (sym rest),
+)

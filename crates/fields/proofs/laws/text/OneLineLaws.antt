@@ -1,7 +1,5 @@
 -- Words, and lines of them, have no newline.
 use Rattle.std.proofs.Common.{◌≡◌, ◌≢◌, ◌==◌, inl, inr, ℕ, zero, suc, ◌<◌, Bool, true, false, not, List, [], ◌∷◌, ◌++◌, length, get_or, Some, refl, sym, ap, subst, ◌∙◌, arith, eq-eqb}
-use Rattle.std.specs.Global.{Vec}
-use Rattle.fields.specs.steps.Cutting.{view_words}
 use Rattle.std.specs.List.{list_all}
 use Rattle.std.proofs.lemmas.Bool.{and_parts}
 use Rattle.std.proofs.lemmas.List.Elements.{All-append, All-nil}
@@ -75,9 +73,3 @@ found_line words line found = line_of_words words line (AreWords-words_of words 
 
 pub found_words : (words : List (List ℕ)) (line : List ℕ) → words_of line ≡ Some words → AreOneLine words
 found_words words line found = words_of_line words line (AreWords-words_of words line found)
-
--- a word in a vector
-pub item_in_line : (items : List (Vec ℕ)) (place : ℕ) (item : Vec ℕ) (bytes : List ℕ) → AreOneLine (view_words items) → place < length items → item ≡ get_or items place item → bytes ≡ item.items → IsOneLine bytes
-item_in_line [] place item bytes are within is shown = absurd (omega arith)
-item_in_line (first ∷ items) zero item bytes are within is shown = subst IsOneLine (sym (shown ∙ ap (λ (v : Vec ℕ). v.items) is)) (are 0 bytes (omega arith))
-item_in_line (first ∷ items) (suc place) item bytes are within is shown = item_in_line items place item bytes (λ k d below. are (suc k) d (omega arith)) (omega arith) is shown

@@ -35,14 +35,14 @@ closed-end (byte ∷ rest) words ends found =
     ap (λ t. acted (cond t (Skips Between) Breaks) byte (λ next. words_from next rest)) ends
     ∙ ap (λ t. acted (cond t (Skips Between) (cond (byte == 34) (Skips Quoted) (joins Bare byte))) byte (λ next. words_from next rest)) (sym ends) ∙ found
 
-bare-joins : (byte : ℕ) → is_bare byte ≡ true → act_of Bare byte ≡ Joins Bare
+pub bare-joins : (byte : ℕ) → is_bare byte ≡ true → act_of Bare byte ≡ Joins Bare
 bare-joins byte bare =
     let (first, unbroken) = and_parts (not (is_blank byte) && not (byte == 34)) (not (byte == 10)) bare in
     let (unblank, unquoted) = and_parts (not (is_blank byte)) (not (byte == 34)) first in
     ap (λ t. cond t (Ends Between) (cond (byte == 34) Breaks (joins Bare byte))) (not-true (is_blank byte) unblank)
     ∙ ap (λ t. cond t Breaks (joins Bare byte)) (not-true (byte == 34) unquoted) ∙ ap (λ t. cond t Breaks (Joins Bare)) (not-true (byte == 10) unbroken)
 
-first-joins : (byte : ℕ) → is_bare byte ≡ true → act_of Between byte ≡ Joins Bare
+pub first-joins : (byte : ℕ) → is_bare byte ≡ true → act_of Between byte ≡ Joins Bare
 first-joins byte bare =
     let (first, unbroken) = and_parts (not (is_blank byte) && not (byte == 34)) (not (byte == 10)) bare in
     let (unblank, unquoted) = and_parts (not (is_blank byte)) (not (byte == 34)) first in

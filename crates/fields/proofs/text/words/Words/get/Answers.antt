@@ -1,9 +1,10 @@
-use Rattle.std.proofs.Common.{◌<◌, length, ap, arith}
-use Rattle.std.proofs.lemmas.List.{length-map}
-use Rattle.fields.proofs.laws.text.OneLineLaws.{item_in_line}
+use Rattle.std.proofs.Common.{[], subst}
+use Rattle.std.proofs.lemmas.Option.{get_or_from_slice_get}
+use Rattle.fields.specs.text.OneLine.{IsOneLine}
+use Rattle.fields.specs.text.WordSlice.{words_in}
 use Rattle.fields.proofs.text.words.Words.get.Goals as goal
 
 pub returns-clause-one_line : goal.returns-clause-one_line
 returns-clause-one_line c =
-    let within : c.args.place < length c.self.inside.items.items = omega (arith, c.requires, ap length c.self.view_is, length-map c.self.inside.items.items (λ w. w.items)) in
-    item_in_line c.self.inside.items.items c.args.place c.index.result.now c.as_slice.result.now c.self.invariant within c.index.ensures c.as_slice.ensures.value
+    let is = rw c.all.ensures.value at c.get.ensures in
+    subst IsOneLine (get_or_from_slice_get c.args.self.now c.args.place c.get.result.now [] is) (c.all.ensures.one_line c.args.place [] c.requires)

@@ -1,33 +1,33 @@
 use Rattle.std.proofs.Common.{Ok, rules}
-use Rattle.fields.specs.steps.Cutting.{view_words}
+use Rattle.fields.specs.steps.Cutting.{view_cutting}
 use Rattle.fields.proofs.laws.text.WordLaws.{words_of-law}
 use Rattle.fields.proofs.laws.text.OneLineLaws.{found_line, found_words}
 use Rattle.fields.proofs.laws.text.SplitLaws.{came, exact-found, exact-only, exact-quoting}
 use Rattle.fields.proofs.text.words.Words.split.Goals as goal
 
 pub invariant_of-result : goal.invariant_of-result
-invariant_of-result c = found_words (view_words c.in_ok-items.items.items) c.args.line.now (came _ _ c.in_ok-items.ensures)
+invariant_of-result c = (c.in_ok-cutting.cutting.rise, found_words (view_cutting c.in_ok-cutting.cutting).words c.args.line.now (came _ _ c.in_ok-cutting.ensures))
 
-pub returns-in_err-items-clause-only : goal.returns-in_err-items-clause-only
-returns-in_err-items-clause-only c = exact-only c.from_residual.result c.args.line.now (search rules)
+pub returns-in_err-cutting-clause-only : goal.returns-in_err-cutting-clause-only
+returns-in_err-cutting-clause-only c = exact-only c.from_residual.result c.args.line.now (search rules)
 
-pub returns-in_err-items-clause-quoting : goal.returns-in_err-items-clause-quoting
-returns-in_err-items-clause-quoting c = exact-quoting c.from_residual.result c.args.line.now (search rules)
+pub returns-in_err-cutting-clause-quoting : goal.returns-in_err-cutting-clause-quoting
+returns-in_err-cutting-clause-quoting c = exact-quoting c.from_residual.result c.args.line.now (search rules)
 
-pub returns-in_err-items-clause-law : goal.returns-in_err-items-clause-law
-returns-in_err-items-clause-law c = λ words. words_of-law words c.args.line.now
+pub returns-in_err-cutting-clause-law : goal.returns-in_err-cutting-clause-law
+returns-in_err-cutting-clause-law c = λ words. words_of-law words c.args.line.now
 
 pub returns-clause-found : goal.returns-clause-found
-returns-clause-found c = exact-found (Ok (view_words c.in_ok-items.items.items)) c.args.line.now (came _ _ c.in_ok-items.ensures)
+returns-clause-found c = exact-found (Ok (view_cutting c.in_ok-cutting.cutting).words) c.args.line.now (came _ _ c.in_ok-cutting.ensures)
 
 pub returns-clause-only : goal.returns-clause-only
-returns-clause-only c = exact-only (Ok (view_words c.in_ok-items.items.items)) c.args.line.now (came _ _ c.in_ok-items.ensures)
+returns-clause-only c = exact-only (Ok (view_cutting c.in_ok-cutting.cutting).words) c.args.line.now (came _ _ c.in_ok-cutting.ensures)
 
 pub returns-clause-law : goal.returns-clause-law
 returns-clause-law c = λ words. words_of-law words c.args.line.now
 
 pub returns-clause-one_line : goal.returns-clause-one_line
-returns-clause-one_line c = found_line (view_words c.in_ok-items.items.items) c.args.line.now (came _ _ c.in_ok-items.ensures)
+returns-clause-one_line c = found_line (view_cutting c.in_ok-cutting.cutting).words c.args.line.now (came _ _ c.in_ok-cutting.ensures)
 
 pub returns-clause-words_in_line : goal.returns-clause-words_in_line
-returns-clause-words_in_line c = found_words (view_words c.in_ok-items.items.items) c.args.line.now (came _ _ c.in_ok-items.ensures)
+returns-clause-words_in_line c = found_words (view_cutting c.in_ok-cutting.cutting).words c.args.line.now (came _ _ c.in_ok-cutting.ensures)

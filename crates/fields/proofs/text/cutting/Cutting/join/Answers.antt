@@ -1,0 +1,12 @@
+use Rattle.std.proofs.Common.{◌≡◌, true, is_ok, [], ◌∷◌, rules}
+use Rattle.fields.specs.steps.Cutting.{view_place}
+use Rattle.fields.proofs.laws.text.WordEndsLaws.{rise-pushed, cut-joined}
+use Rattle.fields.proofs.text.cutting.Cutting.join.Goals as goal
+
+pub invariant_of-self : goal.invariant_of-self
+invariant_of-self c = record { rise = rise-pushed c.args.self.now.ends.items c.args.self.now.bytes.items (c.args.byte ∷ []) c.push.new.self.items _ c.push.ensures.items c.args.self.now.rise }
+
+pub returns : goal.returns
+returns c =
+    let done : is_ok c.push.result ≡ true = search rules in
+    cut-joined c.args.self.now.ends.items c.args.self.now.bytes.items (c.args.byte ∷ []) c.push.new.self.items (view_place c.args.self.now.place) _ c.push.ensures.items done c.args.self.now.rise

@@ -1,0 +1,204 @@
+// How a line is cut into words: byte after byte, and an unquoted run of bytes at once.
+ghost use Rattle.std.specs.Prelude.{◌≡◌, ◌≤◌, true, length, take, All};
+ghost use Rattle.fields.specs.text.Words.{is_bare};
+ghost use Rattle.fields.specs.text.WordEnds.{do_rise};
+
+use crate::text::words::WordFault;
+use std::alloc::Global;
+
+// Where a byte of a line stands: between two words, in an unquoted word, between the quotes of a
+// word, after a backslash there, or after the closing quote.
+#[derive(Clone, Copy)]
+enum Place {
+    Between,
+    Bare,
+    Quoted,
+    Escaped,
+    Closed,
+}
+
+// What a byte does: it is no part of a word, joins the word at hand, ends it, or breaks the quoting;
+// and where the next byte stands.
+enum Act {
+    Skips(Place),
+    Joins(Place),
+    Ends(Place),
+    Breaks,
+}
+
+// The bytes of the words so far and of the one at hand, and where each of those before it ends.
+#[derive(Drop)]
+pub(crate) struct Cutting {
+    pub(crate) bytes: Vec<u8>,
+    pub(crate) ends: Vec<usize>,
+    place: Place,
+    ghost rise: { do_rise 0 ends.items (length bytes.items) ≡ true },
+}
+
+// Whether an unquoted word may have the byte.
+fn is_bare(byte: u8) -> bool
+    ensures { result ≡ is_bare byte }
+{
+    byte > b'"' || !matches!(byte, b' ' | b'\t' | b'"' | b'\n')
+}
+
+// How many bytes stand before the first that an unquoted word can't have.
+fn bare_len(bytes: &[u8]) -> usize
+    ensures within { result ≤ length bytes.now }
+    ensures run { All (λ byte. is_bare byte ≡ true) (take result bytes.now) }
+{
+    for (i, byte) in bytes.iter().enumerate() {
+        if !is_bare(*byte) {
+            return i;
+        }
+    }
+    bytes.len()
+}
+
+impl Place {
+    ghost use Rattle.std.specs.Prelude.{◌≡◌, ◌<◌, ◌≤◌, true, length, take};
+    ghost use Rattle.fields.specs.text.Words.{act_of};
+    ghost use Rattle.fields.specs.steps.Cutting.{view_act, view_place, is_unquoted, IsRun};
+
+    // What a byte does that stands there.
+    fn act_of(self, byte: u8) -> Act
+        ensures { view_act result ≡ act_of (view_place self) byte }
+    {
+        match (self, byte) {
+            (_, b'\n') => Act::Breaks,
+            (Place::Between | Place::Closed, b' ' | b'\t') => Act::Skips(Place::Between),
+            (Place::Between, b'"') => Act::Skips(Place::Quoted),
+            (Place::Bare, b' ' | b'\t') => Act::Ends(Place::Between),
+            (Place::Bare, b'"') | (Place::Closed, _) => Act::Breaks,
+            (Place::Between | Place::Bare, _) => Act::Joins(Place::Bare),
+            (Place::Quoted, b'"') => Act::Ends(Place::Closed),
+            (Place::Quoted, b'\\') => Act::Skips(Place::Escaped),
+            (Place::Quoted | Place::Escaped, _) => Act::Joins(Place::Quoted),
+        }
+    }
+
+    // How many of the bytes that follow belong to one unquoted word, where they stand in none between quotes.
+    fn run_len(self, bytes: &[u8]) -> usize
+        ensures within { result ≤ length bytes.now }
+        ensures run { IsRun (take result bytes.now) }
+        ensures unquoted { 0 < result → is_unquoted (view_place self) ≡ true }
+    {
+        match self {
+            Place::Between | Place::Bare => bare_len(bytes),
+            Place::Quoted | Place::Escaped | Place::Closed => 0,
+        }
+    }
+}
+
+impl Cutting {
+    ghost use Rattle.std.specs.Prelude.{◌≡◌, ◌<◌, ◌≤◌, [], ◌∷◌, length, take, All, IsTrue, IfOk, IsErr};
+    ghost use Rattle.fields.specs.text.Words.{is_bare, words_of};
+    ghost use Rattle.fields.specs.steps.Cutting.{view_cutting, view_place, after, at_line_end, start, joined, ended, Gives, UnlessNoMemory, Advances};
+
+    // Before the first byte, with room for the bytes of a line and as many words as it may have.
+    fn new(alloc: Global, len: usize) -> Result<Cutting, WordFault>
+        ensures { UnlessNoMemory result (IfOk result (λ cutting. view_cutting cutting ≡ start)) }
+    {
+        let bytes = match Vec::with_capacity(alloc, len) {
+            Ok(bytes) => bytes,
+            Err(_) => return Err(WordFault::NoMemory),
+        };
+        let ends = match Vec::with_capacity(alloc, len.div_ceil(2)) {
+            Ok(ends) => ends,
+            Err(_) => return Err(WordFault::NoMemory),
+        };
+        Ok(Cutting {
+            bytes,
+            ends,
+            place: Place::Between,
+        })
+    }
+
+    // Joins a byte to the word at hand.
+    fn join(&mut self, byte: u8) -> Result<(), WordFault>
+        ensures { UnlessNoMemory result (view_cutting self.new ≡ joined (byte ∷ []) (view_cutting self.old)) }
+    {
+        self.bytes.push(byte).map_err(|_| WordFault::NoMemory)?;
+        Ok(())
+    }
+
+    // Joins some bytes to it.
+    fn join_all(&mut self, run: &[u8]) -> Result<(), WordFault>
+        ensures { UnlessNoMemory result (view_cutting self.new ≡ joined run.now (view_cutting self.old)) }
+    {
+        self.bytes
+            .extend_from_slice(run)
+            .map_err(|_| WordFault::NoMemory)?;
+        Ok(())
+    }
+
+    // Ends the word at hand.
+    fn end_word(&mut self) -> Result<(), WordFault>
+        ensures { UnlessNoMemory result (view_cutting self.new ≡ ended (view_cutting self.old)) }
+    {
+        self.ends
+            .push(self.bytes.len())
+            .map_err(|_| WordFault::NoMemory)?;
+        Ok(())
+    }
+
+    // Takes the next byte.
+    #[tactic(auto, unfolding(crate::specs::steps::Cutting::after))]
+    fn take(&mut self, byte: u8) -> Result<(), WordFault>
+        ensures { Gives (λ _. view_cutting self.new) result (after (view_cutting self.old) byte) }
+    {
+        match self.place.act_of(byte) {
+            Act::Skips(next) => self.place = next,
+            Act::Joins(next) => {
+                self.join(byte)?;
+                self.place = next;
+            }
+            Act::Ends(next) => {
+                self.end_word()?;
+                self.place = next;
+            }
+            Act::Breaks => return Err(WordFault::Quoting),
+        }
+        Ok(())
+    }
+
+    // Takes a run of bytes of an unquoted word, or else the next byte. Gives the bytes after it.
+    fn advance<'a>(&mut self, bytes: &'a [u8]) -> Result<&'a [u8], WordFault>
+        requires { 0 < length bytes.now }
+        ensures { Advances (view_cutting self.old) bytes.now (view_cutting self.new) result }
+    {
+        let run = self.place.run_len(bytes);
+        if run == 0 {
+            self.take(bytes[0])?;
+            return Ok(&bytes[1..]);
+        }
+        self.join_all(&bytes[..run])?;
+        self.place = Place::Bare;
+        Ok(&bytes[run..])
+    }
+
+    // Ends the last word at the line's end.
+    #[tactic(auto, unfolding(crate::specs::steps::Cutting::at_line_end))]
+    fn finish(&mut self) -> Result<(), WordFault>
+        ensures { Gives (λ _. (view_cutting self.new).words) result (at_line_end (view_cutting self.old)) }
+    {
+        match self.place {
+            Place::Between | Place::Closed => Ok(()),
+            Place::Bare => self.end_word(),
+            Place::Quoted | Place::Escaped => Err(WordFault::Quoting),
+        }
+    }
+
+    // The words of a line.
+    pub(crate) fn of(alloc: Global, line: &[u8]) -> Result<Cutting, WordFault>
+        ensures { Gives (λ cutting. (view_cutting cutting).words) result (words_of line.now) }
+    {
+        let mut cutting = Cutting::new(alloc, line.len())?;
+        let mut bytes = line;
+        while !bytes.is_empty() {
+            bytes = cutting.advance(bytes)?;
+        }
+        cutting.finish()?;
+        Ok(cutting)
+    }
+}
