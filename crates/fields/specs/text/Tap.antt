@@ -1,5 +1,5 @@
 -- What a clause reads of a `Tap`, and what its calls do.
-use Rattle.std.specs.Prelude.{◌≡◌, ℕ, Bool, true, false, List, [], ◌++◌, length, Option, Result, Ok, Err, MatchResult}
+use Rattle.std.specs.Prelude.{◌≡◌, ◌≤◌, ℕ, IfSome, Bool, true, false, List, [], ◌++◌, length, Option, Result, Ok, Err, MatchResult}
 use Rattle.std.specs.Borrow.{Bor}
 use Rattle.std.specs.Io.KnownBytes.{Appends}
 use Rattle.fields.specs.declared.text.tap.Tap.{Tap}
@@ -23,6 +23,10 @@ turns_left t = t.turns
 -- how many of the bytes that `fill` last lent weren't taken
 abbrev pub shown_left : {T : Type 0} → Tap T → ℕ
 shown_left t = t.seen.shown
+
+-- no more bytes are left to show than there are, where they are known
+abbrev pub ShowsWithin : Option (List ℕ) → Option (List ℕ) → ℕ → Type 0
+ShowsWithin old new left = IfSome old (λ _. IfSome new (λ bytes. left ≤ length bytes))
 
 -- how many bytes a `fill` lent
 abbrev pub lent : {E : Type 0} → Result (Bor (List ℕ)) E → ℕ

@@ -1,7 +1,7 @@
 //! Lines from a reader.
 ghost use Rattle.std.specs.Prelude.{◌≡◌, ◌≢◌, ◌+◌, ◌<◌, ◌≤◌, ℕ, List, [], ◌∷◌, ◌++◌, Option, None, Ok, true, false, length, take, drop, All, IfOk, OnOk, IsTrue, is_err, slice_index, vec_len, vec_capacity};
 ghost use Rattle.std.specs.Io.KnownBytes.{Consumes, Keeps, IsAtEnd};
-ghost use Rattle.fields.specs.text.Tap.{has_failed, device, known, shown_left, turns_left};
+ghost use Rattle.fields.specs.text.Tap.{has_failed, device, known, shown_left, turns_left, ShowsWithin};
 ghost use Rattle.fields.specs.text.Line.{IsHeld, ReadsLine, ReadsPart, ReadsOn};
 ghost use Rattle.fields.specs.steps.LineSteps.{TakesPart, HoldsMore, IsLast};
 
@@ -82,6 +82,7 @@ fn take_part<R: BufRead>(
     ensures failed { has_failed tap.new ≡ is_err result }
     ensures turns { turns_left tap.new ≡ turns_left tap.old }
     ensures shown { result ≡ Ok LineStep.More → shown_left tap.new ≡ 0 }
+    ensures left { ShowsWithin (known R.remaining tap.old) (known R.remaining tap.new) (shown_left tap.new) }
     ensures takes { TakesPart (known R.remaining tap.old) (known R.remaining tap.new) result
         max line.old.items too_long.old line.new.items too_long.new }
 {
@@ -142,6 +143,8 @@ impl<R: BufRead> Tap<R> {
         ensures turns { OnOk result (turns_left self.old ≡ turns_left self.new + 1) }
         ensures ready { OnOk result (has_failed self.old ≡ false) }
         ensures shown { result ≡ Ok None → shown_left self.new ≡ 0 }
+        ensures left { OnOk result
+            (ShowsWithin (known R.remaining self.old) (known R.remaining self.new) (shown_left self.new)) }
         ensures within { vec_len line.new ≤ max }
         ensures capacity { vec_capacity line.old ≤ vec_capacity line.new }
     {

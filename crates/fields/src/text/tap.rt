@@ -101,6 +101,7 @@ impl<T> Tap<T> {
         ensures failed { has_failed self.new ≡ is_err result }
         ensures unmoved { device self.new ≡ device self.old }
         ensures due { has_failed self.old ≡ false → 0 < turns_left self.old → IsOk result }
+        ensures shown { shown_left self.new ≡ shown_left self.old }
     {
         if self.seen.failed {
             return Err(ReadFailed);
@@ -200,6 +201,7 @@ impl<W: Write> Tap<W> {
         ensures nothing { bytes.now ≡ [] → has_failed self.old ≡ false → IsOk result }
         ensures unmoved { bytes.now ≡ [] → self.new ≡ self.old }
         ensures keeps { OnOk result (Keeps self.old self.new bytes.now) }
+        ensures shown { shown_left self.new ≡ shown_left self.old }
     {
         if self.seen.failed {
             return Err(WriteFailed);
@@ -230,6 +232,7 @@ impl<W: Write> Tap<W> {
         ensures puts { Puts W.contents self.old self.new result (flat_map (λ text. text.now) texts.now) }
         ensures turns { turns_left self.new ≡ turns_left self.old }
         ensures keeps { OnOk result (Keeps self.old self.new (flat_map (λ text. text.now) texts.now)) }
+        ensures shown { shown_left self.new ≡ shown_left self.old }
     {
         if self.seen.failed {
             return Err(WriteFailed);
@@ -249,6 +252,7 @@ impl<W: Write> Tap<W> {
         ensures puts { Puts W.contents self.old self.new result [] }
         ensures turns { turns_left self.new ≡ turns_left self.old }
         ensures flushed { OnOk result (is_unflushed self.new ≡ false) }
+        ensures shown { shown_left self.new ≡ shown_left self.old }
     {
         if self.seen.failed {
             return Err(WriteFailed);
