@@ -1,6 +1,6 @@
 //! Words, packets and sets of numbers: what they lend, and packets read from words.
 use crate::trouble::{Trouble, expect, is_text};
-use fields::{Field, Hook, Packet, PacketFault, Spans, Words};
+use fields::{Field, Hook, Packet, PacketFault, Spans, WordSlice, Words};
 use std::alloc::Global;
 
 /// The words of a line.
@@ -11,15 +11,32 @@ pub fn words_of(alloc: Global, line: &[u8]) -> Result<Words, Trouble> {
     }
 }
 
+/// Whether there are two words, the second of which is `a b`.
+fn are_two(words: WordSlice) -> bool {
+    match words.split_first() {
+        Some((_, rest)) => rest.len() == 1 && is_text(rest.get(0), b"a b"),
+        None => false,
+    }
+}
+
+/// Whether there are three words, the last of which is `a b`.
+fn are_three(words: WordSlice) -> bool {
+    if words.len() != 3 {
+        return false;
+    }
+    let (first, after) = words.split_at(1);
+    !first.is_empty() && are_two(after)
+}
+
 /// Whether there are four words, the last of which is `a b`.
 fn are_four(words: &Words) -> bool {
     words.len() == 4
         && is_text(words.get(3), b"a b")
-        && words.after(1).len() == 3
+        && are_three(words.after(1))
         && !words.is_empty()
 }
 
-/// `Words::len`, `is_empty`, `get` and `after`.
+/// `Words::len`, `is_empty`, `get` and `after`, and what `after` lends.
 pub fn words(alloc: Global, times: u32) -> Result<(), Trouble> {
     let words = words_of(alloc, b"-m comment --comment \"a b\"")?;
     for _ in 0..times {

@@ -1,7 +1,7 @@
 //! Sections of a restore.
 ghost use Rattle.std.specs.Prelude.{◌≡◌, ◌||◌, ◌≢◌, [], IfOk, IsTrue, IsFalse};
 ghost use Rattle.fields.specs.text.Words.{words_of};
-ghost use Rattle.fields.specs.steps.Cutting.{view_words};
+ghost use Rattle.fields.specs.text.WordSlice.{words_in};
 ghost use Rattle.table.specs.chains.Table.{has_chain};
 ghost use Rattle.table.specs.edits.Boxes.{MakesOneBoxAtMost};
 ghost use Rattle.restore.specs.Sequence.{Gives, or_refused, refused_as};
@@ -18,7 +18,7 @@ use crate::fault::RestoreFault;
 use crate::section::chain_line::{is_built_in, is_counters, may_be_policy, policy_word};
 use crate::section::names::Names;
 use crate::section::quiet::{is_quiet, is_too_long};
-use fields::{WordFault, Words};
+use fields::{WordFault, WordSlice, Words};
 use rules::Work;
 use std::alloc::{AllocError, Global};
 use std::marker::Model;
@@ -127,9 +127,9 @@ impl Transaction {
     }
 
     // Does a chain line of a name, with the words after it.
-    fn chain_line(&mut self, name: &[u8], words: &[Vec<u8>]) -> Result<(), RestoreFault>
+    fn chain_line(&mut self, name: &[u8], words: WordSlice) -> Result<(), RestoreFault>
         ensures { Gives is_out_of_memory (λ _. self.new) result
-            (done self.old (asked_of_chain self.old name.now (view_words words.now))) }
+            (done self.old (asked_of_chain self.old name.now (words_in words.entry))) }
     {
         let Some(policy) = policy_word(words) else {
             return Err(RestoreFault::BadChainLine);

@@ -1,7 +1,7 @@
 //! How words are read as a rule.
 ghost use Rattle.std.specs.Prelude.{◌≡◌, ◌≤◌, ◌<◌, ◌+◌, ◌-◌, ◌&&◌, ◌==◌, not, Option, Some, None, List, length, drop, IfOk};
 ghost use Rattle.std.specs.List.{list_any};
-ghost use Rattle.fields.specs.steps.Cutting.{view_words};
+ghost use Rattle.fields.specs.text.WordSlice.{words_in};
 ghost use Rattle.rules.specs.Sequence.{Gives};
 ghost use Rattle.rules.specs.options.Matches.{match_row};
 ghost use Rattle.rules.specs.rule.Readable.{IsReadable};
@@ -24,7 +24,7 @@ use crate::reading::option_words::option_words_at;
 use crate::reading::steps::{is_met_for, step};
 use crate::rule::Rule;
 use crate::rule::content::{Content, Match};
-use fields::{RejectType, Words};
+use fields::{RejectType, WordSlice, Words};
 use std::alloc::Global;
 
 // A rule of which nothing was read yet.
@@ -40,9 +40,9 @@ fn empty(alloc: Global) -> Content
 }
 
 // The rule that the options of the words make, one after another.
-fn read_options(alloc: Global, end: usize, words: &[Vec<u8>]) -> Result<Content, RuleFault>
-    requires { length words.now ≤ end }
-    ensures { Gives view_content result (steps_from (length (view_words words.now)) end empty_rule (view_words words.now)) }
+fn read_options(alloc: Global, end: usize, words: WordSlice) -> Result<Content, RuleFault>
+    requires { length (words_in words) ≤ end }
+    ensures { Gives view_content result (steps_from (length (words_in words.entry)) end empty_rule (words_in words.entry)) }
 {
     let mut content = empty(alloc);
     let mut rest = words;
@@ -127,9 +127,9 @@ fn with_needs_met(content: Content) -> Result<Content, RuleFault>
 
 // The rule that the words read as; `end` is the place after the last word of the line.
 #[tactic(auto, unfolding(crate::specs::reading::Steps::rule_of))]
-fn rule_of(alloc: Global, end: usize, words: &[Vec<u8>]) -> Result<Content, RuleFault>
-    requires { length words.now ≤ end }
-    ensures { Gives view_content result (rule_of end (view_words words.now)) }
+fn rule_of(alloc: Global, end: usize, words: WordSlice) -> Result<Content, RuleFault>
+    requires { length (words_in words) ≤ end }
+    ensures { Gives view_content result (rule_of end (words_in words.entry)) }
 {
     let content = read_options(alloc, end, words)?;
     with_needs_met(content)

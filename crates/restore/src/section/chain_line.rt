@@ -1,11 +1,11 @@
 //! The parts of a chain line.
 ghost use Rattle.std.specs.Prelude.{◌≡◌, Option, option_map, drop};
-ghost use Rattle.fields.specs.steps.Cutting.{view_words};
+ghost use Rattle.fields.specs.text.WordSlice.{words_in};
 ghost use Rattle.table.specs.chains.Table.{is_built_in};
 ghost use Rattle.restore.specs.sections.Section.{in_brackets, is_counters, is_policy, may_be_policy, policy_word};
 
 use crate::command::digits::is_digits;
-use fields::{Hook, cut_at};
+use fields::{Hook, WordSlice, cut_at};
 
 // What stands between `[` and `]`.
 fn in_brackets(text: &[u8]) -> Option<&[u8]>
@@ -31,18 +31,18 @@ pub(crate) fn is_counters(text: &[u8]) -> bool
 }
 
 // The policy after the name in a chain line, and perhaps counters.
-pub(crate) fn policy_word(words: &[Vec<u8>]) -> Option<&[u8]>
-    ensures { option_map (λ policy. policy.now) result ≡ policy_word (view_words words.now) }
+pub(crate) fn policy_word(words: WordSlice<'_>) -> Option<&[u8]>
+    ensures { option_map (λ policy. policy.now) result ≡ policy_word (words_in words.entry) }
 {
-    match words {
-        [policy] => Some(policy.as_slice()),
-        [policy, counters] => {
-            if is_counters(counters) {
-                return Some(policy.as_slice());
+    let (policy, counters) = words.split_first()?;
+    match counters.split_first() {
+        None => Some(policy),
+        Some((counters, rest)) => {
+            if rest.is_empty() && is_counters(counters) {
+                return Some(policy);
             }
             None
         }
-        _ => None,
     }
 }
 

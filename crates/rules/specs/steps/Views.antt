@@ -1,11 +1,10 @@
 -- How the code's values stand for those of the definitions.
 use Rattle.std.specs.Prelude.{ℕ, List, map, Result}
-use Rattle.std.specs.Global.{Vec}
-use Rattle.std.specs.Borrow.{Bor}
 use Rattle.rules.specs.Sequence.{Gives}
 use Rattle.rules.specs.declared.reading.fault.Refusal.{Refusal}
 use Rattle.rules.specs.declared.reading.fault.RuleFault.{RuleFault}
-use Rattle.fields.specs.steps.Cutting.{view_words}
+use Rattle.fields.specs.text.WordSlice.{words_in}
+use Rattle.fields.specs.declared.text.word_slice.WordSlice.{WordSlice}
 use Rattle.rules.specs.rule.Rules as rules
 use Rattle.rules.specs.reading.OptionWords as words
 use Rattle.rules.specs.declared.rule.content.Match.{Match}
@@ -28,12 +27,12 @@ view_content c =
 
 -- an option with the words of its values as the definitions have it
 abbrev pub view_option_words : OptionWords → words.OptionWords
-view_option_words p = record { inverted = p.inverted; option = p.option; values = view_words p.values.now; place = p.place }
+view_option_words p = record { inverted = p.inverted; option = p.option; values = words_in p.values; place = p.place }
 
 -- an option of the code and the words after it
 abbrev pub Lent : Type 0
-Lent = OptionWords × Bor (List (Vec ℕ))
+Lent = OptionWords × WordSlice
 
 -- an option and the words after it are what the definition gives
 abbrev pub OptionWordsGive : Result Lent RuleFault → Result (words.OptionWords × List (List ℕ)) Refusal → Type 0
-OptionWordsGive r given = Gives (λ (x : Lent). (view_option_words x.0, view_words x.1.now)) r given
+OptionWordsGive r given = Gives (λ (x : Lent). (view_option_words x.0, words_in x.1)) r given

@@ -3,7 +3,7 @@ ghost use Rattle.std.specs.Prelude.{◌≡◌, ◌≤◌, Option, Some, None, Li
 ghost use Rattle.rules.specs.Sequence.{Gives, RefusesFirst, or_refused};
 ghost use Rattle.rules.specs.options.Options.{first_of};
 ghost use Rattle.rules.specs.options.Settings.{option_of_value, is_trivial, value_of, second_of, text_within, with_opposite};
-ghost use Rattle.fields.specs.steps.Cutting.{view_words};
+ghost use Rattle.fields.specs.text.WordSlice.{words_in};
 ghost use Rattle.fields.specs.values.Protocol.{protocol_of};
 
 use crate::options::comment::Comment;
@@ -11,7 +11,7 @@ use crate::options::option::Opt;
 use crate::reading::fault::{Refusal, RuleFault};
 use fields::{
     CtSet, FlagTest, IcmpType, IfPattern, IpRange, LogLevel, PortList, PortRange, Prefix, Protocol,
-    RejectType, Text, Ttl,
+    RejectType, Text, Ttl, WordSlice,
 };
 use std::alloc::Global;
 
@@ -136,22 +136,22 @@ fn protocol(inverted: bool, text: &[u8]) -> Option<Protocol>
 }
 
 // The first word, if there is one.
-pub(crate) fn first_of(words: &[Vec<u8>]) -> &[u8]
-    ensures { result.now ≡ first_of (view_words words.now) }
+pub(crate) fn first_of(words: WordSlice<'_>) -> &[u8]
+    ensures { result.now ≡ first_of (words_in words.entry) }
 {
-    match words {
-        [] => b"",
-        [first, ..] => first.as_slice(),
+    match words.split_first() {
+        None => b"",
+        Some((first, _)) => first,
     }
 }
 
 // The second word, if there is one.
-fn second_of(words: &[Vec<u8>]) -> &[u8]
-    ensures { result.now ≡ second_of (view_words words.now) }
+fn second_of(words: WordSlice<'_>) -> &[u8]
+    ensures { result.now ≡ second_of (words_in words.entry) }
 {
-    match words {
-        [] => b"",
-        [_, rest @ ..] => first_of(rest),
+    match words.split_first() {
+        None => b"",
+        Some((_, rest)) => first_of(rest),
     }
 }
 
@@ -161,10 +161,10 @@ pub(crate) fn value_of(
     alloc: Global,
     option: Opt,
     inverted: bool,
-    words: &[Vec<u8>],
+    words: WordSlice,
 ) -> Result<Value, RuleFault>
-    ensures gives { Gives (λ x. x) result (value_of option inverted (view_words words.now)) }
-    ensures refuses { RefusesFirst result (value_of option inverted (view_words words.now)) }
+    ensures gives { Gives (λ x. x) result (value_of option inverted (words_in words.entry)) }
+    ensures refuses { RefusesFirst result (value_of option inverted (words_in words.entry)) }
 {
     let text = first_of(words);
     match option {

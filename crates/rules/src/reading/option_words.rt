@@ -1,18 +1,19 @@
 // An option as words give it: an optional `!`, a spelling of the option, its values.
 ghost use Rattle.std.specs.Prelude.{◌≡◌, ◌≤◌, ◌<◌, ◌+◌, ◌-◌, Option, Some, None, List, length, IfOk};
-ghost use Rattle.fields.specs.steps.Cutting.{view_words};
+ghost use Rattle.fields.specs.text.WordSlice.{words_in};
 ghost use Rattle.rules.specs.reading.OptionWords.{with_values, inverted_words, after_bang, plain_words, option_words_at};
 ghost use Rattle.rules.specs.steps.Views.{OptionWordsGive};
 
 use crate::options::option::Opt;
 use crate::reading::fault::{Refusal, RuleFault};
+use fields::WordSlice;
 
 // An option with the words of its values, which are lent, and the place of the option's word.
 #[derive(Drop)]
 pub(crate) struct OptionWords<'a> {
     pub(crate) inverted: bool,
     pub(crate) option: Opt,
-    pub(crate) values: &'a [Vec<u8>],
+    pub(crate) values: WordSlice<'a>,
     pub(crate) place: usize,
 }
 
@@ -28,32 +29,33 @@ fn with_values<'a>(
     inverted: bool,
     option: Opt,
     place: usize,
-    words: &'a [Vec<u8>],
-) -> Result<(OptionWords<'a>, &'a [Vec<u8>]), RuleFault>
-    ensures gives { OptionWordsGive result (with_values inverted option place (view_words words.now)) }
-    ensures shorter { IfOk result (λ r. length r.1.now ≤ length words.now) }
+    words: WordSlice<'a>,
+) -> Result<(OptionWords<'a>, WordSlice<'a>), RuleFault>
+    ensures gives { OptionWordsGive result (with_values inverted option place (words_in words.entry)) }
+    ensures shorter { IfOk result (λ r. length (words_in r.1) ≤ length (words_in words.entry)) }
 {
     let count = option.row().values;
     if words.len() < count {
         return refused(Refusal::ValueMissing);
     }
+    let (values, rest) = words.split_at(count);
     let given = OptionWords {
         inverted,
         option,
-        values: &words[..count],
+        values,
         place,
     };
-    Ok((given, &words[count..]))
+    Ok((given, rest))
 }
 
 // An option after `!`, where it may be inverted.
 fn inverted_words<'a>(
     option: Option<Opt>,
     place: usize,
-    words: &'a [Vec<u8>],
-) -> Result<(OptionWords<'a>, &'a [Vec<u8>]), RuleFault>
-    ensures gives { OptionWordsGive result (inverted_words option place (view_words words.now)) }
-    ensures shorter { IfOk result (λ r. length r.1.now ≤ length words.now) }
+    words: WordSlice<'a>,
+) -> Result<(OptionWords<'a>, WordSlice<'a>), RuleFault>
+    ensures gives { OptionWordsGive result (inverted_words option place (words_in words.entry)) }
+    ensures shorter { IfOk result (λ r. length (words_in r.1) ≤ length (words_in words.entry)) }
 {
     let option = match option {
         Some(option) => option,
@@ -68,14 +70,14 @@ fn inverted_words<'a>(
 // What stands after `!`.
 fn after_bang<'a>(
     place: usize,
-    words: &'a [Vec<u8>],
-) -> Result<(OptionWords<'a>, &'a [Vec<u8>]), RuleFault>
-    ensures gives { OptionWordsGive result (after_bang place (view_words words.now)) }
-    ensures shorter { IfOk result (λ r. length r.1.now ≤ length words.now) }
+    words: WordSlice<'a>,
+) -> Result<(OptionWords<'a>, WordSlice<'a>), RuleFault>
+    ensures gives { OptionWordsGive result (after_bang place (words_in words.entry)) }
+    ensures shorter { IfOk result (λ r. length (words_in r.1) ≤ length (words_in words.entry)) }
 {
-    match words {
-        [] => return refused(Refusal::ValueMissing),
-        [word, rest @ ..] => return inverted_words(Opt::read(word.as_slice()), place, rest),
+    match words.split_first() {
+        None => return refused(Refusal::ValueMissing),
+        Some((word, rest)) => return inverted_words(Opt::read(word), place, rest),
     }
 }
 
@@ -83,10 +85,10 @@ fn after_bang<'a>(
 fn plain_words<'a>(
     option: Option<Opt>,
     place: usize,
-    words: &'a [Vec<u8>],
-) -> Result<(OptionWords<'a>, &'a [Vec<u8>]), RuleFault>
-    ensures gives { OptionWordsGive result (plain_words option place (view_words words.now)) }
-    ensures shorter { IfOk result (λ r. length r.1.now ≤ length words.now) }
+    words: WordSlice<'a>,
+) -> Result<(OptionWords<'a>, WordSlice<'a>), RuleFault>
+    ensures gives { OptionWordsGive result (plain_words option place (words_in words.entry)) }
+    ensures shorter { IfOk result (λ r. length (words_in r.1) ≤ length (words_in words.entry)) }
 {
     match option {
         Some(option) => return with_values(false, option, place, words),
@@ -98,19 +100,19 @@ fn plain_words<'a>(
 #[tactic(auto, unfolding(crate::specs::reading::OptionWords::option_words_at))]
 pub(crate) fn option_words_at<'a>(
     end: usize,
-    words: &'a [Vec<u8>],
-) -> Result<(OptionWords<'a>, &'a [Vec<u8>]), RuleFault>
-    requires { length words.now ≤ end }
-    ensures gives { OptionWordsGive result (option_words_at end (view_words words.now)) }
-    ensures shorter { IfOk result (λ r. length r.1.now < length words.now) }
+    words: WordSlice<'a>,
+) -> Result<(OptionWords<'a>, WordSlice<'a>), RuleFault>
+    requires { length (words_in words) ≤ end }
+    ensures gives { OptionWordsGive result (option_words_at end (words_in words.entry)) }
+    ensures shorter { IfOk result (λ r. length (words_in r.1) < length (words_in words.entry)) }
 {
-    match words {
-        [] => return refused(Refusal::ValueMissing),
-        [word, rest @ ..] => {
-            if word.as_slice() == b"!".as_slice() {
+    match words.split_first() {
+        None => return refused(Refusal::ValueMissing),
+        Some((word, rest)) => {
+            if word == b"!".as_slice() {
                 return after_bang(end - rest.len(), rest);
             }
-            return plain_words(Opt::read(word.as_slice()), end - words.len(), rest);
+            return plain_words(Opt::read(word), end - words.len(), rest);
         }
     }
 }
