@@ -6,6 +6,7 @@ ghost use Rattle.fields.specs.text.Line.{IsHeld, ReadsLine, ReadsPart, ReadsOn};
 ghost use Rattle.fields.specs.steps.LineSteps.{TakesPart, HoldsMore, IsLast};
 
 use crate::text::tap::{ReadFailed, Tap};
+use memchr::memchr;
 use std::io::BufRead;
 
 /// How a line ended.
@@ -41,12 +42,10 @@ fn newline_at(bytes: &[u8]) -> usize
     ensures before { All (λ b. b ≢ 10) (take result bytes.now) }
     ensures found { result < length bytes.now → slice_index bytes.now result ≡ 10 }
 {
-    for (i, byte) in bytes.iter().enumerate() {
-        if *byte == b'\n' {
-            return i;
-        }
+    match memchr(b'\n', bytes) {
+        Some(place) => place,
+        None => bytes.len(),
     }
-    bytes.len()
 }
 
 // Holds the bytes too, if they fit.
