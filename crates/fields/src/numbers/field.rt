@@ -52,12 +52,21 @@ pub(crate) const STATE_TOP: u8 = 13;
 
 pub(crate) const TTL_TOP: u8 = 255;
 
-// What belongs to a field.
-#[derive(Clone, Copy)]
-struct FieldRow {
-    top: u128,
-    name: &'static [u8],
-}
+// The table of fields, in the order of `Field::ALL`: the greatest value and the name of each.
+static ROWS: [(u128, &[u8]); FIELDS] = [
+    (ADDRESS_TOP, b"src"),
+    (ADDRESS_TOP, b"dst"),
+    (INTERFACE_TOP, b"in"),
+    (INTERFACE_TOP, b"out"),
+    (PROTOCOL_TOP, b"proto"),
+    (FRAGMENT_TOP, b"frag"),
+    (PORT_TOP, b"sport"),
+    (PORT_TOP, b"dport"),
+    (FLAGS_TOP as u128, b"flags"),
+    (ICMP_TOP, b"icmp"),
+    (STATE_TOP as u128, b"ct"),
+    (TTL_TOP as u128, b"ttl"),
+];
 
 impl Field {
     ghost use Rattle.fields.specs.numbers.Field.{row_of, index, top, name};
@@ -78,39 +87,25 @@ impl Field {
         Field::TimeToLive,
     ];
 
-    fn row(self) -> FieldRow
-        ensures top { result.top ≡ (row_of self).top }
-        ensures name { result.name.now ≡ (row_of self).name }
+    fn row(self) -> (u128, &'static [u8])
+        ensures top { result.0 ≡ (row_of self).top }
+        ensures name { result.1.now ≡ (row_of self).name }
     {
-        let (top, name): (u128, &'static [u8]) = match self {
-            Field::Source => (ADDRESS_TOP, b"src"),
-            Field::Destination => (ADDRESS_TOP, b"dst"),
-            Field::InIface => (INTERFACE_TOP, b"in"),
-            Field::OutIface => (INTERFACE_TOP, b"out"),
-            Field::Protocol => (PROTOCOL_TOP, b"proto"),
-            Field::Fragment => (FRAGMENT_TOP, b"frag"),
-            Field::SourcePort => (PORT_TOP, b"sport"),
-            Field::DestinationPort => (PORT_TOP, b"dport"),
-            Field::TcpFlags => (FLAGS_TOP as u128, b"flags"),
-            Field::IcmpType => (ICMP_TOP, b"icmp"),
-            Field::ConnectionState => (STATE_TOP as u128, b"ct"),
-            Field::TimeToLive => (TTL_TOP as u128, b"ttl"),
-        };
-        FieldRow { top, name }
+        ROWS[self as usize]
     }
 
     /// The greatest value that a packet can have on the field.
     pub fn top(self) -> u128
         ensures { result ≡ top self }
     {
-        self.row().top
+        self.row().0
     }
 
     /// The field's short name, which is its key on a packet line.
     pub fn name(self) -> &'static [u8]
         ensures { result.now ≡ name self }
     {
-        self.row().name
+        self.row().1
     }
 
     /// The field's place in `Field::ALL`.
