@@ -1,5 +1,5 @@
 -- The code cuts a line into the words of the line.
-use Rattle.std.proofs.Common.{◌≡◌, ◌≢◌, ℕ, ◌<◌, ◌≤◌, Bool, length, take, drop, arith, length-drop, ap₂, true, List, [], ◌∷◌, ◌++◌, Option, Some, None, option_and_then, refl, sym, ap, ◌∙◌, append_assoc, append-nil}
+use Rattle.std.proofs.Common.{◌≡◌, ◌≢◌, ℕ, ◌<◌, ◌≤◌, length, take, drop, arith, length-drop, ap₂, true, List, [], ◌∷◌, ◌++◌, Option, Some, None, option_and_then, refl, sym, ap, ◌∙◌, append_assoc, append-nil}
 use Rattle.std.specs.Option.{option_map}
 use Rattle.fields.specs.text.Words.{Place, Between, Bare, Quoted, Escaped, Closed, Act, Skips, Joins, Ends, Breaks, act_of, is_bare, in_front, acted, words_from, words_of}
 use Rattle.std.proofs.lemmas.List.{take-append-drop, length-take-le}

@@ -1,4 +1,4 @@
-use Rattle.std.proofs.Common.{◌≡◌, ap, drop, length, arith, rules}
+use Rattle.std.proofs.Common.{ap, arith}
 use Rattle.std.proofs.lemmas.List.{take_rest}
 use Rattle.fields.specs.text.Words.{Bare}
 use Rattle.fields.specs.steps.Cutting.{placed, view_cutting}

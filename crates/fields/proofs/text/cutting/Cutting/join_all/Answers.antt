@@ -1,4 +1,4 @@
-use Rattle.std.proofs.Common.{◌≡◌, true, is_ok, [], ◌∷◌, rules}
+use Rattle.std.proofs.Common.{◌≡◌, true, is_ok, rules}
 use Rattle.fields.specs.steps.Cutting.{view_place}
 use Rattle.fields.proofs.laws.text.WordEndsLaws.{rise-pushed, cut-joined}
 use Rattle.fields.proofs.text.cutting.Cutting.join_all.Goals as goal

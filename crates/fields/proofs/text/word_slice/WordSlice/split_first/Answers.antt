@@ -1,4 +1,4 @@
-use Rattle.std.proofs.Common.{arith, length, drop}
+use Rattle.std.proofs.Common.{arith, length}
 use Rattle.fields.proofs.laws.text.WordEndsLaws.{rise-at}
 use Rattle.fields.proofs.text.word_slice.WordSlice.split_first.Goals as goal
 

@@ -1,7 +1,6 @@
 use Rattle.std.proofs.Common.{[], subst}
 use Rattle.std.proofs.lemmas.Option.{get_or_from_slice_get}
 use Rattle.fields.specs.text.OneLine.{IsOneLine}
-use Rattle.fields.specs.text.WordSlice.{words_in}
 use Rattle.fields.proofs.text.words.Words.get.Goals as goal
 
 pub returns-clause-one_line : goal.returns-clause-one_line
