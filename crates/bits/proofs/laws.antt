@@ -1,6 +1,7 @@
 pub mod BitLaws
 pub mod GetLaws
 pub mod MarkLaws
+pub mod MoveLaws
 pub mod PaddedLaws
 pub mod PlaceLaws
 pub mod RowLaws

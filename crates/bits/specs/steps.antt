@@ -1,5 +1,6 @@
 pub mod First
 pub mod Held
+pub mod Moves
 pub mod Packing
 pub mod Shifts
 pub mod Summaries

@@ -2,12 +2,14 @@
 #![tactic(auto)]
 
 mod bit_row;
+mod moves;
 mod rows;
 mod sparse;
 mod summary;
 mod words;
 
 pub use bit_row::{BitRow, MOST_BITS};
+pub use moves::insert_at;
 pub use rows::Rows;
 pub use summary::{is_marked, next_marked};
 pub use words::bit_at;

@@ -9,6 +9,7 @@ ghost use Rattle.bits.specs.steps.Shifts.{Shifts};
 ghost use Rattle.bits.specs.steps.Summaries.{IsSummaryOf, SumUp};
 
 use crate::bit_row::MOST_WORDS;
+use crate::moves::insert_at;
 use crate::sparse::{Way, shift};
 use crate::summary::{is_marked, marked};
 use crate::words::{bit_at, same_bits, set_bit};
@@ -157,19 +158,6 @@ impl Model for Rows {
 }
 
 impl Rows {
-    /// No row: it takes no memory.
-    pub fn bare(alloc: Global) -> Rows
-        ensures { result.rows ≡ [] }
-    {
-        Rows {
-            len: 0,
-            width: 0,
-            slots: Vec::new(alloc),
-            summaries: Vec::new(alloc),
-            words: Vec::new(alloc),
-        }
-    }
-
     /// One row without a bit.
     ///
     /// # Errors
@@ -290,7 +278,7 @@ impl Rows {
         let from = self.slots[row] as usize;
         let start = from * self.width;
         self.words.extend_from_within(start..start + self.width)?;
-        let _ = self.slots.insert(row + 1, slot);
+        let _ = insert_at(&mut self.slots, row + 1, slot);
         let _ = self.summaries.push(self.summaries[from]);
         Ok(())
     }

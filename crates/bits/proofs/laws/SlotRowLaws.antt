@@ -1,8 +1,7 @@
 -- Rows of equally many bits as they are held: a row more, and a row less.
-use Rattle.std.proofs.Common.{◌≡◌, ◌≢◌, inl, inr, ℕ, ◌+◌, ◌-◌, ◌*◌, ◌^◌, ◌<◌, ◌≤◌, Bool, List, [], ◌++◌, length, take, drop, get_or, sym, ◌∙◌, ap, arith, subst, map, length-append}
+use Rattle.std.proofs.Common.{◌≡◌, ◌≢◌, OnOk, IsOk, Ok, Err, Result, inl, inr, ℕ, ◌+◌, ◌-◌, ◌*◌, ◌^◌, ◌<◌, ◌≤◌, Bool, List, [], ◌++◌, length, take, drop, get_or, sym, ◌∙◌, ap, arith, subst, map, length-append}
 use Rattle.std.specs.List.{insert, remove}
-use Rattle.std.specs.Prelude.{cond, true}
-use Rattle.std.proofs.lemmas.Bool.{cases_lt, cases_eq}
+use Rattle.std.proofs.lemmas.Bool.{cases_lt, cases_eq, false≢true}
 use Rattle.std.proofs.lemmas.List.{length-take-le, length-drop, length-map, take_at, drop_at, take_all, take-append-le, drop-append-le, drop-take, take-take}
 use Rattle.std.proofs.lemmas.List.Edits.{length-insert, length-remove}
 use Rattle.bits.specs.steps.Packing.{all_bits}
@@ -178,8 +177,13 @@ taken_shown len w slots ws k s last us slots' ws' h =
 
 -- ---- what a vector leaves where it has room
 
-pub inserted : (new now old : List ℕ) (k x y : ℕ) (b : Bool) → now ≡ old → x ≡ y → new ≡ cond b (insert now k x) now → b ≡ true → new ≡ insert old k y
-inserted new now old k x y b same is e t = e ∙ ap (λ (c : Bool). cond c (insert now k x) now) t ∙ ap (λ (ss : List ℕ). insert ss k x) same ∙ ap (λ z. insert old k z) is
+pub inserted : (new now old : List ℕ) (k x y : ℕ) → now ≡ old → x ≡ y → new ≡ insert now k x → new ≡ insert old k y
+inserted new now old k x y same is e = e ∙ ap (λ (ss : List ℕ). insert ss k x) same ∙ ap (λ z. insert old k z) is
+
+-- what is said of a call that returned a value
+pub on_ok : {T E P : Type 0} (r : Result T E) → OnOk r P → IsOk r → P
+on_ok (Ok x) h i = h
+on_ok (Err e) h i = absurd (false≢true i)
 
 -- ---- the last row moved
 
