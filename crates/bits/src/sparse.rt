@@ -19,6 +19,7 @@ pub(crate) enum Way {
 }
 
 // The next of so many words, from one on, that a bit moves into or that may have one: where none moves on, blank words stay.
+// The second word of a pair, whose summary is that of the first, is looked at without a search.
 fn next_up(summary: u64, carry: bool, start: usize, words: usize) -> usize
     requires few { words < 2 ^ 58 }
     requires within { start ≤ words }
@@ -27,7 +28,7 @@ fn next_up(summary: u64, carry: bool, start: usize, words: usize) -> usize
     ensures none { Nowhere (IsMarked summary) start result }
     ensures next { carry ≡ true → result ≡ start }
 {
-    if carry {
+    if carry || start % 2 == 1 {
         return start;
     }
     next_marked(summary, start, words)
@@ -72,7 +73,7 @@ fn word_at(words: &[u64], place: usize) -> u64
     }
 }
 
-// The next word, from one on, that a bit moves into or that may have one.
+// The next word, from one on, that a bit moves into or that may have one; the second word of a pair without a search.
 fn next_down(words: &[u64], summary: u64, start: usize) -> usize
     requires few { length words.now < 2 ^ 58 }
     requires within { start ≤ length words.now }
@@ -81,6 +82,9 @@ fn next_down(words: &[u64], summary: u64, start: usize) -> usize
     ensures high { result ≤ length words.now }
     ensures blank { StayBlank words.now start result }
 {
+    if start % 2 == 1 {
+        return start;
+    }
     let next = next_marked(summary, start, words.len());
     if start < next && word_at(words, next) % 2 == 1 {
         return next - 1;
@@ -131,7 +135,8 @@ fn shift_dense(words: &mut [u64], at: usize, way: Way)
     }
 }
 
-/// Moves the bits from a place on, from word to word. The summary fits the words before and after.
+/// Moves the bits from a place on, from word to word. The summary fits the words before and after. Words without a bit stay
+/// as they are.
 pub(crate) fn shift(words: &mut [u64], summary: &mut u64, at: usize, way: Way)
     requires few { length words.old < 2 ^ 58 }
     requires place { at < 64 * length words.old }
@@ -139,6 +144,9 @@ pub(crate) fn shift(words: &mut [u64], summary: &mut u64, at: usize, way: Way)
     ensures shifted { Shifts way at words.old words.new }
     ensures summed { IsSummaryOf summary.new (all_bits words.new) }
 {
+    if *summary == 0 {
+        return;
+    }
     if is_dense(*summary, words.len()) {
         *summary = kept(u64::MAX, words.len());
         shift_dense(words, at, way);

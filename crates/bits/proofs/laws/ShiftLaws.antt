@@ -3,13 +3,16 @@ use Rattle.std.proofs.Common.{◌≡◌, ◌≢◌, inl, inr, ℕ, zero, suc, �
 use Rattle.std.specs.List.{insert, remove}
 use Rattle.std.proofs.Math.ListN.{set}
 use Rattle.std.proofs.lemmas.Bool.{cases_Bool, cases_lt, cases_eq, true≢false}
-use Rattle.std.proofs.lemmas.List.{drop_more, take_more_set, drop-set-lt, length-take-le, take_all, drop_all, length-set, set-get_or, get_or-set_same, get_or-set_other, get_or_default, get_or_past}
+use Rattle.std.proofs.lemmas.List.{get_or-drop, length-drop, take-append-drop, drop_more, take_more_set, drop-set-lt, length-take-le, take_all, drop_all, length-set, set-get_or, get_or-set_same, get_or-set_other, get_or_default, get_or_past}
 use Rattle.std.proofs.lemmas.List.Edits.{remove-append_left, remove-append_right}
 use Rattle.std.specs.Int.{bit_at}
 use Rattle.std.specs.Prelude.{bit_and}
 use Rattle.std.proofs.lemmas.Nat.{one_shl}
-use Rattle.std.proofs.lemmas.Nat.Bits.{bit_at_and, bit_at_ones}
+use Rattle.std.proofs.lemmas.Nat.Bits.{bit_at_and, bit_at_ones, bit_at-zero}
 use Rattle.bits.specs.steps.First.{Nowhere}
+use Rattle.bits.specs.declared.sparse.Way.{Way}
+use Rattle.bits.specs.declared.sparse.Way.TheVariants as way
+use Rattle.bits.specs.steps.Shifts.{Shifts}
 use Rattle.bits.specs.steps.Packing.{low_bit, word_bits, all_bits}
 use Rattle.bits.specs.steps.Summaries.{IsMarked, IsSummaryOf, IsBlank, HidesNoWord, StayBlank}
 use Rattle.bits.proofs.laws.BitLaws.{length-word_bits}
@@ -23,6 +26,12 @@ AreOff bits = All (λ (b : Bool). b ≡ false) bits
 
 off_after : (x : Bool) (xs : List Bool) → AreOff (x ∷ xs) → AreOff xs
 off_after x xs h k d lt = h (suc k) d (omega arith)
+
+off_rest : (xs : List Bool) (n : ℕ) → AreOff xs → AreOff (drop n xs)
+off_rest xs n h k d lt = get_or-drop n xs k d ∙ h (n + k) d (omega (arith, lt, length-drop n xs))
+
+nothing_marked : (i : ℕ) → bit_at 0 i ≡ 1 → ⊥
+nothing_marked i e = omega (arith, e, bit_at-zero i)
 
 -- bits that are all off look the same with one more at either end
 off_end : (xs : List Bool) → AreOff xs → xs ++ false ∷ [] ≡ false ∷ xs
@@ -55,6 +64,34 @@ blank_out w h =
     let rest : List Bool = drop 1 (word_bits 64 w) in
     let off : AreOff (low_bit w ∷ rest) = subst P (word_first w) h in
     word_first w ∙ ap (λ b. b ∷ rest) (blank_low w h) ∙ sym (off_end rest (off_after (low_bit w) rest off))
+
+-- ---- rows without a bit
+
+off_insert : (xs : List Bool) (at : ℕ) → AreOff xs → xs ++ false ∷ [] ≡ insert xs at false
+off_insert xs at h =
+    ap (λ (ys : List Bool). ys ++ false ∷ []) (sym (take-append-drop at xs)) ∙ append_assoc (take at xs) (drop at xs) (false ∷ [])
+    ∙ ap (λ (ys : List Bool). take at xs ++ ys) (off_end (drop at xs) (off_rest xs at h))
+
+off_remove : (xs : List Bool) (at : ℕ) → at < length xs → AreOff xs → xs ≡ remove xs at ++ false ∷ []
+off_remove xs at lt h =
+    let off : get_or xs at false ≡ false = h at false lt in
+    let next : at + 1 ≡ suc at = omega arith in
+    sym (take-append-drop at xs) ∙ ap (λ (ys : List Bool). take at xs ++ ys) (drop_more xs at false lt)
+    ∙ ap (λ b. take at xs ++ b ∷ drop (at + 1) xs) off
+    ∙ ap (λ (ys : List Bool). take at xs ++ ys) (sym (off_end (drop (at + 1) xs) (off_rest xs (at + 1) h)))
+    ∙ sym (append_assoc (take at xs) (drop (at + 1) xs) (false ∷ []))
+    ∙ ap (λ n. (take at xs ++ drop n xs) ++ false ∷ []) next
+
+-- a row whose summary has no bit has none
+off_by_summary : (bits : List Bool) → IsSummaryOf 0 bits → AreOff bits
+off_by_summary bits h k d lt = elim (cases_Bool (get_or bits k false)) [
+  | inl on ↦ absurd (nothing_marked (k / 64 / 2 % 64) (h k on))
+  | inr off ↦ get_or_default bits k d false lt ∙ off
+]
+
+pub blank_shifts : (way : Way) (at : ℕ) (ws : List ℕ) → at < 64 * length ws → IsSummaryOf 0 (all_bits ws) → Shifts way at ws ws
+blank_shifts way.In at ws lt h = (false, off_insert (all_bits ws) at (off_by_summary (all_bits ws) h))
+blank_shifts way.Out at ws lt h = off_remove (all_bits ws) at (omega (arith, length-all_bits ws)) (off_by_summary (all_bits ws) h)
 
 -- ---- what a summary says of words
 

@@ -4,6 +4,7 @@ ghost use Rattle.std.specs.Prelude.{ℕ, ◌≡◌, ◌<◌, ◌≤◌, ◌+◌,
 ghost use Rattle.std.specs.List.Sorted.{IsNonDecreasingBy};
 
 use crate::line::places;
+use bits::insert_at;
 use std::alloc::{AllocError, Global};
 use std::marker::Model;
 
@@ -78,11 +79,11 @@ impl Starts {
         let narrow = self.narrow.len();
         if k < narrow {
             let _after = self.narrow[k];
-            self.narrow.insert(k, x as u32)?;
+            insert_at(&mut self.narrow, k, x as u32)?;
             return Ok(());
         }
         if k == narrow && x <= u128::from(u32::MAX) {
-            self.narrow.insert(k, x as u32)?;
+            insert_at(&mut self.narrow, k, x as u32)?;
             return Ok(());
         }
         self.wide.insert(k - narrow, x)?;
