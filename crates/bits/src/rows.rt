@@ -85,6 +85,24 @@ fn shift_all(words: &mut Vec<u64>, summaries: &mut Vec<u64>, width: usize, at: u
     }
 }
 
+// Writes a 1 at a place of each row of so many words, as they are lent: so the loop needn't ask a vector where they are.
+fn mark_each(words: &mut [u64], summaries: &mut [u64], width: usize, at: usize)
+    requires place { at < 64 * width }
+    requires whole { length words.old ≡ length summaries.old * width }
+    requires summed { SumUp width summaries.old words.old (length summaries.old) }
+    ensures len { length words.new ≡ length words.old }
+    ensures rows { EachSlot (Gains at) width words.old words.new (length summaries.old) }
+    ensures counted { length summaries.new ≡ length summaries.old }
+    ensures summed { SumUp width summaries.new words.new (length summaries.old) }
+{
+    for slot in 0..summaries.len() {
+        let place = slot * width + at / 64;
+        let word = words[place];
+        words[place] = set_bit(word, (at % 64) as u32, true);
+        summaries[slot] = marked(summaries[slot], at / 64, true);
+    }
+}
+
 // Writes a 1 at a place of each row of so many words.
 fn mark_all(words: &mut Vec<u64>, summaries: &mut Vec<u64>, width: usize, at: usize)
     requires place { at < 64 * width }
@@ -95,12 +113,7 @@ fn mark_all(words: &mut Vec<u64>, summaries: &mut Vec<u64>, width: usize, at: us
     ensures counted { length summaries.new.items ≡ length summaries.old.items }
     ensures summed { SumUp width summaries.new.items words.new.items (length summaries.old.items) }
 {
-    for slot in 0..summaries.len() {
-        let place = slot * width + at / 64;
-        let word = words[place];
-        words[place] = set_bit(word, (at % 64) as u32, true);
-        summaries[slot] = marked(summaries[slot], at / 64, true);
-    }
+    mark_each(words.as_mut_slice(), summaries.as_mut_slice(), width, at);
 }
 
 // The words of so many rows, each with words of zeros after it.

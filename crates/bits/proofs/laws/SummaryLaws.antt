@@ -5,7 +5,7 @@ use Rattle.std.specs.Int.{bit_at, w64}
 use Rattle.std.proofs.Math.ListN.{set}
 use Rattle.std.proofs.Math.Seq.{take-set-lt}
 use Rattle.std.proofs.lemmas.Bool.{cases_lt, cases_eq, true≢false}
-use Rattle.std.proofs.lemmas.List.{get_or-take, get_or_append_left, get_or-append_right, get_or_past, length-take, get_or-set_same, get_or-set_other, get_or_read, drop-set-lt, length-set, length-append, length-take-le}
+use Rattle.std.proofs.lemmas.List.{get_or-take, get_or_append_left, get_or-append_right, get_or_past, length-take, get_or-set_same, get_or-set_other, get_or_read, get_or_default, drop-set-lt, length-set, length-append, length-take-le}
 use Rattle.std.proofs.lemmas.List.Elements.{All-get_or, All-same}
 use Rattle.std.proofs.lemmas.Nat.Bits.{bit_at_set_same, bit_at_set_other}
 use Rattle.bits.specs.steps.Packing.{all_bits, word_bits}
@@ -117,13 +117,18 @@ pub record ChangedAndSummed (R : List ℕ → List ℕ → Type 0) (w n : ℕ) (
   pub counted : length ss ≡ n
   pub summed : SumUp w ss now n
 
-pub marked_more : (at w n : ℕ) (old now ss : List ℕ) (s v word x y : ℕ) → ChangedAndSummed (Gains at) w n old now ss s → length old ≡ n * w → s < n → at < 64 * w → word ≡ get_or now (s * w + at / 64) word → word_bits 64 v ≡ set (word_bits 64 word) (at % 64) true
-    → y ≡ get_or ss s y → ((k : ℕ) → IsMarked y k → IsMarked x k) → IsMarked x (at / 64) → ChangedAndSummed (Gains at) w n old (set now (s * w + at / 64) v) (set ss s x) (s + 1)
-marked_more at w n old now ss s v word x y h size lt in' read bits was kept more =
+pub marked_more : (at w n : ℕ) (old now ss : List ℕ) (s v x : ℕ) → ChangedAndSummed (Gains at) w n old now ss s → length old ≡ n * w → s < n → at < 64 * w
+    → word_bits 64 v ≡ set (word_bits 64 (get_or now (s * w + at / 64) 0)) (at % 64) true
+    → ((k : ℕ) → IsMarked (get_or ss s 0) k → IsMarked x k) → IsMarked x (at / 64) → ChangedAndSummed (Gains at) w n old (set now (s * w + at / 64) v) (set ss s x) (s + 1)
+marked_more at w n old now ss s v x h size lt in' bits kept more =
+    let word : ℕ = get_or now (s * w + at / 64) 0 in
+    let y : ℕ = get_or ss s 0 in
     let size' : length now ≡ n * w = h.changed.as_long ∙ size in
     let q : at / 64 < w = omega arith in
     let long : length (words_in w now s) ≡ w = length-words_in w n s now size' lt in
-    let word' : word ≡ get_or (words_in w now s) (at / 64) word = read ∙ sym (word_in w s (at / 64) word now q) in
+    let word' : word ≡ get_or (words_in w now s) (at / 64) word = sym (word_in w s (at / 64) 0 now q) ∙ get_or_default (words_in w now s) (at / 64) 0 word (omega (arith, long, q)) in
+    let read : word ≡ get_or now (s * w + at / 64) word = word' ∙ word_in w s (at / 64) word now q in
+    let was : y ≡ get_or ss s y = get_or_default ss s 0 y (omega (arith, h.counted, lt)) in
     record {
       changed = changed_by (Gains at) w n old now (set now (s * w + at / 64) v) (set (words_in w now s) (at / 64) v) s h.changed lt (length-set now (s * w + at / 64) v)
           (set_whole (words_in w now s) at v word true (omega arith) word' bits) (word_set_here w s (at / 64) v now q) (λ t lt' ne. word_set_other w n s t (at / 64) v now size' lt lt' ne q);

@@ -26,11 +26,13 @@ pub record IsSound (top n : ℕ) (line : PiecesAndRoom) : Type 0 where
   pub differ : Differ line.pieces
   pub bits : row_bits line.pieces ≡ n
 
--- ---- a line has one proof that it is one
+-- ---- a line has one proof that it is one, since each part of that has one
 
+-- an equation of numbers
 equal_prop : (a b : ℕ) → IsProp (a ≡ b)
 equal_prop a b = Coded-set coded_ℕ a b
 
+-- that pieces rise, after a number or from 0
 rising_from_prop : (top a : ℕ) (ps : List (ℕ × List Bool)) → IsProp (IsRisingFrom top a ps)
 rising_from_prop top a [] = Unit-prop
 rising_from_prop top a (p ∷ ps) = λ g h i. (le_prop g.0 h.0 i, le_prop g.1 h.1 i, rising_from_prop top p.0 ps g.2 h.2 i)
@@ -39,10 +41,12 @@ rising_prop : (top : ℕ) (line : List (ℕ × List Bool)) → IsProp (IsRising 
 rising_prop top [] = λ h _. absurd h
 rising_prop top (p ∷ ps) = ×_prop (equal_prop p.0 0) (rising_from_prop top 0 ps)
 
+-- that each row has so many bits
 each_row_prop : (n : ℕ) (line : List (ℕ × List Bool)) → IsProp (EachRow n line)
 each_row_prop n [] = Unit-prop
 each_row_prop n (p ∷ ps) = ×_prop (equal_prop (length p.1) n) (each_row_prop n ps)
 
+-- that pieces and a room are a line: all three parts of it
 pub line_prop : (pieces : List (ℕ × List Bool)) (room : ℕ) → IsProp (IsLine pieces room)
 line_prop pieces room = λ g h i.
     record {
@@ -51,6 +55,7 @@ line_prop pieces room = λ g h i.
       whole = equal_prop ((row_bits pieces + room) % 64) 0 g.whole h.whole i;
     }
 
+-- how pieces and a room are stored
 abbrev data_code : Coded (List (ℕ × List Bool) × ℕ)
 data_code = coded× (coded_list (coded× coded_ℕ (coded_list coded_bool))) coded_ℕ
 
