@@ -8,7 +8,7 @@ ghost use Rattle.bits.specs.steps.Shifts.{Shifts};
 ghost use Rattle.bits.specs.steps.Summaries.{IsMarked, IsSummaryOf, HidesNoWord, StayBlank};
 
 use crate::summary::{kept, marked, next_marked};
-use crate::words::{insert_bit, remove_bit, shift_down, shift_in, shift_out, shift_up};
+use crate::words::{insert_bit, remove_bit, shift_down, shift_in, shift_out, shift_up, word_at};
 
 /// How the bits from a place on move: a 0 comes in there and the later ones move up, so that the last falls out; or the bit
 /// goes out and they move down, and a 0 comes in last.
@@ -61,16 +61,6 @@ fn take_in_marked(words: &mut [u64], summary: &mut u64, at: usize)
         k = next_up(old, below >> 63 == 1, k + 1, words.len());
     }
     *summary = new;
-}
-
-// The word at a place, or 0 past the last.
-fn word_at(words: &[u64], place: usize) -> u64
-    ensures { result ≡ slice_index words.now place }
-{
-    match words.get(place) {
-        Some(word) => *word,
-        None => 0,
-    }
 }
 
 // The next word, from one on, that a bit moves into or that may have one; the second word of a pair without a search.

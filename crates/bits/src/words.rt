@@ -1,6 +1,6 @@
 //! Bits moved within words and from word to word.
 
-ghost use Rattle.std.specs.Prelude.{◌≡◌, ◌++◌, ◌∷◌, [], ◌<◌, ◌≤◌, ◌*◌, length, false, insert, remove, slice_set, slice_index_or, take, ℕ, IsTrue, ◌↔◌};
+ghost use Rattle.std.specs.Prelude.{◌≡◌, ◌++◌, ◌∷◌, [], ◌<◌, ◌≤◌, ◌*◌, length, false, insert, remove, slice_set, slice_index, slice_index_or, take, ℕ, IsTrue, ◌↔◌};
 ghost use Rattle.bits.specs.steps.Packing.{word_bits, all_bits, low_bit, top_bit, IsPacked};
 
 /// The bit at a place of some words.
@@ -91,19 +91,30 @@ pub(crate) fn shift_in(words: &mut [u64], at: usize, bit: bool) -> bool
     below >> 63 == 1
 }
 
-// Takes the bit at a place out: the later bits move down, from word to word, and a 0 comes in last.
+// The word at a place, or 0 past the last.
+pub(crate) fn word_at(words: &[u64], place: usize) -> u64
+    ensures { result ≡ slice_index words.now place }
+{
+    match words.get(place) {
+        Some(word) => *word,
+        None => 0,
+    }
+}
+
+// Takes the bit at a place out: the later bits move down, from word to word, and a 0 comes in last. Each word is made of two
+// that stand as before, so that the compiler moves several at once.
 pub(crate) fn shift_out(words: &mut [u64], at: usize)
     requires { at < 64 * length words.old }
     ensures { all_bits words.new ≡ remove (all_bits words.old) at ++ false ∷ [] }
 {
     let first = at / 64;
-    let mut above = 0;
-    let mut k = words.len() - 1;
-    while k > first {
-        let word = words[k];
-        words[k] = shift_down(word, above);
-        above = word;
-        k -= 1;
-    }
+    let above = word_at(words, first + 1);
     words[first] = remove_bit(words[first], (at % 64) as u32, above % 2 == 1);
+    let last = words.len() - 1;
+    for k in first + 1..last {
+        words[k] = shift_down(words[k], words[k + 1]);
+    }
+    if first < last {
+        words[last] = shift_down(words[last], 0);
+    }
 }

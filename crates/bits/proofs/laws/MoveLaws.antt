@@ -1,8 +1,8 @@
 -- Elements moved up, block by block.
-use Rattle.std.proofs.Common.{◌≡◌, ℕ, suc, ◌+◌, ◌-◌, ◌<◌, ◌≤◌, List, [], ◌∷◌, ◌++◌, length, take, drop, get_or, refl, sym, ◌∙◌, ap, arith, length-append, take-add}
+use Rattle.std.proofs.Common.{◌≡◌, ℕ, ◌+◌, ◌-◌, ◌<◌, ◌≤◌, List, [], ◌∷◌, ◌++◌, length, take, drop, get_or, refl, sym, ◌∙◌, ap, arith, length-append, take-add}
 use Rattle.std.proofs.Math.ListN.{set}
 use Rattle.std.specs.List.{insert}
-use Rattle.std.proofs.lemmas.List.{take-append-drop, length-take-le, take-take, take-set, drop-set, drop_all, drop-drop, drop-take, take_at, drop_at, drop_more, length-set, take-append-le, drop-append-le, length-drop, take-set-le, drop-set-lt}
+use Rattle.std.proofs.lemmas.List.{take-append-drop, length-take-le, take-take, take-set, drop-set, drop_all, drop-drop, drop-take, take_at, drop_at, drop_more, length-set, take-append-le, drop-append-le, length-drop}
 use Rattle.std.proofs.lemmas.Simd.{put_chunk_is, length-chunk, length-put_chunk}
 use lib.Lanes.{chunk, put_chunk}
 use Rattle.bits.specs.steps.Moves.{Raised}

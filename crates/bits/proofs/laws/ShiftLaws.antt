@@ -354,3 +354,26 @@ full_sums_up summary n ws size h p on =
       | inl lt ↦ h (p / 64) (omega (arith, length-all_bits ws, size)) (bit_at_ones 64 (p / 64 / 2 % 64) (omega arith))
       | inr ge ↦ absurd (true≢false (sym on ∙ get_or_past (all_bits ws) p false ge))
     ]
+
+-- ---- all words moved, whatever a summary says
+
+full_mark : (k : ℕ) → IsMarked (2 ^ 64 - 1) k
+full_mark k = bit_at_ones 64 (k / 2 % 64) (omega arith)
+
+pub all_fallen_first : (ws : List ℕ) (at w : ℕ) → at < 64 * length ws → word_bits 64 w ≡ remove (word_bits 64 (get_or ws (at / 64) 0)) (at % 64) ++ low_bit (get_or ws (at / 64 + 1) 0) ∷ []
+    → Fallen ws at (set ws (at / 64) w) (at / 64 + 1) (2 ^ 64 - 1)
+all_fallen_first ws at w lt e = fallen_first ws at w (2 ^ 64 - 1) (2 ^ 64 - 1) lt (λ k below none. absurd (none (full_mark k))) e (λ j m. m) (λ ne. full_mark (at / 64))
+
+pub all_fallen_more : (ws : List ℕ) (at : ℕ) (us : List ℕ) (k w : ℕ) → Fallen ws at us k (2 ^ 64 - 1) → k < length us
+    → word_bits 64 w ≡ remove (word_bits 64 (get_or us k 0)) 0 ++ low_bit (get_or us (k + 1) 0) ∷ [] → Fallen ws at (set us k w) (k + 1) (2 ^ 64 - 1)
+all_fallen_more ws at us k w h lt e = fallen_more ws at us k w (2 ^ 64 - 1) (2 ^ 64 - 1) h lt e (λ j m. m) (λ ne. full_mark k)
+
+-- the last word, into which nothing comes
+pub all_fallen_last : (ws : List ℕ) (at : ℕ) (us : List ℕ) (k i w : ℕ) → Fallen ws at us k (2 ^ 64 - 1) → k ≡ i → i + 1 ≡ length us
+    → word_bits 64 w ≡ remove (word_bits 64 (get_or us i 0)) 0 ++ low_bit 0 ∷ [] → all_bits (set us i w) ≡ remove (all_bits ws) at ++ false ∷ []
+all_fallen_last ws at us k i w h is last e =
+    let F : ℕ → Type 0 = λ j. Fallen ws at us j (2 ^ 64 - 1) in
+    let past : get_or us (i + 1) 0 ≡ 0 = get_or_past us (i + 1) 0 (omega arith) in
+    fallen_all ws at (set us i w) (i + 1) (2 ^ 64 - 1)
+    (all_fallen_more ws at us i w (subst F is h) (omega arith) (e ∙ ap (λ v. remove (word_bits 64 (get_or us i 0)) 0 ++ low_bit v ∷ []) (sym past)))
+    (omega (arith, length-set us i w))

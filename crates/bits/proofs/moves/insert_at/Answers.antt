@@ -1,5 +1,5 @@
-use Rattle.std.proofs.Common.{◌≡◌, ℕ, ◌+◌, ◌-◌, ◌∙◌, ◌++◌, ◌∷◌, [], List, length, take, drop, sym, ap, subst, arith, rules, slice_set}
-use Rattle.bits.proofs.laws.MoveLaws.{HasGap, filled_one}
+use Rattle.std.proofs.Common.{◌≡◌, ℕ, ◌+◌, ◌-◌, ◌∙◌, ◌++◌, ◌∷◌, [], List, length, take, drop, ap, subst, rules, slice_set}
+use Rattle.bits.proofs.laws.MoveLaws.{filled_one}
 use Rattle.bits.proofs.laws.SlotRowLaws.{all_written}
 use Rattle.bits.proofs.moves.insert_at.Goals as goal
 
