@@ -1,6 +1,6 @@
 //! Bits moved within the words that a summary has: words without a bit are passed over.
 
-ghost use Rattle.std.specs.Prelude.{◌≡◌, ◌<◌, ◌≤◌, ◌*◌, ◌^◌, length, true, slice_index};
+ghost use Rattle.std.specs.Prelude.{◌≡◌, ◌≢◌, ◌<◌, ◌≤◌, ◌*◌, ◌/◌, ◌%◌, ◌^◌, length, true, slice_index};
 ghost use Rattle.bits.specs.steps.First.{Nowhere};
 ghost use Rattle.bits.specs.steps.Held.{TakesIn, GivesUp};
 ghost use Rattle.bits.specs.steps.Packing.{all_bits};
@@ -27,6 +27,7 @@ fn next_up(summary: u64, carry: bool, start: usize, words: usize) -> usize
     ensures high { result ≤ words }
     ensures none { Nowhere (IsMarked summary) start result }
     ensures next { carry ≡ true → result ≡ start }
+    ensures pairs { start % 2 ≡ 0 → words % 2 ≡ 0 → result % 2 ≡ 0 }
 {
     if carry || start % 2 == 1 {
         return start;
@@ -63,7 +64,50 @@ fn take_in_marked(words: &mut [u64], summary: &mut u64, at: usize)
     *summary = new;
 }
 
-// The next word, from one on, that a bit moves into or that may have one; the second word of a pair without a search.
+// Whether one of two words has a bit.
+fn has_either(low: u64, high: u64) -> bool
+    ensures low { low ≢ 0 → result ≡ true }
+    ensures high { high ≢ 0 → result ≡ true }
+{
+    low != 0 || high != 0
+}
+
+// The same pair by pair, from the first word of a pair on: so a pair costs one search and one mark.
+fn take_in_pairs(words: &mut [u64], summary: &mut u64, at: usize)
+    requires few { length words.old < 2 ^ 58 }
+    requires place { at < 64 * length words.old }
+    requires pairs { length words.old % 2 ≡ 0 }
+    requires first { at / 64 % 2 ≡ 0 }
+    requires summed { IsSummaryOf summary.old (all_bits words.old) }
+    ensures taken { TakesIn at words.old words.new }
+    ensures summed { IsSummaryOf summary.new (all_bits words.new) }
+{
+    let first = at / 64;
+    let old = *summary;
+    let low = words[first];
+    let mut below = words[first + 1];
+    let moved = insert_bit(low, (at % 64) as u32, false);
+    let above = shift_up(below, low);
+    words[first] = moved;
+    words[first + 1] = above;
+    let mut new = marked(kept(old, first), first, has_either(moved, above));
+    let mut k = next_up(old, below >> 63 == 1, first + 2, words.len());
+    while k < words.len() {
+        let low = words[k];
+        let high = words[k + 1];
+        let moved = shift_up(low, below);
+        let above = shift_up(high, low);
+        words[k] = moved;
+        words[k + 1] = above;
+        new = marked(new, k, has_either(moved, above));
+        below = high;
+        k = next_up(old, below >> 63 == 1, k + 2, words.len());
+    }
+    *summary = new;
+}
+
+// The next word, from one on, that a bit moves into or that may have one, or the first of its pair; the second word of a pair
+// without a search.
 fn next_down(words: &[u64], summary: u64, start: usize) -> usize
     requires few { length words.now < 2 ^ 58 }
     requires within { start ≤ length words.now }
@@ -71,13 +115,14 @@ fn next_down(words: &[u64], summary: u64, start: usize) -> usize
     ensures low { start ≤ result }
     ensures high { result ≤ length words.now }
     ensures blank { StayBlank words.now start result }
+    ensures pairs { start % 2 ≡ 0 → length words.now % 2 ≡ 0 → result % 2 ≡ 0 }
 {
     if start % 2 == 1 {
         return start;
     }
     let next = next_marked(summary, start, words.len());
     if start < next && word_at(words, next) % 2 == 1 {
-        return next - 1;
+        return (next - 1) / 2 * 2;
     }
     next
 }
@@ -103,6 +148,37 @@ fn give_up_marked(words: &mut [u64], summary: &mut u64, at: usize)
         words[k] = moved;
         new = marked(new, k, moved != 0);
         k = next_down(words, old, k + 1);
+    }
+    *summary = new;
+}
+
+// The same pair by pair, from the first word of a pair on.
+fn give_up_pairs(words: &mut [u64], summary: &mut u64, at: usize)
+    requires few { length words.old < 2 ^ 58 }
+    requires place { at < 64 * length words.old }
+    requires pairs { length words.old % 2 ≡ 0 }
+    requires first { at / 64 % 2 ≡ 0 }
+    requires summed { IsSummaryOf summary.old (all_bits words.old) }
+    ensures given { GivesUp at words.old words.new }
+    ensures summed { IsSummaryOf summary.new (all_bits words.new) }
+{
+    let first = at / 64;
+    let old = *summary;
+    let high = words[first + 1];
+    let moved = remove_bit(words[first], (at % 64) as u32, high % 2 == 1);
+    let above = shift_down(high, word_at(words, first + 2));
+    words[first] = moved;
+    words[first + 1] = above;
+    let mut new = marked(kept(old, first), first, has_either(moved, above));
+    let mut k = next_down(words, old, first + 2);
+    while k < words.len() {
+        let high = words[k + 1];
+        let moved = shift_down(words[k], high);
+        let above = shift_down(high, word_at(words, k + 2));
+        words[k] = moved;
+        words[k + 1] = above;
+        new = marked(new, k, has_either(moved, above));
+        k = next_down(words, old, k + 2);
     }
     *summary = new;
 }
@@ -142,8 +218,11 @@ pub(crate) fn shift(words: &mut [u64], summary: &mut u64, at: usize, way: Way)
         shift_dense(words, at, way);
         return;
     }
+    let in_pairs = words.len() % 2 == 0 && at / 64 % 2 == 0;
     match way {
+        Way::In if in_pairs => take_in_pairs(words, summary, at),
         Way::In => take_in_marked(words, summary, at),
+        Way::Out if in_pairs => give_up_pairs(words, summary, at),
         Way::Out => give_up_marked(words, summary, at),
     }
 }

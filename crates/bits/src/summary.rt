@@ -1,6 +1,6 @@
 //! Summaries of words: 64 bits that say which pairs of words have none, so that a search passes over them.
 
-ghost use Rattle.std.specs.Prelude.{ℕ, ◌≡◌, ◌<◌, ◌≤◌, ◌^◌, ◌+◌, true, IfSome, IsTrue, ◌↔◌};
+ghost use Rattle.std.specs.Prelude.{ℕ, ◌≡◌, ◌<◌, ◌≤◌, ◌^◌, ◌+◌, ◌%◌, true, IfSome, IsTrue, ◌↔◌};
 ghost use Rattle.bits.specs.steps.First.{Nowhere, FromOn};
 ghost use Rattle.bits.specs.steps.Summaries.{HasPair, IsMarked};
 
@@ -59,6 +59,7 @@ pub fn next_marked(summary: u64, start: usize, words: usize) -> usize
     ensures high { result ≤ words }
     ensures none { Nowhere (IsMarked summary) start result }
     ensures next { result < words → IsMarked summary result }
+    ensures pairs { start % 2 ≡ 0 → words % 2 ≡ 0 → result % 2 ≡ 0 }
 {
     match next_pair(summary, start / 2) {
         Some(pair) => words.min(start.max(2 * pair)),

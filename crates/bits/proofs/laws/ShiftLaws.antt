@@ -14,7 +14,7 @@ use Rattle.bits.specs.declared.sparse.Way.{Way}
 use Rattle.bits.specs.declared.sparse.Way.TheVariants as way
 use Rattle.bits.specs.steps.Shifts.{Shifts}
 use Rattle.bits.specs.steps.Packing.{low_bit, word_bits, all_bits}
-use Rattle.bits.specs.steps.Summaries.{IsMarked, IsSummaryOf, IsBlank, HidesNoWord, StayBlank}
+use Rattle.bits.specs.steps.Summaries.{HasPair, IsMarked, IsSummaryOf, IsBlank, HidesNoWord, StayBlank}
 use Rattle.bits.proofs.laws.BitLaws.{length-word_bits}
 use Rattle.bits.proofs.laws.GetLaws.{word_bit_at, all_bit_at}
 use Rattle.bits.proofs.laws.WordLaws.{all_bits-append, length-all_bits, all_bits-cut, all_bits-one, word_first, Carried, carried_first, carried_more}
@@ -159,6 +159,17 @@ risen_more ws at b us k off w c c' summary after h lt e kept more = record {
   sums = sums_more summary after k w us h.sums lt kept more;
 }
 
+-- the two words of a pair, which share their mark
+pub risen_pair : (ws : List ℕ) (at : ℕ) (us : List ℕ) (k off w v : ℕ) (c c' c'' : Bool) (summary after : ℕ) → Risen ws at false us k off c summary → k + 1 < length us → k % 2 ≡ 0
+    → word_bits 64 w ++ c' ∷ [] ≡ insert (word_bits 64 (get_or us k 0)) off c → word_bits 64 v ++ c'' ∷ [] ≡ insert (word_bits 64 (get_or us (k + 1) 0)) 0 c'
+    → ((j : ℕ) → IsMarked summary j → IsMarked after j) → (w ≢ 0 → IsMarked after k) → (v ≢ 0 → IsMarked after k) → Risen ws at false (set (set us k w) (k + 1) v) (k + 1 + 1) 0 c'' after
+risen_pair ws at us k off w v c c' c'' summary after h lt even e e' kept more more' =
+    let M : ℕ → Type 0 = λ p. HasPair after p in
+    let same : k / 2 ≡ (k + 1) / 2 = omega arith in
+    let other : get_or (set us k w) (k + 1) 0 ≡ get_or us (k + 1) 0 = get_or-set_other us k (k + 1) w 0 (λ is. absurd (omega arith)) in
+    risen_more ws at false (set us k w) (k + 1) 0 v c' c'' after after (risen_more ws at false us k off w c c' summary after h (omega arith) e kept more) (omega (arith, length-set us k w))
+    (e' ∙ ap (λ x. insert (word_bits 64 x) 0 c') (sym other)) (λ j m. m) (λ ne. subst M same (more' ne))
+
 carried_past : (n : ℕ) (ws : List ℕ) (at : ℕ) (b : Bool) (us : List ℕ) (k : ℕ) → Carried ws at b us k 0 false → k + n ≤ length us → ((j : ℕ) → k ≤ j → j < k + n → IsBlank (get_or us j 0)) → Carried ws at b us (k + n) 0 false
 carried_past zero ws at b us k h le blank =
     let e : k ≡ k + zero = omega arith in
@@ -301,6 +312,33 @@ fallen_more ws at us k w summary after h lt e kept more = record {
   rest = λ j le. get_or-set_other us k j w 0 (λ same. absurd (omega arith)) ∙ h.rest j (omega arith);
   sums = sums_more summary after k w us h.sums lt kept more;
 }
+
+-- the second word of a pair, which shares its mark with the first
+fallen_second : (ws : List ℕ) (at : ℕ) (us : List ℕ) (k w v after : ℕ) → Fallen ws at (set us k w) (k + 1) after → k + 1 < length us → k % 2 ≡ 0
+    → word_bits 64 v ≡ remove (word_bits 64 (get_or us (k + 1) 0)) 0 ++ low_bit (get_or us (k + 2) 0) ∷ [] → (v ≢ 0 → IsMarked after k)
+    → Fallen ws at (set (set us k w) (k + 1) v) (k + 1 + 1) after
+fallen_second ws at us k w v after h lt even e more =
+    let M : ℕ → Type 0 = λ p. HasPair after p in
+    let same : k / 2 ≡ (k + 1) / 2 = omega arith in
+    let next : k + 2 ≡ k + 1 + 1 = omega arith in
+    let here : get_or us (k + 1) 0 ≡ get_or (set us k w) (k + 1) 0 = sym (get_or-set_other us k (k + 1) w 0 (λ is. absurd (omega arith))) in
+    let there : get_or us (k + 2) 0 ≡ get_or (set us k w) (k + 1 + 1) 0 = ap (λ i. get_or us i 0) next ∙ sym (get_or-set_other us k (k + 1 + 1) w 0 (λ is. absurd (omega arith))) in
+    fallen_more ws at (set us k w) (k + 1) v after after h (omega (arith, length-set us k w))
+    (e ∙ ap (λ x. remove (word_bits 64 x) 0 ++ low_bit (get_or us (k + 2) 0) ∷ []) here ∙ ap (λ x. remove (word_bits 64 (get_or (set us k w) (k + 1) 0)) 0 ++ low_bit x ∷ []) there)
+    (λ j m. m) (λ ne. subst M same (more ne))
+
+pub fallen_pair : (ws : List ℕ) (at : ℕ) (us : List ℕ) (k w v x summary after : ℕ) → Fallen ws at us k summary → k + 1 < length us → k % 2 ≡ 0
+    → word_bits 64 w ≡ remove (word_bits 64 (get_or us k 0)) 0 ++ low_bit (get_or us (k + 1) 0) ∷ [] → word_bits 64 v ≡ remove (word_bits 64 (get_or us (k + 1) 0)) 0 ++ low_bit x ∷ [] → x ≡ get_or us (k + 2) 0
+    → ((j : ℕ) → IsMarked summary j → IsMarked after j) → (w ≢ 0 → IsMarked after k) → (v ≢ 0 → IsMarked after k) → Fallen ws at (set (set us k w) (k + 1) v) (k + 1 + 1) after
+fallen_pair ws at us k w v x summary after h lt even e e' is kept more more' =
+    fallen_second ws at us k w v after (fallen_more ws at us k w summary after h (omega arith) e kept more) lt even (e' ∙ ap (λ y. remove (word_bits 64 (get_or us (k + 1) 0)) 0 ++ low_bit y ∷ []) is) more'
+
+pub fallen_pair_first : (ws : List ℕ) (at w v x summary after : ℕ) → at < 64 * length ws → length ws % 2 ≡ 0 → at / 64 % 2 ≡ 0 → Sums summary ws (at / 64)
+    → word_bits 64 w ≡ remove (word_bits 64 (get_or ws (at / 64) 0)) (at % 64) ++ low_bit (get_or ws (at / 64 + 1) 0) ∷ []
+    → word_bits 64 v ≡ remove (word_bits 64 (get_or ws (at / 64 + 1) 0)) 0 ++ low_bit x ∷ [] → x ≡ get_or ws (at / 64 + 2) 0
+    → ((j : ℕ) → IsMarked summary j → IsMarked after j) → (w ≢ 0 → IsMarked after (at / 64)) → (v ≢ 0 → IsMarked after (at / 64)) → Fallen ws at (set (set ws (at / 64) w) (at / 64 + 1) v) (at / 64 + 1 + 1) after
+fallen_pair_first ws at w v x summary after lt pairs even sums e e' is kept more more' =
+    fallen_second ws at ws (at / 64) w v after (fallen_first ws at w summary after lt sums e kept more) (omega arith) even (e' ∙ ap (λ y. remove (word_bits 64 (get_or ws (at / 64 + 1) 0)) 0 ++ low_bit y ∷ []) is) more'
 
 pub fallen_past : (ws : List ℕ) (at : ℕ) (us : List ℕ) (k next summary : ℕ) → Fallen ws at us k summary → StayBlank us k next → k ≤ next → next ≤ length us → Fallen ws at us next summary
 fallen_past ws at us k next summary h blank low high =

@@ -1,4 +1,4 @@
-use Rattle.std.proofs.Common.{◌%◌, ◌-◌, arith, ap, sym, ◌∙◌}
+use Rattle.std.proofs.Common.{◌%◌, ◌/◌, ◌*◌, ◌-◌, arith, ap, sym, ◌∙◌}
 use Rattle.std.specs.Prelude.{slice_index}
 use Rattle.std.proofs.lemmas.Bool.{ne_eqb}
 use Rattle.bits.specs.steps.Packing.{low_bit}
@@ -8,8 +8,8 @@ use Rattle.bits.proofs.sparse.next_down.Goals.{else-start-next-via-then-start-ne
 
 pub returns-then-word_at-eq1-clause-blank : goal.returns-then-word_at-eq1-clause-blank
 returns-then-word_at-eq1-clause-blank c =
-    stay_blank c.args.words.now c.args.start (c.next_marked-next.result - 1) (λ k ge below. c.requires.summed k ge (c.next_marked-next.ensures.none k ge (omega arith)))
-    (λ some. blank_low (slice_index c.args.words.now (c.next_marked-next.result - 1)) (c.requires.summed (c.next_marked-next.result - 1) (omega arith) (c.next_marked-next.ensures.none (c.next_marked-next.result - 1) (omega arith) (omega arith))))
+    stay_blank c.args.words.now c.args.start ((c.next_marked-next.result - 1) / 2 * 2) (λ k ge below. c.requires.summed k ge (c.next_marked-next.ensures.none k ge (omega arith)))
+    (λ some. blank_low (slice_index c.args.words.now ((c.next_marked-next.result - 1) / 2 * 2)) (c.requires.summed ((c.next_marked-next.result - 1) / 2 * 2) (omega arith) (c.next_marked-next.ensures.none ((c.next_marked-next.result - 1) / 2 * 2) (omega arith) (omega arith))))
 
 pub returns-clause-blank : goal.returns-clause-blank
 returns-clause-blank c =
