@@ -72,7 +72,7 @@ fn has_either(low: u64, high: u64) -> bool
     low != 0 || high != 0
 }
 
-// The same pair by pair, from the first word of a pair on: so a pair costs one search and one mark.
+// Puts a 0 in at a place in the first word of a pair, pair by pair: so a pair costs one search and one mark.
 fn take_in_pairs(words: &mut [u64], summary: &mut u64, at: usize)
     requires few { length words.old < 2 ^ 58 }
     requires place { at < 64 * length words.old }
@@ -152,7 +152,7 @@ fn give_up_marked(words: &mut [u64], summary: &mut u64, at: usize)
     *summary = new;
 }
 
-// The same pair by pair, from the first word of a pair on.
+// Takes the bit at a place in the first word of a pair out, pair by pair.
 fn give_up_pairs(words: &mut [u64], summary: &mut u64, at: usize)
     requires few { length words.old < 2 ^ 58 }
     requires place { at < 64 * length words.old }
