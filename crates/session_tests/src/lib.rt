@@ -14,6 +14,8 @@ mod device_rows;
 #[cfg(test)]
 mod devices;
 #[cfg(test)]
+mod dice;
+#[cfg(test)]
 mod forms;
 #[cfg(test)]
 mod random_input;

@@ -1,10 +1,7 @@
 // Input drawn at random.
-ghost use Rattle.std.specs.Prelude.{◌<◌};
-
 use crate::console::{Console, Ended, Mode};
+use crate::dice::Dice;
 use crate::forms::faults_of;
-use rand_core::utils::NextWord;
-use rand_pcg::Pcg32;
 use std::alloc::Global;
 use std::process::Abort;
 use std::test::Fail;
@@ -70,20 +67,7 @@ const PARTS: [&str; 51] = [
     "# \"\n",
 ];
 
-// Numbers that look random, and are always the same.
-#[derive(Drop)]
-struct Dice {
-    words: Pcg32,
-}
-
 impl Dice {
-    fn below(&mut self, bound: usize) -> usize
-        requires { 0 < bound }
-        ensures { result < bound }
-    {
-        self.words.next_word() as usize % bound
-    }
-
     // Bytes, of which about half are signs.
     fn bytes(&mut self, alloc: Global) -> Result<Vec<u8>, Fail> {
         let mut input = Vec::new(alloc);
@@ -152,9 +136,7 @@ fn is_served(rt: &impl Abort, alloc: Global, input: &[u8], by_lines: bool) -> Re
 
 // Serves so many inputs of bytes, as sessions and as restores in turn.
 fn bytes_are_served(rt: &impl Abort, alloc: Global, seed: u64, count: u32) -> Result<(), Fail> {
-    let mut dice = Dice {
-        words: Pcg32::new(seed, 1),
-    };
+    let mut dice = Dice::new(seed);
     for number in 0..count {
         let input = dice.bytes(alloc)?;
         is_served(rt, alloc, &input, number % 2 == 0)?;
@@ -164,9 +146,7 @@ fn bytes_are_served(rt: &impl Abort, alloc: Global, seed: u64, count: u32) -> Re
 
 // Serves so many inputs of parts of lines.
 fn parts_are_served(rt: &impl Abort, alloc: Global, seed: u64, count: u32) -> Result<(), Fail> {
-    let mut dice = Dice {
-        words: Pcg32::new(seed, 1),
-    };
+    let mut dice = Dice::new(seed);
     for number in 0..count {
         let input = dice.parts(alloc)?;
         is_served(rt, alloc, &input, number % 8 != 0)?;

@@ -1,31 +1,15 @@
 // Edits drawn at random, against plain lists of rules, and against a table that is made anew from these.
 
-ghost use Rattle.std.specs.Prelude.{◌<◌};
-
+use crate::dice::Dice;
 use crate::tables::filter::Filter;
 use crate::tables::plain::{Draft, NAMES, Plain};
-use rand_core::utils::NextWord;
-use rand_pcg::Pcg32;
 use std::alloc::Global;
 use std::fmt::Write;
 use std::process::Abort;
 use std::test::Fail;
 use table::TableFault;
 
-// Numbers that look random, and are always the same.
-#[derive(Drop)]
-struct Dice {
-    words: Pcg32,
-}
-
 impl Dice {
-    fn below(&mut self, bound: usize) -> usize
-        requires { 0 < bound }
-        ensures { result < bound }
-    {
-        self.words.next_word() as usize % bound
-    }
-
     fn draft(&mut self) -> Draft {
         let condition = self.below(12);
         let target = self.below(8);
@@ -317,9 +301,7 @@ const PACKETS: [&str; 8] = [
 
 #[test]
 fn random_edits(rt: HostRuntime) -> Result<(), Fail> {
-    let mut dice = Dice {
-        words: Pcg32::new(7, 1),
-    };
+    let mut dice = Dice::new(7);
     let mut pair = Pair::new(rt.alloc())?;
     for _ in 0..500u32 {
         pair.edit(&rt, &mut dice)?;

@@ -1,6 +1,7 @@
 -- For each rule there is a box: of each number up to a field's top that the rule allows, an interval of its own.
 use Rattle.std.proofs.Common.{◌≡◌, inl, inr, ℕ, zero, suc, ◌<◌, ◌≤◌, Bool, true, false, cond, ◌&&◌, ◌||◌, List, [], ◌∷◌, get_or, refl, sym, ◌∙◌, ap, arith, map, leb}
-use Rattle.std.proofs.lemmas.Bool.{cases_eq, le-leb, lt-leb}
+use Rattle.classify.proofs.laws.line.PutLaws.{or_false}
+use Rattle.std.proofs.lemmas.Bool.{cases_eq, le-leb, lt-leb, and_right}
 use Rattle.std.proofs.lemmas.List.{get_or-map}
 use Rattle.fields.specs.declared.numbers.field.Field.{Field}
 use Rattle.fields.specs.declared.numbers.spans.Interval.{Interval}
@@ -39,24 +40,16 @@ in_itself n =
     let e : leb n n ≡ true = le-leb n n (omega arith) in
     ap (λ b. b && leb n n) e ∙ e
 
-and_false : (a b : Bool) → b ≡ false → (a && b) ≡ false
-and_false true b e = e
-and_false false b e = refl
-
 and_true : (a b : Bool) → b ≡ true → (a && b) ≡ a
 and_true true b e = e
 and_true false b e = refl
-
-or_false : (a b : Bool) → b ≡ false → (a || b) ≡ a
-or_false true b e = refl
-or_false false b e = e
 
 none_from : (test : ℕ → Bool) (n x : ℕ) → n ≤ x → has (singles test n) x ≡ false
 unfolding singles
 none_from test zero x le = refl
 none_from test (suc n) x le =
     has_cond (test n) (single n) (singles test n) x
-    ∙ ap (λ b. b || has (singles test n) x) (and_false (test n) (in_span x (single n)) (not_over x n (omega arith))) ∙ none_from test n x (omega arith)
+    ∙ ap (λ b. b || has (singles test n) x) (and_right (test n) (in_span x (single n)) (not_over x n (omega arith))) ∙ none_from test n x (omega arith)
 
 has_singles : (test : ℕ → Bool) (n x : ℕ) → x < n → has (singles test n) x ≡ test x
 unfolding singles
@@ -70,7 +63,7 @@ has_singles test (suc n) x lt =
           ∙ or_false (test n) (has (singles test n) x) (none_from test n x (omega arith)) ∙ ap test (sym e))
       | inr ne ↦ (
           let under : x < n = omega arith in
-          ap (λ b. b || has (singles test n) x) (and_false (test n) (in_span x (single n)) (not_under x n under)) ∙ has_singles test n x under)
+          ap (λ b. b || has (singles test n) x) (and_right (test n) (in_span x (single n)) (not_under x n under)) ∙ has_singles test n x under)
     ]
 
 -- ---- the box

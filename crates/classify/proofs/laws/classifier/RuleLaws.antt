@@ -190,7 +190,7 @@ renamed_one (q ∷ rs) (suc at) r name is = (λ field x. refl, renamed_one rs at
 pub renamed_at : RenamedOneSameClassifier
 renamed_at rs at r name c is h = same_numbers rs (set rs at (with_chain_name name r)) c (renamed_one rs at r name is) h
 
-renamed_or_not : (b : Bool) (name : List ℕ) (r : Rule) (field : Field) (x : ℕ) → allows r field x ≡ allows (cond b (with_chain_name name r) r) field x
+pub renamed_or_not : (b : Bool) (name : List ℕ) (r : Rule) (field : Field) (x : ℕ) → allows r field x ≡ allows (cond b (with_chain_name name r) r) field x
 renamed_or_not true name r field x = renamed_allows name r field x
 renamed_or_not false name r field x = refl
 

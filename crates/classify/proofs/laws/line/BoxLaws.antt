@@ -1,5 +1,6 @@
 -- A box put in or taken out leaves the line of the boxes as they are then.
 use Rattle.fields.specs.declared.numbers.spans.Interval.{Interval}
+use Rattle.classify.proofs.laws.line.ApartLaws.{cuts_behind}
 use Rattle.std.proofs.Common.{◌≡◌, ◌≢◌, inl, inr, ℕ, suc, ◌+◌, ◌-◌, ◌<◌, ◌≤◌, Bool, List, [], ◌∷◌, ◌++◌, take, drop, refl, sym, ◌∙◌, ap, arith, subst, map}
 use Rattle.std.specs.List.{insert, remove}
 use Rattle.std.proofs.Math.ListN.{set}
@@ -74,15 +75,12 @@ row-remove sets at x =
     ∙ ap (λ (bs : List Bool). bs ++ map (λ t. has t x) (drop (suc at) sets)) (sym (take-map (λ t. has t x) at sets))
     ∙ ap (λ (bs : List Bool). take at (row_at has sets x) ++ bs) (sym (drop-map (λ t. has t x) (suc at) sets))
 
-cuts_below : (top : ℕ) (s : List Interval) (d : Cut) (ps : List Cut) → d.0 ≡ 0 → CutsStart top s (d ∷ ps) → (x : ℕ) → suc x ≤ top → has s x ≢ has s (suc x) → StartsAt (suc x) ps
-cuts_below top s d ps z c x le ne = elim (c x le ne) [ inl e ↦ absurd (let q : suc x ≡ 0 = e ∙ z in omega arith) | inr t ↦ t ]
-
 pub answers_say : (top at : ℕ) (s : List Interval) (sets : Sets) (line : List Cut) → IsRising top line → CutsStart top s line → Says top sets line
     → Says top (insert sets at s) (map (with_answer at s) line)
 answers_say top at s sets [] r c says x le = absurd r
 answers_say top at s sets (d ∷ ps) r c says x le =
     let g : Cut → List Bool = λ p. insert p.1 at (has s p.0) in
-    let alike : has s (piece_at d ps x).0 ≡ has s x = same_over_piece (has s) top d ps r.0 r.1 (cuts_below top s d ps r.0 c) x le in
+    let alike : has s (piece_at d ps x).0 ≡ has s x = same_over_piece (has s) top d ps r.0 r.1 (cuts_behind top s d ps r.0 c) x le in
     row_in_first (with_answer at s d) (map (with_answer at s) ps) x r.0
     ∙ ap (λ (p : Cut). p.1) (rows_say g d ps x)
     ∙ ap (λ (b : Bool). insert (piece_at d ps x).1 at b) alike
@@ -103,7 +101,7 @@ pub written_say : (top at : ℕ) (s : List Interval) (sets : Sets) (line : List 
 written_say top at s sets [] r c says x le = absurd r
 written_say top at s sets (d ∷ ps) r c says x le =
     let g : Cut → List Bool = λ p. set p.1 at (has s p.0) in
-    let alike : has s (piece_at d ps x).0 ≡ has s x = same_over_piece (has s) top d ps r.0 r.1 (cuts_below top s d ps r.0 c) x le in
+    let alike : has s (piece_at d ps x).0 ≡ has s x = same_over_piece (has s) top d ps r.0 r.1 (cuts_behind top s d ps r.0 c) x le in
     row_in_first (with_written at s d) (map (with_written at s) ps) x r.0
     ∙ ap (λ (p : Cut). p.1) (rows_say g d ps x)
     ∙ ap (λ (b : Bool). set (piece_at d ps x).1 at b) alike

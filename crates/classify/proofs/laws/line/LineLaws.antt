@@ -1,7 +1,7 @@
 -- The line of a list of boxes is the steps of the row of their answers.
 use Rattle.std.proofs.Common.{◌≡◌, ◌≢◌, ◌⊎◌, inl, inr, ℕ, zero, suc, ◌+◌, ◌-◌, ◌<◌, ◌≤◌, Bool, true, false, cond, not, ◌&&◌, ◌||◌, eqb, leb, List, [], ◌∷◌, length, get_or, refl, sym, ◌∙◌, ap, arith, subst, All, Any, add-one}
 use Rattle.std.specs.List.Sorted.{IsStrictlyIncreasing}
-use Rattle.std.proofs.lemmas.Bool.{cases_Bool, false≢true, true≢false, ne_eqb, eq-eqb, eqb-true, le-leb, leb-true}
+use Rattle.std.proofs.lemmas.Bool.{cases_Bool, false≢true, true≢false, ne_eqb, eq-eqb, eqb-true, le-leb, leb-true, or_right}
 use Rattle.std.proofs.lemmas.List.Elements.{All-head, All-tail, All-cons, All-nil}
 use Rattle.std.specs.Prelude.{◌==◌}
 use Rattle.std.proofs.lemmas.List.Folds.{Any-from_list_any, list_any-from_Any}
@@ -14,19 +14,15 @@ Piece = ℕ × List Bool
 
 -- ---- the words of the definition, by recursion
 
-or_second : (a b : Bool) → b ≡ true → (a || b) ≡ true
-or_second true b t = refl
-or_second false b t = t
-
 or_rest : (a b : Bool) → a ≡ false → (a || b) ≡ true → b ≡ true
 or_rest true b f t = absurd (true≢false f)
 or_rest false b f t = t
 
-and_first_true : (a b : Bool) → (a && b) ≡ true → a ≡ true
+pub and_first_true : (a b : Bool) → (a && b) ≡ true → a ≡ true
 and_first_true true b t = refl
 and_first_true false b t = t
 
-and_second_true : (a b : Bool) → (a && b) ≡ true → b ≡ true
+pub and_second_true : (a b : Bool) → (a && b) ≡ true → b ≡ true
 and_second_true true b t = t
 and_second_true false b t = absurd (true≢false (sym t))
 
@@ -43,7 +39,7 @@ test_from_starts x [] s = absurd s
 test_from_starts x (p ∷ ps) s =
     elim s [
       | inl e ↦ ap (λ b. b || starts_at ps x) (eq-eqb p.0 x (sym e))
-      | inr t ↦ or_second (eqb p.0 x) (starts_at ps x) (test_from_starts x ps t)
+      | inr t ↦ or_right (eqb p.0 x) (starts_at ps x) (test_from_starts x ps t)
     ]
 
 -- the cuts of the definition, as two implications
@@ -57,7 +53,7 @@ start_of_cut allows top boxes line x h le cut =
     starts_from_test x line (h.cuts x ∙ ap (λ b. b && is_cut allows boxes x) (le-leb x top le) ∙ cut)
 
 -- two tests that hold together are equal
-same_tests : (a b : Bool) → (a ≡ true → b ≡ true) → (b ≡ true → a ≡ true) → a ≡ b
+pub same_tests : (a b : Bool) → (a ≡ true → b ≡ true) → (b ≡ true → a ≡ true) → a ≡ b
 same_tests true b f g = sym (f refl)
 same_tests false true f g = g refl
 same_tests false false f g = refl
@@ -165,7 +161,7 @@ above_zero x = let ne : suc x ≢ 0 = omega arith in ne_eqb (suc x) 0 ne
 -- above 0 a number is a cut where the rows differ
 pub cut_from_differs : {B : Type 0} (allows : B → ℕ → Bool) (boxes : List B) (x : ℕ) → row_at allows boxes x ≢ row_at allows boxes (suc x) → is_cut allows boxes (suc x) ≡ true
 cut_from_differs allows boxes x ne =
-    or_second (suc x == 0) (some_differs allows boxes (suc x - 1) (suc x))
+    or_right (suc x == 0) (some_differs allows boxes (suc x - 1) (suc x))
     (ap (λ y. some_differs allows boxes y (suc x)) (below x) ∙ some_from_any allows boxes x (suc x) (any_from_differs allows boxes x (suc x) ne))
 
 pub differs_from_cut : {B : Type 0} (allows : B → ℕ → Bool) (boxes : List B) (x : ℕ) → is_cut allows boxes (suc x) ≡ true → row_at allows boxes x ≢ row_at allows boxes (suc x)

@@ -1,11 +1,12 @@
 -- A box's answers written into the rows of a line, interval by interval.
 use Rattle.fields.specs.declared.numbers.spans.Interval.{Interval}
+use Rattle.classify.proofs.laws.line.LineLaws.{and_first_true, and_second_true}
 use Rattle.std.proofs.Common.{◌≡◌, inl, inr, ℕ, zero, suc, ◌+◌, ◌<◌, ◌≤◌, ◌||◌, ◌&&◌, Bool, true, false, List, [], ◌∷◌, take, length, get_or, refl, sym, ◌∙◌, ap, arith, subst, map}
 use Rattle.std.specs.List.{insert, list_all}
 use Rattle.std.specs.Prelude.{slice_index}
 use Rattle.std.proofs.Math.ListN.{set}
 use Rattle.std.proofs.Math.Dec.{leb}
-use Rattle.std.proofs.lemmas.Bool.{le-leb, lt-leb, leb-true, cases_lt}
+use Rattle.std.proofs.lemmas.Bool.{le-leb, lt-leb, leb-true, cases_lt, or_right, and_right}
 use Rattle.std.proofs.lemmas.List.{length-map, get_or-map, same_lists, set-get_or, take_all, take_more}
 use Rattle.std.proofs.lemmas.List.Edits.{length-insert, get_or-insert_at}
 use Rattle.std.proofs.lemmas.List.Folds.{list_all-append, list_any-append}
@@ -28,31 +29,12 @@ none = (0, [])
 
 -- ---- tests of a number
 
-or_true : (a b : Bool) → b ≡ true → (a || b) ≡ true
-or_true true b e = refl
-or_true false b e = e
-
-or_false : (a b : Bool) → b ≡ false → (a || b) ≡ a
+pub or_false : (a b : Bool) → b ≡ false → (a || b) ≡ a
 or_false true b e = refl
 or_false false b e = e
 
-and_false : (a b : Bool) → b ≡ false → (a && b) ≡ false
-and_false true b e = e
-and_false false b e = refl
-
 both : (a b : Bool) → a ≡ true → (a && b) ≡ b
 both a b e = ap (λ (c : Bool). c && b) e
-
-first_of : (a b : Bool) → (a && b) ≡ true → a ≡ true
-first_of true b e = refl
-first_of false b e = e
-
-second_of : (a b : Bool) → (a && b) ≡ true → b ≡ true
-second_of true b e = e
-second_of false b e = absurd_of e
-  where
-    absurd_of : false ≡ true → b ≡ true
-    absurd_of e = ap (λ (c : Bool). c || b) e ∙ refl
 
 -- one interval more
 has_more : (spans : List Interval) (i x : ℕ) (d : Interval) → i < length spans → has (take (i + 1) spans) x ≡ (has (take i spans) x || in_span x (get_or spans i d))
@@ -75,8 +57,8 @@ past_more spans i x d lt =
 past_none : (spans : List Interval) (x : ℕ) → is_past spans x ≡ true → has spans x ≡ false
 past_none [] x e = refl
 past_none (s ∷ ss) x e =
-    let lt : s.last + 1 ≤ x = leb-true (s.last + 1) x (first_of (leb (s.last + 1) x) (is_past ss x) e) in
-    ap (λ (b : Bool). b || has ss x) (out_above s x (omega arith)) ∙ past_none ss x (second_of (leb (s.last + 1) x) (is_past ss x) e)
+    let lt : s.last + 1 ≤ x = leb-true (s.last + 1) x (and_first_true (leb (s.last + 1) x) (is_past ss x) e) in
+    ap (λ (b : Bool). b || has ss x) (out_above s x (omega arith)) ∙ past_none ss x (and_second_true (leb (s.last + 1) x) (is_past ss x) e)
 
 -- intervals rise: where one begins is past those before it
 first_low : (top low : ℕ) (spans : List Interval) (i : ℕ) (d : Interval) → AreSpansFrom top low spans → i < length spans → low ≤ (get_or spans i d).first
@@ -133,7 +115,7 @@ few_more at i spans d from to old now new lt is run h =
     let long : length now ≡ length old = ap (λ (l : List Cut). length l) is ∙ length-map old (with_bit at f) in
     bits_written at true from to f g old now new is h
     (λ j in' ge below. (let x : ℕ = (get_or old j none).0 in
-    has_more spans i x d lt ∙ or_true (f x) (in_span x s) (in_it s x (omega (arith, start j in', run.low j ge (omega arith))) (omega (arith, start j in', run.high j below)))))
+    has_more spans i x d lt ∙ or_right (f x) (in_span x s) (in_it s x (omega (arith, start j in', run.low j ge (omega arith))) (omega (arith, start j in', run.high j below)))))
     (λ j in' less. (let x : ℕ = (get_or old j none).0 in has_more spans i x d lt ∙ or_false (f x) (in_span x s) (out_below s x (omega (arith, start j in', run.below j less)))))
     (λ j in' past. (let x : ℕ = (get_or old j none).0 in has_more spans i x d lt ∙ or_false (f x) (in_span x s) (out_above s x (omega (arith, start j in', run.above j past (omega arith))))))
 
@@ -156,7 +138,7 @@ past_next at i spans d next from to old now lt is run order h j in' =
     let long : length now ≡ length old = ap (λ (l : List Cut). length l) is ∙ length-map old (with_bit at (is_open (take i spans))) in
     past_more spans i x d lt
     ∙ elim (cases_lt j to) [
-      | inl below ↦ and_false (is_past (take i spans) x) (leb (s.last + 1) x) (lt-leb (s.last + 1) x (omega (arith, run.high j below))) ∙ sym (lt-leb to j below)
+      | inl below ↦ and_right (is_past (take i spans) x) (leb (s.last + 1) x) (lt-leb (s.last + 1) x (omega (arith, run.high j below))) ∙ sym (lt-leb to j below)
       | inr ge ↦ (both (is_past (take i spans) x) (leb (s.last + 1) x) (h j in' ∙ le-leb next j (omega (arith, run.some))) ∙ le-leb (s.last + 1) x (omega (arith, run.above j ge (omega arith))) ∙ sym (le-leb to j ge))
     ]
 
@@ -187,25 +169,25 @@ most_more at i spans d next from to old now new lt is run order h w =
     let is_past' : past x ≡ true = h j in' ∙ le-leb next j ge in
     let lt' : x < s.first = omega (arith, start j in', run.below j below) in
     let lt'' : x ≤ s.last = omega (arith, start j in', run.high j (omega (arith, run.some))) in
-    parts x false false (out_below s x lt') (lt-leb (s.last + 1) x (omega arith)) ∙ or_false (before x || false) (past x && false) (and_false (past x) false refl) ∙ or_false (before x) false refl ∙ past_none (take i spans) x is_past'))
+    parts x false false (out_below s x lt') (lt-leb (s.last + 1) x (omega arith)) ∙ or_false (before x || false) (past x && false) (and_right (past x) false refl) ∙ or_false (before x) false refl ∙ past_none (take i spans) x is_past'))
     (λ j in' less. (let x : ℕ = (get_or old j none).0 in
     let not_past : past x ≡ false = h j in' ∙ lt-leb next j less in
     let lt' : x < s.first = omega (arith, start j in', run.below j (omega arith)) in
     let lt'' : x ≤ s.last = omega (arith, start j in', run.high j (omega (arith, run.some))) in
-    parts x false false (out_below s x lt') (lt-leb (s.last + 1) x (omega arith)) ∙ or_false (before x || false) (past x && false) (and_false (past x) false refl) ∙ or_false (before x) false refl
+    parts x false false (out_below s x lt') (lt-leb (s.last + 1) x (omega arith)) ∙ or_false (before x || false) (past x && false) (and_right (past x) false refl) ∙ or_false (before x) false refl
     ∙ sym (or_false (before x) (past x) not_past)))
     (λ j in' ge. (let x : ℕ = (get_or old j none).0 in
     let is_past' : past x ≡ true = h j in' ∙ le-leb next j (omega arith) in
-    let was : f x ≡ true = or_true (before x) (past x) is_past' in
+    let was : f x ≡ true = or_right (before x) (past x) is_past' in
     elim (cases_lt j to) [
       | inl below ↦ (
           let inside : in_span x s ≡ true = in_it s x (omega (arith, start j in', run.low j ge (omega arith))) (omega (arith, start j in', run.high j below)) in
           parts x true false inside (lt-leb (s.last + 1) x (omega (arith, start j in', run.high j below)))
-          ∙ ap (λ (c : Bool). c || (past x && false)) (or_true (before x) true refl) ∙ sym was)
+          ∙ ap (λ (c : Bool). c || (past x && false)) (or_right (before x) true refl) ∙ sym was)
       | inr past_it ↦ (
           let above : s.last < x = omega (arith, start j in', run.above j past_it (omega arith)) in
           parts x false true (out_above s x above) (le-leb (s.last + 1) x (omega arith))
-          ∙ or_true (before x || false) (past x && true) (both (past x) true is_past') ∙ sym was)
+          ∙ or_right (before x || false) (past x && true) (both (past x) true is_past') ∙ sym was)
     ]))
 
 -- the pieces past the last interval

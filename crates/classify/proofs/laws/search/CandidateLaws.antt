@@ -1,5 +1,6 @@
 -- What the rows of a point have in common: the answers of the boxes, and the search among them.
 use Rattle.std.proofs.Common.{◌≡◌, inl, inr, ℕ, ◌+◌, ◌*◌, ◌^◌, ◌<◌, ◌≤◌, Bool, true, false, List, [], length, get_or, map, refl, sym, ◌∙◌, ap, arith, lit<, Option, Some, None, Bor}
+use Rattle.classify.proofs.laws.line.LineLaws.{same_tests}
 use Rattle.std.proofs.lemmas.Bool.{cases_lt, true≢false}
 use Rattle.std.proofs.lemmas.List.{get_or-take, get_or-map, length-map, same_lists}
 use Rattle.std.proofs.lemmas.List.FromFn.{get_or-map-range_with_len, length-map-range_with_len}
@@ -45,11 +46,6 @@ rows_are_candidates c point rows summary h sum = record {
       sym (ap (λ (bs : List Bool). get_or bs p false) (h.are j none below).bits) ∙ get_or-take c.len (all_bits (get_or rows j none).now) p false within ∙ every j none (omega (arith, h.long, below)));
 }
 
-same_truth : (a b : Bool) → (a ≡ true → b ≡ true) → (b ≡ true → a ≡ true) → a ≡ b
-same_truth true b there back = sym (there refl)
-same_truth false true there back = absurd (true≢false (sym (back refl)))
-same_truth false false there back = refl
-
 pub common_answers : (c : Classified) (boxes : List (List SpanSet)) (point : List ℕ) (rows : Rows) → IsClassifierOf boxes c → IsPoint point → AreRowsAt c point rows FIELDS → common_bits c.len rows ≡ map (box_matches point) boxes
 common_answers c boxes point rows h within rs =
     same_lists (common_bits c.len rows) (map (box_matches point) boxes) (common_long c.len rows ∙ h.len ∙ sym (length-map boxes (box_matches point))) (λ k d lt.
@@ -57,7 +53,7 @@ common_answers c boxes point rows h within rs =
     let boxed : k < length boxes = omega (arith, in', h.len) in
     let both = have_to_allow c boxes point rows k [] h within rs.long rs.are boxed in
     common_at c.len k rows d in'
-    ∙ same_truth (all_have rows k) (box_matches point (get_or boxes k [])) (λ e. both.0 (have_all rows k e)) (λ e. all_have-true rows k (both.1 e))
+    ∙ same_tests (all_have rows k) (box_matches point (get_or boxes k [])) (λ e. both.0 (have_all rows k e)) (λ e. all_have-true rows k (both.1 e))
     ∙ sym (get_or-map (box_matches point) boxes k [] d boxed))
 
 -- ---- the search among them

@@ -8,7 +8,7 @@ use Rattle.classify.specs.steps.Summaries.{SumUpAll, SumUpPoint}
 use Rattle.std.specs.List.{list_all, position_or_len}
 use Rattle.std.specs.Option.{option_map}
 use Rattle.std.proofs.Math.Dec.{ltb}
-use Rattle.std.proofs.lemmas.Bool.{cases_lt, cases_eq, cases_Bool, true≢false, lt-ltb, le-ltb}
+use Rattle.std.proofs.lemmas.Bool.{cases_lt, cases_eq, cases_Bool, true≢false, lt-ltb, le-ltb, false_from_ne_true}
 use Rattle.std.proofs.lemmas.List.{get_or-drop, get_or-take, get_or-map, length-drop, length-set, get_or-set_same, get_or-set_other}
 use Rattle.std.proofs.Math.ListN.{set}
 use Rattle.std.proofs.lemmas.List.Folds.{list_all_at}
@@ -136,15 +136,11 @@ found_nowhere test (x ∷ xs) d h =
     let later : position_or_len test xs ≡ length xs = found_nowhere test xs d (λ k lt. h (suc k) (omega arith)) in
     ap (λ b. cond (not b) (1 + position_or_len test xs) 0) first ∙ omega arith
 
-not_true : (b : Bool) → (b ≡ true → ⊥) → b ≡ false
-not_true true h = absurd (h refl)
-not_true false h = refl
-
 pub next_from_first : {B : Type 0} (test : B → Bool) (boxes : List B) (from : ℕ) (d : B) (r : Option ℕ) → IsFirst (λ p. test (get_or boxes p d) ≡ true) from (length boxes) r → r ≡ next_match test boxes from
 next_from_first test boxes from d None h =
     let xs = drop from boxes in
     let long : length xs ≡ length boxes - from = length-drop from boxes in
-    let e : position_or_len test xs ≡ length xs = found_nowhere test xs d (λ k lt. not_true (test (get_or xs k d)) (λ t. h (from + k) (omega arith) (omega arith) (ap test (sym (get_or-drop from boxes k d)) ∙ t))) in
+    let e : position_or_len test xs ≡ length xs = found_nowhere test xs d (λ k lt. false_from_ne_true (test (get_or xs k d)) (λ t. h (from + k) (omega arith) (omega arith) (ap test (sym (get_or-drop from boxes k d)) ∙ t))) in
     let f : ltb (position_or_len test xs) (length xs) ≡ false = le-ltb (position_or_len test xs) (length xs) (omega arith) in
     sym (ap (λ b. option_map (λ (k : ℕ). from + k) (cond b (Some (position_or_len test xs)) None)) f)
 next_from_first test boxes from d (Some n) h =
@@ -153,7 +149,7 @@ next_from_first test boxes from d (Some n) h =
     let back : from + (n - from) ≡ n = omega (arith, h.0) in
     let in' : n - from < length xs = omega (arith, h.0, h.1) in
     let e : position_or_len test xs ≡ n - from = found_at test xs (n - from) d in' (ap test (get_or-drop from boxes (n - from) d ∙ ap (λ j. get_or boxes j d) back) ∙ h.2)
-    (λ k lt. not_true (test (get_or xs k d)) (λ t. h.3 (from + k) (omega arith) (omega (arith, h.0)) (ap test (sym (get_or-drop from boxes k d)) ∙ t))) in
+    (λ k lt. false_from_ne_true (test (get_or xs k d)) (λ t. h.3 (from + k) (omega arith) (omega (arith, h.0)) (ap test (sym (get_or-drop from boxes k d)) ∙ t))) in
     let f : ltb (position_or_len test xs) (length xs) ≡ true = lt-ltb (position_or_len test xs) (length xs) (omega arith) in
     sym (ap (λ b. option_map (λ (k : ℕ). from + k) (cond b (Some (position_or_len test xs)) None)) f ∙ ap (λ k. Some (from + k)) e ∙ ap Some back)
 

@@ -1,5 +1,6 @@
 -- The search for what passes two tests goes by the search for what passes the first of them.
 use Rattle.std.proofs.Common.{◌≡◌, inl, inr, ℕ, ◌+◌, ◌-◌, ◌<◌, ◌≤◌, Bool, true, false, cond, ◌&&◌, List, length, drop, map, get_or, refl, sym, ◌∙◌, ap, arith, Option, Some, None}
+use Rattle.std.proofs.lemmas.Option.{same_Some}
 use Rattle.std.specs.List.{position, position_or_len}
 use Rattle.std.specs.Option.{option_map}
 use Rattle.std.proofs.lemmas.Bool.{cases_lt, cases_eq, lt-ltb, and_parts, true≢false}
@@ -11,9 +12,6 @@ use Rattle.classify.specs.search.NextMatch.{next_match}
 use Rattle.classify.proofs.laws.search.NextLaws.{next_from_first}
 use Rattle.classify.proofs.laws.search.SearchLaws.{first_later}
 use Rattle.classify.proofs.laws.classifier.RuleLaws.{next_by_answers}
-
-some_same : {X : Type 0} {x y : X} → Some x ≡ Some y → x ≡ y
-some_same e = cc
 
 -- what a test passes at a place
 abbrev Passes : {B : Type 0} → (B → Bool) → List B → B → ℕ → Type 0
@@ -45,7 +43,7 @@ first_of_next {B} test things from d r e = go (position test (drop from things))
     go None at (Some n) same = absurd (cc)
     go None at None same = λ k ge lt passes. true≢false (sym (ap test (here k ge) ∙ passes) ∙ none_passes test (drop from things) d (k - from) at (omega (arith, long, ge, lt)))
     go (Some i) at (Some n) same =
-        let is : n ≡ from + i = some_same same in
+        let is : n ≡ from + i = same_Some _ _ same in
         let found = position-Some test (drop from things) i d at in
         let within = found.0 in (
           omega (arith, is),

@@ -34,7 +34,7 @@ own_place : (field : Field) → slice_get all_fields (index field) ≡ Some fiel
 own_place fields.Source = refl
 own_place _ = refl
 
-same_field : (f g : Field) → index f ≡ index g → f ≡ g
+pub same_field : (f g : Field) → index f ≡ index g → f ≡ g
 same_field f g e = same_some f g (sym (own_place f) ∙ ap (slice_get all_fields) e ∙ own_place g)
 
 -- of all names, a key is that of its field alone
@@ -87,7 +87,7 @@ number_in-set given f g n whole = go (eqb (index g) (index f)) refl
         get_or-set_at given (index f) (index g) n None (eqb-true (index g) (index f) same) (omega arith)
     go false other = get_or-set_other given (index f) (index g) n None (λ e. false≢true (sym other ∙ eq-eqb (index g) (index f) e))
 
-is_none-of : {A : Type 0} (o : Option A) → is_some o ≡ false → o ≡ None
+pub is_none-of : {A : Type 0} (o : Option A) → is_some o ≡ false → o ≡ None
 is_none-of None e = refl
 is_none-of (Some x) e = absurd (false≢true (sym e))
 

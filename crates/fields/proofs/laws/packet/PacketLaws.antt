@@ -60,7 +60,7 @@ greatest value.State = 13
 greatest value.Ttl = 255
 
 -- an accepted text of an interface is the interface itself
-interface_is_text : (text name : List ℕ) → interface_of text ≡ Some name → interface_of name ≡ Some name
+pub interface_is_text : (text name : List ℕ) → interface_of text ≡ Some name → interface_of name ≡ Some name
 unfolding interface_of
 interface_is_text text name reads = go (is_interface text) refl reads
   where

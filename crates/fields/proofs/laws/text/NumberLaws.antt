@@ -4,7 +4,7 @@ use Rattle.std.specs.Prelude.{decimal, IfSome}
 use Rattle.std.specs.Char.{is_ascii_digit}
 use Rattle.std.specs.Str.{all_ascii_digits}
 use Rattle.std.proofs.Math.Nat.{pow-suc}
-use Rattle.std.proofs.lemmas.Bool.{and_parts, and_from, lt-ltb, le-leb, ltb-true, leb-true, eqb-true, cases_lt}
+use Rattle.std.proofs.lemmas.Bool.{and_parts, and_from, lt-ltb, le-leb, ltb-true, leb-true, eqb-true, cases_lt, or_right}
 use Rattle.std.proofs.lemmas.Fmt.{decimal_digit, decimal_nonempty, first_decimal, length-decimal-le, digits_decimal, digits_value-decimal, decimal-digits_value}
 use Rattle.std.proofs.lemmas.Str.Parse.{IsNumeralModel, numerals_by_fold, tells_all_ascii_digits, digits_value_short}
 use Rattle.fields.specs.text.Number.{IsNumber, number_from, has_number_form, number_of, at_most, number_to}
@@ -46,10 +46,6 @@ number_from_only k n (b ∷ bs) e = go (is_ascii_digit b) e (number_from_only (k
     go true h rest = rest h
     go false h rest = absurd (cc)
 
-or_second : (x y : Bool) → y ≡ true → (x || y) ≡ true
-or_second true y e = refl
-or_second false y e = e
-
 or_left : (x y : Bool) → (x || y) ≡ true → y ≡ false → x ≡ true
 or_left true y e off = refl
 or_left false y e off = absurd (cc)
@@ -60,7 +56,7 @@ no_leading_zero n small = elim (cases_lt n 10) [
   | inl one ↦ ap (λ t. length t == 1 || not (get_or t 0 0 == 48)) (decimal_digit n one)
   | inr more ↦
       let first : 48 < get_or (decimal n) 0 0 = first_decimal n (omega arith) small in
-      or_second _ _ (ap not (ne_eqb (get_or (decimal n) 0 0) 48 (λ e. omega arith)))
+      or_right _ _ (ap not (ne_eqb (get_or (decimal n) 0 0) 48 (λ e. omega arith)))
 ]
 
 has_number_form-decimal : (n : ℕ) → n < 1000000000 → has_number_form (decimal n) ≡ true

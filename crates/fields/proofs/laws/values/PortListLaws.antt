@@ -75,7 +75,7 @@ port_items_of-cut room text = ap (λ texts. all_read port_item_of texts >>= coun
 abbrev IsItemOf : List ℕ → Ports → Type 0
 IsItemOf text item = port_item_of text ≡ Some item
 
-between-ports : (from to : ℕ) (item : Ports) → to ≤ 65535 → ports_between from to ≡ Some item → ArePorts item
+pub between-ports : (from to : ℕ) (item : Ports) → to ≤ 65535 → ports_between from to ≡ Some item → ArePorts item
 between-ports from to item within e = go (leb from to) refl e
   where
     go : (t : Bool) → leb from to ≡ t → cond t (Some (record { from = from; to = to })) None ≡ Some item → ArePorts item

@@ -1,5 +1,6 @@
 -- What the lines of a listing ask, and that they are done where the table lets them.
 use Rattle.std.proofs.Common.{◌≡◌, ℕ, ◌≤◌, Bool, true, false, cond, ◌&&◌, not, List, [], ◌∷◌, ◌++◌, length, Option, Some, None, refl, ap, ◌∙◌, arith}
+use Rattle.rules.proofs.laws.printing.TextLaws.{bare-from}
 use Rattle.std.specs.Prelude.{Result, Ok, Err, codes, nat_lt, nat_le, All}
 use Rattle.std.specs.FinSet as set
 use Rattle.std.specs.List.{list_all}
@@ -56,11 +57,6 @@ line_done s line words edit name t short loud cut asks does =
 
 -- Words
 
-bare_from : (text : List ℕ) → is_bare_word text ≡ true → IsBareWord text
-bare_from text is =
-    let (some, bytes) = and_parts (nat_lt 0 (length text)) (list_all is_bare text) is in
-    record { some = some-bytes text (ltb-true 0 (length text) some); bytes = bytes }
-
 name_bare : (name : List ℕ) → is_name name ≡ true → IsBareWord name
 unfolding name_of
 name_bare name is = name_is_bare name (cond-true (is_name name) _ _ is)
@@ -74,9 +70,9 @@ name_short name is =
     leb-true (length name) 28 (and_parts (nat_lt 0 (length name)) (nat_le (length name) 28) c).1
 
 word_bare : (o : Option Policy) → IsBareWord (policy_word o)
-word_bare None = bare_from (codes "-") refl
-word_bare (Some Accept) = bare_from (codes "ACCEPT") refl
-word_bare (Some Drop) = bare_from (codes "DROP") refl
+word_bare None = bare-from (codes "-") refl
+word_bare (Some Accept) = bare-from (codes "ACCEPT") refl
+word_bare (Some Drop) = bare-from (codes "DROP") refl
 
 word_short : (o : Option Policy) → length (policy_word o) ≤ 6
 word_short None = omega arith
@@ -106,7 +102,7 @@ colon_bare name is = record { some = λ e. cc; bytes = is.bytes }
 pub chain_cut : (name : List ℕ) (o : Option Policy) → is_name name ≡ true → words_of (chain_text name o) ≡ Some (chain_words name o)
 chain_cut name o is =
     let last : All IsPrintable (bare (codes "[0:0]") ∷ []) =
-    All-cons IsPrintable (bare (codes "[0:0]")) [] (bare_from (codes "[0:0]") refl) (All-nil IsPrintable) in
+    All-cons IsPrintable (bare (codes "[0:0]")) [] (bare-from (codes "[0:0]") refl) (All-nil IsPrintable) in
     words_of-spaced_all (shown_chain name o)
     (All-cons IsPrintable (bare (58 ∷ name)) (bare (policy_word o) ∷ bare (codes "[0:0]") ∷ []) (colon_bare name (name_bare name is))
     (All-cons IsPrintable (bare (policy_word o)) (bare (codes "[0:0]") ∷ []) (word_bare o) last))

@@ -1,5 +1,7 @@
 -- The chains of a sound table, by their places.
 use Rattle.std.proofs.Common.{◌≡◌, ◌⊎◌, inl, inr, ℕ, zero, suc, ◌+◌, ◌<◌, Bool, true, false, ◌||◌, List, [], ◌∷◌, ◌++◌, length, get_or, drop, refl, sym, ◌∙◌, ap, subst, arith, Option, Some, None, is_some, codes, Ordering}
+use Rattle.fields.proofs.laws.packet.GivenLaws.{is_none-of}
+use Rattle.table.proofs.laws.chains.KeepLaws.{not_before, itself_not_before}
 use Rattle.std.specs.Prelude.{All, AllPairs, filter, flat_map, position, slice_get, option_and_then}
 use Rattle.std.specs.List.{list_any}
 use Rattle.std.specs.Str.{bytes_eq}
@@ -24,14 +26,6 @@ use Rattle.fields.proofs.laws.PlaceLaws.{any_is}
 
 abbrev Differ : List ℕ → List ℕ → Type 0
 Differ a b = a ≡ b → ⊥
-
-not_before : (o : Ordering) → is_eq o ≡ true → is_lt o ≡ false
-not_before Less e = absurd (false≢true e)
-not_before Equal e = refl
-not_before Greater e = refl
-
-itself_not_before : (a : List ℕ) → comes_before a a ≡ false
-itself_not_before a = not_before (slice_cmp nat_cmp a a) (is_eq-slice_cmp a a ∙ (bytes_eq-Decides a a).1 refl)
 
 user_names_differ : (ns : List (List ℕ)) → AllPairs (λ a b. comes_before a b ≡ true) ns → AllPairs Differ ns
 user_names_differ ns order i j d below within e =
@@ -132,12 +126,8 @@ listing_of_none t name at =
 
 -- The policy of a chain
 
-is_none : {A : Type 0} (o : Option A) → is_some o ≡ false → o ≡ None
-is_none None e = refl
-is_none (Some x) e = absurd (false≢true (sym e))
-
 user_has_none : (ps : List Policy) (n : List ℕ) → is_built_in n ≡ false → option_and_then (slice_get ps) (position (bytes_eq n) built_in_names) ≡ None
-user_has_none ps n user = ap (option_and_then (slice_get ps)) (is_none (position (bytes_eq n) built_in_names) (any_is (bytes_eq n) built_in_names ∙ user))
+user_has_none ps n user = ap (option_and_then (slice_get ps)) (is_none-of (position (bytes_eq n) built_in_names) (any_is (bytes_eq n) built_in_names ∙ user))
 
 policy_by : (ps : List Policy) (users : List (List ℕ)) (place : ℕ) → length ps ≡ 3 → All IsUserName users → place < 3 + length users
     → slice_get ps place ≡ option_and_then (slice_get ps) (position (bytes_eq (get_or (built_in_names ++ users) place [])) built_in_names)

@@ -1,5 +1,6 @@
 -- What stands between brackets.
 use Rattle.std.proofs.Common.{◌≡◌, ℕ, zero, suc, ◌+◌, ◌-◌, ◌<◌, ◌≤◌, Bool, true, false, List, [], ◌∷◌, ◌++◌, length, get_or, take, drop, refl, sym, ◌∙◌, ap, arith, Option, Some, None, if◌then◌else◌, not, find, slice_get}
+use Rattle.std.proofs.lemmas.Bool.{false_from_ne_true}
 use Rattle.std.proofs.Math.Seq.{get_or-append_seam}
 use Rattle.std.proofs.lemmas.List.{take-append-drop, drop-take, length-append}
 use Rattle.std.proofs.lemmas.Slice.Eq.{bytes_eq-Decides}
@@ -9,10 +10,6 @@ use Rattle.restore.specs.sections.Restore.{after_blanks}
 use Rattle.restore.specs.sections.Section.{inside, in_brackets, is_comment_at, is_quiet}
 use Rattle.std.specs.Borrow.{Bor}
 use Rattle.std.specs.Option.{option_copied}
-
-is_false : (b : Bool) → (b ≡ true → ⊥) → b ≡ false
-is_false true never = absurd (never refl)
-is_false false never = refl
 
 -- a text in brackets
 abbrev bracketed : List ℕ → List ℕ
@@ -29,7 +26,7 @@ last_bracketed ys =
 -- a text that isn't in brackets
 not_bracketed : (text : List ℕ) → ((ys : List ℕ) → text ≡ bracketed ys → ⊥) → in_brackets text ≡ None
 not_bracketed text never =
-    ap (λ b. if b then Some (inside text) else None) (is_false (bytes_eq text (bracketed (inside text))) (λ e. never (inside text) ((bytes_eq-Decides text (bracketed (inside text))).0 e)))
+    ap (λ b. if b then Some (inside text) else None) (false_from_ne_true (bytes_eq text (bracketed (inside text))) (λ e. never (inside text) ((bytes_eq-Decides text (bracketed (inside text))).0 e)))
 
 pub too_short : (text : List ℕ) → length text < 2 → in_brackets text ≡ None
 too_short text lt = not_bracketed text (λ ys e. (let l : length text ≡ length (bracketed ys) = ap (λ (t : List ℕ). length t) e in omega (arith, lt, l, length_bracketed ys)))

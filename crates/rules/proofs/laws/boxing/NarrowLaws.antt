@@ -1,5 +1,6 @@
 -- What is left of a box's sets, condition by condition.
 use Rattle.std.proofs.Common.{◌≡◌, ◌≢◌, inl, inr, ℕ, ◌+◌, ◌<◌, ◌≤◌, Bool, true, false, cond, ◌&&◌, ◌||◌, not, List, [], length, get_or, take, refl, sym, ◌∙◌, ap, subst, arith, map, Option, Some, Result}
+use Rattle.fields.proofs.laws.packet.GivenLaws.{same_field as same_place}
 use Rattle.std.specs.List.{list_all}
 use Rattle.std.proofs.Math.Dec.{eqb, leb}
 use Rattle.std.specs.Result.{OnOk}
@@ -40,10 +41,6 @@ and-true false = refl
 and-assoc : (a b c : Bool) → ((a && b) && c) ≡ (a && (b && c))
 and-assoc true b c = refl
 and-assoc false b c = refl
-
--- fields at one place are one field
-same_place : (f g : Field) → index f ≡ index g → f ≡ g
-same_place f g e = sym (here_is f f) ∙ ap (λ k. get_or ALL k f) e ∙ here_is g f
 
 -- ---- a set met with a condition's
 

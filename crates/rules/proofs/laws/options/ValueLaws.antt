@@ -1,5 +1,7 @@
 -- A value that was read is good: its text gives it back.
 use Rattle.std.proofs.Common.{◌≡◌, ℕ, ◌+◌, ◌*◌, ◌<◌, ◌≤◌, ◌==◌, Bool, true, false, cond, ◌&&◌, List, [], ◌∷◌, length, Option, None, Some, refl, sym, ap, subst, ◌∙◌, arith, append-nil, length-append, le-ltb}
+use Rattle.fields.proofs.laws.packet.PacketLaws.{interface_is_text}
+use Rattle.rules.proofs.laws.printing.TextLaws.{word-more}
 use Prim.Native.Nat.{zero, suc}
 use Rattle.std.specs.Prelude.{Result, Ok, Err, nat_lt}
 use Rattle.fields.specs.Sequence as options
@@ -47,7 +49,7 @@ use Rattle.rules.specs.declared.options.value.Value.{Value}
 use Rattle.rules.specs.declared.options.value.Value.TheVariants as value
 use Rattle.rules.proofs.laws.reading.Readable.{value_room}
 use Rattle.rules.proofs.laws.options.TableLaws.{plain}
-use Rattle.rules.proofs.laws.options.WordForms.{IsWord, prefix-valid, prefix-word, interface-valid, interface-word, protocol-valid, protocol-word, ports-valid, ports-word, list-word, flags-word, states-word, state-valid, icmp-word, range-valid, range-word, reject-word, level-word, ttl-word, text-valid, quoted-short}
+use Rattle.rules.proofs.laws.options.WordForms.{IsWord, prefix-valid, prefix-word, interface-word, protocol-valid, protocol-word, ports-valid, ports-word, list-word, flags-word, states-word, state-valid, icmp-word, range-valid, range-word, reject-word, level-word, ttl-word, text-valid, quoted-short}
 
 -- a value that an option was given stands where the option stands, and its text gives it back
 pub record IsGood (o : Opt) (inverted : Bool) (v : Value) : Type 0 where
@@ -73,18 +75,14 @@ same-value w v h = cc
 none-spelled : ArePrintable []
 none-spelled k d within = absurd (omega arith)
 
-spelled-more : (w : Shown) (ws : List Shown) → IsPrintable w → ArePrintable ws → ArePrintable (w ∷ ws)
-spelled-more w ws is are zero d within = is
-spelled-more w ws is are (suc k) d within = are k d (omega arith)
-
 one-spelled : (most : ℕ) (text : List ℕ) → IsWord most text → ArePrintable (one text)
-one-spelled most text is = spelled-more (bare text) [] is.bare none-spelled
+one-spelled most text is = word-more (bare text) [] is.bare none-spelled
 
 one-short : (most : ℕ) (text : List ℕ) → IsWord most text → length (spaced_all (one text)) ≤ most + 1
 one-short most text is = let short = is.short in let whole = ap length (append-nil (spaced (bare text))) in omega (arith, whole)
 
 text-spelled : (text : List ℕ) → IsOneLine text → ArePrintable (as_text text ∷ [])
-text-spelled text one = spelled-more (as_text text) [] one none-spelled
+text-spelled text one = word-more (as_text text) [] one none-spelled
 
 text-short : (most : ℕ) (text : List ℕ) → length text ≤ most → length (spaced_all (as_text text ∷ [])) ≤ 2 * most + 3
 text-short most text few = let short = quoted-short text in let whole = ap length (append-nil (spaced (as_text text))) in omega (arith, whole)
@@ -135,7 +133,7 @@ good-flags o inverted a b v at own e =
       owned = own;
       bang = λ e. refl;
       text = ap (read_as value.TcpFlags) (test-back x mask comp);
-      spelled = spelled-more (bare (tcp_flags_text x.mask)) (one (tcp_flags_text x.comp)) m.bare (one-spelled 23 (tcp_flags_text x.comp) c);
+      spelled = word-more (bare (tcp_flags_text x.mask)) (one (tcp_flags_text x.comp)) m.bare (one-spelled 23 (tcp_flags_text x.comp) c);
       short = omega (arith, whole, last);
     })
   where
@@ -161,12 +159,12 @@ value_of-good opt.Destination inverted words v e =
     subst (IsGood opt.Destination inverted) same (record { place = refl; owned = refl; bang = λ e. refl; text = ap (read_as value.Destination) (prefix_of-prefix_text x is_one); spelled = one-spelled 18 (prefix_text x) word; short = one-short 18 (prefix_text x) word })
 value_of-good opt.InInterface inverted words v e =
     let (x, is, same) = given refusal.BadValue value.InInterface (interface_of _) v e in
-    let is_one = interface-valid _ x is in
+    let is_one = interface_is_text _ x is in
     let word = interface-word x is_one in
     subst (IsGood opt.InInterface inverted) same (record { place = refl; owned = refl; bang = λ e. refl; text = ap (read_as value.InInterface) is_one; spelled = one-spelled 15 (x) word; short = one-short 15 (x) word })
 value_of-good opt.OutInterface inverted words v e =
     let (x, is, same) = given refusal.BadValue value.OutInterface (interface_of _) v e in
-    let is_one = interface-valid _ x is in
+    let is_one = interface_is_text _ x is in
     let word = interface-word x is_one in
     subst (IsGood opt.OutInterface inverted) same (record { place = refl; owned = refl; bang = λ e. refl; text = ap (read_as value.OutInterface) is_one; spelled = one-spelled 15 (x) word; short = one-short 15 (x) word })
 value_of-good opt.SourcePort inverted words v e =

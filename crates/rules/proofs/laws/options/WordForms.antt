@@ -1,5 +1,7 @@
 -- What values are once they are read: valid, with a text that is one short word.
 use Prim.Native.Nat.{suc}
+use Rattle.fields.proofs.laws.values.PortListLaws.{between-ports}
+use Rattle.fields.proofs.laws.packet.PacketLaws.{interface_is_text}
 use Rattle.std.proofs.Common.{◌≡◌, ℕ, ◌+◌, ◌-◌, ◌*◌, ◌/◌, ◌%◌, ◌^◌, ◌<◌, ◌≤◌, ◌==◌, Bool, true, false, cond, not, ◌&&◌, ◌||◌, List, [], ◌∷◌, ◌++◌, length, flat_map, Option, None, Some, refl, sym, ap, subst, ◌∙◌, arith, length-append}
 use Rattle.std.specs.Prelude.{decimal, codes, nat_lt, nat_le, sum_by, find, option_map, All}
 use Rattle.std.specs.Int.RustNames.{bit_and}
@@ -104,15 +106,6 @@ prefix-word p is =
     let short = is.short in
     joined-word 15 2 47 _ _ refl (address-word p.address is.small) (decimal-word 2 p.length (omega arith) (omega arith) (omega arith))
 
--- interfaces
-pub interface-valid : (text x : List ℕ) → interface_of text ≡ Some x → interface_of x ≡ Some x
-unfolding interface_of
-interface-valid text x e = go (is_interface text) refl e
-  where
-    go : (t : Bool) → is_interface text ≡ t → cond t (Some text) None ≡ Some x → interface_of x ≡ Some x
-    go true on h = let same = same_some text x h in subst (λ y. interface_of y ≡ Some y) same (ap (λ t. cond t (Some text) None) on)
-    go false off h = absurd (cc)
-
 pub interface-word : (x : List ℕ) → interface_of x ≡ Some x → IsWord 15 x
 interface-word x reads = record { bare = interface_is_bare x reads; short = (interface_of-form x reads).few }
 
@@ -178,16 +171,6 @@ protocol-word n small = record { bare = protocol_is_bare n small; short = go (fi
     go None found = let short = length-decimal-le 3 n (omega arith) (omega arith) (omega arith) in omega arith
     go (Some entry) found = leb-true (length entry.0) 9 (find-passes (λ (e : List ℕ × ℕ). e.1 == n) (λ (e : List ℕ × ℕ). nat_le (length e.0) 9) protocols entry found all-short).1
 
--- ports
-between-valid : (from to : ℕ) (p : Ports) → to ≤ 65535 → ports_between from to ≡ Some p → ArePorts p
-between-valid from to p small e = go (nat_le from to) refl e
-  where
-    go : (t : Bool) → nat_le from to ≡ t → cond t (Some (record { from = from; to = to })) None ≡ Some p → ArePorts p
-    go true on h =
-        let q : Ports = record { from = from; to = to } in
-        subst ArePorts (same_some q p h) (record { ordered = leb-true from to on; within = small })
-    go false off h = absurd (cc)
-
 port-small : (text : List ℕ) (n : ℕ) → port_of text ≡ Some n → n ≤ 65535
 port-small text n e = (number_to_sound 65535 text n e).1
 
@@ -202,11 +185,11 @@ ports-valid text p e = go (cut_at 58 text) e
     go : (o : Option (List ℕ × List ℕ)) → range_parted text o ≡ Some p → ArePorts p
     go None h =
         let (port, read, is) = step_before (port_of text) (λ port. ports_between port port) p h in
-        between-valid port port p (port-small text port read) is
+        between-ports port port p (port-small text port read) is
     go (Some q) h =
         let (from, read, rest) = step_before (port_or 0 q.0) (λ from. port_or 65535 q.1 >>= λ to. ports_between from to) p h in
         let (to, read_to, is) = step_before (port_or 65535 q.1) (λ to. ports_between from to) p rest in
-        between-valid from to p (or-small q.1 to read_to) is
+        between-ports from to p (or-small q.1 to read_to) is
 
 -- an item of a list has at most five bytes, or eleven where it counts as two
 item-short : (p : Ports) → ArePorts p → length (ports_text p) + 1 ≤ 6 * port_count p

@@ -1,5 +1,6 @@
 -- The text of a readable rule is cut into its words, and is short.
 use Prim.Native.Nat.{zero, suc}
+use Rattle.rules.proofs.laws.reading.OrderLaws.{false-true}
 use Rattle.std.proofs.Common.{◌≡◌, ℕ, ◌+◌, ◌*◌, ◌≤◌, Bool, true, false, ◌||◌, not, List, [], ◌∷◌, ◌++◌, length, get_or, flat_map, Option, None, Some, refl, sym, ap, ◌∙◌, arith, length-append}
 use Rattle.std.specs.Prelude.{codes, nat_lt, nat_le}
 use Rattle.std.specs.List.{list_all}
@@ -29,9 +30,6 @@ use Rattle.rules.specs.declared.options.setting.Setting.{Setting}
 use Rattle.rules.proofs.laws.reading.Readable.{value_room, ReadsBack, Each, Rises, IsGroup, OfRule, OfMatch, OfAction, ActionBack, IsMatch, IsLegal}
 use Rattle.rules.proofs.laws.options.TableLaws.{plain, each_option, each_kind}
 use Rattle.rules.proofs.laws.options.WordForms.{name-word}
-
-false-true : {A : Type 0} → false ≡ true → A
-false-true h = absurd (cc)
 
 -- words that are spelled
 no-words : ArePrintable []

@@ -1,5 +1,6 @@
 -- What is read is readable: a step keeps a rule's parts legal, and so does what the end makes of it.
 use Prim.Native.Nat.{zero, suc}
+use Rattle.rules.proofs.laws.reading.OrderLaws.{false-true}
 use Rattle.std.proofs.Common.{◌≡◌, ℕ, ◌+◌, ◌<◌, ◌≤◌, ◌==◌, Bool, true, false, cond, ◌&&◌, List, [], ◌∷◌, ◌++◌, length, get_or, set, Option, None, Some, refl, sym, ap, subst, ◌∙◌, arith, ltb, leb, eq-eqb, length-append}
 use Rattle.std.specs.Prelude.{Result, Ok, Err, codes}
 use Rattle.std.specs.Str.{bytes_eq}
@@ -45,9 +46,6 @@ some-of e (Some y) x h = ap (λ z. Some z) (same-ok y x h)
 past : {A : Type 0} (b : Bool) (e : Refusal) (q : Result A Refusal) (x : A) → cond b (Err e) q ≡ Ok x → (b ≡ false) × (q ≡ Ok x)
 past true e q x h = absurd (cc)
 past false e q x h = (refl, h)
-
-false-true : {A : Type 0} → false ≡ true → A
-false-true h = absurd (cc)
 
 -- an option put among others of a group
 pub rises-more : (m n : ℕ) (ss : List Setting) → m ≤ n → Rises n ss → Rises m ss

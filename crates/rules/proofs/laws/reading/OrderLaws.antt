@@ -21,7 +21,7 @@ use Rattle.rules.specs.declared.options.value.Value.{Value}
 use Rattle.rules.specs.declared.options.value.Value.TheVariants as value
 use Rattle.rules.proofs.laws.reading.Readable.{ReadsBack, Each, Rises, IsGroup, OfRule, OfMatch, OfAction, ActionBack, IsMatch, IsLegal, IsReadable}
 
-false-true : {A : Type 0} → false ≡ true → A
+pub false-true : {A : Type 0} → false ≡ true → A
 false-true h = absurd (cc)
 
 -- each is all

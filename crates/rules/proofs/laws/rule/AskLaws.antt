@@ -1,5 +1,6 @@
 -- What a rule asks of interfaces, it asks by options of its own; where it asks nothing, it allows all.
 use Rattle.std.proofs.Common.{◌≡◌, ℕ, Bool, true, false, cond, ◌==◌, ◌&&◌, ◌||◌, not, List, [], ◌∷◌, refl, sym, ap, ◌∙◌}
+use Rattle.rules.proofs.laws.reading.OrderLaws.{false-true}
 use Rattle.std.specs.List.{list_all, list_any}
 use Rattle.std.proofs.lemmas.Bool.{or_parts, and_from}
 use Rattle.fields.specs.declared.numbers.field.Field.{Field}
@@ -16,9 +17,6 @@ use Rattle.rules.specs.declared.options.value.Value.{Value}
 use Rattle.rules.specs.declared.options.value.Value.TheVariants as value
 use Rattle.rules.proofs.laws.reading.Readable.{Each, OfMatch, IsMatch}
 use Rattle.rules.proofs.laws.printing.RoundTripLaws.{readable}
-
-false-true : {A : Type 0} → false ≡ true → A
-false-true h = absurd (cc)
 
 -- no option of a match asks on an interface
 none-asks : (v : Value) (k : MatchKind) → is_match_of (owner (option_of_value v)) k ≡ true → (is_on field.InIface (field_of v) ≡ false) × (is_on field.OutIface (field_of v) ≡ false)

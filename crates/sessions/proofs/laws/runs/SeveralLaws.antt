@@ -1,15 +1,11 @@
 -- What several runs leave.
 use Rattle.std.proofs.Common.{◌≡◌, List, [], ◌∷◌, ◌++◌, refl, sym, ap, subst, ◌∙◌}
+use Rattle.restore.proofs.laws.calls.CallLaws.{changed_then}
 use Rattle.table.specs.chains.Table.{Table, TableView}
 use Rattle.restore.specs.calls.Changes.{Change, changed, changed_by}
 use Rattle.sessions.specs.runs.Headline.{PacketsWereWalked, RefusedChangedNothing, Stands}
 use Rattle.sessions.specs.runs.Several.{Follow, OfEach, Run, RunsLeaveWhatTheyAccept, accepted_by, accepted_in}
 use Rattle.sessions.proofs.laws.runs.HeadlineLaws.{walks_through}
-
--- changes, and then others
-changed_then : (t : Table) (first next : List Change) → changed_by t (first ++ next) ≡ changed_by (changed_by t first) next
-changed_then t [] next = refl
-changed_then t (change ∷ first) next = changed_then (changed t change) first next
 
 chains_are : (old new : TableView) (runs : List Run) → Follow old runs new → new.table ≡ changed_by old.table (accepted_by old.table runs)
 chains_are old new [] h = ap (λ (v : TableView). v.table) h

@@ -3,7 +3,7 @@ use Rattle.std.proofs.Common.{◌≡◌, inl, inr, ℕ, zero, suc, ◌<◌, ◌�
 use Rattle.std.specs.Prelude.{All, filter, nat_le}
 use Rattle.std.specs.List.{list_any}
 use Rattle.std.specs.Str.{bytes_eq}
-use Rattle.std.proofs.lemmas.Bool.{cases_Bool, cond-true, cond-false, false≢true, or_left, or_right, or_cases, leb-false}
+use Rattle.std.proofs.lemmas.Bool.{cases_Bool, cond-true, cond-false, false≢true, or_left, or_right, or_cases, leb-false, not-false}
 use Rattle.std.proofs.lemmas.List.{length-set}
 use Rattle.std.proofs.lemmas.List.Elements.{All-cons, All-head, All-tail, All-weaker, All-map}
 use Rattle.std.proofs.lemmas.Slice.Eq.{bytes_eq-Decides}
@@ -97,10 +97,6 @@ users_placed c (x ∷ cs) =
           ])
     ]
 
-pub not_false : (b : Bool) → not b ≡ false → b ≡ true
-not_false true e = refl
-not_false false e = sym e
-
 any_take : (f : List ℕ → Bool) (k : ℕ) (ns : List (List ℕ)) → list_any f (take k ns) ≡ true → list_any f ns ≡ true
 any_take f zero ns h = absurd (false≢true h)
 any_take f (suc k) [] h = absurd (false≢true h)
@@ -138,7 +134,7 @@ new_chain_sound t c s none =
     record {
       policies = s.policies;
       listed = subst AreListed (sym (names_placed (empty_chain c) t.chains))
-          (placed_listed c (names_of t.chains) (not_false _ h.0) (no_built_in t c s g.0) (sym (has_by_names c t.chains) ∙ g.0) s.listed);
+          (placed_listed c (names_of t.chains) (not-false _ h.0) (no_built_in t c s g.0) (sym (has_by_names c t.chains) ∙ g.0) s.listed);
       chains = all_placed_chain (IsSoundChain u) (empty_chain c) t.chains (record { rules = λ k d none_there. absurd (omega (arith, none_there)); few = omega arith })
           (All-weaker (IsSoundChain t) (IsSoundChain u) (sound_weaker t u more) t.chains s.chains);
       no_loop = λ n a p. s.no_loop n a (path_fewer t.chains u.chains c (λ x y e. inl (e.0, rules_placed c t.chains x e.0 e.1, e.2)) (suc n) a a p);

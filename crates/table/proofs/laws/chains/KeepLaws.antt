@@ -126,7 +126,7 @@ take_sound t c f keeps fewer s =
 
 -- No two chains have one name
 
-not_before : (o : Ordering) → is_eq o ≡ true → is_lt o ≡ false
+pub not_before : (o : Ordering) → is_eq o ≡ true → is_lt o ≡ false
 not_before Less e = absurd (false≢true e)
 not_before Equal e = refl
 not_before Greater e = refl

@@ -18,7 +18,7 @@ use Rattle.table.proofs.laws.chains.KeepLaws.{front_long, head_same, tail_same}
 
 -- The order of names
 
-abbrev order : List ℕ → List ℕ → Ordering
+abbrev pub order : List ℕ → List ℕ → Ordering
 order = slice_cmp nat_cmp
 
 less : (o : Ordering) → is_lt o ≡ true → o ≡ Less

@@ -1,9 +1,10 @@
 -- A chain under another name, and the rules that name it following, lead from sound tables to sound tables.
 use Rattle.std.proofs.Common.{◌≡◌, ◌≢◌, ◌⊎◌, inl, inr, ℕ, zero, suc, ◌+◌, ◌-◌, ◌<◌, ◌≤◌, Bool, true, false, cond, ◌||◌, ◌&&◌, not, List, [], ◌∷◌, length, get_or, drop, map, refl, sym, ◌∙◌, ap, arith, subst, Option, Some, None, Contains, option_map}
+use Rattle.std.proofs.lemmas.Option.{same_Some}
 use Rattle.std.specs.Prelude.{All, filter, remove, codes}
 use Rattle.std.specs.List.{list_any}
 use Rattle.std.specs.Str.{bytes_eq}
-use Rattle.std.proofs.lemmas.Bool.{cases_Bool, cases_lt, cond-true, cond-false, false≢true, or_cases}
+use Rattle.std.proofs.lemmas.Bool.{cases_Bool, cases_lt, cond-true, cond-false, false≢true, or_cases, not-false}
 use Rattle.std.proofs.lemmas.List.{get_or-drop, get_or-take, get_or-map, length-drop, length-map}
 use Rattle.std.proofs.lemmas.List.Elements.{All-map, All-weaker, All-head, All-tail, All-contains, Contains-get_or}
 use Rattle.std.proofs.lemmas.Slice.Eq.{bytes_eq-Decides}
@@ -19,7 +20,7 @@ use Rattle.rules.specs.rule.Rules.{Rule}
 use Rattle.table.specs.chains.Table.{Chain, Table, built_in_names, names_of, is_built_in, is_named, has_chain, user_chains, rules_of, chain_in, chain_named_by, is_this, names}
 use Rattle.table.specs.edits.Edits.{Rename, edited, causes, fault_of, no_such_chain, built_in, bad_name, exists_already, placed, without, moved, renamed_rule, renamed_chain, asks_absent_interface}
 use Rattle.table.specs.chains.Sound.{Names, Path, IsTarget, MayStand, IsSoundChain, IsUserName, AreListed, IsSound}
-use Rattle.table.proofs.laws.chains.ChainLaws.{has_more, all_placed_chain, users_placed, no_built_in, not_false}
+use Rattle.table.proofs.laws.chains.ChainLaws.{has_more, all_placed_chain, users_placed, no_built_in}
 use Rattle.table.proofs.laws.chains.KeepLaws.{has_by_names, is_user_name, listed_differ, users_by_names}
 use Rattle.table.proofs.laws.chains.OrderLaws.{names_placed, placed_listed}
 use Rattle.table.proofs.laws.chains.PlaceLaws.{differing_at, rules_at}
@@ -52,9 +53,6 @@ this_is old (Some n) h = ap (λ x. Some x) ((bytes_eq-Decides n old).0 h)
 this_not : (old : List ℕ) (o : Option (List ℕ)) (n : List ℕ) → is_this old o ≡ false → o ≡ Some n → n ≢ old
 this_not old o n h e q = false≢true (sym h ∙ ap (is_this old) e ∙ (bytes_eq-Decides n old).1 q)
 
-some_same : {X : Type 0} {x y : X} → Some x ≡ Some y → x ≡ y
-some_same e = cc
-
 -- what a renamed rule names: the new name for the old, and every other as before
 names_then : (old new : List ℕ) (r : Rule) (b : List ℕ) → chain_named_by (renamed_rule old new r) ≡ Some b
     → ((chain_named_by r ≡ Some old) × (b ≡ new)) ⊎ ((chain_named_by r ≡ Some b) × (b ≢ old))
@@ -63,7 +61,7 @@ names_then old new r b e =
       | inl t ↦ (
           let was : chain_named_by r ≡ Some old = this_is old (chain_named_by r) t in
           let now : chain_named_by (renamed_rule old new r) ≡ Some new = ap chain_named_by (cond-true (names old r) (with_chain_name new r) r t) ∙ names_anew new old r was in
-          inl (was, some_same (sym e ∙ now)))
+          inl (was, same_Some _ _ (sym e ∙ now)))
       | inr f ↦ (
           let same : chain_named_by r ≡ Some b = sym (ap chain_named_by (cond-false (names old r) (with_chain_name new r) r f)) ∙ e in
           inr (same, this_not old (chain_named_by r) b f same))
@@ -446,7 +444,7 @@ renamed_sound t old new reads s none =
     let b = first_clear (built_in old) (bad_name new ∷ exists_already t new ∷ []) a.1 in
     let c = first_clear (bad_name new) (exists_already t new ∷ []) b.1 in
     let e = first_clear (exists_already t new) [] c.1 in
-    let w = any_at (is_named old) t.chains (not_false (has_chain t old) a.0) in
+    let w = any_at (is_named old) t.chains (not-false (has_chain t old) a.0) in
     let named : (d : Chain) → (get_or t.chains w.0 d).name ≡ old = λ d. (bytes_eq-Decides (get_or t.chains w.0 d).name old).0 (w.2 d) in
     let none_there : Chain = record { name = []; rules = [] } in
     rename_sound t old new w.0 (record {
@@ -455,5 +453,5 @@ renamed_sound t old new reads s none =
       within = w.1;
       named = named;
       free = e.0;
-      form = not_false (is_name new) c.0;
+      form = not-false (is_name new) c.0;
     }) reads

@@ -1,5 +1,6 @@
 -- The first table is sound, and a rule that is let in closes no loop.
 use Rattle.std.proofs.Common.{◌≡◌, ◌⊎◌, inl, inr, ℕ, zero, suc, ◌<◌, false, List, [], ◌∷◌, length, map, refl, sym, ◌∙◌, ap, arith, subst, Option, Some, None, Contains, codes}
+use Rattle.std.proofs.lemmas.Option.{same_Some, none-some}
 use Rattle.std.specs.Prelude.{slice_index_or}
 use Rattle.std.proofs.lemmas.Bool.{cases_Bool, cond-true, cond-false, false≢true}
 use Rattle.std.proofs.lemmas.Slice.Eq.{bytes_eq-Decides}
@@ -40,12 +41,6 @@ empty_sound t three = record {
 
 -- A rule put into a chain
 
-some_same : {X : Type 0} {x y : X} → Some x ≡ Some y → x ≡ y
-some_same e = cc
-
-none_some : {X : Type 0} {x : X} → None ≡ Some x → ⊥
-none_some e = cc
-
 path_append : (cs : List Chain) (m n : ℕ) (a b c : List ℕ) → Path cs m a b → Path cs n b c → Leads cs a c
 path_append cs zero n a b c p q = (n, let P : List ℕ → Type 0 = λ x. Path cs n x c in subst P (sym p) q)
 path_append cs (suc m) n a b c p q = let r = path_append cs m n p.0 b c p.2 q in (suc r.0, (p.0, p.1, r.1))
@@ -63,7 +58,7 @@ path_more old new c n h (suc k) a b p =
     elim (path_more old new c n h k p.0 b p.2) [
       | inl rest ↦ elim (h a p.0 p.1) [
         | inl e ↦ inl (step_on old a p.0 b e rest)
-        | inr e ↦ inr ((0, e.0), let P : List ℕ → Type 0 = λ x. Leads old x b in subst P (sym (some_same e.1)) rest)
+        | inr e ↦ inr ((0, e.0), let P : List ℕ → Type 0 = λ x. Leads old x b in subst P (sym (same_Some _ _ e.1)) rest)
       ]
       | inr rest ↦ elim (h a p.0 p.1) [
         | inl e ↦ inr (step_on old a p.0 c e rest.0, rest.1)
@@ -77,7 +72,7 @@ no_more_loops old new c n h un loops k a p =
     elim (path_more old new c n h k p.0 a p.2) [
       | inl rest ↦ elim (h a p.0 p.1) [
         | inl e ↦ loops rest.0 a (p.0, e, rest.1)
-        | inr e ↦ un (let P : List ℕ → Type 0 = λ x. Leads old x a in let Q : List ℕ → Type 0 = λ x. Leads old n x in subst Q e.0 (subst P (sym (some_same e.1)) rest))
+        | inr e ↦ un (let P : List ℕ → Type 0 = λ x. Leads old x a in let Q : List ℕ → Type 0 = λ x. Leads old n x in subst Q e.0 (subst P (sym (same_Some _ _ e.1)) rest))
       ]
       | inr rest ↦ elim (h a p.0 p.1) [
         | inl e ↦ un (leads_append old n a c rest.1 (step_on old a p.0 c e rest.0))
@@ -87,7 +82,7 @@ no_more_loops old new c n h un loops k a p =
 
 pub path_fewer : (old new : List Chain) (c : List ℕ) → OneMore old new c None → (n : ℕ) (a b : List ℕ) → Path new n a b → Path old n a b
 path_fewer old new c h zero a b p = p
-path_fewer old new c h (suc n) a b p = elim (h a p.0 p.1) [ inl e ↦ (p.0, e, path_fewer old new c h n p.0 b p.2) | inr e ↦ absurd (none_some e.1) ]
+path_fewer old new c h (suc n) a b p = elim (h a p.0 p.1) [ inl e ↦ (p.0, e, path_fewer old new c h n p.0 b p.2) | inr e ↦ absurd (none-some _ e.1) ]
 
 -- a rule of a changed chain is one of the old, or comes of the change
 changed_rule : (f : List Rule → List Rule) (c : List ℕ) (cs : List Chain) (a : List ℕ) (r : Rule) → Contains (rules_of (map (changed_chain f c) cs) a) r
@@ -154,4 +149,4 @@ fewer_names t c f old a b e =
 
 -- rules that go close no loop
 pub take_no_loop : (t : Table) (c : List ℕ) (f : List Rule → List Rule) → ((x : Rule) → Contains (f (rules_of t.chains c)) x → Contains (rules_of t.chains c) x) → HasNoLoop t.chains → HasNoLoop (changed f c t).chains
-take_no_loop t c f old loops = put_by t c f None (fewer_names t c f old) (λ name e. absurd (none_some e)) loops
+take_no_loop t c f old loops = put_by t c f None (fewer_names t c f old) (λ name e. absurd (none-some _ e)) loops

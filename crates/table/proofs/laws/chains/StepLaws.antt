@@ -1,8 +1,9 @@
 -- Steps that change one chain's rules lead from sound tables to sound tables.
 use Rattle.std.proofs.Common.{◌≡◌, inl, inr, ℕ, suc, ◌+◌, ◌-◌, ◌<◌, ◌≤◌, Bool, true, false, ◌&&◌, not, List, [], ◌∷◌, ◌++◌, length, take, drop, refl, sym, ◌∙◌, ap, arith, subst, Option, Some, None, Result, Ok, Err, Contains}
+use Rattle.std.proofs.lemmas.Option.{same_Some, none-some}
 use Rattle.std.specs.Prelude.{All, insert, remove, slice_set, nat_le}
 use Rattle.std.specs.List.{list_all}
-use Rattle.std.proofs.lemmas.Bool.{cases_Bool, cond-true, cond-false, and_parts, leb-false}
+use Rattle.std.proofs.lemmas.Bool.{cases_Bool, cond-true, cond-false, and_parts, leb-false, not-true, not-false}
 use Rattle.std.proofs.lemmas.List.{length-append, length-take, length-drop, length-set}
 use Rattle.std.proofs.lemmas.List.Elements.{All-append, All-cons, All-take, All-drop, All-set, All-push, All-head, All-tail, All-contains}
 use Rattle.rules.specs.printing.RoundTrip.{TextReadsBack}
@@ -17,17 +18,11 @@ use Rattle.table.proofs.laws.chains.KeepLaws.{Brings, Keeps, put_sound, take_sou
 abbrev pub clear : Cause → Bool
 clear cause = not cause.0
 
-none_some : {X : Type 0} {x : X} → None ≡ Some x → ⊥
-none_some e = cc
-
-some_same : {X : Type 0} {x y : X} → Some x ≡ Some y → x ≡ y
-some_same e = cc
-
 pub none_holds : (cs : List Cause) → first_fault cs ≡ None → list_all clear cs ≡ true
 none_holds [] h = refl
 none_holds (c ∷ cs) h =
     elim (cases_Bool c.0) [
-      | inl holds ↦ absurd (none_some (sym h ∙ cond-true c.0 _ _ holds))
+      | inl holds ↦ absurd (none-some _ (sym h ∙ cond-true c.0 _ _ holds))
       | inr un ↦ ap (λ b. not b && list_all clear cs) un ∙ none_holds cs (sym (cond-false c.0 _ _ un) ∙ h)
     ]
 
@@ -35,17 +30,9 @@ accepted_by : (o : Option TableFault) (t u : Table) → elim o as (λ x. Result 
 accepted_by None t u e = (refl, cc)
 accepted_by (Some f) t u e = absurd (cc)
 
-not_false : (b : Bool) → not b ≡ false → b ≡ true
-not_false true e = refl
-not_false false e = sym e
-
-not_true : (b : Bool) → not b ≡ true → b ≡ false
-not_true true e = sym e
-not_true false e = refl
-
 -- the first cause doesn't hold, and none behind it
 pub first_clear : (c : Cause) (cs : List Cause) → list_all clear (c ∷ cs) ≡ true → (c.0 ≡ false) × (list_all clear cs ≡ true)
-first_clear c cs h = let both = and_parts (clear c) (list_all clear cs) h in (not_true c.0 both.0, both.1)
+first_clear c cs h = let both = and_parts (clear c) (list_all clear cs) h in (not-true c.0 both.0, both.1)
 
 -- The new rule may stand in its chain
 
@@ -53,7 +40,7 @@ abbrev pub TargetIsClear : Table → List ℕ → Option (List ℕ) → Type 0
 TargetIsClear t c o = (name : List ℕ) → o ≡ Some name → IsTarget t name × (leads t.chains name c ≡ false)
 
 pub target_clear : (t : Table) (c : List ℕ) (o : Option (List ℕ)) (more : List Cause) → list_all clear (target_causes t c o ++ more) ≡ true → TargetIsClear t c o × (list_all clear more ≡ true)
-target_clear t c None more h = (λ name e. absurd (none_some e), h)
+target_clear t c None more h = (λ name e. absurd (none-some _ e), h)
 target_clear t c (Some n) more h =
     let loop : Cause = (leads t.chains n c, Loop) in
     let built : Cause = (is_built_in n, TargetBuiltIn) in
@@ -62,8 +49,8 @@ target_clear t c (Some n) more h =
     let d = first_clear loop more b.1 in (
       λ name e.
           (let P : List ℕ → Type 0 = λ x. IsTarget t x × (leads t.chains x c ≡ false) in
-          let same : n ≡ name = some_same e in
-          subst P same (record { there = not_false (has_chain t n) a.0; user = b.0 }, d.0)),
+          let same : n ≡ name = same_Some _ _ e in
+          subst P same (record { there = not-false (has_chain t n) a.0; user = b.0 }, d.0)),
       d.1,
     )
 

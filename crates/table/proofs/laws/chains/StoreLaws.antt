@@ -16,7 +16,7 @@ use Rattle.table.specs.steps.Rows.{Row}
 use Rattle.table.specs.steps.Kept.{blank, slot_at, row_at, name_at, listed_row, listed_at, listed, IsStored}
 use Rattle.table.proofs.laws.chains.PathLaws.{Differing}
 use Rattle.table.proofs.laws.chains.KeepLaws.{front_long, itself_not_before, listed_differ}
-use Rattle.table.proofs.laws.chains.OrderLaws.{before_trans}
+use Rattle.table.proofs.laws.chains.OrderLaws.{before_trans, order}
 use Rattle.table.proofs.laws.chains.PlaceLaws.{any_some, position_found, position_none, differing_at}
 
 pub length-listed : (slots : List (Option Row)) (order : List ℕ) → length (listed slots order) ≡ length order
@@ -98,10 +98,7 @@ names_rise ps slots order s i j user below lt =
     let Q : List ℕ → Type 0 = λ b. comes_before (get_or (drop 3 ns) (i - 3) []) b ≡ true in
     subst P (get i user (omega (arith, below, lt))) (subst Q (get j (omega (arith, user, below)) lt) r)
 
-abbrev compare : List ℕ → List ℕ → Ordering
-compare = slice_cmp nat_cmp
-
-less_before : (a b : List ℕ) → compare a b ≡ Less → comes_before a b ≡ true
+less_before : (a b : List ℕ) → order a b ≡ Less → comes_before a b ≡ true
 less_before a b e = ap is_lt e
 
 -- a name that comes after the one in the middle comes after all up to there

@@ -1,5 +1,6 @@
 -- What a call answers, by what it found.
 use Rattle.std.proofs.Common.{◌≡◌, inl, inr, ℕ, zero, suc, ◌<◌, true, false, not, List, [], ◌∷◌, length, get_or, map, refl, sym, ◌∙◌, ap, arith, subst, Option, Some, None, Result, Ok, Err}
+use Rattle.std.proofs.lemmas.Option.{same_Some, none-some}
 use Rattle.std.specs.List.{list_any, position}
 use Rattle.std.proofs.lemmas.Bool.{cases_Bool, cond-true, cond-false}
 use Rattle.std.proofs.lemmas.List.{length-map}
@@ -182,25 +183,19 @@ changed_agree p name i f g s lt named same =
 
 -- Names that are read
 
-some_same : {X : Type 0} {x y : X} → Some x ≡ Some y → x ≡ y
-some_same e = cc
-
-none_some : {X : Type 0} {x : X} → None ≡ Some x → ⊥
-none_some e = cc
-
 pub name_read : (text name : List ℕ) → name_of text ≡ Some name → (is_name text ≡ true) × (name ≡ text)
 unfolding name_of
 name_read text name e =
     elim (cases_Bool (is_name text)) [
-      | inl t ↦ (t, some_same (sym e ∙ cond-true (is_name text) _ _ t))
-      | inr f ↦ absurd (none_some (sym (cond-false (is_name text) _ _ f) ∙ e))
+      | inl t ↦ (t, same_Some _ _ (sym e ∙ cond-true (is_name text) _ _ t))
+      | inr f ↦ absurd (none-some _ (sym (cond-false (is_name text) _ _ f) ∙ e))
     ]
 
 pub name_refused : (text : List ℕ) → name_of text ≡ None → is_name text ≡ false
 unfolding name_of
 name_refused text e =
     elim (cases_Bool (is_name text)) [
-      | inl t ↦ absurd (none_some (sym e ∙ cond-true (is_name text) _ _ t))
+      | inl t ↦ absurd (none-some _ (sym e ∙ cond-true (is_name text) _ _ t))
       | inr f ↦ f
     ]
 

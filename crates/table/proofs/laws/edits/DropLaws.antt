@@ -1,5 +1,7 @@
 -- A chain taken away.
 use Rattle.std.proofs.Common.{◌≡◌, ◌≢◌, ◌⊎◌, inl, inr, ℕ, zero, suc, ◌+◌, ◌-◌, ◌<◌, ◌≤◌, Bool, true, false, cond, ◌||◌, not, List, [], ◌∷◌, length, get_or, refl, sym, ◌∙◌, ap, arith, subst, Option, Some, None, IsSome, unwrap_or, All, nat_eq}
+use Rattle.table.proofs.laws.chains.RenamedLaws.{without_at}
+use Rattle.table.proofs.laws.edits.RenameLaws.{leading_remove}
 use Rattle.std.specs.Prelude.{count_by, remove, nat_lt}
 use Rattle.std.specs.List.{list_any}
 use Rattle.std.specs.Str.{bytes_eq}
@@ -159,18 +161,6 @@ idle ps slots order i h lt none =
       unnamed = omega (arith, refs);
     }
 
--- the chains without the one of a name are those without its place
-without_is : (name : List ℕ) (cs : List Chain) (i : ℕ) (d : Chain) → i < length cs → is_named name (get_or cs i d) ≡ true → ((k : ℕ) → k < length cs → k ≢ i → is_named name (get_or cs k d) ≡ false) → without name cs ≡ remove cs i
-without_is name [] i d lt at others = absurd (omega (arith, lt))
-without_is name (x ∷ cs) zero d lt at others = cond-false (not (is_named name x)) _ _ (ap not at) ∙ all cs (λ k below. others (suc k) (omega (arith, below)) (omega arith))
-  where
-    all : (ys : List Chain) → ((k : ℕ) → k < length ys → is_named name (get_or ys k d) ≡ false) → without name ys ≡ ys
-    all [] h = refl
-    all (y ∷ ys) h = cond-true (not (is_named name y)) _ _ (ap not (h 0 (omega arith))) ∙ ap (λ (zs : List Chain). y ∷ zs) (all ys (λ k below. h (suc k) (omega (arith, below))))
-without_is name (x ∷ cs) (suc i) d lt at others =
-    cond-true (not (is_named name x)) _ _ (ap not (others 0 (omega arith) (omega arith)))
-    ∙ ap (λ (ys : List Chain). x ∷ ys) (without_is name cs i d (omega (arith, lt)) at (λ k below ne. others (suc k) (omega (arith, below)) (omega (arith, ne))))
-
 -- each place of the new index is a place of the old one, but that of the chain that went
 abbrev Left : List ℕ → List ℕ → ℕ → ℕ → Type 0
 Left order after j i = (k : ℕ) × (k < length order) × (k ≢ j) × (get_or after i 0 ≡ get_or order k 0) × (((i < j) × (k ≡ i)) ⊎ ((j ≤ i) × (k ≡ i + 1)))
@@ -208,18 +198,13 @@ table_gone ps slots new order i s g =
     let many : length (listed slots order) ≡ length order = length-listed slots order in
     let is : (k : ℕ) → k < length order → is_named n (get_or (listed slots order) k d) ≡ bytes_eq (name_at slots order k) n = λ k lt. ap (is_named n) (listed_get slots order k d lt) in
     ap P (listed_agree slots new (remove order i) (λ j lt. row_left ps slots new order i j s g lt) ∙ map_remove (listed_at slots) order i
-    ∙ sym (without_is n (listed slots order) i d (omega (arith, g.place, many)) (is i g.place ∙ (bytes_eq-Decides n n).1 refl)
+    ∙ sym (without_at n (listed slots order) i d (omega (arith, g.place, many)) (is i g.place ∙ (bytes_eq-Decides n n).1 refl)
     (λ k lt ne. (let below : k < length order = omega (arith, lt, many) in is k below ∙ texts_differ (name_at slots order k) n (λ q. ne (names_apart ps slots order s k i below g.place q))))))
 
 user_left : (order : List ℕ) (i to : ℕ) → i < length order → 3 ≤ i → IsUser order to → to ≢ get_or order i 0 → IsUser (remove order i) to
 user_left order i to lt low u ne =
     let w = stays_at order i u.0 lt u.2 (λ e. ne (sym u.3 ∙ ap (λ (x : ℕ). get_or order x 0) e)) in
     (w.0, omega (arith, w.3, low, u.1), w.1, w.2 ∙ u.3)
-
-leading_out : (slots : List (Option Row)) (keys : List ℕ) (i k : ℕ) → i < length keys → leading slots (remove keys i) k + leading_in k (row_at slots (get_or keys i 0)) ≡ leading slots keys k
-leading_out slots [] i k lt = absurd (omega (arith, lt))
-leading_out slots (x ∷ xs) zero k lt = omega arith
-leading_out slots (x ∷ xs) (suc i) k lt = let h = leading_out slots xs i k (omega (arith, lt)) in omega (arith, h)
 
 -- no rule leads to the chain that went
 pub link_left : (ps : List Policy) (slots new : List (Option Row)) (order : List ℕ) (i : ℕ) (e : Entry) → IsStored ps slots order → IsGone slots new order i → 3 ≤ i → names (name_at slots order i) e.rule ≡ false → IsLinked slots order e → IsLinked new (remove order i) e
@@ -256,7 +241,7 @@ kept_gone ps slots new order i h g accepted =
     let T : Table → Type 0 = λ (t : Table). IsSound t in
     let none_in : (row_at slots (get_or order i 0)).entries ≡ [] = no_elements (row_at slots (get_or order i 0)).entries free.empty in
     let leads : (k : ℕ) → leading new after k ≡ leading slots order k =
-    λ k. (let x = leading_out slots order i k g.place in
+    λ k. (let x = leading_remove slots order i k g.place in
     let y : leading_in k (row_at slots (get_or order i 0)) ≡ 0 = ap (λ (es : List Entry). count_by (λ (e : Entry). leads_to k e.course) es) none_in in
     let z = leading_agree slots new after k same in
     omega (arith, x, y, z)) in

@@ -1,5 +1,6 @@
 -- What the edits of one chain's rules leave.
 use Rattle.std.proofs.Common.{◌≡◌, ℕ, suc, ◌+◌, ◌^◌, ◌<◌, ◌≤◌, cond, List, [], ◌∷◌, length, get_or, take, drop, map, refl, sym, ◌∙◌, ap, arith, subst, Option, Some, None, All, unwrap_or}
+use Rattle.std.proofs.lemmas.Option.{same_Some, none-some}
 use Rattle.std.proofs.Math.ListN.{set}
 use Rattle.std.specs.Prelude.{count_by, insert, remove, slice_set}
 use Rattle.std.proofs.lemmas.List.{map-set}
@@ -66,23 +67,17 @@ leads_over es n e d k lt = sum_by-set (λ (x : Entry). cond (leads_to k x.course
 
 -- The chain that a rule leads to
 
-pub none_some : {X : Type 0} {x : X} → None ≡ Some x → ⊥
-none_some e = cc
-
-pub some_same : {X : Type 0} {x y : X} → Some x ≡ Some y → x ≡ y
-some_same e = cc
-
 link_of : (slots : List (Option Row)) (order : List ℕ) (k : ℕ) (o : Option Target) (to : ℕ) → LinksTo slots order to (chain_in o) → key_in (course_of o to) ≡ Some k → IsUser order k × (chain_in o ≡ Some (row_at slots k).name)
-link_of slots order k None to h q = absurd (none_some q)
-link_of slots order k (Some target.Log) to h q = absurd (none_some q)
-link_of slots order k (Some target.Accept) to h q = absurd (none_some q)
-link_of slots order k (Some target.Drop) to h q = absurd (none_some q)
-link_of slots order k (Some (target.Reject kind)) to h q = absurd (none_some q)
-link_of slots order k (Some target.Return) to h q = absurd (none_some q)
+link_of slots order k None to h q = absurd (none-some _ q)
+link_of slots order k (Some target.Log) to h q = absurd (none-some _ q)
+link_of slots order k (Some target.Accept) to h q = absurd (none-some _ q)
+link_of slots order k (Some target.Drop) to h q = absurd (none-some _ q)
+link_of slots order k (Some (target.Reject kind)) to h q = absurd (none-some _ q)
+link_of slots order k (Some target.Return) to h q = absurd (none-some _ q)
 link_of slots order k (Some (target.Jump n)) to h q =
-    let P : ℕ → Type 0 = λ j. IsUser order j × (Some n ≡ Some (row_at slots j).name) in subst P (some_same q) (h.0, ap Some (sym h.1))
+    let P : ℕ → Type 0 = λ j. IsUser order j × (Some n ≡ Some (row_at slots j).name) in subst P (same_Some _ _ q) (h.0, ap Some (sym h.1))
 link_of slots order k (Some (target.Goto n)) to h q =
-    let P : ℕ → Type 0 = λ j. IsUser order j × (Some n ≡ Some (row_at slots j).name) in subst P (some_same q) (h.0, ap Some (sym h.1))
+    let P : ℕ → Type 0 = λ j. IsUser order j × (Some n ≡ Some (row_at slots j).name) in subst P (same_Some _ _ q) (h.0, ap Some (sym h.1))
 
 -- it is a user chain
 pub link_user : (slots : List (Option Row)) (order : List ℕ) (e : Entry) (k : ℕ) → IsLinked slots order e → key_in e.course ≡ Some k → IsUser order k

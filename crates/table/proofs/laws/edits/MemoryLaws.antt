@@ -1,7 +1,7 @@
 -- Out of memory is no cause of the definition.
 use Rattle.std.proofs.Common.{◌≡◌, inl, inr, ℕ, Bool, true, false, not, List, [], ◌∷◌, ◌++◌, refl, sym, ◌∙◌, ap, Option, Some, None}
 use Rattle.std.specs.List.{list_all}
-use Rattle.std.proofs.lemmas.Bool.{cases_Bool, cond-true, cond-false, false≢true, and_parts}
+use Rattle.std.proofs.lemmas.Bool.{cases_Bool, cond-true, cond-false, false≢true, and_parts, not-true}
 use Rattle.table.specs.chains.Table.{Table, chain_named_by}
 use Rattle.table.specs.edits.Edits.{Edit, Append, Insert, Replace, DeleteAt, DeleteRule, Has, Flush, FlushAll, NewChain, DeleteChain, DeleteChains, SetPolicy, Rename, Cause, causes, target_causes, full, first_fault, TableFault, NoMemory}
 use Rattle.table.specs.edits.Headline.{OutOfMemoryIsNoCause}
@@ -45,13 +45,9 @@ first_other [] h = refl
 first_other (c ∷ cs) h =
     let both = and_parts (is_other c) (list_all is_other cs) h in
     elim (cases_Bool c.0) [
-      | inl holds ↦ ap fault_is_memory (cond-true c.0 _ _ holds) ∙ not_true (is_memory c.1) both.0
+      | inl holds ↦ ap fault_is_memory (cond-true c.0 _ _ holds) ∙ not-true (is_memory c.1) both.0
       | inr un ↦ ap fault_is_memory (cond-false c.0 _ _ un) ∙ first_other cs both.1
     ]
-  where
-    not_true : (b : Bool) → not b ≡ true → b ≡ false
-    not_true true e = sym e
-    not_true false e = refl
 
 -- an edit's fault is never out of memory
 pub never_memory : OutOfMemoryIsNoCause

@@ -1,5 +1,6 @@
 -- A renamed chain under its key, at the place of its new name.
 use Rattle.std.proofs.Common.{◌≡◌, ◌≢◌, ◌⊎◌, inl, inr, ℕ, zero, suc, ◌+◌, ◌-◌, ◌<◌, ◌≤◌, Bool, true, false, cond, ◌||◌, List, [], ◌∷◌, length, get_or, map, refl, sym, ◌∙◌, ap, arith, subst, Option, Some, None, IsSome, All, option_map}
+use Rattle.std.proofs.lemmas.Option.{none-some, same_Some}
 use Rattle.std.proofs.Math.ListN.{set}
 use Rattle.std.specs.Prelude.{count_by, insert, remove, min, nat_lt, nat_eq}
 use Rattle.std.specs.List.{list_any, position}
@@ -140,7 +141,7 @@ landing_is place to =
       | inr above ↦ inr (above, cond-false (nat_lt place to) (to - 1) to (le-ltb place to above))
     ]
 
-leading_remove : (slots : List (Option Row)) (keys : List ℕ) (i k : ℕ) → i < length keys → leading slots (remove keys i) k + leading_in k (row_at slots (get_or keys i 0)) ≡ leading slots keys k
+pub leading_remove : (slots : List (Option Row)) (keys : List ℕ) (i k : ℕ) → i < length keys → leading slots (remove keys i) k + leading_in k (row_at slots (get_or keys i 0)) ≡ leading slots keys k
 leading_remove slots [] i k lt = absurd (omega (arith, lt))
 leading_remove slots (x ∷ xs) zero k lt = omega arith
 leading_remove slots (x ∷ xs) (suc i) k lt = let h = leading_remove slots xs i k (omega (arith, lt)) in omega (arith, h)
@@ -366,10 +367,7 @@ kept_renamed ps slots new order place to key old name h lt at own p m r reads =
 
 name_form : (name : List ℕ) → name_of name ≡ Some name → is_name name ≡ true
 unfolding name_of
-name_form name h = elim (cases_Bool (is_name name)) [ inl t ↦ t | inr f ↦ (let none : None ≡ Some name = sym (cond-false (is_name name) (Some name) None f) ∙ h in absurd (none_some none)) ]
-  where
-    none_some : {X : Type 0} {x : X} → None ≡ Some x → ⊥
-    none_some e = cc
+name_form name h = elim (cases_Bool (is_name name)) [ inl t ↦ t | inr f ↦ (let none : None ≡ Some name = sym (cond-false (is_name name) (Some name) None f) ∙ h in absurd (none-some _ none)) ]
 
 pub is_rename : (ps : List Policy) (slots : List (Option Row)) (order : List ℕ) (place to : ℕ) (name : List ℕ) → IsStored ps slots order → 3 ≤ place → place < length order → IsPlaceFor name slots order to → name_of name ≡ Some name
     → IsRename (table_with ps slots order) (name_at slots order place) name place
@@ -390,23 +388,14 @@ pub name_read : (text name : List ℕ) → Some name ≡ name_of text → (is_na
 unfolding name_of
 name_read text name h =
     elim (cases_Bool (is_name text)) [
-      | inl t ↦ (t, some_same (h ∙ cond-true (is_name text) (Some text) None t))
-      | inr f ↦ absurd (some_none (h ∙ cond-false (is_name text) (Some text) None f))
+      | inl t ↦ (t, same_Some _ _ (h ∙ cond-true (is_name text) (Some text) None t))
+      | inr f ↦ (let none : None ≡ Some name = sym (h ∙ cond-false (is_name text) (Some text) None f) in absurd (none-some _ none))
     ]
-  where
-    some_same : Some name ≡ Some text → name ≡ text
-    some_same e = cc
-
-    some_none : Some name ≡ None → ⊥
-    some_none e = cc
 
 -- there was none
 pub name_refused : (text : List ℕ) → None ≡ name_of text → is_name text ≡ false
 unfolding name_of
-name_refused text h = elim (cases_Bool (is_name text)) [ inl t ↦ absurd (none_some (h ∙ cond-true (is_name text) (Some text) None t)) | inr f ↦ f ]
-  where
-    none_some : None ≡ Some text → ⊥
-    none_some e = cc
+name_refused text h = elim (cases_Bool (is_name text)) [ inl t ↦ absurd (none-some _ (h ∙ cond-true (is_name text) (Some text) None t)) | inr f ↦ f ]
 
 -- a chain has the name
 pub name_taken : (cs : List Chain) (name : List ℕ) → IsSome (position (is_named name) cs) → list_any (is_named name) cs ≡ true

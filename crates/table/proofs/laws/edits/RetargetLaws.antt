@@ -1,5 +1,6 @@
 -- New names in the rules of chains.
 use Rattle.std.proofs.Common.{◌≡◌, ◌≢◌, inl, inr, ℕ, ◌+◌, ◌<◌, Bool, true, false, cond, List, [], ◌∷◌, length, get_or, map, refl, sym, ◌∙◌, ap, arith, subst, Option, Some, None, IsSome, IsTrue, unwrap_or}
+use Rattle.classify.proofs.laws.classifier.RuleLaws.{renamed_or_not}
 use Rattle.std.proofs.Math.ListN.{set}
 use Rattle.std.specs.Prelude.{count_by}
 use Rattle.std.proofs.lemmas.Bool.{cases_Bool, cases_eq, cond-false, false≢true}
@@ -22,15 +23,9 @@ use Rattle.table.specs.declared.chain.entry.Entry.{Entry}
 use Rattle.table.proofs.laws.chains.KeptLaws.{key_within, row_set_same, row_set_other, some_set, set_some}
 use Rattle.table.proofs.laws.chains.CountLaws.{part_kept, leading_part}
 
--- a target is no number that a rule allows
-renamed_allows : (b : Bool) (name : List ℕ) (r : Rule) (field : Field) (x : ℕ) → allows r field x ≡ allows (cond b (with_chain_name name r) r) field x
-unfolding allows
-renamed_allows true name r field x = refl
-renamed_allows false name r field x = refl
-
 allow_the_same : (key : ℕ) (name : List ℕ) (es : List Entry) → AllowTheSame (map rule_in es) (map rule_in (map (retargeted key name) es))
 allow_the_same key name [] = tt
-allow_the_same key name (e ∷ es) = (renamed_allows (leads_to key e.course) name e.rule, allow_the_same key name es)
+allow_the_same key name (e ∷ es) = (renamed_or_not (leads_to key e.course) name e.rule, allow_the_same key name es)
 
 -- the classifier of the rules stays
 pub retargeted_classified : SameNumbersSameClassifier → (key : ℕ) (name : List ℕ) (es : List Entry) (c : Classified) → IsClassifierOfRules (map rule_in es) c → IsClassifierOfRules (map rule_in (map (retargeted key name) es)) c

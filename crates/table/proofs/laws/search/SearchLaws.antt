@@ -1,5 +1,6 @@
 -- The search for a path of jumps and gotos.
 use Rattle.std.proofs.Common.{◌≡◌, ◌⊎◌, inl, inr, ℕ, zero, suc, ◌+◌, ◌<◌, ◌≤◌, Bool, true, false, List, [], ◌∷◌, ◌++◌, length, get_or, map, refl, sym, ◌∙◌, ap, arith, subst, Option, Some, None, IsSome, Contains}
+use Rattle.std.proofs.lemmas.Option.{none-some, same_Some}
 use Rattle.std.proofs.Math.ListN.{set}
 use Rattle.std.specs.Option.{IfSome}
 use Rattle.std.proofs.lemmas.Bool.{cases_Bool, cases_eq, cases_lt, false≢true}
@@ -20,7 +21,7 @@ use Rattle.table.specs.declared.chain.entry.Entry.{Entry}
 use Rattle.table.proofs.laws.chains.CountLaws.{chains_few, key_mem, key_place, keys_differ}
 use Rattle.table.proofs.laws.chains.PathLaws.{Mem, Differing, pigeon, step_on, leads_is_path, path_is_led}
 use Rattle.table.proofs.laws.chains.StoreLaws.{names_apart}
-use Rattle.table.proofs.laws.edits.EditLaws.{if_some, none_some, some_same, link_user, link_named}
+use Rattle.table.proofs.laws.edits.EditLaws.{if_some, link_user, link_named}
 use Rattle.table.proofs.laws.walk.StackLaws.{rules_under, linked_under}
 
 -- Marks
@@ -106,14 +107,14 @@ edge ps slots order key k e s at own is =
     (e.rule, subst P (sym (rules_under ps slots order key s at)) c, link_named slots order e k (linked_under ps slots order key e s at own) is)
 
 link_back : (slots : List (Option Row)) (order : List ℕ) (name : List ℕ) (o : Option Target) (to : ℕ) → LinksTo slots order to (chain_in o) → chain_in o ≡ Some name → (key_in (course_of o to) ≡ Some to) × ((row_at slots to).name ≡ name)
-link_back slots order name None to h q = absurd (none_some q)
-link_back slots order name (Some target.Log) to h q = absurd (none_some q)
-link_back slots order name (Some target.Accept) to h q = absurd (none_some q)
-link_back slots order name (Some target.Drop) to h q = absurd (none_some q)
-link_back slots order name (Some (target.Reject kind)) to h q = absurd (none_some q)
-link_back slots order name (Some target.Return) to h q = absurd (none_some q)
-link_back slots order name (Some (target.Jump n)) to h q = (refl, h.1 ∙ some_same q)
-link_back slots order name (Some (target.Goto n)) to h q = (refl, h.1 ∙ some_same q)
+link_back slots order name None to h q = absurd (none-some _ q)
+link_back slots order name (Some target.Log) to h q = absurd (none-some _ q)
+link_back slots order name (Some target.Accept) to h q = absurd (none-some _ q)
+link_back slots order name (Some target.Drop) to h q = absurd (none-some _ q)
+link_back slots order name (Some (target.Reject kind)) to h q = absurd (none-some _ q)
+link_back slots order name (Some target.Return) to h q = absurd (none-some _ q)
+link_back slots order name (Some (target.Jump n)) to h q = (refl, h.1 ∙ same_Some _ _ q)
+link_back slots order name (Some (target.Goto n)) to h q = (refl, h.1 ∙ same_Some _ _ q)
 
 -- what a chain names, a rule of it leads to
 link_key : (ps : List Policy) (slots : List (Option Row)) (order : List ℕ) (key : ℕ) (name : List ℕ) → IsStored ps slots order → IsIn order key → Names (listed slots order) (row_at slots key).name name
@@ -230,7 +231,7 @@ visit_next ps slots order from seen reached at row upto e link seen' reached' h 
       stands = omega (arith, v.stands, length_push reached k);
       here = ap (row_at slots) (get_or_append_left reached (k ∷ []) 0 at v.stands) ∙ v.here;
       passed = one_more row.entries upto e (set seen k true) is (λ i x j below mine to. seen_more seen k j within (v.passed i x j below mine to))
-          (λ j some. let P : ℕ → Type 0 = λ x. IsSeen (set seen k true) x in subst P (some_same (sym m.1 ∙ q ∙ some)) (seen_same seen k within)) lt;
+          (λ j some. let P : ℕ → Type 0 = λ x. IsSeen (set seen k true) x in subst P (same_Some _ _ (sym m.1 ∙ q ∙ some)) (seen_same seen k within)) lt;
     }))
 
 -- The whole search
@@ -240,7 +241,7 @@ pub search_first : (ps : List Policy) (slots : List (Option Row)) (order : List 
 search_first ps slots order from seen none link seen' reached' h at u empty is (inl m) = absurd (false≢true (sym (u.clear from) ∙ m.0 from is))
 search_first ps slots order from seen none link seen' reached' h at u empty is (inr m) =
     let k : ℕ = m.0 in
-    let same : k ≡ from = some_same (sym m.1 ∙ is) in
+    let same : k ≡ from = same_Some _ _ (sym m.1 ∙ is) in
     let P : List Bool → Type 0 = λ xs. IsSearch slots order from xs reached' 0 in
     let Q : List ℕ → Type 0 = λ xs. IsSearch slots order from (set seen from true) xs 0 in
     let bare : IsMarked order seen [] = record {

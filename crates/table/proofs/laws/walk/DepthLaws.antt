@@ -1,5 +1,6 @@
 -- No more rests wait on the stack of a walk than there are user chains.
 use Rattle.std.proofs.Common.{◌≡◌, inl, inr, ℕ, zero, suc, ◌+◌, ◌≤◌, true, false, not, List, [], ◌∷◌, length, get_or, refl, sym, ◌∙◌, ap, arith, subst, Option, Some, None, Contains}
+use Rattle.std.proofs.lemmas.Option.{same_Some, none-some}
 use Rattle.std.specs.List.{list_any}
 use Rattle.std.proofs.Math.Nat.{max-le}
 use Rattle.std.proofs.lemmas.Bool.{cases_Bool, cases_lt, cond-true, cond-false, false≢true, or_cases}
@@ -130,19 +131,13 @@ target_user t a r name s at e =
 
 -- One step of a walk
 
-some_same : {X : Type 0} {x y : X} → Some x ≡ Some y → x ≡ y
-some_same e = cc
-
-none_some : {X : Type 0} {x : X} → None ≡ Some x → ⊥
-none_some e = cc
-
 -- the rule of a hit stands in the chain where it was found, if it names a chain
 named_at : (cs : List Chain) (a : List ℕ) (place : ℕ) (name : List ℕ) → chain_in (target_of (get_or (rules_of cs a) place empty_rule)) ≡ Some name
     → (r : Rule) × Contains (rules_of cs a) r × (chain_named_by r ≡ Some name)
 named_at cs a place name e =
     elim (cases_lt place (length (rules_of cs a))) [
       | inl lt ↦ (let r : Rule = get_or (rules_of cs a) place empty_rule in (r, (place, lt, get_or_default (rules_of cs a) place r empty_rule lt), e))
-      | inr past ↦ absurd (none_some (ap chain_named_by (sym (get_or_past (rules_of cs a) place empty_rule past)) ∙ e))
+      | inr past ↦ absurd (none-some _ (ap chain_named_by (sym (get_or_past (rules_of cs a) place empty_rule past)) ∙ e))
     ]
 
 record IsFound (cs : List Chain) (hit : Hit) : Type 0 where
@@ -154,10 +149,10 @@ found_by : (cs : List Chain) (values : List ℕ) (rest : Rest) (stack : List Res
 found_by cs values rest stack None hit h below_it e = below_it (below cs rest stack h) e
 found_by cs values rest stack (Some place) hit h below_it e =
     let P : Hit → Type 0 = λ x. IsFound cs x in
-    subst P (some_same e) (record { stack = moved_on cs rest (place + 1) stack h; named = λ name is. named_at cs rest.chain place name is })
+    subst P (same_Some _ _ e) (record { stack = moved_on cs rest (place + 1) stack h; named = λ name is. named_at cs rest.chain place name is })
 
 found : (cs : List Chain) (values : List ℕ) (rests : List Rest) (hit : Hit) → IsStack cs rests → first_hit cs values rests ≡ Some hit → IsFound cs hit
-found cs values [] hit h e = absurd (none_some e)
+found cs values [] hit h e = absurd (none-some _ e)
 found cs values (rest ∷ stack) hit h e =
     found_by cs values rest stack (next_match (matches values) (rules_of cs rest.chain) rest.passed) hit h (λ s i. found cs values stack hit s i) e
 

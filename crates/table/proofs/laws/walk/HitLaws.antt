@@ -1,5 +1,6 @@
 -- The first rule that matches, by the classifiers of the chains under keys.
 use Rattle.std.proofs.Common.{◌≡◌, ℕ, ◌+◌, ◌<◌, true, false, List, [], ◌∷◌, length, get_or, refl, sym, ◌∙◌, ap, arith, subst, Option, Some, None, Contains}
+use Rattle.table.proofs.laws.walk.WalkLaws.{hit_by}
 use Rattle.std.proofs.lemmas.Bool.{false≢true}
 use Rattle.std.proofs.lemmas.List.{get_or-map}
 use Rattle.classify.specs.search.NextMatch.{next_match}
@@ -17,9 +18,6 @@ use Rattle.table.specs.declared.chain.entry.Course.{Course}
 use Rattle.table.specs.declared.chain.entry.Entry.{Entry}
 use Rattle.table.specs.declared.walk.Pending.{Pending}
 use Rattle.table.proofs.laws.walk.StackLaws.{row_is, rules_under, linked_under}
-
-abbrev hit_by : List Chain → List ℕ → Rest → List Rest → Option ℕ → Option Hit
-hit_by cs values rest stack o = elim o as (λ x. Option Hit) [ None ↦ first_hit cs values stack | Some place ↦ Some (hit_at cs rest.chain stack place) ]
 
 -- what the classifier of the chain under the key answers is the next match in the chain
 found_under : (ps : List Policy) (slots : List (Option Row)) (order values : List ℕ) (at : Pending) (stack : List Pending) (row : Row) (o : Option ℕ) → IsStored ps slots order → IsState order at stack → slot_at slots at.chain ≡ Some row

@@ -17,7 +17,7 @@ rule_at cs rest = get_or (rules_of cs rest.chain) rest.passed empty_rule
 abbrev pub next_rule : Rest → Rest
 next_rule rest = record { chain = rest.chain; passed = rest.passed + 1 }
 
-abbrev hit_by : List Chain → List ℕ → Rest → List Rest → Option ℕ → Option Hit
+abbrev pub hit_by : List Chain → List ℕ → Rest → List Rest → Option ℕ → Option Hit
 hit_by cs values rest stack o = elim o as (λ x. Option Hit) [ None ↦ first_hit cs values stack | Some place ↦ Some (hit_at cs rest.chain stack place) ]
 
 -- nothing is left of the chain: the newest rest on the stack goes on

@@ -1,11 +1,12 @@
 use Rattle.std.proofs.Common.{◌≡◌, ◌∙◌, ◌<◌, refl, sym, ap, arith, length, List, Option, get_or}
+use Rattle.std.proofs.lemmas.Option.{same_Some}
 use Rattle.std.proofs.Common.{Some}
 use Rattle.std.proofs.Math.ListN.{set}
 use Rattle.table.specs.steps.Kept.{references_at}
 use Rattle.table.specs.steps.Rows.{Row, key_in}
 use Rattle.table.specs.declared.chain.entry.Entry.{Entry}
 use Rattle.table.proofs.laws.chains.KeptLaws.{found}
-use Rattle.table.proofs.laws.edits.EditLaws.{IsPutOver, found_entries, some_same, counts_in_there, counts_out_there, counts_out_after, counts_on, recounted_on, over_kept, over_table}
+use Rattle.table.proofs.laws.edits.EditLaws.{IsPutOver, found_entries, counts_in_there, counts_out_there, counts_out_after, counts_on, recounted_on, over_kept, over_table}
 use Rattle.table.proofs.parts.Parts.replace.Goals as goal
 
 pub count_in-requires : goal.count_in-requires
@@ -21,7 +22,7 @@ count_out-requires c =
     let order = c.args.self.now.order.items in
     let f = found c.args.self.now.policies slots order c.args.place c.index-key.result.now c.index_mut.result.now c.requires.kept.stored c.requires.place c.index-key.ensures c.index_mut.ensures.value in
     let lt : c.args.at < length c.index_mut.result.now.entries = omega (arith, c.requires.at, ap (λ (es : List Entry). length es) (found_entries c.args.self.now.policies slots order c.args.place c.index-key.result.now c.index_mut.result.now f)) in
-    let same : c.index_mut.result.now ≡ c.index.result.now = some_same (sym c.index_mut.ensures.value ∙ c.index.ensures) in
+    let same : c.index_mut.result.now ≡ c.index.result.now = same_Some _ _ (sym c.index_mut.ensures.value ∙ c.index.ensures) in
     let own : get_or c.index_mut.result.now.entries c.args.at c.entry.result.now ≡ c.entry.result.now = ap (λ (r : Row). get_or r.entries c.args.at c.entry.result.now) same ∙ sym c.entry.ensures in
     let first : List (Option Row) = set slots c.index-key.result.now (Some c.replace.new.self) in
     counts_out_after first c.count_in.new.chains.slots c.key-link.result c.key-before.result c.count_in.ensures.same c.count_in.ensures.counted
@@ -37,7 +38,7 @@ returns c =
     let new = c.replace.new.self in
     let f = found ps slots order c.args.place key row c.requires.kept.stored c.requires.place c.index-key.ensures c.index_mut.ensures.value in
     let lt : c.args.at < length row.entries = omega (arith, c.requires.at, ap (λ (es : List Entry). length es) (found_entries ps slots order c.args.place key row f)) in
-    let same : row ≡ c.index.result.now = some_same (sym c.index_mut.ensures.value ∙ c.index.ensures) in
+    let same : row ≡ c.index.result.now = same_Some _ _ (sym c.index_mut.ensures.value ∙ c.index.ensures) in
     let own : get_or row.entries c.args.at c.entry.result.now ≡ c.entry.result.now = ap (λ (r : Row). get_or r.entries c.args.at c.entry.result.now) same ∙ sym c.entry.ensures in
     let done = c.in_ok-replace.ensures in
     let p : IsPutOver row new c.args.at c.args.entry = record { name = done.name; references = done.references; entries = done.ok; classified = done.classified } in

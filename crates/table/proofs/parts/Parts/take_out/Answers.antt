@@ -1,8 +1,9 @@
 use Rattle.std.proofs.Common.{◌≡◌, ◌∙◌, ◌<◌, refl, sym, ap, arith, length, List, get_or}
+use Rattle.std.proofs.lemmas.Option.{same_Some}
 use Rattle.table.specs.steps.Rows.{Row, key_in}
 use Rattle.table.specs.declared.chain.entry.Entry.{Entry}
 use Rattle.table.proofs.laws.chains.KeptLaws.{found}
-use Rattle.table.proofs.laws.edits.EditLaws.{IsTakenOut, found_entries, some_same, counts_out_there, out_kept, out_table}
+use Rattle.table.proofs.laws.edits.EditLaws.{IsTakenOut, found_entries, counts_out_there, out_kept, out_table}
 use Rattle.table.proofs.parts.Parts.take_out.Goals as goal
 
 pub count_out-requires : goal.count_out-requires
@@ -11,7 +12,7 @@ count_out-requires c =
     let order = c.args.self.now.order.items in
     let f = found c.args.self.now.policies slots order c.args.place c.index-key.result.now c.index_mut.result.now c.requires.kept.stored c.requires.place c.index-key.ensures c.index_mut.ensures.value in
     let lt : c.args.at < length c.index_mut.result.now.entries = omega (arith, c.requires.at, ap (λ (es : List Entry). length es) (found_entries c.args.self.now.policies slots order c.args.place c.index-key.result.now c.index_mut.result.now f)) in
-    let same : c.index_mut.result.now ≡ c.index.result.now = some_same (sym c.index_mut.ensures.value ∙ c.index.ensures) in
+    let same : c.index_mut.result.now ≡ c.index.result.now = same_Some _ _ (sym c.index_mut.ensures.value ∙ c.index.ensures) in
     let own : get_or c.index_mut.result.now.entries c.args.at c.entry.result.now ≡ c.entry.result.now = ap (λ (r : Row). get_or r.entries c.args.at c.entry.result.now) same ∙ sym c.entry.ensures in
     counts_out_there c.args.self.now.policies slots order c.args.place c.index-key.result.now c.args.at c.index_mut.result.now c.remove.new.self c.entry.result.now c.key-link.result c.requires.kept f c.remove.ensures.references lt own c.key-link.ensures
 
@@ -24,7 +25,7 @@ returns c =
     let row = c.index_mut.result.now in
     let f = found ps slots order c.args.place key row c.requires.kept.stored c.requires.place c.index-key.ensures c.index_mut.ensures.value in
     let lt : c.args.at < length row.entries = omega (arith, c.requires.at, ap (λ (es : List Entry). length es) (found_entries ps slots order c.args.place key row f)) in
-    let same : row ≡ c.index.result.now = some_same (sym c.index_mut.ensures.value ∙ c.index.ensures) in
+    let same : row ≡ c.index.result.now = same_Some _ _ (sym c.index_mut.ensures.value ∙ c.index.ensures) in
     let own : get_or row.entries c.args.at c.entry.result.now ≡ c.entry.result.now = ap (λ (r : Row). get_or r.entries c.args.at c.entry.result.now) same ∙ sym c.entry.ensures in
     let p : IsTakenOut row c.remove.new.self c.args.at = record { name = c.remove.ensures.name; references = c.remove.ensures.references; entries = c.remove.ensures.entries; classified = c.remove.ensures.classified } in
     record {
