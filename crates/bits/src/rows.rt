@@ -176,7 +176,7 @@ impl Rows {
     /// # Errors
     ///
     /// `AllocError` where memory was refused.
-    pub fn open(alloc: Global) -> Result<Rows, AllocError>
+    pub fn with_one_row(alloc: Global) -> Result<Rows, AllocError>
         ensures { IfOk result (λ rows. (rows.rows ≡ [] ∷ []) × (rows.room ≡ 0)) }
     {
         let mut slots = Vec::new(alloc);
@@ -278,7 +278,7 @@ impl Rows {
     /// # Errors
     ///
     /// `AllocError` where memory was refused, or there are 2 to the 32 rows: the rows are as before.
-    pub fn double(&mut self, row: usize) -> Result<(), AllocError>
+    pub fn duplicate(&mut self, row: usize) -> Result<(), AllocError>
         requires { row < length self.old.rows }
         ensures ok { OnOk result (self.new.rows ≡ insert self.old.rows (row + 1) (slice_index_or self.old.rows row [])) }
         ensures err { OnErr result (self.new.rows ≡ self.old.rows) }
@@ -315,7 +315,7 @@ impl Rows {
     }
 
     /// Puts a 0 into each row at a place, where there is room: the later bits move up by one.
-    pub fn open_place(&mut self, at: usize)
+    pub fn insert_column(&mut self, at: usize)
         requires some { 0 < length self.old.rows }
         requires place { All (λ row. at ≤ length row) self.old.rows }
         requires room { 0 < self.old.room }
@@ -338,7 +338,7 @@ impl Rows {
     }
 
     /// Takes a bit out of each row at a place: the later ones move down by one.
-    pub fn close_place(&mut self, at: usize)
+    pub fn remove_column(&mut self, at: usize)
         requires some { 0 < length self.old.rows }
         requires place { All (λ row. at < length row) self.old.rows }
         ensures rows { self.new.rows ≡ map (λ row. remove row at) self.old.rows }

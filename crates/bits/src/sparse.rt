@@ -36,7 +36,7 @@ fn next_up(summary: u64, carry: bool, start: usize, words: usize) -> usize
 }
 
 // Puts a 0 in at a place: the later bits move up, and the last falls out. Words that the summary lacks are passed over.
-fn take_in_marked(words: &mut [u64], summary: &mut u64, at: usize)
+fn insert_in_marked(words: &mut [u64], summary: &mut u64, at: usize)
     requires few { length words.old < 2 ^ 58 }
     requires place { at ≤ 64 * length words.old }
     requires summed { IsSummaryOf summary.old (all_bits words.old) }
@@ -129,7 +129,7 @@ fn next_down(words: &[u64], summary: u64, start: usize) -> usize
 
 // Takes the bit at a place out: the later bits move down, and a 0 comes in last. Words that the summary lacks are passed
 // over.
-fn give_up_marked(words: &mut [u64], summary: &mut u64, at: usize)
+fn remove_in_marked(words: &mut [u64], summary: &mut u64, at: usize)
     requires few { length words.old < 2 ^ 58 }
     requires place { at < 64 * length words.old }
     requires summed { IsSummaryOf summary.old (all_bits words.old) }
@@ -221,8 +221,8 @@ pub(crate) fn shift(words: &mut [u64], summary: &mut u64, at: usize, way: Way)
     let in_pairs = words.len() % 2 == 0 && at / 64 % 2 == 0;
     match way {
         Way::In if in_pairs => take_in_pairs(words, summary, at),
-        Way::In => take_in_marked(words, summary, at),
+        Way::In => insert_in_marked(words, summary, at),
         Way::Out if in_pairs => give_up_pairs(words, summary, at),
-        Way::Out => give_up_marked(words, summary, at),
+        Way::Out => remove_in_marked(words, summary, at),
     }
 }

@@ -6,10 +6,10 @@
 use fields::{PacketFault, ReadFailed, WordFault, WriteFailed};
 use restore::{CommandFault, RestoreFault};
 use rules::{Refusal, RuleFault};
+use sessions::Fault;
 use std::fmt::{Debug, Display};
 use std::io;
 use table::TableFault;
-use turns::Fault;
 
 const REFUSALS: [Refusal; 12] = [
     Refusal::UnknownOption(0),

@@ -10,7 +10,7 @@ const TABLES: u32 = 100;
 /// Gives a chain that rules name another name. The rules name that one then.
 fn rename_one(table: &mut Table, old: &[u8], new: &[u8]) -> Result<(), Trouble> {
     accepted(table.rename(old, new))?;
-    expect(table.place_of(old).is_none() && table.place_of(new).is_some())
+    expect(table.index_of(old).is_none() && table.index_of(new).is_some())
 }
 
 /// `Table::rename`, of a chain that goes behind the other by it, and back.

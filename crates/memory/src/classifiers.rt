@@ -145,7 +145,7 @@ pub fn insert(alloc: Global, times: u32) -> Result<(), Trouble> {
 }
 
 /// Puts a box over the last of two.
-fn put_over(classifier: &mut Classifier, boxed: Boxed) -> Result<(), Trouble> {
+fn replace_rule(classifier: &mut Classifier, boxed: Boxed) -> Result<(), Trouble> {
     if classifier.len() != 2 {
         return Err(Trouble::OtherAnswer);
     }
@@ -158,7 +158,7 @@ pub fn replace(alloc: Global, times: u32) -> Result<(), Trouble> {
     let mut classifier = of_two(alloc)?;
     let mut boxes = boxes_of(alloc, SECOND)?;
     for _ in 0..times {
-        put_over(&mut classifier, one_of(&mut boxes)?)?;
+        replace_rule(&mut classifier, one_of(&mut boxes)?)?;
     }
     Ok(())
 }

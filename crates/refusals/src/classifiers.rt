@@ -249,7 +249,7 @@ fn got_over(
 }
 
 /// Puts the third box over the first; a refusal leaves the lines that were there.
-fn put_over(
+fn replace_rule(
     alloc: Global,
     refusals: &mut Refusals,
     classifier: &mut Classifier,
@@ -268,7 +268,7 @@ fn put_over(
 pub fn replace(alloc: Global, refusals: &mut Refusals) -> Result<(), Trouble> {
     let mut classifier = none(alloc, refusals)?;
     put_before(alloc, refusals, &mut classifier)?;
-    put_over(alloc, refusals, &mut classifier)
+    replace_rule(alloc, refusals, &mut classifier)
 }
 
 /// Puts a box in where no memory is needed.
@@ -277,13 +277,13 @@ fn give(classifier: &mut Classifier, boxed: Boxed) -> Result<(), Trouble> {
 }
 
 /// Puts a box without conditions first among two.
-fn give_in(classifier: &mut Classifier, put_in: Boxed) -> Result<(), Trouble> {
-    give(classifier, put_in)?;
+fn give_in(classifier: &mut Classifier, insert_rule: Boxed) -> Result<(), Trouble> {
+    give(classifier, insert_rule)?;
     expect_of(classifier, 3, &OF_ANY_AND_BOTH)
 }
 
 /// Takes the first of three boxes out.
-fn take_out(classifier: &mut Classifier) -> Result<(), Trouble> {
+fn remove_rule(classifier: &mut Classifier) -> Result<(), Trouble> {
     if classifier.len() != 3 {
         return Err(Trouble::OtherAnswer);
     }
@@ -295,16 +295,16 @@ fn take_out(classifier: &mut Classifier) -> Result<(), Trouble> {
 const OF_FIRST_AND_ANY: [Expected<'static>; 1] = [(Field::Source, OF_ADDRESS)];
 
 /// Puts a box without conditions over the last of two.
-fn give_over(classifier: &mut Classifier, put_over: Boxed) -> Result<(), Trouble> {
+fn give_over(classifier: &mut Classifier, replace_rule: Boxed) -> Result<(), Trouble> {
     if classifier.len() != 2 {
         return Err(Trouble::OtherAnswer);
     }
-    expect_given(classifier.replace(1, put_over))
+    expect_given(classifier.replace(1, replace_rule))
 }
 
 /// The same, and compares the lines.
-fn give_over_last(classifier: &mut Classifier, put_over: Boxed) -> Result<(), Trouble> {
-    give_over(classifier, put_over)?;
+fn give_over_last(classifier: &mut Classifier, replace_rule: Boxed) -> Result<(), Trouble> {
+    give_over(classifier, replace_rule)?;
     expect_of(classifier, 2, &OF_FIRST_AND_ANY)
 }
 
@@ -326,11 +326,11 @@ pub fn needless(
     refusals: &mut Refusals,
     classifier: &mut Classifier,
 ) -> Result<(), Trouble> {
-    let put_in = box_of(alloc, refusals, ANY)?;
-    let put_over = box_of(alloc, refusals, ANY)?;
+    let insert_rule = box_of(alloc, refusals, ANY)?;
+    let replace_rule = box_of(alloc, refusals, ANY)?;
     let put_back = box_of(alloc, refusals, ANY)?;
-    give_in(classifier, put_in)?;
-    take_out(classifier)?;
-    give_over_last(classifier, put_over)?;
+    give_in(classifier, insert_rule)?;
+    remove_rule(classifier)?;
+    give_over_last(classifier, replace_rule)?;
     give_back(classifier, put_back)
 }

@@ -195,12 +195,12 @@ fn run_of_edits<R: Print + AllocGlobal>(
     tell(
         rt,
         "rules put in",
-        tables::put_in(alloc, refusals, table, packet),
+        tables::insert_rule(alloc, refusals, table, packet),
     );
     tell(
         rt,
         "rules put over others",
-        tables::put_over(alloc, refusals, table, packet),
+        tables::replace_rule(alloc, refusals, table, packet),
     );
     tell(rt, "trails", tables::trail(alloc, refusals, table, packet));
     tell(

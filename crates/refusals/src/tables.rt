@@ -282,7 +282,7 @@ const IN: &[(Change, State, State)] = &[
 ];
 
 /// `Table::append` and `insert`.
-pub fn put_in(
+pub fn insert_rule(
     alloc: Global,
     refusals: &mut Refusals,
     table: &mut Table,
@@ -303,7 +303,7 @@ const OVER: &[(Change, State, State)] = &[
 ];
 
 /// `Table::replace`.
-pub fn put_over(
+pub fn replace_rule(
     alloc: Global,
     refusals: &mut Refusals,
     table: &mut Table,

@@ -1,2 +1,2 @@
 pub mod Command
-pub mod Heads
+pub mod CommandForms

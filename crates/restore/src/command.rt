@@ -2,18 +2,18 @@
 ghost use Rattle.std.specs.Prelude.{length, drop, map};
 ghost use Rattle.restore.specs.Sequence.{made_into, refused_as};
 ghost use Rattle.restore.specs.commands.Command.{Change, IsRead};
-ghost use Rattle.restore.specs.commands.Heads.{command_of, edit_of, line_of, or_second};
+ghost use Rattle.restore.specs.commands.CommandForms.{command_of, edit_of, line_of, or_second};
 ghost use Rattle.restore.specs.steps.Reading.{row_of};
 
+mod args;
 pub(crate) mod digits;
-mod follow;
-mod head;
 mod line;
+mod name;
 mod next;
 mod second;
 
-use crate::command::head::Head;
 use crate::command::line::read_line;
+use crate::command::name::CommandName;
 use crate::command::second::or_second;
 use crate::fault::CommandFault;
 use fields::Words;
@@ -56,14 +56,14 @@ pub enum Command<'a> {
 // One of these commands, or why the words from a place on write none.
 fn read_among<'a>(
     alloc: Global,
-    heads: &[Head],
+    command_names: &[CommandName],
     words: &'a Words,
     from: usize,
 ) -> Result<Command<'a>, CommandFault>
     ensures { IsRead result
-        (let rest = drop from words.now in refused_as (or_second (length words.now) rest) (line_of (map row_of heads.now) (length words.now) rest)) }
+        (let rest = drop from words.now in refused_as (or_second (length words.now) rest) (line_of (map row_of command_names.now) (length words.now) rest)) }
 {
-    match read_line(alloc, heads, words, from) {
+    match read_line(alloc, command_names, words, from) {
         Ok(command) => Ok(command),
         Err(fault) => Err(or_second(words, from, fault)),
     }
@@ -86,7 +86,7 @@ impl<'a> Command<'a> {
     pub fn read(alloc: Global, words: &'a Words, from: usize) -> Result<Command<'a>, CommandFault>
         ensures { IsRead result (command_of (length words.now) (drop from words.now)) }
     {
-        read_among(alloc, &Head::ALL, words, from)
+        read_among(alloc, &CommandName::ALL, words, from)
     }
 
     // The same, of any command but `-S`, which is none here.
@@ -97,6 +97,6 @@ impl<'a> Command<'a> {
     ) -> Result<Command<'a>, CommandFault>
         ensures { IsRead result (made_into Change (edit_of (length words.now) (drop from words.now))) }
     {
-        read_among(alloc, &Head::ALL[..Head::EDITS], words, from)
+        read_among(alloc, &CommandName::ALL[..CommandName::EDITS], words, from)
     }
 }

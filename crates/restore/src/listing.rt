@@ -169,7 +169,7 @@ fn put_rules_of<W: Write>(
     requires { has_failed output.old ≡ false }
     ensures { Puts W.contents output.old output.new result (rules_listing table.now.table (Some name.now)) }
 {
-    let Some(place) = table.place_of(name) else {
+    let Some(place) = table.index_of(name) else {
         return Ok(());
     };
     table.stands();

@@ -17,7 +17,7 @@ use table::Table;
 
 // Where the next line of a restore stands: between sections, in a section that is skipped, or in one that is built.
 #[derive(Drop)]
-enum Place {
+enum SectionState {
     Between,
     Skipping,
     Building(Transaction),
@@ -30,41 +30,46 @@ pub struct Restore {
     alloc: Global,
     noflush: bool,
     test: bool,
-    place: Place,
+    state: SectionState,
 }
 
 impl Model for Restore {
-    ghost use Rattle.restore.specs.contracts.restore.Place as of_place;
+    ghost use Rattle.restore.specs.contracts.restore.SectionState as of_state;
     ghost use Rattle.restore.specs.sections.Restore.{Restore as Restored, restore_code};
 
     ghost Value = { Restored };
 
-    ghost coded = { restore_code of_place.the_row.coded };
+    ghost coded = { restore_code of_state.the_row.coded };
 
-    ghost view = { λ r. record { noflush = r.noflush; test = r.test; place = r.place } };
+    ghost view = { λ r. record { noflush = r.noflush; test = r.test; state = r.state } };
 }
 
-// The place after a line that opens a section by a word.
-fn opened(alloc: Global, noflush: bool, table: &Table, word: &[u8]) -> Result<Place, RestoreFault>
-    ensures { Gives is_out_of_memory (λ place. place) result (Ok (opened noflush table.now.table word.now)) }
+// The state after a line that opens a section by a word.
+fn opened(
+    alloc: Global,
+    noflush: bool,
+    table: &Table,
+    word: &[u8],
+) -> Result<SectionState, RestoreFault>
+    ensures { Gives is_out_of_memory (λ state. state) result (Ok (opened noflush table.now.table word.now)) }
 {
     if word != b"*filter".as_slice() {
-        return Ok(Place::Skipping);
+        return Ok(SectionState::Skipping);
     }
     match Transaction::begin(alloc, table, noflush) {
-        Ok(section) => Ok(Place::Building(section)),
+        Ok(section) => Ok(SectionState::Building(section)),
         Err(_) => Err(RestoreFault::NoMemory),
     }
 }
 
-// The place after the words of a line between sections.
+// The state after the words of a line between sections.
 fn opening(
     alloc: Global,
     noflush: bool,
     table: &Table,
     words: &Words,
-) -> Result<Place, RestoreFault>
-    ensures { Gives is_out_of_memory (λ place. place) result (opening noflush table.now.table words.now) }
+) -> Result<SectionState, RestoreFault>
+    ensures { Gives is_out_of_memory (λ state. state) result (opening noflush table.now.table words.now) }
 {
     if words.len() != 1 || !begins_with(words.get(0), b'*') {
         return Err(RestoreFault::NotAllowed);
@@ -72,14 +77,19 @@ fn opening(
     opened(alloc, noflush, table, words.get(0))
 }
 
-// The place after a line between sections.
-fn between(alloc: Global, noflush: bool, table: &Table, line: &[u8]) -> Result<Place, RestoreFault>
-    ensures step { Gives is_out_of_memory (λ place. place) result (between noflush table.now.table line.now) }
+// The state after a line between sections.
+fn between(
+    alloc: Global,
+    noflush: bool,
+    table: &Table,
+    line: &[u8],
+) -> Result<SectionState, RestoreFault>
+    ensures step { Gives is_out_of_memory (λ state. state) result (between noflush table.now.table line.now) }
     ensures quiet { IsTrue (is_quiet line.now) → IsFalse (ran_out result) }
     ensures commit { IsTrue (is_commit line.now) → IsFalse (ran_out result) }
 {
     if is_quiet(line) {
-        return Ok(Place::Between);
+        return Ok(SectionState::Between);
     }
     if is_commit(line) {
         return Err(RestoreFault::NotAllowed);
@@ -88,14 +98,14 @@ fn between(alloc: Global, noflush: bool, table: &Table, line: &[u8]) -> Result<P
     opening(alloc, noflush, table, &words)
 }
 
-// The place after a line of a section that is skipped.
-fn skipped(line: &[u8]) -> Place
+// The state after a line of a section that is skipped.
+fn skipped(line: &[u8]) -> SectionState
     ensures { result ≡ skipped line.now }
 {
     if is_commit(line) {
-        return Place::Between;
+        return SectionState::Between;
     }
-    Place::Skipping
+    SectionState::Skipping
 }
 
 // Puts the table of a section in place, unless this is a test.
@@ -118,7 +128,7 @@ impl Restore {
             alloc,
             noflush,
             test,
-            place: Place::Between,
+            state: SectionState::Between,
         }
     }
 
@@ -148,17 +158,17 @@ impl Restore {
             alloc,
             noflush,
             test,
-            place,
+            state,
         } = self;
-        let next = match place {
-            Place::Between => between(alloc, noflush, table, line)?,
-            Place::Skipping => skipped(line),
-            Place::Building(section) => {
+        let next = match state {
+            SectionState::Between => between(alloc, noflush, table, line)?,
+            SectionState::Skipping => skipped(line),
+            SectionState::Building(section) => {
                 if is_commit(line) {
                     commit(section, test, table);
-                    Place::Between
+                    SectionState::Between
                 } else {
-                    Place::Building(section.line(line, work)?)
+                    SectionState::Building(section.line(line, work)?)
                 }
             }
         };
@@ -166,7 +176,7 @@ impl Restore {
             alloc,
             noflush,
             test,
-            place: next,
+            state: next,
         })
     }
 
@@ -176,10 +186,10 @@ impl Restore {
     ///
     /// `RestoreFault::EndBeforeCommit` inside a section.
     pub fn finish(self) -> Result<(), RestoreFault>
-        ensures { result ≡ ended_at self.place }
+        ensures { result ≡ ended_at self.state }
     {
-        match self.place {
-            Place::Between => Ok(()),
+        match self.state {
+            SectionState::Between => Ok(()),
             _ => Err(RestoreFault::EndBeforeCommit),
         }
     }

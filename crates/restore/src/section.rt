@@ -82,7 +82,7 @@ pub(crate) fn begins_with(word: &[u8], byte: u8) -> bool
 fn has_chain(table: &Table, name: &[u8]) -> bool
     ensures { result ≡ has_chain table.now.table name.now }
 {
-    table.place_of(name).is_some()
+    table.index_of(name).is_some()
 }
 
 // Does what a chain line asks of the table.

@@ -1,4 +1,4 @@
 pub mod Matches
 pub mod Options
-pub mod Settings
+pub mod OptionValues
 pub mod Values

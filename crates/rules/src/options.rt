@@ -3,5 +3,5 @@
 pub(crate) mod comment;
 pub(crate) mod match_kind;
 pub(crate) mod option;
-pub(crate) mod setting;
+pub(crate) mod option_value;
 pub(crate) mod value;

@@ -4,21 +4,21 @@ ghost use Rattle.fields.specs.text.Printed.{spaced, bare, spaced_all};
 ghost use Rattle.fields.specs.text.OneLine.{IsOneLine};
 ghost use Rattle.fields.specs.text.Tap.{has_failed, Puts};
 ghost use Rattle.rules.specs.options.Options.{name_of};
-ghost use Rattle.rules.specs.options.Settings.{option_of_value};
-ghost use Rattle.rules.specs.printing.Printing.{shown_value, shown_bang, shown_setting, shown_action, rule_text};
+ghost use Rattle.rules.specs.options.OptionValues.{option_of_value};
+ghost use Rattle.rules.specs.printing.Printing.{shown_value, shown_bang, shown_option_value, shown_action, rule_text};
 ghost use Rattle.rules.specs.printing.RoundTrip.{TextReadsBack, IsOnlyOne, HasShortLine};
 ghost use Rattle.rules.specs.rule.Readable.{IsInOrder, IsReadable};
-ghost use Rattle.rules.specs.steps.Writing.{has_words, value_text, setting_text, start_text, match_text, action_text};
-ghost use Rattle.rules.specs.steps.Views.{view_match, view_content};
+ghost use Rattle.rules.specs.steps.Writing.{has_words, value_text, option_value_text, start_text, match_text, action_text};
+ghost use Rattle.rules.specs.steps.Views.{view_match, view_spec};
 
 pub(crate) mod listed_line;
 
 use crate::options::match_kind::MatchKind;
-use crate::options::setting::Setting;
+use crate::options::option_value::OptionValue;
 use crate::options::value::Value;
 use crate::rule::Rule;
 use crate::rule::action::Action;
-use crate::rule::content::{Content, Match};
+use crate::rule::spec::{Match, RuleSpec};
 use fields::{Tap, WriteFailed};
 use std::io::Write;
 
@@ -99,22 +99,28 @@ fn put_name<W: Write>(output: &mut Tap<W>, value: &Value) -> Result<(), WriteFai
 }
 
 // Writes an option with its value.
-fn put_setting<W: Write>(output: &mut Tap<W>, setting: &Setting) -> Result<(), WriteFailed>
+fn put_option_value<W: Write>(
+    output: &mut Tap<W>,
+    option_value: &OptionValue,
+) -> Result<(), WriteFailed>
     requires { has_failed output.old ≡ false }
-    ensures { Puts W.contents output.old output.new result (setting_text setting.now) }
+    ensures { Puts W.contents output.old output.new result (option_value_text option_value.now) }
 {
-    put_bang(output, setting.inverted)?;
-    put_name(output, &setting.value)?;
-    put_value(output, &setting.value)
+    put_bang(output, option_value.inverted)?;
+    put_name(output, &option_value.value)?;
+    put_value(output, &option_value.value)
 }
 
 // Writes options, one after another.
-fn put_settings<W: Write>(output: &mut Tap<W>, settings: &[Setting]) -> Result<(), WriteFailed>
+fn put_option_values<W: Write>(
+    output: &mut Tap<W>,
+    option_values: &[OptionValue],
+) -> Result<(), WriteFailed>
     requires { has_failed output.old ≡ false }
-    ensures { Puts W.contents output.old output.new result (flat_map setting_text settings.now) }
+    ensures { Puts W.contents output.old output.new result (flat_map option_value_text option_values.now) }
 {
-    for setting in settings {
-        put_setting(output, setting)?;
+    for option_value in option_values {
+        put_option_value(output, option_value)?;
     }
     Ok(())
 }
@@ -142,7 +148,7 @@ fn put_match<W: Write>(output: &mut Tap<W>, one: &Match) -> Result<(), WriteFail
     ensures { Puts W.contents output.old output.new result (match_text (view_match one.now)) }
 {
     put_start(output, one.kind)?;
-    put_settings(output, one.settings.as_slice())
+    put_option_values(output, one.option_values.as_slice())
 }
 
 // Writes matches, one after another.
@@ -174,14 +180,14 @@ fn put_action<W: Write>(output: &mut Tap<W>, action: &Option<Action>) -> Result<
 }
 
 // Writes what a rule holds.
-fn put_content<W: Write>(output: &mut Tap<W>, content: &Content) -> Result<(), WriteFailed>
+fn put_spec<W: Write>(output: &mut Tap<W>, spec: &RuleSpec) -> Result<(), WriteFailed>
     requires { has_failed output.old ≡ false }
-    ensures { Puts W.contents output.old output.new result (rule_text (view_content content.now)) }
+    ensures { Puts W.contents output.old output.new result (rule_text (view_spec spec.now)) }
 {
-    put_settings(output, content.settings.as_slice())?;
-    put_matches(output, content.matches.as_slice())?;
-    put_action(output, &content.action)?;
-    put_settings(output, content.target_options.as_slice())
+    put_option_values(output, spec.option_values.as_slice())?;
+    put_matches(output, spec.matches.as_slice())?;
+    put_action(output, &spec.action)?;
+    put_option_values(output, spec.target_options.as_slice())
 }
 
 /// Writes the text of a rule, each of its words after one blank: what stands after `-A chain` in a listing
@@ -205,9 +211,9 @@ pub fn write_rule<W: Write>(rule: &Rule, output: &mut Tap<W>) -> Result<(), Writ
     ensures one_line { IsOneLine (rule_text rule.now) }
     ensures short { HasShortLine rule.now }
 {
-    let content = rule.content();
+    let spec = rule.spec();
     if output.failed() {
         return Err(WriteFailed);
     }
-    put_content(output, content)
+    put_spec(output, spec)
 }

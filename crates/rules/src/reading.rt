@@ -8,7 +8,7 @@ ghost use Rattle.rules.specs.rule.Readable.{IsReadable};
 ghost use Rattle.rules.specs.rule.Rules.{empty_rule};
 ghost use Rattle.rules.specs.reading.Steps.{steps_from, unless_unmet, with_needs_met, rule_of};
 ghost use Rattle.rules.specs.rule.Needs.{is_met_for, unmet_match, or_else, unmet_matches, is_reset, unmet_reset, unmet};
-ghost use Rattle.rules.specs.steps.Views.{view_match, view_matches, view_content};
+ghost use Rattle.rules.specs.steps.Views.{view_match, view_matches, view_spec};
 
 pub(crate) mod fault;
 pub(crate) mod grammar;
@@ -16,23 +16,23 @@ pub(crate) mod normal_form;
 pub(crate) mod option_words;
 pub(crate) mod steps;
 
-use crate::options::setting::{Setting, has_protocol};
+use crate::options::option_value::{OptionValue, has_protocol};
 use crate::options::value::Value;
 use crate::reading::fault::{Refusal, RuleFault};
 use crate::reading::normal_form::normalized;
 use crate::reading::option_words::option_words_at;
 use crate::reading::steps::{is_met_for, step};
 use crate::rule::Rule;
-use crate::rule::content::{Content, Match};
+use crate::rule::spec::{Match, RuleSpec};
 use fields::{RejectType, WordSlice, Words};
 use std::alloc::Global;
 
 // A rule of which nothing was read yet.
-fn empty(alloc: Global) -> Content
-    ensures { view_content result ≡ empty_rule }
+fn empty(alloc: Global) -> RuleSpec
+    ensures { view_spec result ≡ empty_rule }
 {
-    Content {
-        settings: Vec::new(alloc),
+    RuleSpec {
+        option_values: Vec::new(alloc),
         matches: Vec::new(alloc),
         action: None,
         target_options: Vec::new(alloc),
@@ -40,39 +40,39 @@ fn empty(alloc: Global) -> Content
 }
 
 // The rule that the options of the words make, one after another.
-fn read_options(alloc: Global, end: usize, words: WordSlice) -> Result<Content, RuleFault>
+fn read_options(alloc: Global, end: usize, words: WordSlice) -> Result<RuleSpec, RuleFault>
     requires { length (words_in words) ≤ end }
-    ensures { Gives view_content result (steps_from (length (words_in words.entry)) end empty_rule (words_in words.entry)) }
+    ensures { Gives view_spec result (steps_from (length (words_in words.entry)) end empty_rule (words_in words.entry)) }
 {
-    let mut content = empty(alloc);
+    let mut spec = empty(alloc);
     let mut rest = words;
     while !rest.is_empty() {
         let (given, after) = option_words_at(end, rest)?;
-        content = step(alloc, content, &given)?;
+        spec = step(alloc, spec, &given)?;
         rest = after;
     }
-    Ok(content)
+    Ok(spec)
 }
 
 // What a match lacks.
-fn unmet_match(settings: &[Setting], one: &Match) -> Option<Refusal>
-    ensures { result ≡ unmet_match settings.now (view_match one.now) }
+fn unmet_match(option_values: &[OptionValue], one: &Match) -> Option<Refusal>
+    ensures { result ≡ unmet_match option_values.now (view_match one.now) }
 {
-    if !is_met_for(one.kind, settings) {
+    if !is_met_for(one.kind, option_values) {
         return Some(Refusal::ProtocolNeeded);
     }
-    if one.kind.row().needs_option && one.settings.is_empty() {
+    if one.kind.row().needs_option && one.option_values.is_empty() {
         return Some(Refusal::MatchOptionMissing);
     }
     None
 }
 
 // What the first match lacks that lacks something.
-fn unmet_matches(settings: &[Setting], matches: &[Match]) -> Option<Refusal>
-    ensures { result ≡ unmet_matches settings.now (view_matches matches.now) }
+fn unmet_matches(option_values: &[OptionValue], matches: &[Match]) -> Option<Refusal>
+    ensures { result ≡ unmet_matches option_values.now (view_matches matches.now) }
 {
     for one in matches {
-        if let Some(refusal) = unmet_match(settings, one) {
+        if let Some(refusal) = unmet_match(option_values, one) {
             return Some(refusal);
         }
     }
@@ -80,59 +80,59 @@ fn unmet_matches(settings: &[Setting], matches: &[Match]) -> Option<Refusal>
 }
 
 // Whether the option asks for the reset of a connection.
-fn is_reset(setting: &Setting) -> bool
-    ensures { result ≡ is_reset setting.now }
+fn is_reset(option_value: &OptionValue) -> bool
+    ensures { result ≡ is_reset option_value.now }
 {
-    matches!(setting.value, Value::RejectWith(RejectType::TcpReset))
+    matches!(option_value.value, Value::RejectWith(RejectType::TcpReset))
 }
 
 // Whether one of the options does.
-fn asks_reset(target_options: &[Setting]) -> bool
+fn asks_reset(target_options: &[OptionValue]) -> bool
     ensures { result ≡ list_any is_reset target_options.now }
 {
     target_options.iter().any(is_reset)
 }
 
 // What a reset lacks: it is of tcp alone.
-fn unmet_reset(settings: &[Setting], target_options: &[Setting]) -> Option<Refusal>
-    ensures { result ≡ unmet_reset settings.now target_options.now }
+fn unmet_reset(option_values: &[OptionValue], target_options: &[OptionValue]) -> Option<Refusal>
+    ensures { result ≡ unmet_reset option_values.now target_options.now }
 {
-    if asks_reset(target_options) && !has_protocol(settings, 6) {
+    if asks_reset(target_options) && !has_protocol(option_values, 6) {
         return Some(Refusal::ProtocolNeeded);
     }
     None
 }
 
 // What the rule lacks after its last word.
-fn unmet(content: &Content) -> Option<Refusal>
-    ensures { result ≡ unmet (view_content content.now) }
+fn unmet(spec: &RuleSpec) -> Option<Refusal>
+    ensures { result ≡ unmet (view_spec spec.now) }
 {
-    let settings = content.settings.as_slice();
-    match unmet_matches(settings, content.matches.as_slice()) {
+    let option_values = spec.option_values.as_slice();
+    match unmet_matches(option_values, spec.matches.as_slice()) {
         Some(refusal) => Some(refusal),
-        None => unmet_reset(settings, content.target_options.as_slice()),
+        None => unmet_reset(option_values, spec.target_options.as_slice()),
     }
 }
 
 // The rule in its normal form, where its needs hold.
-fn with_needs_met(content: Content) -> Result<Content, RuleFault>
-    ensures { Gives view_content result (with_needs_met (view_content content)) }
+fn with_needs_met(spec: RuleSpec) -> Result<RuleSpec, RuleFault>
+    ensures { Gives view_spec result (with_needs_met (view_spec spec)) }
 {
-    let content = normalized(content)?;
-    match unmet(&content) {
-        None => Ok(content),
+    let spec = normalized(spec)?;
+    match unmet(&spec) {
+        None => Ok(spec),
         Some(refusal) => Err(RuleFault::Refused(refusal)),
     }
 }
 
 // The rule that the words read as; `end` is the place after the last word of the line.
 #[tactic(auto, unfolding(crate::specs::reading::Steps::rule_of))]
-fn rule_of(alloc: Global, end: usize, words: WordSlice) -> Result<Content, RuleFault>
+fn rule_of(alloc: Global, end: usize, words: WordSlice) -> Result<RuleSpec, RuleFault>
     requires { length (words_in words) ≤ end }
-    ensures { Gives view_content result (rule_of end (words_in words.entry)) }
+    ensures { Gives view_spec result (rule_of end (words_in words.entry)) }
 {
-    let content = read_options(alloc, end, words)?;
-    with_needs_met(content)
+    let spec = read_options(alloc, end, words)?;
+    with_needs_met(spec)
 }
 
 /// The rule that the words from a place on read as (iptables(8), iptables-extensions(8)). From beyond the last word on
@@ -149,6 +149,6 @@ pub fn read_rule(alloc: Global, words: &Words, from: usize) -> Result<Rule, Rule
     ensures reads { Gives (λ r. r) result (rule_of (length words.now) (drop from words.now)) }
     ensures readable { IfOk result IsReadable }
 {
-    let content = rule_of(alloc, words.len(), words.after(from))?;
-    Ok(Rule::of(content))
+    let spec = rule_of(alloc, words.len(), words.after(from))?;
+    Ok(Rule::of(spec))
 }

@@ -5,21 +5,21 @@ ghost use Rattle.fields.specs.declared.numbers.field.Field.{Field};
 ghost use Rattle.rules.specs.rule.Actions.{reject_in, target_with, action_with_chain_name};
 ghost use Rattle.rules.specs.rule.Allows.{asks};
 ghost use Rattle.rules.specs.steps.Crossed.{has_both};
-ghost use Rattle.rules.specs.steps.Views.{view_content};
+ghost use Rattle.rules.specs.steps.Views.{view_spec};
 
 pub(crate) mod action;
-pub(crate) mod content;
 pub(crate) mod copy;
 pub(crate) mod crossing;
 pub(crate) mod renamed;
+pub(crate) mod spec;
 pub(crate) mod target;
 
-use crate::options::setting::Setting;
+use crate::options::option_value::OptionValue;
 use crate::options::value::Value;
 use crate::rule::action::Action;
-use crate::rule::content::{Content, Match, same_content};
-use crate::rule::copy::copy_content;
+use crate::rule::copy::copy_spec;
 use crate::rule::crossing::ask_both;
+use crate::rule::spec::{Match, RuleSpec, same_spec};
 use crate::rule::target::Target;
 use fields::{Field, Name, RejectType};
 use std::alloc::{AllocError, Global};
@@ -33,27 +33,27 @@ use std::mem::size_of;
 /// their options. Only a comment has further memory, of at most 272 bytes.
 #[derive(Drop)]
 pub struct Rule {
-    content: Content,
+    spec: RuleSpec,
     asks_both: bool,
-    ghost asked: { asks_both ≡ list_any has_both (view_content content).matches },
+    ghost asked: { asks_both ≡ list_any has_both (view_spec spec).matches },
 }
 
 const _: () = prove!(size_of::<Rule>() == 136);
 
 const _: () = prove!(size_of::<Match>() == 32);
 
-const _: () = prove!(size_of::<Setting>() == 88);
+const _: () = prove!(size_of::<OptionValue>() == 88);
 
 impl Model for Rule {
     ghost use Rattle.rules.specs.rule.Rules.{Rule as Specified};
-    ghost use Rattle.rules.specs.steps.Views.{view_content};
+    ghost use Rattle.rules.specs.steps.Views.{view_spec};
     ghost use Rattle.rules.specs.printing.RoundTrip.{ReadsItself};
 
     ghost Value = { Specified };
 
-    ghost view = { λ r. view_content r.content };
+    ghost view = { λ r. view_spec r.spec };
 
-    ghost invariant = { λ r. ReadsItself (view_content r.content) };
+    ghost invariant = { λ r. ReadsItself (view_spec r.spec) };
 }
 
 // Rules are equal where they have one text (`Rule::equals` says more).
@@ -81,11 +81,11 @@ impl Eq for Rule {
 }
 
 // The type of REJECT among the options of the target.
-fn reject_in(target_options: &[Setting]) -> RejectType
+fn reject_in(target_options: &[OptionValue]) -> RejectType
     ensures { result ≡ reject_in target_options.now }
 {
-    for setting in target_options {
-        if let Value::RejectWith(answer) = &setting.value {
+    for option_value in target_options {
+        if let Value::RejectWith(answer) = &option_value.value {
             return *answer;
         }
     }
@@ -93,7 +93,7 @@ fn reject_in(target_options: &[Setting]) -> RejectType
 }
 
 // The action as a target, with the type of REJECT.
-fn target_with(action: &Action, target_options: &[Setting]) -> Target
+fn target_with(action: &Action, target_options: &[OptionValue]) -> Target
     ensures { result ≡ target_with action.now target_options.now }
 {
     match action {
@@ -119,31 +119,31 @@ fn rename(action: &mut Option<Action>, name: &Name)
 }
 
 // Whether the option asks for an incoming interface.
-fn is_in(setting: &Setting) -> bool
-    ensures { result ≡ asks Field.InIface setting.now }
+fn is_in(option_value: &OptionValue) -> bool
+    ensures { result ≡ asks Field.InIface option_value.now }
 {
-    matches!(setting.value, Value::InInterface(_))
+    matches!(option_value.value, Value::InInterface(_))
 }
 
 // Whether the option asks for an outgoing interface.
-fn is_out(setting: &Setting) -> bool
-    ensures { result ≡ asks Field.OutIface setting.now }
+fn is_out(option_value: &OptionValue) -> bool
+    ensures { result ≡ asks Field.OutIface option_value.now }
 {
-    matches!(setting.value, Value::OutInterface(_))
+    matches!(option_value.value, Value::OutInterface(_))
 }
 
 // Whether one of the options does.
-fn asks_in(settings: &[Setting]) -> bool
-    ensures { result ≡ list_any (asks Field.InIface) settings.now }
+fn asks_in(option_values: &[OptionValue]) -> bool
+    ensures { result ≡ list_any (asks Field.InIface) option_values.now }
 {
-    settings.iter().any(is_in)
+    option_values.iter().any(is_in)
 }
 
 // Whether one of the options does.
-fn asks_out(settings: &[Setting]) -> bool
-    ensures { result ≡ list_any (asks Field.OutIface) settings.now }
+fn asks_out(option_values: &[OptionValue]) -> bool
+    ensures { result ≡ list_any (asks Field.OutIface) option_values.now }
 {
-    settings.iter().any(is_out)
+    option_values.iter().any(is_out)
 }
 
 impl Rule {
@@ -154,15 +154,15 @@ impl Rule {
     ghost use Rattle.rules.specs.rule.Readable.{IsInOrder, IsReadable};
     ghost use Rattle.rules.specs.printing.Printing.{rule_text};
     ghost use Rattle.rules.specs.printing.RoundTrip.{ReadsItself, TextReadsBack};
-    ghost use Rattle.rules.specs.steps.Views.{view_content};
+    ghost use Rattle.rules.specs.steps.Views.{view_spec};
 
     // The rule of what was read.
-    pub(crate) fn of(content: Content) -> Rule
-        requires { ReadsItself (view_content content) }
-        ensures { result ≡ view_content content }
+    pub(crate) fn of(spec: RuleSpec) -> Rule
+        requires { ReadsItself (view_spec spec) }
+        ensures { result ≡ view_spec spec }
     {
-        let asks_both = ask_both(content.matches.as_slice());
-        Rule { content, asks_both }
+        let asks_both = ask_both(spec.matches.as_slice());
+        Rule { spec, asks_both }
     }
 
     // Whether a condition of its matches asks several fields at once.
@@ -173,13 +173,13 @@ impl Rule {
     }
 
     // What the rule holds; it is lent.
-    pub(crate) fn content(&self) -> &Content
-        ensures value { view_content result.now ≡ self.now }
+    pub(crate) fn spec(&self) -> &RuleSpec
+        ensures value { view_spec result.now ≡ self.now }
         ensures kept { ReadsItself self.now }
         ensures ordered { IsInOrder self.now }
         ensures readable { IsReadable self.now }
     {
-        &self.content
+        &self.spec
     }
 
     /// The law that every rule is readable, and that its text reads back as it. It does nothing.
@@ -188,7 +188,7 @@ impl Rule {
         ensures readable { IsReadable self.now }
         ensures text { TextReadsBack self.now }
     {
-        let _content = self.content();
+        let _spec = self.spec();
     }
 
     /// An equal rule. It takes as much memory as the rule has.
@@ -199,9 +199,9 @@ impl Rule {
     pub fn copy(&self, alloc: Global) -> Result<Rule, AllocError>
         ensures { IfOk result (λ copy. copy ≡ self.now) }
     {
-        let content = copy_content(alloc, &self.content)?;
+        let spec = copy_spec(alloc, &self.spec)?;
         Ok(Rule {
-            content,
+            spec,
             asks_both: self.asks_both,
         })
     }
@@ -212,7 +212,7 @@ impl Rule {
         ensures value { IsTrue result ↔ (self.now ≡ other.now) }
         ensures text { IsTrue result ↔ (rule_text self.now ≡ rule_text other.now) }
     {
-        same_content(self.content(), other.content())
+        same_spec(self.spec(), other.spec())
     }
 
     /// What becomes of the packets that the rule matches: `None` where it says nothing, so that the walk goes on. It
@@ -220,9 +220,9 @@ impl Rule {
     pub fn target(&self) -> Option<Target>
         ensures { result ≡ target_of self.now }
     {
-        match &self.content.action {
+        match &self.spec.action {
             None => None,
-            Some(action) => Some(target_with(action, self.content.target_options.as_slice())),
+            Some(action) => Some(target_with(action, self.spec.target_options.as_slice())),
         }
     }
 
@@ -232,7 +232,7 @@ impl Rule {
         ensures { self.new ≡ with_chain_name name.now self.old }
     {
         let _name = name.bytes();
-        rename(&mut self.content.action, name);
+        rename(&mut self.spec.action, name);
     }
 
     /// Whether the rule has a condition on the incoming interface (`-i`; no condition is `-i +`). Without one it allows
@@ -242,7 +242,7 @@ impl Rule {
         ensures value { result ≡ asks_on Field.InIface self.now }
         ensures free { result ≡ false → (n : ℕ) → allows self.now Field.InIface n ≡ true }
     {
-        asks_in(self.content.settings.as_slice())
+        asks_in(self.spec.option_values.as_slice())
     }
 
     /// Whether the rule has a condition on the outgoing interface (`-o`; no condition is `-o +`). Without one it allows
@@ -252,6 +252,6 @@ impl Rule {
         ensures value { result ≡ asks_on Field.OutIface self.now }
         ensures free { result ≡ false → (n : ℕ) → allows self.now Field.OutIface n ≡ true }
     {
-        asks_out(self.content.settings.as_slice())
+        asks_out(self.spec.option_values.as_slice())
     }
 }

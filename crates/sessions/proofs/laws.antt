@@ -1,1 +1,3 @@
-pub mod runs
+pub mod reply
+pub mod line
+pub mod run

@@ -1,3 +1,4 @@
-pub mod Views
-pub mod runs
+pub mod reply
+pub mod line
+pub mod run
 pub mod steps

@@ -1,1 +1,2 @@
+pub mod Comes
 pub mod Lines

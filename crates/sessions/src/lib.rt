@@ -1,8 +1,12 @@
 //! Sessions with the table `filter`: lines in, replies out (iptables(8), iptables-save(8), iptables-restore(8)).
 #![tactic(auto)]
 
-mod headline;
-mod session;
+mod line;
+mod reply;
+mod run;
 
-pub use headline::{answers, runs_leave_what_they_accept};
-pub use session::{RunFault, Session};
+pub use line::fault::Fault;
+pub use reply::lines::write_lines;
+pub use reply::walk::write_walk;
+pub use run::headline::{answers, runs_leave_what_they_accept};
+pub use run::session::{RunFault, Session};

@@ -1,6 +1,6 @@
 pub mod Kept
 pub mod Puts
 pub mod Renames
-pub mod Rows
+pub mod StoredChains
 pub mod Search
 pub mod Walking

@@ -5,7 +5,7 @@ ghost use Rattle.std.specs.Prelude.{OnOk, OnErr, IfOk, IfSome};
 ghost use Rattle.std.specs.List.{position};
 ghost use Rattle.classify.specs.search.NextMatch.{next_match};
 ghost use Rattle.rules.specs.rule.Allows.{matches};
-ghost use Rattle.table.specs.steps.Rows.{IsClassified, has_text, rules_in};
+ghost use Rattle.table.specs.steps.StoredChains.{IsClassified, has_text, rules_in};
 ghost use Rattle.table.specs.edits.Boxes.{MakesOneBoxAtMost};
 ghost use Rattle.table.specs.steps.Renames.{NameChains, retargeted};
 
@@ -20,7 +20,7 @@ use std::alloc::{AllocError, Global};
 use std::marker::Model;
 
 // Whether a rule of a chain has the text of the rule.
-#[tactic(auto, using(crate::proofs::laws::chains::RowLaws::texts_decide))]
+#[tactic(auto, using(crate::proofs::laws::chains::StoredChainLaws::texts_decide))]
 fn has_text(rule: &Rule, entry: &Entry) -> bool
     ensures { result ≡ has_text rule.now entry.now }
 {
@@ -36,9 +36,9 @@ pub(crate) struct Chain {
 }
 
 impl Model for Chain {
-    ghost use Rattle.table.specs.steps.Rows.{Row, IsClassified};
+    ghost use Rattle.table.specs.steps.StoredChains.{StoredChain, IsClassified};
 
-    ghost Value = { Row };
+    ghost Value = { StoredChain };
 
     ghost view = { λ c. record {
       name = c.name;
@@ -255,7 +255,7 @@ impl Chain {
     }
 
     // The place of the first rule with the text of this one.
-    pub(crate) fn place_of(&self, rule: &Rule) -> Option<usize>
+    pub(crate) fn index_of(&self, rule: &Rule) -> Option<usize>
         ensures value { result ≡ position (has_text rule.now) self.now.entries }
         ensures within { IfSome result (λ at. at < length self.now.entries) }
     {

@@ -3,8 +3,8 @@ ghost use Rattle.std.specs.Prelude.{◌≡◌, ◌<◌, ◌≤◌, ◌+◌, ℕ,
 ghost use Rattle.std.specs.Prelude.{OnErr, None};
 ghost use Rattle.table.specs.chains.Sound.{IsSound};
 ghost use Rattle.table.specs.edits.Edits.{FlushAll, NewChain, changed, edited, fault_of};
-ghost use Rattle.table.specs.steps.Kept.{AreKept, AreRecounted, IsIn, IsLinked, IsPlaceFor, leading_in, name_in, row_in};
-ghost use Rattle.table.specs.steps.Kept.{references_at, row_at, table_of, view_of};
+ghost use Rattle.table.specs.steps.Kept.{AreKept, AreRecounted, IsIn, IsLinked, IsIndexFor, leading_in, name_in, stored_in};
+ghost use Rattle.table.specs.steps.Kept.{references_at, stored_at, table_of, view_of};
 ghost use Rattle.table.specs.edits.Boxes.{MakesOneBoxAtMost};
 
 use crate::chain::Chain;
@@ -26,7 +26,7 @@ impl Parts {
     ) -> Result<(), AllocError>
         requires kept { AreKept self.old }
         requires place { place < length self.old.order.items }
-        requires at { at ≤ length (row_in self.old place).entries }
+        requires at { at ≤ length (stored_in self.old place).entries }
         requires linked { IsLinked self.old.chains.slots self.old.order.items entry }
         requires sound { IsSound (changed (λ rules. insert rules at entry.rule)
             (name_in self.old place) (table_of self.old)) }
@@ -38,7 +38,7 @@ impl Parts {
         ensures work { MakesOneBoxAtMost work.old work.new }
     {
         let key = self.order[place];
-        let link = entry.course.key();
+        let link = entry.flow.key();
         self.chains[key].insert(self.alloc, at, entry, work)?;
         count_in(&mut self.chains, link);
         Ok(())
@@ -54,7 +54,7 @@ impl Parts {
     ) -> Result<(), AllocError>
         requires kept { AreKept self.old }
         requires place { place < length self.old.order.items }
-        requires at { at < length (row_in self.old place).entries }
+        requires at { at < length (stored_in self.old place).entries }
         requires linked { IsLinked self.old.chains.slots self.old.order.items entry }
         requires sound { IsSound (changed (λ rules. slice_set rules at entry.rule)
             (name_in self.old place) (table_of self.old)) }
@@ -66,8 +66,8 @@ impl Parts {
         ensures work { MakesOneBoxAtMost work.old work.new }
     {
         let key = self.order[place];
-        let link = entry.course.key();
-        let before = self.chains[key].entry(at).course.key();
+        let link = entry.flow.key();
+        let before = self.chains[key].entry(at).flow.key();
         self.chains[key].replace(self.alloc, at, entry, work)?;
         count_in(&mut self.chains, link);
         count_out(&mut self.chains, before);
@@ -75,17 +75,17 @@ impl Parts {
     }
 
     // Takes a rule out of a chain. It takes no memory.
-    pub(crate) fn take_out(&mut self, place: usize, at: usize)
+    pub(crate) fn remove_rule(&mut self, place: usize, at: usize)
         requires kept { AreKept self.old }
         requires place { place < length self.old.order.items }
-        requires at { at < length (row_in self.old place).entries }
+        requires at { at < length (stored_in self.old place).entries }
         ensures kept { AreKept self.new }
         ensures order { self.new.order.items ≡ self.old.order.items }
         ensures table { table_of self.new ≡ changed (λ rules. remove rules at)
             (name_in self.old place) (table_of self.old) }
     {
         let key = self.order[place];
-        let link = self.chains[key].entry(at).course.key();
+        let link = self.chains[key].entry(at).flow.key();
         self.chains[key].remove(at);
         count_out(&mut self.chains, link);
     }
@@ -97,12 +97,12 @@ impl Parts {
         ensures policies { self.new.policies ≡ self.old.policies }
         ensures order { self.new.order.items ≡ self.old.order.items }
         ensures same { AreRecounted self.old.chains.slots self.new.chains.slots }
-        ensures counted { (k : ℕ) → references_at self.new.chains.slots k + leading_in k (row_at self.old.chains.slots key)
+        ensures counted { (k : ℕ) → references_at self.new.chains.slots k + leading_in k (stored_at self.old.chains.slots key)
             ≡ references_at self.old.chains.slots k }
     {
         let chains = &mut self.chains;
         for at in 0..chains[key].len() {
-            let link = chains[key].entry(at).course.key();
+            let link = chains[key].entry(at).flow.key();
             count_out(chains, link);
         }
     }
@@ -138,7 +138,7 @@ impl Parts {
     // Makes a chain without rules, at a place of the index.
     pub(crate) fn make(&mut self, place: usize, name: Name) -> Result<(), AllocError>
         requires kept { AreKept self.old }
-        requires place { IsPlaceFor name self.old.chains.slots self.old.order.items place }
+        requires place { IsIndexFor name self.old.chains.slots self.old.order.items place }
         requires accepted { fault_of (NewChain name) (table_of self.old) ≡ None }
         ensures kept { AreKept self.new }
         ensures ok { OnOk result (table_of self.new ≡ edited (NewChain name) (table_of self.old)) }

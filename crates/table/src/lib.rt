@@ -1,9 +1,9 @@
 //! The table `filter`: its chains with their classifiers, the edits of their rules, and the walk of a packet.
 #![tactic(auto)]
 
-mod admit;
 mod chain;
-mod drop;
+mod check;
+mod delete;
 mod edit;
 mod fault;
 mod headline;

@@ -1,6 +1,6 @@
 //! Rules put into chains where they may stand.
 ghost use Rattle.std.specs.Prelude.{◌<◌, ◌≤◌, length};
-ghost use Rattle.table.specs.steps.Kept.{AreKept, IsUnmarked, row_in};
+ghost use Rattle.table.specs.steps.Kept.{AreKept, IsUnmarked, stored_in};
 ghost use Rattle.table.specs.steps.Puts.{IsPutIn, IsPutOver};
 ghost use Rattle.table.specs.edits.Boxes.{MakesOneBoxAtMost};
 
@@ -14,7 +14,7 @@ const RULES_MAX: usize = 8192;
 
 impl Parts {
     // Puts a rule in at a place of a chain's rules, if it may stand there and the chain isn't full.
-    pub(crate) fn put_in(
+    pub(crate) fn insert_rule(
         &mut self,
         seen: &mut Vec<bool>,
         place: usize,
@@ -25,28 +25,28 @@ impl Parts {
         requires kept { AreKept self.old }
         requires unmarked { IsUnmarked self.old.order.items seen.old.items }
         requires place { place < length self.old.order.items }
-        requires at { at ≤ length (row_in self.old place).entries }
+        requires at { at ≤ length (stored_in self.old place).entries }
         ensures kept { AreKept self.new }
         ensures unmarked { IsUnmarked self.new.order.items seen.new.items }
         ensures answer { IsPutIn self.old self.new place at rule result }
         ensures work { MakesOneBoxAtMost work.old work.new }
     {
-        let course = match self.admit(seen, place, &rule) {
-            Ok(course) => course,
+        let flow = match self.check_rule(seen, place, &rule) {
+            Ok(flow) => flow,
             Err(fault) => return Err(fault),
         };
         if self.count_at(place) >= RULES_MAX {
             return Err(TableFault::ChainFull);
         }
         rule.reads_back();
-        match self.insert(place, at, Entry { rule, course }, work) {
+        match self.insert(place, at, Entry { rule, flow }, work) {
             Ok(()) => return Ok(()),
             Err(_) => return Err(TableFault::NoMemory),
         }
     }
 
     // Puts a rule in the place of another of a chain's rules, if it may stand there.
-    pub(crate) fn put_over(
+    pub(crate) fn replace_rule(
         &mut self,
         seen: &mut Vec<bool>,
         place: usize,
@@ -57,18 +57,18 @@ impl Parts {
         requires kept { AreKept self.old }
         requires unmarked { IsUnmarked self.old.order.items seen.old.items }
         requires place { place < length self.old.order.items }
-        requires at { at < length (row_in self.old place).entries }
+        requires at { at < length (stored_in self.old place).entries }
         ensures kept { AreKept self.new }
         ensures unmarked { IsUnmarked self.new.order.items seen.new.items }
         ensures answer { IsPutOver self.old self.new place at rule result }
         ensures work { MakesOneBoxAtMost work.old work.new }
     {
-        let course = match self.admit(seen, place, &rule) {
-            Ok(course) => course,
+        let flow = match self.check_rule(seen, place, &rule) {
+            Ok(flow) => flow,
             Err(fault) => return Err(fault),
         };
         rule.reads_back();
-        match self.replace(place, at, Entry { rule, course }, work) {
+        match self.replace(place, at, Entry { rule, flow }, work) {
             Ok(()) => return Ok(()),
             Err(_) => return Err(TableFault::NoMemory),
         }

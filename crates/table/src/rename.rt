@@ -1,7 +1,7 @@
 //! A new name for a chain, and for the rules that name it.
 ghost use Rattle.std.specs.Prelude.{◌≡◌, ◌<◌, ◌≤◌, length};
 ghost use Rattle.table.specs.edits.Edits.{Rename, edited};
-ghost use Rattle.table.specs.steps.Kept.{AreKept, IsIn, IsPlaceFor, name_in, table_of};
+ghost use Rattle.table.specs.steps.Kept.{AreKept, IsIn, IsIndexFor, name_in, table_of};
 ghost use Rattle.table.specs.steps.Renames.{AreRetargeted, moved_key};
 
 use crate::parts::Parts;
@@ -50,7 +50,7 @@ impl Parts {
         requires kept { AreKept self.old }
         requires user { 3 ≤ place }
         requires place { place < length self.old.order.items }
-        requires to { IsPlaceFor name self.old.chains.slots self.old.order.items to }
+        requires to { IsIndexFor name self.old.chains.slots self.old.order.items to }
         ensures kept { AreKept self.new }
         ensures moved { self.new.order.items ≡ moved_key self.old.order.items place to }
         ensures table { table_of self.new ≡ edited (Rename (name_in self.old place) name)

@@ -2,7 +2,7 @@
 ghost use Rattle.std.specs.Prelude.{◌≡◌, ◌<◌, ◌≤◌, ◌+◌, ℕ, OnOk, length, false, slice_index, slice_index_or, IfSome};
 ghost use Rattle.std.specs.Prelude.{IsFalse};
 ghost use Rattle.table.specs.edits.Edits.{leads};
-ghost use Rattle.table.specs.steps.Kept.{AreStored, IsIn, listed, row_at};
+ghost use Rattle.table.specs.steps.Kept.{AreStored, IsIn, listed, stored_at};
 ghost use Rattle.table.specs.steps.Search.{IsMarked, IsSearch, Marks};
 ghost use Rattle.table.specs.steps.Kept.{IsUnmarked};
 
@@ -41,7 +41,7 @@ impl Parts {
     {
         let chain = &self.chains[reached[at]];
         for place in 0..chain.len() {
-            mark(chain.entry(place).course.key(), seen, reached);
+            mark(chain.entry(place).flow.key(), seen, reached);
         }
     }
 }
@@ -59,14 +59,14 @@ fn unmark(order: &Vec<usize>, seen: &mut Vec<bool>, reached: &ArrayVec<usize, CH
 impl Parts {
     // Whether a path of jumps and gotos leads from the chain under one key to that under another, also one of no step. It
     // visits each chain at most once, and takes no memory.
-    pub(crate) fn leads(&self, seen: &mut Vec<bool>, from: usize, goal: usize) -> bool
+    pub(crate) fn reaches(&self, seen: &mut Vec<bool>, from: usize, goal: usize) -> bool
         requires kept { AreStored self.now }
         requires clear { IsUnmarked self.now.order.items seen.old.items }
         requires from { IsIn self.now.order.items from }
         requires goal { IsIn self.now.order.items goal }
         ensures clear { IsUnmarked self.now.order.items seen.new.items }
         ensures found { result ≡ leads (listed self.now.chains.slots self.now.order.items)
-            (row_at self.now.chains.slots from).name (row_at self.now.chains.slots goal).name }
+            (stored_at self.now.chains.slots from).name (stored_at self.now.chains.slots goal).name }
     {
         let mut reached = ArrayVec::new();
         mark(Some(from), seen, &mut reached);
@@ -82,7 +82,7 @@ impl Parts {
 }
 
 // Makes a place for the mark of a key.
-pub(crate) fn cover(seen: &mut Vec<bool>, key: usize) -> Result<(), AllocError>
+pub(crate) fn reserve_mark(seen: &mut Vec<bool>, key: usize) -> Result<(), AllocError>
     ensures marks { (k : ℕ) → slice_index_or seen.new.items k false ≡ slice_index_or seen.old.items k false }
     ensures longer { length seen.old.items ≤ length seen.new.items }
     ensures covered { OnOk result (key < length seen.new.items) }

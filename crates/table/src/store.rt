@@ -5,8 +5,8 @@ ghost use Rattle.std.specs.List.{position};
 ghost use Rattle.fields.specs.packet.Hook.{name};
 ghost use Rattle.table.specs.chains.Table.{built_in_names, is_named};
 ghost use Rattle.table.specs.edits.Edits.{out_of_range};
-ghost use Rattle.table.specs.steps.Rows.{has_text};
-ghost use Rattle.table.specs.steps.Kept.{AreStored, IsPlaceFor, IsPlaceOf, hook_place, listed, row_in};
+ghost use Rattle.table.specs.steps.StoredChains.{has_text};
+ghost use Rattle.table.specs.steps.Kept.{AreStored, IsIndexFor, IsIndexOf, hook_index, listed, stored_in};
 
 use crate::parts::Parts;
 use fields::{Hook, Name};
@@ -17,8 +17,8 @@ use std::cmp::Ordering;
 pub(crate) const BUILT_IN: usize = 3;
 
 // The place of a hook's chain.
-pub(crate) fn hook_place(hook: Hook) -> usize
-    ensures { result ≡ hook_place hook }
+pub(crate) fn hook_index(hook: Hook) -> usize
+    ensures { result ≡ hook_index hook }
 {
     match hook {
         Hook::Input => 0,
@@ -39,7 +39,7 @@ pub(crate) fn built_in_name(hook: Hook) -> Name
 }
 
 // The place of a built-in chain's name.
-fn built_in_place(name: &[u8]) -> Option<usize>
+fn built_in_index(name: &[u8]) -> Option<usize>
     ensures { MatchOption result ((k : ℕ) → k < 3 → slice_index_or built_in_names k [] ≢ name.now)
         (λ k. (k < 3) × (slice_index_or built_in_names k [] ≡ name.now)) }
 {
@@ -56,10 +56,10 @@ impl Parts {
     // so this halves what is left of them.
     fn search(&self, name: &[u8]) -> Result<usize, usize>
         requires { AreStored self.now }
-        ensures { MatchResult result (IsPlaceOf name.now self.now.chains.slots self.now.order.items)
-            (IsPlaceFor name.now self.now.chains.slots self.now.order.items) }
+        ensures { MatchResult result (IsIndexOf name.now self.now.chains.slots self.now.order.items)
+            (IsIndexFor name.now self.now.chains.slots self.now.order.items) }
     {
-        if let Some(place) = built_in_place(name) {
+        if let Some(place) = built_in_index(name) {
             return Ok(place);
         }
         let mut low = BUILT_IN;
@@ -78,7 +78,7 @@ impl Parts {
     }
 
     // Where the chain of a name stands in the index.
-    pub(crate) fn place_of(&self, name: &[u8]) -> Option<usize>
+    pub(crate) fn index_of(&self, name: &[u8]) -> Option<usize>
         requires { AreStored self.now }
         ensures place { result ≡ position (is_named name.now) (listed self.now.chains.slots self.now.order.items) }
         ensures within { IfSome result (λ i. i < length self.now.order.items) }
@@ -90,10 +90,10 @@ impl Parts {
     }
 
     // Where a new chain of a name is to stand in the index; nowhere if there is one.
-    pub(crate) fn place_for(&self, name: &[u8]) -> Option<usize>
+    pub(crate) fn index_for(&self, name: &[u8]) -> Option<usize>
         requires { AreStored self.now }
         ensures { MatchOption result (IsSome (position (is_named name.now) (listed self.now.chains.slots self.now.order.items)))
-            (IsPlaceFor name.now self.now.chains.slots self.now.order.items) }
+            (IsIndexFor name.now self.now.chains.slots self.now.order.items) }
     {
         match self.search(name) {
             Ok(_) => None,
@@ -105,7 +105,7 @@ impl Parts {
     pub(crate) fn count_at(&self, place: usize) -> usize
         requires kept { AreStored self.now }
         requires place { place < length self.now.order.items }
-        ensures value { result ≡ length (row_in self.now place).entries }
+        ensures value { result ≡ length (stored_in self.now place).entries }
         ensures few { result ≤ 8192 }
     {
         let key = self.order[place];
@@ -113,16 +113,16 @@ impl Parts {
     }
 
     // The place of the first rule with a rule's text, in the chain at a place of the index.
-    pub(crate) fn rule_place(&self, place: usize, rule: &Rule) -> Option<usize>
+    pub(crate) fn rule_index(&self, place: usize, rule: &Rule) -> Option<usize>
         requires kept { AreStored self.now }
         requires place { place < length self.now.order.items }
         ensures value { result
-            ≡ position (has_text rule.now) (row_in self.now place).entries }
+            ≡ position (has_text rule.now) (stored_in self.now place).entries }
         ensures within { IfSome result (λ at. at
-            < length (row_in self.now place).entries) }
+            < length (stored_in self.now place).entries) }
     {
         let key = self.order[place];
-        self.chains[key].place_of(rule)
+        self.chains[key].index_of(rule)
     }
 }
 

@@ -104,9 +104,9 @@ impl Table {
         let output = chains.insert_reserved(Chain::new(alloc, store::built_in_name(Hook::Output))?);
         let order = vec![in alloc; input, forward, output]?;
         let mut seen = Vec::new(alloc);
-        search::cover(&mut seen, input)?;
-        search::cover(&mut seen, forward)?;
-        search::cover(&mut seen, output)?;
+        search::reserve_mark(&mut seen, input)?;
+        search::reserve_mark(&mut seen, forward)?;
+        search::reserve_mark(&mut seen, output)?;
         let parts = Parts {
             alloc,
             policies,
@@ -155,10 +155,10 @@ impl Table {
     /// Where the chain of a name stands in the order of a listing, from 0. It takes no memory.
     ///
     /// It costs a search by halving.
-    pub fn place_of(&self, name: &[u8]) -> Option<usize>
+    pub fn index_of(&self, name: &[u8]) -> Option<usize>
         ensures { result ≡ position (is_named name.now) self.now.table.chains }
     {
-        self.parts.place_of(name)
+        self.parts.index_of(name)
     }
 
     /// The policy of the chain at a place, if it is a built-in one.
@@ -203,7 +203,7 @@ impl Table {
         ensures walk { result ≡ (walk self.now.table packet.now).verdict }
         ensures cases { (w : Walked) → Walks self.now.table packet.now w → result ≡ w.verdict }
     {
-        let hook = store::hook_place(packet.hook());
+        let hook = store::hook_index(packet.hook());
         let policy = self.parts.policies[hook].verdict();
         self.parts.decide(hook, policy, packet)
     }
@@ -218,7 +218,7 @@ impl Table {
         ensures cases { (w : Walked) → Walks self.now.table packet.now w
             → IfOk result (Shows self.now.table.chains w) }
     {
-        let hook = store::hook_place(packet.hook());
+        let hook = store::hook_index(packet.hook());
         let policy = self.parts.policies[hook].verdict();
         self.parts.trace(hook, policy, packet)
     }
@@ -236,11 +236,12 @@ impl Table {
         ensures step { IsStepIfRoom (Append chain.now rule) self.old self.new result }
         ensures work { MakesOneBoxAtMost work.old work.new }
     {
-        let Some(place) = self.parts.place_of(chain) else {
+        let Some(place) = self.parts.index_of(chain) else {
             return Err(TableFault::NoSuchChain);
         };
         let last = self.parts.count_at(place);
-        self.parts.put_in(&mut self.seen, place, last, rule, work)
+        self.parts
+            .insert_rule(&mut self.seen, place, last, rule, work)
     }
 
     /// Puts a rule in as rule `number` of a chain, from 1 to one more than there are (`-I chain number rule`). The
@@ -259,7 +260,7 @@ impl Table {
         ensures step { IsStepIfRoom (Insert chain.now number rule) self.old self.new result }
         ensures work { MakesOneBoxAtMost work.old work.new }
     {
-        let Some(place) = self.parts.place_of(chain) else {
+        let Some(place) = self.parts.index_of(chain) else {
             return Err(TableFault::NoSuchChain);
         };
         let last = self.parts.count_at(place);
@@ -267,7 +268,7 @@ impl Table {
             return Err(TableFault::NumberOutOfRange);
         }
         self.parts
-            .put_in(&mut self.seen, place, number - 1, rule, work)
+            .insert_rule(&mut self.seen, place, number - 1, rule, work)
     }
 
     /// Puts a rule in the place of rule `number` of a chain (`-R chain number rule`). The rule is gone after a
@@ -287,7 +288,7 @@ impl Table {
         ensures step { IsStepIfRoom (Replace chain.now number rule) self.old self.new result }
         ensures work { MakesOneBoxAtMost work.old work.new }
     {
-        let Some(place) = self.parts.place_of(chain) else {
+        let Some(place) = self.parts.index_of(chain) else {
             return Err(TableFault::NoSuchChain);
         };
         let last = self.parts.count_at(place);
@@ -295,7 +296,7 @@ impl Table {
             return Err(TableFault::NumberOutOfRange);
         }
         self.parts
-            .put_over(&mut self.seen, place, number - 1, rule, work)
+            .replace_rule(&mut self.seen, place, number - 1, rule, work)
     }
 
     /// Takes rule `number` of a chain out (`-D chain number`). It takes no memory.
@@ -306,14 +307,14 @@ impl Table {
     pub fn delete_at(&mut self, chain: &[u8], number: usize) -> Result<(), TableFault>
         ensures { IsStep (DeleteAt chain.now number) self.old self.new result }
     {
-        let Some(place) = self.parts.place_of(chain) else {
+        let Some(place) = self.parts.index_of(chain) else {
             return Err(TableFault::NoSuchChain);
         };
         let last = self.parts.count_at(place);
         if store::out_of_range(number, last) {
             return Err(TableFault::NumberOutOfRange);
         }
-        self.parts.take_out(place, number - 1);
+        self.parts.remove_rule(place, number - 1);
         Ok(())
     }
 
@@ -325,13 +326,13 @@ impl Table {
     pub fn delete_rule(&mut self, chain: &[u8], rule: &Rule) -> Result<(), TableFault>
         ensures { IsStep (DeleteRule chain.now rule.now) self.old self.new result }
     {
-        let Some(place) = self.parts.place_of(chain) else {
+        let Some(place) = self.parts.index_of(chain) else {
             return Err(TableFault::NoSuchChain);
         };
-        let Some(at) = self.parts.rule_place(place, rule) else {
+        let Some(at) = self.parts.rule_index(place, rule) else {
             return Err(TableFault::NoSuchRule);
         };
-        self.parts.take_out(place, at);
+        self.parts.remove_rule(place, at);
         Ok(())
     }
 
@@ -343,10 +344,10 @@ impl Table {
     pub fn has_rule(&self, chain: &[u8], rule: &Rule) -> Result<(), TableFault>
         ensures { IsStep (Has chain.now rule.now) self.now self.now result }
     {
-        let Some(place) = self.parts.place_of(chain) else {
+        let Some(place) = self.parts.index_of(chain) else {
             return Err(TableFault::NoSuchChain);
         };
-        match self.parts.rule_place(place, rule) {
+        match self.parts.rule_index(place, rule) {
             Some(_) => Ok(()),
             None => Err(TableFault::NoSuchRule),
         }
@@ -360,7 +361,7 @@ impl Table {
     pub fn flush(&mut self, chain: &[u8]) -> Result<(), TableFault>
         ensures { IsStep (Flush chain.now) self.old self.new result }
     {
-        let Some(place) = self.parts.place_of(chain) else {
+        let Some(place) = self.parts.index_of(chain) else {
             return Err(TableFault::NoSuchChain);
         };
         self.parts.empty(place);
@@ -387,7 +388,7 @@ impl Table {
     pub fn set_policy(&mut self, chain: &[u8], policy: &[u8]) -> Result<(), TableFault>
         ensures { IsStep (SetPolicy chain.now policy.now) self.old self.new result }
     {
-        let Some(place) = self.parts.place_of(chain) else {
+        let Some(place) = self.parts.index_of(chain) else {
             return Err(TableFault::NoSuchChain);
         };
         if place >= store::BUILT_IN {
@@ -412,14 +413,14 @@ impl Table {
         let Some(owned) = Name::read(name) else {
             return Err(TableFault::BadChainName);
         };
-        let Some(place) = self.parts.place_for(name) else {
+        let Some(place) = self.parts.index_for(name) else {
             return Err(TableFault::ChainExists);
         };
         if self.parts.order.len() >= CHAINS_MAX {
             return Err(TableFault::TooManyChains);
         }
         let key = self.parts.chains.vacant_key();
-        let Ok(()) = search::cover(&mut self.seen, key) else {
+        let Ok(()) = search::reserve_mark(&mut self.seen, key) else {
             return Err(TableFault::NoMemory);
         };
         match self.parts.make(place, owned) {
@@ -436,13 +437,13 @@ impl Table {
     pub fn delete_chain(&mut self, chain: &[u8]) -> Result<(), TableFault>
         ensures { IsStep (DeleteChain chain.now) self.old self.new result }
     {
-        let Some(place) = self.parts.place_of(chain) else {
+        let Some(place) = self.parts.index_of(chain) else {
             return Err(TableFault::NoSuchChain);
         };
         if let Some(fault) = self.parts.refusal(place) {
             return Err(fault);
         }
-        self.parts.take_away(place);
+        self.parts.remove_chain(place);
         Ok(())
     }
 
@@ -458,7 +459,7 @@ impl Table {
         if let Some(fault) = self.parts.refusal_of_all() {
             return Err(fault);
         }
-        self.parts.take_all_away();
+        self.parts.remove_user_chains();
         Ok(())
     }
 
@@ -470,7 +471,7 @@ impl Table {
     pub fn rename(&mut self, old: &[u8], new: &[u8]) -> Result<(), TableFault>
         ensures { IsStep (Rename old.now new.now) self.old self.new result }
     {
-        let Some(place) = self.parts.place_of(old) else {
+        let Some(place) = self.parts.index_of(old) else {
             return Err(TableFault::NoSuchChain);
         };
         if place < store::BUILT_IN {
@@ -479,7 +480,7 @@ impl Table {
         let Some(name) = Name::read(new) else {
             return Err(TableFault::BadChainName);
         };
-        let Some(to) = self.parts.place_for(new) else {
+        let Some(to) = self.parts.index_for(new) else {
             return Err(TableFault::ChainExists);
         };
         self.parts.rename(place, to, name);

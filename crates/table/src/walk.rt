@@ -1,7 +1,7 @@
 //! The walk of a packet.
 ghost use Rattle.std.specs.Prelude.{◌≡◌, ◌<◌, ◌≤◌, ℕ, List, length, IfSome, IfNone, Option, Some, None};
 ghost use Rattle.table.specs.steps.Kept.{AreStored, listed};
-ghost use Rattle.table.specs.steps.Rows.{Row};
+ghost use Rattle.table.specs.steps.StoredChains.{StoredChain};
 ghost use Rattle.table.specs.steps.Walking.{Follows, IsHit, IsState, LeadsIn, NoRoom, next_by, start, state_of};
 ghost use Rattle.table.specs.steps.Walking.{walk_at};
 ghost use Rattle.table.specs.walk.Walk.{first_hit};
@@ -9,7 +9,7 @@ ghost use Rattle.table.specs.walk.Walk.{first_hit};
 pub(crate) mod depth;
 pub(crate) mod trail;
 
-use crate::chain::entry::Course;
+use crate::chain::entry::Flow;
 use crate::parts::Parts;
 use crate::verdict::Verdict;
 use arrayvec::ArrayVec;
@@ -33,15 +33,15 @@ impl Pending {
 
 // Where a match leaves the walk.
 #[derive(Clone, Copy)]
-pub(crate) enum Turn {
+pub(crate) enum StepResult {
     // At a verdict.
-    Decides(Verdict),
+    Decided(Verdict),
     // At the end of the built-in chain.
-    Policy,
+    ByPolicy,
     // At the rules to go on with.
-    Goes,
+    Continues,
     // At a jump, with no place on the stack for what is left of its chain.
-    Full,
+    StackFull,
 }
 
 // The most rests that wait: there are no more user chains.
@@ -58,21 +58,21 @@ impl Parts {
         packet: &Packet,
         at: &mut Pending,
         stack: &mut ArrayVec<Pending, DEPTH>,
-    ) -> Option<Course>
+    ) -> Option<Flow>
         requires kept { AreStored self.now }
         requires state { IsState self.now.order.items at.old stack.old.items }
         ensures none { IfNone result (first_hit (listed self.now.chains.slots self.now.order.items) packet.now.values
             (state_of self.now.chains.slots at.old stack.old.items) ≡ None) }
-        ensures some { IfSome result (λ course. IsHit self.now.chains.slots self.now.order.items
+        ensures some { IfSome result (λ flow. IsHit self.now.chains.slots self.now.order.items
             (first_hit (listed self.now.chains.slots self.now.order.items) packet.now.values
-            (state_of self.now.chains.slots at.old stack.old.items)) course at.new stack.new.items) }
+            (state_of self.now.chains.slots at.old stack.old.items)) flow at.new stack.new.items) }
     {
         'rests: loop {
             let chain = &self.chains[at.chain];
             match chain.next(packet, at.passed) {
                 Some(place) => {
                     at.passed = place + 1;
-                    return Some(chain.entry(place).course);
+                    return Some(chain.entry(place).flow);
                 }
                 None => match stack.pop() {
                     Some(rest) => *at = rest,
@@ -83,39 +83,39 @@ impl Parts {
     }
 }
 
-// Does what the course of a rule that matched says, but for a jump that finds no room.
+// Does what the flow of a rule that matched says, but for a jump that finds no room.
 pub(crate) fn follow<const DEPTH: usize>(
-    course: Course,
+    flow: Flow,
     at: &mut Pending,
     stack: &mut ArrayVec<Pending, DEPTH>,
-) -> Turn
-    ensures follows { (slots : List (Option Row))
-        → Follows slots (next_by slots course at.old stack.old.items) result at.new stack.new.items }
-    ensures state { (order : List ℕ) → IsState order at.old stack.old.items → LeadsIn order course
-        → result ≡ Turn.Goes → IsState order at.new stack.new.items }
-    ensures full { result ≡ Turn.Full → NoRoom DEPTH course stack.old.items }
+) -> StepResult
+    ensures follows { (slots : List (Option StoredChain))
+        → Follows slots (next_by slots flow at.old stack.old.items) result at.new stack.new.items }
+    ensures state { (order : List ℕ) → IsState order at.old stack.old.items → LeadsIn order flow
+        → result ≡ StepResult.Continues → IsState order at.new stack.new.items }
+    ensures full { result ≡ StepResult.StackFull → NoRoom DEPTH flow stack.old.items }
 {
-    match course {
-        Course::Ends(verdict) => Turn::Decides(verdict),
-        Course::GoesOn => Turn::Goes,
-        Course::Returns => match stack.pop() {
+    match flow {
+        Flow::Decide(verdict) => StepResult::Decided(verdict),
+        Flow::Continue => StepResult::Continues,
+        Flow::Return => match stack.pop() {
             Some(rest) => {
                 *at = rest;
-                Turn::Goes
+                StepResult::Continues
             }
-            None => Turn::Policy,
+            None => StepResult::ByPolicy,
         },
-        Course::Jumps(key) => {
+        Flow::Jump(key) => {
             if stack.is_full() {
-                return Turn::Full;
+                return StepResult::StackFull;
             }
             stack.push(*at);
             *at = Pending::start(key);
-            Turn::Goes
+            StepResult::Continues
         }
-        Course::Goes(key) => {
+        Flow::Goto(key) => {
             *at = Pending::start(key);
-            Turn::Goes
+            StepResult::Continues
         }
     }
 }
@@ -145,18 +145,18 @@ impl Parts {
         let mut stack: ArrayVec<Pending, DEPTH> = ArrayVec::new();
         let mut left = LIMIT;
         'walk: loop {
-            let Some(course) = self.advance(packet, &mut at, &mut stack) else {
+            let Some(flow) = self.advance(packet, &mut at, &mut stack) else {
                 return Some(policy);
             };
             if left == 0 {
                 return Some(Verdict::TooLong);
             }
             left -= 1;
-            match follow(course, &mut at, &mut stack) {
-                Turn::Decides(verdict) => return Some(verdict),
-                Turn::Policy => return Some(policy),
-                Turn::Goes => {}
-                Turn::Full => return None,
+            match follow(flow, &mut at, &mut stack) {
+                StepResult::Decided(verdict) => return Some(verdict),
+                StepResult::ByPolicy => return Some(policy),
+                StepResult::Continues => {}
+                StepResult::StackFull => return None,
             }
         }
     }

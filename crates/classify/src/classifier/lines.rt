@@ -72,7 +72,7 @@ fn unsplit_lines(lines: &mut [OwnedLine], spans: &[Spans])
 }
 
 // Puts a box in, in every line, for which all memory is taken.
-fn commit_lines(lines: &mut [OwnedLine], at: usize, spans: &[Spans])
+fn insert_prepared_lines(lines: &mut [OwnedLine], at: usize, spans: &[Spans])
     requires as_long { length spans.now ≡ length lines.old }
     requires cut { OnEach IsCutFor spans.now lines.old }
     requires room { EachLine (λ l. 0 < l.room) lines.old }
@@ -81,7 +81,7 @@ fn commit_lines(lines: &mut [OwnedLine], at: usize, spans: &[Spans])
 {
     for k in 0..lines.len() {
         let line = &mut lines[k];
-        edit::commit(line, at, &spans[k]);
+        edit::insert_prepared(line, at, &spans[k]);
     }
 }
 
@@ -104,7 +104,7 @@ pub(crate) fn insert_lines(
 {
     match prepare_lines(lines, spans) {
         Ok(()) => {
-            commit_lines(lines, at, spans);
+            insert_prepared_lines(lines, at, spans);
             Ok(())
         }
         Err(refused) => {

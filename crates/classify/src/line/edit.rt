@@ -169,7 +169,7 @@ fn set_answers(line: &mut OwnedLine, at: usize, spans: &Spans)
 }
 
 // Puts a box's answers in, for which all memory is taken. No cut goes: at each one the rows still differ.
-pub(crate) fn commit(line: &mut OwnedLine, at: usize, spans: &Spans)
+pub(crate) fn insert_prepared(line: &mut OwnedLine, at: usize, spans: &Spans)
     requires cut { IsCutFor spans.now line.old }
     requires place { at ≤ row_bits line.old.pieces }
     requires room { 0 < line.old.room }
@@ -192,7 +192,7 @@ pub(crate) fn remove_box(line: &mut OwnedLine, at: usize)
 {
     let none = Spans::none(line.allocator(), 0);
     set_answers(line, at, &none);
-    line.close_place(at);
+    line.remove_column(at);
 }
 
 // Puts a box in the place of another, where the line is cut wherever its answers change.

@@ -56,7 +56,7 @@ impl OwnedLine {
     {
         Ok(OwnedLine {
             starts: Starts::zero(alloc)?,
-            rows: Rows::open(alloc)?,
+            rows: Rows::with_one_row(alloc)?,
         })
     }
 
@@ -166,7 +166,7 @@ impl OwnedLine {
         ensures err { OnErr result (self.new.pieces ≡ self.old.pieces) }
         ensures room { self.new.room ≡ self.old.room }
     {
-        self.rows.double(k)?;
+        self.rows.duplicate(k)?;
         match self.starts.insert(k + 1, x) {
             Ok(()) => Ok(()),
             Err(refused) => {
@@ -197,22 +197,22 @@ impl OwnedLine {
     }
 
     // Puts a 0 into each row at a place, where there is room: the later bits move up by one.
-    pub(crate) fn open_place(&mut self, at: usize)
+    pub(crate) fn insert_column(&mut self, at: usize)
         requires place { at ≤ row_bits self.old.pieces }
         requires room { 0 < self.old.room }
         ensures pieces { self.new.pieces ≡ map (λ p. (p.0, insert p.1 at false)) self.old.pieces }
         ensures room { self.new.room + 1 ≡ self.old.room }
     {
-        self.rows.open_place(at);
+        self.rows.insert_column(at);
     }
 
     // Takes a bit out of each row at a place: the later ones move down by one.
-    pub(crate) fn close_place(&mut self, at: usize)
+    pub(crate) fn remove_column(&mut self, at: usize)
         requires { at < row_bits self.old.pieces }
         ensures pieces { self.new.pieces ≡ map (λ p. (p.0, remove p.1 at)) self.old.pieces }
         ensures room { self.new.room ≡ self.old.room + 1 }
     {
-        self.rows.close_place(at);
+        self.rows.remove_column(at);
     }
 
     // Takes the memory that one more bit in each row needs.

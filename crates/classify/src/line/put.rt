@@ -117,7 +117,7 @@ pub(crate) fn put_answers(line: &mut OwnedLine, at: usize, spans: &Spans)
     ensures answers { line.new.pieces ≡ map (with_answer at spans.now.intervals) line.old.pieces }
     ensures room { line.new.room + 1 ≡ line.old.room }
 {
-    line.open_place(at);
+    line.insert_column(at);
     if allows_most(line, spans) {
         put_most(line, at, spans);
     } else {

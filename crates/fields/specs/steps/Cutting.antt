@@ -2,31 +2,31 @@
 use Rattle.std.specs.Prelude.{◌≡◌, ℕ, ◌<◌, Bool, true, false, All, List, [], ◌∷◌, ◌++◌, length, drop, MatchResult, Option, Some, None, Result, option_and_then}
 use Rattle.std.specs.Borrow.{Bor}
 use Rattle.fields.specs.text.WordEnds.{words_to}
-use Rattle.fields.specs.text.Words.{Act, act_of, is_bare, OnQuoting}
+use Rattle.fields.specs.text.Words.{Transition, transition_of, is_bare, OnQuoting}
 use Rattle.fields.specs.text.Words as line
-use Rattle.fields.specs.declared.text.cutting.Act.{Act as CodeAct}
-use Rattle.fields.specs.declared.text.cutting.Act.TheVariants as acts
-use Rattle.fields.specs.declared.text.cutting.Place.{Place}
-use Rattle.fields.specs.declared.text.cutting.Place.TheVariants as places
+use Rattle.fields.specs.declared.text.cutting.Transition.{Transition as CodeTransition}
+use Rattle.fields.specs.declared.text.cutting.Transition.TheVariants as transitions
+use Rattle.fields.specs.declared.text.cutting.State.{State}
+use Rattle.fields.specs.declared.text.cutting.State.TheVariants as states
 use Rattle.fields.specs.declared.text.cutting.Cutting.{Cutting}
 use Rattle.fields.specs.declared.text.words.WordFault.{WordFault}
 use Rattle.fields.specs.declared.text.words.WordFault.TheVariants as faults
 use Rattle.fields.specs.Refusals.{GivesFor, or_refused}
 
 -- the place that the code's place stands for
-abbrev pub view_place : Place → line.Place
-view_place places.Between = line.Between
-view_place places.Bare = line.Bare
-view_place places.Quoted = line.Quoted
-view_place places.Escaped = line.Escaped
-view_place places.Closed = line.Closed
+abbrev pub view_state : State → line.State
+view_state states.Between = line.Between
+view_state states.Bare = line.Bare
+view_state states.Quoted = line.Quoted
+view_state states.Escaped = line.Escaped
+view_state states.Closed = line.Closed
 
 -- the act that the code's act stands for
-abbrev pub view_act : CodeAct → Act
-view_act (acts.Skips next) = line.Skips (view_place next)
-view_act (acts.Joins next) = line.Joins (view_place next)
-view_act (acts.Ends next) = line.Ends (view_place next)
-view_act acts.Breaks = line.Breaks
+abbrev pub view_transition : CodeTransition → Transition
+view_transition (transitions.Skips next) = line.Skips (view_state next)
+view_transition (transitions.Joins next) = line.Joins (view_state next)
+view_transition (transitions.Ends next) = line.Ends (view_state next)
+view_transition transitions.Breaks = line.Breaks
 
 -- where the last word ends, or the place before the first
 abbrev pub last_end : ℕ → List ℕ → ℕ
@@ -37,29 +37,29 @@ last_end from (end ∷ ends) = last_end end ends
 pub record Cut : Type 0 where
   pub words : List (List ℕ)
   pub word : List ℕ
-  pub place : line.Place
+  pub state : line.State
 
 -- the cut that the code's state stands for
 abbrev pub view_cutting : Cutting → Cut
 view_cutting cutting =
     let bytes = cutting.bytes.items in
     let ends = cutting.ends.items in
-    record { words = words_to bytes 0 ends; word = drop (last_end 0 ends) bytes; place = view_place cutting.place }
+    record { words = words_to bytes 0 ends; word = drop (last_end 0 ends) bytes; state = view_state cutting.state }
 
 -- some bytes more in the word at hand
 abbrev pub joined : List ℕ → Cut → Cut
-joined bytes cut = record { words = cut.words; word = cut.word ++ bytes; place = cut.place }
+joined bytes cut = record { words = cut.words; word = cut.word ++ bytes; state = cut.state }
 
 -- the word at hand ended
 abbrev pub ended : Cut → Cut
-ended cut = record { words = cut.words ++ cut.word ∷ []; word = []; place = cut.place }
+ended cut = record { words = cut.words ++ cut.word ∷ []; word = []; state = cut.state }
 
 -- the same cut, with the next byte at another place
-abbrev pub placed : line.Place → Cut → Cut
-placed place cut = record { words = cut.words; word = cut.word; place = place }
+abbrev pub placed : line.State → Cut → Cut
+placed state cut = record { words = cut.words; word = cut.word; state = state }
 
 -- what an act makes of a cut
-abbrev pub cut_by : Act → ℕ → Cut → Option Cut
+abbrev pub cut_by : Transition → ℕ → Cut → Option Cut
 cut_by (line.Skips next) byte cut = Some (placed next cut)
 cut_by (line.Joins next) byte cut = Some (placed next (joined (byte ∷ []) cut))
 cut_by (line.Ends next) byte cut = Some (placed next (ended cut))
@@ -67,10 +67,10 @@ cut_by line.Breaks byte cut = None
 
 -- what a byte makes of a cut
 unfoldable pub after : Cut → ℕ → Option Cut
-after cut byte = cut_by (act_of cut.place byte) byte cut
+after cut byte = cut_by (transition_of cut.state byte) byte cut
 
 -- the words at the line's end, by the place of the last byte
-abbrev pub words_at : line.Place → Cut → Option (List (List ℕ))
+abbrev pub words_at : line.State → Cut → Option (List (List ℕ))
 words_at line.Between cut = Some cut.words
 words_at line.Bare cut = Some (cut.words ++ cut.word ∷ [])
 words_at line.Quoted cut = None
@@ -79,7 +79,7 @@ words_at line.Closed cut = Some cut.words
 
 -- the words at the line's end
 unfoldable pub at_line_end : Cut → Option (List (List ℕ))
-at_line_end cut = words_at cut.place cut
+at_line_end cut = words_at cut.state cut
 
 -- the words of the cut and of the bytes that follow
 abbrev pub cut_from : Cut → List ℕ → Option (List (List ℕ))
@@ -88,7 +88,7 @@ cut_from cut (byte ∷ bytes) = option_and_then (λ next. cut_from next bytes) (
 
 -- before the first byte
 abbrev pub start : Cut
-start = record { words = []; word = []; place = line.Between }
+start = record { words = []; word = []; state = line.Between }
 
 -- the refusal that a fault stands for, if it is no lack of memory
 abbrev pub refusal_of : WordFault → Option WordFault
@@ -110,7 +110,7 @@ Advances old bytes new result =
     (λ fault. OnQuoting fault (cut_from old bytes ≡ None))
 
 -- an unquoted word begins or goes on there
-abbrev pub is_unquoted : line.Place → Bool
+abbrev pub is_unquoted : line.State → Bool
 is_unquoted line.Between = true
 is_unquoted line.Bare = true
 is_unquoted line.Quoted = false

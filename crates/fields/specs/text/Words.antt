@@ -55,33 +55,33 @@ AreWords (word ∷ words) line =
 
 -- where a byte of a line stands: between two words, in an unquoted word, between the quotes of a word, after a backslash
 -- there, or after the closing quote
-pub data Place : Type 0 where
-  Between : Place
-  Bare : Place
-  Quoted : Place
-  Escaped : Place
-  Closed : Place
+pub data State : Type 0 where
+  Between : State
+  Bare : State
+  Quoted : State
+  Escaped : State
+  Closed : State
 
 -- what a byte does: it is no part of a word, joins the word at hand, ends it, or breaks the
 -- quoting; and where the next byte stands
-pub data Act : Type 0 where
-  Skips : Place → Act
-  Joins : Place → Act
-  Ends : Place → Act
-  Breaks : Act
+pub data Transition : Type 0 where
+  Skips : State → Transition
+  Joins : State → Transition
+  Ends : State → Transition
+  Breaks : Transition
 
 -- a byte of a word joins it, but a newline is no byte of one
-abbrev pub joins : Place → ℕ → Act
+abbrev pub joins : State → ℕ → Transition
 joins next byte = if byte == 10 then Breaks else Joins next
 
 -- between words a blank or a tab is skipped, `"` opens a quoted word and any other byte an unquoted one, which a blank or a
 -- tab ends; a quoted word ends at its `"`, and a blank or a tab follows
-abbrev pub act_of : Place → ℕ → Act
-act_of Between byte = if is_blank byte then Skips Between else if byte == 34 then Skips Quoted else joins Bare byte
-act_of Bare byte = if is_blank byte then Ends Between else if byte == 34 then Breaks else joins Bare byte
-act_of Quoted byte = if byte == 34 then Ends Closed else if byte == 92 then Skips Escaped else joins Quoted byte
-act_of Escaped byte = joins Quoted byte
-act_of Closed byte = if is_blank byte then Skips Between else Breaks
+abbrev pub transition_of : State → ℕ → Transition
+transition_of Between byte = if is_blank byte then Skips Between else if byte == 34 then Skips Quoted else joins Bare byte
+transition_of Bare byte = if is_blank byte then Ends Between else if byte == 34 then Breaks else joins Bare byte
+transition_of Quoted byte = if byte == 34 then Ends Closed else if byte == 92 then Skips Escaped else joins Quoted byte
+transition_of Escaped byte = joins Quoted byte
+transition_of Closed byte = if is_blank byte then Skips Between else Breaks
 
 -- a byte before the bytes of the first word
 abbrev pub in_front : ℕ → List (List ℕ) → List (List ℕ)
@@ -89,20 +89,20 @@ in_front byte [] = []
 in_front byte (word ∷ words) = (byte ∷ word) ∷ words
 
 -- the words from a byte on, by what the byte does and by the words from the next byte on
-abbrev pub acted : Act → ℕ → (Place → Option (List (List ℕ))) → Option (List (List ℕ))
+abbrev pub acted : Transition → ℕ → (State → Option (List (List ℕ))) → Option (List (List ℕ))
 acted (Skips next) byte words = words next
 acted (Joins next) byte words = option_map (in_front byte) (words next)
 acted (Ends next) byte words = option_map (λ further. [] ∷ further) (words next)
 acted Breaks byte words = None
 
 -- the words of the rest of a line, first the rest of the word at hand; none at bad quoting
-abbrev pub words_from : Place → List ℕ → Option (List (List ℕ))
+abbrev pub words_from : State → List ℕ → Option (List (List ℕ))
 words_from Between [] = Some []
 words_from Bare [] = Some ([] ∷ [])
 words_from Quoted [] = None
 words_from Escaped [] = None
 words_from Closed [] = Some []
-words_from place (byte ∷ bytes) = acted (act_of place byte) byte (λ next. words_from next bytes)
+words_from place (byte ∷ bytes) = acted (transition_of place byte) byte (λ next. words_from next bytes)
 
 -- the words of the line, if it has any
 abbrev pub words_of : List ℕ → Option (List (List ℕ))

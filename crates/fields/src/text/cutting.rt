@@ -9,7 +9,7 @@ use std::alloc::Global;
 // Where a byte of a line stands: between two words, in an unquoted word, between the quotes of a
 // word, after a backslash there, or after the closing quote.
 #[derive(Clone, Copy)]
-enum Place {
+enum State {
     Between,
     Bare,
     Quoted,
@@ -19,10 +19,10 @@ enum Place {
 
 // What a byte does: it is no part of a word, joins the word at hand, ends it, or breaks the quoting;
 // and where the next byte stands.
-enum Act {
-    Skips(Place),
-    Joins(Place),
-    Ends(Place),
+enum Transition {
+    Skips(State),
+    Joins(State),
+    Ends(State),
     Breaks,
 }
 
@@ -31,7 +31,7 @@ enum Act {
 pub(crate) struct Cutting {
     pub(crate) bytes: Vec<u8>,
     pub(crate) ends: Vec<usize>,
-    place: Place,
+    state: State,
     ghost rise: { do_rise 0 ends.items (length bytes.items) ≡ true },
 }
 
@@ -55,25 +55,25 @@ fn bare_len(bytes: &[u8]) -> usize
     bytes.len()
 }
 
-impl Place {
+impl State {
     ghost use Rattle.std.specs.Prelude.{◌≡◌, ◌<◌, ◌≤◌, true, length, take};
-    ghost use Rattle.fields.specs.text.Words.{act_of};
-    ghost use Rattle.fields.specs.steps.Cutting.{view_act, view_place, is_unquoted, IsRun};
+    ghost use Rattle.fields.specs.text.Words.{transition_of};
+    ghost use Rattle.fields.specs.steps.Cutting.{view_transition, view_state, is_unquoted, IsRun};
 
     // What a byte does that stands there.
-    fn act_of(self, byte: u8) -> Act
-        ensures { view_act result ≡ act_of (view_place self) byte }
+    fn transition_of(self, byte: u8) -> Transition
+        ensures { view_transition result ≡ transition_of (view_state self) byte }
     {
         match (self, byte) {
-            (_, b'\n') => Act::Breaks,
-            (Place::Between | Place::Closed, b' ' | b'\t') => Act::Skips(Place::Between),
-            (Place::Between, b'"') => Act::Skips(Place::Quoted),
-            (Place::Bare, b' ' | b'\t') => Act::Ends(Place::Between),
-            (Place::Bare, b'"') | (Place::Closed, _) => Act::Breaks,
-            (Place::Between | Place::Bare, _) => Act::Joins(Place::Bare),
-            (Place::Quoted, b'"') => Act::Ends(Place::Closed),
-            (Place::Quoted, b'\\') => Act::Skips(Place::Escaped),
-            (Place::Quoted | Place::Escaped, _) => Act::Joins(Place::Quoted),
+            (_, b'\n') => Transition::Breaks,
+            (State::Between | State::Closed, b' ' | b'\t') => Transition::Skips(State::Between),
+            (State::Between, b'"') => Transition::Skips(State::Quoted),
+            (State::Bare, b' ' | b'\t') => Transition::Ends(State::Between),
+            (State::Bare, b'"') | (State::Closed, _) => Transition::Breaks,
+            (State::Between | State::Bare, _) => Transition::Joins(State::Bare),
+            (State::Quoted, b'"') => Transition::Ends(State::Closed),
+            (State::Quoted, b'\\') => Transition::Skips(State::Escaped),
+            (State::Quoted | State::Escaped, _) => Transition::Joins(State::Quoted),
         }
     }
 
@@ -81,11 +81,11 @@ impl Place {
     fn run_len(self, bytes: &[u8]) -> usize
         ensures within { result ≤ length bytes.now }
         ensures run { IsRun (take result bytes.now) }
-        ensures unquoted { 0 < result → is_unquoted (view_place self) ≡ true }
+        ensures unquoted { 0 < result → is_unquoted (view_state self) ≡ true }
     {
         match self {
-            Place::Between | Place::Bare => bare_len(bytes),
-            Place::Quoted | Place::Escaped | Place::Closed => 0,
+            State::Between | State::Bare => bare_len(bytes),
+            State::Quoted | State::Escaped | State::Closed => 0,
         }
     }
 }
@@ -93,7 +93,7 @@ impl Place {
 impl Cutting {
     ghost use Rattle.std.specs.Prelude.{◌≡◌, ◌<◌, ◌≤◌, [], ◌∷◌, length, take, All, IsTrue, IfOk, IsErr};
     ghost use Rattle.fields.specs.text.Words.{is_bare, words_of};
-    ghost use Rattle.fields.specs.steps.Cutting.{view_cutting, view_place, after, at_line_end, start, joined, ended, Gives, UnlessNoMemory, Advances};
+    ghost use Rattle.fields.specs.steps.Cutting.{view_cutting, view_state, after, at_line_end, start, joined, ended, Gives, UnlessNoMemory, Advances};
 
     // Before the first byte, with room for the bytes of a line and as many words as it may have.
     fn new(alloc: Global, len: usize) -> Result<Cutting, WordFault>
@@ -110,7 +110,7 @@ impl Cutting {
         Ok(Cutting {
             bytes,
             ends,
-            place: Place::Between,
+            state: State::Between,
         })
     }
 
@@ -147,17 +147,17 @@ impl Cutting {
     fn take(&mut self, byte: u8) -> Result<(), WordFault>
         ensures { Gives (λ _. view_cutting self.new) result (after (view_cutting self.old) byte) }
     {
-        match self.place.act_of(byte) {
-            Act::Skips(next) => self.place = next,
-            Act::Joins(next) => {
+        match self.state.transition_of(byte) {
+            Transition::Skips(next) => self.state = next,
+            Transition::Joins(next) => {
                 self.join(byte)?;
-                self.place = next;
+                self.state = next;
             }
-            Act::Ends(next) => {
+            Transition::Ends(next) => {
                 self.end_word()?;
-                self.place = next;
+                self.state = next;
             }
-            Act::Breaks => return Err(WordFault::Quoting),
+            Transition::Breaks => return Err(WordFault::Quoting),
         }
         Ok(())
     }
@@ -167,13 +167,13 @@ impl Cutting {
         requires { 0 < length bytes.now }
         ensures { Advances (view_cutting self.old) bytes.now (view_cutting self.new) result }
     {
-        let run = self.place.run_len(bytes);
+        let run = self.state.run_len(bytes);
         if run == 0 {
             self.take(bytes[0])?;
             return Ok(&bytes[1..]);
         }
         self.join_all(&bytes[..run])?;
-        self.place = Place::Bare;
+        self.state = State::Bare;
         Ok(&bytes[run..])
     }
 
@@ -182,10 +182,10 @@ impl Cutting {
     fn finish(&mut self) -> Result<(), WordFault>
         ensures { Gives (λ _. (view_cutting self.new).words) result (at_line_end (view_cutting self.old)) }
     {
-        match self.place {
-            Place::Between | Place::Closed => Ok(()),
-            Place::Bare => self.end_word(),
-            Place::Quoted | Place::Escaped => Err(WordFault::Quoting),
+        match self.state {
+            State::Between | State::Closed => Ok(()),
+            State::Bare => self.end_word(),
+            State::Quoted | State::Escaped => Err(WordFault::Quoting),
         }
     }
 

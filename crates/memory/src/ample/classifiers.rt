@@ -93,7 +93,7 @@ impl Numbered {
 
     /// Whether the rule of a number is found where the list has it, or not at all.
     fn finds(&self, number: u32) -> bool {
-        let place = place_of(&self.numbers, number);
+        let place = index_of(&self.numbers, number);
         self.classifier.next(&point_of(number), 0) == place
     }
 
@@ -118,7 +118,7 @@ impl Numbered {
 }
 
 /// The place of a number in a list.
-fn place_of(numbers: &[u32], number: u32) -> Option<usize> {
+fn index_of(numbers: &[u32], number: u32) -> Option<usize> {
     for place in 0..numbers.len() {
         if numbers[place] == number {
             return Some(place);

@@ -20,7 +20,7 @@ fn has_bits(row: &BitRow, bits: &[bool]) -> bool {
 }
 
 /// The first place, the middle one and the last, in turn.
-fn place_of(turn: u32, last: usize) -> usize
+fn index_of(turn: u32, last: usize) -> usize
     ensures { result ≤ last }
 {
     match turn % 3 {
@@ -35,7 +35,7 @@ fn put(row: &mut BitRow, bits: &mut Vec<bool>, turn: u32) -> Result<(), Trouble>
     if row.len() != bits.len() {
         return Err(Trouble::OtherAnswer);
     }
-    let place = place_of(turn, row.len());
+    let place = index_of(turn, row.len());
     let bit = turn % 7 < 3;
     row.insert(place, bit)?;
     if bits.insert(place, bit).is_err() {
@@ -49,7 +49,7 @@ fn take(row: &mut BitRow, bits: &mut Vec<bool>, turn: u32) -> Result<(), Trouble
     if row.len() != bits.len() || row.len() == 0 {
         return Err(Trouble::OtherAnswer);
     }
-    let place = place_of(turn, row.len() - 1);
+    let place = index_of(turn, row.len() - 1);
     row.remove(place);
     bits.remove(place);
     Ok(())

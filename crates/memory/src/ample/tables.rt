@@ -16,7 +16,7 @@ pub const CHAINS: u32 = 1024;
 
 /// Whether a table has a rule of this number and text in a chain.
 pub fn has_rule(table: &Table, chain: &[u8], number: usize, text: &[u8]) -> bool {
-    let Some(place) = table.place_of(chain) else {
+    let Some(place) = table.index_of(chain) else {
         return false;
     };
     if place >= table.chain_count() || number == 0 || number > table.rule_count(place) {

@@ -1,6 +1,6 @@
 pub mod AnswerLaws
 pub mod NextLaws
-pub mod HeadLaws
+pub mod NameFormLaws
 pub mod LineLaws
 pub mod SecondLaws
 pub mod MemoryLaws

@@ -7,7 +7,7 @@ use Rattle.restore.specs.Sequence.{Gives}
 use Rattle.restore.specs.calls.Changes as change
 use Rattle.restore.specs.calls.Changes.{Change, changed_by, edit_asked}
 use Rattle.restore.specs.sections.Lines.{IsLine, puts_table}
-use Rattle.restore.specs.sections.Restore.{Place, Between, Skipping, Building, Restore, ended_at}
+use Rattle.restore.specs.sections.Restore.{SectionState, Between, Skipping, Building, Restore, ended_at}
 use Rattle.restore.specs.sections.Section.{RestoreFault, Section, asked, begun, is_out_of_memory, line_in}
 
 -- a call, with its answer where it can be refused: an edit of the table; of a transaction, that it begins, with noflush or
@@ -64,7 +64,7 @@ accepted_of s (Reads r line (Err fault)) = []
 accepted_of s (Ends r answer) = []
 
 -- the section that is pending after a restore's line, by where its next line stands
-abbrev pub pending_at : Place → Bool → List ℕ → Option Pending → Option Pending
+abbrev pub pending_at : SectionState → Bool → List ℕ → Option Pending → Option Pending
 pending_at Between noflush line pending = None
 pending_at Skipping noflush line pending = None
 pending_at (Building next) noflush line None = Some (opened noflush next)
@@ -78,7 +78,7 @@ pending_after s (Takes line (Ok next)) = option_map (with_line line next) s.pend
 pending_after s (Takes line (Err fault)) = None
 pending_after s Commits = None
 pending_after s GivesUp = None
-pending_after s (Reads r line (Ok next)) = pending_at next.place r.noflush line s.pending
+pending_after s (Reads r line (Ok next)) = pending_at next.state r.noflush line s.pending
 pending_after s (Reads r line (Err fault)) = None
 pending_after s (Ends r answer) = None
 
@@ -92,7 +92,7 @@ accepted s [] = []
 accepted s (call ∷ calls) = accepted_of s call ++ accepted (after s call) calls
 
 -- the condition on callers: from the line that opens a section to its end no other call changes the table
-abbrev pub IsPendingIn : Place → Bool → Option Pending → Type 0
+abbrev pub IsPendingIn : SectionState → Bool → Option Pending → Type 0
 IsPendingIn Between noflush pending = pending ≡ None
 IsPendingIn Skipping noflush pending = pending ≡ None
 IsPendingIn (Building section) noflush pending = (edits : List Edit) × (pending ≡ Some (record { noflush = noflush; section = section; edits = edits }))
@@ -106,8 +106,8 @@ IsCall s old (Takes line answer) new =
     (o : Pending) × (s.pending ≡ Some o) × Gives is_out_of_memory (λ (next : Section). next) answer (line_in o.section line) × (new ≡ old)
 IsCall s old Commits new = (o : Pending) × (s.pending ≡ Some o) × (new.table ≡ o.section.table)
 IsCall s old GivesUp new = new ≡ old
-IsCall s old (Reads r line answer) new = IsPendingIn r.place r.noflush s.pending × IsLine r line old new answer
-IsCall s old (Ends r answer) new = IsPendingIn r.place r.noflush s.pending × (answer ≡ ended_at r.place) × (new ≡ old)
+IsCall s old (Reads r line answer) new = IsPendingIn r.state r.noflush s.pending × IsLine r line old new answer
+IsCall s old (Ends r answer) new = IsPendingIn r.state r.noflush s.pending × (answer ≡ ended_at r.state) × (new ≡ old)
 
 -- calls, made one after another, lead from one table to another
 abbrev pub Lead : Standing → TableView → List Call → TableView → Type 0

@@ -2,17 +2,17 @@
 use Rattle.std.specs.Prelude.{◌≡◌, ◌⊎◌, ℕ, ◌&&◌, not, Bool, true, false, List, Result, Ok, Err, IsTrue, IsFalse}
 use Rattle.table.specs.chains.Table.{TableView}
 use Rattle.restore.specs.sections.Section.{RestoreFault, is_out_of_memory}
-use Rattle.restore.specs.sections.Restore.{Restore, Restoring, Place, Between, Skipping, Building, is_commit, restore_line, takes_no_memory}
+use Rattle.restore.specs.sections.Restore.{Restore, Restoring, SectionState, Between, Skipping, Building, is_commit, restore_line, takes_no_memory}
 
 -- a section that is built
-abbrev pub is_building : Place → Bool
+abbrev pub is_building : SectionState → Bool
 is_building Between = false
 is_building Skipping = false
 is_building (Building s) = true
 
 -- the line puts a table in place: it is the `COMMIT` of a section that was built, and no test is made
 abbrev pub puts_table : Restore → List ℕ → Bool
-puts_table r line = is_building r.place && is_commit line && not r.test
+puts_table r line = is_building r.state && is_commit line && not r.test
 
 -- the call answers what the definition gives; what is refused changes nothing, classifiers included, and neither does a line
 -- that puts no table in place
@@ -26,7 +26,7 @@ pub record RanOut (r : Restore) (line : List ℕ) (old new : TableView) (result 
   pub fault : RestoreFault
   pub answer : result ≡ Err fault
   pub memory : IsTrue (is_out_of_memory fault)
-  pub may_take : IsFalse (takes_no_memory r.place line)
+  pub may_take : IsFalse (takes_no_memory r.state line)
   pub unchanged : new ≡ old
 
 -- what a restore answers to a line, and what it leaves of the table in place

@@ -9,28 +9,28 @@ use Rattle.table.specs.chains.Table.{Table}
 use Rattle.restore.specs.Sequence.{◌>>=◌, or_refused, made_into}
 use Rattle.restore.specs.sections.Section.{RestoreFault, NotAllowed, EndBeforeCommit, Quoting, LineTooLong, Section, begun, is_quiet}
 use Rattle.restore.specs.sections.Section.{is_too_long, begins_with, line_in}
-pub use Rattle.restore.specs.declared.restore.Place.{Place}
-pub use Rattle.restore.specs.declared.restore.Place.TheVariants.{Between, Skipping, Building}
+pub use Rattle.restore.specs.declared.restore.SectionState.{SectionState}
+pub use Rattle.restore.specs.declared.restore.SectionState.TheVariants.{Between, Skipping, Building}
 
 -- a restore: its options, and where its next line stands
 pub record Restore : Type 0 where
   pub noflush : Bool
   pub test : Bool
-  pub place : Place
+  pub state : SectionState
 
 -- a restore is stored as its options and its place
-abbrev pub restore_code : Coded Place → Coded Restore
-restore_code place =
-    code_by ((Bool × Bool) × Place) (coded× (coded× coded_bool coded_bool) place) (λ (r : Restore). ((r.noflush, r.test), r.place))
-    (λ (p : (Bool × Bool) × Place). record { noflush = p.0.0; test = p.0.1; place = p.1 }) (λ r. refl)
+abbrev pub restore_code : Coded SectionState → Coded Restore
+restore_code state =
+    code_by ((Bool × Bool) × SectionState) (coded× (coded× coded_bool coded_bool) state) (λ (r : Restore). ((r.noflush, r.test), r.state))
+    (λ (p : (Bool × Bool) × SectionState). record { noflush = p.0.0; test = p.0.1; state = p.1 }) (λ r. refl)
 
 -- a restore begins
 abbrev pub begun_restore : Bool → Bool → Restore
-begun_restore noflush test = record { noflush = noflush; test = test; place = Between }
+begun_restore noflush test = record { noflush = noflush; test = test; state = Between }
 
 -- the restore, with its next line there
-abbrev pub at : Restore → Place → Restore
-at r place = record { noflush = r.noflush; test = r.test; place = place }
+abbrev pub at : Restore → SectionState → Restore
+at r state = record { noflush = r.noflush; test = r.test; state = state }
 
 -- the line without the blanks and tabs before it
 abbrev pub after_blanks : List ℕ → List ℕ
@@ -47,24 +47,24 @@ pub record Restoring : Type 0 where
   pub restore : Restore
 
 -- this table, and the restore with its next line there
-abbrev pub moved : Table → Restore → Place → Restoring
-moved t r place = record { table = t; restore = at r place }
+abbrev pub moved : Table → Restore → SectionState → Restoring
+moved t r state = record { table = t; restore = at r state }
 
 -- `*filter` opens a section that is built, any other word that begins with `*` one that is skipped
-abbrev pub opened : Bool → Table → List ℕ → Place
+abbrev pub opened : Bool → Table → List ℕ → SectionState
 opened noflush t w = if bytes_eq w (codes "*filter") then Building (begun noflush t) else Skipping
 
 -- between sections a line of one word that begins with `*` opens one, and no other line is allowed
-abbrev pub opening : Bool → Table → List (List ℕ) → Result Place RestoreFault
+abbrev pub opening : Bool → Table → List (List ℕ) → Result SectionState RestoreFault
 opening noflush t (w ∷ []) = if begins_with 42 w then Ok (opened noflush t w) else Err NotAllowed
 opening noflush t words = Err NotAllowed
 
 -- a line between sections
-abbrev pub between : Bool → Table → List ℕ → Result Place RestoreFault
+abbrev pub between : Bool → Table → List ℕ → Result SectionState RestoreFault
 between noflush t line = if is_quiet line then Ok Between else or_refused Quoting (words_of line) >>= λ words. opening noflush t words
 
 -- a line of a section that is skipped: `COMMIT` ends it
-abbrev pub skipped : List ℕ → Place
+abbrev pub skipped : List ℕ → SectionState
 skipped line = if is_commit line then Between else Skipping
 
 -- `COMMIT` puts the built table in place, but for a test
@@ -72,7 +72,7 @@ abbrev pub committed : Bool → Table → Section → Table
 committed test t s = if test then t else s.table
 
 -- a line, by where it stands; of a skipped section nothing is read up to `COMMIT`
-abbrev pub line_at : Place → Restore → Table → List ℕ → Result Restoring RestoreFault
+abbrev pub line_at : SectionState → Restore → Table → List ℕ → Result Restoring RestoreFault
 line_at Between r t line = made_into (moved t r) (between r.noflush t line)
 line_at Skipping r t line = Ok (moved t r (skipped line))
 line_at (Building s) r t line =
@@ -81,10 +81,10 @@ line_at (Building s) r t line =
 
 -- one line of a restore; its length is asked first
 unfoldable pub restore_line : Restore → Table → List ℕ → Result Restoring RestoreFault
-restore_line r t line = if is_too_long line then Err LineTooLong else line_at r.place r t line
+restore_line r t line = if is_too_long line then Err LineTooLong else line_at r.state r t line
 
 -- the end of the lines is between sections
-abbrev pub ended_at : Place → Result (Unit {0}) RestoreFault
+abbrev pub ended_at : SectionState → Result (Unit {0}) RestoreFault
 ended_at Between = Ok tt
 ended_at Skipping = Err EndBeforeCommit
 ended_at (Building s) = Err EndBeforeCommit
@@ -98,14 +98,14 @@ restore_lines s (line ∷ lines) = restore_line s.restore s.table line >>= λ ne
 abbrev pub restored : Bool → Bool → Table → List (List ℕ) → Result Table RestoreFault
 restored noflush test t lines =
     restore_lines (record { table = t; restore = begun_restore noflush test }) lines >>= λ (s : Restoring).
-    made_into (λ done. s.table) (ended_at s.restore.place)
+    made_into (λ done. s.table) (ended_at s.restore.state)
 
 -- a section that is skipped
-abbrev pub is_skipping : Place → Bool
+abbrev pub is_skipping : SectionState → Bool
 is_skipping Between = false
 is_skipping Skipping = true
 is_skipping (Building s) = false
 
 -- no memory is taken for a line that is too long, blank, a comment, of a skipped section, or `COMMIT`
-abbrev pub takes_no_memory : Place → List ℕ → Bool
-takes_no_memory place line = is_too_long line || is_skipping place || is_quiet line || is_commit line
+abbrev pub takes_no_memory : SectionState → List ℕ → Bool
+takes_no_memory state line = is_too_long line || is_skipping state || is_quiet line || is_commit line

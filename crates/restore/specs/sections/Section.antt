@@ -12,7 +12,7 @@ use Rattle.table.specs.declared.fault.TableFault.{TableFault}
 use Rattle.table.specs.declared.fault.TableFault.TheVariants as table
 use Rattle.restore.specs.Sequence.{◌>>=◌, or_refused, refused_as, made_into}
 use Rattle.restore.specs.commands.Command as command
-use Rattle.restore.specs.commands.Heads.{edit_of, is_digits}
+use Rattle.restore.specs.commands.CommandForms.{edit_of, is_digits}
 use Rattle.restore.specs.sections.Names.{Names}
 pub use Rattle.restore.specs.declared.fault.RestoreFault.{RestoreFault}
 pub use Rattle.restore.specs.declared.fault.RestoreFault.TheVariants.{Command, Table as OfTable, NotAllowed, BadChainLine, DuplicateChainLine}

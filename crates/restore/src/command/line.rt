@@ -3,11 +3,11 @@ ghost use Rattle.std.specs.Prelude.{◌≡◌, ◌||◌, length, drop, map, find
 ghost use Rattle.std.specs.Str.{bytes_eq};
 ghost use Rattle.rules.specs.declared.reading.fault.Refusal.TheVariants as refusal;
 ghost use Rattle.restore.specs.commands.Command.{IsRead};
-ghost use Rattle.restore.specs.commands.Heads.{followed, is_name_of, line_of, named, refused, value};
+ghost use Rattle.restore.specs.commands.CommandForms.{followed, is_name_of, line_of, named, refused, value};
 ghost use Rattle.restore.specs.steps.Reading.{row_of};
 
 use crate::command::Command;
-use crate::command::head::Head;
+use crate::command::name::CommandName;
 use crate::command::next::next_word;
 use crate::fault::CommandFault;
 use fields::Words;
@@ -31,16 +31,16 @@ fn is_table(word: &[u8]) -> bool
 // The one of these commands that a word names, with the words from a place on.
 fn command_named<'a>(
     alloc: Global,
-    heads: &[Head],
+    command_names: &[CommandName],
     name: &[u8],
     words: &'a Words,
     place: usize,
 ) -> Result<Command<'a>, CommandFault>
     ensures { IsRead result
-        (followed (find (is_name_of name.now) (map row_of heads.now)) (length words.now) (drop place words.now)) }
+        (followed (find (is_name_of name.now) (map row_of command_names.now)) (length words.now) (drop place words.now)) }
 {
-    match Head::named(heads, name) {
-        Some(head) => head.follow(alloc, words, place),
+    match CommandName::named(command_names, name) {
+        Some(name) => name.parse_args(alloc, words, place),
         None => Err(CommandFault::NoCommand),
     }
 }
@@ -57,11 +57,11 @@ fn named_again<'a>(words: &'a Words, place: usize) -> Result<Command<'a>, Comman
 // The name of the table, which is `filter`, and one of these commands.
 fn with_table<'a>(
     alloc: Global,
-    heads: &[Head],
+    command_names: &[CommandName],
     words: &'a Words,
     place: usize,
 ) -> Result<Command<'a>, CommandFault>
-    ensures { IsRead result (value (named (map row_of heads.now)) (length words.now) (drop place words.now)) }
+    ensures { IsRead result (value (named (map row_of command_names.now)) (length words.now) (drop place words.now)) }
 {
     let (table, after) = next_word(words, place, refused(Refusal::ValueMissing))?;
     if table != b"filter".as_slice() {
@@ -71,21 +71,21 @@ fn with_table<'a>(
     if is_table(name) {
         return named_again(words, after);
     }
-    command_named(alloc, heads, name, words, after)
+    command_named(alloc, command_names, name, words, after)
 }
 
 // One of these commands, after its table where that is named.
 pub(crate) fn read_line<'a>(
     alloc: Global,
-    heads: &[Head],
+    command_names: &[CommandName],
     words: &'a Words,
     place: usize,
 ) -> Result<Command<'a>, CommandFault>
-    ensures { IsRead result (line_of (map row_of heads.now) (length words.now) (drop place words.now)) }
+    ensures { IsRead result (line_of (map row_of command_names.now) (length words.now) (drop place words.now)) }
 {
     let (name, after) = next_word(words, place, CommandFault::NoCommand)?;
     if is_table(name) {
-        return with_table(alloc, heads, words, after);
+        return with_table(alloc, command_names, words, after);
     }
-    command_named(alloc, heads, name, words, after)
+    command_named(alloc, command_names, name, words, after)
 }

@@ -3,7 +3,7 @@ ghost use Rattle.std.specs.Prelude.{◌≡◌, [], ◌∷◌, length, drop, Some
 ghost use Rattle.rules.specs.reading.Steps.{rule_of};
 ghost use Rattle.restore.specs.Sequence.{Gives, made_into, refused_as};
 ghost use Rattle.restore.specs.commands.Command.{is_out_of_memory};
-ghost use Rattle.restore.specs.commands.Heads.{Word, if_fits◌then◌else◌, refused, takes};
+ghost use Rattle.restore.specs.commands.CommandForms.{Word, if_fits◌then◌else◌, refused, takes};
 ghost use Rattle.restore.specs.steps.Reading.{next_number, next_number_if_digits, next_or};
 
 use crate::command::digits::is_digits;

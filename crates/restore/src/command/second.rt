@@ -1,8 +1,8 @@
 //! A second command among the words of a rule.
 ghost use Rattle.std.specs.Prelude.{◌≡◌, length, drop};
-ghost use Rattle.restore.specs.commands.Heads.{is_command, or_second, word_at};
+ghost use Rattle.restore.specs.commands.CommandForms.{is_command, or_second, word_at};
 
-use crate::command::head::Head;
+use crate::command::name::CommandName;
 use crate::command::next::next_word;
 use crate::fault::CommandFault;
 use fields::Words;
@@ -13,7 +13,7 @@ fn is_command_at(words: &Words, from: usize, place: usize) -> bool
     ensures { result ≡ is_command (word_at (length words.now) (drop from words.now) place) }
 {
     match next_word(words, from.max(place), CommandFault::NoCommand) {
-        Ok((word, _)) => Head::named(&Head::ALL, word).is_some(),
+        Ok((word, _)) => CommandName::named(&CommandName::ALL, word).is_some(),
         Err(_) => false,
     }
 }

@@ -15,7 +15,7 @@ use Rattle.rules.specs.options.Matches.{same_kind}
 
 -- An option's spellings, of which the first is printed, how many values follow it, whether `!` may stand before it, what it
 -- belongs to, and its place among the options of its owner. Options of one place count as one.
-pub record OptionRow : Type 0 where
+pub record OptionSpec : Type 0 where
   pub names : List (List ℕ)
   pub values : ℕ
   pub inverts : Bool
@@ -23,7 +23,7 @@ pub record OptionRow : Type 0 where
   pub slot : ℕ
 
 -- a row of these
-abbrev pub option_row_with : List (List ℕ) → ℕ → Bool → Owner → ℕ → OptionRow
+abbrev pub option_row_with : List (List ℕ) → ℕ → Bool → Owner → ℕ → OptionSpec
 option_row_with names values inverts owner slot = record { names = names; values = values; inverts = inverts; owner = owner; slot = slot }
 
 -- two spellings
@@ -43,7 +43,7 @@ abbrev pub of_ports : Owner
 of_ports = owned.Match (Either kind.Tcp kind.Udp)
 
 -- the rows
-abbrev pub option_row : Opt → OptionRow
+abbrev pub option_row : Opt → OptionSpec
 option_row opt.Source = option_row_with (codes "-s" ∷ codes "--source" ∷ codes "--src" ∷ []) 1 true owned.Rule 0
 option_row opt.Destination = option_row_with (codes "-d" ∷ codes "--destination" ∷ codes "--dst" ∷ []) 1 true owned.Rule 1
 option_row opt.InInterface = option_row_with (or (codes "-i") (codes "--in-interface")) 1 true owned.Rule 2

@@ -14,11 +14,11 @@ use Rattle.fields.specs.values.TcpFlags.{tcp_flags_text}
 use Rattle.fields.specs.values.Ttl.{ttl_text}
 use Rattle.rules.specs.options.Matches.{kind_name}
 use Rattle.rules.specs.options.Options.{name_of}
-use Rattle.rules.specs.options.Settings.{option_of_value}
+use Rattle.rules.specs.options.OptionValues.{option_of_value}
 use Rattle.rules.specs.rule.Rules.{Match, Rule}
 use Rattle.rules.specs.declared.rule.action.Action.{Action}
 use Rattle.rules.specs.declared.rule.action.Action.TheVariants as action
-use Rattle.rules.specs.declared.options.setting.Setting.{Setting}
+use Rattle.rules.specs.declared.options.option_value.OptionValue.{OptionValue}
 use Rattle.rules.specs.declared.options.value.Value.{Value}
 use Rattle.rules.specs.declared.options.value.Value.TheVariants as value
 
@@ -63,16 +63,16 @@ shown_bang true = bare (codes "!") ∷ []
 shown_bang false = []
 
 -- an option with its value; `!` stands before it where it is inverted
-abbrev pub shown_setting : Setting → List Shown
-shown_setting s = shown_bang s.inverted ++ (bare (name_of (option_of_value s.value)) ∷ shown_value s.value)
+abbrev pub shown_option_value : OptionValue → List Shown
+shown_option_value s = shown_bang s.inverted ++ (bare (name_of (option_of_value s.value)) ∷ shown_value s.value)
 
 -- the words of options, one after another
-abbrev pub shown_settings : List Setting → List Shown
-shown_settings ss = flat_map shown_setting ss
+abbrev pub shown_option_values : List OptionValue → List Shown
+shown_option_values ss = flat_map shown_option_value ss
 
 -- the words of a match: `-m`, its name, its options
 abbrev pub shown_match : Match → List Shown
-shown_match m = bare (codes "-m") ∷ (bare (kind_name m.kind) ∷ shown_settings m.settings)
+shown_match m = bare (codes "-m") ∷ (bare (kind_name m.kind) ∷ shown_option_values m.option_values)
 
 -- the option and the word of a target
 abbrev pub shown_given : Action → List Shown
@@ -91,7 +91,7 @@ shown_action (Some a) = shown_given a
 
 -- the words of a rule
 abbrev pub shown_rule : Rule → List Shown
-shown_rule r = shown_settings r.settings ++ (flat_map shown_match r.matches ++ (shown_action r.action ++ shown_settings r.target_options))
+shown_rule r = shown_option_values r.option_values ++ (flat_map shown_match r.matches ++ (shown_action r.action ++ shown_option_values r.target_options))
 
 -- the text of a rule: its words, each after one blank
 abbrev pub rule_text : Rule → List ℕ

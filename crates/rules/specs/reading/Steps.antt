@@ -7,7 +7,7 @@ use Rattle.fields.specs.values.Name.{name_of}
 use Rattle.rules.specs.Sequence.{◌>>=◌, or_refused}
 use Rattle.rules.specs.options.Matches.{kind_of, implied_kinds}
 use Rattle.rules.specs.options.Options.{owner, slot, kind_has, first_of}
-use Rattle.rules.specs.options.Settings.{slot_of, value_of}
+use Rattle.rules.specs.options.OptionValues.{slot_of, value_of}
 use Rattle.rules.specs.reading.OptionWords.{OptionWords, option_words_at}
 use Rattle.rules.specs.rule.Actions.{action_of, action_has}
 use Rattle.rules.specs.rule.Needs.{is_met_for, unmet}
@@ -19,48 +19,48 @@ use Rattle.rules.specs.declared.options.option.Owner.{Owner}
 use Rattle.rules.specs.declared.options.option.Owner.TheVariants as owned
 use Rattle.rules.specs.declared.options.match_kind.MatchKind.{MatchKind}
 use Rattle.rules.specs.declared.options.match_kind.MatchKind.TheVariants as kind
-use Rattle.rules.specs.declared.options.setting.Setting.{Setting}
+use Rattle.rules.specs.declared.options.option_value.OptionValue.{OptionValue}
 use Rattle.rules.specs.declared.rule.action.Action.{Action}
 use Rattle.rules.specs.declared.rule.action.Action.TheVariants as action
 
 -- an option of this place was given
-abbrev pub is_given : ℕ → List Setting → Bool
-is_given slot settings = list_any (λ (s : Setting). slot_of s == slot) settings
+abbrev pub is_given : ℕ → List OptionValue → Bool
+is_given slot option_values = list_any (λ (s : OptionValue). slot_of s == slot) option_values
 
 -- the options with one more, which stands before the first one of a later place
-abbrev pub insert_by_place : ℕ → Setting → List Setting → List Setting
+abbrev pub insert_by_place : ℕ → OptionValue → List OptionValue → List OptionValue
 insert_by_place slot s [] = s ∷ []
 insert_by_place slot s (t ∷ ts) = if nat_lt slot (slot_of t) then s ∷ t ∷ ts else t ∷ insert_by_place slot s ts
 
 -- the options with one more, where none of its place was given
-unfoldable pub with_option : List Setting → OptionWords → Result (List Setting) Refusal
-with_option settings p =
-    if is_given (slot p.option) settings then Err refusal.RepeatedOption
+unfoldable pub with_option : List OptionValue → OptionWords → Result (List OptionValue) Refusal
+with_option option_values p =
+    if is_given (slot p.option) option_values then Err refusal.RepeatedOption
     else
     value_of p.option p.inverted p.values
-    >>= λ v. Ok (insert_by_place (slot p.option) (record { inverted = p.inverted; value = v }) settings)
+    >>= λ v. Ok (insert_by_place (slot p.option) (record { inverted = p.inverted; value = v }) option_values)
 
 -- the rule with these options of its own
-abbrev pub with_settings : Rule → List Setting → Rule
-with_settings r settings = record { settings = settings; matches = r.matches; action = r.action; target_options = r.target_options }
+abbrev pub with_option_values : Rule → List OptionValue → Rule
+with_option_values r option_values = record { option_values = option_values; matches = r.matches; action = r.action; target_options = r.target_options }
 
 -- the rule with these matches
 abbrev pub with_matches : Rule → List Match → Rule
-with_matches r matches = record { settings = r.settings; matches = matches; action = r.action; target_options = r.target_options }
+with_matches r matches = record { option_values = r.option_values; matches = matches; action = r.action; target_options = r.target_options }
 
 -- the rule with this action
 abbrev pub with_action : Rule → Action → Rule
-with_action r t = record { settings = r.settings; matches = r.matches; action = Some t; target_options = r.target_options }
+with_action r t = record { option_values = r.option_values; matches = r.matches; action = Some t; target_options = r.target_options }
 
 -- the rule with these options of its target
-abbrev pub with_target_options : Rule → List Setting → Rule
-with_target_options r options = record { settings = r.settings; matches = r.matches; action = r.action; target_options = options }
+abbrev pub with_target_options : Rule → List OptionValue → Rule
+with_target_options r options = record { option_values = r.option_values; matches = r.matches; action = r.action; target_options = options }
 
 -- the rule with one more match, where it has fewer than 16
 unfoldable pub with_match : Rule → MatchKind → Result Rule Refusal
 with_match r k =
     if nat_le 16 (length r.matches) then Err refusal.TooManyMatches
-    else let one : Match = record { kind = k; settings = [] } in Ok (with_matches r (r.matches ++ one ∷ []))
+    else let one : Match = record { kind = k; option_values = [] } in Ok (with_matches r (r.matches ++ one ∷ []))
 
 -- the place one further on, or the first where a match here has the option
 abbrev pub later : Bool → Option ℕ → Option ℕ
@@ -73,8 +73,8 @@ last_with o [] = None
 last_with o (m ∷ ms) = later (kind_has m.kind o) (last_with o ms)
 
 -- tcp, udp or icmp, where it is the rule's protocol: the match that an option starts by itself
-abbrev pub implied_match : List Setting → Opt → Option MatchKind
-implied_match settings o = find (λ k. is_met_for k settings && kind_has k o) implied_kinds
+abbrev pub implied_match : List OptionValue → Opt → Option MatchKind
+implied_match option_values o = find (λ k. is_met_for k option_values && kind_has k o) implied_kinds
 
 -- an option that may start a match by itself
 abbrev pub is_implied_option : Opt → Bool
@@ -88,7 +88,7 @@ with_match_for r p (Some k) = with_match r k >>= λ s. Ok (s, length r.matches)
 -- the place of a match that was started, or that of the one that the option starts
 abbrev pub at_match_or_new : Rule → OptionWords → Option ℕ → Result (Rule × ℕ) Refusal
 at_match_or_new r p (Some i) = Ok (r, i)
-at_match_or_new r p None = with_match_for r p (implied_match r.settings p.option)
+at_match_or_new r p None = with_match_for r p (implied_match r.option_values p.option)
 
 -- the rule with the match that an option belongs to, and that match's place
 unfoldable pub match_for : Rule → OptionWords → Result (Rule × ℕ) Refusal
@@ -96,13 +96,13 @@ match_for r p = at_match_or_new r p (last_with p.option r.matches)
 
 -- what stands beyond the last match
 abbrev pub no_match : Match
-no_match = record { kind = kind.Comment; settings = [] }
+no_match = record { kind = kind.Comment; option_values = [] }
 
 -- the matches with one more option at a place
 unfoldable pub with_option_at : List Match → ℕ → OptionWords → Result (List Match) Refusal
 with_option_at ms i p =
     let m = slice_index_or ms i no_match in
-    with_option m.settings p >>= λ ss. Ok (slice_set ms i (record { kind = m.kind; settings = ss }))
+    with_option m.option_values p >>= λ ss. Ok (slice_set ms i (record { kind = m.kind; option_values = ss }))
 
 -- `-g` was given
 abbrev pub has_goto : Option Action → Bool
@@ -141,7 +141,7 @@ match_step r p = match_for r p >>= λ s. with_option_at s.0.matches s.1 p >>= λ
 
 -- the rule with one more option, by what the option belongs to
 abbrev pub owned_step : Owner → Rule → OptionWords → Result Rule Refusal
-owned_step owned.Rule r p = with_option r.settings p >>= λ ss. Ok (with_settings r ss)
+owned_step owned.Rule r p = with_option r.option_values p >>= λ ss. Ok (with_option_values r ss)
 owned_step owned.Start r p = or_refused refusal.UnknownMatch (kind_of (first_of p.values)) >>= λ k. with_match r k
 owned_step owned.Jump r p = with_jump r (first_of p.values)
 owned_step owned.Goto r p = with_goto r (first_of p.values)

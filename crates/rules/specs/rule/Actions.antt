@@ -14,7 +14,7 @@ use Rattle.rules.specs.declared.options.option.Owner.{Owner}
 use Rattle.rules.specs.declared.options.option.Owner.TheVariants as owned
 use Rattle.rules.specs.declared.options.option.Extended.{Extended}
 use Rattle.rules.specs.declared.options.option.Extended.TheVariants as extended
-use Rattle.rules.specs.declared.options.setting.Setting.{Setting}
+use Rattle.rules.specs.declared.options.option_value.OptionValue.{OptionValue}
 use Rattle.rules.specs.declared.rule.target.Target.{Target}
 use Rattle.rules.specs.declared.rule.target.Target.TheVariants as target
 
@@ -70,12 +70,12 @@ abbrev pub action_has : Option Action → Opt → Bool
 action_has a o = is_action_of a (owner o)
 
 -- the type of REJECT among the options of the target; where none is given, that the port is unreachable
-abbrev pub reject_in : List Setting → RejectType
+abbrev pub reject_in : List OptionValue → RejectType
 reject_in [] = reject.PortUnreachable
 reject_in (s ∷ ss) = unwrap_or (reject_type_in s.value) (reject_in ss)
 
 -- the target with its type
-abbrev pub target_with : Action → List Setting → Target
+abbrev pub target_with : Action → List OptionValue → Target
 target_with action.Accept target_options = target.Accept
 target_with action.Drop target_options = target.Drop
 target_with action.Return target_options = target.Return
@@ -102,7 +102,7 @@ action_with_chain_name name (Some (action.Goto old)) = Some (action.Goto name)
 -- the rule with another chain as its target, where it names one
 abbrev pub with_chain_name : List ℕ → Rule → Rule
 with_chain_name name r =
-    record { settings = r.settings; matches = r.matches; action = action_with_chain_name name r.action; target_options = r.target_options }
+    record { option_values = r.option_values; matches = r.matches; action = action_with_chain_name name r.action; target_options = r.target_options }
 
 -- the target is a chain
 abbrev pub names_chain : Option Target → Bool

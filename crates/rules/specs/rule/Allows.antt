@@ -16,7 +16,7 @@ use Rattle.rules.specs.options.Matches.{match_row}
 use Rattle.rules.specs.rule.Crossing.{cross}
 use Rattle.rules.specs.rule.Rules.{Match, Rule}
 use Rattle.rules.specs.declared.options.match_kind.MatchKind.{MatchKind}
-use Rattle.rules.specs.declared.options.setting.Setting.{Setting}
+use Rattle.rules.specs.declared.options.option_value.OptionValue.{OptionValue}
 use Rattle.rules.specs.declared.options.value.Value.{Value}
 use Rattle.rules.specs.declared.options.value.Value.TheVariants as value
 
@@ -92,12 +92,12 @@ is_on f None = false
 is_on f (Some g) = same_field f g
 
 -- a condition, or its opposite
-abbrev pub setting_holds : Setting → ℕ → Bool
-setting_holds s n = if s.inverted then not (holds_of s.value n) else holds_of s.value n
+abbrev pub option_value_holds : OptionValue → ℕ → Bool
+option_value_holds s n = if s.inverted then not (holds_of s.value n) else holds_of s.value n
 
 -- the option allows the number on the field: it speaks of another field, or holds of it
-abbrev pub setting_allows : Field → ℕ → Setting → Bool
-setting_allows f n s = if is_on f (field_of s.value) then setting_holds s n else true
+abbrev pub option_value_allows : Field → ℕ → OptionValue → Bool
+option_value_allows f n s = if is_on f (field_of s.value) then option_value_holds s n else true
 
 -- a match that looks into the packet's parts asks for a first fragment
 abbrev pub fragment_allows : Field → ℕ → MatchKind → Bool
@@ -105,11 +105,11 @@ fragment_allows f n k = not ((match_row k).asks_fragment && same_field f field.F
 
 -- the match allows it: by the fragments that it asks for, and by each of its options
 abbrev pub match_allows : Field → ℕ → Match → Bool
-match_allows f n m = fragment_allows f n m.kind && list_all (setting_allows f n) m.settings
+match_allows f n m = fragment_allows f n m.kind && list_all (option_value_allows f n) m.option_values
 
 -- every condition of the rule on the field holds of the number
 unfoldable pub allows : Rule → Field → ℕ → Bool
-allows r f n = list_all (setting_allows f n) r.settings && list_all (match_allows f n) r.matches
+allows r f n = list_all (option_value_allows f n) r.option_values && list_all (match_allows f n) r.matches
 
 -- whether the rule allows each of these numbers, one a field in the order of the fields
 abbrev pub allows_each : List ℕ → Rule → Bool
@@ -120,9 +120,9 @@ abbrev pub matches : List ℕ → Rule → Bool
 matches numbers r = allows_each numbers r && cross numbers r
 
 -- the condition asks something on the field
-abbrev pub asks : Field → Setting → Bool
+abbrev pub asks : Field → OptionValue → Bool
 asks f s = is_on f (field_of s.value)
 
 -- the rule has a condition on the field, of its own or in a match
 abbrev pub asks_on : Field → Rule → Bool
-asks_on f r = list_any (asks f) r.settings || list_any (λ (m : Match). list_any (asks f) m.settings) r.matches
+asks_on f r = list_any (asks f) r.option_values || list_any (λ (m : Match). list_any (asks f) m.option_values) r.matches

@@ -4,27 +4,27 @@ use Rattle.std.specs.List.{list_any}
 use Rattle.fields.specs.declared.values.reject.RejectType.{RejectType}
 use Rattle.fields.specs.declared.values.reject.RejectType.TheVariants as reject
 use Rattle.rules.specs.options.Matches.{match_row}
-use Rattle.rules.specs.options.Settings.{has_protocol}
+use Rattle.rules.specs.options.OptionValues.{has_protocol}
 use Rattle.rules.specs.options.Values.{reject_type_in}
 use Rattle.rules.specs.rule.Rules.{Match, Rule}
 use Rattle.rules.specs.declared.reading.fault.Refusal.{Refusal}
 use Rattle.rules.specs.declared.reading.fault.Refusal.TheVariants as refusal
 use Rattle.rules.specs.declared.options.match_kind.MatchKind.{MatchKind}
-use Rattle.rules.specs.declared.options.setting.Setting.{Setting}
+use Rattle.rules.specs.declared.options.option_value.OptionValue.{OptionValue}
 
 -- one of the protocols is the rule's, or there are none
-abbrev pub is_met : List ℕ → List Setting → Bool
-is_met protocols settings = (length protocols == 0) || list_any (λ n. has_protocol n settings) protocols
+abbrev pub is_met : List ℕ → List OptionValue → Bool
+is_met protocols option_values = (length protocols == 0) || list_any (λ n. has_protocol n option_values) protocols
 
 -- the rule has a protocol that the match needs
-abbrev pub is_met_for : MatchKind → List Setting → Bool
-is_met_for k settings = is_met (match_row k).protocols settings
+abbrev pub is_met_for : MatchKind → List OptionValue → Bool
+is_met_for k option_values = is_met (match_row k).protocols option_values
 
 -- what a match lacks: its protocol, or else its option
-abbrev pub unmet_match : List Setting → Match → Option Refusal
-unmet_match settings m =
-    if not (is_met_for m.kind settings) then Some refusal.ProtocolNeeded
-    else if (match_row m.kind).needs_option && (length m.settings == 0) then Some refusal.MatchOptionMissing
+abbrev pub unmet_match : List OptionValue → Match → Option Refusal
+unmet_match option_values m =
+    if not (is_met_for m.kind option_values) then Some refusal.ProtocolNeeded
+    else if (match_row m.kind).needs_option && (length m.option_values == 0) then Some refusal.MatchOptionMissing
     else None
 
 -- the first of two refusals
@@ -33,9 +33,9 @@ or_else (Some e) other = Some e
 or_else None other = other
 
 -- what the first match lacks that lacks something
-abbrev pub unmet_matches : List Setting → List Match → Option Refusal
-unmet_matches settings [] = None
-unmet_matches settings (m ∷ ms) = or_else (unmet_match settings m) (unmet_matches settings ms)
+abbrev pub unmet_matches : List OptionValue → List Match → Option Refusal
+unmet_matches option_values [] = None
+unmet_matches option_values (m ∷ ms) = or_else (unmet_match option_values m) (unmet_matches option_values ms)
 
 -- REJECT answers with the reset of the connection
 abbrev pub answers_reset : Option RejectType → Bool
@@ -50,14 +50,14 @@ answers_reset (Some reject.AdminProhibited) = false
 answers_reset (Some reject.TcpReset) = true
 
 -- the option asks for it
-abbrev pub is_reset : Setting → Bool
+abbrev pub is_reset : OptionValue → Bool
 is_reset s = answers_reset (reject_type_in s.value)
 
 -- a reset is of tcp (6) alone
-abbrev pub unmet_reset : List Setting → List Setting → Option Refusal
-unmet_reset settings target_options =
-    if list_any is_reset target_options && not (has_protocol 6 settings) then Some refusal.ProtocolNeeded else None
+abbrev pub unmet_reset : List OptionValue → List OptionValue → Option Refusal
+unmet_reset option_values target_options =
+    if list_any is_reset target_options && not (has_protocol 6 option_values) then Some refusal.ProtocolNeeded else None
 
 -- what a rule lacks: a need of its matches, in their order, or else that of a reset
 abbrev pub unmet : Rule → Option Refusal
-unmet r = or_else (unmet_matches r.settings r.matches) (unmet_reset r.settings r.target_options)
+unmet r = or_else (unmet_matches r.option_values r.matches) (unmet_reset r.option_values r.target_options)

@@ -4,7 +4,7 @@ use Rattle.std.specs.List.{All, Contains}
 use Rattle.fields.specs.text.Printed.{Shown}
 use Rattle.fields.specs.values.Name.{name_of}
 use Rattle.rules.specs.options.Options.{may_be_inverted}
-use Rattle.rules.specs.options.Settings.{option_of_value, value_of}
+use Rattle.rules.specs.options.OptionValues.{option_of_value, value_of}
 use Rattle.rules.specs.printing.Printing.{shown_value}
 use Rattle.rules.specs.rule.Needs.{unmet}
 use Rattle.rules.specs.rule.Rules.{Match, Rule, normal_form}
@@ -14,7 +14,7 @@ use Rattle.rules.specs.declared.options.match_kind.MatchKind.{MatchKind}
 use Rattle.rules.specs.declared.options.match_kind.MatchKind.TheVariants as kind
 use Rattle.rules.specs.declared.options.option.Opt.{Opt}
 use Rattle.rules.specs.declared.options.option.Opt.TheVariants as opt
-use Rattle.rules.specs.declared.options.setting.Setting.{Setting}
+use Rattle.rules.specs.declared.options.option_value.OptionValue.{OptionValue}
 
 -- a place in a listing where this option alone may stand
 abbrev pub only : Opt → List Opt
@@ -50,23 +50,23 @@ target_places (Some (action.Jump name)) = []
 target_places (Some (action.Goto name)) = []
 
 -- the options stand at some of the places, in their order, and no two at one place
-abbrev pub AreInOrder : List (List Opt) → List Setting → Type 0
+abbrev pub AreInOrder : List (List Opt) → List OptionValue → Type 0
 AreInOrder places [] = Unit {0}
 AreInOrder [] (s ∷ ss) = ⊥
 AreInOrder (place ∷ places) (s ∷ ss) = (Contains place (option_of_value s.value) × AreInOrder places ss) ⊎ AreInOrder places (s ∷ ss)
 
 -- a rule's own options, each match's and the target's stand in the order of a listing, in whatever order they were given
 pub record IsInOrder (r : Rule) : Type 0 where
-  pub own : AreInOrder rule_places r.settings
-  pub matches : All (λ (m : Match). AreInOrder (match_places m.kind) m.settings) r.matches
+  pub own : AreInOrder rule_places r.option_values
+  pub matches : All (λ (m : Match). AreInOrder (match_places m.kind) m.option_values) r.matches
   pub target : AreInOrder (target_places r.action) r.target_options
 
 -- all options of a rule
-abbrev pub all_settings : Rule → List Setting
-all_settings r = r.settings ++ (flat_map (λ (m : Match). m.settings) r.matches ++ r.target_options)
+abbrev pub all_option_values : Rule → List OptionValue
+all_option_values r = r.option_values ++ (flat_map (λ (m : Match). m.option_values) r.matches ++ r.target_options)
 
 -- the words of an option's value give the value, and `!` stands only before an option that may be inverted
-pub record ValueReadsBack (s : Setting) : Type 0 where
+pub record ValueReadsBack (s : OptionValue) : Type 0 where
   pub value : value_of (option_of_value s.value) s.inverted (map (λ (w : Shown). w.word) (shown_value s.value)) ≡ Ok s.value
   pub bang : s.inverted ≡ true → may_be_inverted (option_of_value s.value) ≡ true
 
@@ -85,7 +85,7 @@ NamesChain (Some (action.Goto name)) = name_of name ≡ Some name
 -- meant where nothing is said stands there, and nothing that it needs is missing.
 pub record IsReadable (r : Rule) : Type 0 where
   pub ordered : IsInOrder r
-  pub values : All ValueReadsBack (all_settings r)
+  pub values : All ValueReadsBack (all_option_values r)
   pub few : length r.matches ≤ 16
   pub chain : NamesChain r.action
   pub normal : normal_form r ≡ r

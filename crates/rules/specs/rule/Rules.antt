@@ -2,31 +2,31 @@
 use Rattle.std.specs.Prelude.{false, List, [], ◌∷◌, map, filter, Option, Some, None}
 use Rattle.fields.specs.declared.values.icmp.Asked.TheVariants as asked
 use Rattle.fields.specs.declared.values.reject.RejectType.TheVariants as reject
-use Rattle.rules.specs.options.Settings.{is_condition}
+use Rattle.rules.specs.options.OptionValues.{is_condition}
 use Rattle.rules.specs.declared.rule.action.Action.{Action}
 use Rattle.rules.specs.declared.rule.action.Action.TheVariants as action
 use Rattle.rules.specs.declared.options.match_kind.MatchKind.{MatchKind}
 use Rattle.rules.specs.declared.options.match_kind.MatchKind.TheVariants as kind
-use Rattle.rules.specs.declared.options.setting.Setting.{Setting}
+use Rattle.rules.specs.declared.options.option_value.OptionValue.{OptionValue}
 use Rattle.rules.specs.declared.options.value.Value.{Value}
 use Rattle.rules.specs.declared.options.value.Value.TheVariants as value
 
 -- a match with its options
 pub record Match : Type 0 where
   pub kind : MatchKind
-  pub settings : List Setting
+  pub option_values : List OptionValue
 
 -- A rule: its own options, its matches in the order in which they were started, what it does, and the options of that.
 -- Options stand in the order in which they are printed.
 pub record Rule : Type 0 where
-  pub settings : List Setting
+  pub option_values : List OptionValue
   pub matches : List Match
   pub action : Option Action
-  pub target_options : List Setting
+  pub target_options : List OptionValue
 
 -- a rule of which nothing was read yet
 abbrev pub empty_rule : Rule
-empty_rule = record { settings = []; matches = []; action = None; target_options = [] }
+empty_rule = record { option_values = []; matches = []; action = None; target_options = [] }
 
 -- what a match asks where its option isn't given: icmp asks for any type
 abbrev pub match_default : MatchKind → Option Value
@@ -52,18 +52,18 @@ action_default (Some (action.Jump name)) = None
 action_default (Some (action.Goto name)) = None
 
 -- the options or, where there are none, what is meant then
-abbrev pub or_default : Option Value → List Setting → List Setting
+abbrev pub or_default : Option Value → List OptionValue → List OptionValue
 or_default (Some v) [] = record { inverted = false; value = v } ∷ []
-or_default v settings = settings
+or_default v option_values = option_values
 
 -- a match without what is no condition, and with what is meant where nothing is said
 abbrev pub normal_match : Match → Match
-normal_match m = record { kind = m.kind; settings = or_default (match_default m.kind) (filter is_condition m.settings) }
+normal_match m = record { kind = m.kind; option_values = or_default (match_default m.kind) (filter is_condition m.option_values) }
 
 -- The form in which a rule is kept: what is no condition is as if absent, and what is meant where nothing is said stands there.
 abbrev pub normal_form : Rule → Rule
 normal_form r = record {
-  settings = filter is_condition r.settings;
+  option_values = filter is_condition r.option_values;
   matches = map normal_match r.matches;
   action = r.action;
   target_options = or_default (action_default r.action) (filter is_condition r.target_options);

@@ -7,23 +7,23 @@ use Rattle.fields.specs.text.WordSlice.{words_in}
 use Rattle.fields.specs.declared.text.word_slice.WordSlice.{WordSlice}
 use Rattle.rules.specs.rule.Rules as rules
 use Rattle.rules.specs.reading.OptionWords as words
-use Rattle.rules.specs.declared.rule.content.Match.{Match}
-use Rattle.rules.specs.declared.rule.content.Content.{Content}
+use Rattle.rules.specs.declared.rule.spec.Match.{Match}
+use Rattle.rules.specs.declared.rule.spec.RuleSpec.{RuleSpec}
 use Rattle.rules.specs.declared.reading.option_words.OptionWords.{OptionWords}
 
 -- a match as the definitions have it
 abbrev pub view_match : Match → rules.Match
-view_match m = record { kind = m.kind; settings = m.settings.items }
+view_match m = record { kind = m.kind; option_values = m.option_values.items }
 
 -- matches as the definitions have them
 abbrev pub view_matches : List Match → List rules.Match
 view_matches ms = map view_match ms
 
 -- what a rule holds as the definitions have it
-abbrev pub view_content : Content → rules.Rule
-view_content c =
+abbrev pub view_spec : RuleSpec → rules.Rule
+view_spec c =
     let matches = view_matches c.matches.items in
-    record { settings = c.settings.items; matches = matches; action = c.action; target_options = c.target_options.items }
+    record { option_values = c.option_values.items; matches = matches; action = c.action; target_options = c.target_options.items }
 
 -- an option with the words of its values as the definitions have it
 abbrev pub view_option_words : OptionWords → words.OptionWords

@@ -15,12 +15,12 @@ use Rattle.fields.specs.values.FreeText.{quoted}
 use Rattle.fields.specs.values.Ttl.{ttl_text}
 use Rattle.rules.specs.options.Matches.{kind_name}
 use Rattle.rules.specs.options.Options.{value_count}
-use Rattle.rules.specs.options.Settings.{option_of_value}
+use Rattle.rules.specs.options.OptionValues.{option_of_value}
 use Rattle.rules.specs.rule.Rules.{Match}
-use Rattle.rules.specs.printing.Printing.{shown_setting, shown_action}
+use Rattle.rules.specs.printing.Printing.{shown_option_value, shown_action}
 use Rattle.rules.specs.declared.rule.action.Action.{Action}
 use Rattle.rules.specs.declared.options.match_kind.MatchKind.{MatchKind}
-use Rattle.rules.specs.declared.options.setting.Setting.{Setting}
+use Rattle.rules.specs.declared.options.option_value.OptionValue.{OptionValue}
 use Rattle.rules.specs.declared.options.value.Value.{Value}
 use Rattle.rules.specs.declared.options.value.Value.TheVariants as value
 
@@ -60,8 +60,8 @@ value_text value.LogIpOptions = []
 value_text value.LogUid = []
 
 -- an option's text, each of its words after a blank
-abbrev pub setting_text : Setting → List ℕ
-setting_text s = spaced_all (shown_setting s)
+abbrev pub option_value_text : OptionValue → List ℕ
+option_value_text s = spaced_all (shown_option_value s)
 
 -- the text that starts a match
 unfoldable pub start_text : MatchKind → List ℕ
@@ -69,7 +69,7 @@ start_text k = spaced (bare (codes "-m")) ++ spaced (bare (kind_name k))
 
 -- a match's text
 abbrev pub match_text : Match → List ℕ
-match_text m = start_text m.kind ++ flat_map setting_text m.settings
+match_text m = start_text m.kind ++ flat_map option_value_text m.option_values
 
 -- a target's text without its options
 abbrev pub action_text : Option Action → List ℕ

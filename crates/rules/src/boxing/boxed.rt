@@ -3,7 +3,7 @@ ghost use Rattle.std.specs.Prelude.{◌≡◌, ◌+◌, ◌-◌, ◌^◌, ◌<�
 ghost use Rattle.std.specs.List.{list_all};
 ghost use Rattle.fields.specs.numbers.Field.{top};
 ghost use Rattle.fields.specs.numbers.Spans.{SpanSet, has};
-ghost use Rattle.rules.specs.rule.Allows.{setting_allows, match_allows, fragment_allows};
+ghost use Rattle.rules.specs.rule.Allows.{option_value_allows, match_allows, fragment_allows};
 ghost use Rattle.rules.specs.boxing.Boxed.{IsBox, IsBoxOf, set_on};
 ghost use Rattle.rules.specs.steps.Conditions.{HasAllNumbers, Narrows, condition_allows};
 ghost use Rattle.rules.specs.steps.Views.{view_match, view_matches};
@@ -11,9 +11,9 @@ ghost use Rattle.rules.specs.steps.Views.{view_match, view_matches};
 use crate::boxing::condition::Condition;
 use crate::boxing::work::Work;
 use crate::options::match_kind::MatchKind;
-use crate::options::setting::Setting;
+use crate::options::option_value::OptionValue;
 use crate::rule::Rule;
-use crate::rule::content::Match;
+use crate::rule::spec::Match;
 use fields::{FIELDS, Field, Spans};
 use std::alloc::{AllocError, Global};
 use std::array;
@@ -86,25 +86,29 @@ fn keep(alloc: Global, spans: &mut [Spans], asked: Condition) -> Result<(), Allo
 }
 
 // Leaves on each field the numbers that the option allows.
-fn narrow(alloc: Global, spans: &mut [Spans], setting: &Setting) -> Result<(), AllocError>
+fn narrow(alloc: Global, spans: &mut [Spans], option_value: &OptionValue) -> Result<(), AllocError>
     requires { IsBox spans.old }
     ensures boxed { IsBox spans.new }
-    ensures narrows { OnOk result (Narrows (λ f x. setting_allows f x setting.now) spans.old spans.new) }
+    ensures narrows { OnOk result (Narrows (λ f x. option_value_allows f x option_value.now) spans.old spans.new) }
 {
-    match setting.condition(alloc)? {
+    match option_value.condition(alloc)? {
         None => Ok(()),
         Some(asked) => keep(alloc, spans, asked),
     }
 }
 
 // Leaves on each field the numbers that all options allow.
-fn narrow_all(alloc: Global, spans: &mut [Spans], settings: &[Setting]) -> Result<(), AllocError>
+fn narrow_all(
+    alloc: Global,
+    spans: &mut [Spans],
+    option_values: &[OptionValue],
+) -> Result<(), AllocError>
     requires { IsBox spans.old }
     ensures boxed { IsBox spans.new }
-    ensures narrows { OnOk result (Narrows (λ f x. list_all (setting_allows f x) settings.now) spans.old spans.new) }
+    ensures narrows { OnOk result (Narrows (λ f x. list_all (option_value_allows f x) option_values.now) spans.old spans.new) }
 {
-    for setting in settings {
-        narrow(alloc, spans, setting)?;
+    for option_value in option_values {
+        narrow(alloc, spans, option_value)?;
     }
     Ok(())
 }
@@ -130,7 +134,7 @@ fn narrow_match(alloc: Global, spans: &mut [Spans], one: &Match) -> Result<(), A
     ensures narrows { OnOk result (Narrows (λ f x. match_allows f x (view_match one.now)) spans.old spans.new) }
 {
     narrow_fragment(alloc, spans, one.kind)?;
-    narrow_all(alloc, spans, one.settings.as_slice())
+    narrow_all(alloc, spans, one.option_values.as_slice())
 }
 
 // Leaves on each field the numbers that all matches allow.
@@ -163,9 +167,9 @@ impl Boxed {
         work.count();
         let mut spans: [Spans; FIELDS] = array::from_fn(|_| Spans::none(alloc, 0));
         open(alloc, &mut spans)?;
-        let content = rule.content();
-        narrow_all(alloc, &mut spans, content.settings.as_slice())?;
-        narrow_matches(alloc, &mut spans, content.matches.as_slice())?;
+        let spec = rule.spec();
+        narrow_all(alloc, &mut spans, spec.option_values.as_slice())?;
+        narrow_matches(alloc, &mut spans, spec.matches.as_slice())?;
         Ok(Boxed { spans })
     }
 

@@ -1,9 +1,9 @@
 // What an option asks of packets, as a set of numbers on a field.
 ghost use Rattle.std.specs.Prelude.{◌≡◌, Some, Ok, IfOk};
-ghost use Rattle.rules.specs.rule.Allows.{field_of, holds_of, setting_holds};
+ghost use Rattle.rules.specs.rule.Allows.{field_of, holds_of, option_value_holds};
 ghost use Rattle.rules.specs.steps.Conditions.{Asks};
 
-use crate::options::setting::Setting;
+use crate::options::option_value::OptionValue;
 use crate::options::value::Value;
 use fields::{Field, Spans};
 use std::alloc::{AllocError, Global};
@@ -60,10 +60,10 @@ impl Value {
     }
 }
 
-impl Setting {
+impl OptionValue {
     // The numbers that the option allows, on the field of which it speaks: those of its value or, inverted, the others.
     pub(crate) fn condition(&self, alloc: Global) -> Result<Option<Condition>, AllocError>
-        ensures { IfOk result (λ asked. Asks (field_of self.now.value) (setting_holds self.now) asked) }
+        ensures { IfOk result (λ asked. Asks (field_of self.now.value) (option_value_holds self.now) asked) }
     {
         match self.value.condition(alloc)? {
             None => Ok(None),

@@ -1,6 +1,6 @@
 // The text of a comment.
 ghost use Rattle.std.specs.Prelude.{◌≡◌, ◌≤◌, length, false, IfOk, Ok};
-ghost use Rattle.rules.specs.options.Settings.{text_within};
+ghost use Rattle.rules.specs.options.OptionValues.{text_within};
 ghost use Rattle.fields.specs.text.Tap.{has_failed, Puts};
 ghost use Rattle.fields.specs.values.FreeText.{quoted};
 ghost use Rattle.rules.specs.Sequence.{Gives, RefusesFirst};

@@ -78,7 +78,7 @@ pub(crate) enum Owner {
 // An option's spellings, of which the first is printed, how many values follow it, whether `!` may stand before it,
 // what it belongs to, and its place among the options of its owner. Options of one place count as one.
 #[derive(Clone, Copy)]
-pub(crate) struct OptionRow {
+pub(crate) struct OptionSpec {
     pub(crate) names: &'static [&'static [u8]],
     pub(crate) values: usize,
     pub(crate) inverts: bool,
@@ -89,7 +89,7 @@ pub(crate) struct OptionRow {
 // What belongs to tcp and to udp.
 const PORTS: Owner = Owner::Match(MatchKinds::Either(MatchKind::Tcp, MatchKind::Udp));
 
-impl OptionRow {
+impl OptionSpec {
     // A row of these.
     fn of(
         names: &'static [&'static [u8]],
@@ -97,10 +97,10 @@ impl OptionRow {
         inverts: bool,
         owner: Owner,
         slot: u8,
-    ) -> OptionRow
+    ) -> OptionSpec
         ensures { result ≡ record { names = names.entry; values = values; inverts = inverts; owner = owner; slot = slot } }
     {
-        OptionRow {
+        OptionSpec {
             names,
             values,
             inverts,
@@ -111,7 +111,7 @@ impl OptionRow {
 }
 
 impl Opt {
-    ghost use Rattle.rules.specs.steps.OptionRows.{IsOptionRow};
+    ghost use Rattle.rules.specs.steps.OptionRows.{IsOptionSpec};
 
     // Each option.
     pub(crate) const ALL: [Opt; 32] = [
@@ -150,120 +150,126 @@ impl Opt {
     ];
 
     // The row of the option.
-    pub(crate) fn row(self) -> OptionRow
-        ensures { IsOptionRow result self }
+    pub(crate) fn row(self) -> OptionSpec
+        ensures { IsOptionSpec result self }
     {
         match self {
-            Opt::Source => OptionRow::of(&[b"-s", b"--source", b"--src"], 1, true, Owner::Rule, 0),
-            Opt::Destination => OptionRow::of(
+            Opt::Source => OptionSpec::of(&[b"-s", b"--source", b"--src"], 1, true, Owner::Rule, 0),
+            Opt::Destination => OptionSpec::of(
                 &[b"-d", b"--destination", b"--dst"],
                 1,
                 true,
                 Owner::Rule,
                 1,
             ),
-            Opt::InInterface => OptionRow::of(&[b"-i", b"--in-interface"], 1, true, Owner::Rule, 2),
-            Opt::OutInterface => OptionRow::of(
+            Opt::InInterface => OptionSpec::of(
+                &[b"-i", b"--in-interface"],
+                1,
+                true,
+                Owner::Rule,
+                2,
+            ),
+            Opt::OutInterface => OptionSpec::of(
                 &[b"-o", b"--out-interface"],
                 1,
                 true,
                 Owner::Rule,
                 3,
             ),
-            Opt::Protocol => OptionRow::of(&[b"-p", b"--protocol"], 1, true, Owner::Rule, 4),
-            Opt::Fragment => OptionRow::of(&[b"-f", b"--fragment"], 0, true, Owner::Rule, 5),
-            Opt::Match => OptionRow::of(&[b"-m", b"--match"], 1, false, Owner::Start, 0),
-            Opt::Jump => OptionRow::of(&[b"-j", b"--jump"], 1, false, Owner::Jump, 0),
-            Opt::Goto => OptionRow::of(&[b"-g", b"--goto"], 1, false, Owner::Goto, 0),
-            Opt::SourcePort => OptionRow::of(&[b"--sport", b"--source-port"], 1, true, PORTS, 0),
-            Opt::DestinationPort => OptionRow::of(
+            Opt::Protocol => OptionSpec::of(&[b"-p", b"--protocol"], 1, true, Owner::Rule, 4),
+            Opt::Fragment => OptionSpec::of(&[b"-f", b"--fragment"], 0, true, Owner::Rule, 5),
+            Opt::Match => OptionSpec::of(&[b"-m", b"--match"], 1, false, Owner::Start, 0),
+            Opt::Jump => OptionSpec::of(&[b"-j", b"--jump"], 1, false, Owner::Jump, 0),
+            Opt::Goto => OptionSpec::of(&[b"-g", b"--goto"], 1, false, Owner::Goto, 0),
+            Opt::SourcePort => OptionSpec::of(&[b"--sport", b"--source-port"], 1, true, PORTS, 0),
+            Opt::DestinationPort => OptionSpec::of(
                 &[b"--dport", b"--destination-port"],
                 1,
                 true,
                 PORTS,
                 1,
             ),
-            Opt::TcpFlags => OptionRow::of(&[b"--tcp-flags"], 2, true, of(MatchKind::Tcp), 2),
-            Opt::Syn => OptionRow::of(&[b"--syn"], 0, true, of(MatchKind::Tcp), 2),
-            Opt::IcmpType => OptionRow::of(&[b"--icmp-type"], 1, true, of(MatchKind::Icmp), 0),
-            Opt::SourcePorts => OptionRow::of(
+            Opt::TcpFlags => OptionSpec::of(&[b"--tcp-flags"], 2, true, of(MatchKind::Tcp), 2),
+            Opt::Syn => OptionSpec::of(&[b"--syn"], 0, true, of(MatchKind::Tcp), 2),
+            Opt::IcmpType => OptionSpec::of(&[b"--icmp-type"], 1, true, of(MatchKind::Icmp), 0),
+            Opt::SourcePorts => OptionSpec::of(
                 &[b"--sports", b"--source-ports"],
                 1,
                 true,
                 of(MatchKind::Multiport),
                 0,
             ),
-            Opt::DestinationPorts => OptionRow::of(
+            Opt::DestinationPorts => OptionSpec::of(
                 &[b"--dports", b"--destination-ports"],
                 1,
                 true,
                 of(MatchKind::Multiport),
                 0,
             ),
-            Opt::Ports => OptionRow::of(&[b"--ports"], 1, true, of(MatchKind::Multiport), 0),
-            Opt::SourceRange => OptionRow::of(
+            Opt::Ports => OptionSpec::of(&[b"--ports"], 1, true, of(MatchKind::Multiport), 0),
+            Opt::SourceRange => OptionSpec::of(
                 &[b"--src-range"],
                 1,
                 true,
                 of(MatchKind::Iprange),
                 0,
             ),
-            Opt::DestinationRange => OptionRow::of(
+            Opt::DestinationRange => OptionSpec::of(
                 &[b"--dst-range"],
                 1,
                 true,
                 of(MatchKind::Iprange),
                 1,
             ),
-            Opt::Ctstate => OptionRow::of(&[b"--ctstate"], 1, true, of(MatchKind::Conntrack), 0),
-            Opt::State => OptionRow::of(&[b"--state"], 1, true, of(MatchKind::State), 0),
-            Opt::Comment => OptionRow::of(&[b"--comment"], 1, false, of(MatchKind::Comment), 0),
-            Opt::TtlEqual => OptionRow::of(&[b"--ttl-eq"], 1, true, of(MatchKind::Ttl), 0),
-            Opt::TtlGreater => OptionRow::of(&[b"--ttl-gt"], 1, false, of(MatchKind::Ttl), 0),
-            Opt::TtlLess => OptionRow::of(&[b"--ttl-lt"], 1, false, of(MatchKind::Ttl), 0),
-            Opt::RejectWith => OptionRow::of(
+            Opt::Ctstate => OptionSpec::of(&[b"--ctstate"], 1, true, of(MatchKind::Conntrack), 0),
+            Opt::State => OptionSpec::of(&[b"--state"], 1, true, of(MatchKind::State), 0),
+            Opt::Comment => OptionSpec::of(&[b"--comment"], 1, false, of(MatchKind::Comment), 0),
+            Opt::TtlEqual => OptionSpec::of(&[b"--ttl-eq"], 1, true, of(MatchKind::Ttl), 0),
+            Opt::TtlGreater => OptionSpec::of(&[b"--ttl-gt"], 1, false, of(MatchKind::Ttl), 0),
+            Opt::TtlLess => OptionSpec::of(&[b"--ttl-lt"], 1, false, of(MatchKind::Ttl), 0),
+            Opt::RejectWith => OptionSpec::of(
                 &[b"--reject-with"],
                 1,
                 false,
                 Owner::Target(Extended::Reject),
                 0,
             ),
-            Opt::LogPrefix => OptionRow::of(
+            Opt::LogPrefix => OptionSpec::of(
                 &[b"--log-prefix"],
                 1,
                 false,
                 Owner::Target(Extended::Log),
                 0,
             ),
-            Opt::LogLevel => OptionRow::of(
+            Opt::LogLevel => OptionSpec::of(
                 &[b"--log-level"],
                 1,
                 false,
                 Owner::Target(Extended::Log),
                 1,
             ),
-            Opt::LogTcpSequence => OptionRow::of(
+            Opt::LogTcpSequence => OptionSpec::of(
                 &[b"--log-tcp-sequence"],
                 0,
                 false,
                 Owner::Target(Extended::Log),
                 2,
             ),
-            Opt::LogTcpOptions => OptionRow::of(
+            Opt::LogTcpOptions => OptionSpec::of(
                 &[b"--log-tcp-options"],
                 0,
                 false,
                 Owner::Target(Extended::Log),
                 3,
             ),
-            Opt::LogIpOptions => OptionRow::of(
+            Opt::LogIpOptions => OptionSpec::of(
                 &[b"--log-ip-options"],
                 0,
                 false,
                 Owner::Target(Extended::Log),
                 4,
             ),
-            Opt::LogUid => OptionRow::of(
+            Opt::LogUid => OptionSpec::of(
                 &[b"--log-uid"],
                 0,
                 false,

@@ -2,7 +2,7 @@
 ghost use Rattle.std.specs.Prelude.{◌≡◌, ◌≤◌, Option, Some, None, List, length};
 ghost use Rattle.rules.specs.Sequence.{Gives, RefusesFirst, or_refused};
 ghost use Rattle.rules.specs.options.Options.{first_of};
-ghost use Rattle.rules.specs.options.Settings.{option_of_value, is_trivial, value_of, second_of, text_within, with_opposite};
+ghost use Rattle.rules.specs.options.OptionValues.{option_of_value, is_trivial, value_of, second_of, text_within, with_opposite};
 ghost use Rattle.fields.specs.text.WordSlice.{words_in};
 ghost use Rattle.fields.specs.values.Protocol.{protocol_of};
 
@@ -103,7 +103,7 @@ impl Value {
 }
 
 // What was read, or a bad value.
-pub(crate) fn bad<T>(value: Option<T>) -> Result<T, RuleFault>
+pub(crate) fn or_bad_value<T>(value: Option<T>) -> Result<T, RuleFault>
     ensures gives { Gives (λ x. x) result (or_refused Refusal.BadValue value) }
     ensures refuses { RefusesFirst result (or_refused Refusal.BadValue value) }
 {
@@ -121,7 +121,7 @@ pub(crate) fn text_within<const N: usize>(bytes: &[u8]) -> Result<Text<N>, RuleF
     if bytes.len() > N {
         return Err(RuleFault::Refused(Refusal::TextTooLong));
     }
-    bad(Text::read(bytes))
+    or_bad_value(Text::read(bytes))
 }
 
 // The protocol; all protocols have no opposite.
@@ -156,7 +156,7 @@ fn second_of(words: WordSlice<'_>) -> &[u8]
 }
 
 // The value that the words after an option give it; it is refused before memory is taken.
-#[tactic(auto, unfolding(crate::specs::options::Settings::value_of))]
+#[tactic(auto, unfolding(crate::specs::options::OptionValues::value_of))]
 pub(crate) fn value_of(
     alloc: Global,
     option: Opt,
@@ -168,31 +168,31 @@ pub(crate) fn value_of(
 {
     let text = first_of(words);
     match option {
-        Opt::Source => Ok(Value::Source(bad(Prefix::read(text))?)),
-        Opt::Destination => Ok(Value::Destination(bad(Prefix::read(text))?)),
-        Opt::InInterface => Ok(Value::InInterface(bad(IfPattern::read(text))?)),
-        Opt::OutInterface => Ok(Value::OutInterface(bad(IfPattern::read(text))?)),
-        Opt::Protocol => Ok(Value::Protocol(bad(protocol(inverted, text))?)),
+        Opt::Source => Ok(Value::Source(or_bad_value(Prefix::read(text))?)),
+        Opt::Destination => Ok(Value::Destination(or_bad_value(Prefix::read(text))?)),
+        Opt::InInterface => Ok(Value::InInterface(or_bad_value(IfPattern::read(text))?)),
+        Opt::OutInterface => Ok(Value::OutInterface(or_bad_value(IfPattern::read(text))?)),
+        Opt::Protocol => Ok(Value::Protocol(or_bad_value(protocol(inverted, text))?)),
         Opt::Fragment => Ok(Value::Fragment),
-        Opt::SourcePort => Ok(Value::SourcePort(bad(PortRange::read(text))?)),
-        Opt::DestinationPort => Ok(Value::DestinationPort(bad(PortRange::read(text))?)),
-        Opt::TcpFlags => Ok(Value::TcpFlags(bad(FlagTest::read(text, second_of(words)))?)),
+        Opt::SourcePort => Ok(Value::SourcePort(or_bad_value(PortRange::read(text))?)),
+        Opt::DestinationPort => Ok(Value::DestinationPort(or_bad_value(PortRange::read(text))?)),
+        Opt::TcpFlags => Ok(Value::TcpFlags(or_bad_value(FlagTest::read(text, second_of(words)))?)),
         Opt::Syn => Ok(Value::TcpFlags(FlagTest::syn())),
-        Opt::IcmpType => Ok(Value::IcmpType(bad(IcmpType::read(text))?)),
-        Opt::SourcePorts => Ok(Value::SourcePorts(bad(PortList::read(text))?)),
-        Opt::DestinationPorts => Ok(Value::DestinationPorts(bad(PortList::read(text))?)),
-        Opt::Ports => Ok(Value::Ports(bad(PortList::read(text))?)),
-        Opt::SourceRange => Ok(Value::SourceRange(bad(IpRange::read(text))?)),
-        Opt::DestinationRange => Ok(Value::DestinationRange(bad(IpRange::read(text))?)),
-        Opt::Ctstate => Ok(Value::Ctstate(bad(CtSet::read(text))?)),
-        Opt::State => Ok(Value::State(bad(CtSet::read_state(text))?)),
+        Opt::IcmpType => Ok(Value::IcmpType(or_bad_value(IcmpType::read(text))?)),
+        Opt::SourcePorts => Ok(Value::SourcePorts(or_bad_value(PortList::read(text))?)),
+        Opt::DestinationPorts => Ok(Value::DestinationPorts(or_bad_value(PortList::read(text))?)),
+        Opt::Ports => Ok(Value::Ports(or_bad_value(PortList::read(text))?)),
+        Opt::SourceRange => Ok(Value::SourceRange(or_bad_value(IpRange::read(text))?)),
+        Opt::DestinationRange => Ok(Value::DestinationRange(or_bad_value(IpRange::read(text))?)),
+        Opt::Ctstate => Ok(Value::Ctstate(or_bad_value(CtSet::read(text))?)),
+        Opt::State => Ok(Value::State(or_bad_value(CtSet::read_state(text))?)),
         Opt::Comment => Ok(Value::Comment(Comment::read(alloc, text)?)),
-        Opt::TtlEqual => Ok(Value::TtlEqual(bad(Ttl::read(text))?)),
-        Opt::TtlGreater => Ok(Value::TtlGreater(bad(Ttl::read(text))?)),
-        Opt::TtlLess => Ok(Value::TtlLess(bad(Ttl::read(text))?)),
-        Opt::RejectWith => Ok(Value::RejectWith(bad(RejectType::read(text))?)),
+        Opt::TtlEqual => Ok(Value::TtlEqual(or_bad_value(Ttl::read(text))?)),
+        Opt::TtlGreater => Ok(Value::TtlGreater(or_bad_value(Ttl::read(text))?)),
+        Opt::TtlLess => Ok(Value::TtlLess(or_bad_value(Ttl::read(text))?)),
+        Opt::RejectWith => Ok(Value::RejectWith(or_bad_value(RejectType::read(text))?)),
         Opt::LogPrefix => Ok(Value::LogPrefix(text_within(text)?)),
-        Opt::LogLevel => Ok(Value::LogLevel(bad(LogLevel::read(text))?)),
+        Opt::LogLevel => Ok(Value::LogLevel(or_bad_value(LogLevel::read(text))?)),
         Opt::LogTcpSequence => Ok(Value::LogTcpSequence),
         Opt::LogTcpOptions => Ok(Value::LogTcpOptions),
         Opt::LogIpOptions => Ok(Value::LogIpOptions),

@@ -1,16 +1,16 @@
 // The form in which a rule is kept: without what is no condition, and with what is meant where nothing is said.
 ghost use Rattle.std.specs.Prelude.{◌≡◌, ◌≤◌, Option, Some, None, Ok, List, filter, map, IfOk};
 ghost use Rattle.rules.specs.Sequence.{Gives};
-ghost use Rattle.rules.specs.options.Settings.{is_condition};
+ghost use Rattle.rules.specs.options.OptionValues.{is_condition};
 ghost use Rattle.rules.specs.rule.Rules.{match_default, action_default, or_default, normal_match, normal_form};
-ghost use Rattle.rules.specs.steps.Views.{view_match, view_matches, view_content};
+ghost use Rattle.rules.specs.steps.Views.{view_match, view_matches, view_spec};
 
 use crate::options::match_kind::MatchKind;
-use crate::options::setting::Setting;
+use crate::options::option_value::OptionValue;
 use crate::options::value::Value;
 use crate::reading::fault::RuleFault;
 use crate::rule::action::Action;
-use crate::rule::content::{Content, Match};
+use crate::rule::spec::{Match, RuleSpec};
 use fields::{IcmpType, RejectType};
 use std::alloc::AllocError;
 
@@ -35,11 +35,11 @@ fn action_default(action: &Option<Action>) -> Option<Value>
 }
 
 // Puts in what is meant where nothing is said.
-fn add_default(settings: &mut Vec<Setting>, value: Value) -> Result<(), AllocError>
-    ensures { IfOk result (λ _. settings.new.items ≡ or_default (Some value) settings.old.items) }
+fn add_default(option_values: &mut Vec<OptionValue>, value: Value) -> Result<(), AllocError>
+    ensures { IfOk result (λ _. option_values.new.items ≡ or_default (Some value) option_values.old.items) }
 {
-    if settings.is_empty() {
-        settings.push(Setting {
+    if option_values.is_empty() {
+        option_values.push(OptionValue {
             inverted: false,
             value,
         })?;
@@ -48,20 +48,23 @@ fn add_default(settings: &mut Vec<Setting>, value: Value) -> Result<(), AllocErr
 }
 
 // Takes out what is no condition.
-fn keep_conditions(settings: &mut Vec<Setting>)
-    ensures { settings.new.items ≡ filter is_condition settings.old.items }
+fn keep_conditions(option_values: &mut Vec<OptionValue>)
+    ensures { option_values.new.items ≡ filter is_condition option_values.old.items }
 {
-    settings.retain(|setting| setting.is_condition());
+    option_values.retain(|option_value| option_value.is_condition());
 }
 
 // Brings options to the form in which they are kept.
-fn normalize_options(settings: &mut Vec<Setting>, default: Option<Value>) -> Result<(), AllocError>
-    ensures { IfOk result (λ _. settings.new.items ≡ or_default default (filter is_condition settings.old.items)) }
+fn normalize_options(
+    option_values: &mut Vec<OptionValue>,
+    default: Option<Value>,
+) -> Result<(), AllocError>
+    ensures { IfOk result (λ _. option_values.new.items ≡ or_default default (filter is_condition option_values.old.items)) }
 {
-    keep_conditions(settings);
+    keep_conditions(option_values);
     match default {
         None => return Ok(()),
-        Some(value) => return add_default(settings, value),
+        Some(value) => return add_default(option_values, value),
     }
 }
 
@@ -70,7 +73,7 @@ fn normalize_match(one: &mut Match) -> Result<(), AllocError>
     ensures { IfOk result (λ _. view_match one.new ≡ normal_match (view_match one.old)) }
 {
     let default = match_default(one.kind);
-    normalize_options(&mut one.settings, default)
+    normalize_options(&mut one.option_values, default)
 }
 
 // Brings each match to that form.
@@ -84,21 +87,21 @@ fn normalize_matches(matches: &mut [Match]) -> Result<(), AllocError>
 }
 
 // Brings a rule to that form.
-fn normalize(content: &mut Content) -> Result<(), AllocError>
-    ensures { IfOk result (λ _. view_content content.new ≡ normal_form (view_content content.old)) }
+fn normalize(spec: &mut RuleSpec) -> Result<(), AllocError>
+    ensures { IfOk result (λ _. view_spec spec.new ≡ normal_form (view_spec spec.old)) }
 {
-    normalize_options(&mut content.settings, None)?;
-    normalize_matches(content.matches.as_mut_slice())?;
-    let default = action_default(&content.action);
-    normalize_options(&mut content.target_options, default)
+    normalize_options(&mut spec.option_values, None)?;
+    normalize_matches(spec.matches.as_mut_slice())?;
+    let default = action_default(&spec.action);
+    normalize_options(&mut spec.target_options, default)
 }
 
 // The rule in that form.
-pub(crate) fn normalized(mut content: Content) -> Result<Content, RuleFault>
-    ensures { Gives view_content result (Ok (normal_form (view_content content))) }
+pub(crate) fn normalized(mut spec: RuleSpec) -> Result<RuleSpec, RuleFault>
+    ensures { Gives view_spec result (Ok (normal_form (view_spec spec))) }
 {
-    match normalize(&mut content) {
-        Ok(()) => return Ok(content),
+    match normalize(&mut spec) {
+        Ok(()) => return Ok(spec),
         Err(_) => return Err(RuleFault::NoMemory),
     }
 }

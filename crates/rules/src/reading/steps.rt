@@ -5,51 +5,57 @@ ghost use Rattle.rules.specs.rule.Actions.{action_has};
 ghost use Rattle.rules.specs.Sequence.{Gives, RefusesFirst, or_refused};
 ghost use Rattle.rules.specs.options.Matches.{kind_of};
 ghost use Rattle.rules.specs.steps.Places.{rank};
-ghost use Rattle.rules.specs.options.Settings.{has_protocol};
+ghost use Rattle.rules.specs.options.OptionValues.{has_protocol};
 ghost use Rattle.rules.specs.reading.Steps.{is_given, insert_by_place, with_option, with_match, last_with, implied_match};
 ghost use Rattle.rules.specs.reading.Steps.{is_implied_option, match_for, with_option_at, has_goto, has_jump, with_jump};
 ghost use Rattle.rules.specs.reading.Steps.{with_goto, match_step, step};
 ghost use Rattle.rules.specs.rule.Needs.{is_met, is_met_for};
-ghost use Rattle.rules.specs.steps.Views.{view_matches, view_content, view_option_words};
+ghost use Rattle.rules.specs.steps.Views.{view_matches, view_spec, view_option_words};
 
 use crate::options::match_kind::MatchKind;
 use crate::options::option::{Opt, Owner};
-use crate::options::setting::{Setting, has_protocol};
-use crate::options::value::{bad, first_of, value_of};
+use crate::options::option_value::{OptionValue, has_protocol};
+use crate::options::value::{first_of, or_bad_value, value_of};
 use crate::reading::fault::{Refusal, RuleFault};
 use crate::reading::option_words::OptionWords;
 use crate::rule::action::{Action, action_has};
-use crate::rule::content::{Content, Match};
+use crate::rule::spec::{Match, RuleSpec};
 use fields::Name;
 use std::alloc::Global;
 
 // Whether an option of this place was given.
-fn is_given(settings: &[Setting], slot: u8) -> bool
-    ensures { result ≡ is_given slot settings.now }
+fn is_given(option_values: &[OptionValue], slot: u8) -> bool
+    ensures { result ≡ is_given slot option_values.now }
 {
-    settings.iter().any(|s| s.value.option().row().slot == slot)
+    option_values
+        .iter()
+        .any(|s| s.value.option().row().slot == slot)
 }
 
 // How many options stand before the first one of a later place.
-fn rank(settings: &[Setting], slot: u8) -> usize
-    ensures value { result ≡ rank slot settings.now }
-    ensures within { result ≤ length settings.now }
+fn rank(option_values: &[OptionValue], slot: u8) -> usize
+    ensures value { result ≡ rank slot option_values.now }
+    ensures within { result ≤ length option_values.now }
 {
-    for (i, setting) in settings.iter().enumerate() {
-        if slot < setting.value.option().row().slot {
+    for (i, option_value) in option_values.iter().enumerate() {
+        if slot < option_value.value.option().row().slot {
             return i;
         }
     }
-    settings.len()
+    option_values.len()
 }
 
 // Puts an option where it belongs among the others.
 #[tactic(auto, using(crate::proofs::laws::reading::PlaceLaws::inserted_by_place))]
-fn place(settings: &mut Vec<Setting>, slot: u8, setting: Setting) -> Result<(), RuleFault>
-    ensures { Gives (λ _. settings.new.items) result (Ok (insert_by_place slot setting settings.old.items)) }
+fn place(
+    option_values: &mut Vec<OptionValue>,
+    slot: u8,
+    option_value: OptionValue,
+) -> Result<(), RuleFault>
+    ensures { Gives (λ _. option_values.new.items) result (Ok (insert_by_place slot option_value option_values.old.items)) }
 {
-    let at = rank(settings.as_slice(), slot);
-    match settings.insert(at, setting) {
+    let at = rank(option_values.as_slice(), slot);
+    match option_values.insert(at, option_value) {
         Ok(()) => return Ok(()),
         Err(_) => return Err(RuleFault::NoMemory),
     }
@@ -57,32 +63,39 @@ fn place(settings: &mut Vec<Setting>, slot: u8, setting: Setting) -> Result<(), 
 
 // One more option, where none of its place was given.
 #[tactic(auto, unfolding(crate::specs::reading::Steps::with_option))]
-fn add(alloc: Global, settings: &mut Vec<Setting>, given: &OptionWords) -> Result<(), RuleFault>
-    ensures gives { Gives (λ _. settings.new.items) result (with_option settings.old.items (view_option_words given.now)) }
-    ensures refuses { RefusesFirst result (with_option settings.old.items (view_option_words given.now)) }
+fn add(
+    alloc: Global,
+    option_values: &mut Vec<OptionValue>,
+    given: &OptionWords,
+) -> Result<(), RuleFault>
+    ensures gives { Gives (λ _. option_values.new.items) result (with_option option_values.old.items (view_option_words given.now)) }
+    ensures refuses { RefusesFirst result (with_option option_values.old.items (view_option_words given.now)) }
 {
     let slot = given.option.row().slot;
-    if is_given(settings.as_slice(), slot) {
+    if is_given(option_values.as_slice(), slot) {
         return Err(RuleFault::Refused(Refusal::RepeatedOption));
     }
     let value = value_of(alloc, given.option, given.inverted, given.values)?;
     let inverted = given.inverted;
-    place(settings, slot, Setting { inverted, value })
+    place(option_values, slot, OptionValue { inverted, value })
 }
 
 // The rule with one more match, where it has fewer than 16.
 #[tactic(auto, unfolding(crate::specs::reading::Steps::with_match))]
-fn start(alloc: Global, mut content: Content, kind: MatchKind) -> Result<Content, RuleFault>
-    ensures gives { Gives view_content result (with_match (view_content content) kind) }
-    ensures refuses { RefusesFirst result (with_match (view_content content) kind) }
-    ensures longer { IfOk result (λ d. vec_len d.matches ≡ vec_len content.matches + 1) }
+fn start(alloc: Global, mut spec: RuleSpec, kind: MatchKind) -> Result<RuleSpec, RuleFault>
+    ensures gives { Gives view_spec result (with_match (view_spec spec) kind) }
+    ensures refuses { RefusesFirst result (with_match (view_spec spec) kind) }
+    ensures longer { IfOk result (λ d. vec_len d.matches ≡ vec_len spec.matches + 1) }
 {
-    if content.matches.len() >= 16 {
+    if spec.matches.len() >= 16 {
         return Err(RuleFault::Refused(Refusal::TooManyMatches));
     }
-    let settings = Vec::new(alloc);
-    match content.matches.push(Match { kind, settings }) {
-        Ok(()) => Ok(content),
+    let option_values = Vec::new(alloc);
+    match spec.matches.push(Match {
+        kind,
+        option_values,
+    }) {
+        Ok(()) => Ok(spec),
         Err(_) => Err(RuleFault::NoMemory),
     }
 }
@@ -102,34 +115,32 @@ fn last_with(matches: &[Match], option: Opt) -> Option<usize>
 }
 
 // Whether one of these protocols is the rule's.
-fn has_one(protocols: &[u8], settings: &[Setting]) -> bool
-    ensures { result ≡ list_any (λ n. has_protocol n settings.now) protocols.now }
+fn has_one(protocols: &[u8], option_values: &[OptionValue]) -> bool
+    ensures { result ≡ list_any (λ n. has_protocol n option_values.now) protocols.now }
 {
-    protocols.iter().any(|n| has_protocol(settings, *n))
+    protocols.iter().any(|n| has_protocol(option_values, *n))
 }
 
 // Whether one of these protocols is the rule's, or there are none.
-fn is_met(protocols: &[u8], settings: &[Setting]) -> bool
-    ensures { result ≡ is_met protocols.now settings.now }
+fn is_met(protocols: &[u8], option_values: &[OptionValue]) -> bool
+    ensures { result ≡ is_met protocols.now option_values.now }
 {
-    protocols.is_empty() || has_one(protocols, settings)
+    protocols.is_empty() || has_one(protocols, option_values)
 }
 
 // Whether the rule has a protocol that a match needs.
-pub(crate) fn is_met_for(kind: MatchKind, settings: &[Setting]) -> bool
-    ensures { result ≡ is_met_for kind settings.now }
+pub(crate) fn is_met_for(kind: MatchKind, option_values: &[OptionValue]) -> bool
+    ensures { result ≡ is_met_for kind option_values.now }
 {
-    is_met(kind.row().protocols, settings)
+    is_met(kind.row().protocols, option_values)
 }
 
 // The match that an option starts by itself.
-fn implied_match(settings: &[Setting], option: Opt) -> Option<MatchKind>
-    ensures { result ≡ implied_match settings.now option }
+fn implied_match(option_values: &[OptionValue], option: Opt) -> Option<MatchKind>
+    ensures { result ≡ implied_match option_values.now option }
 {
-    MatchKind::IMPLIED
-        .iter()
-        .copied()
-        .find(|kind| is_met_for(*kind, settings) && kind.has(option))
+    MatchKind::IMPLIED.iter().copied().find(|kind| is_met_for(*kind, option_values)
+        && kind.has(option))
 }
 
 // Whether an option may start a match by itself.
@@ -143,20 +154,20 @@ fn is_implied_option(option: Opt) -> bool
 #[tactic(auto, unfolding(crate::specs::reading::Steps::match_for))]
 fn match_for(
     alloc: Global,
-    content: Content,
+    spec: RuleSpec,
     given: &OptionWords,
-) -> Result<(Content, usize), RuleFault>
-    ensures gives { Gives (λ r. (view_content r.0, r.1)) result (match_for (view_content content) (view_option_words given.now)) }
+) -> Result<(RuleSpec, usize), RuleFault>
+    ensures gives { Gives (λ r. (view_spec r.0, r.1)) result (match_for (view_spec spec) (view_option_words given.now)) }
     ensures within { IfOk result (λ r. r.1 < vec_len r.0.matches) }
 {
-    if let Some(i) = last_with(content.matches.as_slice(), given.option) {
-        return Ok((content, i));
+    if let Some(i) = last_with(spec.matches.as_slice(), given.option) {
+        return Ok((spec, i));
     }
-    match implied_match(content.settings.as_slice(), given.option) {
+    match implied_match(spec.option_values.as_slice(), given.option) {
         Some(kind) => {
-            let i = content.matches.len();
-            let content = start(alloc, content, kind)?;
-            Ok((content, i))
+            let i = spec.matches.len();
+            let spec = start(alloc, spec, kind)?;
+            Ok((spec, i))
         }
         None => {
             if is_implied_option(given.option) {
@@ -181,7 +192,7 @@ fn add_at(
         (with_option_at (view_matches matches.old.items) i (view_option_words given.now)) }
 {
     let one = &mut matches[i];
-    add(alloc, &mut one.settings, given)
+    add(alloc, &mut one.option_values, given)
 }
 
 // Whether `-g` was given.
@@ -203,34 +214,34 @@ fn has_jump(action: &Option<Action>) -> bool
 
 // The rule with the target that `-j` names, where none was given.
 #[tactic(auto, unfolding(crate::specs::reading::Steps::with_jump))]
-fn jump(mut content: Content, text: &[u8]) -> Result<Content, RuleFault>
-    ensures { Gives view_content result (with_jump (view_content content) text.now) }
+fn with_jump(mut spec: RuleSpec, text: &[u8]) -> Result<RuleSpec, RuleFault>
+    ensures { Gives view_spec result (with_jump (view_spec spec) text.now) }
 {
-    if has_goto(&content.action) {
+    if has_goto(&spec.action) {
         return Err(RuleFault::Refused(Refusal::JumpAndGoto));
     }
-    if has_jump(&content.action) {
+    if has_jump(&spec.action) {
         return Err(RuleFault::Refused(Refusal::RepeatedOption));
     }
-    let action = bad(Action::read(text))?;
-    content.action = Some(action);
-    Ok(content)
+    let action = or_bad_value(Action::read(text))?;
+    spec.action = Some(action);
+    Ok(spec)
 }
 
 // The rule with the chain that `-g` names, where no target was given.
 #[tactic(auto, unfolding(crate::specs::reading::Steps::with_goto))]
-fn go(mut content: Content, text: &[u8]) -> Result<Content, RuleFault>
-    ensures { Gives view_content result (with_goto (view_content content) text.now) }
+fn with_goto(mut spec: RuleSpec, text: &[u8]) -> Result<RuleSpec, RuleFault>
+    ensures { Gives view_spec result (with_goto (view_spec spec) text.now) }
 {
-    if has_jump(&content.action) {
+    if has_jump(&spec.action) {
         return Err(RuleFault::Refused(Refusal::JumpAndGoto));
     }
-    if has_goto(&content.action) {
+    if has_goto(&spec.action) {
         return Err(RuleFault::Refused(Refusal::RepeatedOption));
     }
-    let name = bad(Name::read(text))?;
-    content.action = Some(Action::Goto(name));
-    Ok(content)
+    let name = or_bad_value(Name::read(text))?;
+    spec.action = Some(Action::Goto(name));
+    Ok(spec)
 }
 
 // The match that a name starts.
@@ -244,41 +255,41 @@ fn named_match(name: &[u8]) -> Result<MatchKind, RuleFault>
 }
 
 // An option of a match.
-fn add_to_match(alloc: Global, content: Content, given: &OptionWords) -> Result<Content, RuleFault>
-    ensures { Gives view_content result (match_step (view_content content) (view_option_words given.now)) }
+fn add_to_match(alloc: Global, spec: RuleSpec, given: &OptionWords) -> Result<RuleSpec, RuleFault>
+    ensures { Gives view_spec result (match_step (view_spec spec) (view_option_words given.now)) }
 {
-    let (mut content, i) = match_for(alloc, content, given)?;
-    add_at(alloc, &mut content.matches, i, given)?;
-    Ok(content)
+    let (mut spec, i) = match_for(alloc, spec, given)?;
+    add_at(alloc, &mut spec.matches, i, given)?;
+    Ok(spec)
 }
 
 // The rule so far with one more option.
 #[tactic(auto, unfolding(crate::specs::reading::Steps::step))]
 pub(crate) fn step(
     alloc: Global,
-    mut content: Content,
+    mut spec: RuleSpec,
     given: &OptionWords,
-) -> Result<Content, RuleFault>
-    ensures { Gives view_content result (step (view_content content) (view_option_words given.now)) }
+) -> Result<RuleSpec, RuleFault>
+    ensures { Gives view_spec result (step (view_spec spec) (view_option_words given.now)) }
 {
     match given.option.row().owner {
         Owner::Rule => {
-            add(alloc, &mut content.settings, given)?;
-            Ok(content)
+            add(alloc, &mut spec.option_values, given)?;
+            Ok(spec)
         }
         Owner::Start => {
             let kind = named_match(first_of(given.values))?;
-            start(alloc, content, kind)
+            start(alloc, spec, kind)
         }
-        Owner::Jump => jump(content, first_of(given.values)),
-        Owner::Goto => go(content, first_of(given.values)),
-        Owner::Match(_) => add_to_match(alloc, content, given),
+        Owner::Jump => with_jump(spec, first_of(given.values)),
+        Owner::Goto => with_goto(spec, first_of(given.values)),
+        Owner::Match(_) => add_to_match(alloc, spec, given),
         Owner::Target(_) => {
-            if !action_has(&content.action, given.option) {
+            if !action_has(&spec.action, given.option) {
                 return Err(RuleFault::Refused(Refusal::OtherTarget));
             }
-            add(alloc, &mut content.target_options, given)?;
-            Ok(content)
+            add(alloc, &mut spec.target_options, given)?;
+            Ok(spec)
         }
     }
 }

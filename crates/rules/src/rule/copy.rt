@@ -1,11 +1,11 @@
 // Copies of what a rule holds.
 ghost use Rattle.std.specs.Prelude.{◌≡◌, Option, Some, None, IfOk};
-ghost use Rattle.rules.specs.steps.Views.{view_match, view_matches, view_content};
+ghost use Rattle.rules.specs.steps.Views.{view_match, view_matches, view_spec};
 
-use crate::options::setting::Setting;
+use crate::options::option_value::OptionValue;
 use crate::options::value::Value;
 use crate::rule::action::Action;
-use crate::rule::content::{Content, Match};
+use crate::rule::spec::{Match, RuleSpec};
 use std::alloc::{AllocError, Global};
 
 // A value again.
@@ -45,21 +45,24 @@ fn copy_value(alloc: Global, value: &Value) -> Result<Value, AllocError>
 }
 
 // An option again.
-fn copy_setting(alloc: Global, setting: &Setting) -> Result<Setting, AllocError>
-    ensures { IfOk result (λ copy. copy ≡ setting.now) }
+fn copy_option_value(alloc: Global, option_value: &OptionValue) -> Result<OptionValue, AllocError>
+    ensures { IfOk result (λ copy. copy ≡ option_value.now) }
 {
-    let inverted = setting.inverted;
-    let value = copy_value(alloc, &setting.value)?;
-    Ok(Setting { inverted, value })
+    let inverted = option_value.inverted;
+    let value = copy_value(alloc, &option_value.value)?;
+    Ok(OptionValue { inverted, value })
 }
 
 // Options again.
-fn copy_settings(alloc: Global, settings: &[Setting]) -> Result<Vec<Setting>, AllocError>
-    ensures { IfOk result (λ copy. copy.items ≡ settings.now) }
+fn copy_option_values(
+    alloc: Global,
+    option_values: &[OptionValue],
+) -> Result<Vec<OptionValue>, AllocError>
+    ensures { IfOk result (λ copy. copy.items ≡ option_values.now) }
 {
     let mut copies = Vec::new(alloc);
-    for setting in settings {
-        let copy = copy_setting(alloc, setting)?;
+    for option_value in option_values {
+        let copy = copy_option_value(alloc, option_value)?;
         copies.push(copy)?;
     }
     Ok(copies)
@@ -70,8 +73,11 @@ fn copy_match(alloc: Global, one: &Match) -> Result<Match, AllocError>
     ensures { IfOk result (λ copy. view_match copy ≡ view_match one.now) }
 {
     let kind = one.kind;
-    let settings = copy_settings(alloc, one.settings.as_slice())?;
-    Ok(Match { kind, settings })
+    let option_values = copy_option_values(alloc, one.option_values.as_slice())?;
+    Ok(Match {
+        kind,
+        option_values,
+    })
 }
 
 // Matches again.
@@ -103,15 +109,15 @@ fn copy_action(action: &Option<Action>) -> Option<Action>
 }
 
 // What a rule holds again.
-pub(crate) fn copy_content(alloc: Global, content: &Content) -> Result<Content, AllocError>
-    ensures { IfOk result (λ copy. view_content copy ≡ view_content content.now) }
+pub(crate) fn copy_spec(alloc: Global, spec: &RuleSpec) -> Result<RuleSpec, AllocError>
+    ensures { IfOk result (λ copy. view_spec copy ≡ view_spec spec.now) }
 {
-    let settings = copy_settings(alloc, content.settings.as_slice())?;
-    let matches = copy_matches(alloc, content.matches.as_slice())?;
-    let action = copy_action(&content.action);
-    let target_options = copy_settings(alloc, content.target_options.as_slice())?;
-    Ok(Content {
-        settings,
+    let option_values = copy_option_values(alloc, spec.option_values.as_slice())?;
+    let matches = copy_matches(alloc, spec.matches.as_slice())?;
+    let action = copy_action(&spec.action);
+    let target_options = copy_option_values(alloc, spec.target_options.as_slice())?;
+    Ok(RuleSpec {
+        option_values,
         matches,
         action,
         target_options,

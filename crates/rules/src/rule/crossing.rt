@@ -1,14 +1,14 @@
 // What a rule asks of several fields at once.
 ghost use Rattle.std.specs.Prelude.{◌≡◌};
 ghost use Rattle.std.specs.List.{list_all, list_any};
-ghost use Rattle.rules.specs.rule.Crossing.{cross, has_either_port, setting_crosses, match_crosses};
+ghost use Rattle.rules.specs.rule.Crossing.{cross, has_either_port, option_value_crosses, match_crosses};
 ghost use Rattle.rules.specs.steps.Crossed.{is_both, has_both};
 ghost use Rattle.rules.specs.steps.Views.{view_match};
 
-use crate::options::setting::Setting;
+use crate::options::option_value::OptionValue;
 use crate::options::value::Value;
 use crate::rule::Rule;
-use crate::rule::content::Match;
+use crate::rule::spec::Match;
 use fields::{Field, Packet, PortList};
 
 // Whether the source port of the packet is listed, or its destination port.
@@ -19,10 +19,10 @@ fn has_either_port(list: &PortList, packet: &Packet) -> bool
         || list.holds(packet.point(Field::DestinationPort) as u16)
 }
 
-impl Setting {
+impl OptionValue {
     // Whether the option holds of the packet, where it asks several fields at once.
     fn crosses(&self, packet: &Packet) -> bool
-        ensures { result ≡ setting_crosses packet.now.values self.now }
+        ensures { result ≡ option_value_crosses packet.now.values self.now }
     {
         match &self.value {
             Value::Ports(list) => has_either_port(list, packet) != self.inverted,
@@ -35,7 +35,9 @@ impl Setting {
 fn match_crosses(one: &Match, packet: &Packet) -> bool
     ensures { result ≡ match_crosses packet.now.values (view_match one.now) }
 {
-    one.settings.iter().all(|setting| setting.crosses(packet))
+    one.option_values
+        .iter()
+        .all(|option_value| option_value.crosses(packet))
 }
 
 // Whether all such options of the matches do.
@@ -46,17 +48,17 @@ fn matches_cross(matches: &[Match], packet: &Packet) -> bool
 }
 
 // Whether the option asks several fields at once.
-fn is_both(setting: &Setting) -> bool
-    ensures { result ≡ is_both setting.now }
+fn is_both(option_value: &OptionValue) -> bool
+    ensures { result ≡ is_both option_value.now }
 {
-    matches!(setting.value, Value::Ports(_))
+    matches!(option_value.value, Value::Ports(_))
 }
 
 // Whether one of the match's options does.
 fn has_both(one: &Match) -> bool
     ensures { result ≡ has_both (view_match one.now) }
 {
-    one.settings.iter().any(is_both)
+    one.option_values.iter().any(is_both)
 }
 
 // Whether one of the matches' options does.
@@ -72,5 +74,5 @@ pub(crate) fn ask_both(matches: &[Match]) -> bool
 pub fn cross(rule: &Rule, packet: &Packet) -> bool
     ensures { result ≡ cross packet.now.values rule.now }
 {
-    !rule.asks_both() || matches_cross(rule.content().matches.as_slice(), packet)
+    !rule.asks_both() || matches_cross(rule.spec().matches.as_slice(), packet)
 }

@@ -1,8 +1,8 @@
 // A table, edited by commands that are given as text, and what it shows.
 use fields::{Packet, Tap, Words};
-use replies::{write_lines, write_walk};
 use restore::{Command, apply, write_listing, write_rules};
 use rules::Work;
+use sessions::{write_lines, write_walk};
 use std::alloc::Global;
 use std::process::Abort;
 use std::test::Fail;

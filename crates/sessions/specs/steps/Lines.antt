@@ -1,45 +1,45 @@
--- What came of lines that were read and served, and of the end of the input.
+-- What came of lines that were read and executed, and of the end of the input.
 use Rattle.std.specs.Prelude.{◌≡◌, ◌⊎◌, ℕ, ◌+◌, ◌≤◌, Bool, List, ◌++◌, length, Option, Result, Ok, Err, MatchResult, IsTrue}
 use Rattle.std.specs.Io.KnownBytes.{Appends, Consumes}
 use Rattle.fields.specs.declared.text.tap.Tap.{Tap}
 use Rattle.fields.specs.text.Line.{EndsAt}
 use Rattle.fields.specs.text.Tap.{Wrote, Stopped, Puts}
 use Rattle.table.specs.chains.Table.{Table}
-use Rattle.turns.specs.Turn.{Line, has_ended}
-use Rattle.sessions.specs.runs.Session.{State, step}
-use Rattle.sessions.specs.runs.Run.{AreRead, Lead, Moment, RunFault, Runs, WriteFailed}
-use Rattle.sessions.specs.declared.session.Progress.{Progress}
+use Rattle.sessions.specs.line.Outcome.{Line, has_ended}
+use Rattle.sessions.specs.run.Session.{State, step}
+use Rattle.sessions.specs.run.Run.{AreRead, Lead, Moment, RunFault, Runs, WriteFailed}
+use Rattle.sessions.specs.declared.run.session.Progress.{Progress}
 
 -- the state of the definition, where this was printed
 abbrev pub state_of : Table → Progress → List ℕ → State
 state_of t p printed = record {
-  now = record { table = t; spot = p.spot; number = p.number; status = p.status };
+  now = record { table = t; mode = p.mode; number = p.number; status = p.status };
   printed = printed;
 }
 
--- a line was served as the definition says, for some mark: its reply was written, or the writer failed in it
-abbrev pub ServesLine : {W E : Type 0} → (W → Option (List ℕ)) → Table → Progress → Table → Progress → Tap W → Tap W → Result (Unit {0}) E → List ℕ → Type 0
-ServesLine contents t p t' p' o o' r text =
+-- a line was executed as the definition says, for some mark: its reply was written, or the writer failed in it
+abbrev pub ExecutesLine : {W E : Type 0} → (W → Option (List ℕ)) → Table → Progress → Table → Progress → Tap W → Tap W → Result (Unit {0}) E → List ℕ → Type 0
+ExecutesLine contents t p t' p' o o' r text =
     (refused : Bool) × (reply : List ℕ)
     × ((printed : List ℕ) → step (state_of t p printed) (record { text = text; refused = refused }) ≡ state_of t' p' (printed ++ reply))
     × Puts contents o o' r reply
 
--- All lines that were read were served, up to the input's end or to the fault that ends a run.
-pub record ServedAll (start : State) (before after : Moment) (p : Progress) : Type 0 where
+-- All lines that were read were executed, up to the input's end or to the fault that ends a run.
+pub record ExecutedAll (start : State) (before after : Moment) (p : Progress) : Type 0 where
   pub bytes : List ℕ
   pub lines : List Line
   pub printed : List ℕ
   pub reads : Consumes before.left after.left bytes
   pub leads : Lead start lines (state_of after.table.table p printed)
   pub read : AreRead lines bytes (EndsAt before.left after.left)
-  pub done : IsTrue (has_ended p.spot) ⊎ EndsAt before.left after.left
+  pub done : IsTrue (has_ended p.mode) ⊎ EndsAt before.left after.left
   pub writes : Appends before.given after.given printed
   pub boxes : after.boxes ≤ before.boxes + length lines
 
 -- what came of lines, by the answer: a run that failed is over, whatever its end would have been
-abbrev pub ServesLines : State → Moment → Result (Unit {0}) RunFault → Moment → Progress → Type 0
-ServesLines start before (Ok _) after p = ServedAll start before after p
-ServesLines start before (Err fault) after p = (finish : State → State) → (lines : List Line) × Runs start finish lines before (Err fault) after
+abbrev pub ExecutesLines : State → Moment → Result (Unit {0}) RunFault → Moment → Progress → Type 0
+ExecutesLines start before (Ok _) after p = ExecutedAll start before after p
+ExecutesLines start before (Err fault) after p = (finish : State → State) → (lines : List Line) × Runs start finish lines before (Err fault) after
 
 -- this reply was written and this status answered, or the writer failed in the reply
 abbrev pub Finishes : {W : Type 0} → (W → Option (List ℕ)) → ℕ → List ℕ → Tap W → Tap W → Result ℕ RunFault → Type 0

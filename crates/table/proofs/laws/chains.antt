@@ -1,5 +1,5 @@
 pub mod PathLaws
-pub mod RowLaws
+pub mod StoredChainLaws
 pub mod PlaceLaws
 pub mod StoreLaws
 pub mod KeptLaws

@@ -1,6 +1,6 @@
 pub mod AnswerLaws
-pub mod DropLaws
-pub mod DropAllLaws
+pub mod DeleteLaws
+pub mod DeleteAllLaws
 pub mod EditLaws
 pub mod FlushLaws
 pub mod MakeLaws
@@ -9,7 +9,7 @@ pub mod PutLaws
 pub mod RetargetLaws
 pub mod RenameLaws
 pub mod TableLaws
-pub mod Rows
+pub mod ChainRules
 pub mod MarkLaws
 pub mod FilledLaws
 pub mod MadeLaws

@@ -1,2 +1,2 @@
 pub mod SearchLaws
-pub mod AdmitLaws
+pub mod CheckLaws

@@ -2,7 +2,7 @@ pub mod WalkLaws
 pub mod DepthLaws
 pub mod StackLaws
 pub mod HitLaws
-pub mod TurnLaws
+pub mod StepResultLaws
 pub mod TrailLaws
 pub mod TableWalkLaws
 pub mod CaseLaws

@@ -8,50 +8,50 @@ use Rattle.std.specs.Prelude.{position, true, false, IsFalse}
 use Rattle.rules.specs.rule.Actions.{target_of}
 use Rattle.table.specs.chains.Sound.{IsSound}
 use Rattle.table.specs.chains.Table.{Chain, Table, TableView, Policy, chain_named_by, is_named, comes_before}
-use Rattle.table.specs.steps.Rows.{Row, rules_in, course_of, leads_to, is_key, ones, IsClassified}
+use Rattle.table.specs.steps.StoredChains.{StoredChain, rules_in, flow_of, leads_to, is_key, ones, IsClassified}
 use Rattle.table.specs.declared.chain.entry.Entry.{Entry}
 use Rattle.table.specs.declared.parts.Parts.{Parts}
 
 -- no chain
-abbrev pub blank : Row
+abbrev pub blank : StoredChain
 blank = record { name = []; entries = []; classifier = record { len = 0; lines = [] }; references = 0 }
 
 -- what lies under a key
-abbrev pub slot_at : List (Option Row) → ℕ → Option Row
+abbrev pub slot_at : List (Option StoredChain) → ℕ → Option StoredChain
 slot_at slots key = slice_index_or slots key None
 
 -- the chain under a key
-abbrev pub row_at : List (Option Row) → ℕ → Row
-row_at slots key = unwrap_or (slot_at slots key) blank
+abbrev pub stored_at : List (Option StoredChain) → ℕ → StoredChain
+stored_at slots key = unwrap_or (slot_at slots key) blank
 
 -- a chain as the table has it
-abbrev pub listed_row : Row → Chain
-listed_row row = record { name = row.name; rules = rules_in row }
+abbrev pub listed_stored : StoredChain → Chain
+listed_stored stored_chain = record { name = stored_chain.name; rules = rules_in stored_chain }
 
 -- the chain under a key, as the table has it
-abbrev pub listed_at : List (Option Row) → ℕ → Chain
-listed_at slots key = listed_row (row_at slots key)
+abbrev pub listed_at : List (Option StoredChain) → ℕ → Chain
+listed_at slots key = listed_stored (stored_at slots key)
 
 -- the place of a hook's chain
-abbrev pub hook_place : Hook → ℕ
-hook_place Input = 0
-hook_place Forward = 1
-hook_place Output = 2
+abbrev pub hook_index : Hook → ℕ
+hook_index Input = 0
+hook_index Forward = 1
+hook_index Output = 2
 
 -- the chains in the order of the index
-abbrev pub listed : List (Option Row) → List ℕ → List Chain
+abbrev pub listed : List (Option StoredChain) → List ℕ → List Chain
 listed slots order = map (listed_at slots) order
 
 -- the name of the chain at a place of the index
-abbrev pub name_at : List (Option Row) → List ℕ → ℕ → List ℕ
-name_at slots order place = (row_at slots (slice_index order place)).name
+abbrev pub name_at : List (Option StoredChain) → List ℕ → ℕ → List ℕ
+name_at slots order place = (stored_at slots (slice_index order place)).name
 
 -- their classifiers
-abbrev pub classifiers : List (Option Row) → List ℕ → List Classified
-classifiers slots order = map (λ key. (row_at slots key).classifier) order
+abbrev pub classifiers : List (Option StoredChain) → List ℕ → List Classified
+classifiers slots order = map (λ key. (stored_at slots key).classifier) order
 
 -- the table of these policies and chains
-abbrev pub table_with : List Policy → List (Option Row) → List ℕ → Table
+abbrev pub table_with : List Policy → List (Option StoredChain) → List ℕ → Table
 table_with policies slots order = record { policies = policies; chains = listed slots order }
 
 -- the table that the parts show
@@ -71,56 +71,56 @@ abbrev pub IsUser : List ℕ → ℕ → Type 0
 IsUser order key = (j : ℕ) × (3 ≤ j) × (j < length order) × (slice_index order j ≡ key)
 
 -- the key is that of the chain of a name, if there is one to be
-abbrev pub LinksTo : List (Option Row) → List ℕ → ℕ → Option (List ℕ) → Type 0
+abbrev pub LinksTo : List (Option StoredChain) → List ℕ → ℕ → Option (List ℕ) → Type 0
 LinksTo slots order key None = Unit {0}
-LinksTo slots order key (Some name) = IsUser order key × ((row_at slots key).name ≡ name)
+LinksTo slots order key (Some name) = IsUser order key × ((stored_at slots key).name ≡ name)
 
--- the course of a rule is that of its target, and leads to the chain that it names
-abbrev pub IsLinked : List (Option Row) → List ℕ → Entry → Type 0
+-- the flow of a rule is that of its target, and leads to the chain that it names
+abbrev pub IsLinked : List (Option StoredChain) → List ℕ → Entry → Type 0
 IsLinked slots order entry =
-    (key : ℕ) × (entry.course ≡ course_of (target_of entry.rule) key) × LinksTo slots order key (chain_named_by entry.rule)
+    (key : ℕ) × (entry.flow ≡ flow_of (target_of entry.rule) key) × LinksTo slots order key (chain_named_by entry.rule)
 
 -- how many rules of a chain lead to the chain under a key
-abbrev pub leading_in : ℕ → Row → ℕ
-leading_in key row = count_by (λ (e : Entry). leads_to key e.course) row.entries
+abbrev pub leading_in : ℕ → StoredChain → ℕ
+leading_in key stored_chain = count_by (λ (e : Entry). leads_to key e.flow) stored_chain.entries
 
 -- how many rules of all chains lead there
-abbrev pub leading : List (Option Row) → List ℕ → ℕ → ℕ
+abbrev pub leading : List (Option StoredChain) → List ℕ → ℕ → ℕ
 leading slots [] key = 0
-leading slots (k ∷ ks) key = leading_in key (row_at slots k) + leading slots ks key
+leading slots (k ∷ ks) key = leading_in key (stored_at slots k) + leading slots ks key
 
 -- each chain is as before, but for its count
-pub record AreRecounted (old new : List (Option Row)) : Type 0 where
+pub record AreRecounted (old new : List (Option StoredChain)) : Type 0 where
   pub present : (key : ℕ) → IsSome (slot_at old key) → IsSome (slot_at new key)
   pub no_more : (key : ℕ) → IsSome (slot_at new key) → IsSome (slot_at old key)
-  pub name : (key : ℕ) → (row_at new key).name ≡ (row_at old key).name
-  pub entries : (key : ℕ) → (row_at new key).entries ≡ (row_at old key).entries
-  pub classifier : (key : ℕ) → (row_at new key).classifier ≡ (row_at old key).classifier
+  pub name : (key : ℕ) → (stored_at new key).name ≡ (stored_at old key).name
+  pub entries : (key : ℕ) → (stored_at new key).entries ≡ (stored_at old key).entries
+  pub classifier : (key : ℕ) → (stored_at new key).classifier ≡ (stored_at old key).classifier
 
 -- the counts are as before, with one more under a key and one fewer under another, if there are such
 abbrev pub CountsInAndOut : Option ℕ → Option ℕ → (ℕ → ℕ) → (ℕ → ℕ) → Type 0
 CountsInAndOut more fewer old new = (key : ℕ) → new key + ones (is_key key fewer) ≡ old key + ones (is_key key more)
 
 -- the counts of the chains
-abbrev pub references_at : List (Option Row) → ℕ → ℕ
-references_at slots key = (row_at slots key).references
+abbrev pub references_at : List (Option StoredChain) → ℕ → ℕ
+references_at slots key = (stored_at slots key).references
 
 -- the chains stand as they should, but for the counts of the rules that name them: those of the index, and no others
-pub record IsStored (policies : List Policy) (slots : List (Option Row)) (order : List ℕ) : Type 0 where
+pub record IsStored (policies : List Policy) (slots : List (Option StoredChain)) (order : List ℕ) : Type 0 where
   pub present : (i : ℕ) → i < length order → IsSome (slot_at slots (slice_index order i))
   pub no_more : (key : ℕ) → IsSome (slot_at slots key) → IsIn order key
   pub apart : (i j : ℕ) → i < length order → j < length order → slice_index order i ≡ slice_index order j → i ≡ j
-  pub linked : (i : ℕ) → i < length order → All (IsLinked slots order) (row_at slots (slice_index order i)).entries
-  pub classified : (i : ℕ) → i < length order → IsClassified (row_at slots (slice_index order i))
+  pub linked : (i : ℕ) → i < length order → All (IsLinked slots order) (stored_at slots (slice_index order i)).entries
+  pub classified : (i : ℕ) → i < length order → IsClassified (stored_at slots (slice_index order i))
   pub sound : IsSound (table_with policies slots order)
 
 -- the chain of the name stands at the place
-pub record IsPlaceOf (name : List ℕ) (slots : List (Option Row)) (order : List ℕ) (i : ℕ) : Type 0 where
+pub record IsIndexOf (name : List ℕ) (slots : List (Option StoredChain)) (order : List ℕ) (i : ℕ) : Type 0 where
   pub within : i < length order
   pub is : position (is_named name) (listed slots order) ≡ Some i
 
 -- no chain has the name, and one of it would stand at the place: after the user chains whose names come before it
-pub record IsPlaceFor (name : List ℕ) (slots : List (Option Row)) (order : List ℕ) (i : ℕ) : Type 0 where
+pub record IsIndexFor (name : List ℕ) (slots : List (Option StoredChain)) (order : List ℕ) (i : ℕ) : Type 0 where
   pub free : position (is_named name) (listed slots order) ≡ None
   pub user : 3 ≤ i
   pub within : i ≤ length order
@@ -128,22 +128,22 @@ pub record IsPlaceFor (name : List ℕ) (slots : List (Option Row)) (order : Lis
   pub after : (k : ℕ) → i ≤ k → k < length order → comes_before name (name_at slots order k) ≡ true
 
 -- each chain counts the rules that name it
-abbrev pub IsCounted : List (Option Row) → List ℕ → Type 0
+abbrev pub IsCounted : List (Option StoredChain) → List ℕ → Type 0
 IsCounted slots order =
-    (i : ℕ) → i < length order → (row_at slots (slice_index order i)).references ≡ leading slots order (slice_index order i)
+    (i : ℕ) → i < length order → (stored_at slots (slice_index order i)).references ≡ leading slots order (slice_index order i)
 
 -- the chains stand as they should
-pub record IsKept (policies : List Policy) (slots : List (Option Row)) (order : List ℕ) : Type 0 where
+pub record IsKept (policies : List Policy) (slots : List (Option StoredChain)) (order : List ℕ) : Type 0 where
   pub stored : IsStored policies slots order
   pub counted : IsCounted slots order
 
 -- the chain at a place of the index
-abbrev pub row_in : Parts → ℕ → Row
-row_in parts place = row_at parts.chains.slots (slice_index parts.order.items place)
+abbrev pub stored_in : Parts → ℕ → StoredChain
+stored_in parts place = stored_at parts.chains.slots (slice_index parts.order.items place)
 
 -- its name
 abbrev pub name_in : Parts → ℕ → List ℕ
-name_in parts place = (row_in parts place).name
+name_in parts place = (stored_in parts place).name
 
 -- the parts stand as they should, but for the counts
 abbrev pub AreStored : Parts → Type 0

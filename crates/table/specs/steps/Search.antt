@@ -2,8 +2,8 @@
 use Rattle.std.specs.Prelude.{◌≡◌, ◌⊎◌, ℕ, ◌<◌, Bool, true, false, List, [], ◌∷◌, ◌++◌, length, slice_index_or, slice_index, slice_set}
 use Rattle.std.specs.Prelude.{Option, Some, IsTrue, IsFalse}
 use Rattle.table.specs.chains.Sound.{Leads}
-use Rattle.table.specs.steps.Kept.{IsIn, row_at, listed}
-use Rattle.table.specs.steps.Rows.{Row, key_in}
+use Rattle.table.specs.steps.Kept.{IsIn, stored_at, listed}
+use Rattle.table.specs.steps.StoredChains.{StoredChain, key_in}
 use Rattle.table.specs.declared.chain.entry.Entry.{Entry}
 
 -- the key is marked
@@ -21,16 +21,16 @@ pub record IsMarked (order : List ℕ) (seen : List Bool) (reached : List ℕ) :
 -- the chains that the first of these rules lead to are marked
 abbrev pub AreMarked : List Entry → ℕ → List Bool → Type 0
 AreMarked entries upto seen =
-    (m : ℕ) (e : Entry) (key : ℕ) → m < upto → slice_index_or entries m e ≡ e → key_in e.course ≡ Some key → IsSeen seen key
+    (m : ℕ) (e : Entry) (key : ℕ) → m < upto → slice_index_or entries m e ≡ e → key_in e.flow ≡ Some key → IsSeen seen key
 
 -- a search from a chain, the first that was reached: paths lead to all that were reached, and the first of these were visited
-pub record IsSearch (slots : List (Option Row)) (order : List ℕ) (from : ℕ) (seen : List Bool) (reached : List ℕ) (at : ℕ) : Type 0 where
+pub record IsSearch (slots : List (Option StoredChain)) (order : List ℕ) (from : ℕ) (seen : List Bool) (reached : List ℕ) (at : ℕ) : Type 0 where
   pub marked : IsMarked order seen reached
   pub some : 0 < length reached
   pub first : slice_index reached 0 ≡ from
-  pub led : (key : ℕ) → IsIn reached key → Leads (listed slots order) (row_at slots from).name (row_at slots key).name
+  pub led : (key : ℕ) → IsIn reached key → Leads (listed slots order) (stored_at slots from).name (stored_at slots key).name
   pub visited : (i : ℕ) → i < at
-      → AreMarked (row_at slots (slice_index reached i)).entries (length (row_at slots (slice_index reached i)).entries) seen
+      → AreMarked (stored_at slots (slice_index reached i)).entries (length (stored_at slots (slice_index reached i)).entries) seen
 
 -- what the mark of a key leaves: what was, if there is no key or it was marked already, and else one more that is reached
 abbrev pub Marks : Option ℕ → List Bool → List ℕ → List Bool → List ℕ → Type 0

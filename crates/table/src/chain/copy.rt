@@ -14,7 +14,7 @@ fn copy_entries(alloc: Global, entries: &[Entry]) -> Result<Vec<Entry>, AllocErr
         let rule = entry.rule.copy(alloc)?;
         copy.push(Entry {
             rule,
-            course: entry.course,
+            flow: entry.flow,
         })?;
     }
     Ok(copy)

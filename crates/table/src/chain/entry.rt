@@ -2,7 +2,7 @@
 ghost use Rattle.std.specs.Prelude.{◌≡◌, IsTrue, map};
 ghost use Rattle.rules.specs.rule.Actions.{names_chain, target_of};
 ghost use Rattle.table.specs.steps.Renames.{NameChains, retargeted};
-ghost use Rattle.table.specs.steps.Rows.{leads_to};
+ghost use Rattle.table.specs.steps.StoredChains.{leads_to};
 
 use crate::verdict::Verdict;
 use fields::Name;
@@ -10,32 +10,32 @@ use rules::Rule;
 
 // What the walk does after a rule that matches.
 #[derive(Clone, Copy, Debug, PartialEq, Eq)]
-pub(crate) enum Course {
+pub(crate) enum Flow {
     // It ends with the verdict.
-    Ends(Verdict),
+    Decide(Verdict),
     // It goes on after the rule.
-    GoesOn,
+    Continue,
     // It goes on where the chain was jumped to.
-    Returns,
+    Return,
     // It goes on in the chain under this key, and comes back.
-    Jumps(usize),
+    Jump(usize),
     // It goes on in the chain under this key, and doesn't come back.
-    Goes(usize),
+    Goto(usize),
 }
 
-impl Course {
-    ghost use Rattle.table.specs.steps.Rows.{key_in};
+impl Flow {
+    ghost use Rattle.table.specs.steps.StoredChains.{key_in};
 
     // The key of the chain that the walk goes to, if it goes to one.
     pub(crate) fn key(self) -> Option<usize>
         ensures { result ≡ key_in self }
     {
         match self {
-            Course::Jumps(key) => Some(key),
-            Course::Goes(key) => Some(key),
-            Course::Ends(_) => None,
-            Course::GoesOn => None,
-            Course::Returns => None,
+            Flow::Jump(key) => Some(key),
+            Flow::Goto(key) => Some(key),
+            Flow::Decide(_) => None,
+            Flow::Continue => None,
+            Flow::Return => None,
         }
     }
 
@@ -54,16 +54,16 @@ impl Course {
 #[derive(Drop)]
 pub(crate) struct Entry {
     pub(crate) rule: Rule,
-    pub(crate) course: Course,
+    pub(crate) flow: Flow,
 }
 
 impl Entry {
     // Puts the name into the rule if it leads to the chain under a key.
     fn retarget(&mut self, key: usize, name: &Name)
-        requires { IsTrue (leads_to key self.old.course) → IsTrue (names_chain (target_of self.old.rule)) }
+        requires { IsTrue (leads_to key self.old.flow) → IsTrue (names_chain (target_of self.old.rule)) }
         ensures { self.new ≡ retargeted key name.now self.old }
     {
-        if self.course.leads_to(key) {
+        if self.flow.leads_to(key) {
             self.rule.rename_target(name);
         }
     }

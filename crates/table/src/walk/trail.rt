@@ -6,7 +6,7 @@ ghost use Rattle.table.specs.walk.Trail.{Shows, shown};
 
 use crate::parts::Parts;
 use crate::verdict::Verdict;
-use crate::walk::{LIMIT, Pending, SHORT, STACK, Turn, follow};
+use crate::walk::{LIMIT, Pending, SHORT, STACK, StepResult, follow};
 use arrayvec::ArrayVec;
 use fields::Packet;
 use std::alloc::{AllocError, Global};
@@ -81,7 +81,7 @@ impl Parts {
         ensures { shown (listed self.now.chains.slots self.now.order.items) (entry_before self.now.chains.slots at) ≡ Some result }
     {
         let chain = &self.chains[at.chain];
-        match self.place_of(chain.name().bytes()) {
+        match self.index_of(chain.name().bytes()) {
             Some(place) => Step {
                 chain: place,
                 number: at.passed,
@@ -111,7 +111,7 @@ impl Parts {
         let mut left = LIMIT;
         let mut steps = Vec::new(self.alloc);
         'walk: loop {
-            let Some(course) = self.advance(packet, &mut at, &mut stack) else {
+            let Some(flow) = self.advance(packet, &mut at, &mut stack) else {
                 return Ok(Some(Trail::undecided(steps, policy)));
             };
             if left == 0 {
@@ -119,11 +119,11 @@ impl Parts {
             }
             left -= 1;
             steps.push(self.step_before(at))?;
-            match follow(course, &mut at, &mut stack) {
-                Turn::Decides(verdict) => return Ok(Some(Trail::decided(steps, verdict))),
-                Turn::Policy => return Ok(Some(Trail::undecided(steps, policy))),
-                Turn::Goes => {}
-                Turn::Full => return Ok(None),
+            match follow(flow, &mut at, &mut stack) {
+                StepResult::Decided(verdict) => return Ok(Some(Trail::decided(steps, verdict))),
+                StepResult::ByPolicy => return Ok(Some(Trail::undecided(steps, policy))),
+                StepResult::Continues => {}
+                StepResult::StackFull => return Ok(None),
             }
         }
     }

@@ -1,7 +1,7 @@
 -- A box put in or taken out leaves the line of the boxes as they are then.
 use Rattle.fields.specs.declared.numbers.spans.Interval.{Interval}
 use Rattle.classify.proofs.laws.line.ApartLaws.{cuts_behind}
-use Rattle.std.proofs.Common.{◌≡◌, ◌≢◌, inl, inr, ℕ, suc, ◌+◌, ◌-◌, ◌<◌, ◌≤◌, Bool, List, [], ◌∷◌, ◌++◌, take, drop, refl, sym, ◌∙◌, ap, arith, subst, map}
+use Rattle.std.proofs.Common.{◌≡◌, ◌≢◌, ℕ, suc, ◌+◌, ◌-◌, ◌<◌, ◌≤◌, Bool, List, [], ◌∷◌, ◌++◌, take, drop, refl, sym, ◌∙◌, ap, arith, subst, map}
 use Rattle.std.specs.List.{insert, remove}
 use Rattle.std.proofs.Math.ListN.{set}
 use Rattle.std.proofs.lemmas.List.{map-append, take-map, drop-map, map-set}
@@ -9,7 +9,7 @@ use Rattle.std.proofs.lemmas.List.Edits.{length-insert, length-remove}
 use Rattle.classify.specs.line.Line.{row_at, IsLineOf}
 use Rattle.fields.specs.numbers.Spans.{has}
 use Rattle.classify.specs.steps.Cuts.{CutsStart}
-use Rattle.classify.specs.steps.Pieces.{piece_at, row_in, IsRising, Differ, StartsAt, IsSplitOf, SayTheSame, row_bits}
+use Rattle.classify.specs.steps.Pieces.{piece_at, row_in, IsRising, Differ, IsSplitOf, SayTheSame, row_bits}
 use Rattle.classify.specs.steps.Kept.{PiecesAndRoom, IsSound}
 use Rattle.classify.specs.steps.Edits.{IsMergeOf, with_answer, with_test, with_written, without_answer, Says}
 use Rattle.classify.proofs.laws.line.StepLaws.{EachPiece, AreStepsOf, steps_from, says_from_steps, one_list_of_steps, piece_at_each, rows_from, before_all}

@@ -1,5 +1,5 @@
 -- What the rows of a point have in common: the answers of the boxes, and the search among them.
-use Rattle.std.proofs.Common.{◌≡◌, inl, inr, ℕ, ◌+◌, ◌*◌, ◌^◌, ◌<◌, ◌≤◌, Bool, true, false, List, [], length, get_or, map, refl, sym, ◌∙◌, ap, arith, lit<, Option, Some, None, Bor}
+use Rattle.std.proofs.Common.{◌≡◌, inl, inr, ℕ, ◌+◌, ◌*◌, ◌^◌, ◌<◌, ◌≤◌, Bool, true, false, List, [], length, get_or, map, sym, ◌∙◌, ap, arith, lit<, Option, Some, None, Bor}
 use Rattle.classify.proofs.laws.line.LineLaws.{same_tests}
 use Rattle.std.proofs.lemmas.Bool.{cases_lt, true≢false}
 use Rattle.std.proofs.lemmas.List.{get_or-take, get_or-map, length-map, same_lists}

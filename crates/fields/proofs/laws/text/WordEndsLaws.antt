@@ -4,7 +4,7 @@ use Rattle.std.proofs.lemmas.Bool.{and_parts, and_from, le-leb, leb-true, eqb-tr
 use Rattle.std.proofs.lemmas.List.{take-append-le, drop-append-le, take_all, drop_all}
 use Rattle.std.specs.List.{slice_get}
 use Rattle.fields.specs.text.WordEnds.{words_to, do_rise}
-use Rattle.fields.specs.text.Words.{Place}
+use Rattle.fields.specs.text.Words.{State}
 use Rattle.fields.specs.steps.Cutting.{Cut, last_end, joined, ended}
 
 -- they rise, and do not pass the last byte
@@ -118,21 +118,21 @@ rise-ended ends bytes now true is rise = subst (λ (es : List ℕ). do_rise 0 es
 rise-ended ends bytes now false is rise = subst (λ (es : List ℕ). do_rise 0 es (length bytes) ≡ true) (sym is) rise
 
 -- the cut of these bytes and ends
-abbrev pub cut_at : List ℕ → List ℕ → Place → Cut
-cut_at bytes ends place = record { words = words_to bytes 0 ends; word = drop (last_end 0 ends) bytes; place = place }
+abbrev pub cut_at : List ℕ → List ℕ → State → Cut
+cut_at bytes ends state = record { words = words_to bytes 0 ends; word = drop (last_end 0 ends) bytes; state = state }
 
-pub cut-joined : (ends bytes more now : List ℕ) (place : Place) (ok : Bool) → now ≡ cond ok (bytes ++ more) bytes → ok ≡ true → do_rise 0 ends (length bytes) ≡ true
-    → cut_at now ends place ≡ joined more (cut_at bytes ends place)
-cut-joined ends bytes more now place true is done rise =
-    ap (λ (bs : List ℕ). cut_at bs ends place) is
-    ∙ ap₂ (λ (ws : List (List ℕ)) (w : List ℕ). record { words = ws; word = w; place = place }) (words_to-more bytes more 0 ends rise)
+pub cut-joined : (ends bytes more now : List ℕ) (state : State) (ok : Bool) → now ≡ cond ok (bytes ++ more) bytes → ok ≡ true → do_rise 0 ends (length bytes) ≡ true
+    → cut_at now ends state ≡ joined more (cut_at bytes ends state)
+cut-joined ends bytes more now state true is done rise =
+    ap (λ (bs : List ℕ). cut_at bs ends state) is
+    ∙ ap₂ (λ (ws : List (List ℕ)) (w : List ℕ). record { words = ws; word = w; state = state }) (words_to-more bytes more 0 ends rise)
     (drop-append-le (last_end 0 ends) bytes more (last_end-within 0 ends (length bytes) rise))
-cut-joined ends bytes more now place false is done rise = cc
+cut-joined ends bytes more now state false is done rise = cc
 
-pub cut-ended : (ends bytes now : List ℕ) (place : Place) (ok : Bool) → now ≡ cond ok (ends ++ length bytes ∷ []) ends → ok ≡ true → do_rise 0 ends (length bytes) ≡ true
-    → cut_at bytes now place ≡ ended (cut_at bytes ends place)
-cut-ended ends bytes now place true is done rise =
-    ap (λ (es : List ℕ). cut_at bytes es place) is
-    ∙ ap₂ (λ (ws : List (List ℕ)) (w : List ℕ). record { words = ws; word = w; place = place }) (words_to-word bytes 0 ends rise)
+pub cut-ended : (ends bytes now : List ℕ) (state : State) (ok : Bool) → now ≡ cond ok (ends ++ length bytes ∷ []) ends → ok ≡ true → do_rise 0 ends (length bytes) ≡ true
+    → cut_at bytes now state ≡ ended (cut_at bytes ends state)
+cut-ended ends bytes now state true is done rise =
+    ap (λ (es : List ℕ). cut_at bytes es state) is
+    ∙ ap₂ (λ (ws : List (List ℕ)) (w : List ℕ). record { words = ws; word = w; state = state }) (words_to-word bytes 0 ends rise)
     (ap (λ from. drop from bytes) (last_end-word 0 ends (length bytes)) ∙ drop_all (length bytes) bytes (omega arith))
-cut-ended ends bytes now place false is done rise = cc
+cut-ended ends bytes now state false is done rise = cc

@@ -3,7 +3,7 @@ use Rattle.std.proofs.Common.{◌≡◌, ◌≢◌, ◌==◌, ◌↔◌, inl, in
 use Rattle.std.specs.List.{list_all}
 use Rattle.std.specs.Option.{option_map}
 use Rattle.std.proofs.lemmas.Bool.{and_parts, and_from, not-true, eqb-true}
-use Rattle.fields.specs.text.Words.{is_blank, AreBlanks, is_bare, IsQuotedByte, IsQuotedText, IsSpelling, EndsWord, AreWords, Place, Between, Bare, Quoted, Escaped, Closed, Skips, Joins, Ends, Breaks, joins, act_of, in_front, acted, words_from, words_of}
+use Rattle.fields.specs.text.Words.{is_blank, AreBlanks, is_bare, IsQuotedByte, IsQuotedText, IsSpelling, EndsWord, AreWords, State, Between, Bare, Quoted, Escaped, Closed, Skips, Joins, Ends, Breaks, joins, transition_of, in_front, acted, words_from, words_of}
 
 -- From the spellings to the words found.
 
@@ -35,14 +35,14 @@ closed-end (byte ∷ rest) words ends found =
     ap (λ t. acted (cond t (Skips Between) Breaks) byte (λ next. words_from next rest)) ends
     ∙ ap (λ t. acted (cond t (Skips Between) (cond (byte == 34) (Skips Quoted) (joins Bare byte))) byte (λ next. words_from next rest)) (sym ends) ∙ found
 
-pub bare-joins : (byte : ℕ) → is_bare byte ≡ true → act_of Bare byte ≡ Joins Bare
+pub bare-joins : (byte : ℕ) → is_bare byte ≡ true → transition_of Bare byte ≡ Joins Bare
 bare-joins byte bare =
     let (first, unbroken) = and_parts (not (is_blank byte) && not (byte == 34)) (not (byte == 10)) bare in
     let (unblank, unquoted) = and_parts (not (is_blank byte)) (not (byte == 34)) first in
     ap (λ t. cond t (Ends Between) (cond (byte == 34) Breaks (joins Bare byte))) (not-true (is_blank byte) unblank)
     ∙ ap (λ t. cond t Breaks (joins Bare byte)) (not-true (byte == 34) unquoted) ∙ ap (λ t. cond t Breaks (Joins Bare)) (not-true (byte == 10) unbroken)
 
-pub first-joins : (byte : ℕ) → is_bare byte ≡ true → act_of Between byte ≡ Joins Bare
+pub first-joins : (byte : ℕ) → is_bare byte ≡ true → transition_of Between byte ≡ Joins Bare
 first-joins byte bare =
     let (first, unbroken) = and_parts (not (is_blank byte) && not (byte == 34)) (not (byte == 10)) bare in
     let (unblank, unquoted) = and_parts (not (is_blank byte)) (not (byte == 34)) first in
@@ -94,7 +94,7 @@ words_of-AreWords (word ∷ words) line (gap, spelling, rest, is, blank, spelled
 -- From the words found to the spellings.
 
 -- what words found from a place on say of the line from there
-abbrev Standing : Place → List (List ℕ) → List ℕ → Type 0
+abbrev Standing : State → List (List ℕ) → List ℕ → Type 0
 Standing Between words line = AreWords words line
 Standing Bare [] line = ⊥
 Standing Bare (word ∷ words) line = (rest : List ℕ) × (line ≡ word ++ rest) × (list_all is_bare word ≡ true) × EndsWord rest × AreWords words rest
@@ -106,9 +106,9 @@ Standing Escaped ((byte ∷ word) ∷ words) line =
     (text rest : List ℕ) × (line ≡ byte ∷ (text ++ 34 ∷ rest)) × (byte ≢ 10) × IsQuotedText text word × EndsWord rest × AreWords words rest
 Standing Closed words line = EndsWord line × AreWords words line
 
-abbrev Means : Place → Option (List (List ℕ)) → List ℕ → Type 0
-Means place None line = Unit {0}
-Means place (Some words) line = Standing place words line
+abbrev Means : State → Option (List (List ℕ)) → List ℕ → Type 0
+Means state None line = Unit {0}
+Means state (Some words) line = Standing state words line
 
 differs : (byte code : ℕ) → (byte == code) ≡ false → byte ≢ code
 differs byte code off e = let on = eq-eqb byte code e in cc
@@ -172,7 +172,7 @@ is-bare byte blank quote newline = ap (λ t. not t && not (byte == 34) && not (b
 
 -- what the words found from the next byte on say, of each place that it may stand in
 abbrev Further : List ℕ → Type 0
-Further bytes = (place : Place) → Means place (words_from place bytes) bytes
+Further bytes = (state : State) → Means state (words_from state bytes) bytes
 
 in-between : (byte : ℕ) (bytes : List ℕ) (blank quote newline : Bool) → is_blank byte ≡ blank → (byte == 34) ≡ quote → (byte == 10) ≡ newline → Further bytes
     → Means Between (acted (cond blank (Skips Between) (cond quote (Skips Quoted) (cond newline Breaks (Joins Bare)))) byte (λ next. words_from next bytes)) (byte ∷ bytes)
@@ -206,17 +206,17 @@ in-closed : (byte : ℕ) (bytes : List ℕ) (blank : Bool) → is_blank byte ≡
 in-closed byte bytes true is-blank further = closed-ends byte bytes (words_from Between bytes) is-blank (further Between)
 in-closed byte bytes false is-blank further = tt
 
-means-found : (bytes : List ℕ) (place : Place) → Means place (words_from place bytes) bytes
+means-found : (bytes : List ℕ) (state : State) → Means state (words_from state bytes) bytes
 means-found [] Between = refl
 means-found [] Bare = ([], refl, refl, tt, refl)
 means-found [] Quoted = tt
 means-found [] Escaped = tt
 means-found [] Closed = (tt, refl)
-means-found (byte ∷ bytes) Between = in-between byte bytes (is_blank byte) (byte == 34) (byte == 10) refl refl refl (λ place. means-found bytes place)
-means-found (byte ∷ bytes) Bare = in-bare byte bytes (is_blank byte) (byte == 34) (byte == 10) refl refl refl (λ place. means-found bytes place)
-means-found (byte ∷ bytes) Quoted = in-quotes byte bytes (byte == 34) (byte == 92) (byte == 10) refl refl refl (λ place. means-found bytes place)
-means-found (byte ∷ bytes) Escaped = in-escape byte bytes (byte == 10) refl (λ place. means-found bytes place)
-means-found (byte ∷ bytes) Closed = in-closed byte bytes (is_blank byte) refl (λ place. means-found bytes place)
+means-found (byte ∷ bytes) Between = in-between byte bytes (is_blank byte) (byte == 34) (byte == 10) refl refl refl (λ state. means-found bytes state)
+means-found (byte ∷ bytes) Bare = in-bare byte bytes (is_blank byte) (byte == 34) (byte == 10) refl refl refl (λ state. means-found bytes state)
+means-found (byte ∷ bytes) Quoted = in-quotes byte bytes (byte == 34) (byte == 92) (byte == 10) refl refl refl (λ state. means-found bytes state)
+means-found (byte ∷ bytes) Escaped = in-escape byte bytes (byte == 10) refl (λ state. means-found bytes state)
+means-found (byte ∷ bytes) Closed = in-closed byte bytes (is_blank byte) refl (λ state. means-found bytes state)
 
 -- the words found are those that the line is made of
 pub AreWords-words_of : (words : List (List ℕ)) (line : List ℕ) → words_of line ≡ Some words → AreWords words line

@@ -16,7 +16,7 @@ use Rattle.restore.specs.calls.Calls.{Call, Edits, Begins, Takes, Commits, Gives
 use Rattle.restore.specs.calls.Headline.{CallsLeaveWhatTheyAccept, RefusedCallsChangeNothing}
 use Rattle.restore.specs.listings.RoundTrip.{ListingsRestoreClassifiers, RestoresAsEqual}
 use Rattle.restore.specs.sections.Lines.{IsLine, is_building}
-use Rattle.restore.specs.sections.Restore.{Place, Between, Skipping, Building, Restore, Restoring, moved, between, line_at, is_commit, restore_line}
+use Rattle.restore.specs.sections.Restore.{SectionState, Between, Skipping, Building, Restore, Restoring, moved, between, line_at, is_commit, restore_line}
 use Rattle.restore.specs.sections.Section as section
 use Rattle.restore.specs.sections.Section.{RestoreFault, asked, begun, is_too_long, line_in}
 use Rattle.table.proofs.laws.edits.AnswerLaws.{if_room}
@@ -66,17 +66,17 @@ module _ (leave : table_law.CallsLeaveWhatTheyAccept) (refuse : table_law.Refuse
 -- lines of a restore
 
 -- what a line of a restore leaves: the table of the change that it makes, and a section that fits
-record FitsNext (t : Table) (pending : Option Pending) (line : List ℕ) (r : Restore) (place : Place) (next : Restoring) : Type 0 where
-  table : next.table ≡ changed_by t (if is_building place && is_commit line && not r.test then section_change pending else [])
-  fits : Fits next.table (pending_at next.restore.place r.noflush line pending)
+record FitsNext (t : Table) (pending : Option Pending) (line : List ℕ) (r : Restore) (state : SectionState) (next : Restoring) : Type 0 where
+  table : next.table ≡ changed_by t (if is_building state && is_commit line && not r.test then section_change pending else [])
+  fits : Fits next.table (pending_at next.restore.state r.noflush line pending)
 
-fits_begun : (noflush : Bool) (t : Table) (line : List ℕ) (place : Place) → IsBegun noflush t place → Fits t (pending_at place noflush line None)
+fits_begun : (noflush : Bool) (t : Table) (line : List ℕ) (state : SectionState) → IsBegun noflush t state → Fits t (pending_at state noflush line None)
 fits_begun noflush t line Between is = tt
 fits_begun noflush t line Skipping is = tt
 fits_begun noflush t line (Building s) is = ap (λ (x : section.Section). x.table) is
 
-opens : (t : Table) (line : List ℕ) (r : Restore) (p : Result Place RestoreFault) → OnGiven p (IsBegun r.noflush t) → OnGiven (made_into (moved t r) p) (FitsNext t None line r Between)
-opens t line r (Ok place) is = record { table = refl; fits = fits_begun r.noflush t line place is }
+opens : (t : Table) (line : List ℕ) (r : Restore) (p : Result SectionState RestoreFault) → OnGiven p (IsBegun r.noflush t) → OnGiven (made_into (moved t r) p) (FitsNext t None line r Between)
+opens t line r (Ok state) is = record { table = refl; fits = fits_begun r.noflush t line state is }
 opens t line r (Err f) is = tt
 
 commits : (t u : Table) (es : List Edit) (noflush test : Bool) → u ≡ edited_by (begun noflush t).table es
@@ -85,30 +85,30 @@ commits t u es noflush true fits = refl
 commits t u es noflush false fits = fits
 
 builds : (t : Table) (o : Pending) (line : List ℕ) (r : Restore) (q : Result section.Section RestoreFault) → OnGiven q (λ next. Fits t (Some (with_line line next o)))
-    → OnGiven (made_into (λ next. moved t r (Building next)) q) (λ (next : Restoring). (next.table ≡ t) × Fits next.table (pending_at next.restore.place r.noflush line (Some o)))
+    → OnGiven (made_into (λ next. moved t r (Building next)) q) (λ (next : Restoring). (next.table ≡ t) × Fits next.table (pending_at next.restore.state r.noflush line (Some o)))
 builds t o line r (Ok next) fits = (refl, fits)
 builds t o line r (Err f) fits = tt
 
 -- a line of a section that is built, by whether it is `COMMIT`
 fits_built : (t : Table) (o : Pending) (line : List ℕ) (r : Restore) (q : Result Restoring RestoreFault) (commit : Bool) → Fits t (Some o)
-    → OnGiven q (λ (next : Restoring). (next.table ≡ t) × Fits next.table (pending_at next.restore.place r.noflush line (Some o)))
+    → OnGiven q (λ (next : Restoring). (next.table ≡ t) × Fits next.table (pending_at next.restore.state r.noflush line (Some o)))
     → OnGiven (if commit then Ok (moved (if r.test then t else o.section.table) r Between) else q)
-    (λ (next : Restoring). (next.table ≡ changed_by t (if commit && not r.test then section_change (Some o) else [])) × Fits next.table (pending_at next.restore.place r.noflush line (Some o)))
+    (λ (next : Restoring). (next.table ≡ changed_by t (if commit && not r.test then section_change (Some o) else [])) × Fits next.table (pending_at next.restore.state r.noflush line (Some o)))
 fits_built t o line r q true fits rest = (commits t o.section.table o.edits o.noflush r.test fits, tt)
 fits_built t o line r q false fits rest = rest
 
-as_next : (t : Table) (pending : Option Pending) (line : List ℕ) (r : Restore) (place : Place) (q : Result Restoring RestoreFault)
-    → OnGiven q (λ (next : Restoring). (next.table ≡ changed_by t (if is_building place && is_commit line && not r.test then section_change pending else [])) × Fits next.table (pending_at next.restore.place r.noflush line pending))
-    → OnGiven q (FitsNext t pending line r place)
-as_next t pending line r place (Ok next) h = record { table = h.0; fits = h.1 }
-as_next t pending line r place (Err f) h = tt
+as_next : (t : Table) (pending : Option Pending) (line : List ℕ) (r : Restore) (state : SectionState) (q : Result Restoring RestoreFault)
+    → OnGiven q (λ (next : Restoring). (next.table ≡ changed_by t (if is_building state && is_commit line && not r.test then section_change pending else [])) × Fits next.table (pending_at next.restore.state r.noflush line pending))
+    → OnGiven q (FitsNext t pending line r state)
+as_next t pending line r state (Ok next) h = record { table = h.0; fits = h.1 }
+as_next t pending line r state (Err f) h = tt
 
-fits_at : (t : Table) (pending : Option Pending) (line : List ℕ) (r : Restore) (place : Place) → Fits t pending → IsPendingIn place r.noflush pending
-    → OnGiven (line_at place r t line) (FitsNext t pending line r place)
+fits_at : (t : Table) (pending : Option Pending) (line : List ℕ) (r : Restore) (state : SectionState) → Fits t pending → IsPendingIn state r.noflush pending
+    → OnGiven (line_at state r t line) (FitsNext t pending line r state)
 fits_at t pending line r Between fits is =
     subst (λ (o : Option Pending). OnGiven (line_at Between r t line) (FitsNext t o line r Between)) (sym is) (opens t line r (between r.noflush t line) (between_is t r line))
 fits_at t pending line r Skipping fits is =
-    record { table = refl; fits = of_both (λ (p : Place). Fits t (pending_at p r.noflush line pending)) (is_commit line) tt tt }
+    record { table = refl; fits = of_both (λ (p : SectionState). Fits t (pending_at p r.noflush line pending)) (is_commit line) tt tt }
 fits_at t pending line r (Building s) fits is =
     let o : Pending = record { noflush = r.noflush; section = s; edits = is.0 } in
     let own : Fits t (Some o) = subst (Fits t) is.1 fits in
@@ -116,18 +116,18 @@ fits_at t pending line r (Building s) fits is =
     (as_next t (Some o) line r (Building s) (line_at (Building s) r t line)
     (fits_built t o line r (made_into (λ next. moved t r (Building next)) (line_in s line)) (is_commit line) own (builds t o line r (line_in s line) (fits_line t o line (line_in s line) own refl))))
 
-fits_read : (t : Table) (pending : Option Pending) (line : List ℕ) (r : Restore) → Fits t pending → IsPendingIn r.place r.noflush pending
-    → OnGiven (restore_line r t line) (FitsNext t pending line r r.place)
+fits_read : (t : Table) (pending : Option Pending) (line : List ℕ) (r : Restore) → Fits t pending → IsPendingIn r.state r.noflush pending
+    → OnGiven (restore_line r t line) (FitsNext t pending line r r.state)
 unfolding restore_line
 fits_read t pending line r fits is =
-    of_both {A = Result Restoring RestoreFault} (λ p. OnGiven p (FitsNext t pending line r r.place)) (is_too_long line) tt (fits_at t pending line r r.place fits is)
+    of_both {A = Result Restoring RestoreFault} (λ p. OnGiven p (FitsNext t pending line r r.state)) (is_too_long line) tt (fits_at t pending line r r.state fits is)
 
-follows_line : (s : Standing) (old new : TableView) (r next : Restore) (line : List ℕ) → old.table ≡ s.table → Fits s.table s.pending → IsPendingIn r.place r.noflush s.pending
+follows_line : (s : Standing) (old new : TableView) (r next : Restore) (line : List ℕ) → old.table ≡ s.table → Fits s.table s.pending → IsPendingIn r.state r.noflush s.pending
     → IsLine r line old new (Ok next) → Follows s (Reads r line (Ok next)) new
 follows_line s old new r next line is fits pending h =
     let given : restore_line r s.table line ≡ Ok (record { table = new.table; restore = next }) = subst (λ (t : Table). restore_line r t line ≡ Ok (let x : Restoring = record { table = new.table; restore = next } in x)) is (accepted_line r next line old new h) in
-    let came : FitsNext s.table s.pending line r r.place (record { table = new.table; restore = next }) = subst (λ (x : Result Restoring RestoreFault). OnGiven x (FitsNext s.table s.pending line r r.place)) given (fits_read s.table s.pending line r fits pending) in
-    record { table = came.table; fits = subst (λ (t : Table). Fits t (pending_at next.place r.noflush line s.pending)) came.table came.fits }
+    let came : FitsNext s.table s.pending line r r.state (record { table = new.table; restore = next }) = subst (λ (x : Result Restoring RestoreFault). OnGiven x (FitsNext s.table s.pending line r r.state)) given (fits_read s.table s.pending line r fits pending) in
+    record { table = came.table; fits = subst (λ (t : Table). Fits t (pending_at next.state r.noflush line s.pending)) came.table came.fits }
 
 -- all calls
 

@@ -6,25 +6,25 @@ use Rattle.rules.specs.declared.reading.fault.Refusal.TheVariants as refusal
 use Rattle.table.specs.edits.Edits.{Edit}
 use Rattle.restore.specs.Sequence.{made_into, refused_as}
 use Rattle.restore.specs.commands.Command.{Change, Command, CommandFault, OtherTable}
-use Rattle.restore.specs.commands.Heads.{Head, Reader, again, changing, edit_of, edits, followed, is_name_of, line_of, named, one_of}
-use Rattle.restore.specs.commands.Heads.{or_second, refused, table, value}
-use Rattle.restore.proofs.laws.commands.HeadLaws.{found}
+use Rattle.restore.specs.commands.CommandForms.{CommandForm, Reader, again, changing, edit_of, edits, followed, is_name_of, line_of, named, one_of}
+use Rattle.restore.specs.commands.CommandForms.{or_second, refused, table, value}
+use Rattle.restore.proofs.laws.commands.NameFormLaws.{found}
 
 -- two readers read the same: one an edit, the other the command that it is
 abbrev SameReader : Reader Edit → Reader Command → Type 0
 SameReader next more = (end : ℕ) (ws : List (List ℕ)) → made_into Change (next end ws) ≡ more end ws
 
--- a head found first, or among the others
-abbrev first_or : {A : Type 0} → Bool → Head A → Option (Head A) → Option (Head A)
+-- a form found first, or among the others
+abbrev first_or : {A : Type 0} → Bool → CommandForm A → Option (CommandForm A) → Option (CommandForm A)
 first_or b h o = if b then Some h else o
 
--- what follows the head that was found
-followed_changed : (o : Option (Head Edit)) → SameReader (followed o) (followed (option_map changing o))
+-- what follows the form that was found
+followed_changed : (o : Option (CommandForm Edit)) → SameReader (followed o) (followed (option_map changing o))
 followed_changed None end ws = refl
 followed_changed (Some h) end ws = refl
 
 -- one of the commands, or the table
-one_changed : (next : Reader Edit) (more : Reader Command) (hs : List (Head Edit))
+one_changed : (next : Reader Edit) (more : Reader Command) (hs : List (CommandForm Edit))
     → SameReader next more → SameReader (one_of (table next ∷ hs)) (one_of (table more ∷ map changing hs))
 one_changed next more hs same end [] = refl
 one_changed next more hs same end (w ∷ ws) =
@@ -42,22 +42,22 @@ value_changed next more same end [] = refl
 value_changed next more same end (w ∷ ws) = same w end ws
 
 -- what follows the table's name, which is `filter` or not
-abbrev named_by : {A : Type 0} → List (Head A) → Bool → Reader A
-named_by heads b = if b then one_of (again ∷ heads) else (λ end words. Err OtherTable)
+abbrev named_by : {A : Type 0} → List (CommandForm A) → Bool → Reader A
+named_by forms b = if b then one_of (again ∷ forms) else (λ end words. Err OtherTable)
 
 -- the table is named a second time
 abbrev repeated : {A : Type 0} → Reader A
 repeated = value (λ name end words. Err (refused refusal.RepeatedOption))
 
 -- a table's name
-named_changed : (hs : List (Head Edit)) (name : List ℕ) → SameReader (named hs name) (named (map changing hs) name)
+named_changed : (hs : List (CommandForm Edit)) (name : List ℕ) → SameReader (named hs name) (named (map changing hs) name)
 named_changed hs name end ws =
     elim (bytes_eq name (codes "filter")) as (λ b. made_into Change (named_by hs b end ws) ≡ named_by (map changing hs) b end ws) [
       | true ↦ one_changed repeated repeated hs (value_changed _ _ (λ w end ws. refl)) end ws
       | false ↦ refl
     ]
 
-line_changed : (hs : List (Head Edit)) → SameReader (line_of hs) (line_of (map changing hs))
+line_changed : (hs : List (CommandForm Edit)) → SameReader (line_of hs) (line_of (map changing hs))
 line_changed hs =
     one_changed (value (named hs)) (value (named (map changing hs))) hs
     (value_changed (named hs) (named (map changing hs)) (named_changed hs))

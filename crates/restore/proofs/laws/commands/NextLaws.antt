@@ -6,7 +6,7 @@ use Rattle.std.proofs.lemmas.List.{drop_all}
 use Rattle.std.proofs.lemmas.Option.{get_or_from_slice_get, slice_get_cases, slice_get_within}
 use Rattle.restore.specs.Sequence.{made_into}
 use Rattle.restore.specs.commands.Command.{CommandFault, WordCount}
-use Rattle.restore.specs.commands.Heads.{Reader, Word, if_fits◌then◌else◌, is_digits, takes}
+use Rattle.restore.specs.commands.CommandForms.{Reader, Word, if_fits◌then◌else◌, is_digits, takes}
 use Rattle.restore.specs.steps.Reading.{next_number, next_number_if_digits, next_or}
 
 -- the words from the place of a word on

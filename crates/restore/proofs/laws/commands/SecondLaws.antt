@@ -4,11 +4,11 @@ use Rattle.std.proofs.Common.{Option, Some, None, Result, is_some, option_map}
 use Rattle.std.proofs.lemmas.Bool.{cases_lt}
 use Rattle.std.proofs.lemmas.List.{drop-drop, drop_all, length-drop}
 use Rattle.restore.specs.commands.Command.{CommandFault}
-use Rattle.restore.specs.commands.Heads.{is_command, is_name_of, word_at}
+use Rattle.restore.specs.commands.CommandForms.{is_command, is_name_of, word_at}
 use Rattle.restore.specs.steps.Reading.{next_or, row_of}
-use Rattle.restore.specs.declared.command.head.Head as code
-use Rattle.restore.specs.declared.command.head.TheConstants.Head.{ALL}
-use Rattle.restore.proofs.laws.commands.HeadLaws.{found}
+use Rattle.restore.specs.declared.command.name.CommandName as code
+use Rattle.restore.specs.declared.command.name.TheConstants.CommandName.{ALL}
+use Rattle.restore.proofs.laws.commands.NameFormLaws.{found}
 use Rattle.restore.proofs.laws.commands.NextLaws.{word_of, word_there}
 
 -- how far behind the front of the words that are left, which are the last of the line, a place of the line is
@@ -40,7 +40,7 @@ is_some_later f None = refl
 is_some_later f (Some x) = refl
 
 -- a word names a command where one of the heads is found
-pub names_command : (w : List ℕ) (o : Option code.Head)
+pub names_command : (w : List ℕ) (o : Option code.CommandName)
     → o ≡ find (λ h. is_name_of w (row_of h)) ALL → is_some o ≡ is_command (Some w)
 names_command w o is =
     is_some_later row_of o ∙ ap is_some (ap (λ f. option_map row_of f) is ∙ sym (found row_of (is_name_of w) ALL))

@@ -3,17 +3,16 @@ use Rattle.std.proofs.Common.{◌≡◌, ℕ, ◌≤◌, Bool, true, false, cond
 use Rattle.rules.proofs.laws.printing.TextLaws.{bare-from}
 use Rattle.std.specs.Prelude.{Result, Ok, Err, codes, nat_lt, nat_le, All}
 use Rattle.std.specs.FinSet as set
-use Rattle.std.specs.List.{list_all}
-use Rattle.std.proofs.lemmas.Bool.{and_parts, cond-true, leb-true, ltb-true, le-ltb}
+use Rattle.std.proofs.lemmas.Bool.{and_parts, cond-true, leb-true, le-ltb}
 use Rattle.std.proofs.lemmas.List.{length-append}
 use Rattle.std.proofs.lemmas.List.Elements.{All-cons, All-nil}
 use Rattle.fields.specs.text.OneLine.{IsOneLine}
 use Rattle.fields.specs.text.Printed.{Shown, bare, IsBareWord, IsPrintable}
-use Rattle.fields.specs.text.Words.{is_bare, words_of}
+use Rattle.fields.specs.text.Words.{words_of}
 use Rattle.fields.specs.values.Name.{has_name_form, is_name, is_target_word, name_of}
 use Rattle.fields.proofs.laws.text.OneLineLaws.{found_line}
 use Rattle.fields.proofs.laws.text.PrintedLaws.{words_of-spaced_all}
-use Rattle.fields.proofs.laws.values.BareLaws.{is_bare_word, name_is_bare, some-bytes}
+use Rattle.fields.proofs.laws.values.BareLaws.{name_is_bare}
 use Rattle.rules.specs.printing.Printing.{rule_text}
 use Rattle.rules.specs.printing.RoundTrip.{IsListedLine}
 use Rattle.rules.specs.reading.Steps.{rule_of}
@@ -27,7 +26,7 @@ use Rattle.table.specs.declared.policy.Policy.{Policy}
 use Rattle.table.specs.declared.policy.Policy.TheVariants.{Accept, Drop}
 use Rattle.restore.specs.Sequence.{◌>>=◌, made_into, or_refused, refused_as}
 use Rattle.restore.specs.commands.Command.{CommandFault}
-use Rattle.restore.specs.commands.Heads.{edit_of, or_second, refused}
+use Rattle.restore.specs.commands.CommandForms.{edit_of, or_second, refused}
 use Rattle.restore.specs.listings.Listing.{policy_word}
 use Rattle.restore.specs.sections.Section.{RestoreFault, Command, OfTable, BadChainLine, DuplicateChainLine, LineTooLong, Quoting}
 use Rattle.restore.specs.sections.Section.{Section, Asked, asked, asked_by, asks_nothing}

@@ -150,7 +150,7 @@ closed_line q = refl
 
 -- the table in place at the end, between sections
 abbrev finished : Result Restoring RestoreFault → Result Table RestoreFault
-finished r = r >>= λ (s : Restoring). made_into (λ done. s.table) (ended_at s.restore.place)
+finished r = r >>= λ (s : Restoring). made_into (λ done. s.table) (ended_at s.restore.state)
 
 pub restores_as_equal : LinesOfRulesReadBack → TablesAreMadeByEdits → RestoresAsEqual
 restores_as_equal lines makes t s =

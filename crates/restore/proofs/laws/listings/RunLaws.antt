@@ -6,7 +6,7 @@ use Rattle.std.proofs.lemmas.List.{length-append}
 use Rattle.table.specs.chains.Table.{Table}
 use Rattle.restore.specs.Sequence.{◌>>=◌, made_into}
 use Rattle.restore.specs.sections.Section.{RestoreFault, LineTooLong, Section, inside, is_too_long, line_in, lines_in}
-use Rattle.restore.specs.sections.Restore.{Restore, Restoring, Place, Between, Building, committed, is_commit, line_at, moved, restore_line, restore_lines}
+use Rattle.restore.specs.sections.Restore.{Restore, Restoring, SectionState, Between, Building, committed, is_commit, line_at, moved, restore_line, restore_lines}
 
 -- a line is done in a section
 pub record IsDone (s : Section) (line : List ℕ) (next : Section) : Type 0 where
@@ -29,8 +29,8 @@ runs_in_section s last (x ∷ xs) (next, is, more) =
     ap (λ (q : Result Section RestoreFault). q >>= λ m. lines_in m xs) is.done ∙ runs_in_section next last xs more
 
 -- a restore stands there, with this table in place
-abbrev pub standing : Table → Place → Restoring
-standing t place = record { table = t; restore = record { noflush = false; test = false; place = place } }
+abbrev pub standing : Table → SectionState → Restoring
+standing t state = record { table = t; restore = record { noflush = false; test = false; state = state } }
 
 line_built : (t : Table) (s next : Section) (line : List ℕ) → IsDone s line next
     → restore_line (standing t (Building s)).restore t line ≡ Ok (standing t (Building next))

@@ -7,8 +7,8 @@ use Rattle.table.specs.declared.fault.TableFault.{TableFault}
 use Rattle.fields.specs.Refusals.{Refuses}
 use Rattle.restore.specs.Sequence.{◌>>=◌, Gives, made_into, refused_as}
 use Rattle.restore.specs.commands.Command as command
-use Rattle.restore.specs.commands.Command.{Change, CommandFault, IsApplied, ListRules}
-use Rattle.restore.specs.commands.Heads.{edit_of}
+use Rattle.restore.specs.commands.Command.{Change, CommandFault, IsApplied}
+use Rattle.restore.specs.commands.CommandForms.{edit_of}
 use Rattle.restore.specs.sections.Names.{Names}
 use Rattle.restore.specs.sections.Section.{Asked, Command, OfTable, RestoreFault, Section, asked_of_command, by_command, done, edited_by, is_counters, is_out_of_memory, without_counters}
 use Rattle.restore.proofs.laws.sections.ChainLaws.{stepped_of}

@@ -11,7 +11,7 @@ use Rattle.table.specs.declared.fault.TableFault.{TableFault}
 use Rattle.restore.specs.Sequence.{◌>>=◌, or_refused, refused_as}
 use Rattle.restore.specs.calls.Changes.{edit_asked}
 use Rattle.restore.specs.sections.Names.{Names}
-use Rattle.restore.specs.sections.Restore.{Place, Between, Skipping, Building, Restore, opening, between}
+use Rattle.restore.specs.sections.Restore.{SectionState, Between, Skipping, Building, Restore, opening, between}
 use Rattle.restore.specs.sections.Section as section
 use Rattle.restore.specs.sections.Section.{Asked, OfTable, Quoting, RestoreFault, begun, begins_with, is_quiet}
 
@@ -56,7 +56,7 @@ edits_asked b s es (Ok a) h = edits_one b s.table es a.edit (section.with_name a
 edits_asked b s es (Err f) h = tt
 
 -- a place after a line between sections: a section that is built was begun from the table
-abbrev pub IsBegun : Bool → Table → Place → Type 0
+abbrev pub IsBegun : Bool → Table → SectionState → Type 0
 IsBegun noflush t Between = Unit {0}
 IsBegun noflush t Skipping = Unit {0}
 IsBegun noflush t (Building s) = s ≡ begun noflush t

@@ -4,4 +4,4 @@ use Rattle.fields.proofs.laws.PlaceLaws.{any_is}
 use Rattle.restore.proofs.section.has_chain.Goals as goal
 
 pub returns : goal.returns
-returns c = c.is_some.ensures ∙ ap is_some c.place_of.ensures ∙ any_is (is_named c.args.name.now) c.args.table.now.table.chains
+returns c = c.is_some.ensures ∙ ap is_some c.index_of.ensures ∙ any_is (is_named c.args.name.now) c.args.table.now.table.chains

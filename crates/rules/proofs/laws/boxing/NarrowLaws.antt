@@ -17,16 +17,16 @@ use Rattle.fields.specs.declared.numbers.field.Field.TheVariants as field
 use Rattle.fields.specs.numbers.Field.{index, top}
 use Rattle.fields.specs.numbers.Spans.{SpanSet, has}
 use Rattle.rules.specs.declared.boxing.condition.Condition.{Condition}
-use Rattle.rules.specs.declared.rule.content.Match as drafted
+use Rattle.rules.specs.declared.rule.spec.Match as drafted
 use Rattle.rules.specs.steps.Views.{view_match, view_matches}
 use Rattle.rules.specs.declared.options.match_kind.MatchKind.{MatchKind}
-use Rattle.rules.specs.declared.options.setting.Setting.{Setting}
-use Rattle.rules.specs.rule.Allows.{is_on, same_field, setting_holds, setting_allows, fragment_allows, match_allows, allows}
+use Rattle.rules.specs.declared.options.option_value.OptionValue.{OptionValue}
+use Rattle.rules.specs.rule.Allows.{is_on, same_field, option_value_holds, option_value_allows, fragment_allows, match_allows, allows}
 use Rattle.rules.specs.boxing.Boxed.{IsBox, set_on, AreSetsOf, IsBoxOf}
 use Rattle.rules.specs.steps.Conditions.{Asks, HasAllNumbers, Narrows, condition_allows}
 use Rattle.rules.specs.options.Matches.{match_row}
 use Rattle.rules.specs.rule.Rules.{Match, Rule}
-use Rattle.rules.proofs.laws.boxing.BoxLaws.{index-lt, here_is, top_at, box_long}
+use Rattle.rules.proofs.laws.boxing.BoxLaws.{index-lt, top_at, box_long}
 
 abbrev Test : Type 0
 Test = Field → ℕ → Bool
@@ -108,11 +108,11 @@ asked_alike on passes c h f x le =
     same_allowed f c.field x (has c.set.intervals x) (passes x) le (h.2 x) ∙ ap (λ o. cond (is_on f o) (passes x) true) (sym h.0)
 
 -- what an option asks, if it asks
-pub narrows_asked : {E : Type 0} (s : Setting) (on : Option Field) (asked : Option Condition) (c : Condition) (old new : List SpanSet) (r : Result (Unit {0}) E) → Asks on (setting_holds s) asked → asked ≡ Some c
-    → OnOk r (Narrows (λ f x. condition_allows f x c) old new) → OnOk r (Narrows (λ f x. cond (is_on f on) (setting_holds s x) true) old new)
+pub narrows_asked : {E : Type 0} (s : OptionValue) (on : Option Field) (asked : Option Condition) (c : Condition) (old new : List SpanSet) (r : Result (Unit {0}) E) → Asks on (option_value_holds s) asked → asked ≡ Some c
+    → OnOk r (Narrows (λ f x. condition_allows f x c) old new) → OnOk r (Narrows (λ f x. cond (is_on f on) (option_value_holds s x) true) old new)
 narrows_asked s on asked c old new r h e n =
-    let A : Option Condition → Type 0 = λ o. Asks on (setting_holds s) o in
-    on_ok_weaker r (narrows_alike (λ f x. condition_allows f x c) (λ f x. cond (is_on f on) (setting_holds s x) true) old new (asked_alike on (setting_holds s) c (subst A e h))) n
+    let A : Option Condition → Type 0 = λ o. Asks on (option_value_holds s) o in
+    on_ok_weaker r (narrows_alike (λ f x. condition_allows f x c) (λ f x. cond (is_on f on) (option_value_holds s x) true) old new (asked_alike on (option_value_holds s) c (subst A e h))) n
 
 -- no number but 0 is from 0 to 0
 zero_alone : (x : ℕ) → (leb 0 x && leb x 0) ≡ eqb x 0
@@ -131,11 +131,11 @@ narrows_fragment k first old new r is members n =
     (λ f x le. fragment_alike (match_row k).asks_fragment (same_field f field.Fragment) (has first.intervals x) (eqb x 0) is (members x ∙ zero_alone x))) n
 
 -- a match: a first fragment where it asks for one, and its options
-pub narrows_match : {E : Type 0} (m : drafted.Match) (settings : List Setting) (a b c : List SpanSet) (r : Result (Unit {0}) E) → settings ≡ m.settings.items
-    → Narrows (λ f x. fragment_allows f x m.kind) a b → OnOk r (Narrows (λ f x. list_all (setting_allows f x) settings) b c) → OnOk r (Narrows (λ f x. match_allows f x (view_match m)) a c)
-narrows_match m settings a b c r same n =
-    on_ok_weaker r (λ k. narrows_both (λ f x. fragment_allows f x m.kind) (λ f x. list_all (setting_allows f x) m.settings.items) a b c n
-    (narrows_alike (λ f x. list_all (setting_allows f x) settings) (λ f x. list_all (setting_allows f x) m.settings.items) b c (λ f x _. ap (list_all (setting_allows f x)) same) k))
+pub narrows_match : {E : Type 0} (m : drafted.Match) (option_values : List OptionValue) (a b c : List SpanSet) (r : Result (Unit {0}) E) → option_values ≡ m.option_values.items
+    → Narrows (λ f x. fragment_allows f x m.kind) a b → OnOk r (Narrows (λ f x. list_all (option_value_allows f x) option_values) b c) → OnOk r (Narrows (λ f x. match_allows f x (view_match m)) a c)
+narrows_match m option_values a b c r same n =
+    on_ok_weaker r (λ k. narrows_both (λ f x. fragment_allows f x m.kind) (λ f x. list_all (option_value_allows f x) m.option_values.items) a b c n
+    (narrows_alike (λ f x. list_all (option_value_allows f x) option_values) (λ f x. list_all (option_value_allows f x) m.option_values.items) b c (λ f x _. ap (list_all (option_value_allows f x)) same) k))
 
 pub narrows_viewed : (ms : List drafted.Match) (a b : List SpanSet) → Narrows (λ f x. list_all (λ m. match_allows f x (view_match m)) ms) a b → Narrows (λ f x. list_all (match_allows f x) (view_matches ms)) a b
 narrows_viewed ms a b n =
@@ -173,11 +173,11 @@ module _ (spans : List SpanSet) (long : length spans ≡ FIELDS) (whole : (k : �
       w.members x ∙ le-leb x (get_or spans (index f) (record { top = 0; intervals = [] })).top (omega (arith, w.top, top_at f))
 
 -- the box of a rule
-pub box_of_rule : (r rule : Rule) (settings : List Setting) (a b c : List SpanSet) → r ≡ rule → settings ≡ r.settings → AreSetsOf (λ _ _. true) a → Narrows (λ f x. list_all (setting_allows f x) settings) a b
+pub box_of_rule : (r rule : Rule) (option_values : List OptionValue) (a b c : List SpanSet) → r ≡ rule → option_values ≡ r.option_values → AreSetsOf (λ _ _. true) a → Narrows (λ f x. list_all (option_value_allows f x) option_values) a b
     → (matches : List Match) → matches ≡ r.matches → Narrows (λ f x. list_all (match_allows f x) matches) b c → IsBoxOf rule c
 unfolding allows
-box_of_rule r rule settings a b c same own sets n matches held m f x le =
-    m (λ g y. true && list_all (setting_allows g y) settings) (n (λ _ _. true) sets) f x le
-    ∙ ap (λ ss. list_all (setting_allows f x) ss && list_all (match_allows f x) matches) own
-    ∙ ap (λ ms. list_all (setting_allows f x) r.settings && list_all (match_allows f x) ms) held
+box_of_rule r rule option_values a b c same own sets n matches held m f x le =
+    m (λ g y. true && list_all (option_value_allows g y) option_values) (n (λ _ _. true) sets) f x le
+    ∙ ap (λ ss. list_all (option_value_allows f x) ss && list_all (match_allows f x) matches) own
+    ∙ ap (λ ms. list_all (option_value_allows f x) r.option_values && list_all (match_allows f x) ms) held
     ∙ ap (λ q. allows q f x) same

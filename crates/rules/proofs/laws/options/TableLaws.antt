@@ -9,7 +9,7 @@ use Rattle.std.proofs.lemmas.Bool.{and_parts}
 use Rattle.fields.specs.text.Printed.{Shown}
 use Rattle.rules.specs.options.Matches.{all_kinds, kind_of, kind_name}
 use Rattle.rules.specs.options.Options.{all_options, option_of, name_of, value_count}
-use Rattle.rules.specs.options.Settings.{option_of_value}
+use Rattle.rules.specs.options.OptionValues.{option_of_value}
 use Rattle.rules.specs.printing.Printing.{shown_value}
 use Rattle.rules.specs.declared.options.match_kind.MatchKind.{MatchKind}
 use Rattle.rules.specs.declared.options.match_kind.MatchKind.TheVariants as kind

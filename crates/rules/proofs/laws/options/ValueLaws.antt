@@ -2,7 +2,6 @@
 use Rattle.std.proofs.Common.{◌≡◌, ℕ, ◌+◌, ◌*◌, ◌<◌, ◌≤◌, ◌==◌, Bool, true, false, cond, ◌&&◌, List, [], ◌∷◌, length, Option, None, Some, refl, sym, ap, subst, ◌∙◌, arith, append-nil, length-append, le-ltb}
 use Rattle.fields.proofs.laws.packet.PacketLaws.{interface_is_text}
 use Rattle.rules.proofs.laws.printing.TextLaws.{word-more}
-use Prim.Native.Nat.{zero, suc}
 use Rattle.std.specs.Prelude.{Result, Ok, Err, nat_lt}
 use Rattle.fields.specs.Sequence as options
 use Rattle.fields.specs.values.ConnectionState.{ctstate_of, state_of, states_text}
@@ -15,7 +14,7 @@ use Rattle.fields.specs.values.PortList.{port_list_of, port_list_text}
 use Rattle.fields.specs.values.PortRange.{port_range_of, ports_text}
 use Rattle.fields.specs.values.Prefix.{prefix_of, prefix_text}
 use Rattle.fields.specs.text.OneLine.{IsOneLine}
-use Rattle.fields.specs.text.Printed.{Shown, bare, as_text, spaced, spaced_all, IsPrintable, ArePrintable}
+use Rattle.fields.specs.text.Printed.{bare, as_text, spaced, spaced_all, ArePrintable}
 use Rattle.fields.specs.values.Protocol.{protocol_of, protocol_text}
 use Rattle.fields.specs.values.RejectType.{reject_of, reject_text}
 use Rattle.fields.specs.values.TcpFlags.{tcp_flags_of, tcp_flags_text}
@@ -39,7 +38,7 @@ use Rattle.fields.proofs.laws.values.TcpFlagsLaws.{known}
 use Rattle.fields.proofs.laws.values.TtlLaws as ttl
 use Rattle.rules.specs.Sequence.{◌>>=◌, or_refused}
 use Rattle.rules.specs.options.Options.{first_of, may_be_inverted, owner, slot}
-use Rattle.rules.specs.options.Settings.{option_of_value, read_as, text_as, text_within, with_opposite, value_of}
+use Rattle.rules.specs.options.OptionValues.{option_of_value, read_as, text_as, text_within, with_opposite, value_of}
 use Rattle.rules.specs.printing.Printing.{one, shown_value}
 use Rattle.rules.specs.declared.reading.fault.Refusal.{Refusal}
 use Rattle.rules.specs.declared.reading.fault.Refusal.TheVariants as refusal

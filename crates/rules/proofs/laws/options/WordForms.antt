@@ -1,7 +1,6 @@
 -- What values are once they are read: valid, with a text that is one short word.
 use Prim.Native.Nat.{suc}
 use Rattle.fields.proofs.laws.values.PortListLaws.{between-ports}
-use Rattle.fields.proofs.laws.packet.PacketLaws.{interface_is_text}
 use Rattle.std.proofs.Common.{◌≡◌, ℕ, ◌+◌, ◌-◌, ◌*◌, ◌/◌, ◌%◌, ◌^◌, ◌<◌, ◌≤◌, ◌==◌, Bool, true, false, cond, not, ◌&&◌, ◌||◌, List, [], ◌∷◌, ◌++◌, length, flat_map, Option, None, Some, refl, sym, ap, subst, ◌∙◌, arith, length-append}
 use Rattle.std.specs.Prelude.{decimal, codes, nat_lt, nat_le, sum_by, find, option_map, All}
 use Rattle.std.specs.Int.RustNames.{bit_and}
@@ -17,7 +16,7 @@ use Rattle.fields.specs.Sequence.{◌>>=◌}
 use Rattle.fields.specs.values.ConnectionState.{ctstate_of, state_of, untranslated, IsStates, states_text}
 use Rattle.fields.specs.text.Cut.{cut_at}
 use Rattle.fields.specs.values.Icmp.{IsAsked, icmp_text}
-use Rattle.fields.specs.values.Interface.{interface_of, is_interface}
+use Rattle.fields.specs.values.Interface.{interface_of}
 use Rattle.fields.specs.values.IpRange.{Ends, AreEnds, ends_parted, ip_range_of, ip_range_text}
 use Rattle.fields.specs.values.LogLevel.{log_level_text}
 use Rattle.fields.specs.values.Name.{is_name, has_name_form, is_target_word, name_of}

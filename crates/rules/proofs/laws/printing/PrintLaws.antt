@@ -6,13 +6,13 @@ use Rattle.fields.specs.text.Printed.{Shown, bare, spaced, spaced_all}
 use Rattle.fields.specs.values.TcpFlags.{tcp_flags_text}
 use Rattle.rules.specs.options.Matches.{kind_name}
 use Rattle.rules.specs.options.Options.{name_of}
-use Rattle.rules.specs.options.Settings.{option_of_value}
+use Rattle.rules.specs.options.OptionValues.{option_of_value}
 use Rattle.rules.specs.rule.Rules.{Match, Rule}
-use Rattle.rules.specs.printing.Printing.{shown_value, shown_bang, shown_setting, shown_settings, shown_match, shown_action, rule_text}
-use Rattle.rules.specs.steps.Writing.{has_words, value_text, setting_text, start_text, match_text, action_text}
+use Rattle.rules.specs.printing.Printing.{shown_value, shown_bang, shown_option_value, shown_option_values, shown_match, shown_action, rule_text}
+use Rattle.rules.specs.steps.Writing.{has_words, value_text, option_value_text, start_text, match_text, action_text}
 use Rattle.rules.specs.steps.Views as views
-use Rattle.rules.specs.declared.rule.content.Match as code
-use Rattle.rules.specs.declared.options.setting.Setting.{Setting}
+use Rattle.rules.specs.declared.rule.spec.Match as code
+use Rattle.rules.specs.declared.options.option_value.OptionValue.{OptionValue}
 use Rattle.rules.specs.declared.options.value.Value.{Value}
 use Rattle.rules.specs.declared.options.value.Value.TheVariants as value
 
@@ -29,18 +29,18 @@ value-written value.LogIpOptions h = absurd (cc)
 value-written value.LogUid h = absurd (cc)
 value-written v h = append-nil (32 ∷ value_text v)
 
-pub setting-parts : (s : Setting) → setting_text s ≡ spaced_all (shown_bang s.inverted) ++ (spaced (bare (name_of (option_of_value s.value))) ++ spaced_all (shown_value s.value))
-setting-parts s = spaced_all-append (shown_bang s.inverted) (bare (name_of (option_of_value s.value)) ∷ shown_value s.value)
+pub option_value-parts : (s : OptionValue) → option_value_text s ≡ spaced_all (shown_bang s.inverted) ++ (spaced (bare (name_of (option_of_value s.value))) ++ spaced_all (shown_value s.value))
+option_value-parts s = spaced_all-append (shown_bang s.inverted) (bare (name_of (option_of_value s.value)) ∷ shown_value s.value)
 
-settings-text : (ss : List Setting) → spaced_all (shown_settings ss) ≡ flat_map setting_text ss
-settings-text [] = refl
-settings-text (s ∷ ss) = spaced_all-append (shown_setting s) (shown_settings ss) ∙ ap (λ l. setting_text s ++ l) (settings-text ss)
+option_values-text : (ss : List OptionValue) → spaced_all (shown_option_values ss) ≡ flat_map option_value_text ss
+option_values-text [] = refl
+option_values-text (s ∷ ss) = spaced_all-append (shown_option_value s) (shown_option_values ss) ∙ ap (λ l. option_value_text s ++ l) (option_values-text ss)
 
 match-text : (m : Match) → spaced_all (shown_match m) ≡ match_text m
 unfolding start_text
 match-text m =
-    ap (λ l. spaced (bare (codes "-m")) ++ (spaced (bare (kind_name m.kind)) ++ l)) (settings-text m.settings)
-    ∙ sym (append_assoc (spaced (bare (codes "-m"))) (spaced (bare (kind_name m.kind))) (flat_map setting_text m.settings))
+    ap (λ l. spaced (bare (codes "-m")) ++ (spaced (bare (kind_name m.kind)) ++ l)) (option_values-text m.option_values)
+    ∙ sym (append_assoc (spaced (bare (codes "-m"))) (spaced (bare (kind_name m.kind))) (flat_map option_value_text m.option_values))
 
 matches-text : (ms : List code.Match) → spaced_all (flat_map shown_match (views.view_matches ms)) ≡ flat_map (λ m. match_text (views.view_match m)) ms
 matches-text [] = refl
@@ -50,18 +50,18 @@ matches-text (m ∷ ms) =
     ∙ ap (λ l. match_text (views.view_match m) ++ l) (matches-text ms)
 
 -- the text of a rule, part by part
-pub rule_text-parts : (r : Rule) (settings : List Setting) (ms : List code.Match) (target_options : List Setting) → settings ≡ r.settings → views.view_matches ms ≡ r.matches → target_options ≡ r.target_options
-    → rule_text r ≡ flat_map setting_text settings ++ (flat_map (λ m. match_text (views.view_match m)) ms ++ (action_text r.action ++ flat_map setting_text target_options))
-rule_text-parts r settings ms target_options is-settings is-matches is-target_options =
-    let a = shown_settings r.settings in
+pub rule_text-parts : (r : Rule) (option_values : List OptionValue) (ms : List code.Match) (target_options : List OptionValue) → option_values ≡ r.option_values → views.view_matches ms ≡ r.matches → target_options ≡ r.target_options
+    → rule_text r ≡ flat_map option_value_text option_values ++ (flat_map (λ m. match_text (views.view_match m)) ms ++ (action_text r.action ++ flat_map option_value_text target_options))
+rule_text-parts r option_values ms target_options is-option_values is-matches is-target_options =
+    let a = shown_option_values r.option_values in
     let b = flat_map shown_match r.matches in
     let c = shown_action r.action in
-    let d = shown_settings r.target_options in
-    let first = settings-text r.settings ∙ ap (flat_map setting_text) (sym is-settings) in
+    let d = shown_option_values r.target_options in
+    let first = option_values-text r.option_values ∙ ap (flat_map option_value_text) (sym is-option_values) in
     let second = ap (λ ns. spaced_all (flat_map shown_match ns)) (sym is-matches) ∙ matches-text ms in
-    let last = settings-text r.target_options ∙ ap (flat_map setting_text) (sym is-target_options) in
+    let last = option_values-text r.target_options ∙ ap (flat_map option_value_text) (sym is-target_options) in
     spaced_all-append a (b ++ (c ++ d))
     ∙ ap (λ l. spaced_all a ++ l) (spaced_all-append b (c ++ d) ∙ ap (λ l. spaced_all b ++ l) (spaced_all-append c d))
     ∙ ap (λ l. l ++ (spaced_all b ++ (spaced_all c ++ spaced_all d))) first
-    ∙ ap (λ l. flat_map setting_text settings ++ (l ++ (spaced_all c ++ spaced_all d))) second
-    ∙ ap (λ l. flat_map setting_text settings ++ (flat_map (λ m. match_text (views.view_match m)) ms ++ (spaced_all c ++ l))) last
+    ∙ ap (λ l. flat_map option_value_text option_values ++ (l ++ (spaced_all c ++ spaced_all d))) second
+    ∙ ap (λ l. flat_map option_value_text option_values ++ (flat_map (λ m. match_text (views.view_match m)) ms ++ (spaced_all c ++ l))) last

@@ -8,12 +8,12 @@ use Rattle.fields.specs.text.Printed.{Shown}
 use Rattle.rules.specs.Sequence.{◌>>=◌, or_refused}
 use Rattle.rules.specs.options.Matches.{kind_name}
 use Rattle.rules.specs.options.Options.{name_of, owner, value_count, is_match_of}
-use Rattle.rules.specs.options.Settings.{option_of_value, slot_of}
+use Rattle.rules.specs.options.OptionValues.{option_of_value, slot_of}
 use Rattle.rules.specs.rule.Actions.{action_of, jump_to, is_action_of}
 use Rattle.fields.specs.values.Name as chain
 use Rattle.rules.specs.rule.Rules.{Match, Rule, empty_rule}
-use Rattle.rules.specs.printing.Printing.{shown_value, shown_settings, shown_match, shown_action, shown_rule}
-use Rattle.rules.specs.reading.Steps.{with_option, with_match, with_jump, with_goto, step, owned_step, with_settings, with_matches, with_action, with_target_options, last_with, match_for, at_match_or_new, with_option_at, no_match, has_goto, has_jump, with_needs_met, unless_unmet, rule_of}
+use Rattle.rules.specs.printing.Printing.{shown_value, shown_option_values, shown_match, shown_action, shown_rule}
+use Rattle.rules.specs.reading.Steps.{with_option, with_match, with_jump, with_goto, step, owned_step, with_option_values, with_matches, with_action, with_target_options, last_with, match_for, at_match_or_new, with_option_at, no_match, has_goto, has_jump, with_needs_met, unless_unmet, rule_of}
 use Rattle.rules.specs.reading.OptionWords.{OptionWords}
 use Rattle.rules.specs.rule.Needs.{unmet}
 use Rattle.rules.proofs.laws.reading.Readable.{ReadsBack, Each, OfRule, OfMatch, OfAction, ActionBack, IsMatch, IsLegal, IsReadable}
@@ -26,7 +26,7 @@ use Rattle.rules.specs.declared.options.option.Owner.{Owner}
 use Rattle.rules.specs.declared.options.option.Extended.{Extended}
 use Rattle.rules.specs.declared.options.option.MatchKinds.{MatchKinds}
 use Rattle.rules.specs.declared.options.match_kind.MatchKind.{MatchKind}
-use Rattle.rules.specs.declared.options.setting.Setting.{Setting}
+use Rattle.rules.specs.declared.options.option_value.OptionValue.{OptionValue}
 use Rattle.rules.specs.declared.rule.action.Action.{Action}
 use Rattle.rules.specs.declared.rule.action.Action.TheVariants as action
 use Rattle.std.specs.Str.{bytes_eq}
@@ -35,7 +35,7 @@ use Rattle.rules.proofs.laws.options.WordForms.{name-form}
 use Rattle.rules.proofs.laws.options.TableLaws.{plain, kind_of-kind_name}
 use Rattle.rules.proofs.laws.reading.OptionWordsLaws.{the_option_words, option_words_at-words_of_option, Continues, continues-nothing, continues-then, continues-option}
 use Rattle.rules.proofs.laws.reading.StepLaws.{last_with-end}
-use Rattle.rules.proofs.laws.reading.GroupLaws.{Below, with_option-end, settings-read}
+use Rattle.rules.proofs.laws.reading.GroupLaws.{Below, with_option-end, option_values-read}
 
 false-true : false ≡ true → ⊥
 false-true e = cc
@@ -60,50 +60,50 @@ matches-of owned.Jump k h = absurd (false-true h)
 matches-of owned.Goto k h = absurd (false-true h)
 matches-of (owned.Target t) k h = absurd (false-true h)
 
--- the part of a setting
-abbrev of-setting : Setting → ℕ → OptionWords
-of-setting s place = the_option_words s.inverted (option_of_value s.value) (plain (shown_value s.value)) place
+-- the part of an option value
+abbrev of-option_value : OptionValue → ℕ → OptionWords
+of-option_value s place = the_option_words s.inverted (option_of_value s.value) (plain (shown_value s.value)) place
 
-takes-own : (r : Rule) (ss : List Setting) (s : Setting) (place : ℕ) → owner (option_of_value s.value) ≡ owned.Rule → Below (slot_of s) ss → ReadsBack s
-    → step (with_settings r ss) (of-setting s place) ≡ Ok (with_settings r (ss ++ s ∷ []))
+takes-own : (r : Rule) (ss : List OptionValue) (s : OptionValue) (place : ℕ) → owner (option_of_value s.value) ≡ owned.Rule → Below (slot_of s) ss → ReadsBack s
+    → step (with_option_values r ss) (of-option_value s place) ≡ Ok (with_option_values r (ss ++ s ∷ []))
 unfolding step
 takes-own r ss s place owns below back =
-    ap (λ w. owned_step w (with_settings r ss) (of-setting s place)) owns ∙ ap (λ q. q >>= λ l. Ok (with_settings r l)) (with_option-end ss s place below back)
+    ap (λ w. owned_step w (with_option_values r ss) (of-option_value s place)) owns ∙ ap (λ q. q >>= λ l. Ok (with_option_values r l)) (with_option-end ss s place below back)
 
-takes-target-option : (r : Rule) (ss : List Setting) (s : Setting) (place : ℕ) → OfAction r.action (owner (option_of_value s.value)) → Below (slot_of s) ss → ReadsBack s
-    → step (with_target_options r ss) (of-setting s place) ≡ Ok (with_target_options r (ss ++ s ∷ []))
+takes-target-option : (r : Rule) (ss : List OptionValue) (s : OptionValue) (place : ℕ) → OfAction r.action (owner (option_of_value s.value)) → Below (slot_of s) ss → ReadsBack s
+    → step (with_target_options r ss) (of-option_value s place) ≡ Ok (with_target_options r (ss ++ s ∷ []))
 unfolding step
 takes-target-option r ss s place owns below back =
-    let p = of-setting s place in
+    let p = of-option_value s place in
     let (t, is) = extended-of r.action (owner (option_of_value s.value)) owns in
     ap (λ w. owned_step w (with_target_options r ss) p) is ∙ ap (λ b. cond b (with_option ss p >>= λ l. Ok (with_target_options r l)) (Err refusal.OtherTarget)) owns
     ∙ ap (λ q. q >>= λ l. Ok (with_target_options r l)) (with_option-end ss s place below back)
 
 -- the last match, with these options
-abbrev at-end : List Match → MatchKind → List Setting → List Match
-at-end ms k ss = ms ++ record { kind = k; settings = ss } ∷ []
+abbrev at-end : List Match → MatchKind → List OptionValue → List Match
+at-end ms k ss = ms ++ record { kind = k; option_values = ss } ∷ []
 
-takes-match : (r : Rule) (ms : List Match) (k : MatchKind) (ss : List Setting) (s : Setting) (place : ℕ)
+takes-match : (r : Rule) (ms : List Match) (k : MatchKind) (ss : List OptionValue) (s : OptionValue) (place : ℕ)
     → is_match_of (owner (option_of_value s.value)) k ≡ true → Below (slot_of s) ss → ReadsBack s
-    → step (with_matches r (at-end ms k ss)) (of-setting s place) ≡ Ok (with_matches r (at-end ms k (ss ++ s ∷ [])))
+    → step (with_matches r (at-end ms k ss)) (of-option_value s place) ≡ Ok (with_matches r (at-end ms k (ss ++ s ∷ [])))
 unfolding step match_for with_option_at
 takes-match r ms k ss s place owns below back =
-    let p = of-setting s place in
+    let p = of-option_value s place in
     let R = with_matches r (at-end ms k ss) in
-    let m : Match = record { kind = k; settings = ss } in
+    let m : Match = record { kind = k; option_values = ss } in
     let next : Rule × ℕ → Result Rule Refusal = λ x. with_option_at x.0.matches x.1 p >>= λ l. Ok (with_matches x.0 l) in
     let (ks, is) = matches-of (owner (option_of_value s.value)) k owns in
     let found = last_with-end p.option ms m ∙ ap (λ b. cond b (Some (length ms)) (last_with p.option ms)) owns in
-    let put : Match → Result (List Match) Refusal = λ y. with_option y.settings p >>= λ l. Ok (set (at-end ms k ss) (length ms) (record { kind = y.kind; settings = l })) in
+    let put : Match → Result (List Match) Refusal = λ y. with_option y.option_values p >>= λ l. Ok (set (at-end ms k ss) (length ms) (record { kind = y.kind; option_values = l })) in
     ap (λ w. owned_step w R p) is
     ∙ ap (λ o. at_match_or_new R p o >>= next) found
     ∙ ap (λ y. put y >>= λ l. Ok (with_matches R l)) (get_or-append_seam ms m [] no_match)
-    ∙ ap (λ q. (q >>= λ l. Ok (set (at-end ms k ss) (length ms) (record { kind = k; settings = l }))) >>= λ l. Ok (with_matches R l)) (with_option-end ss s place below back)
-    ∙ ap (λ l. Ok (with_matches R l)) (set-append_seam ms m [] (record { kind = k; settings = ss ++ s ∷ [] }))
+    ∙ ap (λ q. (q >>= λ l. Ok (set (at-end ms k ss) (length ms) (record { kind = k; option_values = l }))) >>= λ l. Ok (with_matches R l)) (with_option-end ss s place below back)
+    ∙ ap (λ l. Ok (with_matches R l)) (set-append_seam ms m [] (record { kind = k; option_values = ss ++ s ∷ [] }))
 
 -- the rule with this target, or as it is
 abbrev with_given : Rule → Option Action → Rule
-with_given r t = record { settings = r.settings; matches = r.matches; action = t; target_options = r.target_options }
+with_given r t = record { option_values = r.option_values; matches = r.matches; action = t; target_options = r.target_options }
 
 -- `-j` and `-g`, by the target that was given before
 abbrev jumps : Rule → Option Action → Option Action → Result Rule Refusal
@@ -154,12 +154,12 @@ module _ (end : ℕ) where
       subst (λ l. Continues end (with_matches r before) rest (with_matches r l) rest) (sym (append-nil before)) (continues-nothing end (with_matches r before) rest)
   matches-read r before (m ∷ ms) rest few are =
       let tail = plain (flat_map shown_match ms) ++ rest in
-      let own = plain (shown_settings m.settings) in
+      let own = plain (shown_option_values m.option_values) in
       let words : plain (flat_map shown_match (m ∷ ms)) ++ rest ≡ codes "-m" ∷ (kind_name m.kind ∷ (own ++ tail)) =
       ap (λ l. l ++ rest) (map-append (λ (w : Shown). w.word) (shown_match m) (flat_map shown_match ms))
       ∙ append_assoc (codes "-m" ∷ (kind_name m.kind ∷ own)) (plain (flat_map shown_match ms)) rest in
       let begun = starts r before m.kind (own ++ tail) (omega arith) in
-      let inside = settings-read end (OfMatch m) (λ ss. with_matches r (at-end before m.kind ss)) (takes-match r before m.kind) m.settings tail are.0 in
+      let inside = option_values-read end (OfMatch m) (λ ss. with_matches r (at-end before m.kind ss)) (takes-match r before m.kind) m.option_values tail are.0 in
       let later = matches-read r (before ++ m ∷ []) ms rest (omega (arith, length-append before (m ∷ []))) are.1 in
       let all = continues-then end (with_matches r before) (with_matches r (at-end before m.kind [])) (with_matches r ((before ++ m ∷ []) ++ ms)) (codes "-m" ∷ (kind_name m.kind ∷ (own ++ tail))) (own ++ tail) rest begun
       (continues-then end (with_matches r (at-end before m.kind [])) (with_matches r (before ++ m ∷ [])) (with_matches r ((before ++ m ∷ []) ++ ms)) (own ++ tail) tail rest inside later) in
@@ -195,31 +195,31 @@ module _ (end : ℕ) where
       (λ place. ap (goes r (chain.name_of name)) none ∙ ap (λ o. or_refused refusal.BadValue o >>= λ n. Ok (with_action r (action.Goto n))) back)
 
   words-of-rule : (r : Rule)
-      → plain (shown_rule r) ≡ plain (shown_settings r.settings) ++ (plain (flat_map shown_match r.matches) ++ (plain (shown_action r.action) ++ (plain (shown_settings r.target_options) ++ [])))
+      → plain (shown_rule r) ≡ plain (shown_option_values r.option_values) ++ (plain (flat_map shown_match r.matches) ++ (plain (shown_action r.action) ++ (plain (shown_option_values r.target_options) ++ [])))
   words-of-rule r =
       let word = λ (w : Shown). w.word in
-      let a = shown_settings r.settings in
+      let a = shown_option_values r.option_values in
       let b = flat_map shown_match r.matches in
       let c = shown_action r.action in
-      let d = shown_settings r.target_options in
+      let d = shown_option_values r.target_options in
       map-append word a (b ++ (c ++ d)) ∙ ap (λ l. plain a ++ l) (map-append word b (c ++ d) ∙ ap (λ l. plain b ++ l) (map-append word c d ∙ ap (λ l. plain c ++ l) (sym (append-nil (plain d)))))
 
   -- all words of a rule
   rule-words : (r : Rule) → IsLegal r → Continues end empty_rule (plain (shown_rule r)) r []
   rule-words r has =
       let few = has.few in
-      let d = plain (shown_settings r.target_options) ++ [] in
+      let d = plain (shown_option_values r.target_options) ++ [] in
       let c = plain (shown_action r.action) ++ d in
       let b = plain (flat_map shown_match r.matches) ++ c in
-      let one = with_settings empty_rule r.settings in
+      let one = with_option_values empty_rule r.option_values in
       let two = with_matches one r.matches in
       let three = with_given two r.action in
       let four = with_target_options three r.target_options in
-      let first = settings-read end OfRule (with_settings empty_rule) (takes-own empty_rule) r.settings b has.settings in
+      let first = option_values-read end OfRule (with_option_values empty_rule) (takes-own empty_rule) r.option_values b has.option_values in
       let second = matches-read one [] r.matches c (omega arith) has.matches in
       let third = action-read two r.action d refl has.action in
-      let fourth = settings-read end (OfAction r.action) (with_target_options three) (takes-target-option three) r.target_options [] has.target_options in
-      let all = continues-then end empty_rule one four (plain (shown_settings r.settings) ++ b) b [] first
+      let fourth = option_values-read end (OfAction r.action) (with_target_options three) (takes-target-option three) r.target_options [] has.target_options in
+      let all = continues-then end empty_rule one four (plain (shown_option_values r.option_values) ++ b) b [] first
       (continues-then end one two four b c [] second (continues-then end two three four c d [] third fourth)) in
       subst (λ l. Continues end empty_rule l r []) (sym (words-of-rule r)) all
 

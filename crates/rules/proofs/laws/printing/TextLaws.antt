@@ -15,10 +15,10 @@ use Rattle.fields.proofs.laws.values.BareLaws.{some-bytes, is_bare_word}
 use Rattle.fields.proofs.laws.text.PrintedLaws.{words_of-spaced_all}
 use Rattle.rules.specs.options.Matches.{kind_name}
 use Rattle.rules.specs.options.Options.{all_options, name_of, may_be_inverted, owner, slot, kind_has}
-use Rattle.rules.specs.options.Settings.{option_of_value, slot_of}
+use Rattle.rules.specs.options.OptionValues.{option_of_value, slot_of}
 use Rattle.rules.specs.rule.Actions.{is_action_of}
 use Rattle.rules.specs.rule.Rules.{Match, Rule}
-use Rattle.rules.specs.printing.Printing.{one, shown_value, shown_bang, shown_setting, shown_settings, shown_match, shown_action, shown_rule, rule_text}
+use Rattle.rules.specs.printing.Printing.{one, shown_value, shown_bang, shown_option_value, shown_option_values, shown_match, shown_action, shown_rule, rule_text}
 use Rattle.rules.specs.declared.rule.action.Action.{Action}
 use Rattle.rules.specs.declared.rule.action.Action.TheVariants as action
 use Rattle.rules.specs.declared.options.match_kind.MatchKind.{MatchKind}
@@ -26,7 +26,7 @@ use Rattle.rules.specs.declared.options.match_kind.MatchKind.TheVariants as kind
 use Rattle.rules.specs.declared.options.option.Opt.{Opt}
 use Rattle.rules.specs.declared.options.option.Owner.{Owner}
 use Rattle.rules.specs.declared.options.option.Owner.TheVariants as owned
-use Rattle.rules.specs.declared.options.setting.Setting.{Setting}
+use Rattle.rules.specs.declared.options.option_value.OptionValue.{OptionValue}
 use Rattle.rules.proofs.laws.reading.Readable.{value_room, ReadsBack, Each, Rises, IsGroup, OfRule, OfMatch, OfAction, ActionBack, IsMatch, IsLegal}
 use Rattle.rules.proofs.laws.options.TableLaws.{plain, each_option, each_kind}
 use Rattle.rules.proofs.laws.options.WordForms.{name-word}
@@ -53,23 +53,23 @@ name-bare o = bare-from (name_of o) (each_option (λ o. is_bare_word (name_of o)
 kind-bare : (k : MatchKind) → IsBareWord (kind_name k)
 kind-bare k = bare-from (kind_name k) (each_kind (λ k. is_bare_word (kind_name k)) refl k)
 
-setting-spelled : (s : Setting) → ReadsBack s → ArePrintable (shown_setting s)
-setting-spelled s back = words-more (shown_bang s.inverted) (bare (name_of (option_of_value s.value)) ∷ shown_value s.value) (bang s.inverted)
+option_value-spelled : (s : OptionValue) → ReadsBack s → ArePrintable (shown_option_value s)
+option_value-spelled s back = words-more (shown_bang s.inverted) (bare (name_of (option_of_value s.value)) ∷ shown_value s.value) (bang s.inverted)
     (word-more (bare (name_of (option_of_value s.value))) (shown_value s.value) (name-bare (option_of_value s.value)) back.spelled)
   where
     bang : (b : Bool) → ArePrintable (shown_bang b)
     bang true = word-more (bare (codes "!")) [] (bare-from (codes "!") refl) no-words
     bang false = no-words
 
-settings-spelled : (ss : List Setting) → Each ReadsBack ss → ArePrintable (shown_settings ss)
-settings-spelled [] back = no-words
-settings-spelled (s ∷ ss) back = words-more (shown_setting s) (shown_settings ss) (setting-spelled s back.0) (settings-spelled ss back.1)
+option_values-spelled : (ss : List OptionValue) → Each ReadsBack ss → ArePrintable (shown_option_values ss)
+option_values-spelled [] back = no-words
+option_values-spelled (s ∷ ss) back = words-more (shown_option_value s) (shown_option_values ss) (option_value-spelled s back.0) (option_values-spelled ss back.1)
 
 matches-spelled : (ms : List Match) → Each IsMatch ms → ArePrintable (flat_map shown_match ms)
 matches-spelled [] are = no-words
 matches-spelled (m ∷ ms) are =
     words-more (shown_match m) (flat_map shown_match ms)
-    (word-more (bare (codes "-m")) (bare (kind_name m.kind) ∷ shown_settings m.settings) (bare-from (codes "-m") refl) (word-more (bare (kind_name m.kind)) (shown_settings m.settings) (kind-bare m.kind) (settings-spelled m.settings are.0.back)))
+    (word-more (bare (codes "-m")) (bare (kind_name m.kind) ∷ shown_option_values m.option_values) (bare-from (codes "-m") refl) (word-more (bare (kind_name m.kind)) (shown_option_values m.option_values) (kind-bare m.kind) (option_values-spelled m.option_values are.0.back)))
     (matches-spelled ms are.1)
 
 two-words : (a b : List ℕ) → IsBareWord a → IsBareWord b → ArePrintable (bare a ∷ one b)
@@ -88,9 +88,9 @@ action-spelled (Some (action.Goto name)) back = two-words (codes "-g") name (bar
 -- the words of a readable rule are spelled
 pub rule-spelled : (r : Rule) → IsLegal r → ArePrintable (shown_rule r)
 rule-spelled r has =
-    words-more (shown_settings r.settings) (flat_map shown_match r.matches ++ (shown_action r.action ++ shown_settings r.target_options)) (settings-spelled r.settings has.settings.back)
-    (words-more (flat_map shown_match r.matches) (shown_action r.action ++ shown_settings r.target_options) (matches-spelled r.matches has.matches)
-    (words-more (shown_action r.action) (shown_settings r.target_options) (action-spelled r.action has.action) (settings-spelled r.target_options has.target_options.back)))
+    words-more (shown_option_values r.option_values) (flat_map shown_match r.matches ++ (shown_action r.action ++ shown_option_values r.target_options)) (option_values-spelled r.option_values has.option_values.back)
+    (words-more (flat_map shown_match r.matches) (shown_action r.action ++ shown_option_values r.target_options) (matches-spelled r.matches has.matches)
+    (words-more (shown_action r.action) (shown_option_values r.target_options) (action-spelled r.action has.action) (option_values-spelled r.target_options has.target_options.back)))
 
 pub words-of-text : (r : Rule) → IsLegal r → words_of (rule_text r) ≡ Some (plain (shown_rule r))
 words-of-text r has = words_of-spaced_all (shown_rule r) (rule-spelled r has)
@@ -115,8 +115,8 @@ abbrev bang_room : Bool → ℕ
 bang_room true = 2
 bang_room false = 0
 
-abbrev setting_room : Opt → ℕ
-setting_room o = bang_room (may_be_inverted o) + (length (name_of o) + 1 + value_room o)
+abbrev option_value_room : Opt → ℕ
+option_value_room o = bang_room (may_be_inverted o) + (length (name_of o) + 1 + value_room o)
 
 size : List Shown → ℕ
 size ws = length (spaced_all ws)
@@ -133,9 +133,9 @@ size-none : size [] ≡ 0
 unfolding size
 size-none = refl
 
-setting-size : (s : Setting) → ReadsBack s → size (shown_setting s) ≤ setting_room (option_of_value s.value)
+option_value-size : (s : OptionValue) → ReadsBack s → size (shown_option_value s) ≤ option_value_room (option_of_value s.value)
 unfolding size
-setting-size s back = go s.inverted (may_be_inverted (option_of_value s.value)) refl back.bang
+option_value-size s back = go s.inverted (may_be_inverted (option_of_value s.value)) refl back.bang
   where
     o : Opt
     o = option_of_value s.value
@@ -177,20 +177,20 @@ rest-less (suc m) zero (x ∷ xs) h = absurd (omega arith)
 rest-less (suc m) (suc n) (x ∷ xs) h = rest-less m n xs (omega arith)
 
 -- options whose places rise fit into the room of the places
-group-size : (limits : List ℕ) (n : ℕ) (ss : List Setting) → Rises n ss → Each ReadsBack ss → Each (λ s. setting_room (option_of_value s.value) ≤ get_or limits (slot_of s) 0) ss
-    → size (shown_settings ss) ≤ rest n limits
+group-size : (limits : List ℕ) (n : ℕ) (ss : List OptionValue) → Rises n ss → Each ReadsBack ss → Each (λ s. option_value_room (option_of_value s.value) ≤ get_or limits (slot_of s) 0) ss
+    → size (shown_option_values ss) ≤ rest n limits
 group-size limits n [] rises back fits = let none = size-none in omega (arith, none)
 group-size limits n (s ∷ ss) rises back fits =
-    let first = setting-size s back.0 in
+    let first = option_value-size s back.0 in
     let fit = fits.0 in
     let more = group-size limits (suc (slot_of s)) ss rises.1 back.1 fits.1 in
-    let sum = size-append (shown_setting s) (shown_settings ss) in
+    let sum = size-append (shown_option_value s) (shown_option_values ss) in
     let at = rest-at (slot_of s) limits in
     let less = rest-less n (slot_of s) limits rises.0 in
     omega (arith, first, fit, more, sum, at, less)
 
-fits-all : (Owns : Owner → Type 0) (limits : List ℕ) → ((o : Opt) → Owns (owner o) → setting_room o ≤ get_or limits (slot o) 0) → (ss : List Setting)
-    → Each (λ s. Owns (owner (option_of_value s.value))) ss → Each (λ s. setting_room (option_of_value s.value) ≤ get_or limits (slot_of s) 0) ss
+fits-all : (Owns : Owner → Type 0) (limits : List ℕ) → ((o : Opt) → Owns (owner o) → option_value_room o ≤ get_or limits (slot o) 0) → (ss : List OptionValue)
+    → Each (λ s. Owns (owner (option_of_value s.value))) ss → Each (λ s. option_value_room (option_of_value s.value) ≤ get_or limits (slot_of s) 0) ss
 fits-all Owns limits room [] own = tt
 fits-all Owns limits room (s ∷ ss) own = (room (option_of_value s.value) own.0, fits-all Owns limits room ss own.1)
 
@@ -207,10 +207,10 @@ is_of_rule w = false
 abbrev rule_limits : List ℕ
 rule_limits = 24 ∷ 24 ∷ 21 ∷ 21 ∷ 15 ∷ 5 ∷ []
 
-own-room : (o : Opt) → owner o ≡ owned.Rule → setting_room o ≤ get_or rule_limits (slot o) 0
-own-room o e = allowed (is_of_rule (owner o)) (setting_room o) (get_or rule_limits (slot o) 0) (each_option (λ o. not (is_of_rule (owner o)) || nat_le (setting_room o) (get_or rule_limits (slot o) 0)) refl o) (ap is_of_rule e)
+own-room : (o : Opt) → owner o ≡ owned.Rule → option_value_room o ≤ get_or rule_limits (slot o) 0
+own-room o e = allowed (is_of_rule (owner o)) (option_value_room o) (get_or rule_limits (slot o) 0) (each_option (λ o. not (is_of_rule (owner o)) || nat_le (option_value_room o) (get_or rule_limits (slot o) 0)) refl o) (ap is_of_rule e)
 
-own-size : (ss : List Setting) → IsGroup OfRule ss → size (shown_settings ss) ≤ 110
+own-size : (ss : List OptionValue) → IsGroup OfRule ss → size (shown_option_values ss) ≤ 110
 unfolding rest
 own-size ss is = group-size rule_limits 0 ss is.rises is.back (fits-all OfRule rule_limits own-room ss is.own)
 
@@ -226,9 +226,9 @@ kind_limits kind.State = 71 ∷ []
 kind_limits kind.Comment = 525 ∷ []
 kind_limits kind.Ttl = 15 ∷ []
 
-match-room : (k : MatchKind) (o : Opt) → kind_has k o ≡ true → setting_room o ≤ get_or (kind_limits k) (slot o) 0
+match-room : (k : MatchKind) (o : Opt) → kind_has k o ≡ true → option_value_room o ≤ get_or (kind_limits k) (slot o) 0
 match-room k o e =
-    allowed (kind_has k o) (setting_room o) (get_or (kind_limits k) (slot o) 0) (each_option (λ o. not (kind_has k o) || nat_le (setting_room o) (get_or (kind_limits k) (slot o) 0)) (each_kind (λ k. list_all (λ o. not (kind_has k o) || nat_le (setting_room o) (get_or (kind_limits k) (slot o) 0)) all_options) refl k) o) e
+    allowed (kind_has k o) (option_value_room o) (get_or (kind_limits k) (slot o) 0) (each_option (λ o. not (kind_has k o) || nat_le (option_value_room o) (get_or (kind_limits k) (slot o) 0)) (each_kind (λ k. list_all (λ o. not (kind_has k o) || nat_le (option_value_room o) (get_or (kind_limits k) (slot o) 0)) all_options) refl k) o) e
 
 kind-room : (k : MatchKind) → 3 + (length (kind_name k) + 1 + rest 0 (kind_limits k)) ≤ 536
 unfolding rest
@@ -236,9 +236,9 @@ kind-room k = leb-true _ 536 (each_kind (λ k. nat_le (3 + (length (kind_name k)
 
 match-size : (m : Match) → IsMatch m → size (shown_match m) ≤ 536
 match-size m is =
-    let inside = group-size (kind_limits m.kind) 0 m.settings is.rises is.back (fits-all (OfMatch m) (kind_limits m.kind) (match-room m.kind) m.settings is.own) in
-    let first = size-more (codes "-m") (bare (kind_name m.kind) ∷ shown_settings m.settings) in
-    let second = size-more (kind_name m.kind) (shown_settings m.settings) in
+    let inside = group-size (kind_limits m.kind) 0 m.option_values is.rises is.back (fits-all (OfMatch m) (kind_limits m.kind) (match-room m.kind) m.option_values is.own) in
+    let first = size-more (codes "-m") (bare (kind_name m.kind) ∷ shown_option_values m.option_values) in
+    let second = size-more (kind_name m.kind) (shown_option_values m.option_values) in
     let room = kind-room m.kind in
     let two : length (codes "-m") ≡ 2 = refl in
     omega (arith, inside, first, second, room, two)
@@ -257,15 +257,15 @@ action_limits (Some action.Reject) = 37 ∷ []
 action_limits (Some action.Log) = 74 ∷ 14 ∷ 19 ∷ 18 ∷ 17 ∷ 10 ∷ []
 action_limits g = []
 
-target-room : (g : Option Action) (o : Opt) → is_action_of g (owner o) ≡ true → setting_room o ≤ get_or (action_limits g) (slot o) 0
+target-room : (g : Option Action) (o : Opt) → is_action_of g (owner o) ≡ true → option_value_room o ≤ get_or (action_limits g) (slot o) 0
 target-room None o e = false-true e
-target-room (Some action.Accept) o e = allowed (is_action_of (Some action.Accept) (owner o)) (setting_room o) (get_or (action_limits (Some action.Accept)) (slot o) 0) (each_option (λ o. not (is_action_of (Some action.Accept) (owner o)) || nat_le (setting_room o) (get_or (action_limits (Some action.Accept)) (slot o) 0)) refl o) e
-target-room (Some action.Drop) o e = allowed (is_action_of (Some action.Drop) (owner o)) (setting_room o) (get_or (action_limits (Some action.Drop)) (slot o) 0) (each_option (λ o. not (is_action_of (Some action.Drop) (owner o)) || nat_le (setting_room o) (get_or (action_limits (Some action.Drop)) (slot o) 0)) refl o) e
-target-room (Some action.Return) o e = allowed (is_action_of (Some action.Return) (owner o)) (setting_room o) (get_or (action_limits (Some action.Return)) (slot o) 0) (each_option (λ o. not (is_action_of (Some action.Return) (owner o)) || nat_le (setting_room o) (get_or (action_limits (Some action.Return)) (slot o) 0)) refl o) e
-target-room (Some action.Reject) o e = allowed (is_action_of (Some action.Reject) (owner o)) (setting_room o) (get_or (action_limits (Some action.Reject)) (slot o) 0) (each_option (λ o. not (is_action_of (Some action.Reject) (owner o)) || nat_le (setting_room o) (get_or (action_limits (Some action.Reject)) (slot o) 0)) refl o) e
-target-room (Some action.Log) o e = allowed (is_action_of (Some action.Log) (owner o)) (setting_room o) (get_or (action_limits (Some action.Log)) (slot o) 0) (each_option (λ o. not (is_action_of (Some action.Log) (owner o)) || nat_le (setting_room o) (get_or (action_limits (Some action.Log)) (slot o) 0)) refl o) e
-target-room (Some (action.Jump n)) o e = allowed (is_action_of (Some (action.Jump n)) (owner o)) (setting_room o) (get_or (action_limits (Some (action.Jump n))) (slot o) 0) (each_option (λ o. not (is_action_of (Some (action.Jump n)) (owner o)) || nat_le (setting_room o) (get_or (action_limits (Some (action.Jump n))) (slot o) 0)) refl o) e
-target-room (Some (action.Goto n)) o e = allowed (is_action_of (Some (action.Goto n)) (owner o)) (setting_room o) (get_or (action_limits (Some (action.Goto n))) (slot o) 0) (each_option (λ o. not (is_action_of (Some (action.Goto n)) (owner o)) || nat_le (setting_room o) (get_or (action_limits (Some (action.Goto n))) (slot o) 0)) refl o) e
+target-room (Some action.Accept) o e = allowed (is_action_of (Some action.Accept) (owner o)) (option_value_room o) (get_or (action_limits (Some action.Accept)) (slot o) 0) (each_option (λ o. not (is_action_of (Some action.Accept) (owner o)) || nat_le (option_value_room o) (get_or (action_limits (Some action.Accept)) (slot o) 0)) refl o) e
+target-room (Some action.Drop) o e = allowed (is_action_of (Some action.Drop) (owner o)) (option_value_room o) (get_or (action_limits (Some action.Drop)) (slot o) 0) (each_option (λ o. not (is_action_of (Some action.Drop) (owner o)) || nat_le (option_value_room o) (get_or (action_limits (Some action.Drop)) (slot o) 0)) refl o) e
+target-room (Some action.Return) o e = allowed (is_action_of (Some action.Return) (owner o)) (option_value_room o) (get_or (action_limits (Some action.Return)) (slot o) 0) (each_option (λ o. not (is_action_of (Some action.Return) (owner o)) || nat_le (option_value_room o) (get_or (action_limits (Some action.Return)) (slot o) 0)) refl o) e
+target-room (Some action.Reject) o e = allowed (is_action_of (Some action.Reject) (owner o)) (option_value_room o) (get_or (action_limits (Some action.Reject)) (slot o) 0) (each_option (λ o. not (is_action_of (Some action.Reject) (owner o)) || nat_le (option_value_room o) (get_or (action_limits (Some action.Reject)) (slot o) 0)) refl o) e
+target-room (Some action.Log) o e = allowed (is_action_of (Some action.Log) (owner o)) (option_value_room o) (get_or (action_limits (Some action.Log)) (slot o) 0) (each_option (λ o. not (is_action_of (Some action.Log) (owner o)) || nat_le (option_value_room o) (get_or (action_limits (Some action.Log)) (slot o) 0)) refl o) e
+target-room (Some (action.Jump n)) o e = allowed (is_action_of (Some (action.Jump n)) (owner o)) (option_value_room o) (get_or (action_limits (Some (action.Jump n))) (slot o) 0) (each_option (λ o. not (is_action_of (Some (action.Jump n)) (owner o)) || nat_le (option_value_room o) (get_or (action_limits (Some (action.Jump n))) (slot o) 0)) refl o) e
+target-room (Some (action.Goto n)) o e = allowed (is_action_of (Some (action.Goto n)) (owner o)) (option_value_room o) (get_or (action_limits (Some (action.Goto n))) (slot o) 0) (each_option (λ o. not (is_action_of (Some (action.Goto n)) (owner o)) || nat_le (option_value_room o) (get_or (action_limits (Some (action.Goto n))) (slot o) 0)) refl o) e
 
 action-size : (g : Option Action) → ActionBack g → size (shown_action g) + rest 0 (action_limits g) ≤ 159
 unfolding size rest
@@ -290,11 +290,11 @@ action-size (Some (action.Goto name)) back =
 pub rule-short : (r : Rule) → IsLegal r → length (rule_text r) ≤ 8845
 unfolding size
 rule-short r has =
-    let a = shown_settings r.settings in
+    let a = shown_option_values r.option_values in
     let b = flat_map shown_match r.matches in
     let c = shown_action r.action in
-    let d = shown_settings r.target_options in
-    let own = own-size r.settings has.settings in
+    let d = shown_option_values r.target_options in
+    let own = own-size r.option_values has.option_values in
     let few = has.few in
     let matches = matches-size r.matches has.matches in
     let target = action-size r.action has.action in

@@ -11,10 +11,10 @@ use Rattle.fields.proofs.laws.ListLaws.{find-passes}
 use Rattle.rules.specs.Sequence.{◌>>=◌, or_refused}
 use Rattle.rules.specs.options.Matches.{implied_kinds, kind_of}
 use Rattle.rules.specs.options.Options.{first_of, may_be_inverted, owner, slot, kind_has}
-use Rattle.rules.specs.options.Settings.{option_of_value, slot_of, value_of}
+use Rattle.rules.specs.options.OptionValues.{option_of_value, slot_of, value_of}
 use Rattle.rules.specs.rule.Actions.{action_of, jump_to, is_action_of}
 use Rattle.rules.specs.rule.Rules.{Match, Rule, empty_rule}
-use Rattle.rules.specs.reading.Steps.{with_option, with_match, later, last_with, implied_match, is_implied_option, with_match_for, at_match_or_new, match_for, no_match, with_option_at, with_settings, with_matches, with_action, with_target_options, has_goto, has_jump, with_jump, with_goto, match_step, owned_step, step, is_given, insert_by_place}
+use Rattle.rules.specs.reading.Steps.{with_option, with_match, later, last_with, implied_match, is_implied_option, with_match_for, at_match_or_new, match_for, no_match, with_option_at, with_option_values, with_matches, with_action, with_target_options, has_goto, has_jump, with_jump, with_goto, match_step, owned_step, step, is_given, insert_by_place}
 use Rattle.rules.specs.reading.OptionWords.{OptionWords}
 use Rattle.rules.specs.rule.Needs.{is_met_for}
 use Rattle.rules.specs.declared.rule.action.Action.{Action}
@@ -25,7 +25,7 @@ use Rattle.rules.specs.declared.options.match_kind.MatchKind.{MatchKind}
 use Rattle.rules.specs.declared.options.option.Opt.{Opt}
 use Rattle.rules.specs.declared.options.option.Owner.{Owner}
 use Rattle.rules.specs.declared.options.option.Owner.TheVariants as owned
-use Rattle.rules.specs.declared.options.setting.Setting.{Setting}
+use Rattle.rules.specs.declared.options.option_value.OptionValue.{OptionValue}
 use Rattle.rules.proofs.laws.reading.Readable.{ReadsBack, Each, Rises, IsGroup, OfRule, OfMatch, OfAction, ActionBack, IsMatch, IsLegal}
 use Rattle.rules.proofs.laws.options.ValueLaws.{value_of-good}
 use Rattle.rules.proofs.laws.options.WordForms.{name-valid}
@@ -48,11 +48,11 @@ past true e q x h = absurd (cc)
 past false e q x h = (refl, h)
 
 -- an option put among others of a group
-pub rises-more : (m n : ℕ) (ss : List Setting) → m ≤ n → Rises n ss → Rises m ss
+pub rises-more : (m n : ℕ) (ss : List OptionValue) → m ≤ n → Rises n ss → Rises m ss
 rises-more m n [] h rises = tt
 rises-more m n (s ∷ ss) h rises = let first = rises.0 in (omega arith, rises.1)
 
-insert_by_place-rises : (n : ℕ) (s : Setting) (ss : List Setting) → n ≤ slot_of s → is_given (slot_of s) ss ≡ false → Rises n ss → Rises n (insert_by_place (slot_of s) s ss)
+insert_by_place-rises : (n : ℕ) (s : OptionValue) (ss : List OptionValue) → n ≤ slot_of s → is_given (slot_of s) ss ≡ false → Rises n ss → Rises n (insert_by_place (slot_of s) s ss)
 insert_by_place-rises n s [] low none rises = (low, tt)
 insert_by_place-rises n s (t ∷ ts) low none rises = go (ltb (slot_of s) (slot_of t)) refl (λ h. insert_by_place-rises (suc (slot_of t)) s ts h (or_parts (slot_of t == slot_of s) (is_given (slot_of s) ts) none).1 rises.1)
   where
@@ -64,7 +64,7 @@ insert_by_place-rises n s (t ∷ ts) low none rises = go (ltb (slot_of s) (slot_
         let first = rises.0 in
         (first, more (omega (arith, apart)))
 
-insert_by_place-each : (P : Setting → Type 0) (n : ℕ) (s : Setting) (ss : List Setting) → P s → Each P ss → Each P (insert_by_place n s ss)
+insert_by_place-each : (P : OptionValue → Type 0) (n : ℕ) (s : OptionValue) (ss : List OptionValue) → P s → Each P ss → Each P (insert_by_place n s ss)
 insert_by_place-each P n s [] p each = (p, tt)
 insert_by_place-each P n s (t ∷ ts) p each = go (ltb n (slot_of t)) (insert_by_place-each P n s ts p each.1)
   where
@@ -76,13 +76,13 @@ insert_by_place-each P n s (t ∷ ts) p each = go (ltb n (slot_of t)) (insert_by
 abbrev pub MayBe : OptionWords → Type 0
 MayBe p = p.inverted ≡ true → may_be_inverted p.option ≡ true
 
-with_option-group : (Owns : Owner → Type 0) (ss ts : List Setting) (p : OptionWords) → MayBe p → Owns (owner p.option) → IsGroup Owns ss → with_option ss p ≡ Ok ts → IsGroup Owns ts
+with_option-group : (Owns : Owner → Type 0) (ss ts : List OptionValue) (p : OptionWords) → MayBe p → Owns (owner p.option) → IsGroup Owns ss → with_option ss p ≡ Ok ts → IsGroup Owns ts
 unfolding with_option
 with_option-group Owns ss ts p may owns is e =
     let (none, rest) = past (is_given (slot p.option) ss) refusal.RepeatedOption (value_of p.option p.inverted p.values >>= λ v. Ok (insert_by_place (slot p.option) (record { inverted = p.inverted; value = v }) ss)) ts e in
     let (v, read, done) = before (value_of p.option p.inverted p.values) (λ v. Ok (insert_by_place (slot p.option) (record { inverted = p.inverted; value = v }) ss)) ts rest in
     let good = value_of-good p.option p.inverted p.values v read in
-    let s : Setting = record { inverted = p.inverted; value = v } in
+    let s : OptionValue = record { inverted = p.inverted; value = v } in
     let at : slot_of s ≡ slot p.option = good.place in
     let back : ReadsBack s = record { text = good.text; bang = λ i. good.bang (may i); spelled = good.spelled; short = good.short } in
     let free : is_given (slot_of s) ss ≡ false = ap (λ n. is_given n ss) at ∙ none in
@@ -118,15 +118,15 @@ each-at P (x ∷ xs) (suc i) d within each = each-at P xs i d (omega arith) each
 empty-group : (Owns : Owner → Type 0) → IsGroup Owns []
 empty-group Owns = record { rises = tt; own = tt; back = tt }
 
-with_match-keeps : (r s : Rule) (k : MatchKind) → IsLegal r → with_match r k ≡ Ok s → IsLegal s × (s.matches ≡ r.matches ++ record { kind = k; settings = [] } ∷ [])
+with_match-keeps : (r s : Rule) (k : MatchKind) → IsLegal r → with_match r k ≡ Ok s → IsLegal s × (s.matches ≡ r.matches ++ record { kind = k; option_values = [] } ∷ [])
 unfolding with_match
 with_match-keeps r s k has e =
-    let t : Rule = with_matches r (r.matches ++ record { kind = k; settings = [] } ∷ []) in
+    let t : Rule = with_matches r (r.matches ++ record { kind = k; option_values = [] } ∷ []) in
     let (room, done) = past (leb 16 (length r.matches)) refusal.TooManyMatches (Ok t) s e in
     let few = leb-false 16 (length r.matches) room in
-    let one : Match = record { kind = k; settings = [] } in
+    let one : Match = record { kind = k; option_values = [] } in
     let parts : IsLegal t = record {
-      settings = has.settings;
+      option_values = has.option_values;
       few = omega (arith, few, length-append r.matches (one ∷ []));
       matches = each-end IsMatch r.matches one has.matches (empty-group (OfMatch one));
       action = has.action;
@@ -156,7 +156,7 @@ last_with-has o (m ∷ ms) i d e = go (last_with o ms) (λ j f. last_with-has o 
         subst (λ k. (k < length (m ∷ ms)) × (kind_has (get_or (m ∷ ms) k d).kind o ≡ true)) is (omega (arith, within), has)
 
 -- a match that an option starts has it
-implied_match-has : (ss : List Setting) (o : Opt) (k : MatchKind) → implied_match ss o ≡ Some k → kind_has k o ≡ true
+implied_match-has : (ss : List OptionValue) (o : Opt) (k : MatchKind) → implied_match ss o ≡ Some k → kind_has k o ≡ true
 implied_match-has ss o k e = (and_parts (is_met_for k ss) (kind_has k o) (find-passes (λ k. is_met_for k ss && kind_has k o) (λ k. true) implied_kinds k e refl).0).1
 
 -- the last item
@@ -174,7 +174,7 @@ match_for-keeps r s p i has e = go (last_with p.option r.matches) refl e
     pair-parts : (x y : Rule) (j k : ℕ) → ◌≡◌ {A = Result (Rule × ℕ) Refusal} (Ok (x, j)) (Ok (y, k)) → (x ≡ y) × (j ≡ k)
     pair-parts x y j k h = let e = same-ok (x, j) (y, k) h in (ap (λ (q : Rule × ℕ). q.0) e, ap (λ (q : Rule × ℕ). q.1) e)
 
-    starting : (k : Option MatchKind) → implied_match r.settings p.option ≡ k → with_match_for r p k ≡ Ok (s, i) → Found s p i
+    starting : (k : Option MatchKind) → implied_match r.option_values p.option ≡ k → with_match_for r p k ≡ Ok (s, i) → Found s p i
     starting None none h = absurd (refused (is_implied_option p.option) h)
       where
         refused : (b : Bool) → cond {A = Result (Rule × ℕ) Refusal} b (Err refusal.ProtocolNeeded) (Err (refusal.UnknownOption p.place)) ≡ Ok (s, i) → ⊥
@@ -184,16 +184,16 @@ match_for-keeps r s p i has e = go (last_with p.option r.matches) refl e
         let (t, begun, done) = before (with_match r k) (λ t. Ok (t, length r.matches)) (s, i) h in
         let (keeps, ms) = with_match-keeps r t k has begun in
         let (same, place) = pair-parts t s (length r.matches) i done in
-        let one : Match = record { kind = k; settings = [] } in
+        let one : Match = record { kind = k; option_values = [] } in
         let found : Found t p (length r.matches) = (
           keeps,
           omega (arith, ap length ms, length-append r.matches (one ∷ [])),
-          ap (λ (l : List Match). kind_has (get_or l (length r.matches) no_match).kind p.option) ms ∙ ap (λ (m : Match). kind_has m.kind p.option) (at-end r.matches one no_match) ∙ implied_match-has r.settings p.option k is,
+          ap (λ (l : List Match). kind_has (get_or l (length r.matches) no_match).kind p.option) ms ∙ ap (λ (m : Match). kind_has m.kind p.option) (at-end r.matches one no_match) ∙ implied_match-has r.option_values p.option k is,
         ) in
         subst (λ (x : Rule). Found x p i) same (subst (λ j. Found t p j) place found)
 
     go : (o : Option ℕ) → last_with p.option r.matches ≡ o → at_match_or_new r p o ≡ Ok (s, i) → Found s p i
-    go None none h = starting (implied_match r.settings p.option) refl h
+    go None none h = starting (implied_match r.option_values p.option) refl h
     go (Some j) found h =
         let (same, place) = pair-parts r s j i h in
         let (within, owns) = last_with-has p.option r.matches j no_match found in
@@ -208,16 +208,16 @@ match_step-keeps r t p may has e =
     let (keeps, within, owns) = match_for-keeps r s p i has is in
     let (ms, put, done) = before (with_option_at s.matches i p) (λ ms. Ok (with_matches s ms)) t rest in
     let m = get_or s.matches i no_match in
-    let (ss, more, whole) = before (with_option m.settings p) (λ ss. Ok (set s.matches i (record { kind = m.kind; settings = ss }))) ms put in
-    let group = with_option-group (OfMatch m) m.settings ss p may owns (each-at IsMatch s.matches i no_match within keeps.matches) more in
-    let n : Match = record { kind = m.kind; settings = ss } in
+    let (ss, more, whole) = before (with_option m.option_values p) (λ ss. Ok (set s.matches i (record { kind = m.kind; option_values = ss }))) ms put in
+    let group = with_option-group (OfMatch m) m.option_values ss p may owns (each-at IsMatch s.matches i no_match within keeps.matches) more in
+    let n : Match = record { kind = m.kind; option_values = ss } in
     let all : Each IsMatch ms = each-of-set s.matches ms i n (same-ok (set s.matches i n) ms whole) keeps.matches group in
     let len = length-of-set s.matches ms i n (same-ok (set s.matches i n) ms whole) in
     let few = keeps.few in
-    subst IsLegal (same-ok (with_matches s ms) t done) (record { settings = keeps.settings; few = omega (arith, few, len); matches = all; action = keeps.action; target_options = keeps.target_options })
+    subst IsLegal (same-ok (with_matches s ms) t done) (record { option_values = keeps.option_values; few = omega (arith, few, len); matches = all; action = keeps.action; target_options = keeps.target_options })
 
 -- where no target was given there are no options of one
-no-target-option : (g : Option Action) (ss : List Setting) → g ≡ None → IsGroup (OfAction g) ss → ss ≡ []
+no-target-option : (g : Option Action) (ss : List OptionValue) → g ≡ None → IsGroup (OfAction g) ss → ss ≡ []
 no-target-option g [] none is = refl
 no-target-option g (s ∷ ss) none is = false-true (ap (λ h. is_action_of h (owner (option_of_value s.value))) (sym none) ∙ is.own.0)
 
@@ -234,7 +234,7 @@ no-action (Some (action.Jump n)) a b = absurd (cc)
 with_action-keeps : (r s : Rule) (a : Action) → IsLegal r → r.action ≡ None → ActionBack (Some a) → ◌≡◌ {A = Result Rule Refusal} (Ok (with_action r a)) (Ok s) → IsLegal s
 with_action-keeps r s a has none back e =
     subst IsLegal (same-ok (with_action r a) s e) (record {
-      settings = has.settings;
+      option_values = has.option_values;
       few = has.few;
       matches = has.matches;
       action = back;
@@ -298,9 +298,9 @@ step-keeps r s p may has e = go (owner p.option) refl e
   where
     go : (w : Owner) → owner p.option ≡ w → owned_step w r p ≡ Ok s → IsLegal s
     go owned.Rule is h =
-        let (ss, more, done) = before (with_option r.settings p) (λ ss. Ok (with_settings r ss)) s h in
-        let group = with_option-group OfRule r.settings ss p may is has.settings more in
-        subst IsLegal (same-ok (with_settings r ss) s done) (record { settings = group; few = has.few; matches = has.matches; action = has.action; target_options = has.target_options })
+        let (ss, more, done) = before (with_option r.option_values p) (λ ss. Ok (with_option_values r ss)) s h in
+        let group = with_option-group OfRule r.option_values ss p may is has.option_values more in
+        subst IsLegal (same-ok (with_option_values r ss) s done) (record { option_values = group; few = has.few; matches = has.matches; action = has.action; target_options = has.target_options })
     go owned.Start is h =
         let (k, named, begun) = before (or_refused refusal.UnknownMatch (kind_of (first_of p.values))) (with_match r) s h in
         (with_match-keeps r s k has begun).0
@@ -314,7 +314,7 @@ step-keeps r s p may has e = go (owner p.option) refl e
         extra true on h =
             let (ss, more, done) = before (with_option r.target_options p) (λ ss. Ok (with_target_options r ss)) s h in
             let group = with_option-group (OfAction r.action) r.target_options ss p may on has.target_options more in
-            subst IsLegal (same-ok (with_target_options r ss) s done) (record { settings = has.settings; few = has.few; matches = has.matches; action = has.action; target_options = group })
+            subst IsLegal (same-ok (with_target_options r ss) s done) (record { option_values = has.option_values; few = has.few; matches = has.matches; action = has.action; target_options = group })
 
 pub empty-parts : IsLegal empty_rule
-empty-parts = record { settings = empty-group OfRule; few = omega arith; matches = tt; action = tt; target_options = empty-group (OfAction None) }
+empty-parts = record { option_values = empty-group OfRule; few = omega arith; matches = tt; action = tt; target_options = empty-group (OfAction None) }

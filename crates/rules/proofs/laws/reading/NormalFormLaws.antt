@@ -4,7 +4,7 @@ use Rattle.std.proofs.Common.{◌≡◌, ℕ, ◌<◌, ◌+◌, List, [], ◌∷
 use Rattle.std.proofs.lemmas.List.{map-set, get_or-map, length-map}
 use Rattle.rules.specs.rule.Rules.{Match, normal_match}
 use Rattle.rules.specs.steps.Views as views
-use Rattle.rules.specs.declared.rule.content.Match as code
+use Rattle.rules.specs.declared.rule.spec.Match as code
 
 -- the first so many completed, the others as they are
 abbrev pub normal_first : ℕ → List Match → List Match

@@ -5,10 +5,10 @@ use Rattle.std.proofs.Math.Dec.{leb}
 use Rattle.std.proofs.lemmas.Bool.{leb-true, leb-false}
 use Rattle.std.specs.List.{All, Contains}
 use Rattle.rules.specs.options.Options.{slot, owner, is_match_of}
-use Rattle.rules.specs.options.Settings.{option_of_value, slot_of}
+use Rattle.rules.specs.options.OptionValues.{option_of_value, slot_of}
 use Rattle.rules.specs.rule.Rules.{Match, Rule}
 use Rattle.rules.specs.rule.Readable as readable
-use Rattle.rules.specs.rule.Readable.{rule_places, match_places, target_places, AreInOrder, IsInOrder, all_settings, ValueReadsBack, NamesChain}
+use Rattle.rules.specs.rule.Readable.{rule_places, match_places, target_places, AreInOrder, IsInOrder, all_option_values, ValueReadsBack, NamesChain}
 use Rattle.rules.specs.declared.rule.action.Action.{Action}
 use Rattle.rules.specs.declared.rule.action.Action.TheVariants as action
 use Rattle.rules.specs.declared.options.match_kind.MatchKind.{MatchKind}
@@ -16,7 +16,7 @@ use Rattle.rules.specs.declared.options.match_kind.MatchKind.TheVariants as kind
 use Rattle.rules.specs.declared.options.option.Opt.{Opt}
 use Rattle.rules.specs.declared.options.option.Opt.TheVariants as opt
 use Rattle.rules.specs.declared.options.option.Owner.{Owner}
-use Rattle.rules.specs.declared.options.setting.Setting.{Setting}
+use Rattle.rules.specs.declared.options.option_value.OptionValue.{OptionValue}
 use Rattle.rules.specs.declared.options.value.Value.{Value}
 use Rattle.rules.specs.declared.options.value.Value.TheVariants as value
 use Rattle.rules.proofs.laws.reading.Readable.{ReadsBack, Each, Rises, IsGroup, OfRule, OfMatch, OfAction, ActionBack, IsMatch, IsLegal, IsReadable}
@@ -46,7 +46,7 @@ here o = (0, lit< tt, refl)
 abbrev StandAt : (Owner → Type 0) → ℕ → List (List Opt) → Type 0
 StandAt Owns n places = (v : Value) (k : ℕ) → Owns (owner (option_of_value v)) → n + k ≡ slot (option_of_value v) → Contains (get_or places k []) (option_of_value v)
 
-in-order : (Owns : Owner → Type 0) (n : ℕ) (places : List (List Opt)) (ss : List Setting) → StandAt Owns n places → Rises n ss → Each (λ s. Owns (owner (option_of_value s.value))) ss
+in-order : (Owns : Owner → Type 0) (n : ℕ) (places : List (List Opt)) (ss : List OptionValue) → StandAt Owns n places → Rises n ss → Each (λ s. Owns (owner (option_of_value s.value))) ss
     → AreInOrder places ss
 in-order Owns n [] [] stand rises own = tt
 in-order Owns n (p ∷ ps) [] stand rises own = tt
@@ -72,7 +72,7 @@ in-order Owns n (p ∷ ps) (s ∷ ss) stand rises own =
 
 -- a group of options whose owner has these places
 group-in-order : (Owns : Owner → Type 0) (places : List (List Opt)) → ((v : Value) → Owns (owner (option_of_value v)) → Contains (get_or places (slot (option_of_value v)) []) (option_of_value v))
-    → (ss : List Setting) → IsGroup Owns ss → AreInOrder places ss
+    → (ss : List OptionValue) → IsGroup Owns ss → AreInOrder places ss
 group-in-order Owns places at ss is = in-order Owns 0 places ss stand is.rises is.own
   where
     stand : StandAt Owns 0 places
@@ -124,26 +124,26 @@ target-at g v is = absurd (false-true is)
 -- a rule with legal parts has its options in the order of a listing
 pub legal-in-order : (r : Rule) → IsLegal r → IsInOrder r
 legal-in-order r legal = record {
-  own = group-in-order OfRule rule_places own-at r.settings legal.settings;
+  own = group-in-order OfRule rule_places own-at r.option_values legal.option_values;
   matches =
-      all-of (λ (m : Match). AreInOrder (match_places m.kind) m.settings) r.matches
-      (each-map IsMatch (λ (m : Match). AreInOrder (match_places m.kind) m.settings) (λ m is. group-in-order (OfMatch m) (match_places m.kind) (match-at m.kind) m.settings is) r.matches legal.matches);
+      all-of (λ (m : Match). AreInOrder (match_places m.kind) m.option_values) r.matches
+      (each-map IsMatch (λ (m : Match). AreInOrder (match_places m.kind) m.option_values) (λ m is. group-in-order (OfMatch m) (match_places m.kind) (match-at m.kind) m.option_values is) r.matches legal.matches);
   target = group-in-order (OfAction r.action) (target_places r.action) (target-at r.action) r.target_options legal.target_options;
 }
 
 -- the values of all its options read back
-each-back : (ss : List Setting) → Each ReadsBack ss → Each ValueReadsBack ss
+each-back : (ss : List OptionValue) → Each ReadsBack ss → Each ValueReadsBack ss
 each-back ss each = each-map ReadsBack ValueReadsBack (λ s back. record { value = back.text; bang = back.bang }) ss each
 
-each-match-back : (ms : List Match) → Each IsMatch ms → Each ValueReadsBack (flat_map (λ (m : Match). m.settings) ms)
+each-match-back : (ms : List Match) → Each IsMatch ms → Each ValueReadsBack (flat_map (λ (m : Match). m.option_values) ms)
 each-match-back [] each = tt
-each-match-back (m ∷ ms) each = each-append ValueReadsBack m.settings (flat_map (λ (m : Match). m.settings) ms) (each-back m.settings each.0.back) (each-match-back ms each.1)
+each-match-back (m ∷ ms) each = each-append ValueReadsBack m.option_values (flat_map (λ (m : Match). m.option_values) ms) (each-back m.option_values each.0.back) (each-match-back ms each.1)
 
-legal-back : (r : Rule) → IsLegal r → All ValueReadsBack (all_settings r)
+legal-back : (r : Rule) → IsLegal r → All ValueReadsBack (all_option_values r)
 legal-back r legal =
-    let of_matches = flat_map (λ (m : Match). m.settings) r.matches in
-    all-of ValueReadsBack (all_settings r)
-    (each-append ValueReadsBack r.settings (of_matches ++ r.target_options) (each-back r.settings legal.settings.back)
+    let of_matches = flat_map (λ (m : Match). m.option_values) r.matches in
+    all-of ValueReadsBack (all_option_values r)
+    (each-append ValueReadsBack r.option_values (of_matches ++ r.target_options) (each-back r.option_values legal.option_values.back)
     (each-append ValueReadsBack of_matches r.target_options (each-match-back r.matches legal.matches) (each-back r.target_options legal.target_options.back)))
 
 chain-named : (g : Option Action) → ActionBack g → NamesChain g

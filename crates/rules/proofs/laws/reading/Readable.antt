@@ -5,7 +5,7 @@ use Rattle.fields.specs.values.Name.{name_of}
 use Rattle.fields.specs.text.Printed.{Shown, ArePrintable, spaced_all}
 use Rattle.rules.specs.rule.Actions.{is_action_of}
 use Rattle.rules.specs.options.Options.{may_be_inverted, owner, is_match_of}
-use Rattle.rules.specs.options.Settings.{option_of_value, slot_of, value_of}
+use Rattle.rules.specs.options.OptionValues.{option_of_value, slot_of, value_of}
 use Rattle.rules.specs.rule.Rules.{Match, Rule, normal_form}
 use Rattle.rules.specs.printing.Printing.{shown_value}
 use Rattle.rules.specs.rule.Needs.{unmet}
@@ -15,7 +15,7 @@ use Rattle.rules.specs.declared.options.option.Opt.{Opt}
 use Rattle.rules.specs.declared.options.option.Opt.TheVariants as opt
 use Rattle.rules.specs.declared.options.option.Owner.{Owner}
 use Rattle.rules.specs.declared.options.option.Owner.TheVariants as owned
-use Rattle.rules.specs.declared.options.setting.Setting.{Setting}
+use Rattle.rules.specs.declared.options.option_value.OptionValue.{OptionValue}
 
 -- how many bytes the values of an option have at most, each with its blank
 abbrev pub value_room : Opt → ℕ
@@ -45,7 +45,7 @@ value_room opt.LogLevel = 2
 value_room o = 0
 
 -- A value's text gives the value back, `!` may stand before it where it does, and its words are short.
-pub record ReadsBack (s : Setting) : Type 0 where
+pub record ReadsBack (s : OptionValue) : Type 0 where
   pub text : value_of (option_of_value s.value) s.inverted (map (λ (w : Shown). w.word) (shown_value s.value)) ≡ Ok s.value
   pub bang : s.inverted ≡ true → may_be_inverted (option_of_value s.value) ≡ true
   pub spelled : ArePrintable (shown_value s.value)
@@ -57,12 +57,12 @@ Each P [] = Unit {0}
 Each P (x ∷ xs) = P x × Each P xs
 
 -- the places rise from a number on
-abbrev pub Rises : ℕ → List Setting → Type 0
+abbrev pub Rises : ℕ → List OptionValue → Type 0
 Rises n [] = Unit {0}
 Rises n (s ∷ ss) = (n ≤ slot_of s) × Rises (suc (slot_of s)) ss
 
 -- Options of an owner, whose places rise.
-pub record IsGroup (Owns : Owner → Type 0) (ss : List Setting) : Type 0 where
+pub record IsGroup (Owns : Owner → Type 0) (ss : List OptionValue) : Type 0 where
   pub rises : Rises 0 ss
   pub own : Each (λ s. Owns (owner (option_of_value s.value))) ss
   pub back : Each ReadsBack ss
@@ -83,11 +83,11 @@ ActionBack (Some (action.Goto name)) = name_of name ≡ Some name
 ActionBack a = Unit {0}
 
 abbrev pub IsMatch : Match → Type 0
-IsMatch m = IsGroup (OfMatch m) m.settings
+IsMatch m = IsGroup (OfMatch m) m.option_values
 
 -- The parts of a rule are legal beside one another.
 pub record IsLegal (r : Rule) : Type 0 where
-  pub settings : IsGroup OfRule r.settings
+  pub option_values : IsGroup OfRule r.option_values
   pub few : length r.matches ≤ 16
   pub matches : Each IsMatch r.matches
   pub action : ActionBack r.action

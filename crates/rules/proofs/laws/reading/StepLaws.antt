@@ -7,8 +7,8 @@ use Rattle.rules.specs.reading.Steps.{last_with, later, no_match, with_option, w
 use Rattle.rules.specs.reading.OptionWords.{OptionWords}
 use Rattle.rules.specs.steps.Views as views
 use Rattle.rules.specs.declared.options.option.Opt.{Opt}
-use Rattle.rules.specs.declared.rule.content.Match as code
-use Rattle.rules.specs.declared.options.setting.Setting.{Setting}
+use Rattle.rules.specs.declared.rule.spec.Match as code
+use Rattle.rules.specs.declared.options.option_value.OptionValue.{OptionValue}
 use Rattle.rules.specs.declared.reading.fault.RuleFault.{RuleFault}
 use Rattle.rules.specs.declared.reading.fault.RuleFault.TheVariants as faults
 use Rattle.rules.specs.Sequence.{Gives, ◌>>=◌}
@@ -35,16 +35,16 @@ last_with-more o ms i d within =
     ∙ ap (λ n. cond (kind_has (get_or ms i d).kind o) (Some n) (last_with o (views.view_matches (take i ms)))) len
 
 -- one more option of the match at a place
-pub put_back : (ms : List code.Match) (i : ℕ) (m : code.Match) (s : Vec Setting) (p : OptionWords) (r : Result (Unit {0}) RuleFault) → i < length ms → m ≡ get_or ms i m
-    → Gives (λ x. s.items) r (with_option m.settings.items p) → Gives (λ x. views.view_matches (set ms i (record { kind = m.kind; settings = s }))) r (with_option_at (views.view_matches ms) i p)
+pub put_back : (ms : List code.Match) (i : ℕ) (m : code.Match) (s : Vec OptionValue) (p : OptionWords) (r : Result (Unit {0}) RuleFault) → i < length ms → m ≡ get_or ms i m
+    → Gives (λ x. s.items) r (with_option m.option_values.items p) → Gives (λ x. views.view_matches (set ms i (record { kind = m.kind; option_values = s }))) r (with_option_at (views.view_matches ms) i p)
 unfolding with_option_at
 put_back ms i m s p (Ok x) within is h =
     let e = get_or-map views.view_match ms i m no_match within ∙ ap views.view_match (sym is) in
-    let n : code.Match = record { kind = m.kind; settings = s } in
-    let P : Match → Type 0 = λ y. (with_option y.settings p >>= λ ss. Ok (set (views.view_matches ms) i (record { kind = y.kind; settings = ss }))) ≡ Ok (views.view_matches (set ms i n)) in
-    subst P (sym e) (ap (λ q. q >>= λ ss. Ok (set (views.view_matches ms) i (record { kind = m.kind; settings = ss }))) h ∙ ap (λ l. Ok l) (sym (map-set views.view_match ms i n)))
+    let n : code.Match = record { kind = m.kind; option_values = s } in
+    let P : Match → Type 0 = λ y. (with_option y.option_values p >>= λ ss. Ok (set (views.view_matches ms) i (record { kind = y.kind; option_values = ss }))) ≡ Ok (views.view_matches (set ms i n)) in
+    subst P (sym e) (ap (λ q. q >>= λ ss. Ok (set (views.view_matches ms) i (record { kind = m.kind; option_values = ss }))) h ∙ ap (λ l. Ok l) (sym (map-set views.view_match ms i n)))
 put_back ms i m s p (Err faults.NoMemory) within is h = tt
 put_back ms i m s p (Err (faults.Refused f)) within is h =
     let e = get_or-map views.view_match ms i m no_match within ∙ ap views.view_match (sym is) in
-    let P : Match → Type 0 = λ y. (with_option y.settings p >>= λ ss. Ok (set (views.view_matches ms) i (record { kind = y.kind; settings = ss }))) ≡ Err f in
-    subst P (sym e) (ap (λ q. q >>= λ ss. Ok (set (views.view_matches ms) i (record { kind = m.kind; settings = ss }))) h)
+    let P : Match → Type 0 = λ y. (with_option y.option_values p >>= λ ss. Ok (set (views.view_matches ms) i (record { kind = y.kind; option_values = ss }))) ≡ Err f in
+    subst P (sym e) (ap (λ q. q >>= λ ss. Ok (set (views.view_matches ms) i (record { kind = m.kind; option_values = ss }))) h)

@@ -7,12 +7,12 @@ use Rattle.fields.specs.declared.numbers.field.Field.{Field}
 use Rattle.fields.specs.declared.numbers.field.Field.TheVariants as field
 use Rattle.rules.specs.options.Matches.{match_row}
 use Rattle.rules.specs.options.Options.{owner, is_match_of}
-use Rattle.rules.specs.options.Settings.{option_of_value}
+use Rattle.rules.specs.options.OptionValues.{option_of_value}
 use Rattle.rules.specs.rule.Rules.{Match, Rule}
-use Rattle.rules.specs.rule.Allows.{field_of, holds_of, same_field, is_on, asks, asks_on, setting_allows, fragment_allows, match_allows, allows}
+use Rattle.rules.specs.rule.Allows.{field_of, holds_of, same_field, is_on, asks, asks_on, option_value_allows, fragment_allows, match_allows, allows}
 use Rattle.rules.specs.printing.RoundTrip.{ReadsItself}
 use Rattle.rules.specs.declared.options.match_kind.MatchKind.{MatchKind}
-use Rattle.rules.specs.declared.options.setting.Setting.{Setting}
+use Rattle.rules.specs.declared.options.option_value.OptionValue.{OptionValue}
 use Rattle.rules.specs.declared.options.value.Value.{Value}
 use Rattle.rules.specs.declared.options.value.Value.TheVariants as value
 use Rattle.rules.proofs.laws.reading.Readable.{Each, OfMatch, IsMatch}
@@ -37,34 +37,34 @@ none-asks v k h = (refl, refl)
 
 -- nor does a match
 module _ (f : Field) (none : (v : Value) (k : MatchKind) → is_match_of (owner (option_of_value v)) k ≡ true → is_on f (field_of v) ≡ false) where
-  settings-ask : (m : Match) (ss : List Setting) → Each (λ s. OfMatch m (owner (option_of_value s.value))) ss → list_any (asks f) ss ≡ false
-  settings-ask m [] own = refl
-  settings-ask m (s ∷ ss) own = ap (λ b. b || list_any (asks f) ss) (none s.value m.kind own.0) ∙ settings-ask m ss own.1
+  option_values-ask : (m : Match) (ss : List OptionValue) → Each (λ s. OfMatch m (owner (option_of_value s.value))) ss → list_any (asks f) ss ≡ false
+  option_values-ask m [] own = refl
+  option_values-ask m (s ∷ ss) own = ap (λ b. b || list_any (asks f) ss) (none s.value m.kind own.0) ∙ option_values-ask m ss own.1
 
-  matches-ask : (ms : List Match) → Each IsMatch ms → list_any (λ (m : Match). list_any (asks f) m.settings) ms ≡ false
+  matches-ask : (ms : List Match) → Each IsMatch ms → list_any (λ (m : Match). list_any (asks f) m.option_values) ms ≡ false
   matches-ask [] are = refl
-  matches-ask (m ∷ ms) are = ap (λ b. b || list_any (λ (m : Match). list_any (asks f) m.settings) ms) (settings-ask m m.settings are.0.own) ∙ matches-ask ms are.1
+  matches-ask (m ∷ ms) are = ap (λ b. b || list_any (λ (m : Match). list_any (asks f) m.option_values) ms) (option_values-ask m m.option_values are.0.own) ∙ matches-ask ms are.1
 
-  own-asks : (r : Rule) → ReadsItself r → list_any (asks f) r.settings ≡ asks_on f r
-  own-asks r is = sym (ap (λ b. list_any (asks f) r.settings || b) (matches-ask r.matches (readable r is).parts.matches) ∙ or-false (list_any (asks f) r.settings))
+  own-asks : (r : Rule) → ReadsItself r → list_any (asks f) r.option_values ≡ asks_on f r
+  own-asks r is = sym (ap (λ b. list_any (asks f) r.option_values || b) (matches-ask r.matches (readable r is).parts.matches) ∙ or-false (list_any (asks f) r.option_values))
     where
       or-false : (b : Bool) → (b || false) ≡ b
       or-false true = refl
       or-false false = refl
 
-pub in_is_own : (r : Rule) → ReadsItself r → list_any (asks field.InIface) r.settings ≡ asks_on field.InIface r
+pub in_is_own : (r : Rule) → ReadsItself r → list_any (asks field.InIface) r.option_values ≡ asks_on field.InIface r
 in_is_own r is = own-asks field.InIface (λ v k h. (none-asks v k h).0) r is
 
-pub out_is_own : (r : Rule) → ReadsItself r → list_any (asks field.OutIface) r.settings ≡ asks_on field.OutIface r
+pub out_is_own : (r : Rule) → ReadsItself r → list_any (asks field.OutIface) r.option_values ≡ asks_on field.OutIface r
 out_is_own r is = own-asks field.OutIface (λ v k h. (none-asks v k h).1) r is
 
 -- where nothing is asked all is allowed
 module _ (f : Field) (n : ℕ) (other : same_field f field.Fragment ≡ false) where
-  settings-allow : (ss : List Setting) → list_any (asks f) ss ≡ false → list_all (setting_allows f n) ss ≡ true
-  settings-allow [] free = refl
-  settings-allow (s ∷ ss) free =
+  option_values-allow : (ss : List OptionValue) → list_any (asks f) ss ≡ false → list_all (option_value_allows f n) ss ≡ true
+  option_values-allow [] free = refl
+  option_values-allow (s ∷ ss) free =
       let (here, rest) = or_parts (asks f s) (list_any (asks f) ss) free in
-      and_from _ _ (ap (λ b. cond b (cond s.inverted (not (holds_of s.value n)) (holds_of s.value n)) true) here) (settings-allow ss rest)
+      and_from _ _ (ap (λ b. cond b (cond s.inverted (not (holds_of s.value n)) (holds_of s.value n)) true) here) (option_values-allow ss rest)
 
   first-part : (k : MatchKind) → fragment_allows f n k ≡ true
   first-part k = ap (λ b. not ((match_row k).asks_fragment && b) || (n == 0)) other ∙ go (match_row k).asks_fragment
@@ -73,17 +73,17 @@ module _ (f : Field) (n : ℕ) (other : same_field f field.Fragment ≡ false) w
       go true = refl
       go false = refl
 
-  matches-allow : (ms : List Match) → list_any (λ (m : Match). list_any (asks f) m.settings) ms ≡ false → list_all (match_allows f n) ms ≡ true
+  matches-allow : (ms : List Match) → list_any (λ (m : Match). list_any (asks f) m.option_values) ms ≡ false → list_all (match_allows f n) ms ≡ true
   matches-allow [] free = refl
   matches-allow (m ∷ ms) free =
-      let (here, rest) = or_parts (list_any (asks f) m.settings) (list_any (λ (m : Match). list_any (asks f) m.settings) ms) free in
-      and_from _ _ (and_from _ _ (first-part m.kind) (settings-allow m.settings here)) (matches-allow ms rest)
+      let (here, rest) = or_parts (list_any (asks f) m.option_values) (list_any (λ (m : Match). list_any (asks f) m.option_values) ms) free in
+      and_from _ _ (and_from _ _ (first-part m.kind) (option_values-allow m.option_values here)) (matches-allow ms rest)
 
   all-allowed : (r : Rule) → asks_on f r ≡ false → allows r f n ≡ true
   unfolding allows
   all-allowed r free =
-      let (own, rest) = or_parts (list_any (asks f) r.settings) (list_any (λ (m : Match). list_any (asks f) m.settings) r.matches) free in
-      and_from _ _ (settings-allow r.settings own) (matches-allow r.matches rest)
+      let (own, rest) = or_parts (list_any (asks f) r.option_values) (list_any (λ (m : Match). list_any (asks f) m.option_values) r.matches) free in
+      and_from _ _ (option_values-allow r.option_values own) (matches-allow r.matches rest)
 
 pub in_free : (r : Rule) (n : ℕ) → asks_on field.InIface r ≡ false → allows r field.InIface n ≡ true
 in_free r n free = all-allowed field.InIface n refl r free

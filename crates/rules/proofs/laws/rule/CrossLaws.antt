@@ -5,11 +5,11 @@ use Rattle.std.proofs.lemmas.Bool.{true≢false}
 use Rattle.std.proofs.lemmas.List.Folds.{list_all-map}
 use Rattle.fields.specs.values.PortRange.{Ports}
 use Rattle.rules.specs.options.Values.{both_ports_in}
-use Rattle.rules.specs.rule.Crossing.{match_crosses, setting_crosses, ports_cross}
+use Rattle.rules.specs.rule.Crossing.{match_crosses, option_value_crosses, ports_cross}
 use Rattle.rules.specs.rule.Rules as viewed
 use Rattle.rules.specs.steps.Crossed.{has_both, is_both}
-use Rattle.rules.specs.declared.options.setting.Setting.{Setting}
-use Rattle.rules.specs.declared.rule.content.Match.{Match}
+use Rattle.rules.specs.declared.options.option_value.OptionValue.{OptionValue}
+use Rattle.rules.specs.declared.rule.spec.Match.{Match}
 use Rattle.rules.specs.steps.Views.{view_match, view_matches}
 
 pub each_viewed : (numbers : List ℕ) (ms : List Match) → list_all (λ m. match_crosses numbers (view_match m)) ms ≡ list_all (match_crosses numbers) (view_matches ms)
@@ -30,7 +30,7 @@ free_all p q (x ∷ xs) each is =
     ] refl is
 
 free_match : (numbers : List ℕ) (m : viewed.Match) → has_both m ≡ false → match_crosses numbers m ≡ true
-free_match numbers m = free_all is_both (setting_crosses numbers) m.settings (λ (s : Setting). free_ports s.inverted (both_ports_in s.value) numbers)
+free_match numbers m = free_all is_both (option_value_crosses numbers) m.option_values (λ (s : OptionValue). free_ports s.inverted (both_ports_in s.value) numbers)
 
 -- one of a list that is made of another is so
 pub any_mapped : {A B : Type 0} (p : B → Bool) (f : A → B) (xs : List A) → list_any p (map f xs) ≡ list_any (λ x. p (f x)) xs

@@ -9,20 +9,20 @@ use mathlib.Core.Bool.{beq}
 use Rattle.fields.specs.declared.values.port_range.PortRange.{PortRange}
 use Rattle.fields.specs.contracts.values.port_range.PortRangePartialEq.TheImpl as of_ports
 use Rattle.rules.specs.contracts.options.match_kind.MatchKindPartialEq.TheImpl as of_kind
-use Rattle.rules.specs.contracts.options.setting.SettingPartialEq.TheImpl as of_setting
+use Rattle.rules.specs.contracts.options.option_value.OptionValuePartialEq.TheImpl as of_option_value
 use Rattle.rules.specs.contracts.options.value.ValuePartialEq.TheImpl as of_value
 use Rattle.rules.specs.contracts.rule.action.ActionPartialEq.TheImpl as of_action
-use Rattle.rules.specs.contracts.rule.content.ContentPartialEq.TheImpl as of_content
-use Rattle.rules.specs.contracts.rule.content.MatchPartialEq.TheImpl as of_match
+use Rattle.rules.specs.contracts.rule.spec.RuleSpecPartialEq.TheImpl as of_spec
+use Rattle.rules.specs.contracts.rule.spec.MatchPartialEq.TheImpl as of_match
 use Rattle.rules.specs.declared.options.match_kind.MatchKind.{MatchKind}
-use Rattle.rules.specs.declared.options.setting.Setting.{Setting}
+use Rattle.rules.specs.declared.options.option_value.OptionValue.{OptionValue}
 use Rattle.rules.specs.declared.options.value.Value.{Value}
 use Rattle.rules.specs.declared.options.value.Value.TheVariants as value
 use Rattle.rules.specs.declared.rule.action.Action.{Action}
-use Rattle.rules.specs.declared.rule.content.Content.{Content}
-use Rattle.rules.specs.declared.rule.content.Match.{Match}
+use Rattle.rules.specs.declared.rule.spec.RuleSpec.{RuleSpec}
+use Rattle.rules.specs.declared.rule.spec.Match.{Match}
 use Rattle.rules.specs.rule.Rules as rules_of
-use Rattle.rules.specs.steps.Views.{view_match, view_matches, view_content}
+use Rattle.rules.specs.steps.Views.{view_match, view_matches, view_spec}
 
 false-true : {A : Type 0} → IsTrue false → A
 false-true h = absurd (cc)
@@ -123,15 +123,15 @@ bool-itself : (a : Bool) → IsTrue (beq a a)
 bool-itself true = refl
 bool-itself false = refl
 
-abbrev setting_with : Bool → Value → Setting
-setting_with inverted v = record { inverted = inverted; value = v }
+abbrev option_value_with : Bool → Value → OptionValue
+option_value_with inverted v = record { inverted = inverted; value = v }
 
-same-settings : (a b : Setting) → IsTrue (of_setting.ghosts.eq a b) ↔ (a ≡ b)
-same-settings a b =
-    let P : Setting → Type 0 = λ s. IsTrue (of_setting.ghosts.eq a s) in (
+same-option_values : (a b : OptionValue) → IsTrue (of_option_value.ghosts.eq a b) ↔ (a ≡ b)
+same-option_values a b =
+    let P : OptionValue → Type 0 = λ s. IsTrue (of_option_value.ghosts.eq a s) in (
       λ h.
           let (first, rest) = and_parts (beq a.inverted b.inverted) (of_value.ghosts.eq a.value b.value) h in
-          ap (λ i. setting_with i a.value) (same-bools a.inverted b.inverted first) ∙ ap (λ v. setting_with b.inverted v) (values-same a.value b.value rest),
+          ap (λ i. option_value_with i a.value) (same-bools a.inverted b.inverted first) ∙ ap (λ v. option_value_with b.inverted v) (values-same a.value b.value rest),
       λ e. subst P e (and-both (beq a.inverted a.inverted) (of_value.ghosts.eq a.value a.value) (bool-itself a.inverted) (value-itself a.value)),
     )
 
@@ -139,36 +139,36 @@ same-settings a b =
 same-kinds : (a b : MatchKind) → IsTrue (of_kind.ghosts.eq a b) ↔ (a ≡ b)
 same-kinds a b = search rules
 
-abbrev match_with : MatchKind → List Setting → rules_of.Match
-match_with k ss = record { kind = k; settings = ss }
+abbrev match_with : MatchKind → List OptionValue → rules_of.Match
+match_with k ss = record { kind = k; option_values = ss }
 
 same-matches : (a b : Match) → IsTrue (of_match.ghosts.eq a b) ↔ (view_match a ≡ view_match b)
 same-matches a b =
-    let options = same-items of_setting.ghosts.eq same-settings a.settings.items b.settings.items in
+    let options = same-items of_option_value.ghosts.eq same-option_values a.option_values.items b.option_values.items in
     let kinds = same-kinds a.kind b.kind in (
       λ h.
-          let (first, rest) = and_parts (of_kind.ghosts.eq a.kind b.kind) (pointwise of_setting.ghosts.eq a.settings.items b.settings.items) h in
-          ap (λ k. match_with k a.settings.items) (kinds.0 first) ∙ ap (match_with b.kind) (options.0 rest),
+          let (first, rest) = and_parts (of_kind.ghosts.eq a.kind b.kind) (pointwise of_option_value.ghosts.eq a.option_values.items b.option_values.items) h in
+          ap (λ k. match_with k a.option_values.items) (kinds.0 first) ∙ ap (match_with b.kind) (options.0 rest),
       λ e.
-          and-both (of_kind.ghosts.eq a.kind b.kind) (pointwise of_setting.ghosts.eq a.settings.items b.settings.items) (kinds.1 (ap (λ (m : rules_of.Match). m.kind) e))
-          (options.1 (ap (λ (m : rules_of.Match). m.settings) e)),
+          and-both (of_kind.ghosts.eq a.kind b.kind) (pointwise of_option_value.ghosts.eq a.option_values.items b.option_values.items) (kinds.1 (ap (λ (m : rules_of.Match). m.kind) e))
+          (options.1 (ap (λ (m : rules_of.Match). m.option_values) e)),
     )
 
 -- rules
 same-actions : (a b : Option Action) → IsTrue (option_eq of_action.ghosts.eq a b) ↔ (a ≡ b)
 same-actions a b = search rules
 
-abbrev rule_with : List Setting → List rules_of.Match → Option Action → List Setting → rules_of.Rule
-rule_with own ms action of_target = record { settings = own; matches = ms; action = action; target_options = of_target }
+abbrev rule_with : List OptionValue → List rules_of.Match → Option Action → List OptionValue → rules_of.Rule
+rule_with own ms action of_target = record { option_values = own; matches = ms; action = action; target_options = of_target }
 
-pub same-contents : (a b : Content) → IsTrue (of_content.ghosts.eq a b) ↔ (view_content a ≡ view_content b)
+pub same-contents : (a b : RuleSpec) → IsTrue (of_spec.ghosts.eq a b) ↔ (view_spec a ≡ view_spec b)
 same-contents a b =
-    let E = pointwise of_setting.ghosts.eq in
-    let own = same-items of_setting.ghosts.eq same-settings a.settings.items b.settings.items in
+    let E = pointwise of_option_value.ghosts.eq in
+    let own = same-items of_option_value.ghosts.eq same-option_values a.option_values.items b.option_values.items in
     let ms = same-views of_match.ghosts.eq view_match same-matches a.matches.items b.matches.items in
     let actions = same-actions a.action b.action in
-    let last = same-items of_setting.ghosts.eq same-settings a.target_options.items b.target_options.items in
-    let one = E a.settings.items b.settings.items in
+    let last = same-items of_option_value.ghosts.eq same-option_values a.target_options.items b.target_options.items in
+    let one = E a.option_values.items b.option_values.items in
     let two = pointwise of_match.ghosts.eq a.matches.items b.matches.items in
     let three = option_eq of_action.ghosts.eq a.action b.action in
     let four = E a.target_options.items b.target_options.items in (
@@ -177,11 +177,11 @@ same-contents a b =
           let (second, rest) = and_parts two (three && four) others in
           let (third, fourth) = and_parts three four rest in
           ap (λ l. rule_with l (view_matches a.matches.items) a.action a.target_options.items) (own.0 first)
-          ∙ ap (λ l. rule_with b.settings.items l a.action a.target_options.items) (ms.0 second)
-          ∙ ap (λ g. rule_with b.settings.items (view_matches b.matches.items) g a.target_options.items) (actions.0 third)
-          ∙ ap (λ l. rule_with b.settings.items (view_matches b.matches.items) b.action l) (last.0 fourth),
+          ∙ ap (λ l. rule_with b.option_values.items l a.action a.target_options.items) (ms.0 second)
+          ∙ ap (λ g. rule_with b.option_values.items (view_matches b.matches.items) g a.target_options.items) (actions.0 third)
+          ∙ ap (λ l. rule_with b.option_values.items (view_matches b.matches.items) b.action l) (last.0 fourth),
       λ e.
-          and-both one (two && (three && four)) (own.1 (ap (λ (r : rules_of.Rule). r.settings) e))
+          and-both one (two && (three && four)) (own.1 (ap (λ (r : rules_of.Rule). r.option_values) e))
           (and-both two (three && four) (ms.1 (ap (λ (r : rules_of.Rule). r.matches) e))
           (and-both three four (actions.1 (ap (λ (r : rules_of.Rule). r.action) e)) (last.1 (ap (λ (r : rules_of.Rule). r.target_options) e)))),
     )

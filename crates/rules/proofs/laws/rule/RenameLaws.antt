@@ -4,11 +4,11 @@ use Rattle.std.proofs.lemmas.Bool.{cond-true}
 use Rattle.fields.specs.values.Name.{is_name, name_of}
 use Rattle.rules.specs.rule.Actions.{action_with_chain_name, with_chain_name}
 use Rattle.rules.specs.rule.Rules.{Rule, action_default, or_default, normal_form}
-use Rattle.rules.specs.options.Settings.{is_condition}
+use Rattle.rules.specs.options.OptionValues.{is_condition}
 use Rattle.rules.specs.printing.RoundTrip.{ReadsItself, RenamedReadsBack}
 use Rattle.rules.specs.declared.rule.action.Action.{Action}
 use Rattle.rules.specs.declared.rule.action.Action.TheVariants as action
-use Rattle.rules.specs.declared.options.setting.Setting.{Setting}
+use Rattle.rules.specs.declared.options.option_value.OptionValue.{OptionValue}
 use Rattle.rules.proofs.laws.reading.Readable.{IsGroup, OfAction, ActionBack}
 use Rattle.rules.proofs.laws.printing.RoundLaws.{rule_of-shown_rule}
 use Rattle.rules.proofs.laws.printing.RoundTripLaws.{read_reads, readable, text_reads_back}
@@ -34,7 +34,7 @@ named-back name (Some action.Log) is back = tt
 named-back name (Some (action.Jump old)) is back = is
 named-back name (Some (action.Goto old)) is back = is
 
-same-target_options : (name : List ℕ) (a : Option Action) (ss : List Setting) → IsGroup (OfAction a) ss → IsGroup (OfAction (action_with_chain_name name a)) ss
+same-target_options : (name : List ℕ) (a : Option Action) (ss : List OptionValue) → IsGroup (OfAction a) ss → IsGroup (OfAction (action_with_chain_name name a)) ss
 same-target_options name None ss is = is
 same-target_options name (Some action.Accept) ss is = is
 same-target_options name (Some action.Drop) ss is = is
@@ -49,7 +49,7 @@ renamed_reads name r is reads =
     let was = readable r reads in
     rule_of-shown_rule 0 (with_chain_name name r) (record {
       parts = record {
-        settings = was.parts.settings;
+        option_values = was.parts.option_values;
         few = was.parts.few;
         matches = was.parts.matches;
         action = named-back name r.action is was.parts.action;
@@ -59,8 +59,8 @@ renamed_reads name r is reads =
       met = was.met;
     })
   where
-    with_target_options : List Setting → Rule
-    with_target_options ss = record { settings = (normal_form r).settings; matches = (normal_form r).matches; action = action_with_chain_name name r.action; target_options = ss }
+    with_target_options : List OptionValue → Rule
+    with_target_options ss = record { option_values = (normal_form r).option_values; matches = (normal_form r).matches; action = action_with_chain_name name r.action; target_options = ss }
 
 pub name_is : (name : List ℕ) → IsTrue (is_name name) → name_of name ≡ Some name
 unfolding name_of

@@ -2,7 +2,7 @@ use Rattle.std.proofs.Common.{arith}
 use Rattle.fields.proofs.laws.text.PutLaws.{puts-stopped, stopped-item}
 use Rattle.rules.specs.steps.Writing.{match_text}
 use Rattle.rules.specs.steps.Views.{view_match}
-use Rattle.rules.specs.declared.rule.content.Match.{Match}
+use Rattle.rules.specs.declared.rule.spec.Match.{Match}
 use Rattle.rules.proofs.printing.put_matches.Goals as goal
 
 pub returns-in_err-put_match : goal.returns-in_err-put_match

@@ -2,7 +2,7 @@ use Rattle.std.proofs.Common.{take, flat_map}
 use Rattle.fields.specs.text.Tap.{Wrote}
 use Rattle.rules.specs.steps.Writing.{match_text}
 use Rattle.rules.specs.steps.Views.{view_match}
-use Rattle.rules.specs.declared.rule.content.Match.{Match}
+use Rattle.rules.specs.declared.rule.spec.Match.{Match}
 use Rattle.rules.proofs.printing.put_matches.Given as goal
 
 abbrev pub invariant-loop-one : goal.invariant-loop-one

@@ -1,5 +1,5 @@
 -- Steps that make a chain, empty all or set a policy lead from sound tables to sound tables.
-use Rattle.std.proofs.Common.{◌≡◌, inl, inr, ℕ, zero, suc, ◌<◌, ◌≤◌, Bool, true, false, ◌||◌, not, List, [], ◌∷◌, length, map, take, refl, sym, ◌∙◌, ap, arith, subst, Option, Some, None, Contains}
+use Rattle.std.proofs.Common.{◌≡◌, inl, inr, ℕ, zero, suc, ◌<◌, ◌≤◌, Bool, true, false, ◌||◌, List, [], ◌∷◌, length, map, take, refl, sym, ◌∙◌, ap, arith, subst, Option, Some, None, Contains}
 use Rattle.std.specs.Prelude.{All, filter, nat_le}
 use Rattle.std.specs.List.{list_any}
 use Rattle.std.specs.Str.{bytes_eq}

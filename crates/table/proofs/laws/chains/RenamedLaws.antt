@@ -10,7 +10,7 @@ use Rattle.std.proofs.lemmas.List.Elements.{All-map, All-weaker, All-head, All-t
 use Rattle.std.proofs.lemmas.Slice.Eq.{bytes_eq-Decides}
 use Rattle.fields.specs.declared.numbers.field.Field.TheVariants as field
 use Rattle.fields.specs.values.Name.{is_name}
-use Rattle.rules.specs.declared.options.setting.Setting.{Setting}
+use Rattle.rules.specs.declared.options.option_value.OptionValue.{OptionValue}
 use Rattle.rules.specs.declared.rule.action.Action.{Action}
 use Rattle.rules.specs.declared.rule.action.Action.TheVariants as action
 use Rattle.rules.specs.printing.RoundTrip.{TextReadsBack, RenamedReadsBack}
@@ -25,14 +25,14 @@ use Rattle.table.proofs.laws.chains.KeepLaws.{has_by_names, is_user_name, listed
 use Rattle.table.proofs.laws.chains.OrderLaws.{names_placed, placed_listed}
 use Rattle.table.proofs.laws.chains.PlaceLaws.{differing_at, rules_at}
 use Rattle.table.proofs.laws.chains.RestLaws.{all_less, any_kept, any_less, both_false, either_false, filter_less, listed_less, placed_has, placed_other, placed_own, remove_agree, rules_less}
-use Rattle.table.proofs.laws.chains.RowLaws.{map_remove}
+use Rattle.table.proofs.laws.chains.StoredChainLaws.{map_remove}
 use Rattle.table.proofs.laws.chains.StepLaws.{first_clear, none_holds}
 use Rattle.table.proofs.laws.chains.StoreLaws.{texts_differ}
 
 -- Names in rules
 
 -- a rule's target under another name
-named_anew : (new m : List ℕ) (a : Option Action) (options : List Setting) → chain_in (option_map (λ x. target_with x options) a) ≡ Some m
+named_anew : (new m : List ℕ) (a : Option Action) (options : List OptionValue) → chain_in (option_map (λ x. target_with x options) a) ≡ Some m
     → chain_in (option_map (λ x. target_with x options) (action_with_chain_name new a)) ≡ Some new
 named_anew new m None options e = absurd (cc)
 named_anew new m (Some action.Accept) options e = absurd (cc)

@@ -12,13 +12,13 @@ use Rattle.fields.specs.Refusals.{Refuses}
 use Rattle.fields.specs.values.Name.{is_name, name_of}
 use Rattle.table.specs.chains.Table.{Table, TableView, Chain, Policy, AreClassified, is_named, has_chain, rules_of}
 use Rattle.table.specs.edits.Edits.{Edit, Cause, same_text, without_first, no_such_rule, changed_chain, TableFault, NoSuchChain, fault_of, first_fault, edited, changed, step, refusal_of, Answers, IsStep, IsStepIfRoom, NoMemory, no_such_chain}
-use Rattle.table.specs.declared.chain.entry.Course.TheVariants as course
+use Rattle.table.specs.declared.chain.entry.Flow.TheVariants as flow
 use Rattle.table.specs.declared.chain.entry.Entry.{Entry}
 use Rattle.std.specs.Prelude.{remove}
 use Rattle.std.proofs.lemmas.List.Quantifiers.{position-Some}
 use Rattle.std.proofs.lemmas.Slice.Eq.{bytes_eq-Decides}
-use Rattle.table.specs.steps.Rows.{Row, rule_in, rules_in, has_text, IsClassified}
-use Rattle.table.specs.steps.Kept.{row_at, name_at, listed, listed_row, blank, classifiers, table_of, table_with, name_in, row_in, AreStored}
+use Rattle.table.specs.steps.StoredChains.{StoredChain, rule_in, rules_in, has_text, IsClassified}
+use Rattle.table.specs.steps.Kept.{stored_at, name_at, listed, listed_stored, blank, classifiers, table_of, table_with, name_in, stored_in, AreStored}
 use Rattle.table.specs.declared.parts.Parts.{Parts}
 use Rattle.table.proofs.laws.chains.PlaceLaws.{any_none, any_some, IsPlaced, placed_at, placed_nowhere}
 use Rattle.table.proofs.laws.chains.StoreLaws.{names_apart, listed_get, length-listed}
@@ -90,24 +90,24 @@ somewhere t name i cs e = passes (no_such_chain t name) cs (let p : IsPlaced t n
 
 -- A chain that was found
 
-module _ (ps : List Policy) (slots : List (Option Row)) (order name : List ℕ) (i : ℕ) (lt : i < length order) (e : position (is_named name) (listed slots order) ≡ Some i) where
+module _ (ps : List Policy) (slots : List (Option StoredChain)) (order name : List ℕ) (i : ℕ) (lt : i < length order) (e : position (is_named name) (listed slots order) ≡ Some i) where
   placed_here : IsPlaced (table_with ps slots order) name i
   placed_here = placed_at (table_with ps slots order) name i e
 
-  pub rules_placed : rules_of (listed slots order) name ≡ rules_in (row_at slots (get_or order i 0))
-  rules_placed = placed_here.rules (listed_row blank) ∙ ap (λ (c : Chain). c.rules) (listed_get slots order i (listed_row blank) lt)
+  pub rules_placed : rules_of (listed slots order) name ≡ rules_in (stored_at slots (get_or order i 0))
+  rules_placed = placed_here.rules (listed_stored blank) ∙ ap (λ (c : Chain). c.rules) (listed_get slots order i (listed_stored blank) lt)
 
-  pub count_placed : length (rules_of (listed slots order) name) ≡ length (row_at slots (get_or order i 0)).entries
-  count_placed = ap (λ (rs : List Rule). length rs) rules_placed ∙ length-map (row_at slots (get_or order i 0)).entries (λ x. x.rule)
+  pub count_placed : length (rules_of (listed slots order) name) ≡ length (stored_at slots (get_or order i 0)).entries
+  count_placed = ap (λ (rs : List Rule). length rs) rules_placed ∙ length-map (stored_at slots (get_or order i 0)).entries (λ x. x.rule)
 
   pub name_placed : name_at slots order i ≡ name
-  name_placed = ap (λ (c : Chain). c.name) (sym (listed_get slots order i (listed_row blank) lt)) ∙ placed_here.named (listed_row blank)
+  name_placed = ap (λ (c : Chain). c.name) (sym (listed_get slots order i (listed_stored blank) lt)) ∙ placed_here.named (listed_stored blank)
 
 -- of parts: its rules, how many there are, and its name
-pub rules_found : (p : Parts) (name : List ℕ) (i : ℕ) → i < length p.order.items → position (is_named name) (table_of p).chains ≡ Some i → rules_of (table_of p).chains name ≡ rules_in (row_in p i)
+pub rules_found : (p : Parts) (name : List ℕ) (i : ℕ) → i < length p.order.items → position (is_named name) (table_of p).chains ≡ Some i → rules_of (table_of p).chains name ≡ rules_in (stored_in p i)
 rules_found p name i lt e = rules_placed p.policies p.chains.slots p.order.items name i lt e
 
-pub count_found : (p : Parts) (name : List ℕ) (i : ℕ) → i < length p.order.items → position (is_named name) (table_of p).chains ≡ Some i → length (rules_of (table_of p).chains name) ≡ length (row_in p i).entries
+pub count_found : (p : Parts) (name : List ℕ) (i : ℕ) → i < length p.order.items → position (is_named name) (table_of p).chains ≡ Some i → length (rules_of (table_of p).chains name) ≡ length (stored_in p i).entries
 count_found p name i lt e = count_placed p.policies p.chains.slots p.order.items name i lt e
 
 pub name_found : (p : Parts) (name : List ℕ) (i : ℕ) → i < length p.order.items → position (is_named name) (table_of p).chains ≡ Some i → name_in p i ≡ name
@@ -119,7 +119,7 @@ pub changed_found : (p new : Parts) (name : List ℕ) (i : ℕ) (edit : List Rul
 changed_found p new name i edit lt e is = is ∙ ap (λ n. changed edit n (table_of p)) (name_found p name i lt e)
 
 -- each chain's classifier is that of its rules
-pub classified_with : (slots : List (Option Row)) (keys : List ℕ) → ((i : ℕ) → i < length keys → IsClassified (row_at slots (get_or keys i 0))) → AreClassified (listed slots keys) (classifiers slots keys)
+pub classified_with : (slots : List (Option StoredChain)) (keys : List ℕ) → ((i : ℕ) → i < length keys → IsClassified (stored_at slots (get_or keys i 0))) → AreClassified (listed slots keys) (classifiers slots keys)
 classified_with slots [] h = tt
 classified_with slots (x ∷ xs) h = (h 0 (omega arith), classified_with slots xs (λ i lt. h (suc i) (omega (arith, lt))))
 
@@ -127,17 +127,17 @@ classified_with slots (x ∷ xs) h = (h 0 (omega arith), classified_with slots x
 
 -- no rule of a chain has the text
 pub no_text : (p : Parts) (name : List ℕ) (i : ℕ) (rule : Rule) → i < length p.order.items → position (is_named name) (table_of p).chains ≡ Some i
-    → position (has_text rule) (row_in p i).entries ≡ None → (no_such_rule (table_of p) name rule).0 ≡ true
+    → position (has_text rule) (stored_in p i).entries ≡ None → (no_such_rule (table_of p) name rule).0 ≡ true
 no_text p name i rule lt e none =
-    let es : List Entry = (row_in p i).entries in
+    let es : List Entry = (stored_in p i).entries in
     ap not (ap (list_any (same_text rule)) (rules_found p name i lt e) ∙ any_mapped (same_text rule) rule_in es ∙ any_none (has_text rule) es none)
 
 -- one has
 pub some_text : (p : Parts) (name : List ℕ) (i at : ℕ) (rule : Rule) → i < length p.order.items → position (is_named name) (table_of p).chains ≡ Some i
-    → position (has_text rule) (row_in p i).entries ≡ Some at → (no_such_rule (table_of p) name rule).0 ≡ false
+    → position (has_text rule) (stored_in p i).entries ≡ Some at → (no_such_rule (table_of p) name rule).0 ≡ false
 some_text p name i at rule lt e found =
-    let es : List Entry = (row_in p i).entries in
-    ap not (ap (list_any (same_text rule)) (rules_found p name i lt e) ∙ any_mapped (same_text rule) rule_in es ∙ any_some (has_text rule) es at (record { rule = rule; course = course.GoesOn }) found)
+    let es : List Entry = (stored_in p i).entries in
+    ap not (ap (list_any (same_text rule)) (rules_found p name i lt e) ∙ any_mapped (same_text rule) rule_in es ∙ any_some (has_text rule) es at (record { rule = rule; flow = flow.Continue }) found)
 
 -- the first rule of the text is the one at its place
 without_at : (rule : Rule) (es : List Entry) (at : ℕ) (d : Entry) → at < length es → ((k : ℕ) → k < at → has_text rule (get_or es k d) ≡ false) → has_text rule (get_or es at d) ≡ true → without_first rule (map rule_in es) ≡ remove (map rule_in es) at
@@ -148,7 +148,7 @@ without_at rule (e ∷ es) (suc at) d lt before is =
 
 pub without_found : (rule : Rule) (es : List Entry) (at : ℕ) → position (has_text rule) es ≡ Some at → without_first rule (map rule_in es) ≡ remove (map rule_in es) at
 without_found rule es at found =
-    let d : Entry = record { rule = rule; course = course.GoesOn } in
+    let d : Entry = record { rule = rule; flow = flow.Continue } in
     let p = position-Some (has_text rule) es at d found in
     without_at rule es at d p.0 p.2 p.1
 
@@ -159,22 +159,22 @@ map_agree f g [] d h = refl
 map_agree f g (c ∷ cs) d h = λ i. h 0 (omega arith) i ∷ map_agree f g cs d (λ k lt. h (suc k) (omega (arith, lt))) i
 
 pub changed_agree : (p : Parts) (name : List ℕ) (i : ℕ) (f g : List Rule → List Rule) → AreStored p → i < length p.order.items → name_in p i ≡ name
-    → f (rules_in (row_in p i)) ≡ g (rules_in (row_in p i)) → changed f name (table_of p) ≡ changed g name (table_of p)
+    → f (rules_in (stored_in p i)) ≡ g (rules_in (stored_in p i)) → changed f name (table_of p) ≡ changed g name (table_of p)
 changed_agree p name i f g s lt named same =
-    let slots : List (Option Row) = p.chains.slots in
+    let slots : List (Option StoredChain) = p.chains.slots in
     let order : List ℕ = p.order.items in
-    let d : Chain = listed_row blank in
+    let d : Chain = listed_stored blank in
     let P : List Chain → Table = λ (cs : List Chain). record { policies = p.policies; chains = cs } in
     ap P (map_agree (changed_chain f name) (changed_chain g name) (listed slots order) d
     (λ k lk.
     let below : k < length order = omega (arith, lk, length-listed slots order) in
-    let at : get_or (listed slots order) k d ≡ listed_row (row_at slots (get_or order k 0)) = listed_get slots order k d below in
-    let c : Chain = listed_row (row_at slots (get_or order k 0)) in
+    let at : get_or (listed slots order) k d ≡ listed_stored (stored_at slots (get_or order k 0)) = listed_get slots order k d below in
+    let c : Chain = listed_stored (stored_at slots (get_or order k 0)) in
     ap (changed_chain f name) at
     ∙ elim (cases_Bool (is_named name c)) [
       | inl own ↦ (
           let q : k ≡ i = names_apart p.policies slots order s k i below lt ((bytes_eq-Decides c.name name).0 own ∙ sym named) in
-          let R : ℕ → Type 0 = λ j. f (rules_in (row_at slots (get_or order j 0))) ≡ g (rules_in (row_at slots (get_or order j 0))) in
+          let R : ℕ → Type 0 = λ j. f (rules_in (stored_at slots (get_or order j 0))) ≡ g (rules_in (stored_at slots (get_or order j 0))) in
           let e : f c.rules ≡ g c.rules = subst R (sym q) same in
           cond-true (is_named name c) _ _ own ∙ ap (λ (rs : List Rule). record { name = c.name; rules = rs }) e ∙ sym (cond-true (is_named name c) _ _ own))
       | inr other ↦ cond-false (is_named name c) _ _ other ∙ sym (cond-false (is_named name c) _ _ other)

@@ -15,59 +15,59 @@ use Rattle.rules.specs.declared.rule.target.Target.TheVariants as target
 use Rattle.table.specs.chains.Sound.{IsSound}
 use Rattle.table.specs.chains.Table.{Policy, Table, Chain, chain_in, chain_named_by}
 use Rattle.table.specs.edits.Edits.{changed}
-use Rattle.table.specs.steps.Rows.{Row, rule_in, rules_in, leads_to, is_key, key_in, course_of, ones, IsClassified}
-use Rattle.table.specs.steps.Kept.{blank, slot_at, row_at, name_at, table_with, leading_in, leading, references_at, AreRecounted, CountsInAndOut, IsIn, IsUser, LinksTo, IsLinked, IsStored, IsKept}
+use Rattle.table.specs.steps.StoredChains.{StoredChain, rule_in, rules_in, leads_to, is_key, key_in, flow_of, ones, IsClassified}
+use Rattle.table.specs.steps.Kept.{blank, slot_at, stored_at, name_at, table_with, leading_in, leading, references_at, AreRecounted, CountsInAndOut, IsIn, IsUser, LinksTo, IsLinked, IsStored, IsKept}
 use Rattle.table.specs.declared.chain.entry.Entry.{Entry}
-use Rattle.table.proofs.laws.chains.RowLaws.{map_insert, map_remove}
+use Rattle.table.proofs.laws.chains.StoredChainLaws.{map_insert, map_remove}
 use Rattle.table.proofs.laws.chains.KeptLaws.{Found, found_key, some_set, listed_set, stored_set}
 use Rattle.table.proofs.laws.chains.StepLaws.{remove_keeps, remove_fewer, flush_sound}
 use Rattle.table.proofs.laws.chains.KeepLaws.{take_sound}
 use Rattle.table.proofs.laws.chains.CountLaws.{part_kept, count_has_room, leading_part, found_leading, leading_recounted, listed_recounted, stored_recounted, counted_moved}
 
 -- an edit of one chain's rules
-pub table_set : (ps : List Policy) (slots : List (Option Row)) (order : List ℕ) (i key : ℕ) (row new : Row) (edit : List Rule → List Rule) → Found ps slots order i key row → new.name ≡ row.name → rules_in new ≡ edit (rules_in row)
-    → table_with ps (set slots key (Some new)) order ≡ changed edit row.name (table_with ps slots order)
-table_set ps slots order i key row new edit f named rules = let P : List Chain → Table = λ (cs : List Chain). record { policies = ps; chains = cs } in ap P (listed_set ps slots order i key row new edit f named rules)
+pub table_set : (ps : List Policy) (slots : List (Option StoredChain)) (order : List ℕ) (i key : ℕ) (stored_chain new : StoredChain) (edit : List Rule → List Rule) → Found ps slots order i key stored_chain → new.name ≡ stored_chain.name → rules_in new ≡ edit (rules_in stored_chain)
+    → table_with ps (set slots key (Some new)) order ≡ changed edit stored_chain.name (table_with ps slots order)
+table_set ps slots order i key stored_chain new edit f named rules = let P : List Chain → Table = λ (cs : List Chain). record { policies = ps; chains = cs } in ap P (listed_set ps slots order i key stored_chain new edit f named rules)
 
 -- the name of the chain
-pub found_name : (ps : List Policy) (slots : List (Option Row)) (order : List ℕ) (i key : ℕ) (row : Row) → Found ps slots order i key row → name_at slots order i ≡ row.name
-found_name ps slots order i key row f = ap (λ (k : ℕ). (row_at slots k).name) f.at ∙ ap (λ (r : Row). r.name) f.is
+pub found_name : (ps : List Policy) (slots : List (Option StoredChain)) (order : List ℕ) (i key : ℕ) (stored_chain : StoredChain) → Found ps slots order i key stored_chain → name_at slots order i ≡ stored_chain.name
+found_name ps slots order i key stored_chain f = ap (λ (k : ℕ). (stored_at slots k).name) f.at ∙ ap (λ (r : StoredChain). r.name) f.is
 
 -- the rules of a chain are edited, and the counts follow
-pub kept_edit : (ps : List Policy) (slots after : List (Option Row)) (order : List ℕ) (i key : ℕ) (row new : Row) (edit : List Rule → List Rule) (more fewer : Option ℕ) → IsKept ps slots order → Found ps slots order i key row → new.name ≡ row.name → new.references ≡ row.references
-    → rules_in new ≡ edit (rules_in row) → All (IsLinked slots order) new.entries → IsClassified new → IsSound (changed edit row.name (table_with ps slots order))
-    → ((k : ℕ) → leading_in k new + ones (is_key k fewer) ≡ leading_in k row + ones (is_key k more))
+pub kept_edit : (ps : List Policy) (slots after : List (Option StoredChain)) (order : List ℕ) (i key : ℕ) (stored_chain new : StoredChain) (edit : List Rule → List Rule) (more fewer : Option ℕ) → IsKept ps slots order → Found ps slots order i key stored_chain → new.name ≡ stored_chain.name → new.references ≡ stored_chain.references
+    → rules_in new ≡ edit (rules_in stored_chain) → All (IsLinked slots order) new.entries → IsClassified new → IsSound (changed edit stored_chain.name (table_with ps slots order))
+    → ((k : ℕ) → leading_in k new + ones (is_key k fewer) ≡ leading_in k stored_chain + ones (is_key k more))
     → AreRecounted (set slots key (Some new)) after → CountsInAndOut more fewer (references_at (set slots key (Some new))) (references_at after) → IsKept ps after order
-kept_edit ps slots after order i key row new edit more fewer h f named refs rules linked classified sound lead same counts =
-    let first : List (Option Row) = set slots key (Some new) in
-    let stored : IsStored ps first order = stored_set ps slots order i key row new (changed edit row.name (table_with ps slots order)) f named linked classified (table_set ps slots order i key row new edit f named rules) sound in
+kept_edit ps slots after order i key stored_chain new edit more fewer h f named refs rules linked classified sound lead same counts =
+    let first : List (Option StoredChain) = set slots key (Some new) in
+    let stored : IsStored ps first order = stored_set ps slots order i key stored_chain new (changed edit stored_chain.name (table_with ps slots order)) f named linked classified (table_set ps slots order i key stored_chain new edit f named rules) sound in
     record {
       stored = stored_recounted ps first after order same stored;
       counted = counted_moved slots after order more fewer
-          (λ k. let a = counts k in let b : references_at first k ≡ references_at slots k = part_kept slots key row new (λ (r : Row). r.references) f.slot refs k in omega (arith, a, b))
-          (λ k. let a = lead k in let b = found_leading ps slots order i key k row new f in let c = leading_recounted first after order k same in omega (arith, a, b, c)) h.counted;
+          (λ k. let a = counts k in let b : references_at first k ≡ references_at slots k = part_kept slots key stored_chain new (λ (r : StoredChain). r.references) f.slot refs k in omega (arith, a, b))
+          (λ k. let a = lead k in let b = found_leading ps slots order i key k stored_chain new f in let c = leading_recounted first after order k same in omega (arith, a, b, c)) h.counted;
     }
 
 -- and the table is the edited one
-pub table_edit : (ps : List Policy) (slots after : List (Option Row)) (order : List ℕ) (i key : ℕ) (row new : Row) (edit : List Rule → List Rule) → Found ps slots order i key row → new.name ≡ row.name
-    → rules_in new ≡ edit (rules_in row) → AreRecounted (set slots key (Some new)) after → table_with ps after order ≡ changed edit row.name (table_with ps slots order)
-table_edit ps slots after order i key row new edit f named rules same =
-    let P : List Chain → Table = λ (cs : List Chain). record { policies = ps; chains = cs } in ap P (listed_recounted (set slots key (Some new)) after order same) ∙ table_set ps slots order i key row new edit f named rules
+pub table_edit : (ps : List Policy) (slots after : List (Option StoredChain)) (order : List ℕ) (i key : ℕ) (stored_chain new : StoredChain) (edit : List Rule → List Rule) → Found ps slots order i key stored_chain → new.name ≡ stored_chain.name
+    → rules_in new ≡ edit (rules_in stored_chain) → AreRecounted (set slots key (Some new)) after → table_with ps after order ≡ changed edit stored_chain.name (table_with ps slots order)
+table_edit ps slots after order i key stored_chain new edit f named rules same =
+    let P : List Chain → Table = λ (cs : List Chain). record { policies = ps; chains = cs } in ap P (listed_recounted (set slots key (Some new)) after order same) ∙ table_set ps slots order i key stored_chain new edit f named rules
 
 -- what an edit does to the count of the rules that lead to a chain
-pub leads_in : (es : List Entry) (n : ℕ) (e : Entry) (k : ℕ) → count_by (λ (x : Entry). leads_to k x.course) (insert es n e) ≡ count_by (λ (x : Entry). leads_to k x.course) es + ones (is_key k (key_in e.course))
-leads_in es n e k = sum_by-insert (λ (x : Entry). cond (leads_to k x.course) 1 0) es n e
+pub leads_in : (es : List Entry) (n : ℕ) (e : Entry) (k : ℕ) → count_by (λ (x : Entry). leads_to k x.flow) (insert es n e) ≡ count_by (λ (x : Entry). leads_to k x.flow) es + ones (is_key k (key_in e.flow))
+leads_in es n e k = sum_by-insert (λ (x : Entry). cond (leads_to k x.flow) 1 0) es n e
 
-pub leads_out : (es : List Entry) (n : ℕ) (d : Entry) (k : ℕ) → n < length es → count_by (λ (x : Entry). leads_to k x.course) (remove es n) + ones (is_key k (key_in (get_or es n d).course)) ≡ count_by (λ (x : Entry). leads_to k x.course) es
-leads_out es n d k lt = sum_by-remove (λ (x : Entry). cond (leads_to k x.course) 1 0) es n d lt
+pub leads_out : (es : List Entry) (n : ℕ) (d : Entry) (k : ℕ) → n < length es → count_by (λ (x : Entry). leads_to k x.flow) (remove es n) + ones (is_key k (key_in (get_or es n d).flow)) ≡ count_by (λ (x : Entry). leads_to k x.flow) es
+leads_out es n d k lt = sum_by-remove (λ (x : Entry). cond (leads_to k x.flow) 1 0) es n d lt
 
 pub leads_over : (es : List Entry) (n : ℕ) (e d : Entry) (k : ℕ) → n < length es
-    → count_by (λ (x : Entry). leads_to k x.course) (slice_set es n e) + ones (is_key k (key_in (get_or es n d).course)) ≡ count_by (λ (x : Entry). leads_to k x.course) es + ones (is_key k (key_in e.course))
-leads_over es n e d k lt = sum_by-set (λ (x : Entry). cond (leads_to k x.course) 1 0) es n e d lt
+    → count_by (λ (x : Entry). leads_to k x.flow) (slice_set es n e) + ones (is_key k (key_in (get_or es n d).flow)) ≡ count_by (λ (x : Entry). leads_to k x.flow) es + ones (is_key k (key_in e.flow))
+leads_over es n e d k lt = sum_by-set (λ (x : Entry). cond (leads_to k x.flow) 1 0) es n e d lt
 
 -- The chain that a rule leads to
 
-link_of : (slots : List (Option Row)) (order : List ℕ) (k : ℕ) (o : Option Target) (to : ℕ) → LinksTo slots order to (chain_in o) → key_in (course_of o to) ≡ Some k → IsUser order k × (chain_in o ≡ Some (row_at slots k).name)
+link_of : (slots : List (Option StoredChain)) (order : List ℕ) (k : ℕ) (o : Option Target) (to : ℕ) → LinksTo slots order to (chain_in o) → key_in (flow_of o to) ≡ Some k → IsUser order k × (chain_in o ≡ Some (stored_at slots k).name)
 link_of slots order k None to h q = absurd (none-some _ q)
 link_of slots order k (Some target.Log) to h q = absurd (none-some _ q)
 link_of slots order k (Some target.Accept) to h q = absurd (none-some _ q)
@@ -75,16 +75,16 @@ link_of slots order k (Some target.Drop) to h q = absurd (none-some _ q)
 link_of slots order k (Some (target.Reject kind)) to h q = absurd (none-some _ q)
 link_of slots order k (Some target.Return) to h q = absurd (none-some _ q)
 link_of slots order k (Some (target.Jump n)) to h q =
-    let P : ℕ → Type 0 = λ j. IsUser order j × (Some n ≡ Some (row_at slots j).name) in subst P (same_Some _ _ q) (h.0, ap Some (sym h.1))
+    let P : ℕ → Type 0 = λ j. IsUser order j × (Some n ≡ Some (stored_at slots j).name) in subst P (same_Some _ _ q) (h.0, ap Some (sym h.1))
 link_of slots order k (Some (target.Goto n)) to h q =
-    let P : ℕ → Type 0 = λ j. IsUser order j × (Some n ≡ Some (row_at slots j).name) in subst P (same_Some _ _ q) (h.0, ap Some (sym h.1))
+    let P : ℕ → Type 0 = λ j. IsUser order j × (Some n ≡ Some (stored_at slots j).name) in subst P (same_Some _ _ q) (h.0, ap Some (sym h.1))
 
 -- it is a user chain
-pub link_user : (slots : List (Option Row)) (order : List ℕ) (e : Entry) (k : ℕ) → IsLinked slots order e → key_in e.course ≡ Some k → IsUser order k
+pub link_user : (slots : List (Option StoredChain)) (order : List ℕ) (e : Entry) (k : ℕ) → IsLinked slots order e → key_in e.flow ≡ Some k → IsUser order k
 link_user slots order e k l is = (link_of slots order k (target_of e.rule) l.0 l.2 (sym (ap key_in l.1) ∙ is)).0
 
 -- the rule names it
-pub link_named : (slots : List (Option Row)) (order : List ℕ) (e : Entry) (k : ℕ) → IsLinked slots order e → key_in e.course ≡ Some k → chain_named_by e.rule ≡ Some (row_at slots k).name
+pub link_named : (slots : List (Option StoredChain)) (order : List ℕ) (e : Entry) (k : ℕ) → IsLinked slots order e → key_in e.flow ≡ Some k → chain_named_by e.rule ≡ Some (stored_at slots k).name
 link_named slots order e k l is = (link_of slots order k (target_of e.rule) l.0 l.2 (sym (ap key_in l.1) ∙ is)).1
 
 pub if_some : {X : Type 0} (o : Option X) (P : X → Type 0) → ((x : X) → o ≡ Some x → P x) → IfSome o P
@@ -92,139 +92,139 @@ if_some None P h = tt
 if_some (Some x) P h = h x refl
 
 -- it is there, and so with another chain changed
-link_there : (ps : List Policy) (slots : List (Option Row)) (order : List ℕ) (i key k : ℕ) (row new : Row) → Found ps slots order i key row → IsUser order k → IsSome (slot_at (set slots key (Some new)) k)
-link_there ps slots order i key k row new f u =
+link_there : (ps : List Policy) (slots : List (Option StoredChain)) (order : List ℕ) (i key k : ℕ) (stored_chain new : StoredChain) → Found ps slots order i key stored_chain → IsUser order k → IsSome (slot_at (set slots key (Some new)) k)
+link_there ps slots order i key k stored_chain new f u =
     let P : ℕ → Type 0 = λ j. IsSome (slot_at slots j) in some_set slots key k new f.within (subst P u.3 (f.stored.present u.0 u.2))
 
 -- one more can be counted there
-pub counts_in_there : (ps : List Policy) (slots : List (Option Row)) (order : List ℕ) (i key : ℕ) (row new : Row) (e : Entry) (link : Option ℕ) → IsKept ps slots order → Found ps slots order i key row → new.references ≡ row.references → IsLinked slots order e → link ≡ key_in e.course
+pub counts_in_there : (ps : List Policy) (slots : List (Option StoredChain)) (order : List ℕ) (i key : ℕ) (stored_chain new : StoredChain) (e : Entry) (link : Option ℕ) → IsKept ps slots order → Found ps slots order i key stored_chain → new.references ≡ stored_chain.references → IsLinked slots order e → link ≡ key_in e.flow
     → IfSome link (λ k. IsSome (slot_at (set slots key (Some new)) k) × (references_at (set slots key (Some new)) k + 1 < 2 ^ 64))
-counts_in_there ps slots order i key row new e link h f refs l is =
+counts_in_there ps slots order i key stored_chain new e link h f refs l is =
     if_some link _ (λ k at.
     (let u : IsUser order k = link_user slots order e k l (sym is ∙ at) in
-    let a : references_at (set slots key (Some new)) k ≡ references_at slots k = part_kept slots key row new (λ (r : Row). r.references) f.slot refs k in
+    let a : references_at (set slots key (Some new)) k ≡ references_at slots k = part_kept slots key stored_chain new (λ (r : StoredChain). r.references) f.slot refs k in
     let b : references_at slots k + 1 < 2 ^ 64 = count_has_room ps slots order k h.stored h.counted (u.0, u.2, u.3) in
-    (link_there ps slots order i key k row new f u, omega (arith, a, b))))
+    (link_there ps slots order i key k stored_chain new f u, omega (arith, a, b))))
 
 -- one was counted there
-pub counts_out_there : (ps : List Policy) (slots : List (Option Row)) (order : List ℕ) (i key n : ℕ) (row new : Row) (e : Entry) (link : Option ℕ) → IsKept ps slots order → Found ps slots order i key row → new.references ≡ row.references
-    → n < length row.entries → get_or row.entries n e ≡ e → link ≡ key_in e.course → IfSome link (λ k. IsSome (slot_at (set slots key (Some new)) k) × (0 < references_at (set slots key (Some new)) k))
-counts_out_there ps slots order i key n row new e link h f refs lt own is =
-    let Q : Row → Type 0 = λ (r : Row). All (IsLinked slots order) r.entries in
-    let all : All (IsLinked slots order) row.entries = subst Q (ap (row_at slots) f.at ∙ f.is) (f.stored.linked i f.place) in
+pub counts_out_there : (ps : List Policy) (slots : List (Option StoredChain)) (order : List ℕ) (i key n : ℕ) (stored_chain new : StoredChain) (e : Entry) (link : Option ℕ) → IsKept ps slots order → Found ps slots order i key stored_chain → new.references ≡ stored_chain.references
+    → n < length stored_chain.entries → get_or stored_chain.entries n e ≡ e → link ≡ key_in e.flow → IfSome link (λ k. IsSome (slot_at (set slots key (Some new)) k) × (0 < references_at (set slots key (Some new)) k))
+counts_out_there ps slots order i key n stored_chain new e link h f refs lt own is =
+    let Q : StoredChain → Type 0 = λ (r : StoredChain). All (IsLinked slots order) r.entries in
+    let all : All (IsLinked slots order) stored_chain.entries = subst Q (ap (stored_at slots) f.at ∙ f.is) (f.stored.linked i f.place) in
     let l : IsLinked slots order e = subst (IsLinked slots order) own (all n e lt) in
     if_some link _ (λ k at.
     (let u : IsUser order k = link_user slots order e k l (sym is ∙ at) in
     let P : ℕ → Type 0 = λ j. references_at slots j ≡ leading slots order j in
-    let a : references_at (set slots key (Some new)) k ≡ references_at slots k = part_kept slots key row new (λ (r : Row). r.references) f.slot refs k in
+    let a : references_at (set slots key (Some new)) k ≡ references_at slots k = part_kept slots key stored_chain new (λ (r : StoredChain). r.references) f.slot refs k in
     let b : references_at slots k ≡ leading slots order k = subst P u.3 (h.counted u.0 u.2) in
-    let c : leading_in k (row_at slots (get_or order i 0)) ≤ leading slots order k = leading_part slots order i k f.place in
-    let d : leading_in k (row_at slots (get_or order i 0)) ≡ leading_in k row = ap (leading_in k) (ap (row_at slots) f.at ∙ f.is) in
-    let g = leads_out row.entries n e k lt in
-    let one : ones (is_key k (key_in (get_or row.entries n e).course)) ≡ 1 = ap (λ (x : Entry). ones (is_key k (key_in x.course))) own ∙ ap (λ (o : Option ℕ). ones (is_key k o)) (sym is ∙ at) ∙ ap ones (eq-eqb k k refl) in
-    (link_there ps slots order i key k row new f u, omega (arith, a, b, c, d, g, one))))
+    let c : leading_in k (stored_at slots (get_or order i 0)) ≤ leading slots order k = leading_part slots order i k f.place in
+    let d : leading_in k (stored_at slots (get_or order i 0)) ≡ leading_in k stored_chain = ap (leading_in k) (ap (stored_at slots) f.at ∙ f.is) in
+    let g = leads_out stored_chain.entries n e k lt in
+    let one : ones (is_key k (key_in (get_or stored_chain.entries n e).flow)) ≡ 1 = ap (λ (x : Entry). ones (is_key k (key_in x.flow))) own ∙ ap (λ (o : Option ℕ). ones (is_key k o)) (sym is ∙ at) ∙ ap ones (eq-eqb k k refl) in
+    (link_there ps slots order i key k stored_chain new f u, omega (arith, a, b, c, d, g, one))))
 
 -- The three edits of a rule
 
 rules_of_entries : (es fs : List Entry) (gs : List Rule) → es ≡ fs → map rule_in fs ≡ gs → map rule_in es ≡ gs
 rules_of_entries es fs gs e f = ap (map rule_in) e ∙ f
 
-all_linked : (ps : List Policy) (slots : List (Option Row)) (order : List ℕ) (i key : ℕ) (row : Row) → Found ps slots order i key row → All (IsLinked slots order) row.entries
-all_linked ps slots order i key row f = let Q : Row → Type 0 = λ (r : Row). All (IsLinked slots order) r.entries in subst Q (ap (row_at slots) f.at ∙ f.is) (f.stored.linked i f.place)
+all_linked : (ps : List Policy) (slots : List (Option StoredChain)) (order : List ℕ) (i key : ℕ) (stored_chain : StoredChain) → Found ps slots order i key stored_chain → All (IsLinked slots order) stored_chain.entries
+all_linked ps slots order i key stored_chain f = let Q : StoredChain → Type 0 = λ (r : StoredChain). All (IsLinked slots order) r.entries in subst Q (ap (stored_at slots) f.at ∙ f.is) (f.stored.linked i f.place)
 
-sound_named : (ps : List Policy) (slots : List (Option Row)) (order : List ℕ) (i key : ℕ) (row : Row) (edit : List Rule → List Rule) → Found ps slots order i key row → IsSound (changed edit (name_at slots order i) (table_with ps slots order)) → IsSound (changed edit row.name (table_with ps slots order))
-sound_named ps slots order i key row edit f s = let P : List ℕ → Type 0 = λ n. IsSound (changed edit n (table_with ps slots order)) in subst P (found_name ps slots order i key row f) s
+sound_named : (ps : List Policy) (slots : List (Option StoredChain)) (order : List ℕ) (i key : ℕ) (stored_chain : StoredChain) (edit : List Rule → List Rule) → Found ps slots order i key stored_chain → IsSound (changed edit (name_at slots order i) (table_with ps slots order)) → IsSound (changed edit stored_chain.name (table_with ps slots order))
+sound_named ps slots order i key stored_chain edit f s = let P : List ℕ → Type 0 = λ n. IsSound (changed edit n (table_with ps slots order)) in subst P (found_name ps slots order i key stored_chain f) s
 
 -- what a chain is in which a rule was put at a place
-pub record IsPutIn (row new : Row) (at : ℕ) (e : Entry) : Type 0 where
-  pub name : new.name ≡ row.name
-  pub references : new.references ≡ row.references
-  pub entries : new.entries ≡ insert row.entries at e
+pub record IsPutIn (stored_chain new : StoredChain) (at : ℕ) (e : Entry) : Type 0 where
+  pub name : new.name ≡ stored_chain.name
+  pub references : new.references ≡ stored_chain.references
+  pub entries : new.entries ≡ insert stored_chain.entries at e
   pub classified : IsClassified new
 
-pub put_kept : (ps : List Policy) (slots after : List (Option Row)) (order : List ℕ) (i key at : ℕ) (row new : Row) (e : Entry) (link : Option ℕ) → IsKept ps slots order → Found ps slots order i key row → IsPutIn row new at e → IsLinked slots order e → link ≡ key_in e.course
+pub put_kept : (ps : List Policy) (slots after : List (Option StoredChain)) (order : List ℕ) (i key at : ℕ) (stored_chain new : StoredChain) (e : Entry) (link : Option ℕ) → IsKept ps slots order → Found ps slots order i key stored_chain → IsPutIn stored_chain new at e → IsLinked slots order e → link ≡ key_in e.flow
     → IsSound (changed (λ rules. insert rules at e.rule) (name_at slots order i) (table_with ps slots order)) → AreRecounted (set slots key (Some new)) after
     → CountsInAndOut link None (references_at (set slots key (Some new))) (references_at after) → IsKept ps after order
-put_kept ps slots after order i key at row new e link h f p l is sound same counts =
+put_kept ps slots after order i key at stored_chain new e link h f p l is sound same counts =
     let Q : List Entry → Type 0 = λ (es : List Entry). All (IsLinked slots order) es in
-    let all : All (IsLinked slots order) row.entries = all_linked ps slots order i key row f in
-    kept_edit ps slots after order i key row new (λ rules. insert rules at e.rule) link None h f p.name p.references (rules_of_entries new.entries (insert row.entries at e) _ p.entries (map_insert rule_in row.entries at e))
-    (subst Q (sym p.entries) (All-append (IsLinked slots order) (take at row.entries) (e ∷ drop at row.entries) (All-take (IsLinked slots order) at row.entries all) (All-cons (IsLinked slots order) e (drop at row.entries) l (All-drop (IsLinked slots order) at row.entries all))))
-    p.classified (sound_named ps slots order i key row (λ rules. insert rules at e.rule) f sound)
-    (λ k. let a : leading_in k new ≡ leading_in k row + ones (is_key k (key_in e.course)) = ap (λ (es : List Entry). count_by (λ (x : Entry). leads_to k x.course) es) p.entries ∙ leads_in row.entries at e k in
+    let all : All (IsLinked slots order) stored_chain.entries = all_linked ps slots order i key stored_chain f in
+    kept_edit ps slots after order i key stored_chain new (λ rules. insert rules at e.rule) link None h f p.name p.references (rules_of_entries new.entries (insert stored_chain.entries at e) _ p.entries (map_insert rule_in stored_chain.entries at e))
+    (subst Q (sym p.entries) (All-append (IsLinked slots order) (take at stored_chain.entries) (e ∷ drop at stored_chain.entries) (All-take (IsLinked slots order) at stored_chain.entries all) (All-cons (IsLinked slots order) e (drop at stored_chain.entries) l (All-drop (IsLinked slots order) at stored_chain.entries all))))
+    p.classified (sound_named ps slots order i key stored_chain (λ rules. insert rules at e.rule) f sound)
+    (λ k. let a : leading_in k new ≡ leading_in k stored_chain + ones (is_key k (key_in e.flow)) = ap (λ (es : List Entry). count_by (λ (x : Entry). leads_to k x.flow) es) p.entries ∙ leads_in stored_chain.entries at e k in
     omega (arith, a, ap (λ (o : Option ℕ). ones (is_key k o)) is)) same counts
 
-pub put_table : (ps : List Policy) (slots after : List (Option Row)) (order : List ℕ) (i key at : ℕ) (row new : Row) (e : Entry) → Found ps slots order i key row → IsPutIn row new at e → AreRecounted (set slots key (Some new)) after
+pub put_table : (ps : List Policy) (slots after : List (Option StoredChain)) (order : List ℕ) (i key at : ℕ) (stored_chain new : StoredChain) (e : Entry) → Found ps slots order i key stored_chain → IsPutIn stored_chain new at e → AreRecounted (set slots key (Some new)) after
     → table_with ps after order ≡ changed (λ rules. insert rules at e.rule) (name_at slots order i) (table_with ps slots order)
-put_table ps slots after order i key at row new e f p same =
-    table_edit ps slots after order i key row new (λ rules. insert rules at e.rule) f p.name (rules_of_entries new.entries (insert row.entries at e) _ p.entries (map_insert rule_in row.entries at e)) same
-    ∙ ap (λ n. changed (λ rules. insert rules at e.rule) n (table_with ps slots order)) (sym (found_name ps slots order i key row f))
+put_table ps slots after order i key at stored_chain new e f p same =
+    table_edit ps slots after order i key stored_chain new (λ rules. insert rules at e.rule) f p.name (rules_of_entries new.entries (insert stored_chain.entries at e) _ p.entries (map_insert rule_in stored_chain.entries at e)) same
+    ∙ ap (λ n. changed (λ rules. insert rules at e.rule) n (table_with ps slots order)) (sym (found_name ps slots order i key stored_chain f))
 
 -- what a chain is in which a rule was put over the one at a place
-pub record IsPutOver (row new : Row) (at : ℕ) (e : Entry) : Type 0 where
-  pub name : new.name ≡ row.name
-  pub references : new.references ≡ row.references
-  pub entries : new.entries ≡ slice_set row.entries at e
+pub record IsPutOver (stored_chain new : StoredChain) (at : ℕ) (e : Entry) : Type 0 where
+  pub name : new.name ≡ stored_chain.name
+  pub references : new.references ≡ stored_chain.references
+  pub entries : new.entries ≡ slice_set stored_chain.entries at e
   pub classified : IsClassified new
 
-pub over_kept : (ps : List Policy) (slots after : List (Option Row)) (order : List ℕ) (i key at : ℕ) (row new : Row) (e d : Entry) (link before : Option ℕ) → IsKept ps slots order → Found ps slots order i key row → at < length row.entries → IsPutOver row new at e → IsLinked slots order e → link ≡ key_in e.course
-    → before ≡ key_in (get_or row.entries at d).course
+pub over_kept : (ps : List Policy) (slots after : List (Option StoredChain)) (order : List ℕ) (i key at : ℕ) (stored_chain new : StoredChain) (e d : Entry) (link before : Option ℕ) → IsKept ps slots order → Found ps slots order i key stored_chain → at < length stored_chain.entries → IsPutOver stored_chain new at e → IsLinked slots order e → link ≡ key_in e.flow
+    → before ≡ key_in (get_or stored_chain.entries at d).flow
     → IsSound (changed (λ rules. slice_set rules at e.rule) (name_at slots order i) (table_with ps slots order)) → AreRecounted (set slots key (Some new)) after
     → CountsInAndOut link before (references_at (set slots key (Some new))) (references_at after) → IsKept ps after order
-over_kept ps slots after order i key at row new e d link before h f lt p l is was sound same counts =
+over_kept ps slots after order i key at stored_chain new e d link before h f lt p l is was sound same counts =
     let Q : List Entry → Type 0 = λ (es : List Entry). All (IsLinked slots order) es in
-    kept_edit ps slots after order i key row new (λ rules. slice_set rules at e.rule) link before h f p.name p.references (rules_of_entries new.entries (slice_set row.entries at e) _ p.entries (map-set rule_in row.entries at e))
-    (subst Q (sym p.entries) (All-set (IsLinked slots order) row.entries at e l (all_linked ps slots order i key row f)))
-    p.classified (sound_named ps slots order i key row (λ rules. slice_set rules at e.rule) f sound)
-    (λ k. let a = ap (λ (es : List Entry). count_by (λ (x : Entry). leads_to k x.course) es) p.entries in let b = leads_over row.entries at e d k lt in
+    kept_edit ps slots after order i key stored_chain new (λ rules. slice_set rules at e.rule) link before h f p.name p.references (rules_of_entries new.entries (slice_set stored_chain.entries at e) _ p.entries (map-set rule_in stored_chain.entries at e))
+    (subst Q (sym p.entries) (All-set (IsLinked slots order) stored_chain.entries at e l (all_linked ps slots order i key stored_chain f)))
+    p.classified (sound_named ps slots order i key stored_chain (λ rules. slice_set rules at e.rule) f sound)
+    (λ k. let a = ap (λ (es : List Entry). count_by (λ (x : Entry). leads_to k x.flow) es) p.entries in let b = leads_over stored_chain.entries at e d k lt in
     omega (arith, a, b, ap (λ (o : Option ℕ). ones (is_key k o)) is, ap (λ (o : Option ℕ). ones (is_key k o)) was)) same counts
 
-pub over_table : (ps : List Policy) (slots after : List (Option Row)) (order : List ℕ) (i key at : ℕ) (row new : Row) (e : Entry) → Found ps slots order i key row → IsPutOver row new at e → AreRecounted (set slots key (Some new)) after
+pub over_table : (ps : List Policy) (slots after : List (Option StoredChain)) (order : List ℕ) (i key at : ℕ) (stored_chain new : StoredChain) (e : Entry) → Found ps slots order i key stored_chain → IsPutOver stored_chain new at e → AreRecounted (set slots key (Some new)) after
     → table_with ps after order ≡ changed (λ rules. slice_set rules at e.rule) (name_at slots order i) (table_with ps slots order)
-over_table ps slots after order i key at row new e f p same =
-    table_edit ps slots after order i key row new (λ rules. slice_set rules at e.rule) f p.name (rules_of_entries new.entries (slice_set row.entries at e) _ p.entries (map-set rule_in row.entries at e)) same
-    ∙ ap (λ n. changed (λ rules. slice_set rules at e.rule) n (table_with ps slots order)) (sym (found_name ps slots order i key row f))
+over_table ps slots after order i key at stored_chain new e f p same =
+    table_edit ps slots after order i key stored_chain new (λ rules. slice_set rules at e.rule) f p.name (rules_of_entries new.entries (slice_set stored_chain.entries at e) _ p.entries (map-set rule_in stored_chain.entries at e)) same
+    ∙ ap (λ n. changed (λ rules. slice_set rules at e.rule) n (table_with ps slots order)) (sym (found_name ps slots order i key stored_chain f))
 
 -- what a chain is of which the rule at a place was taken out
-pub record IsTakenOut (row new : Row) (at : ℕ) : Type 0 where
-  pub name : new.name ≡ row.name
-  pub references : new.references ≡ row.references
-  pub entries : new.entries ≡ remove row.entries at
+pub record IsTakenOut (stored_chain new : StoredChain) (at : ℕ) : Type 0 where
+  pub name : new.name ≡ stored_chain.name
+  pub references : new.references ≡ stored_chain.references
+  pub entries : new.entries ≡ remove stored_chain.entries at
   pub classified : IsClassified new
 
-pub out_kept : (ps : List Policy) (slots after : List (Option Row)) (order : List ℕ) (i key at : ℕ) (row new : Row) (d : Entry) (before : Option ℕ) → IsKept ps slots order → Found ps slots order i key row → at < length row.entries → IsTakenOut row new at
-    → before ≡ key_in (get_or row.entries at d).course → AreRecounted (set slots key (Some new)) after
+pub out_kept : (ps : List Policy) (slots after : List (Option StoredChain)) (order : List ℕ) (i key at : ℕ) (stored_chain new : StoredChain) (d : Entry) (before : Option ℕ) → IsKept ps slots order → Found ps slots order i key stored_chain → at < length stored_chain.entries → IsTakenOut stored_chain new at
+    → before ≡ key_in (get_or stored_chain.entries at d).flow → AreRecounted (set slots key (Some new)) after
     → CountsInAndOut None before (references_at (set slots key (Some new))) (references_at after) → IsKept ps after order
-out_kept ps slots after order i key at row new d before h f lt p was same counts =
+out_kept ps slots after order i key at stored_chain new d before h f lt p was same counts =
     let Q : List Entry → Type 0 = λ (es : List Entry). All (IsLinked slots order) es in
-    let all : All (IsLinked slots order) row.entries = all_linked ps slots order i key row f in
-    kept_edit ps slots after order i key row new (λ rules. remove rules at) None before h f p.name p.references (rules_of_entries new.entries (remove row.entries at) _ p.entries (map_remove rule_in row.entries at))
-    (subst Q (sym p.entries) (All-append (IsLinked slots order) (take at row.entries) (drop (suc at) row.entries) (All-take (IsLinked slots order) at row.entries all) (All-drop (IsLinked slots order) (suc at) row.entries all)))
-    p.classified (take_sound (table_with ps slots order) row.name (λ rules. remove rules at) (remove_keeps at) (remove_fewer at) f.stored.sound)
-    (λ k. let a = ap (λ (es : List Entry). count_by (λ (x : Entry). leads_to k x.course) es) p.entries in let b = leads_out row.entries at d k lt in
+    let all : All (IsLinked slots order) stored_chain.entries = all_linked ps slots order i key stored_chain f in
+    kept_edit ps slots after order i key stored_chain new (λ rules. remove rules at) None before h f p.name p.references (rules_of_entries new.entries (remove stored_chain.entries at) _ p.entries (map_remove rule_in stored_chain.entries at))
+    (subst Q (sym p.entries) (All-append (IsLinked slots order) (take at stored_chain.entries) (drop (suc at) stored_chain.entries) (All-take (IsLinked slots order) at stored_chain.entries all) (All-drop (IsLinked slots order) (suc at) stored_chain.entries all)))
+    p.classified (take_sound (table_with ps slots order) stored_chain.name (λ rules. remove rules at) (remove_keeps at) (remove_fewer at) f.stored.sound)
+    (λ k. let a = ap (λ (es : List Entry). count_by (λ (x : Entry). leads_to k x.flow) es) p.entries in let b = leads_out stored_chain.entries at d k lt in
     omega (arith, a, b, ap (λ (o : Option ℕ). ones (is_key k o)) was)) same counts
 
-pub out_table : (ps : List Policy) (slots after : List (Option Row)) (order : List ℕ) (i key at : ℕ) (row new : Row) → Found ps slots order i key row → IsTakenOut row new at → AreRecounted (set slots key (Some new)) after
+pub out_table : (ps : List Policy) (slots after : List (Option StoredChain)) (order : List ℕ) (i key at : ℕ) (stored_chain new : StoredChain) → Found ps slots order i key stored_chain → IsTakenOut stored_chain new at → AreRecounted (set slots key (Some new)) after
     → table_with ps after order ≡ changed (λ rules. remove rules at) (name_at slots order i) (table_with ps slots order)
-out_table ps slots after order i key at row new f p same =
-    table_edit ps slots after order i key row new (λ rules. remove rules at) f p.name (rules_of_entries new.entries (remove row.entries at) _ p.entries (map_remove rule_in row.entries at)) same
-    ∙ ap (λ n. changed (λ rules. remove rules at) n (table_with ps slots order)) (sym (found_name ps slots order i key row f))
+out_table ps slots after order i key at stored_chain new f p same =
+    table_edit ps slots after order i key stored_chain new (λ rules. remove rules at) f p.name (rules_of_entries new.entries (remove stored_chain.entries at) _ p.entries (map_remove rule_in stored_chain.entries at)) same
+    ∙ ap (λ n. changed (λ rules. remove rules at) n (table_with ps slots order)) (sym (found_name ps slots order i key stored_chain f))
 
 -- two counts, one after the other
-pub recounted_on : (a b c : List (Option Row)) → AreRecounted a b → AreRecounted b c → AreRecounted a c
+pub recounted_on : (a b c : List (Option StoredChain)) → AreRecounted a b → AreRecounted b c → AreRecounted a c
 recounted_on a b c r s = record { present = λ k h. s.present k (r.present k h); no_more = λ k h. r.no_more k (s.no_more k h); name = λ k. s.name k ∙ r.name k; entries = λ k. s.entries k ∙ r.entries k; classifier = λ k. s.classifier k ∙ r.classifier k }
 
 pub counts_on : (more fewer : Option ℕ) (f g h : ℕ → ℕ) → CountsInAndOut more None f g → CountsInAndOut None fewer g h → CountsInAndOut more fewer f h
 counts_on more fewer f g h a b k = omega (arith, a k, b k)
 
 -- the one counted out is there still after another was counted in
-pub counts_out_after : (first second : List (Option Row)) (link before : Option ℕ) → AreRecounted first second → CountsInAndOut link None (references_at first) (references_at second)
+pub counts_out_after : (first second : List (Option StoredChain)) (link before : Option ℕ) → AreRecounted first second → CountsInAndOut link None (references_at first) (references_at second)
     → IfSome before (λ k. IsSome (slot_at first k) × (0 < references_at first k)) → IfSome before (λ k. IsSome (slot_at second k) × (0 < references_at second k))
 counts_out_after first second link None r c h = tt
 counts_out_after first second link (Some k) r c h = (r.present k h.0, omega (arith, h.1, c k))
 
 -- the same policies and index
-pub kept_same : {ps qs : List Policy} {order keys : List ℕ} (slots : List (Option Row)) → qs ≡ ps → keys ≡ order → IsKept ps slots order → IsKept qs slots keys
+pub kept_same : {ps qs : List Policy} {order keys : List ℕ} (slots : List (Option StoredChain)) → qs ≡ ps → keys ≡ order → IsKept ps slots order → IsKept qs slots keys
 kept_same {ps} {qs} {order} {keys} slots p o h =
     let P : List Policy → Type 0 = λ x. IsKept x slots keys in
     let Q : List ℕ → Type 0 = λ x. IsKept ps slots x in
@@ -232,76 +232,76 @@ kept_same {ps} {qs} {order} {keys} slots p o h =
 
 -- A chain is emptied
 
-pub empty_kept : (ps : List Policy) (slots counted : List (Option Row)) (order : List ℕ) (i key : ℕ) (row now new : Row) → IsKept ps slots order → Found ps slots order i key row → AreRecounted slots counted → slot_at counted key ≡ Some now
-    → ((k : ℕ) → references_at counted k + leading_in k row ≡ references_at slots k) → new.name ≡ now.name → new.references ≡ now.references → new.entries ≡ [] → IsClassified new → IsKept ps (set counted key (Some new)) order
-empty_kept ps slots counted order i key row now new h f same is counts named refs none classified =
+pub empty_kept : (ps : List Policy) (slots counted : List (Option StoredChain)) (order : List ℕ) (i key : ℕ) (stored_chain now new : StoredChain) → IsKept ps slots order → Found ps slots order i key stored_chain → AreRecounted slots counted → slot_at counted key ≡ Some now
+    → ((k : ℕ) → references_at counted k + leading_in k stored_chain ≡ references_at slots k) → new.name ≡ now.name → new.references ≡ now.references → new.entries ≡ [] → IsClassified new → IsKept ps (set counted key (Some new)) order
+empty_kept ps slots counted order i key stored_chain now new h f same is counts named refs none classified =
     let stored : IsStored ps counted order = stored_recounted ps slots counted order same f.stored in
     let g : Found ps counted order i key now = found_key ps counted order i key now stored f.place f.at is in
     let Q : List Entry → Type 0 = λ (es : List Entry). All (IsLinked counted order) es in
-    let after : List (Option Row) = set counted key (Some new) in
+    let after : List (Option StoredChain) = set counted key (Some new) in
     record {
       stored = stored_set ps counted order i key now new (changed (λ rules. []) now.name (table_with ps counted order)) g named (subst Q (sym none) (All-nil (IsLinked counted order))) classified
           (table_set ps counted order i key now new (λ rules. []) g named (ap (map rule_in) none)) (flush_sound (table_with ps counted order) now.name stored.sound);
       counted = λ j lt.
           (let k : ℕ = get_or order j 0 in
-          let a : references_at after k ≡ references_at counted k = part_kept counted key now new (λ (r : Row). r.references) is refs k in
+          let a : references_at after k ≡ references_at counted k = part_kept counted key now new (λ (r : StoredChain). r.references) is refs k in
           let b : references_at slots k ≡ leading slots order k = h.counted j lt in
           let c : leading after order k + leading_in k now ≡ leading counted order k + leading_in k new = found_leading ps counted order i key k now new g in
-          let d : leading_in k new ≡ 0 = ap (λ (es : List Entry). count_by (λ (x : Entry). leads_to k x.course) es) none in
-          let e : leading_in k now ≡ leading_in k row = ap (λ (r : Row). leading_in k r) (sym g.is) ∙ ap (λ (es : List Entry). count_by (λ (x : Entry). leads_to k x.course) es) (same.entries key) ∙ ap (leading_in k) f.is in
+          let d : leading_in k new ≡ 0 = ap (λ (es : List Entry). count_by (λ (x : Entry). leads_to k x.flow) es) none in
+          let e : leading_in k now ≡ leading_in k stored_chain = ap (λ (r : StoredChain). leading_in k r) (sym g.is) ∙ ap (λ (es : List Entry). count_by (λ (x : Entry). leads_to k x.flow) es) (same.entries key) ∙ ap (leading_in k) f.is in
           let l : leading counted order k ≡ leading slots order k = leading_recounted slots counted order k same in
           omega (arith, a, b, c, d, e, l, counts k));
     }
 
-pub empty_table : (ps : List Policy) (slots counted : List (Option Row)) (order : List ℕ) (i key : ℕ) (row now new : Row) → Found ps slots order i key row → AreRecounted slots counted → slot_at counted key ≡ Some now → new.name ≡ now.name → new.entries ≡ []
+pub empty_table : (ps : List Policy) (slots counted : List (Option StoredChain)) (order : List ℕ) (i key : ℕ) (stored_chain now new : StoredChain) → Found ps slots order i key stored_chain → AreRecounted slots counted → slot_at counted key ≡ Some now → new.name ≡ now.name → new.entries ≡ []
     → table_with ps (set counted key (Some new)) order ≡ changed (λ rules. []) (name_at slots order i) (table_with ps slots order)
-empty_table ps slots counted order i key row now new f same is named none =
+empty_table ps slots counted order i key stored_chain now new f same is named none =
     let stored : IsStored ps counted order = stored_recounted ps slots counted order same f.stored in
     let g : Found ps counted order i key now = found_key ps counted order i key now stored f.place f.at is in
     let P : List Chain → Table = λ (cs : List Chain). record { policies = ps; chains = cs } in
     table_set ps counted order i key now new (λ rules. []) g named (ap (map rule_in) none)
-    ∙ ap (λ n. changed (λ rules. []) n (table_with ps counted order)) (ap (λ (r : Row). r.name) (sym g.is) ∙ same.name key ∙ ap (λ (k : ℕ). (row_at slots k).name) (sym f.at))
+    ∙ ap (λ n. changed (λ rules. []) n (table_with ps counted order)) (ap (λ (r : StoredChain). r.name) (sym g.is) ∙ same.name key ∙ ap (λ (k : ℕ). (stored_at slots k).name) (sym f.at))
     ∙ ap (λ (cs : List Chain). changed (λ rules. []) (name_at slots order i) (P cs)) (listed_recounted slots counted order same)
 
 -- the rules of the chain that was looked up
-pub found_entries : (ps : List Policy) (slots : List (Option Row)) (order : List ℕ) (i key : ℕ) (row : Row) → Found ps slots order i key row → (row_at slots (get_or order i 0)).entries ≡ row.entries
-found_entries ps slots order i key row f = ap (λ (r : Row). r.entries) (ap (row_at slots) f.at ∙ f.is)
+pub found_entries : (ps : List Policy) (slots : List (Option StoredChain)) (order : List ℕ) (i key : ℕ) (stored_chain : StoredChain) → Found ps slots order i key stored_chain → (stored_at slots (get_or order i 0)).entries ≡ stored_chain.entries
+found_entries ps slots order i key stored_chain f = ap (λ (r : StoredChain). r.entries) (ap (stored_at slots) f.at ∙ f.is)
 
 -- Rules counted out one after another
 
 -- the entry of a chain whose counts were changed
-pub entry_now : (slots now : List (Option Row)) (key at : ℕ) (row : Row) (e : Entry) → AreRecounted slots now → slot_at now key ≡ Some row → e ≡ get_or row.entries at e → get_or (row_at slots key).entries at e ≡ e
-entry_now slots now key at row e same is own =
-    ap (λ (es : List Entry). get_or es at e) (sym (same.entries key) ∙ ap (λ (o : Option Row). (unwrap_or o blank).entries) is) ∙ sym own
+pub entry_now : (slots now : List (Option StoredChain)) (key at : ℕ) (stored_chain : StoredChain) (e : Entry) → AreRecounted slots now → slot_at now key ≡ Some stored_chain → e ≡ get_or stored_chain.entries at e → get_or (stored_at slots key).entries at e ≡ e
+entry_now slots now key at stored_chain e same is own =
+    ap (λ (es : List Entry). get_or es at e) (sym (same.entries key) ∙ ap (λ (o : Option StoredChain). (unwrap_or o blank).entries) is) ∙ sym own
 
 -- the next one can be counted out
-pub next_there : (ps : List Policy) (slots now : List (Option Row)) (order : List ℕ) (key at : ℕ) (e : Entry) (link : Option ℕ) → IsKept ps slots order → IsIn order key → AreRecounted slots now → at < length (row_at slots key).entries
-    → get_or (row_at slots key).entries at e ≡ e → link ≡ key_in e.course
-    → ((k : ℕ) → references_at now k + count_by (λ (x : Entry). leads_to k x.course) (take at (row_at slots key).entries) ≡ references_at slots k)
+pub next_there : (ps : List Policy) (slots now : List (Option StoredChain)) (order : List ℕ) (key at : ℕ) (e : Entry) (link : Option ℕ) → IsKept ps slots order → IsIn order key → AreRecounted slots now → at < length (stored_at slots key).entries
+    → get_or (stored_at slots key).entries at e ≡ e → link ≡ key_in e.flow
+    → ((k : ℕ) → references_at now k + count_by (λ (x : Entry). leads_to k x.flow) (take at (stored_at slots key).entries) ≡ references_at slots k)
     → IfSome link (λ k. IsSome (slot_at now k) × (0 < references_at now k))
 next_there ps slots now order key at e link h inn same lt own is counts =
-    let es : List Entry = (row_at slots key).entries in
-    let A : ℕ → Type 0 = λ j. All (IsLinked slots order) (row_at slots j).entries in
+    let es : List Entry = (stored_at slots key).entries in
+    let A : ℕ → Type 0 = λ j. All (IsLinked slots order) (stored_at slots j).entries in
     let all : All (IsLinked slots order) es = subst A inn.2 (h.stored.linked inn.0 inn.1) in
     let l : IsLinked slots order e = subst (IsLinked slots order) own (all at e lt) in
     if_some link _ (λ k to.
     (let u : IsUser order k = link_user slots order e k l (sym is ∙ to) in
     let P : ℕ → Type 0 = λ j. IsSome (slot_at slots j) in
     let R : ℕ → Type 0 = λ j. references_at slots j ≡ leading slots order j in
-    let L : ℕ → Type 0 = λ j. leading_in k (row_at slots j) ≤ leading slots order k in
+    let L : ℕ → Type 0 = λ j. leading_in k (stored_at slots j) ≤ leading slots order k in
     let a : references_at slots k ≡ leading slots order k = subst R u.3 (h.counted u.0 u.2) in
-    let b : leading_in k (row_at slots key) ≤ leading slots order k = subst L inn.2 (leading_part slots order inn.0 k inn.1) in
-    let c = sum_by_more_le (λ (x : Entry). cond (leads_to k x.course) 1 0) es at e lt in
-    let one : ones (leads_to k (get_or es at e).course) ≡ 1 = ap (λ (x : Entry). ones (is_key k (key_in x.course))) own ∙ ap (λ (o : Option ℕ). ones (is_key k o)) (sym is ∙ to) ∙ ap ones (eq-eqb k k refl) in
+    let b : leading_in k (stored_at slots key) ≤ leading slots order k = subst L inn.2 (leading_part slots order inn.0 k inn.1) in
+    let c = sum_by_more_le (λ (x : Entry). cond (leads_to k x.flow) 1 0) es at e lt in
+    let one : ones (leads_to k (get_or es at e).flow) ≡ 1 = ap (λ (x : Entry). ones (is_key k (key_in x.flow))) own ∙ ap (λ (o : Option ℕ). ones (is_key k o)) (sym is ∙ to) ∙ ap ones (eq-eqb k k refl) in
     (same.present k (subst P u.3 (h.stored.present u.0 u.2)), omega (arith, a, b, c, one, counts k))))
 
 -- and the counts are right after it
-pub next_counted : (slots now new : List (Option Row)) (key at : ℕ) (e : Entry) (link : Option ℕ) → at < length (row_at slots key).entries → get_or (row_at slots key).entries at e ≡ e → link ≡ key_in e.course
-    → ((k : ℕ) → references_at now k + count_by (λ (x : Entry). leads_to k x.course) (take at (row_at slots key).entries) ≡ references_at slots k)
+pub next_counted : (slots now new : List (Option StoredChain)) (key at : ℕ) (e : Entry) (link : Option ℕ) → at < length (stored_at slots key).entries → get_or (stored_at slots key).entries at e ≡ e → link ≡ key_in e.flow
+    → ((k : ℕ) → references_at now k + count_by (λ (x : Entry). leads_to k x.flow) (take at (stored_at slots key).entries) ≡ references_at slots k)
     → CountsInAndOut None link (references_at now) (references_at new) → (k : ℕ)
-    → references_at new k + count_by (λ (x : Entry). leads_to k x.course) (take (at + 1) (row_at slots key).entries) ≡ references_at slots k
+    → references_at new k + count_by (λ (x : Entry). leads_to k x.flow) (take (at + 1) (stored_at slots key).entries) ≡ references_at slots k
 next_counted slots now new key at e link lt own is counts c k =
-    let es : List Entry = (row_at slots key).entries in
-    let a = sum_by_more (λ (x : Entry). cond (leads_to k x.course) 1 0) es at e lt in
-    let b : ones (leads_to k (get_or es at e).course) ≡ ones (is_key k link) = ap (λ (x : Entry). ones (is_key k (key_in x.course))) own ∙ ap (λ (o : Option ℕ). ones (is_key k o)) (sym is) in
+    let es : List Entry = (stored_at slots key).entries in
+    let a = sum_by_more (λ (x : Entry). cond (leads_to k x.flow) 1 0) es at e lt in
+    let b : ones (leads_to k (get_or es at e).flow) ≡ ones (is_key k link) = ap (λ (x : Entry). ones (is_key k (key_in x.flow))) own ∙ ap (λ (o : Option ℕ). ones (is_key k o)) (sym is) in
     omega (arith, a, b, counts k, c k)

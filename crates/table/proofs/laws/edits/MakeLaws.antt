@@ -10,14 +10,14 @@ use Rattle.std.proofs.lemmas.List.Sums.{sum_by-cons}
 use Rattle.table.specs.chains.Sound.{IsSound}
 use Rattle.table.specs.chains.Table.{Policy, Table, Chain, is_built_in, is_named, comes_before, empty_chain, user_chains, names_of, chain_named_by}
 use Rattle.table.specs.edits.Edits.{Cause, NewChain, TooManyChains, bad_name, edited, exists_already, fault_of, placed}
-use Rattle.table.specs.steps.Rows.{Row, leads_to, is_key, key_in, rule_in, IsClassified}
-use Rattle.table.specs.steps.Kept.{blank, slot_at, row_at, name_at, listed, listed_at, listed_row, table_with, leading, leading_in, IsIn, IsUser, LinksTo, IsLinked, IsPlaceFor, IsStored, IsKept, IsUnmarked, AreStored, table_of}
+use Rattle.table.specs.steps.StoredChains.{StoredChain, leads_to, is_key, key_in, rule_in, IsClassified}
+use Rattle.table.specs.steps.Kept.{blank, slot_at, stored_at, name_at, listed, listed_at, listed_stored, table_with, leading, leading_in, IsIn, IsUser, LinksTo, IsLinked, IsIndexFor, IsStored, IsKept, IsUnmarked, AreStored, table_of}
 use Rattle.table.specs.declared.parts.Parts.{Parts}
 use Rattle.table.specs.declared.chain.entry.Entry.{Entry}
 use Rattle.table.proofs.laws.chains.ChainLaws.{new_chain_sound}
 use Rattle.table.proofs.laws.chains.KeepLaws.{is_user_name, users_by_names, itself_not_before}
 use Rattle.table.proofs.laws.chains.OrderLaws.{before_trans}
-use Rattle.table.proofs.laws.chains.RowLaws.{map_insert}
+use Rattle.table.proofs.laws.chains.StoredChainLaws.{map_insert}
 use Rattle.table.proofs.laws.chains.StoreLaws.{long, built_in_first, user_after, length-listed, length-names, listed_get, names_get}
 use Rattle.table.proofs.laws.chains.CountLaws.{users_from}
 use Rattle.table.proofs.laws.chains.PlaceLaws.{placed_nowhere}
@@ -62,19 +62,19 @@ stays_at order j k lt within ne =
     ]
 
 -- what a new slot leaves
-pub record IsAdded (slots new : List (Option Row)) (key : ℕ) (row : Row) : Type 0 where
+pub record IsAdded (slots new : List (Option StoredChain)) (key : ℕ) (stored_chain : StoredChain) : Type 0 where
   pub was : slot_at slots key ≡ None
-  pub is : slot_at new key ≡ Some row
+  pub is : slot_at new key ≡ Some stored_chain
   pub others : (k : ℕ) → k ≢ key → slot_at new k ≡ slot_at slots k
 
-added_row : (slots new : List (Option Row)) (key : ℕ) (row : Row) → IsAdded slots new key row → row_at new key ≡ row
-added_row slots new key row a = ap (λ (o : Option Row). unwrap_or o blank) a.is
+added_stored : (slots new : List (Option StoredChain)) (key : ℕ) (stored_chain : StoredChain) → IsAdded slots new key stored_chain → stored_at new key ≡ stored_chain
+added_stored slots new key stored_chain a = ap (λ (o : Option StoredChain). unwrap_or o blank) a.is
 
-added_other : (slots new : List (Option Row)) (key k : ℕ) (row : Row) → IsAdded slots new key row → k ≢ key → row_at new k ≡ row_at slots k
-added_other slots new key k row a ne = ap (λ (o : Option Row). unwrap_or o blank) (a.others k ne)
+added_other : (slots new : List (Option StoredChain)) (key k : ℕ) (stored_chain : StoredChain) → IsAdded slots new key stored_chain → k ≢ key → stored_at new k ≡ stored_at slots k
+added_other slots new key k stored_chain a ne = ap (λ (o : Option StoredChain). unwrap_or o blank) (a.others k ne)
 
-there_differs : (slots new : List (Option Row)) (key k : ℕ) (row : Row) → IsAdded slots new key row → IsSome (slot_at slots k) → k ≢ key
-there_differs slots new key k row a h e = let P : Option Row → Type 0 = λ (o : Option Row). IsSome o in false≢true (subst P (ap (slot_at slots) e ∙ a.was) h)
+there_differs : (slots new : List (Option StoredChain)) (key k : ℕ) (stored_chain : StoredChain) → IsAdded slots new key stored_chain → IsSome (slot_at slots k) → k ≢ key
+there_differs slots new key k stored_chain a h e = let P : Option StoredChain → Type 0 = λ (o : Option StoredChain). IsSome o in false≢true (subst P (ap (slot_at slots) e ∙ a.was) h)
 
 -- The plain table
 
@@ -91,9 +91,9 @@ placed_is c (x ∷ cs) (suc i) d le before at =
 pub not_turned : (a b : List ℕ) → comes_before a b ≡ true → comes_before b a ≡ false
 not_turned a b e = elim (cases_Bool (comes_before b a)) [ inl t ↦ absurd (false≢true (sym (itself_not_before a) ∙ before_trans a b a e t)) | inr f ↦ f ]
 
-pub placed_in : (ps : List Policy) (slots : List (Option Row)) (order : List ℕ) (name : List ℕ) (i : ℕ) → IsStored ps slots order → IsPlaceFor name slots order i → placed (empty_chain name) (listed slots order) ≡ insert (listed slots order) i (empty_chain name)
+pub placed_in : (ps : List Policy) (slots : List (Option StoredChain)) (order : List ℕ) (name : List ℕ) (i : ℕ) → IsStored ps slots order → IsIndexFor name slots order i → placed (empty_chain name) (listed slots order) ≡ insert (listed slots order) i (empty_chain name)
 placed_in ps slots order name i s p =
-    let d : Chain = listed_row blank in
+    let d : Chain = listed_stored blank in
     let c : Chain = empty_chain name in
     let long : length (listed slots order) ≡ length order = length-listed slots order in
     let T : List ℕ → Bool = λ n. is_built_in n || comes_before n name in
@@ -110,74 +110,74 @@ placed_in ps slots order name i s p =
     ap (λ (x : Chain). T x.name) (listed_get slots order i d below)
     ∙ ap (λ b. b || comes_before (name_at slots order i) name) (user_after ps slots order (name_at slots order i) i s p.user below refl) ∙ not_turned name (name_at slots order i) (p.after i (omega arith) below))
 
-pub listed_agree : (slots new : List (Option Row)) (keys : List ℕ) → ((k : ℕ) → k < length keys → row_at new (get_or keys k 0) ≡ row_at slots (get_or keys k 0)) → listed new keys ≡ listed slots keys
+pub listed_agree : (slots new : List (Option StoredChain)) (keys : List ℕ) → ((k : ℕ) → k < length keys → stored_at new (get_or keys k 0) ≡ stored_at slots (get_or keys k 0)) → listed new keys ≡ listed slots keys
 listed_agree slots new [] h = refl
-listed_agree slots new (x ∷ xs) h = λ i. listed_row (h 0 (omega arith) i) ∷ listed_agree slots new xs (λ k lt. h (suc k) (omega (arith, lt))) i
+listed_agree slots new (x ∷ xs) h = λ i. listed_stored (h 0 (omega arith) i) ∷ listed_agree slots new xs (λ k lt. h (suc k) (omega (arith, lt))) i
 
 -- the rows of the old index are as before
-pub rows_kept : (ps : List Policy) (slots new : List (Option Row)) (order : List ℕ) (key : ℕ) (row : Row) → IsStored ps slots order → IsAdded slots new key row → (k : ℕ) → k < length order → row_at new (get_or order k 0) ≡ row_at slots (get_or order k 0)
-rows_kept ps slots new order key row s a k lt = added_other slots new key (get_or order k 0) row a (there_differs slots new key (get_or order k 0) row a (s.present k lt))
+pub stored_kept : (ps : List Policy) (slots new : List (Option StoredChain)) (order : List ℕ) (key : ℕ) (stored_chain : StoredChain) → IsStored ps slots order → IsAdded slots new key stored_chain → (k : ℕ) → k < length order → stored_at new (get_or order k 0) ≡ stored_at slots (get_or order k 0)
+stored_kept ps slots new order key stored_chain s a k lt = added_other slots new key (get_or order k 0) stored_chain a (there_differs slots new key (get_or order k 0) stored_chain a (s.present k lt))
 
-pub table_made : (ps : List Policy) (slots new : List (Option Row)) (order : List ℕ) (i key : ℕ) (row : Row) (name : List ℕ) → IsStored ps slots order → IsAdded slots new key row → IsPlaceFor name slots order i → row.name ≡ name → row.entries ≡ []
+pub table_made : (ps : List Policy) (slots new : List (Option StoredChain)) (order : List ℕ) (i key : ℕ) (stored_chain : StoredChain) (name : List ℕ) → IsStored ps slots order → IsAdded slots new key stored_chain → IsIndexFor name slots order i → stored_chain.name ≡ name → stored_chain.entries ≡ []
     → table_with ps new (insert order i key) ≡ edited (NewChain name) (table_with ps slots order)
-table_made ps slots new order i key row name s a p named none =
+table_made ps slots new order i key stored_chain name s a p named none =
     let P : List Chain → Table = λ (cs : List Chain). record { policies = ps; chains = cs } in
-    let is : listed_row row ≡ empty_chain name = λ j. record { name = named j; rules = map rule_in (none j) } in
-    ap P (map_insert (listed_at new) order i key ∙ ap (λ (c : Chain). insert (listed new order) i c) (ap listed_row (added_row slots new key row a) ∙ is)
-    ∙ ap (λ (cs : List Chain). insert cs i (empty_chain name)) (listed_agree slots new order (rows_kept ps slots new order key row s a)) ∙ sym (placed_in ps slots order name i s p))
+    let is : listed_stored stored_chain ≡ empty_chain name = λ j. record { name = named j; rules = map rule_in (none j) } in
+    ap P (map_insert (listed_at new) order i key ∙ ap (λ (c : Chain). insert (listed new order) i c) (ap listed_stored (added_stored slots new key stored_chain a) ∙ is)
+    ∙ ap (λ (cs : List Chain). insert cs i (empty_chain name)) (listed_agree slots new order (stored_kept ps slots new order key stored_chain s a)) ∙ sym (placed_in ps slots order name i s p))
 
 -- The chains as they are kept
 
-pub leading_agree : (slots new : List (Option Row)) (keys : List ℕ) (k : ℕ) → ((j : ℕ) → j < length keys → row_at new (get_or keys j 0) ≡ row_at slots (get_or keys j 0)) → leading new keys k ≡ leading slots keys k
+pub leading_agree : (slots new : List (Option StoredChain)) (keys : List ℕ) (k : ℕ) → ((j : ℕ) → j < length keys → stored_at new (get_or keys j 0) ≡ stored_at slots (get_or keys j 0)) → leading new keys k ≡ leading slots keys k
 leading_agree slots new [] k h = refl
-leading_agree slots new (x ∷ xs) k h = ap (λ (r : Row). leading_in k r + leading new xs k) (h 0 (omega arith)) ∙ ap (λ n. leading_in k (row_at slots x) + n) (leading_agree slots new xs k (λ j lt. h (suc j) (omega (arith, lt))))
+leading_agree slots new (x ∷ xs) k h = ap (λ (r : StoredChain). leading_in k r + leading new xs k) (h 0 (omega arith)) ∙ ap (λ n. leading_in k (stored_at slots x) + n) (leading_agree slots new xs k (λ j lt. h (suc j) (omega (arith, lt))))
 
-pub leading_insert : (slots : List (Option Row)) (keys : List ℕ) (i key k : ℕ) → i ≤ length keys → leading slots (insert keys i key) k ≡ leading_in k (row_at slots key) + leading slots keys k
+pub leading_insert : (slots : List (Option StoredChain)) (keys : List ℕ) (i key k : ℕ) → i ≤ length keys → leading slots (insert keys i key) k ≡ leading_in k (stored_at slots key) + leading slots keys k
 leading_insert slots keys zero key k le = refl
 leading_insert slots [] (suc i) key k le = absurd (omega (arith, le))
 leading_insert slots (x ∷ xs) (suc i) key k le = let h = leading_insert slots xs i key k (omega (arith, le)) in omega (arith, h)
 
 -- no rule leads to a key that no chain has
-none_to : (slots : List (Option Row)) (order : List ℕ) (es : List Entry) (key : ℕ) → ((k : ℕ) → IsUser order k → k ≢ key) → ((j : ℕ) (d : Entry) → j < length es → IsLinked slots order (get_or es j d)) → count_by (λ (e : Entry). leads_to key e.course) es ≡ 0
+none_to : (slots : List (Option StoredChain)) (order : List ℕ) (es : List Entry) (key : ℕ) → ((k : ℕ) → IsUser order k → k ≢ key) → ((j : ℕ) (d : Entry) → j < length es → IsLinked slots order (get_or es j d)) → count_by (λ (e : Entry). leads_to key e.flow) es ≡ 0
 none_to slots order [] key out h = refl
 none_to slots order (e ∷ es) key out h =
-    let rest : count_by (λ (x : Entry). leads_to key x.course) es ≡ 0 = none_to slots order es key out (λ j d lt. h (suc j) d (omega (arith, lt))) in
-    let no : leads_to key e.course ≡ false = other (key_in e.course) (λ k is. out k (link_user slots order e k (h 0 e (omega arith)) is)) in
-    sum_by-cons (λ (x : Entry). cond (leads_to key x.course) 1 0) e es ∙ ap (λ b. cond b 1 0 + count_by (λ (x : Entry). leads_to key x.course) es) no ∙ omega (arith, rest)
+    let rest : count_by (λ (x : Entry). leads_to key x.flow) es ≡ 0 = none_to slots order es key out (λ j d lt. h (suc j) d (omega (arith, lt))) in
+    let no : leads_to key e.flow ≡ false = other (key_in e.flow) (λ k is. out k (link_user slots order e k (h 0 e (omega arith)) is)) in
+    sum_by-cons (λ (x : Entry). cond (leads_to key x.flow) 1 0) e es ∙ ap (λ b. cond b 1 0 + count_by (λ (x : Entry). leads_to key x.flow) es) no ∙ omega (arith, rest)
   where
     other : (o : Option ℕ) → ((k : ℕ) → o ≡ Some k → k ≢ key) → is_key key o ≡ false
     other None f = refl
     other (Some k) f = ne_eqb k key (f k refl)
 
-pub none_leads : (slots : List (Option Row)) (order keys : List ℕ) (key : ℕ) → ((k : ℕ) → IsUser order k → k ≢ key) → ((i : ℕ) → i < length keys → All (IsLinked slots order) (row_at slots (get_or keys i 0)).entries) → leading slots keys key ≡ 0
+pub none_leads : (slots : List (Option StoredChain)) (order keys : List ℕ) (key : ℕ) → ((k : ℕ) → IsUser order k → k ≢ key) → ((i : ℕ) → i < length keys → All (IsLinked slots order) (stored_at slots (get_or keys i 0)).entries) → leading slots keys key ≡ 0
 none_leads slots order [] key out h = refl
-none_leads slots order (x ∷ xs) key out h = omega (arith, none_to slots order (row_at slots x).entries key out (h 0 (omega arith)), none_leads slots order xs key out (λ i lt. h (suc i) (omega (arith, lt))))
+none_leads slots order (x ∷ xs) key out h = omega (arith, none_to slots order (stored_at slots x).entries key out (h 0 (omega arith)), none_leads slots order xs key out (λ i lt. h (suc i) (omega (arith, lt))))
 
-link_more : (slots new : List (Option Row)) (order after : List ℕ) → ((to : ℕ) → IsUser order to → IsUser after to) → ((to : ℕ) → IsUser order to → (row_at new to).name ≡ (row_at slots to).name) → (to : ℕ) (o : Option (List ℕ)) → LinksTo slots order to o → LinksTo new after to o
+link_more : (slots new : List (Option StoredChain)) (order after : List ℕ) → ((to : ℕ) → IsUser order to → IsUser after to) → ((to : ℕ) → IsUser order to → (stored_at new to).name ≡ (stored_at slots to).name) → (to : ℕ) (o : Option (List ℕ)) → LinksTo slots order to o → LinksTo new after to o
 link_more slots new order after user name to None l = tt
 link_more slots new order after user name to (Some n) l = (user to l.0, name to l.0 ∙ l.1)
 
-pub kept_made : (ps : List Policy) (slots new : List (Option Row)) (order : List ℕ) (i key : ℕ) (row : Row) (name : List ℕ) → IsKept ps slots order → IsAdded slots new key row → IsPlaceFor name slots order i → row.name ≡ name → row.entries ≡ [] → row.references ≡ 0 → IsClassified row
+pub kept_made : (ps : List Policy) (slots new : List (Option StoredChain)) (order : List ℕ) (i key : ℕ) (stored_chain : StoredChain) (name : List ℕ) → IsKept ps slots order → IsAdded slots new key stored_chain → IsIndexFor name slots order i → stored_chain.name ≡ name → stored_chain.entries ≡ [] → stored_chain.references ≡ 0 → IsClassified stored_chain
     → fault_of (NewChain name) (table_with ps slots order) ≡ None → IsKept ps new (insert order i key)
-kept_made ps slots new order i key row name h a p named none zero_refs classified accepted =
+kept_made ps slots new order i key stored_chain name h a p named none zero_refs classified accepted =
     let s : IsStored ps slots order = h.stored in
     let after : List ℕ = insert order i key in
     let le : i ≤ length order = p.within in
     let size : length after ≡ length order + 1 = length-insert order i key le in
-    let same : (k : ℕ) → k < length order → row_at new (get_or order k 0) ≡ row_at slots (get_or order k 0) = rows_kept ps slots new order key row s a in
-    let differs : (k : ℕ) → k < length order → get_or order k 0 ≢ key = λ k lt. there_differs slots new key (get_or order k 0) row a (s.present k lt) in
+    let same : (k : ℕ) → k < length order → stored_at new (get_or order k 0) ≡ stored_at slots (get_or order k 0) = stored_kept ps slots new order key stored_chain s a in
+    let differs : (k : ℕ) → k < length order → get_or order k 0 ≢ key = λ k lt. there_differs slots new key (get_or order k 0) stored_chain a (s.present k lt) in
     let user : (to : ℕ) → IsUser order to → IsUser after to = λ to u. (let q = shifted_at order i key u.0 le u.2 in (q.0, omega (arith, u.1, q.3), q.1, q.2 ∙ u.3)) in
-    let name_in : (to : ℕ) → IsUser order to → (row_at new to).name ≡ (row_at slots to).name =
-    λ to u. ap (λ (k : ℕ). (row_at new k).name) (sym u.3) ∙ ap (λ (r : Row). r.name) (same u.0 u.2) ∙ ap (λ (k : ℕ). (row_at slots k).name) u.3 in
+    let name_in : (to : ℕ) → IsUser order to → (stored_at new to).name ≡ (stored_at slots to).name =
+    λ to u. ap (λ (k : ℕ). (stored_at new k).name) (sym u.3) ∙ ap (λ (r : StoredChain). r.name) (same u.0 u.2) ∙ ap (λ (k : ℕ). (stored_at slots k).name) u.3 in
     let links : (e : Entry) → IsLinked slots order e → IsLinked new after e = λ e l. (l.0, l.1, link_more slots new order after user name_in l.0 (chain_named_by e.rule) l.2) in
     let T : Table → Type 0 = λ (t : Table). IsSound t in
     let R : List Entry → Type 0 = λ (es : List Entry). All (IsLinked new after) es in
-    let O : Option Row → Type 0 = λ (o : Option Row). IsSome o in
-    let Q : Row → Type 0 = λ (r : Row). All (IsLinked new after) r.entries in
-    let own : Q row = subst R (sym none) (All-nil (IsLinked new after)) in
+    let O : Option StoredChain → Type 0 = λ (o : Option StoredChain). IsSome o in
+    let Q : StoredChain → Type 0 = λ (r : StoredChain). All (IsLinked new after) r.entries in
+    let own : Q stored_chain = subst R (sym none) (All-nil (IsLinked new after)) in
     let leads : (k : ℕ) → leading new after k ≡ leading slots order k = λ k.
     (let x = leading_insert new order i key k le in
-    let y : leading_in k (row_at new key) ≡ 0 = ap (λ (r : Row). leading_in k r) (added_row slots new key row a) ∙ ap (λ (es : List Entry). count_by (λ (e : Entry). leads_to k e.course) es) none in
+    let y : leading_in k (stored_at new key) ≡ 0 = ap (λ (r : StoredChain). leading_in k r) (added_stored slots new key stored_chain a) ∙ ap (λ (es : List Entry). count_by (λ (e : Entry). leads_to k e.flow) es) none in
     let z = leading_agree slots new order k same in
     omega (arith, x, y, z)) in
     record {
@@ -201,19 +201,19 @@ kept_made ps slots new order i key row name h a p named none zero_refs classifie
           ]
         ];
         linked = λ j lt. elim (insert_cases order i key j le lt) [
-          | inl at ↦ subst Q (sym (ap (row_at new) at.1 ∙ added_row slots new key row a)) own
-          | inr q ↦ subst Q (sym (ap (row_at new) q.2 ∙ same q.0 q.1)) (All-weaker (IsLinked slots order) (IsLinked new after) links _ (s.linked q.0 q.1))
+          | inl at ↦ subst Q (sym (ap (stored_at new) at.1 ∙ added_stored slots new key stored_chain a)) own
+          | inr q ↦ subst Q (sym (ap (stored_at new) q.2 ∙ same q.0 q.1)) (All-weaker (IsLinked slots order) (IsLinked new after) links _ (s.linked q.0 q.1))
         ];
         classified = λ j lt. elim (insert_cases order i key j le lt) [
-          | inl at ↦ subst IsClassified (sym (ap (row_at new) at.1 ∙ added_row slots new key row a)) classified
-          | inr q ↦ subst IsClassified (sym (ap (row_at new) q.2 ∙ same q.0 q.1)) (s.classified q.0 q.1)
+          | inl at ↦ subst IsClassified (sym (ap (stored_at new) at.1 ∙ added_stored slots new key stored_chain a)) classified
+          | inr q ↦ subst IsClassified (sym (ap (stored_at new) q.2 ∙ same q.0 q.1)) (s.classified q.0 q.1)
         ];
-        sound = subst T (sym (table_made ps slots new order i key row name s a p named none)) (new_chain_sound (table_with ps slots order) name s.sound accepted);
+        sound = subst T (sym (table_made ps slots new order i key stored_chain name s a p named none)) (new_chain_sound (table_with ps slots order) name s.sound accepted);
       };
       counted = λ j lt. elim (insert_cases order i key j le lt) [
-        | inl at ↦ ap (λ (k : ℕ). (row_at new k).references) at.1 ∙ ap (λ (r : Row). r.references) (added_row slots new key row a) ∙ zero_refs
+        | inl at ↦ ap (λ (k : ℕ). (stored_at new k).references) at.1 ∙ ap (λ (r : StoredChain). r.references) (added_stored slots new key stored_chain a) ∙ zero_refs
             ∙ sym (ap (λ (k : ℕ). leading new after k) at.1 ∙ leads key ∙ none_leads slots order order key (λ k u e. differs u.0 u.2 (u.3 ∙ e)) s.linked)
-        | inr q ↦ ap (λ (k : ℕ). (row_at new k).references) q.2 ∙ ap (λ (r : Row). r.references) (same q.0 q.1) ∙ h.counted q.0 q.1
+        | inr q ↦ ap (λ (k : ℕ). (stored_at new k).references) q.2 ∙ ap (λ (r : StoredChain). r.references) (same q.0 q.1) ∙ h.counted q.0 q.1
             ∙ sym (ap (λ (k : ℕ). leading new after k) q.2 ∙ leads (get_or order q.0 0))
       ];
     }
@@ -234,7 +234,7 @@ users_upto (suc n) (x ∷ xs) le h =
     omega (arith, a, ap (λ (ys : List (List ℕ)). length ys) (cond-false (is_user_name x) (x ∷ filter is_user_name xs) (filter is_user_name xs) (h 0 (omega arith))))
 
 -- all but the three built-in ones
-pub users_are : (ps : List Policy) (slots : List (Option Row)) (order : List ℕ) → IsStored ps slots order → length (user_chains (listed slots order)) + 3 ≡ length order
+pub users_are : (ps : List Policy) (slots : List (Option StoredChain)) (order : List ℕ) → IsStored ps slots order → length (user_chains (listed slots order)) + 3 ≡ length order
 users_are ps slots order s =
     let ns : List (List ℕ) = names_of (listed slots order) in
     let a : length ns ≤ 3 + length (filter is_user_name ns) = users_from 3 ns s.sound.listed.user in

@@ -5,7 +5,7 @@ use Rattle.std.proofs.lemmas.Bool.{cases_Bool, ltb-true, ltb-false, cond-true, c
 use Rattle.std.proofs.lemmas.List.Edits.{length-remove}
 use Rattle.table.specs.steps.Kept.{IsUnmarked}
 use Rattle.table.specs.steps.Renames.{moved_key}
-use Rattle.table.proofs.laws.edits.DropLaws.{in_left}
+use Rattle.table.proofs.laws.edits.DeleteLaws.{in_left}
 use Rattle.table.proofs.laws.edits.MakeLaws.{fewer_unmarked, more_unmarked}
 
 lands_within : (order : List ℕ) (place to : ℕ) → place < length order → to ≤ length order → (if nat_lt place to then to - 1 else to) ≤ length (remove order place)

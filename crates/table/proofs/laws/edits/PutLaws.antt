@@ -9,7 +9,7 @@ use Rattle.rules.specs.rule.Rules.{Rule}
 use Rattle.table.specs.chains.Sound.{IsSound}
 use Rattle.table.specs.chains.Table.{Table, TableView, chain_named_by, is_named, rules_of}
 use Rattle.table.specs.edits.Edits.{Edit, Cause, TableFault, IsStepIfRoom, edited, fault_of, InterfaceNotAllowed, asks_absent_interface, changed, first_fault, full, rule_causes, target_causes}
-use Rattle.table.specs.steps.Kept.{AreStored, name_in, row_in, table_of, view_of}
+use Rattle.table.specs.steps.Kept.{AreStored, name_in, stored_in, table_of, view_of}
 use Rattle.table.specs.declared.parts.Parts.{Parts}
 use Rattle.table.specs.steps.Puts.{AnswersCauses}
 use Rattle.table.proofs.laws.chains.KeepLaws.{put_sound}
@@ -36,15 +36,15 @@ fault_later (x ∷ xs) ys e =
     ]
 
 -- how many rules the chain at a place has
-pub count_at : (p : Parts) (i : ℕ) → AreStored p → i < length p.order.items → length (rules_of (table_of p).chains (name_in p i)) ≡ length (row_in p i).entries
+pub count_at : (p : Parts) (i : ℕ) → AreStored p → i < length p.order.items → length (rules_of (table_of p).chains (name_in p i)) ≡ length (stored_in p i).entries
 count_at p i s lt = count_found p (name_in p i) i lt (place_is p.policies p.chains.slots p.order.items (name_in p i) i s lt refl)
 
 -- the chain is full
-pub full_there : (p : Parts) (i n : ℕ) → AreStored p → i < length p.order.items → n ≡ length (row_in p i).entries → 8192 ≤ n → (full (table_of p) (name_in p i)).0 ≡ true
+pub full_there : (p : Parts) (i n : ℕ) → AreStored p → i < length p.order.items → n ≡ length (stored_in p i).entries → 8192 ≤ n → (full (table_of p) (name_in p i)).0 ≡ true
 full_there p i n s lt is many = le-leb 8192 _ (omega (arith, count_at p i s lt, is, many))
 
 -- it has room, and the rule may stand there
-pub none_put : (p : Parts) (i n : ℕ) (r : Rule) → AreStored p → i < length p.order.items → n ≡ length (row_in p i).entries → n < 8192 → first_fault (rule_causes (table_of p) (name_in p i) r) ≡ None
+pub none_put : (p : Parts) (i n : ℕ) (r : Rule) → AreStored p → i < length p.order.items → n ≡ length (stored_in p i).entries → n < 8192 → first_fault (rule_causes (table_of p) (name_in p i) r) ≡ None
     → first_fault (rule_causes (table_of p) (name_in p i) r ++ full (table_of p) (name_in p i) ∷ []) ≡ None
 none_put p i n r s lt is few none =
     let end : Cause = full (table_of p) (name_in p i) in

@@ -12,7 +12,7 @@ use Rattle.std.proofs.lemmas.List.Elements.{All-head, All-map, All-tail, All-wea
 use Rattle.std.proofs.lemmas.List.Sums.{sum_by-cons}
 use Rattle.std.proofs.lemmas.Slice.Eq.{bytes_eq-Decides}
 use Rattle.fields.specs.values.Name.{is_name, name_of}
-use Rattle.rules.specs.declared.options.setting.Setting.{Setting}
+use Rattle.rules.specs.declared.options.option_value.OptionValue.{OptionValue}
 use Rattle.rules.specs.declared.rule.action.Action.{Action}
 use Rattle.rules.specs.declared.rule.action.Action.TheVariants as action
 use Rattle.rules.specs.declared.rule.target.Target.{Target}
@@ -23,64 +23,64 @@ use Rattle.rules.specs.rule.Rules.{Rule}
 use Rattle.table.specs.chains.Sound.{IsSound}
 use Rattle.table.specs.chains.Table.{Table, Chain, Policy, chain_in, comes_before, is_built_in, is_named, is_this, names, names_of}
 use Rattle.table.specs.edits.Edits.{Rename, edited, placed, renamed_rule, renamed_chain}
-use Rattle.table.specs.steps.Kept.{blank, slot_at, row_at, name_at, listed, listed_at, listed_row, table_with, leading, leading_in, IsIn, IsUser, LinksTo, IsLinked, IsPlaceFor, IsStored, IsKept}
+use Rattle.table.specs.steps.Kept.{blank, slot_at, stored_at, name_at, listed, listed_at, listed_stored, table_with, leading, leading_in, IsIn, IsUser, LinksTo, IsLinked, IsIndexFor, IsStored, IsKept}
 use Rattle.table.specs.steps.Renames.{AreRetargeted, moved_key, retargeted}
-use Rattle.table.specs.steps.Rows.{Row, course_of, leads_to, ones, rule_in, rules_in, IsClassified}
+use Rattle.table.specs.steps.StoredChains.{StoredChain, flow_of, leads_to, ones, rule_in, rules_in, IsClassified}
 use Rattle.table.specs.declared.chain.entry.Entry.{Entry}
-use Rattle.table.proofs.laws.chains.KeptLaws.{key_within, listed_by, row_set_other, row_set_same, some_set, set_some}
+use Rattle.table.proofs.laws.chains.KeptLaws.{key_within, listed_by, stored_set_other, stored_set_same, some_set, set_some}
 use Rattle.table.proofs.laws.chains.CountLaws.{part_kept}
 use Rattle.table.proofs.laws.chains.PlaceLaws.{any_none, any_some}
 use Rattle.table.proofs.laws.chains.RenamedLaws.{IsRename, moved_is, names_at, names_rest, own_at, rename_sound, renamed_all, renamed_at, renamed_get, renamed_other, renamed_own}
-use Rattle.table.proofs.laws.chains.RowLaws.{map_insert, map_remove}
+use Rattle.table.proofs.laws.chains.StoredChainLaws.{map_insert, map_remove}
 use Rattle.table.proofs.laws.chains.StoreLaws.{built_in_first, length-listed, length-names, listed_get, names_apart, names_get, texts_differ, user_after}
 use Rattle.table.proofs.laws.edits.MakeLaws.{insert_cases, leading_insert, not_turned, placed_is, shifted_at, stays_at}
 
 -- The chains under their keys
 
 -- the chain under the key has the name, and so have the rules that lead to it
-pub record IsRenamed (slots new : List (Option Row)) (order : List ℕ) (key : ℕ) (name : List ℕ) : Type 0 where
+pub record IsRenamed (slots new : List (Option StoredChain)) (order : List ℕ) (key : ℕ) (name : List ℕ) : Type 0 where
   pub present : (j : ℕ) → j < length order → IsSome (slot_at new (get_or order j 0))
   pub no_more : (k : ℕ) → IsSome (slot_at new k) → IsSome (slot_at slots k)
-  pub own : (row_at new key).name ≡ name
-  pub others : (k : ℕ) → k ≢ key → (row_at new k).name ≡ (row_at slots k).name
-  pub references : (k : ℕ) → (row_at new k).references ≡ (row_at slots k).references
-  pub classified : (j : ℕ) → j < length order → IsClassified (row_at new (get_or order j 0))
-  pub entries : (j : ℕ) → j < length order → (row_at new (get_or order j 0)).entries ≡ map (retargeted key name) (row_at slots (get_or order j 0)).entries
+  pub own : (stored_at new key).name ≡ name
+  pub others : (k : ℕ) → k ≢ key → (stored_at new k).name ≡ (stored_at slots k).name
+  pub references : (k : ℕ) → (stored_at new k).references ≡ (stored_at slots k).references
+  pub classified : (j : ℕ) → j < length order → IsClassified (stored_at new (get_or order j 0))
+  pub entries : (j : ℕ) → j < length order → (stored_at new (get_or order j 0)).entries ≡ map (retargeted key name) (stored_at slots (get_or order j 0)).entries
 
-pub renamed_set : (ps : List Policy) (slots mid : List (Option Row)) (order : List ℕ) (place key : ℕ) (name : List ℕ) (row new : Row) → IsStored ps slots order → place < length order → get_or order place 0 ≡ key → AreRetargeted slots mid order key name (length order)
-    → slot_at mid key ≡ Some row → new.name ≡ name → new.entries ≡ row.entries → new.references ≡ row.references → IsClassified new → IsRenamed slots (set mid key (Some new)) order key name
-renamed_set ps slots mid order place key name row new s lt at h slot named entries refs classified =
-    let O : Option Row → Type 0 = λ (o : Option Row). IsSome o in
+pub renamed_set : (ps : List Policy) (slots mid : List (Option StoredChain)) (order : List ℕ) (place key : ℕ) (name : List ℕ) (stored_chain new : StoredChain) → IsStored ps slots order → place < length order → get_or order place 0 ≡ key → AreRetargeted slots mid order key name (length order)
+    → slot_at mid key ≡ Some stored_chain → new.name ≡ name → new.entries ≡ stored_chain.entries → new.references ≡ stored_chain.references → IsClassified new → IsRenamed slots (set mid key (Some new)) order key name
+renamed_set ps slots mid order place key name stored_chain new s lt at h slot named entries refs classified =
+    let O : Option StoredChain → Type 0 = λ (o : Option StoredChain). IsSome o in
     let within : key < length mid = key_within mid key (subst O (sym slot) refl) in
-    let after : List (Option Row) = set mid key (Some new) in
+    let after : List (Option StoredChain) = set mid key (Some new) in
     record {
       present = λ j lj. some_set mid key (get_or order j 0) new within (h.present (get_or order j 0) (s.present j lj));
       no_more = λ k there. h.no_more k (set_some mid key k new (subst O (sym slot) refl) there);
-      own = ap (λ (r : Row). r.name) (row_set_same mid key new within) ∙ named;
-      others = λ k ne. ap (λ (r : Row). r.name) (row_set_other mid key k new ne) ∙ h.named k;
-      references = λ k. part_kept mid key row new (λ (r : Row). r.references) slot refs k ∙ h.references k;
+      own = ap (λ (r : StoredChain). r.name) (stored_set_same mid key new within) ∙ named;
+      others = λ k ne. ap (λ (r : StoredChain). r.name) (stored_set_other mid key k new ne) ∙ h.named k;
+      references = λ k. part_kept mid key stored_chain new (λ (r : StoredChain). r.references) slot refs k ∙ h.references k;
       classified = λ j lj.
           elim (cases_eq (get_or order j 0) key) [
-            | inl q ↦ subst IsClassified (sym (ap (row_at after) q ∙ row_set_same mid key new within)) classified
-            | inr ne ↦ subst IsClassified (sym (row_set_other mid key (get_or order j 0) new ne)) (h.classified j lj)
+            | inl q ↦ subst IsClassified (sym (ap (stored_at after) q ∙ stored_set_same mid key new within)) classified
+            | inr ne ↦ subst IsClassified (sym (stored_set_other mid key (get_or order j 0) new ne)) (h.classified j lj)
           ];
-      entries = λ j lj. part_kept mid key row new (λ (r : Row). r.entries) slot entries (get_or order j 0) ∙ h.done j lj lj;
+      entries = λ j lj. part_kept mid key stored_chain new (λ (r : StoredChain). r.entries) slot entries (get_or order j 0) ∙ h.done j lj lj;
     }
 
 -- a rule leads to the chain where it names it
-same_key : (ps : List Policy) (slots : List (Option Row)) (order : List ℕ) (place key to : ℕ) (old n : List ℕ) → IsStored ps slots order → place < length order → get_or order place 0 ≡ key → (row_at slots key).name ≡ old
-    → IsUser order to → (row_at slots to).name ≡ n → nat_eq to key ≡ bytes_eq n old
+same_key : (ps : List Policy) (slots : List (Option StoredChain)) (order : List ℕ) (place key to : ℕ) (old n : List ℕ) → IsStored ps slots order → place < length order → get_or order place 0 ≡ key → (stored_at slots key).name ≡ old
+    → IsUser order to → (stored_at slots to).name ≡ n → nat_eq to key ≡ bytes_eq n old
 same_key ps slots order place key to old n s lt at own u named =
     elim (cases_eq to key) [
-      | inl e ↦ eq-eqb to key e ∙ sym ((bytes_eq-Decides n old).1 (sym named ∙ ap (λ (k : ℕ). (row_at slots k).name) e ∙ own))
+      | inl e ↦ eq-eqb to key e ∙ sym ((bytes_eq-Decides n old).1 (sym named ∙ ap (λ (k : ℕ). (stored_at slots k).name) e ∙ own))
       | inr ne ↦ ne_eqb to key ne ∙ sym (texts_differ n old (λ q.
-          (let same : name_at slots order u.0 ≡ name_at slots order place = ap (λ (k : ℕ). (row_at slots k).name) u.3 ∙ named ∙ q ∙ sym own ∙ ap (λ (k : ℕ). (row_at slots k).name) (sym at) in
+          (let same : name_at slots order u.0 ≡ name_at slots order place = ap (λ (k : ℕ). (stored_at slots k).name) u.3 ∙ named ∙ q ∙ sym own ∙ ap (λ (k : ℕ). (stored_at slots k).name) (sym at) in
           let i : u.0 ≡ place = names_apart ps slots order s u.0 place u.2 lt same in
           ne (sym u.3 ∙ ap (λ (j : ℕ). get_or order j 0) i ∙ at))))
     ]
 
-leads_names : (ps : List Policy) (slots : List (Option Row)) (order : List ℕ) (place key : ℕ) (old : List ℕ) → IsStored ps slots order → place < length order → get_or order place 0 ≡ key → (row_at slots key).name ≡ old → (o : Option Target) (to : ℕ)
-    → LinksTo slots order to (chain_in o) → leads_to key (course_of o to) ≡ is_this old (chain_in o)
+leads_names : (ps : List Policy) (slots : List (Option StoredChain)) (order : List ℕ) (place key : ℕ) (old : List ℕ) → IsStored ps slots order → place < length order → get_or order place 0 ≡ key → (stored_at slots key).name ≡ old → (o : Option Target) (to : ℕ)
+    → LinksTo slots order to (chain_in o) → leads_to key (flow_of o to) ≡ is_this old (chain_in o)
 leads_names ps slots order place key old s lt at own None to l = refl
 leads_names ps slots order place key old s lt at own (Some target.Log) to l = refl
 leads_names ps slots order place key old s lt at own (Some target.Accept) to l = refl
@@ -91,28 +91,28 @@ leads_names ps slots order place key old s lt at own (Some (target.Jump n)) to l
 leads_names ps slots order place key old s lt at own (Some (target.Goto n)) to l = same_key ps slots order place key to old n s lt at own l.0 l.1
 
 -- so the rules follow as the definition says
-rules_follow : (ps : List Policy) (slots : List (Option Row)) (order : List ℕ) (place key : ℕ) (old name : List ℕ) → IsStored ps slots order → place < length order → get_or order place 0 ≡ key → (row_at slots key).name ≡ old → (es : List Entry)
+rules_follow : (ps : List Policy) (slots : List (Option StoredChain)) (order : List ℕ) (place key : ℕ) (old name : List ℕ) → IsStored ps slots order → place < length order → get_or order place 0 ≡ key → (stored_at slots key).name ≡ old → (es : List Entry)
     → All (IsLinked slots order) es → map rule_in (map (retargeted key name) es) ≡ map (renamed_rule old name) (map rule_in es)
 rules_follow ps slots order place key old name s lt at own [] h = refl
 rules_follow ps slots order place key old name s lt at own (e ∷ es) h =
     let l : IsLinked slots order e = All-head (IsLinked slots order) e es h in
-    let same : leads_to key e.course ≡ names old e.rule = ap (leads_to key) l.1 ∙ leads_names ps slots order place key old s lt at own (target_of e.rule) l.0 l.2 in
+    let same : leads_to key e.flow ≡ names old e.rule = ap (leads_to key) l.1 ∙ leads_names ps slots order place key old s lt at own (target_of e.rule) l.0 l.2 in
     let head : rule_in (retargeted key name e) ≡ renamed_rule old name e.rule = ap (λ b. cond b (with_chain_name name e.rule) e.rule) same in
     let tail = rules_follow ps slots order place key old name s lt at own es (All-tail (IsLinked slots order) e es h) in
     λ i. head i ∷ tail i
 
-pub listed_follows : (ps : List Policy) (slots new : List (Option Row)) (order : List ℕ) (place key : ℕ) (old name : List ℕ) → IsStored ps slots order → place < length order → get_or order place 0 ≡ key → (row_at slots key).name ≡ old → IsRenamed slots new order key name
+pub listed_follows : (ps : List Policy) (slots new : List (Option StoredChain)) (order : List ℕ) (place key : ℕ) (old name : List ℕ) → IsStored ps slots order → place < length order → get_or order place 0 ≡ key → (stored_at slots key).name ≡ old → IsRenamed slots new order key name
     → listed new order ≡ renamed_all old name (listed slots order)
 listed_follows ps slots new order place key old name s lt at own r =
     listed_by (renamed_chain old name) slots new order
     (λ k lk.
     let x : Chain = listed_at slots (get_or order k 0) in
-    let rules : rules_in (row_at new (get_or order k 0)) ≡ map (renamed_rule old name) (rules_in (row_at slots (get_or order k 0))) =
-    ap (map rule_in) (r.entries k lk) ∙ rules_follow ps slots order place key old name s lt at own (row_at slots (get_or order k 0)).entries (s.linked k lk) in
-    let named : (row_at new (get_or order k 0)).name ≡ (renamed_chain old name x).name = elim (cases_eq (get_or order k 0) key) [
-      | inl q ↦ ap (λ (j : ℕ). (row_at new j).name) q ∙ r.own ∙ sym (renamed_own old name x ((bytes_eq-Decides x.name old).1 (ap (λ (j : ℕ). (row_at slots j).name) q ∙ own)))
+    let rules : rules_in (stored_at new (get_or order k 0)) ≡ map (renamed_rule old name) (rules_in (stored_at slots (get_or order k 0))) =
+    ap (map rule_in) (r.entries k lk) ∙ rules_follow ps slots order place key old name s lt at own (stored_at slots (get_or order k 0)).entries (s.linked k lk) in
+    let named : (stored_at new (get_or order k 0)).name ≡ (renamed_chain old name x).name = elim (cases_eq (get_or order k 0) key) [
+      | inl q ↦ ap (λ (j : ℕ). (stored_at new j).name) q ∙ r.own ∙ sym (renamed_own old name x ((bytes_eq-Decides x.name old).1 (ap (λ (j : ℕ). (stored_at slots j).name) q ∙ own)))
       | inr ne ↦ r.others (get_or order k 0) ne ∙ sym (renamed_other old name x (texts_differ x.name old (λ q.
-          (let same : name_at slots order k ≡ name_at slots order place = q ∙ sym own ∙ ap (λ (j : ℕ). (row_at slots j).name) (sym at) in
+          (let same : name_at slots order k ≡ name_at slots order place = q ∙ sym own ∙ ap (λ (j : ℕ). (stored_at slots j).name) (sym at) in
           let i : k ≡ place = names_apart ps slots order s k place lk lt same in
           ne (ap (λ (j : ℕ). get_or order j 0) i ∙ at)))))
     ] in
@@ -141,7 +141,7 @@ landing_is place to =
       | inr above ↦ inr (above, cond-false (nat_lt place to) (to - 1) to (le-ltb place to above))
     ]
 
-pub leading_remove : (slots : List (Option Row)) (keys : List ℕ) (i k : ℕ) → i < length keys → leading slots (remove keys i) k + leading_in k (row_at slots (get_or keys i 0)) ≡ leading slots keys k
+pub leading_remove : (slots : List (Option StoredChain)) (keys : List ℕ) (i k : ℕ) → i < length keys → leading slots (remove keys i) k + leading_in k (stored_at slots (get_or keys i 0)) ≡ leading slots keys k
 leading_remove slots [] i k lt = absurd (omega (arith, lt))
 leading_remove slots (x ∷ xs) zero k lt = omega arith
 leading_remove slots (x ∷ xs) (suc i) k lt = let h = leading_remove slots xs i k (omega (arith, lt)) in omega (arith, h)
@@ -153,7 +153,7 @@ record IsMoved (order after : List ℕ) : Type 0 where
   pub apart : (i j : ℕ) → i < length after → j < length after → get_or after i 0 ≡ get_or after j 0 → i ≡ j
   pub stay : (k : ℕ) → IsIn order k → IsIn after k
   pub user : (to : ℕ) → IsUser order to → IsUser after to
-  pub leads : (slots : List (Option Row)) (k : ℕ) → leading slots after k ≡ leading slots order k
+  pub leads : (slots : List (Option StoredChain)) (k : ℕ) → leading slots after k ≡ leading slots order k
 
 moves : (order : List ℕ) (place x : ℕ) → ((i j : ℕ) → i < length order → j < length order → get_or order i 0 ≡ get_or order j 0 → i ≡ j) → 3 ≤ place → place < length order → 3 ≤ x → x < length order
     → IsMoved order (insert (remove order place) x (get_or order place 0))
@@ -203,7 +203,7 @@ moves order place x apart user lt ge below =
 -- The plain table
 
 -- the name at a place without the chain's own
-rest_name : (ps : List Policy) (slots : List (Option Row)) (order : List ℕ) (old name : List ℕ) (place k : ℕ) (d : Chain) → IsRename (table_with ps slots order) old name place → k < length (remove (renamed_all old name (listed slots order)) place)
+rest_name : (ps : List Policy) (slots : List (Option StoredChain)) (order : List ℕ) (old name : List ℕ) (place k : ℕ) (d : Chain) → IsRename (table_with ps slots order) old name place → k < length (remove (renamed_all old name (listed slots order)) place)
     → (q : ℕ) × (q < length order) × ((get_or (remove (renamed_all old name (listed slots order)) place) k d).name ≡ name_at slots order q) × (((k < place) × (q ≡ k)) ⊎ ((place ≤ k) × (q ≡ k + 1)))
 rest_name ps slots order old name place k d m lk =
     let ds : List Chain = renamed_all old name (listed slots order) in
@@ -219,7 +219,7 @@ rest_name ps slots order old name place k d m lk =
     let below : w.0 < length order = omega (arith, w.1, long) in
     (w.0, below, sym (names_at (remove ds place) k d lk) ∙ ap (λ (xs : List (List ℕ)). get_or xs k []) (names_rest (table_with ps slots order) old name place d m) ∙ w.3 ∙ names_get slots order w.0 [] below, w.4)
 
-lands : (ps : List Policy) (slots : List (Option Row)) (order : List ℕ) (old name : List ℕ) (place to : ℕ) (d : Chain) → IsStored ps slots order → IsPlaceFor name slots order to → IsRename (table_with ps slots order) old name place → place < length order
+lands : (ps : List Policy) (slots : List (Option StoredChain)) (order : List ℕ) (old name : List ℕ) (place to : ℕ) (d : Chain) → IsStored ps slots order → IsIndexFor name slots order to → IsRename (table_with ps slots order) old name place → place < length order
     → placed (renamed_at (table_with ps slots order) old name place d) (remove (renamed_all old name (listed slots order)) place)
     ≡ insert (remove (renamed_all old name (listed slots order)) place) (landing place to) (renamed_at (table_with ps slots order) old name place d)
 lands ps slots order old name place to d s p m lt =
@@ -247,10 +247,10 @@ lands ps slots order old name place to d s p m lt =
     ∙ ap (λ b. b || comes_before (name_at slots order w.0) name) (user_after ps slots order (name_at slots order w.0) w.0 s (omega (arith, late, user)) w.1 refl)
     ∙ not_turned name (name_at slots order w.0) (p.after w.0 late w.1))
 
-pub table_renamed : (ps : List Policy) (slots new : List (Option Row)) (order : List ℕ) (place to key : ℕ) (old name : List ℕ) → IsStored ps slots order → place < length order → get_or order place 0 ≡ key → (row_at slots key).name ≡ old → IsPlaceFor name slots order to
+pub table_renamed : (ps : List Policy) (slots new : List (Option StoredChain)) (order : List ℕ) (place to key : ℕ) (old name : List ℕ) → IsStored ps slots order → place < length order → get_or order place 0 ≡ key → (stored_at slots key).name ≡ old → IsIndexFor name slots order to
     → IsRename (table_with ps slots order) old name place → IsRenamed slots new order key name → table_with ps new (moved_key order place to) ≡ edited (Rename old name) (table_with ps slots order)
 table_renamed ps slots new order place to key old name s lt at own p m r =
-    let d : Chain = listed_row blank in
+    let d : Chain = listed_stored blank in
     let P : List Chain → Table = λ (cs : List Chain). record { policies = ps; chains = cs } in
     let cs : List Chain = listed slots order in
     let ds : List Chain = renamed_all old name cs in
@@ -268,20 +268,20 @@ table_renamed ps slots new order place to key old name s lt at own p m r =
 
 -- The chains as they are kept
 
-course_anew : (name : List ℕ) (a : Option Action) (options : List Setting) (to : ℕ)
-    → course_of (option_map (λ x. target_with x options) a) to ≡ course_of (option_map (λ x. target_with x options) (action_with_chain_name name a)) to
-course_anew name None options to = refl
-course_anew name (Some action.Accept) options to = refl
-course_anew name (Some action.Drop) options to = refl
-course_anew name (Some action.Return) options to = refl
-course_anew name (Some action.Reject) options to = refl
-course_anew name (Some action.Log) options to = refl
-course_anew name (Some (action.Jump n)) options to = refl
-course_anew name (Some (action.Goto n)) options to = refl
+flow_anew : (name : List ℕ) (a : Option Action) (options : List OptionValue) (to : ℕ)
+    → flow_of (option_map (λ x. target_with x options) a) to ≡ flow_of (option_map (λ x. target_with x options) (action_with_chain_name name a)) to
+flow_anew name None options to = refl
+flow_anew name (Some action.Accept) options to = refl
+flow_anew name (Some action.Drop) options to = refl
+flow_anew name (Some action.Return) options to = refl
+flow_anew name (Some action.Reject) options to = refl
+flow_anew name (Some action.Log) options to = refl
+flow_anew name (Some (action.Jump n)) options to = refl
+flow_anew name (Some (action.Goto n)) options to = refl
 
 -- a rule that leads to the chain names it by its new name
-link_anew : (new : List (Option Row)) (order after : List ℕ) (key to : ℕ) (name : List ℕ) (slots : List (Option Row)) → (row_at new key).name ≡ name → ((k : ℕ) → IsUser order k → IsUser after k) → (a : Option Action) (options : List Setting)
-    → leads_to key (course_of (option_map (λ x. target_with x options) a) to) ≡ true → LinksTo slots order to (chain_in (option_map (λ x. target_with x options) a))
+link_anew : (new : List (Option StoredChain)) (order after : List ℕ) (key to : ℕ) (name : List ℕ) (slots : List (Option StoredChain)) → (stored_at new key).name ≡ name → ((k : ℕ) → IsUser order k → IsUser after k) → (a : Option Action) (options : List OptionValue)
+    → leads_to key (flow_of (option_map (λ x. target_with x options) a) to) ≡ true → LinksTo slots order to (chain_in (option_map (λ x. target_with x options) a))
     → LinksTo new after to (chain_in (option_map (λ x. target_with x options) (action_with_chain_name name a)))
 link_anew new order after key to name slots own user None options h l = tt
 link_anew new order after key to name slots own user (Some action.Accept) options h l = tt
@@ -289,12 +289,12 @@ link_anew new order after key to name slots own user (Some action.Drop) options 
 link_anew new order after key to name slots own user (Some action.Return) options h l = tt
 link_anew new order after key to name slots own user (Some action.Reject) options h l = tt
 link_anew new order after key to name slots own user (Some action.Log) options h l = tt
-link_anew new order after key to name slots own user (Some (action.Jump n)) options h l = (user to l.0, ap (λ (k : ℕ). (row_at new k).name) (eqb-true to key h) ∙ own)
-link_anew new order after key to name slots own user (Some (action.Goto n)) options h l = (user to l.0, ap (λ (k : ℕ). (row_at new k).name) (eqb-true to key h) ∙ own)
+link_anew new order after key to name slots own user (Some (action.Jump n)) options h l = (user to l.0, ap (λ (k : ℕ). (stored_at new k).name) (eqb-true to key h) ∙ own)
+link_anew new order after key to name slots own user (Some (action.Goto n)) options h l = (user to l.0, ap (λ (k : ℕ). (stored_at new k).name) (eqb-true to key h) ∙ own)
 
 -- and another names its chain as before
-link_other : (slots new : List (Option Row)) (order after : List ℕ) (key to : ℕ) → ((k : ℕ) → k ≢ key → (row_at new k).name ≡ (row_at slots k).name) → ((k : ℕ) → IsUser order k → IsUser after k) → (o : Option Target)
-    → leads_to key (course_of o to) ≡ false → LinksTo slots order to (chain_in o) → LinksTo new after to (chain_in o)
+link_other : (slots new : List (Option StoredChain)) (order after : List ℕ) (key to : ℕ) → ((k : ℕ) → k ≢ key → (stored_at new k).name ≡ (stored_at slots k).name) → ((k : ℕ) → IsUser order k → IsUser after k) → (o : Option Target)
+    → leads_to key (flow_of o to) ≡ false → LinksTo slots order to (chain_in o) → LinksTo new after to (chain_in o)
 link_other slots new order after key to others user None h l = tt
 link_other slots new order after key to others user (Some target.Log) h l = tt
 link_other slots new order after key to others user (Some target.Accept) h l = tt
@@ -304,33 +304,33 @@ link_other slots new order after key to others user (Some target.Return) h l = t
 link_other slots new order after key to others user (Some (target.Jump n)) h l = (user to l.0, others to (eqb-false to key h) ∙ l.1)
 link_other slots new order after key to others user (Some (target.Goto n)) h l = (user to l.0, others to (eqb-false to key h) ∙ l.1)
 
-entry_linked : (slots new : List (Option Row)) (order after : List ℕ) (key : ℕ) (name : List ℕ) → IsRenamed slots new order key name → ((k : ℕ) → IsUser order k → IsUser after k) → (e : Entry) → IsLinked slots order e
+entry_linked : (slots new : List (Option StoredChain)) (order after : List ℕ) (key : ℕ) (name : List ℕ) → IsRenamed slots new order key name → ((k : ℕ) → IsUser order k → IsUser after k) → (e : Entry) → IsLinked slots order e
     → IsLinked new after (retargeted key name e)
 entry_linked slots new order after key name r user e l =
-    let change : Rule → Entry = λ (x : Rule). record { rule = x; course = e.course } in
+    let change : Rule → Entry = λ (x : Rule). record { rule = x; flow = e.flow } in
     let Q : Entry → Type 0 = λ (x : Entry). IsLinked new after x in
-    elim (cases_Bool (leads_to key e.course)) [
-      | inl t ↦ subst Q (sym (ap change (cond-true (leads_to key e.course) (with_chain_name name e.rule) e.rule t))) (
+    elim (cases_Bool (leads_to key e.flow)) [
+      | inl t ↦ subst Q (sym (ap change (cond-true (leads_to key e.flow) (with_chain_name name e.rule) e.rule t))) (
         l.0,
-        l.1 ∙ course_anew name e.rule.action e.rule.target_options l.0,
+        l.1 ∙ flow_anew name e.rule.action e.rule.target_options l.0,
         link_anew new order after key l.0 name slots r.own user e.rule.action e.rule.target_options (sym (ap (leads_to key) l.1) ∙ t) l.2,
       )
-      | inr f ↦ subst Q (sym (ap change (cond-false (leads_to key e.course) (with_chain_name name e.rule) e.rule f)))
+      | inr f ↦ subst Q (sym (ap change (cond-false (leads_to key e.flow) (with_chain_name name e.rule) e.rule f)))
           (l.0, l.1, link_other slots new order after key l.0 r.others user (target_of e.rule) (sym (ap (leads_to key) l.1) ∙ f) l.2)
     ]
 
-count_same : (key k : ℕ) (name : List ℕ) (es : List Entry) → count_by (λ (e : Entry). leads_to k e.course) (map (retargeted key name) es) ≡ count_by (λ (e : Entry). leads_to k e.course) es
+count_same : (key k : ℕ) (name : List ℕ) (es : List Entry) → count_by (λ (e : Entry). leads_to k e.flow) (map (retargeted key name) es) ≡ count_by (λ (e : Entry). leads_to k e.flow) es
 count_same key k name [] = refl
 count_same key k name (e ∷ es) =
-    let f : Entry → ℕ = λ (x : Entry). ones (leads_to k x.course) in
-    sum_by-cons f (retargeted key name e) (map (retargeted key name) es) ∙ ap (λ n. ones (leads_to k e.course) + n) (count_same key k name es) ∙ sym (sum_by-cons f e es)
+    let f : Entry → ℕ = λ (x : Entry). ones (leads_to k x.flow) in
+    sum_by-cons f (retargeted key name e) (map (retargeted key name) es) ∙ ap (λ n. ones (leads_to k e.flow) + n) (count_same key k name es) ∙ sym (sum_by-cons f e es)
 
-leading_same : (slots new : List (Option Row)) (keys : List ℕ) (k : ℕ) → ((j : ℕ) → j < length keys → leading_in k (row_at new (get_or keys j 0)) ≡ leading_in k (row_at slots (get_or keys j 0)))
+leading_same : (slots new : List (Option StoredChain)) (keys : List ℕ) (k : ℕ) → ((j : ℕ) → j < length keys → leading_in k (stored_at new (get_or keys j 0)) ≡ leading_in k (stored_at slots (get_or keys j 0)))
     → leading new keys k ≡ leading slots keys k
 leading_same slots new [] k h = refl
 leading_same slots new (x ∷ xs) k h = let a = h 0 (omega arith) in let b = leading_same slots new xs k (λ j lt. h (suc j) (omega (arith, lt))) in omega (arith, a, b)
 
-pub kept_renamed : (ps : List Policy) (slots new : List (Option Row)) (order : List ℕ) (place to key : ℕ) (old name : List ℕ) → IsKept ps slots order → place < length order → get_or order place 0 ≡ key → (row_at slots key).name ≡ old → IsPlaceFor name slots order to
+pub kept_renamed : (ps : List Policy) (slots new : List (Option StoredChain)) (order : List ℕ) (place to key : ℕ) (old name : List ℕ) → IsKept ps slots order → place < length order → get_or order place 0 ≡ key → (stored_at slots key).name ≡ old → IsIndexFor name slots order to
     → IsRename (table_with ps slots order) old name place → IsRenamed slots new order key name → RenamedReadsBack → IsKept ps new (moved_key order place to)
 kept_renamed ps slots new order place to key old name h lt at own p m r reads =
     let s : IsStored ps slots order = h.stored in
@@ -341,13 +341,13 @@ kept_renamed ps slots new order place to key old name h lt at own p m r reads =
     let within : to ≤ length order = p.within in
     let v : IsMoved order after = moves order place (landing place to) s.apart user lt (omega (arith, land, user, late)) (omega (arith, land, within, lt)) in
     let leads : (k : ℕ) → leading new after k ≡ leading slots order k = λ k. v.leads new k
-    ∙ leading_same slots new order k (λ j lj. ap (λ (es : List Entry). count_by (λ (e : Entry). leads_to k e.course) es) (r.entries j lj) ∙ count_same key k name (row_at slots (get_or order j 0)).entries) in
+    ∙ leading_same slots new order k (λ j lj. ap (λ (es : List Entry). count_by (λ (e : Entry). leads_to k e.flow) es) (r.entries j lj) ∙ count_same key k name (stored_at slots (get_or order j 0)).entries) in
     let O : ℕ → Type 0 = λ k. IsSome (slot_at new k) in
-    let C : ℕ → Type 0 = λ k. IsClassified (row_at new k) in
-    let L : ℕ → Type 0 = λ k. All (IsLinked new after) (row_at new k).entries in
+    let C : ℕ → Type 0 = λ k. IsClassified (stored_at new k) in
+    let L : ℕ → Type 0 = λ k. All (IsLinked new after) (stored_at new k).entries in
     let E : List Entry → Type 0 = λ (es : List Entry). All (IsLinked new after) es in
     let linked : (j : ℕ) → j < length order → L (get_or order j 0) = λ j lj. subst E (sym (r.entries j lj))
-    (All-map (IsLinked new after) (retargeted key name) (row_at slots (get_or order j 0)).entries
+    (All-map (IsLinked new after) (retargeted key name) (stored_at slots (get_or order j 0)).entries
     (All-weaker (IsLinked slots order) (λ (e : Entry). IsLinked new after (retargeted key name e)) (entry_linked slots new order after key name r v.user) _ (s.linked j lj))) in
     record {
       stored = record {
@@ -360,7 +360,7 @@ kept_renamed ps slots new order place to key old name h lt at own p m r reads =
       };
       counted = λ j lj.
           (let w = v.from j lj in
-          ap (λ (k : ℕ). (row_at new k).references) w.2 ∙ r.references (get_or order w.0 0) ∙ h.counted w.0 w.1 ∙ ap (λ (k : ℕ). leading slots order k) (sym w.2) ∙ sym (leads (get_or after j 0)));
+          ap (λ (k : ℕ). (stored_at new k).references) w.2 ∙ r.references (get_or order w.0 0) ∙ h.counted w.0 w.1 ∙ ap (λ (k : ℕ). leading slots order k) (sym w.2) ∙ sym (leads (get_or after j 0)));
     }
 
 -- A rename that is accepted
@@ -369,7 +369,7 @@ name_form : (name : List ℕ) → name_of name ≡ Some name → is_name name �
 unfolding name_of
 name_form name h = elim (cases_Bool (is_name name)) [ inl t ↦ t | inr f ↦ (let none : None ≡ Some name = sym (cond-false (is_name name) (Some name) None f) ∙ h in absurd (none-some _ none)) ]
 
-pub is_rename : (ps : List Policy) (slots : List (Option Row)) (order : List ℕ) (place to : ℕ) (name : List ℕ) → IsStored ps slots order → 3 ≤ place → place < length order → IsPlaceFor name slots order to → name_of name ≡ Some name
+pub is_rename : (ps : List Policy) (slots : List (Option StoredChain)) (order : List ℕ) (place to : ℕ) (name : List ℕ) → IsStored ps slots order → 3 ≤ place → place < length order → IsIndexFor name slots order to → name_of name ≡ Some name
     → IsRename (table_with ps slots order) (name_at slots order place) name place
 is_rename ps slots order place to name s ge lt p form =
     record {
@@ -399,7 +399,7 @@ name_refused text h = elim (cases_Bool (is_name text)) [ inl t ↦ absurd (none-
 
 -- a chain has the name
 pub name_taken : (cs : List Chain) (name : List ℕ) → IsSome (position (is_named name) cs) → list_any (is_named name) cs ≡ true
-name_taken cs name h = let w = which (position (is_named name) cs) h in any_some (is_named name) cs w.0 (listed_row blank) w.1
+name_taken cs name h = let w = which (position (is_named name) cs) h in any_some (is_named name) cs w.0 (listed_stored blank) w.1
   where
     which : (o : Option ℕ) → IsSome o → (i : ℕ) × (o ≡ Some i)
     which None e = absurd (false≢true e)

@@ -13,8 +13,8 @@ use Rattle.rules.specs.declared.rule.target.Target.TheVariants as target
 use Rattle.table.specs.chains.Sound.{Names, Path, Leads}
 use Rattle.table.specs.chains.Table.{Policy, Chain, chain_in, chain_named_by}
 use Rattle.table.specs.edits.Edits.{leads}
-use Rattle.table.specs.steps.Kept.{slot_at, row_at, listed, IsIn, LinksTo, IsLinked, IsStored}
-use Rattle.table.specs.steps.Rows.{Row, rule_in, rules_in, key_in, course_of}
+use Rattle.table.specs.steps.Kept.{slot_at, stored_at, listed, IsIn, LinksTo, IsLinked, IsStored}
+use Rattle.table.specs.steps.StoredChains.{StoredChain, rule_in, rules_in, key_in, flow_of}
 use Rattle.table.specs.steps.Search.{IsSeen, IsMarked, AreMarked, IsSearch, Marks}
 use Rattle.table.specs.steps.Kept.{IsUnmarked}
 use Rattle.table.specs.declared.chain.entry.Entry.{Entry}
@@ -86,7 +86,7 @@ marked_more order seen reached k h at new =
     }
 
 -- while a key is not marked, there is room for it among those reached
-pub room_for : (ps : List Policy) (slots : List (Option Row)) (order : List ℕ) (seen : List Bool) (reached : List ℕ) (k : ℕ) → IsStored ps slots order → IsMarked order seen reached → IsIn order k → get_or seen k false ≡ false → length reached < 1027
+pub room_for : (ps : List Policy) (slots : List (Option StoredChain)) (order : List ℕ) (seen : List Bool) (reached : List ℕ) (k : ℕ) → IsStored ps slots order → IsMarked order seen reached → IsIn order k → get_or seen k false ≡ false → length reached < 1027
 room_for ps slots order seen reached k s h at new =
     let differ : Differing (k ∷ reached) = (λ m. false≢true (sym new ∙ h.marked k (key_place reached k m)), keys_differ reached h.apart) in
     let among : (x : ℕ) → Mem x (k ∷ reached) → Mem x order = λ x m. elim m [
@@ -99,14 +99,14 @@ room_for ps slots order seen reached k s h at new =
 -- Rules and links
 
 -- the chain under a key of the index leads to those that its rules lead to
-edge : (ps : List Policy) (slots : List (Option Row)) (order : List ℕ) (key k : ℕ) (e : Entry) → IsStored ps slots order → IsIn order key → Contains (row_at slots key).entries e → key_in e.course ≡ Some k → Names (listed slots order) (row_at slots key).name (row_at slots k).name
+edge : (ps : List Policy) (slots : List (Option StoredChain)) (order : List ℕ) (key k : ℕ) (e : Entry) → IsStored ps slots order → IsIn order key → Contains (stored_at slots key).entries e → key_in e.flow ≡ Some k → Names (listed slots order) (stored_at slots key).name (stored_at slots k).name
 edge ps slots order key k e s at own is =
     let P : List Rule → Type 0 = λ (rs : List Rule). Contains rs e.rule in
-    let c : Contains (rules_in (row_at slots key)) e.rule =
-    (own.0, omega (arith, own.1, length-map (row_at slots key).entries rule_in), get_or-map rule_in (row_at slots key).entries own.0 e e.rule own.1 ∙ ap rule_in own.2) in
+    let c : Contains (rules_in (stored_at slots key)) e.rule =
+    (own.0, omega (arith, own.1, length-map (stored_at slots key).entries rule_in), get_or-map rule_in (stored_at slots key).entries own.0 e e.rule own.1 ∙ ap rule_in own.2) in
     (e.rule, subst P (sym (rules_under ps slots order key s at)) c, link_named slots order e k (linked_under ps slots order key e s at own) is)
 
-link_back : (slots : List (Option Row)) (order : List ℕ) (name : List ℕ) (o : Option Target) (to : ℕ) → LinksTo slots order to (chain_in o) → chain_in o ≡ Some name → (key_in (course_of o to) ≡ Some to) × ((row_at slots to).name ≡ name)
+link_back : (slots : List (Option StoredChain)) (order : List ℕ) (name : List ℕ) (o : Option Target) (to : ℕ) → LinksTo slots order to (chain_in o) → chain_in o ≡ Some name → (key_in (flow_of o to) ≡ Some to) × ((stored_at slots to).name ≡ name)
 link_back slots order name None to h q = absurd (none-some _ q)
 link_back slots order name (Some target.Log) to h q = absurd (none-some _ q)
 link_back slots order name (Some target.Accept) to h q = absurd (none-some _ q)
@@ -117,15 +117,15 @@ link_back slots order name (Some (target.Jump n)) to h q = (refl, h.1 ∙ same_S
 link_back slots order name (Some (target.Goto n)) to h q = (refl, h.1 ∙ same_Some _ _ q)
 
 -- what a chain names, a rule of it leads to
-link_key : (ps : List Policy) (slots : List (Option Row)) (order : List ℕ) (key : ℕ) (name : List ℕ) → IsStored ps slots order → IsIn order key → Names (listed slots order) (row_at slots key).name name
-    → (e : Entry) × Contains (row_at slots key).entries e × ((k : ℕ) × (key_in e.course ≡ Some k) × ((row_at slots k).name ≡ name))
+link_key : (ps : List Policy) (slots : List (Option StoredChain)) (order : List ℕ) (key : ℕ) (name : List ℕ) → IsStored ps slots order → IsIn order key → Names (listed slots order) (stored_at slots key).name name
+    → (e : Entry) × Contains (stored_at slots key).entries e × ((k : ℕ) × (key_in e.flow ≡ Some k) × ((stored_at slots k).name ≡ name))
 link_key ps slots order key name s at n =
     let r : Rule = n.0 in
-    let es : List Entry = (row_at slots key).entries in
+    let es : List Entry = (stored_at slots key).entries in
     let P : List Rule → Type 0 = λ (rs : List Rule). Contains rs r in
     let c : Contains (map rule_in es) r = subst P (rules_under ps slots order key s at) n.1 in
     let lt : c.0 < length es = omega (arith, c.1, length-map es rule_in) in
-    let none : Entry = record { rule = r; course = course_of None 0 } in
+    let none : Entry = record { rule = r; flow = flow_of None 0 } in
     let e : Entry = get_or es c.0 none in
     let own : Contains es e = Contains-get_or es c.0 none lt in
     let rule : e.rule ≡ r = sym (get_or-map rule_in es c.0 none r lt) ∙ c.2 in
@@ -140,63 +140,63 @@ path_then cs (suc n) a b c p e = step_on cs a p.0 c p.1 (path_then cs n p.0 b c 
 -- One chain is visited
 
 -- the chain at a place of those reached, and the chains that its first rules lead to are marked
-pub record IsVisit (slots : List (Option Row)) (order : List ℕ) (from : ℕ) (seen : List Bool) (reached : List ℕ) (at : ℕ) (row : Row) (upto : ℕ) : Type 0 where
+pub record IsVisit (slots : List (Option StoredChain)) (order : List ℕ) (from : ℕ) (seen : List Bool) (reached : List ℕ) (at : ℕ) (stored_chain : StoredChain) (upto : ℕ) : Type 0 where
   pub search : IsSearch slots order from seen reached at
   pub stands : at < length reached
-  pub here : row_at slots (get_or reached at 0) ≡ row
-  pub passed : AreMarked row.entries upto seen
+  pub here : stored_at slots (get_or reached at 0) ≡ stored_chain
+  pub passed : AreMarked stored_chain.entries upto seen
 
-pub at_key : (slots : List (Option Row)) (order : List ℕ) (from : ℕ) (seen : List Bool) (reached : List ℕ) (at : ℕ) → IsSearch slots order from seen reached at → at < length reached → IsIn order (get_or reached at 0)
+pub at_key : (slots : List (Option StoredChain)) (order : List ℕ) (from : ℕ) (seen : List Bool) (reached : List ℕ) (at : ℕ) → IsSearch slots order from seen reached at → at < length reached → IsIn order (get_or reached at 0)
 at_key slots order from seen reached at s lt = s.marked.known (get_or reached at 0) (at, lt, refl)
 
-pub at_there : (ps : List Policy) (slots : List (Option Row)) (order : List ℕ) (from key : ℕ) (seen : List Bool) (reached : List ℕ) (at : ℕ) → IsStored ps slots order → IsSearch slots order from seen reached at → at < length reached → key ≡ get_or reached at 0 → IsSome (slot_at slots key)
+pub at_there : (ps : List Policy) (slots : List (Option StoredChain)) (order : List ℕ) (from key : ℕ) (seen : List Bool) (reached : List ℕ) (at : ℕ) → IsStored ps slots order → IsSearch slots order from seen reached at → at < length reached → key ≡ get_or reached at 0 → IsSome (slot_at slots key)
 at_there ps slots order from key seen reached at h s lt is =
     let P : ℕ → Type 0 = λ k. IsSome (slot_at slots k) in
     let i = at_key slots order from seen reached at s lt in
     subst P (i.2 ∙ sym is) (h.present i.0 i.1)
 
 -- a rule of it
-entry_own : (row : Row) (upto : ℕ) (e : Entry) → upto < length row.entries → e ≡ get_or row.entries upto e → Contains row.entries e
-entry_own row upto e lt is = (upto, lt, sym is)
+entry_own : (stored_chain : StoredChain) (upto : ℕ) (e : Entry) → upto < length stored_chain.entries → e ≡ get_or stored_chain.entries upto e → Contains stored_chain.entries e
+entry_own stored_chain upto e lt is = (upto, lt, sym is)
 
-own_entry : (slots : List (Option Row)) (order : List ℕ) (from : ℕ) (seen : List Bool) (reached : List ℕ) (at : ℕ) (row : Row) (upto : ℕ) (e : Entry) → IsVisit slots order from seen reached at row upto → Contains row.entries e
-    → Contains (row_at slots (get_or reached at 0)).entries e
-own_entry slots order from seen reached at row upto e v own = let P : Row → Type 0 = λ (r : Row). Contains r.entries e in subst P (sym v.here) own
+own_entry : (slots : List (Option StoredChain)) (order : List ℕ) (from : ℕ) (seen : List Bool) (reached : List ℕ) (at : ℕ) (stored_chain : StoredChain) (upto : ℕ) (e : Entry) → IsVisit slots order from seen reached at stored_chain upto → Contains stored_chain.entries e
+    → Contains (stored_at slots (get_or reached at 0)).entries e
+own_entry slots order from seen reached at stored_chain upto e v own = let P : StoredChain → Type 0 = λ (r : StoredChain). Contains r.entries e in subst P (sym v.here) own
 
-pub link_in : (ps : List Policy) (slots : List (Option Row)) (order : List ℕ) (from : ℕ) (seen : List Bool) (reached : List ℕ) (at : ℕ) (row : Row) (upto k : ℕ) (e : Entry) → IsStored ps slots order → IsVisit slots order from seen reached at row upto
-    → upto < length row.entries → e ≡ get_or row.entries upto e → key_in e.course ≡ Some k → IsIn order k
-link_in ps slots order from seen reached at row upto k e h v lt is link =
-    let own = own_entry slots order from seen reached at row upto e v (entry_own row upto e lt is) in
+pub link_in : (ps : List Policy) (slots : List (Option StoredChain)) (order : List ℕ) (from : ℕ) (seen : List Bool) (reached : List ℕ) (at : ℕ) (stored_chain : StoredChain) (upto k : ℕ) (e : Entry) → IsStored ps slots order → IsVisit slots order from seen reached at stored_chain upto
+    → upto < length stored_chain.entries → e ≡ get_or stored_chain.entries upto e → key_in e.flow ≡ Some k → IsIn order k
+link_in ps slots order from seen reached at stored_chain upto k e h v lt is link =
+    let own = own_entry slots order from seen reached at stored_chain upto e v (entry_own stored_chain upto e lt is) in
     let u = link_user slots order e k (linked_under ps slots order (get_or reached at 0) e h (at_key slots order from seen reached at v.search v.stands) own) link in
     (u.0, u.2, u.3)
 
-pub link_within : (ps : List Policy) (slots : List (Option Row)) (order : List ℕ) (from : ℕ) (seen : List Bool) (reached : List ℕ) (at : ℕ) (row : Row) (upto : ℕ) (e : Entry) (link : Option ℕ) → IsStored ps slots order → IsVisit slots order from seen reached at row upto
-    → upto < length row.entries → e ≡ get_or row.entries upto e → link ≡ key_in e.course → IfSome link (λ k. k < length seen)
-link_within ps slots order from seen reached at row upto e link h v lt is q =
-    if_some link _ (λ k some. v.search.marked.within k (link_in ps slots order from seen reached at row upto k e h v lt is (sym q ∙ some)))
+pub link_within : (ps : List Policy) (slots : List (Option StoredChain)) (order : List ℕ) (from : ℕ) (seen : List Bool) (reached : List ℕ) (at : ℕ) (stored_chain : StoredChain) (upto : ℕ) (e : Entry) (link : Option ℕ) → IsStored ps slots order → IsVisit slots order from seen reached at stored_chain upto
+    → upto < length stored_chain.entries → e ≡ get_or stored_chain.entries upto e → link ≡ key_in e.flow → IfSome link (λ k. k < length seen)
+link_within ps slots order from seen reached at stored_chain upto e link h v lt is q =
+    if_some link _ (λ k some. v.search.marked.within k (link_in ps slots order from seen reached at stored_chain upto k e h v lt is (sym q ∙ some)))
 
-pub link_room : (ps : List Policy) (slots : List (Option Row)) (order : List ℕ) (from : ℕ) (seen : List Bool) (reached : List ℕ) (at : ℕ) (row : Row) (upto : ℕ) (e : Entry) (link : Option ℕ) → IsStored ps slots order → IsVisit slots order from seen reached at row upto
-    → upto < length row.entries → e ≡ get_or row.entries upto e → link ≡ key_in e.course → IfSome link (λ k. get_or seen k false ≡ false → length reached < 1027)
-link_room ps slots order from seen reached at row upto e link h v lt is q =
-    if_some link _ (λ k some new. room_for ps slots order seen reached k h v.search.marked (link_in ps slots order from seen reached at row upto k e h v lt is (sym q ∙ some)) new)
+pub link_room : (ps : List Policy) (slots : List (Option StoredChain)) (order : List ℕ) (from : ℕ) (seen : List Bool) (reached : List ℕ) (at : ℕ) (stored_chain : StoredChain) (upto : ℕ) (e : Entry) (link : Option ℕ) → IsStored ps slots order → IsVisit slots order from seen reached at stored_chain upto
+    → upto < length stored_chain.entries → e ≡ get_or stored_chain.entries upto e → link ≡ key_in e.flow → IfSome link (λ k. get_or seen k false ≡ false → length reached < 1027)
+link_room ps slots order from seen reached at stored_chain upto e link h v lt is q =
+    if_some link _ (λ k some new. room_for ps slots order seen reached k h v.search.marked (link_in ps slots order from seen reached at stored_chain upto k e h v lt is (sym q ∙ some)) new)
 
-one_more : (es : List Entry) (i : ℕ) (e : Entry) (seen : List Bool) → e ≡ get_or es i e → AreMarked es i seen → ((k : ℕ) → key_in e.course ≡ Some k → IsSeen seen k) → i < length es → AreMarked es (i + 1) seen
+one_more : (es : List Entry) (i : ℕ) (e : Entry) (seen : List Bool) → e ≡ get_or es i e → AreMarked es i seen → ((k : ℕ) → key_in e.flow ≡ Some k → IsSeen seen k) → i < length es → AreMarked es (i + 1) seen
 one_more es i e seen is below here lt m x k b own link =
     elim (cases_eq m i) [
       | inl same ↦ (
           let q : e ≡ x = is ∙ get_or_default es i e x lt ∙ ap (λ (j : ℕ). get_or es j x) (sym same) ∙ own in
-          here k (ap (λ (y : Entry). key_in y.course) q ∙ link))
+          here k (ap (λ (y : Entry). key_in y.flow) q ∙ link))
       | inr ne ↦ below m x k (omega (arith, b, ne)) own link
     ]
 
 -- the chain of a rule is reached, if it is new
-reach : (slots : List (Option Row)) (order : List ℕ) (from : ℕ) (seen : List Bool) (reached : List ℕ) (at : ℕ) (k : ℕ) → IsSearch slots order from seen reached at → at < length reached → IsIn order k
-    → Leads (listed slots order) (row_at slots from).name (row_at slots k).name → get_or seen k false ≡ false → IsSearch slots order from (set seen k true) (reached ++ k ∷ []) at
+reach : (slots : List (Option StoredChain)) (order : List ℕ) (from : ℕ) (seen : List Bool) (reached : List ℕ) (at : ℕ) (k : ℕ) → IsSearch slots order from seen reached at → at < length reached → IsIn order k
+    → Leads (listed slots order) (stored_at slots from).name (stored_at slots k).name → get_or seen k false ≡ false → IsSearch slots order from (set seen k true) (reached ++ k ∷ []) at
 reach slots order from seen reached at k s lt there path new =
     let within : k < length seen = s.marked.within k there in
     let left : (i : ℕ) → i < length reached → get_or reached i 0 ≡ get_or (reached ++ k ∷ []) i 0 = λ i le. sym (get_or_append_left reached (k ∷ []) 0 i le) in
-    let P : ℕ → Type 0 = λ x. Leads (listed slots order) (row_at slots from).name (row_at slots x).name in
-    let Q : ℕ → Type 0 = λ x. AreMarked (row_at slots x).entries (length (row_at slots x).entries) (set seen k true) in
+    let P : ℕ → Type 0 = λ x. Leads (listed slots order) (stored_at slots from).name (stored_at slots x).name in
+    let Q : ℕ → Type 0 = λ x. AreMarked (stored_at slots x).entries (length (stored_at slots x).entries) (set seen k true) in
     record {
       marked = marked_more order seen reached k s.marked there new;
       some = omega (arith, length_push reached k);
@@ -205,38 +205,38 @@ reach slots order from seen reached at k s lt there path new =
       visited = λ i le. subst Q (left i (omega (arith, le, lt))) (λ m e x below own link. seen_more seen k x within (s.visited i le m e x below own link));
     }
 
-pub visit_next : (ps : List Policy) (slots : List (Option Row)) (order : List ℕ) (from : ℕ) (seen : List Bool) (reached : List ℕ) (at : ℕ) (row : Row) (upto : ℕ) (e : Entry) (link : Option ℕ) (seen' : List Bool) (reached' : List ℕ) → IsStored ps slots order
-    → IsVisit slots order from seen reached at row upto → upto < length row.entries → e ≡ get_or row.entries upto e → link ≡ key_in e.course → Marks link seen reached seen' reached' → IsVisit slots order from seen' reached' at row (upto + 1)
-visit_next ps slots order from seen reached at row upto e link seen' reached' h v lt is q (inl m) =
-    let P : List Bool → Type 0 = λ xs. IsVisit slots order from xs reached' at row (upto + 1) in
-    let Q : List ℕ → Type 0 = λ xs. IsVisit slots order from seen xs at row (upto + 1) in
+pub visit_next : (ps : List Policy) (slots : List (Option StoredChain)) (order : List ℕ) (from : ℕ) (seen : List Bool) (reached : List ℕ) (at : ℕ) (stored_chain : StoredChain) (upto : ℕ) (e : Entry) (link : Option ℕ) (seen' : List Bool) (reached' : List ℕ) → IsStored ps slots order
+    → IsVisit slots order from seen reached at stored_chain upto → upto < length stored_chain.entries → e ≡ get_or stored_chain.entries upto e → link ≡ key_in e.flow → Marks link seen reached seen' reached' → IsVisit slots order from seen' reached' at stored_chain (upto + 1)
+visit_next ps slots order from seen reached at stored_chain upto e link seen' reached' h v lt is q (inl m) =
+    let P : List Bool → Type 0 = λ xs. IsVisit slots order from xs reached' at stored_chain (upto + 1) in
+    let Q : List ℕ → Type 0 = λ xs. IsVisit slots order from seen xs at stored_chain (upto + 1) in
     subst P (sym m.1) (subst Q (sym m.2) (record {
       search = v.search;
       stands = v.stands;
       here = v.here;
-      passed = one_more row.entries upto e seen is v.passed (λ k some. m.0 k (q ∙ some)) lt;
+      passed = one_more stored_chain.entries upto e seen is v.passed (λ k some. m.0 k (q ∙ some)) lt;
     }))
-visit_next ps slots order from seen reached at row upto e link seen' reached' h v lt is q (inr m) =
+visit_next ps slots order from seen reached at stored_chain upto e link seen' reached' h v lt is q (inr m) =
     let k : ℕ = m.0 in
-    let P : List Bool → Type 0 = λ xs. IsVisit slots order from xs reached' at row (upto + 1) in
-    let Q : List ℕ → Type 0 = λ xs. IsVisit slots order from (set seen k true) xs at row (upto + 1) in
-    let there : IsIn order k = link_in ps slots order from seen reached at row upto k e h v lt is (sym q ∙ m.1) in
+    let P : List Bool → Type 0 = λ xs. IsVisit slots order from xs reached' at stored_chain (upto + 1) in
+    let Q : List ℕ → Type 0 = λ xs. IsVisit slots order from (set seen k true) xs at stored_chain (upto + 1) in
+    let there : IsIn order k = link_in ps slots order from seen reached at stored_chain upto k e h v lt is (sym q ∙ m.1) in
     let within : k < length seen = v.search.marked.within k there in
-    let own = own_entry slots order from seen reached at row upto e v (entry_own row upto e lt is) in
+    let own = own_entry slots order from seen reached at stored_chain upto e v (entry_own stored_chain upto e lt is) in
     let here : IsIn order (get_or reached at 0) = at_key slots order from seen reached at v.search v.stands in
     let way = v.search.led (get_or reached at 0) (at, v.stands, refl) in
-    let path = path_then (listed slots order) way.0 (row_at slots from).name (row_at slots (get_or reached at 0)).name (row_at slots k).name way.1 (edge ps slots order (get_or reached at 0) k e h here own (sym q ∙ m.1)) in
+    let path = path_then (listed slots order) way.0 (stored_at slots from).name (stored_at slots (get_or reached at 0)).name (stored_at slots k).name way.1 (edge ps slots order (get_or reached at 0) k e h here own (sym q ∙ m.1)) in
     subst P (sym m.3) (subst Q (sym m.4) (record {
       search = reach slots order from seen reached at k v.search v.stands there path m.2;
       stands = omega (arith, v.stands, length_push reached k);
-      here = ap (row_at slots) (get_or_append_left reached (k ∷ []) 0 at v.stands) ∙ v.here;
-      passed = one_more row.entries upto e (set seen k true) is (λ i x j below mine to. seen_more seen k j within (v.passed i x j below mine to))
+      here = ap (stored_at slots) (get_or_append_left reached (k ∷ []) 0 at v.stands) ∙ v.here;
+      passed = one_more stored_chain.entries upto e (set seen k true) is (λ i x j below mine to. seen_more seen k j within (v.passed i x j below mine to))
           (λ j some. let P : ℕ → Type 0 = λ x. IsSeen (set seen k true) x in subst P (same_Some _ _ (sym m.1 ∙ q ∙ some)) (seen_same seen k within)) lt;
     }))
 
 -- The whole search
 
-pub search_first : (ps : List Policy) (slots : List (Option Row)) (order : List ℕ) (from : ℕ) (seen : List Bool) (none : List ℕ) (link : Option ℕ) (seen' : List Bool) (reached' : List ℕ) → IsStored ps slots order → IsIn order from → IsUnmarked order seen → none ≡ [] → link ≡ Some from
+pub search_first : (ps : List Policy) (slots : List (Option StoredChain)) (order : List ℕ) (from : ℕ) (seen : List Bool) (none : List ℕ) (link : Option ℕ) (seen' : List Bool) (reached' : List ℕ) → IsStored ps slots order → IsIn order from → IsUnmarked order seen → none ≡ [] → link ≡ Some from
     → Marks link seen none seen' reached' → IsSearch slots order from seen' reached' 0
 search_first ps slots order from seen none link seen' reached' h at u empty is (inl m) = absurd (false≢true (sym (u.clear from) ∙ m.0 from is))
 search_first ps slots order from seen none link seen' reached' h at u empty is (inr m) =
@@ -256,36 +256,36 @@ search_first ps slots order from seen none link seen' reached' h at u empty is (
       marked = marked_more order seen [] from bare at (u.clear from);
       some = omega arith;
       first = refl;
-      led = λ j i. (0, ap (λ (x : ℕ). (row_at slots x).name) (sym (only j i)));
+      led = λ j i. (0, ap (λ (x : ℕ). (stored_at slots x).name) (sym (only j i)));
       visited = λ i lt. absurd (omega (arith, lt));
     }))
 
 -- along a path from what was reached all is reached, once all that was reached was visited
-closed : (ps : List Policy) (slots : List (Option Row)) (order : List ℕ) (from : ℕ) (seen : List Bool) (reached : List ℕ) (at : ℕ) → IsStored ps slots order → IsSearch slots order from seen reached at → length reached ≤ at
-    → (n k : ℕ) (b : List ℕ) → IsIn reached k → Path (listed slots order) n (row_at slots k).name b → (j : ℕ) × IsIn reached j × ((row_at slots j).name ≡ b)
+closed : (ps : List Policy) (slots : List (Option StoredChain)) (order : List ℕ) (from : ℕ) (seen : List Bool) (reached : List ℕ) (at : ℕ) → IsStored ps slots order → IsSearch slots order from seen reached at → length reached ≤ at
+    → (n k : ℕ) (b : List ℕ) → IsIn reached k → Path (listed slots order) n (stored_at slots k).name b → (j : ℕ) × IsIn reached j × ((stored_at slots j).name ≡ b)
 closed ps slots order from seen reached at h s le zero k b i p = (k, i, p)
 closed ps slots order from seen reached at h s le (suc n) k b i p =
     let f = link_key ps slots order k p.0 h (s.marked.known k i) p.1 in
-    let Q : ℕ → Type 0 = λ x. AreMarked (row_at slots x).entries (length (row_at slots x).entries) seen in
-    let all : AreMarked (row_at slots k).entries (length (row_at slots k).entries) seen = subst Q i.2 (s.visited i.0 (omega (arith, i.1, le))) in
+    let Q : ℕ → Type 0 = λ x. AreMarked (stored_at slots x).entries (length (stored_at slots x).entries) seen in
+    let all : AreMarked (stored_at slots k).entries (length (stored_at slots k).entries) seen = subst Q i.2 (s.visited i.0 (omega (arith, i.1, le))) in
     let next : IsSeen seen f.2.0 = all f.1.0 f.0 f.2.0 f.1.1 f.1.2 f.2.1 in
     let P : List ℕ → Type 0 = λ x. Path (listed slots order) n x b in
     closed ps slots order from seen reached at h s le n f.2.0 b (s.marked.only f.2.0 next) (subst P (sym f.2.2) p.2)
 
 -- a key of the index is that of its name
-key_of_name : (ps : List Policy) (slots : List (Option Row)) (order : List ℕ) (j k : ℕ) → IsStored ps slots order → IsIn order j → IsIn order k → (row_at slots j).name ≡ (row_at slots k).name → j ≡ k
+key_of_name : (ps : List Policy) (slots : List (Option StoredChain)) (order : List ℕ) (j k : ℕ) → IsStored ps slots order → IsIn order j → IsIn order k → (stored_at slots j).name ≡ (stored_at slots k).name → j ≡ k
 key_of_name ps slots order j k h a b e =
-    let name : ℕ → List ℕ = λ x. (row_at slots x).name in
+    let name : ℕ → List ℕ = λ x. (stored_at slots x).name in
     let same : a.0 ≡ b.0 = names_apart ps slots order h a.0 b.0 a.1 b.1 (ap name a.2 ∙ e ∙ ap name (sym b.2)) in
     sym a.2 ∙ ap (λ (x : ℕ). get_or order x 0) same ∙ b.2
 
 -- the mark of the goal says whether a path leads there
-pub search_found : (ps : List Policy) (slots : List (Option Row)) (order : List ℕ) (from goal : ℕ) (seen : List Bool) (reached : List ℕ) (at : ℕ) → IsStored ps slots order → IsIn order goal → IsSearch slots order from seen reached at
-    → (get_or seen goal false ≡ false → length reached ≤ at) → get_or seen goal false ≡ leads (listed slots order) (row_at slots from).name (row_at slots goal).name
+pub search_found : (ps : List Policy) (slots : List (Option StoredChain)) (order : List ℕ) (from goal : ℕ) (seen : List Bool) (reached : List ℕ) (at : ℕ) → IsStored ps slots order → IsIn order goal → IsSearch slots order from seen reached at
+    → (get_or seen goal false ≡ false → length reached ≤ at) → get_or seen goal false ≡ leads (listed slots order) (stored_at slots from).name (stored_at slots goal).name
 search_found ps slots order from goal seen reached at h there s end =
     let cs : List Chain = listed slots order in
-    let a : List ℕ = (row_at slots from).name in
-    let b : List ℕ = (row_at slots goal).name in
+    let a : List ℕ = (stored_at slots from).name in
+    let b : List ℕ = (stored_at slots goal).name in
     elim (cases_Bool (get_or seen goal false)) [
       | inl met ↦ met ∙ sym (path_is_led cs a b h.sound.no_loop (s.led goal (s.marked.only goal met)))
       | inr missed ↦ elim (cases_Bool (leads cs a b)) [

@@ -14,7 +14,7 @@ use Rattle.table.specs.declared.verdict.Verdict.{Verdict}
 use Rattle.table.specs.walk.Walk.{Rest, Entry, Hit, hit_at, first_hit, Walked, Next, Ends, GoesOn, after_match, next_of, at_end, followed, end_verdict, too_long, walk, walk_within, whole}
 use Rattle.table.specs.walk.Cases.{Stage, Under, Over, next_rule, behind, with_next, on_by, StepsTo, GoesTo, Walks, WalksByCases, WalksInOneWay}
 use Rattle.table.proofs.laws.walk.WalkLaws.{rule_at, at_an_end, at_a_match, at_no_match}
-use Rattle.table.proofs.laws.walk.TurnLaws.{by_hit, at_last, within_end, within_long}
+use Rattle.table.proofs.laws.walk.StepResultLaws.{by_hit, at_last, within_end, within_long}
 use Rattle.table.proofs.laws.walk.TrailLaws.{after, after_none, after_one}
 
 module _ (cs : List Chain) (policy : Verdict) (values : List ℕ) where

@@ -10,31 +10,31 @@ use Rattle.rules.specs.rule.Rules.{Rule, empty_rule}
 use Rattle.rules.specs.declared.rule.target.Target.{Target}
 use Rattle.rules.specs.declared.rule.target.Target.TheVariants as target
 use Rattle.table.specs.chains.Table.{Policy, Chain, chain_in, rules_of}
-use Rattle.table.specs.steps.Kept.{slot_at, row_at, listed, IsIn, IsUser, IsLinked, LinksTo, IsStored}
-use Rattle.table.specs.steps.Rows.{Row, rule_in, rules_in, course_of}
+use Rattle.table.specs.steps.Kept.{slot_at, stored_at, listed, IsIn, IsUser, IsLinked, LinksTo, IsStored}
+use Rattle.table.specs.steps.StoredChains.{StoredChain, rule_in, rules_in, flow_of}
 use Rattle.table.specs.steps.Walking.{rest_of, rests_of, state_of, next_by, LeadsIn, IsState, IsHit}
-use Rattle.table.specs.walk.Walk.{Rest, Hit, GoesOn, hit_at, first_hit, after_match, whole}
-use Rattle.table.specs.declared.chain.entry.Course.{Course}
+use Rattle.table.specs.walk.Walk.{Hit, GoesOn, hit_at, first_hit, after_match, whole}
+use Rattle.table.specs.declared.chain.entry.Flow.{Flow}
 use Rattle.table.specs.declared.chain.entry.Entry.{Entry}
 use Rattle.table.specs.declared.walk.Pending.{Pending}
-use Rattle.table.proofs.laws.walk.StackLaws.{row_is, rules_under, linked_under}
+use Rattle.table.proofs.laws.walk.StackLaws.{stored_is, rules_under, linked_under}
 
 -- what the classifier of the chain under the key answers is the next match in the chain
-found_under : (ps : List Policy) (slots : List (Option Row)) (order values : List ℕ) (at : Pending) (stack : List Pending) (row : Row) (o : Option ℕ) → IsStored ps slots order → IsState order at stack → slot_at slots at.chain ≡ Some row
-    → o ≡ next_match (matches values) (rules_in row) at.passed → first_hit (listed slots order) values (state_of slots at stack) ≡ hit_by (listed slots order) values (rest_of slots at) (rests_of slots stack) o
-found_under ps slots order values at stack row o h s is e =
-    let rules : rules_of (listed slots order) (row_at slots at.chain).name ≡ rules_in row = rules_under ps slots order at.chain h s.present ∙ ap rules_in (row_is slots at.chain row is) in
+found_under : (ps : List Policy) (slots : List (Option StoredChain)) (order values : List ℕ) (at : Pending) (stack : List Pending) (stored_chain : StoredChain) (o : Option ℕ) → IsStored ps slots order → IsState order at stack → slot_at slots at.chain ≡ Some stored_chain
+    → o ≡ next_match (matches values) (rules_in stored_chain) at.passed → first_hit (listed slots order) values (state_of slots at stack) ≡ hit_by (listed slots order) values (rest_of slots at) (rests_of slots stack) o
+found_under ps slots order values at stack stored_chain o h s is e =
+    let rules : rules_of (listed slots order) (stored_at slots at.chain).name ≡ rules_in stored_chain = rules_under ps slots order at.chain h s.present ∙ ap rules_in (stored_is slots at.chain stored_chain is) in
     ap (hit_by (listed slots order) values (rest_of slots at) (rests_of slots stack)) (ap (λ (rs : List Rule). next_match (matches values) rs at.passed) rules ∙ sym e)
 
 -- none in the present chain
-pub past_chain : (ps : List Policy) (slots : List (Option Row)) (order values : List ℕ) (at : Pending) (stack : List Pending) (row : Row) → IsStored ps slots order → IsState order at stack → slot_at slots at.chain ≡ Some row
-    → None ≡ next_match (matches values) (rules_in row) at.passed → first_hit (listed slots order) values (state_of slots at stack) ≡ first_hit (listed slots order) values (rests_of slots stack)
-past_chain ps slots order values at stack row h s is e = found_under ps slots order values at stack row None h s is e
+pub past_chain : (ps : List Policy) (slots : List (Option StoredChain)) (order values : List ℕ) (at : Pending) (stack : List Pending) (stored_chain : StoredChain) → IsStored ps slots order → IsState order at stack → slot_at slots at.chain ≡ Some stored_chain
+    → None ≡ next_match (matches values) (rules_in stored_chain) at.passed → first_hit (listed slots order) values (state_of slots at stack) ≡ first_hit (listed slots order) values (rests_of slots stack)
+past_chain ps slots order values at stack stored_chain h s is e = found_under ps slots order values at stack stored_chain None h s is e
 
 -- Where a rule leaves the walk
 
-next_is : (slots : List (Option Row)) (order : List ℕ) (o : Option Target) (key : ℕ) (at : Pending) (stack : List Pending) → LinksTo slots order key (chain_in o)
-    → after_match o (rest_of slots at) (rests_of slots stack) ≡ next_by slots (course_of o key) at stack
+next_is : (slots : List (Option StoredChain)) (order : List ℕ) (o : Option Target) (key : ℕ) (at : Pending) (stack : List Pending) → LinksTo slots order key (chain_in o)
+    → after_match o (rest_of slots at) (rests_of slots stack) ≡ next_by slots (flow_of o key) at stack
 next_is slots order None key at stack l = refl
 next_is slots order (Some target.Log) key at stack l = refl
 next_is slots order (Some target.Accept) key at stack l = refl
@@ -47,7 +47,7 @@ next_is slots order (Some (target.Goto name)) key at stack l = ap (λ n. GoesOn 
 user_in : (order : List ℕ) (key : ℕ) → IsUser order key → IsIn order key
 user_in order key u = (u.0, u.2, u.3)
 
-leads_in : (slots : List (Option Row)) (order : List ℕ) (o : Option Target) (key : ℕ) → LinksTo slots order key (chain_in o) → LeadsIn order (course_of o key)
+leads_in : (slots : List (Option StoredChain)) (order : List ℕ) (o : Option Target) (key : ℕ) → LinksTo slots order key (chain_in o) → LeadsIn order (flow_of o key)
 leads_in slots order None key l = tt
 leads_in slots order (Some target.Log) key l = tt
 leads_in slots order (Some target.Accept) key l = tt
@@ -58,26 +58,26 @@ leads_in slots order (Some (target.Jump name)) key l = user_in order key l.0
 leads_in slots order (Some (target.Goto name)) key l = user_in order key l.0
 
 -- a match in the present chain
-pub hit_under : (ps : List Policy) (slots : List (Option Row)) (order values : List ℕ) (at : Pending) (stack : List Pending) (row : Row) (place : ℕ) (e : Entry) (course : Course) (found : Option Hit) → IsStored ps slots order → IsState order at stack
-    → slot_at slots at.chain ≡ Some row → Some place ≡ next_match (matches values) (rules_in row) at.passed → place < length row.entries → e ≡ get_or row.entries place e → course ≡ e.course
-    → found ≡ first_hit (listed slots order) values (state_of slots at stack) → IsHit slots order found course (record { chain = at.chain; passed = place + 1 }) stack
-hit_under ps slots order values at stack row place e course found h s is next lt own by same =
+pub hit_under : (ps : List Policy) (slots : List (Option StoredChain)) (order values : List ℕ) (at : Pending) (stack : List Pending) (stored_chain : StoredChain) (place : ℕ) (e : Entry) (flow : Flow) (found : Option Hit) → IsStored ps slots order → IsState order at stack
+    → slot_at slots at.chain ≡ Some stored_chain → Some place ≡ next_match (matches values) (rules_in stored_chain) at.passed → place < length stored_chain.entries → e ≡ get_or stored_chain.entries place e → flow ≡ e.flow
+    → found ≡ first_hit (listed slots order) values (state_of slots at stack) → IsHit slots order found flow (record { chain = at.chain; passed = place + 1 }) stack
+hit_under ps slots order values at stack stored_chain place e flow found h s is next lt own by same =
     let now : Pending = record { chain = at.chain; passed = place + 1 } in
     let cs : List Chain = listed slots order in
-    let name : List ℕ = (row_at slots at.chain).name in
-    let P : Row → Type 0 = λ r. Contains r.entries e in
-    let link : IsLinked slots order e = linked_under ps slots order at.chain e h s.present (subst P (sym (row_is slots at.chain row is)) (place, lt, sym own)) in
-    let rules : rules_of cs name ≡ rules_in row = rules_under ps slots order at.chain h s.present ∙ ap rules_in (row_is slots at.chain row is) in
-    let rule : get_or (rules_of cs name) place empty_rule ≡ e.rule = ap (λ (rs : List Rule). get_or rs place empty_rule) rules ∙ get_or-map rule_in row.entries place e empty_rule lt ∙ ap rule_in (sym own) in
-    let Q : Course → Type 0 = λ (c : Course). LeadsIn order c in
-    let way : e.course ≡ course_of (target_of e.rule) link.0 = link.1 in
+    let name : List ℕ = (stored_at slots at.chain).name in
+    let P : StoredChain → Type 0 = λ r. Contains r.entries e in
+    let link : IsLinked slots order e = linked_under ps slots order at.chain e h s.present (subst P (sym (stored_is slots at.chain stored_chain is)) (place, lt, sym own)) in
+    let rules : rules_of cs name ≡ rules_in stored_chain = rules_under ps slots order at.chain h s.present ∙ ap rules_in (stored_is slots at.chain stored_chain is) in
+    let rule : get_or (rules_of cs name) place empty_rule ≡ e.rule = ap (λ (rs : List Rule). get_or rs place empty_rule) rules ∙ get_or-map rule_in stored_chain.entries place e empty_rule lt ∙ ap rule_in (sym own) in
+    let Q : Flow → Type 0 = λ (c : Flow). LeadsIn order c in
+    let way : e.flow ≡ flow_of (target_of e.rule) link.0 = link.1 in
     record {
       hit = hit_at cs name (rests_of slots stack) place;
-      is = same ∙ found_under ps slots order values at stack row (Some place) h s is next;
+      is = same ∙ found_under ps slots order values at stack stored_chain (Some place) h s is next;
       entry = refl;
       next = ap (λ (r : Rule). after_match (target_of r) (rest_of slots now) (rests_of slots stack)) rule
           ∙ next_is slots order (target_of e.rule) link.0 now stack link.2
-          ∙ ap (λ (c : Course). next_by slots c now stack) (sym (by ∙ way));
+          ∙ ap (λ (c : Flow). next_by slots c now stack) (sym (by ∙ way));
       leads = subst Q (sym (by ∙ way)) (leads_in slots order (target_of e.rule) link.0 link.2);
       state = record { present = s.present; waiting = s.waiting };
     }

@@ -4,8 +4,8 @@ use Rattle.std.proofs.lemmas.List.{get_or-map, length-map, reverse-append, get_o
 use Rattle.std.proofs.lemmas.List.Elements.{All-contains, All-push}
 use Rattle.std.specs.List.{position}
 use Rattle.table.specs.chains.Table.{Policy, Chain, is_named, rules_of}
-use Rattle.table.specs.steps.Kept.{blank, slot_at, row_at, name_at, listed_at, listed, table_with, IsIn, IsLinked, IsStored}
-use Rattle.table.specs.steps.Rows.{Row, rules_in}
+use Rattle.table.specs.steps.Kept.{blank, slot_at, stored_at, name_at, listed_at, listed, table_with, IsIn, IsLinked, IsStored}
+use Rattle.table.specs.steps.StoredChains.{StoredChain, rules_in}
 use Rattle.table.specs.steps.Walking.{rest_of, rests_of, state_of, start, IsState}
 use Rattle.table.specs.declared.chain.entry.Entry.{Entry}
 use Rattle.table.specs.declared.walk.Pending.{Pending}
@@ -14,10 +14,10 @@ use Rattle.table.proofs.laws.chains.StoreLaws.{place_is}
 
 -- The stack
 
-pub rests_push : (slots : List (Option Row)) (stack : List Pending) (x : Pending) → rests_of slots (stack ++ x ∷ []) ≡ rest_of slots x ∷ rests_of slots stack
+pub rests_push : (slots : List (Option StoredChain)) (stack : List Pending) (x : Pending) → rests_of slots (stack ++ x ∷ []) ≡ rest_of slots x ∷ rests_of slots stack
 rests_push slots stack x = ap (map (rest_of slots)) (reverse-append stack (x ∷ []))
 
-pub rests_pop : (slots : List (Option Row)) (old new : List Pending) (x : Pending) → old ≡ new ++ x ∷ [] → rests_of slots old ≡ state_of slots x new
+pub rests_pop : (slots : List (Option StoredChain)) (old new : List Pending) (x : Pending) → old ≡ new ++ x ∷ [] → rests_of slots old ≡ state_of slots x new
 rests_pop slots old new x e = ap (rests_of slots) e ∙ rests_push slots new x
 
 pub state_pop : (order : List ℕ) (now x : Pending) (old new : List Pending) → old ≡ new ++ x ∷ [] → IsState order now old → IsState order x new
@@ -37,25 +37,25 @@ state_push order now at key old new e is to h =
 
 -- The chain under a key
 
-pub row_is : (slots : List (Option Row)) (key : ℕ) (row : Row) → slot_at slots key ≡ Some row → row_at slots key ≡ row
-row_is slots key row e = ap (λ (o : Option Row). unwrap_or o blank) e
+pub stored_is : (slots : List (Option StoredChain)) (key : ℕ) (stored_chain : StoredChain) → slot_at slots key ≡ Some stored_chain → stored_at slots key ≡ stored_chain
+stored_is slots key stored_chain e = ap (λ (o : Option StoredChain). unwrap_or o blank) e
 
 -- it is the listed chain of its name
-pub rules_under : (ps : List Policy) (slots : List (Option Row)) (order : List ℕ) (key : ℕ) → IsStored ps slots order → IsIn order key → rules_of (listed slots order) (row_at slots key).name ≡ rules_in (row_at slots key)
+pub rules_under : (ps : List Policy) (slots : List (Option StoredChain)) (order : List ℕ) (key : ℕ) → IsStored ps slots order → IsIn order key → rules_of (listed slots order) (stored_at slots key).name ≡ rules_in (stored_at slots key)
 rules_under ps slots order key h at =
     let c : Chain = listed_at slots key in
     let there : Contains (listed slots order) c = (at.0, omega (arith, at.1, length-map order (listed_at slots)), get_or-map (listed_at slots) order at.0 0 c at.1 ∙ ap (listed_at slots) at.2) in
     rules_by_name (table_with ps slots order) c h.sound there
 
-pub linked_under : (ps : List Policy) (slots : List (Option Row)) (order : List ℕ) (key : ℕ) (e : Entry) → IsStored ps slots order → IsIn order key → Contains (row_at slots key).entries e → IsLinked slots order e
+pub linked_under : (ps : List Policy) (slots : List (Option StoredChain)) (order : List ℕ) (key : ℕ) (e : Entry) → IsStored ps slots order → IsIn order key → Contains (stored_at slots key).entries e → IsLinked slots order e
 linked_under ps slots order key e h at own =
-    let P : ℕ → Type 0 = λ k. All (IsLinked slots order) (row_at slots k).entries in
-    All-contains (IsLinked slots order) (row_at slots key).entries e (subst P at.2 (h.linked at.0 at.1)) own
+    let P : ℕ → Type 0 = λ k. All (IsLinked slots order) (stored_at slots k).entries in
+    All-contains (IsLinked slots order) (stored_at slots key).entries e (subst P at.2 (h.linked at.0 at.1)) own
 
 -- it stands in the listing
-pub place_under : (ps : List Policy) (slots : List (Option Row)) (order : List ℕ) (key : ℕ) (row : Row) (name : List ℕ) → IsStored ps slots order → IsIn order key → slot_at slots key ≡ Some row → name ≡ row.name
+pub place_under : (ps : List Policy) (slots : List (Option StoredChain)) (order : List ℕ) (key : ℕ) (stored_chain : StoredChain) (name : List ℕ) → IsStored ps slots order → IsIn order key → slot_at slots key ≡ Some stored_chain → name ≡ stored_chain.name
     → position (is_named name) (listed slots order) ≡ None → ⊥
-place_under ps slots order key row name h at is e none =
-    let own : name_at slots order at.0 ≡ name = ap (λ k. (row_at slots k).name) at.2 ∙ ap (λ (r : Row). r.name) (row_is slots key row is) ∙ sym e in
+place_under ps slots order key stored_chain name h at is e none =
+    let own : name_at slots order at.0 ≡ name = ap (λ k. (stored_at slots k).name) at.2 ∙ ap (λ (r : StoredChain). r.name) (stored_is slots key stored_chain is) ∙ sym e in
     let some : Some at.0 ≡ None = sym (place_is ps slots order name at.0 h at.1 own) ∙ none in
     cc

@@ -1,6 +1,6 @@
 use Rattle.std.proofs.Common.{subst}
 use Rattle.table.specs.steps.Walking.{LeadsIn}
-use Rattle.table.specs.declared.chain.entry.Course.{Course}
+use Rattle.table.specs.declared.chain.entry.Flow.{Flow}
 use Rattle.table.proofs.laws.walk.StackLaws.{state_pop, state_push}
 use Rattle.table.proofs.walk.follow.Goals as goal
 
@@ -9,5 +9,5 @@ returns-in-Some-clause-state g c = λ order s leads goes. state_pop order c.args
 
 pub returns-else-is_full-clause-state : goal.returns-else-is_full-clause-state
 returns-else-is_full-clause-state g c = λ order s leads goes.
-    let P : Course → Type 0 = λ (x : Course). LeadsIn order x in
-    state_push order c.args.at.now c.start.result c.in-Jumps.key c.args.stack.now.items c.push.new.self.items c.push.ensures.items c.start.ensures (subst P c.in-Jumps.is leads) s
+    let P : Flow → Type 0 = λ (x : Flow). LeadsIn order x in
+    state_push order c.args.at.now c.start.result c.in-Jump.key c.args.stack.now.items c.push.new.self.items c.push.ensures.items c.start.ensures (subst P c.in-Jump.is leads) s

@@ -12,15 +12,15 @@ no_set = record { top = 0; intervals = [] }
 pub prepare_lines-requires-clause-rising : goal.prepare_lines-requires-clause-rising
 prepare_lines-requires-clause-rising c k s l lt = (c.requires.sound k s l lt).rising
 
-pub commit_lines-requires-clause-cut : goal.commit_lines-requires-clause-cut
-commit_lines-requires-clause-cut c k s l lt =
+pub insert_prepared_lines-requires-clause-cut : goal.insert_prepared_lines-requires-clause-cut
+insert_prepared_lines-requires-clause-cut c k s l lt =
     let lt' : k < length c.args.lines.now = omega (arith, c.prepare_lines.auto.lines) in
     let sound = c.requires.sound k s l lt' in
     let split = c.prepare_lines.ensures.split k s l lt' in
     record { rising = split.rising; cuts = c.in-Ok.ensures.cuts k s l lt'; apart = apart_after _ _ _ _ sound.rising sound.differ split }
 
-pub commit_lines-requires-clause-place : goal.commit_lines-requires-clause-place
-commit_lines-requires-clause-place c k l lt =
+pub insert_prepared_lines-requires-clause-place : goal.insert_prepared_lines-requires-clause-place
+insert_prepared_lines-requires-clause-place c k l lt =
     let lt' : k < length c.args.lines.now = omega (arith, c.prepare_lines.auto.lines) in
     let sound = c.requires.sound k no_set l lt' in
     let split = c.prepare_lines.ensures.split k no_set l lt' in
@@ -39,14 +39,14 @@ pub returns-in-Ok-clause-ok : goal.returns-in-Ok-clause-ok
 returns-in-Ok-clause-ok c k s l lt sets line =
     let lt' : k < length c.prepare_lines.new.lines = omega (arith, c.prepare_lines.auto.lines) in
     let split = c.prepare_lines.ensures.split k s l lt in
-    (c.commit_lines.ensures k s l lt').line sets (λ x le. split.same x ∙ says_from_line _ sets _ line x le)
+    (c.insert_prepared_lines.ensures k s l lt').line sets (λ x le. split.same x ∙ says_from_line _ sets _ line x le)
 
 pub returns-in-Ok-clause-sound : goal.returns-in-Ok-clause-sound
 returns-in-Ok-clause-sound c k s l lt =
     let lt' : k < length c.prepare_lines.new.lines = omega (arith, c.prepare_lines.auto.lines) in
     let sound = c.requires.sound k s l lt in
     let split = c.prepare_lines.ensures.split k s l lt in
-    let made = (c.commit_lines.ensures k s l lt').sound in
+    let made = (c.insert_prepared_lines.ensures k s l lt').sound in
     record { rising = made.rising; differ = made.differ; bits = omega (arith, made.bits, sound.bits, bits_said _ _ _ sound.rising split.rising split.same) }
 
 pub returns-in-Err-clause-err : goal.returns-in-Err-clause-err
@@ -62,7 +62,7 @@ returns-in-Err-clause-there c room = absurd (false≢true (c.in-Err.ensures.ther
 pub returns-in-Ok-clause-room : goal.returns-in-Ok-clause-room
 returns-in-Ok-clause-room c k l lt =
     let lt' : k < length c.prepare_lines.new.lines = omega (arith, c.prepare_lines.auto.lines) in
-    omega (arith, (c.commit_lines.ensures k no_set l lt').room, c.prepare_lines.ensures.room k l lt)
+    omega (arith, (c.insert_prepared_lines.ensures k no_set l lt').room, c.prepare_lines.ensures.room k l lt)
 
 pub returns-in-Err-clause-back : goal.returns-in-Err-clause-back
 returns-in-Err-clause-back c k l lt =

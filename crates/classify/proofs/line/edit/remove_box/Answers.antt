@@ -12,16 +12,16 @@ set_answers-requires-clause-keeps_apart c =
     let P : List Interval → Type 0 = λ spans. KeepsApart (with_written c.args.at spans) c.args.at c.args.line.now.pieces in
     subst P (sym (ap (λ (spans : SpanSet). spans.intervals) c.none-none.ensures)) (apart_cleared c.args.at c.args.line.now c.requires.differ c.requires.place)
 
-pub close_place-requires : goal.close_place-requires
-close_place-requires c = omega (arith, c.set_answers.ensures.long, c.requires.place)
+pub remove_column-requires : goal.remove_column-requires
+remove_column-requires c = omega (arith, c.set_answers.ensures.long, c.requires.place)
 
 -- the answers cleared and the place closed: as if the box's answers were taken out, and the pieces joined
-merged : (c : goal.After-drop-none-inside) (top : _) → IsRising top c.args.line.now.pieces → IsMergeOf top (map (without_answer c.args.at) c.args.line.now.pieces) c.close_place.new.self.pieces
+merged : (c : goal.After-drop-none-inside) (top : _) → IsRising top c.args.line.now.pieces → IsMergeOf top (map (without_answer c.args.at) c.args.line.now.pieces) c.remove_column.new.self.pieces
 merged c top r =
     let P : List Interval → Type 0 = λ spans. IsMergeOf top (map (with_written c.args.at spans) c.args.line.now.pieces) c.set_answers.new.line.pieces in
     let Q : List Cut → Type 0 = λ line. IsMergeOf top (map (without_answer c.args.at) c.args.line.now.pieces) line in
     let merge = subst P (ap (λ (spans : SpanSet). spans.intervals) c.none-none.ensures) (c.set_answers.ensures.merge top (written_rising top c.args.at c.none-none.result.intervals c.args.line.now.pieces r)) in
-    subst Q (sym c.close_place.ensures.pieces) (closed_merge top c.args.at c.args.line.now c.set_answers.new.line r c.requires.place (omega (arith, c.set_answers.ensures.long, c.requires.place)) merge)
+    subst Q (sym c.remove_column.ensures.pieces) (closed_merge top c.args.at c.args.line.now c.set_answers.new.line r c.requires.place (omega (arith, c.set_answers.ensures.long, c.requires.place)) merge)
 
 pub returns-clause-sound : goal.returns-clause-sound
 returns-clause-sound c top r =
@@ -33,4 +33,4 @@ returns-clause-line c top sets line =
     line_from_merge top (remove sets c.args.at) _ _ (merged c top r) (without_say top c.args.at sets _ r (says_from_line top sets _ line))
 
 pub returns-clause-room : goal.returns-clause-room
-returns-clause-room c = omega (arith, c.close_place.ensures.room, c.set_answers.ensures.room)
+returns-clause-room c = omega (arith, c.remove_column.ensures.room, c.set_answers.ensures.room)

@@ -1,4 +1,4 @@
-use Rattle.restore.specs.commands.Heads.{command_of}
+use Rattle.restore.specs.commands.CommandForms.{command_of}
 use Rattle.restore.proofs.command.Command.read.Goals as goal
 
 pub returns : goal.returns

@@ -9,14 +9,14 @@ returns-then-is_too_long-clause-step c = too_long c.args.self c.args.line.now c.
 
 pub returns-in_err-next-in-Between-clause-step : goal.returns-in_err-next-in-Between-clause-step
 returns-in_err-next-in-Between-clause-step c =
-    stopped c.self.inside.noflush c.self.inside.test c.args.line.now c.args.table.now c.self.inside.place Between c.args.self c.in_err-next-in-Between.field-0.0
+    stopped c.self.inside.noflush c.self.inside.test c.args.line.now c.args.table.now c.self.inside.state Between c.args.self c.in_err-next-in-Between.field-0.0
     c.from_residual.result c.self.view_is c.in-Between.is (search rules)
     (between_err c.self.inside.noflush c.self.inside.test c.args.line.now (sym c.is_too_long.ensures ∙ c.if-is_too_long.false) c.args.table.now
     c.in_err-next-in-Between.field-0.0 c.in_err-next-in-Between.ensures.step c.in_err-next-in-Between.ensures.quiet c.in_err-next-in-Between.ensures.commit)
 
 pub returns-in_err-line-in-Building-clause-step : goal.returns-in_err-line-in-Building-clause-step
 returns-in_err-line-in-Building-clause-step c =
-    stopped c.self.inside.noflush c.self.inside.test c.args.line.now c.args.table.now c.self.inside.place (Building c.in-Building.section) c.args.self
+    stopped c.self.inside.noflush c.self.inside.test c.args.line.now c.args.table.now c.self.inside.state (Building c.in-Building.section) c.args.self
     c.in_err-line-in-Building.field-0.0 c.from_residual-in_err-line-in-Building.result c.self.view_is c.in-Building.is (search rules)
     (section_err c.self.inside.noflush c.self.inside.test c.args.line.now (sym c.is_too_long.ensures ∙ c.if-is_too_long.false) c.args.table.now
     c.in-Building.section c.in_err-line-in-Building.field-0.0 (sym c.is_commit.ensures ∙ c.if-is_commit.false) c.in_err-line-in-Building.ensures.step c.in_err-line-in-Building.ensures.quiet)
@@ -24,23 +24,23 @@ returns-in_err-line-in-Building-clause-step c =
 pub returns-clause-step : goal.returns-clause-step
 returns-clause-step c =
     let short = sym c.is_too_long.ensures ∙ c.if-is_too_long.false in
-    elim c.match-place.branch [
+    elim c.match-state.branch [
       | in-Between+in_ok-next-in-Between w ↦
-          reached c.self.inside.noflush c.self.inside.test c.args.line.now c.args.table.now c.match-place.table c.args.table.now c.self.inside.place Between
-          c.match-place.next w.in_ok-next-in-Between.next c.args.self c.self.view_is w.in-Between.is w.table-is w.next-is
+          reached c.self.inside.noflush c.self.inside.test c.args.line.now c.args.table.now c.match-state.table c.args.table.now c.self.inside.state Between
+          c.match-state.next w.in_ok-next-in-Between.next c.args.self c.self.view_is w.in-Between.is w.table-is w.next-is
           (between_ok c.self.inside.noflush c.self.inside.test c.args.line.now short c.args.table.now w.in_ok-next-in-Between.next w.in_ok-next-in-Between.ensures.step)
       | in-Skipping w ↦
-          reached c.self.inside.noflush c.self.inside.test c.args.line.now c.args.table.now c.match-place.table c.args.table.now c.self.inside.place Skipping
-          c.match-place.next _ c.args.self c.self.view_is w.in-Skipping.is w.table-is (w.next-is ∙ w.skipped-next.ensures)
+          reached c.self.inside.noflush c.self.inside.test c.args.line.now c.args.table.now c.match-state.table c.args.table.now c.self.inside.state Skipping
+          c.match-state.next _ c.args.self c.self.view_is w.in-Skipping.is w.table-is (w.next-is ∙ w.skipped-next.ensures)
           (skipped_line c.self.inside.noflush c.self.inside.test c.args.line.now short c.args.table.now)
       | in-Building+then-is_commit w ↦
-          reached c.self.inside.noflush c.self.inside.test c.args.line.now c.args.table.now c.match-place.table w.commit.new.table c.self.inside.place
-          (Building w.in-Building.section) c.match-place.next Between c.args.self c.self.view_is w.in-Building.is w.table-is w.next-is
+          reached c.self.inside.noflush c.self.inside.test c.args.line.now c.args.table.now c.match-state.table w.commit.new.table c.self.inside.state
+          (Building w.in-Building.section) c.match-state.next Between c.args.self c.self.view_is w.in-Building.is w.table-is w.next-is
           (section_commits c.self.inside.noflush c.self.inside.test c.args.line.now short c.args.table.now w.commit.new.table w.in-Building.section
           (sym w.is_commit.ensures ∙ w.if-is_commit.true) w.commit.ensures.table w.commit.ensures.tested)
       | in-Building+else-is_commit+in_ok-line-in-Building w ↦
-          reached c.self.inside.noflush c.self.inside.test c.args.line.now c.args.table.now c.match-place.table c.args.table.now c.self.inside.place
-          (Building w.in-Building.section) c.match-place.next (Building w.in_ok-line-in-Building.field-0) c.args.self c.self.view_is w.in-Building.is w.table-is w.next-is
+          reached c.self.inside.noflush c.self.inside.test c.args.line.now c.args.table.now c.match-state.table c.args.table.now c.self.inside.state
+          (Building w.in-Building.section) c.match-state.next (Building w.in_ok-line-in-Building.field-0) c.args.self c.self.view_is w.in-Building.is w.table-is w.next-is
           (section_ok c.self.inside.noflush c.self.inside.test c.args.line.now short c.args.table.now w.in-Building.section w.in_ok-line-in-Building.field-0
           (sym w.is_commit.ensures ∙ w.if-is_commit.false) w.in_ok-line-in-Building.ensures.step)
     ]

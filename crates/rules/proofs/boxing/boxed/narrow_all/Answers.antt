@@ -1,15 +1,15 @@
 use Rattle.std.proofs.Common.{arith}
-use Rattle.rules.specs.rule.Allows.{setting_allows}
+use Rattle.rules.specs.rule.Allows.{option_value_allows}
 use Rattle.rules.proofs.laws.boxing.NarrowLaws.{narrows_next, narrows_all}
 use Rattle.rules.proofs.boxing.boxed.narrow_all.Goals as goal
 
-pub loop-setting-preserved : goal.loop-setting-preserved
-loop-setting-preserved c = record {
+pub loop-option_value-preserved : goal.loop-option_value-preserved
+loop-option_value-preserved c = record {
   boxed = c.narrow.ensures.boxed;
   narrows =
-      narrows_next setting_allows c.args.settings.now c.loop-setting.setting-index c.setting-item.result c.args.spans.now c.loop-setting.spans c.narrow.new.spans (omega arith) c.setting-item.is
-      c.loop-setting.invariant.narrows c.in_ok-narrow.ensures.narrows;
+      narrows_next option_value_allows c.args.option_values.now c.loop-option_value.option_value-index c.option_value-item.result c.args.spans.now c.loop-option_value.spans c.narrow.new.spans (omega arith) c.option_value-item.is
+      c.loop-option_value.invariant.narrows c.in_ok-narrow.ensures.narrows;
 }
 
 pub returns-clause-narrows : goal.returns-clause-narrows
-returns-clause-narrows c = narrows_all setting_allows c.args.settings.now c.loop-setting.setting-index c.args.spans.now c.loop-setting.spans (omega arith) c.loop-setting.invariant.narrows
+returns-clause-narrows c = narrows_all option_value_allows c.args.option_values.now c.loop-option_value.option_value-index c.args.spans.now c.loop-option_value.spans (omega arith) c.loop-option_value.invariant.narrows

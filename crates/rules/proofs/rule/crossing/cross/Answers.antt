@@ -11,8 +11,8 @@ unfolding cross
 returns-else-not-asks_both c =
     c.matches_cross.ensures
     ∙ ap (λ ms. list_all (λ m. match_crosses c.args.packet.now.values (view_match m)) ms) c.as_slice.ensures.value
-    ∙ each_viewed c.args.packet.now.values c.content.result.now.matches.items
-    ∙ ap (λ (r : Rule). list_all (match_crosses c.args.packet.now.values) r.matches) c.content.ensures.value
+    ∙ each_viewed c.args.packet.now.values c.spec.result.now.matches.items
+    ∙ ap (λ (r : Rule). list_all (match_crosses c.args.packet.now.values) r.matches) c.spec.ensures.value
 
 pub returns-then-not-asks_both : goal.returns-then-not-asks_both
 unfolding cross

@@ -1,9 +1,9 @@
 use Rattle.std.proofs.Common.{sym, ◌∙◌, ap, subst, map, List}
 use Rattle.std.specs.List.{insert}
 use Rattle.classify.specs.classifier.Classifier.{IsClassifierOfRules}
-use Rattle.table.specs.steps.Rows.{rule_in}
+use Rattle.table.specs.steps.StoredChains.{rule_in}
 use Rattle.table.specs.declared.chain.entry.Entry.{Entry}
-use Rattle.table.proofs.laws.chains.RowLaws.{inserted}
+use Rattle.table.proofs.laws.chains.StoredChainLaws.{inserted}
 use Rattle.table.proofs.chain.Chain.insert.Goals as goal
 
 pub invariant_of-self-in-Ok : goal.invariant_of-self-in-Ok

@@ -6,19 +6,19 @@ use Rattle.rules.specs.rule.Rules.{Rule, empty_rule}
 use Rattle.classify.specs.classifier.Classifier.{IsClassifierOfRules}
 use Rattle.classify.proofs.laws.search.PassLaws.{both_here, both_later, by_answers, none_of_both}
 use Rattle.table.specs.declared.chain.entry.Entry.{Entry}
-use Rattle.table.specs.steps.Rows.{IsClassified, Row, rule_in, rules_in}
+use Rattle.table.specs.steps.StoredChains.{IsClassified, StoredChain, rule_in, rules_in}
 use Rattle.table.proofs.chain.Chain.next.Goals as goal
 
 -- what a chain's classifier gives at a packet's numbers are the answers of its rules
-answers : (inside row : Row) (point values : List ℕ) (bits : List Bool) → IsClassified inside → inside ≡ row → point ≡ values
-    → ((rules : List Rule) → IsClassifierOfRules rules inside.classifier → bits ≡ map (allows_each point) rules) → bits ≡ map (allows_each values) (rules_in row)
-answers inside row point values bits classified is same given =
-    given (rules_in inside) classified ∙ ap (λ (r : Row). map (allows_each point) (rules_in r)) is ∙ ap (λ (ns : List ℕ). map (allows_each ns) (rules_in row)) same
+answers : (inside stored_chain : StoredChain) (point values : List ℕ) (bits : List Bool) → IsClassified inside → inside ≡ stored_chain → point ≡ values
+    → ((rules : List Rule) → IsClassifierOfRules rules inside.classifier → bits ≡ map (allows_each point) rules) → bits ≡ map (allows_each values) (rules_in stored_chain)
+answers inside stored_chain point values bits classified is same given =
+    given (rules_in inside) classified ∙ ap (λ (r : StoredChain). map (allows_each point) (rules_in r)) is ∙ ap (λ (ns : List ℕ). map (allows_each ns) (rules_in stored_chain)) same
 
 -- the rule that is asked is that at the place
-asked : (inside row : Row) (place : ℕ) (e : Entry) → inside ≡ row → e ≡ get_or inside.entries place e → get_or (rules_in row) place (rule_in e) ≡ rule_in e
-asked inside row place e is at =
-    sym (ap (λ (r : Row). get_or (rules_in r) place (rule_in e)) is) ∙ get_or-map rule_in inside.entries place e ∙ sym (ap rule_in at)
+asked : (inside stored_chain : StoredChain) (place : ℕ) (e : Entry) → inside ≡ stored_chain → e ≡ get_or inside.entries place e → get_or (rules_in stored_chain) place (rule_in e) ≡ rule_in e
+asked inside stored_chain place e is at =
+    sym (ap (λ (r : StoredChain). get_or (rules_in r) place (rule_in e)) is) ∙ get_or-map rule_in inside.entries place e ∙ sym (ap rule_in at)
 
 pub returns-then-cross-clause-next : goal.returns-then-cross-clause-next
 returns-then-cross-clause-next c =

@@ -1,7 +1,7 @@
 use Rattle.std.proofs.Common.{◌≡◌, ◌-◌, length}
 use Rattle.classify.specs.search.NextMatch.{next_match}
 use Rattle.rules.specs.rule.Allows.{matches}
-use Rattle.table.specs.steps.Rows.{rules_in}
+use Rattle.table.specs.steps.StoredChains.{rules_in}
 use Rattle.table.proofs.chain.Chain.next.Given as goal
 
 -- no rule from the first place up to where the search stands matches

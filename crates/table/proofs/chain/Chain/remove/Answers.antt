@@ -1,8 +1,8 @@
 use Rattle.std.proofs.Common.{sym, subst, map, List}
 use Rattle.classify.specs.classifier.Classifier.{IsClassifierOfRules}
-use Rattle.table.specs.steps.Rows.{rule_in}
+use Rattle.table.specs.steps.StoredChains.{rule_in}
 use Rattle.table.specs.declared.chain.entry.Entry.{Entry}
-use Rattle.table.proofs.laws.chains.RowLaws.{removed}
+use Rattle.table.proofs.laws.chains.StoredChainLaws.{removed}
 use Rattle.table.proofs.chain.Chain.remove.Goals as goal
 
 pub invariant_of-self : goal.invariant_of-self

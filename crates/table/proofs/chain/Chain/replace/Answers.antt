@@ -1,4 +1,4 @@
-use Rattle.table.proofs.laws.chains.RowLaws.{replaced}
+use Rattle.table.proofs.laws.chains.StoredChainLaws.{replaced}
 use Rattle.table.proofs.chain.Chain.replace.Goals as goal
 
 pub invariant_of-self-2 : goal.invariant_of-self-2

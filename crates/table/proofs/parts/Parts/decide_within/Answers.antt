@@ -2,7 +2,7 @@ use Rattle.std.proofs.Common.{◌≡◌, ◌∙◌, ◌-◌, refl, arith, sym, a
 use Rattle.table.specs.steps.Kept.{listed}
 use Rattle.table.specs.steps.Walking.{state_of}
 use Rattle.table.specs.walk.Walk.{Rest, Ends, GoesOn, walk_within}
-use Rattle.table.proofs.laws.walk.TurnLaws.{within_end, within_long, within_hit, within_policy, verdict_in, verdict_after, depth_after, room_short, start_state, start_rests, start_depth}
+use Rattle.table.proofs.laws.walk.StepResultLaws.{within_end, within_long, within_hit, within_policy, verdict_in, verdict_after, depth_after, room_short, start_state, start_rests, start_depth}
 use Rattle.table.proofs.parts.Parts.decide_within.Goals as goal
 
 pub walk-init : goal.walk-init
@@ -25,33 +25,33 @@ returns-then-left-eq0-clause-some g c =
     c.in-Some.ensures.some.hit c.in-Some.ensures.some.is c.if-left-eq0.true))
     ∙ c.walk.invariant.same
 
-pub returns-in-Decides-clause-some : goal.returns-in-Decides-clause-some
-returns-in-Decides-clause-some g c =
+pub returns-in-Decided-clause-some : goal.returns-in-Decided-clause-some
+returns-in-Decided-clause-some g c =
     sym (ap verdict_in (within_hit c.walk.left (listed c.args.self.now.chains.slots c.args.self.now.order.items) c.args.policy c.args.packet.now.values (state_of c.args.self.now.chains.slots c.walk.at c.walk.stack.items)
-    c.in-Some.ensures.some.hit (Ends c.in-Decides.verdict) c.in-Some.ensures.some.is (c.in-Some.ensures.some.next ∙ c.in-Decides.ensures.follows c.args.self.now.chains.slots) (omega arith)))
+    c.in-Some.ensures.some.hit (Ends c.in-Decided.verdict) c.in-Some.ensures.some.is (c.in-Some.ensures.some.next ∙ c.in-Decided.ensures.follows c.args.self.now.chains.slots) (omega arith)))
     ∙ c.walk.invariant.same
 
-pub returns-in-Policy-clause-some : goal.returns-in-Policy-clause-some
-returns-in-Policy-clause-some g c =
+pub returns-in-ByPolicy-clause-some : goal.returns-in-ByPolicy-clause-some
+returns-in-ByPolicy-clause-some g c =
     sym (ap verdict_in (within_policy c.walk.left (listed c.args.self.now.chains.slots c.args.self.now.order.items) c.args.policy c.args.packet.now.values (state_of c.args.self.now.chains.slots c.walk.at c.walk.stack.items)
-    c.in-Some.ensures.some.hit c.in-Some.ensures.some.is (c.in-Some.ensures.some.next ∙ c.in-Policy.ensures.follows c.args.self.now.chains.slots) (omega arith)))
+    c.in-Some.ensures.some.hit c.in-Some.ensures.some.is (c.in-Some.ensures.some.next ∙ c.in-ByPolicy.ensures.follows c.args.self.now.chains.slots) (omega arith)))
     ∙ c.walk.invariant.same
 
-pub returns-in-Full-clause-none : goal.returns-in-Full-clause-none
-returns-in-Full-clause-none g c =
-    room_short _ c.walk.left c.args.self.now.chains.slots c.args.self.now.order.items c.args.packet.now.values (state_of c.args.self.now.chains.slots c.walk.at c.walk.stack.items) _ c.in-Some.course c.advance.new.at
-    c.advance.new.stack.items c.in-Some.ensures.some refl (omega arith) c.walk.invariant.depth (c.in-Full.ensures.full refl)
+pub returns-in-StackFull-clause-none : goal.returns-in-StackFull-clause-none
+returns-in-StackFull-clause-none g c =
+    room_short _ c.walk.left c.args.self.now.chains.slots c.args.self.now.order.items c.args.packet.now.values (state_of c.args.self.now.chains.slots c.walk.at c.walk.stack.items) _ c.in-Some.flow c.advance.new.at
+    c.advance.new.stack.items c.in-Some.ensures.some refl (omega arith) c.walk.invariant.depth (c.in-StackFull.ensures.full refl)
 
 pub walk-preserved : goal.walk-preserved
 walk-preserved g c =
-    let goes : _ ≡ GoesOn (state_of c.args.self.now.chains.slots c.follow.new.at c.follow.new.stack.items) = c.in-Some.ensures.some.next ∙ c.in-Goes.ensures.follows c.args.self.now.chains.slots in
+    let goes : _ ≡ GoesOn (state_of c.args.self.now.chains.slots c.follow.new.at c.follow.new.stack.items) = c.in-Some.ensures.some.next ∙ c.in-Continues.ensures.follows c.args.self.now.chains.slots in
     record {
       same = sym (verdict_after c.in-Some.ensures.some.hit.entry
           (walk_within (c.walk.left - 1) (listed c.args.self.now.chains.slots c.args.self.now.order.items) c.args.policy c.args.packet.now.values (state_of c.args.self.now.chains.slots c.follow.new.at c.follow.new.stack.items)))
           ∙ sym (ap verdict_in (within_hit c.walk.left (listed c.args.self.now.chains.slots c.args.self.now.order.items) c.args.policy c.args.packet.now.values (state_of c.args.self.now.chains.slots c.walk.at c.walk.stack.items)
           c.in-Some.ensures.some.hit (GoesOn (state_of c.args.self.now.chains.slots c.follow.new.at c.follow.new.stack.items)) c.in-Some.ensures.some.is goes (omega arith)))
           ∙ c.walk.invariant.same;
-      state = c.in-Goes.ensures.state c.args.self.now.order.items c.in-Some.ensures.some.state c.in-Some.ensures.some.leads refl;
+      state = c.in-Continues.ensures.state c.args.self.now.order.items c.in-Some.ensures.some.state c.in-Some.ensures.some.leads refl;
       depth = depth_after c.walk.left 1024 (listed c.args.self.now.chains.slots c.args.self.now.order.items) c.args.packet.now.values (state_of c.args.self.now.chains.slots c.walk.at c.walk.stack.items)
           (state_of c.args.self.now.chains.slots c.follow.new.at c.follow.new.stack.items) c.in-Some.ensures.some.hit c.in-Some.ensures.some.is goes (omega arith) c.walk.invariant.depth;
     }

@@ -15,14 +15,14 @@ returns c =
     let ps = c.args.self.now.policies in
     let slots = c.args.self.now.chains.slots in
     let order = c.args.self.now.order.items in
-    let row = c.index_mut.result.now in
+    let stored_chain = c.index_mut.result.now in
     let new = c.insert.new.self in
-    let f = found ps slots order c.args.place c.index-key.result.now row c.requires.kept.stored c.requires.place c.index-key.ensures c.index_mut.ensures.value in
+    let f = found ps slots order c.args.place c.index-key.result.now stored_chain c.requires.kept.stored c.requires.place c.index-key.ensures c.index_mut.ensures.value in
     let done = c.in_ok-insert.ensures in
-    let p : IsPutIn row new c.args.at c.args.entry = record { name = done.name; references = done.references; entries = done.ok; classified = done.classified } in
+    let p : IsPutIn stored_chain new c.args.at c.args.entry = record { name = done.name; references = done.references; entries = done.ok; classified = done.classified } in
     record {
-      kept = put_kept ps slots c.count_in.new.chains.slots order c.args.place c.index-key.result.now c.args.at row new c.args.entry c.key-link.result c.requires.kept f p c.requires.linked c.key-link.ensures c.requires.sound c.count_in.ensures.same c.count_in.ensures.counted;
-      ok = put_table ps slots c.count_in.new.chains.slots order c.args.place c.index-key.result.now c.args.at row new c.args.entry f p c.count_in.ensures.same;
+      kept = put_kept ps slots c.count_in.new.chains.slots order c.args.place c.index-key.result.now c.args.at stored_chain new c.args.entry c.key-link.result c.requires.kept f p c.requires.linked c.key-link.ensures c.requires.sound c.count_in.ensures.same c.count_in.ensures.counted;
+      ok = put_table ps slots c.count_in.new.chains.slots order c.args.place c.index-key.result.now c.args.at stored_chain new c.args.entry f p c.count_in.ensures.same;
       order = refl;
       err = tt;
       work = done.work;

@@ -2,14 +2,14 @@ use Rattle.std.proofs.Common.{◌≡◌, ◌∙◌, ◌<◌, sym, ap, arith, sub
 use Rattle.std.proofs.lemmas.List.{get_or_default}
 use Rattle.table.specs.steps.Kept.{blank}
 use Rattle.table.specs.steps.Renames.{AreRetargeted}
-use Rattle.table.specs.steps.Rows.{Row}
+use Rattle.table.specs.steps.StoredChains.{StoredChain}
 use Rattle.table.proofs.laws.edits.RetargetLaws.{no_rule_retargeted, none_retargeted, next_retargeted, name_chains}
 use Rattle.table.proofs.parts.Parts.retarget_all.Goals as goal
 
 pub returns-then-references-eq0-clause-rules : goal.returns-then-references-eq0-clause-rules
 returns-then-references-eq0-clause-rules c =
     no_rule_retargeted c.args.self.now.policies c.args.self.now.chains.slots c.args.self.now.order.items c.args.key c.args.name.now c.requires.kept c.requires.key
-    (ap (λ (o : Option Row). (unwrap_or o blank).references) c.index.ensures ∙ sym c.references.ensures ∙ c.if-references-eq0.true)
+    (ap (λ (o : Option StoredChain). (unwrap_or o blank).references) c.index.ensures ∙ sym c.references.ensures ∙ c.if-references-eq0.true)
 
 pub loop-place-init : goal.loop-place-init
 loop-place-init c = none_retargeted c.args.self.now.policies c.args.self.now.chains.slots c.args.self.now.order.items c.args.key c.args.name.now c.requires.kept.stored

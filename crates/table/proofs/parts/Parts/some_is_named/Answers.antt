@@ -1,10 +1,10 @@
 use Rattle.std.proofs.Common.{◌∙◌, ◌<◌, sym, ap, arith, length, get_or, Bool}
 use Rattle.std.proofs.lemmas.Bool.{lt-ltb, le-ltb}
 use Rattle.table.specs.chains.Table.{Chain, is_referenced}
-use Rattle.table.specs.steps.Rows.{Row}
+use Rattle.table.specs.steps.StoredChains.{StoredChain}
 use Rattle.table.specs.steps.Kept.{listed, references_at}
-use Rattle.table.proofs.laws.edits.DropLaws.{row_here, referenced_is}
-use Rattle.table.proofs.laws.edits.DropAllLaws.{users_any, users_none}
+use Rattle.table.proofs.laws.edits.DeleteLaws.{stored_here, referenced_is}
+use Rattle.table.proofs.laws.edits.DeleteAllLaws.{users_any, users_none}
 use Rattle.table.proofs.parts.Parts.some_is_named.Goals as goal
 
 pub returns-then-references-gt0 : goal.returns-then-references-gt0
@@ -13,8 +13,8 @@ returns-then-references-gt0 c =
     let order = c.args.self.now.order.items in
     let place = c.loop-place.place in
     let lt : place < length order = omega (arith, c.loop-place-test.true, c.loop-place.auto.place-end, c.len-place-end.ensures) in
-    let here = row_here slots order place c.index.result.now c.index-in-loop-place.result.now lt c.index.ensures c.index-in-loop-place.ensures in
-    let some : 0 < references_at slots (get_or order place 0) = omega (arith, c.if-references-gt0.true, c.references.ensures, ap (λ (r : Row). r.references) here) in
+    let here = stored_here slots order place c.index.result.now c.index-in-loop-place.result.now lt c.index.ensures c.index-in-loop-place.ensures in
+    let some : 0 < references_at slots (get_or order place 0) = omega (arith, c.if-references-gt0.true, c.references.ensures, ap (λ (r : StoredChain). r.references) here) in
     let named : Chain → Bool = λ (x : Chain). is_referenced (listed slots order) x.name in
     sym (users_any c.args.self.now.policies slots order named place c.requires.stored c.loop-place.auto.place lt (referenced_is c.args.self.now.policies slots order place c.requires lt ∙ lt-ltb 0 _ some))
 

@@ -4,7 +4,7 @@ use Rattle.table.specs.steps.Walking.{state_of}
 use Rattle.table.specs.walk.Trail.{shown}
 use Rattle.table.specs.walk.Walk.{Rest, Ends, GoesOn, at_end, decided, with_entry, walk_within, too_long}
 use Rattle.table.specs.declared.verdict.Verdict.TheVariants as verdict
-use Rattle.table.proofs.laws.walk.TurnLaws.{within_end, within_long, within_hit, within_policy, depth_after, room_short, start_state, start_rests, start_depth}
+use Rattle.table.proofs.laws.walk.StepResultLaws.{within_end, within_long, within_hit, within_policy, depth_after, room_short, start_state, start_rests, start_depth}
 use Rattle.table.proofs.laws.walk.TrailLaws.{after, after_none, after_one, shown_end, shown_one, shows_end, shows_long}
 use Rattle.table.proofs.parts.Parts.trace_within.Goals as goal
 
@@ -30,26 +30,26 @@ returns-then-left-eq0-clause-some g c =
     shows_long (listed c.args.self.now.chains.slots c.args.self.now.order.items) c.walk.invariant.entries (walk_within c.walk.left (listed c.args.self.now.chains.slots c.args.self.now.order.items) c.args.policy c.args.packet.now.values (state_of c.args.self.now.chains.slots c.walk.at c.walk.stack.items)) _ (record { steps = c.new.result; verdict = verdict.TooLong; by_policy = false }) c.decided.result
     (within_long c.walk.left (listed c.args.self.now.chains.slots c.args.self.now.order.items) c.args.policy c.args.packet.now.values (state_of c.args.self.now.chains.slots c.walk.at c.walk.stack.items) c.in-Some.ensures.some.hit c.in-Some.ensures.some.is c.if-left-eq0.true) c.walk.invariant.same c.new.ensures.items refl refl c.decided.ensures
 
-pub returns-in-Decides-clause-some : goal.returns-in-Decides-clause-some
-returns-in-Decides-clause-some g c =
-    shows_end (listed c.args.self.now.chains.slots c.args.self.now.order.items) c.walk.invariant.entries (walk_within c.walk.left (listed c.args.self.now.chains.slots c.args.self.now.order.items) c.args.policy c.args.packet.now.values (state_of c.args.self.now.chains.slots c.walk.at c.walk.stack.items)) (decided c.in-Some.ensures.some.hit.entry c.in-Decides.verdict) _ (record { steps = c.push.new.self; verdict = c.in-Decides.verdict; by_policy = false }) c.decided-in-Decides.result
-    (within_hit c.walk.left (listed c.args.self.now.chains.slots c.args.self.now.order.items) c.args.policy c.args.packet.now.values (state_of c.args.self.now.chains.slots c.walk.at c.walk.stack.items) c.in-Some.ensures.some.hit (Ends c.in-Decides.verdict) c.in-Some.ensures.some.is (c.in-Some.ensures.some.next ∙ c.in-Decides.ensures.follows c.args.self.now.chains.slots) (omega arith)) c.walk.invariant.same
-    (shown_one (listed c.args.self.now.chains.slots c.args.self.now.order.items) c.walk.invariant.entries c.walk.steps.items c.push.new.self.items c.in-Some.ensures.some.hit.entry c.step_before.result c.walk.invariant.shown (ap (shown (listed c.args.self.now.chains.slots c.args.self.now.order.items)) c.in-Some.ensures.some.entry ∙ c.step_before.ensures) c.in_ok-push.ensures.items) refl refl c.decided-in-Decides.ensures
+pub returns-in-Decided-clause-some : goal.returns-in-Decided-clause-some
+returns-in-Decided-clause-some g c =
+    shows_end (listed c.args.self.now.chains.slots c.args.self.now.order.items) c.walk.invariant.entries (walk_within c.walk.left (listed c.args.self.now.chains.slots c.args.self.now.order.items) c.args.policy c.args.packet.now.values (state_of c.args.self.now.chains.slots c.walk.at c.walk.stack.items)) (decided c.in-Some.ensures.some.hit.entry c.in-Decided.verdict) _ (record { steps = c.push.new.self; verdict = c.in-Decided.verdict; by_policy = false }) c.decided-in-Decided.result
+    (within_hit c.walk.left (listed c.args.self.now.chains.slots c.args.self.now.order.items) c.args.policy c.args.packet.now.values (state_of c.args.self.now.chains.slots c.walk.at c.walk.stack.items) c.in-Some.ensures.some.hit (Ends c.in-Decided.verdict) c.in-Some.ensures.some.is (c.in-Some.ensures.some.next ∙ c.in-Decided.ensures.follows c.args.self.now.chains.slots) (omega arith)) c.walk.invariant.same
+    (shown_one (listed c.args.self.now.chains.slots c.args.self.now.order.items) c.walk.invariant.entries c.walk.steps.items c.push.new.self.items c.in-Some.ensures.some.hit.entry c.step_before.result c.walk.invariant.shown (ap (shown (listed c.args.self.now.chains.slots c.args.self.now.order.items)) c.in-Some.ensures.some.entry ∙ c.step_before.ensures) c.in_ok-push.ensures.items) refl refl c.decided-in-Decided.ensures
 
-pub returns-in-Policy-clause-some : goal.returns-in-Policy-clause-some
-returns-in-Policy-clause-some g c =
-    shows_end (listed c.args.self.now.chains.slots c.args.self.now.order.items) c.walk.invariant.entries (walk_within c.walk.left (listed c.args.self.now.chains.slots c.args.self.now.order.items) c.args.policy c.args.packet.now.values (state_of c.args.self.now.chains.slots c.walk.at c.walk.stack.items)) (with_entry c.in-Some.ensures.some.hit.entry (at_end c.args.policy)) _ (record { steps = c.push.new.self; verdict = c.args.policy; by_policy = true }) c.undecided-in-Policy.result
-    (within_policy c.walk.left (listed c.args.self.now.chains.slots c.args.self.now.order.items) c.args.policy c.args.packet.now.values (state_of c.args.self.now.chains.slots c.walk.at c.walk.stack.items) c.in-Some.ensures.some.hit c.in-Some.ensures.some.is (c.in-Some.ensures.some.next ∙ c.in-Policy.ensures.follows c.args.self.now.chains.slots) (omega arith)) c.walk.invariant.same
-    (shown_one (listed c.args.self.now.chains.slots c.args.self.now.order.items) c.walk.invariant.entries c.walk.steps.items c.push.new.self.items c.in-Some.ensures.some.hit.entry c.step_before.result c.walk.invariant.shown (ap (shown (listed c.args.self.now.chains.slots c.args.self.now.order.items)) c.in-Some.ensures.some.entry ∙ c.step_before.ensures) c.in_ok-push.ensures.items) refl refl c.undecided-in-Policy.ensures
+pub returns-in-ByPolicy-clause-some : goal.returns-in-ByPolicy-clause-some
+returns-in-ByPolicy-clause-some g c =
+    shows_end (listed c.args.self.now.chains.slots c.args.self.now.order.items) c.walk.invariant.entries (walk_within c.walk.left (listed c.args.self.now.chains.slots c.args.self.now.order.items) c.args.policy c.args.packet.now.values (state_of c.args.self.now.chains.slots c.walk.at c.walk.stack.items)) (with_entry c.in-Some.ensures.some.hit.entry (at_end c.args.policy)) _ (record { steps = c.push.new.self; verdict = c.args.policy; by_policy = true }) c.undecided-in-ByPolicy.result
+    (within_policy c.walk.left (listed c.args.self.now.chains.slots c.args.self.now.order.items) c.args.policy c.args.packet.now.values (state_of c.args.self.now.chains.slots c.walk.at c.walk.stack.items) c.in-Some.ensures.some.hit c.in-Some.ensures.some.is (c.in-Some.ensures.some.next ∙ c.in-ByPolicy.ensures.follows c.args.self.now.chains.slots) (omega arith)) c.walk.invariant.same
+    (shown_one (listed c.args.self.now.chains.slots c.args.self.now.order.items) c.walk.invariant.entries c.walk.steps.items c.push.new.self.items c.in-Some.ensures.some.hit.entry c.step_before.result c.walk.invariant.shown (ap (shown (listed c.args.self.now.chains.slots c.args.self.now.order.items)) c.in-Some.ensures.some.entry ∙ c.step_before.ensures) c.in_ok-push.ensures.items) refl refl c.undecided-in-ByPolicy.ensures
 
-pub returns-in-Full-clause-none : goal.returns-in-Full-clause-none
-returns-in-Full-clause-none g c =
-    room_short _ c.walk.left c.args.self.now.chains.slots c.args.self.now.order.items c.args.packet.now.values (state_of c.args.self.now.chains.slots c.walk.at c.walk.stack.items) _ c.in-Some.course c.advance.new.at
-    c.advance.new.stack.items c.in-Some.ensures.some refl (omega arith) c.walk.invariant.depth (c.in-Full.ensures.full refl)
+pub returns-in-StackFull-clause-none : goal.returns-in-StackFull-clause-none
+returns-in-StackFull-clause-none g c =
+    room_short _ c.walk.left c.args.self.now.chains.slots c.args.self.now.order.items c.args.packet.now.values (state_of c.args.self.now.chains.slots c.walk.at c.walk.stack.items) _ c.in-Some.flow c.advance.new.at
+    c.advance.new.stack.items c.in-Some.ensures.some refl (omega arith) c.walk.invariant.depth (c.in-StackFull.ensures.full refl)
 
 pub walk-preserved : goal.walk-preserved
 walk-preserved g c =
-    let goes : _ ≡ GoesOn (state_of c.args.self.now.chains.slots c.follow.new.at c.follow.new.stack.items) = c.in-Some.ensures.some.next ∙ c.in-Goes.ensures.follows c.args.self.now.chains.slots in
+    let goes : _ ≡ GoesOn (state_of c.args.self.now.chains.slots c.follow.new.at c.follow.new.stack.items) = c.in-Some.ensures.some.next ∙ c.in-Continues.ensures.follows c.args.self.now.chains.slots in
     record {
       entries = c.walk.invariant.entries ++ c.in-Some.ensures.some.hit.entry ∷ [];
       shown = shown_one (listed c.args.self.now.chains.slots c.args.self.now.order.items) c.walk.invariant.entries c.walk.steps.items c.push.new.self.items c.in-Some.ensures.some.hit.entry c.step_before.result c.walk.invariant.shown (ap (shown (listed c.args.self.now.chains.slots c.args.self.now.order.items)) c.in-Some.ensures.some.entry ∙ c.step_before.ensures) c.in_ok-push.ensures.items;
@@ -58,7 +58,7 @@ walk-preserved g c =
           ∙ sym (ap (after c.walk.invariant.entries) (within_hit c.walk.left (listed c.args.self.now.chains.slots c.args.self.now.order.items) c.args.policy c.args.packet.now.values (state_of c.args.self.now.chains.slots c.walk.at c.walk.stack.items)
           c.in-Some.ensures.some.hit (GoesOn (state_of c.args.self.now.chains.slots c.follow.new.at c.follow.new.stack.items)) c.in-Some.ensures.some.is goes (omega arith)))
           ∙ c.walk.invariant.same;
-      state = c.in-Goes.ensures.state c.args.self.now.order.items c.in-Some.ensures.some.state c.in-Some.ensures.some.leads refl;
+      state = c.in-Continues.ensures.state c.args.self.now.order.items c.in-Some.ensures.some.state c.in-Some.ensures.some.leads refl;
       depth = depth_after c.walk.left 1024 (listed c.args.self.now.chains.slots c.args.self.now.order.items) c.args.packet.now.values (state_of c.args.self.now.chains.slots c.walk.at c.walk.stack.items)
           (state_of c.args.self.now.chains.slots c.follow.new.at c.follow.new.stack.items) c.in-Some.ensures.some.hit c.in-Some.ensures.some.is goes (omega arith) c.walk.invariant.depth;
     }

@@ -29,6 +29,6 @@ returns c =
     let at = sym c.in-Some.ensures.place in
     let range = out_of_range c.args.number (length (rules_of t.chains c.args.chain.now)) in
     let many = count_found p c.args.chain.now c.in-Some.place c.in-Some.ensures.within at in
-    done (DeleteAt c.args.chain.now c.args.number) c.self.view_is (view_of c.take_out.new.self)
+    done (DeleteAt c.args.chain.now c.args.number) c.self.view_is (view_of c.remove_rule.new.self)
     (somewhere t c.args.chain.now c.in-Some.place (range ∷ []) at ∙ passes range [] (ap (λ n. (out_of_range c.args.number n).0) (many ∙ sym c.count_at-last.ensures.value) ∙ sym c.out_of_range.ensures ∙ c.if-out_of_range.false))
-    (changed_found p c.take_out.new.self c.args.chain.now c.in-Some.place (λ rules. remove rules (c.args.number - 1)) c.in-Some.ensures.within at c.take_out.ensures.table)
+    (changed_found p c.remove_rule.new.self c.args.chain.now c.in-Some.place (λ rules. remove rules (c.args.number - 1)) c.in-Some.ensures.within at c.remove_rule.ensures.table)

@@ -9,8 +9,8 @@ pub returns-in-Some : goal.returns-in-Some
 returns-in-Some c = refused DeleteChains c.self.view_is c.in-Some.fault (sym c.in-Some.ensures)
 
 pub returns : goal.returns
-returns c = done DeleteChains c.self.view_is (view_of c.take_all_away.new.self) (sym c.in_default.ensures) c.take_all_away.ensures.table
+returns c = done DeleteChains c.self.view_is (view_of c.remove_user_chains.new.self) (sym c.in_default.ensures) c.remove_user_chains.ensures.table
 
 pub invariant_of-self : goal.invariant_of-self
 invariant_of-self c =
-    record { kept = c.take_all_away.ensures.kept; unmarked = fewer_unmarked c.self.inside.parts.order.items c.take_all_away.new.self.order.items c.self.inside.seen.items c.self.invariant.unmarked c.take_all_away.ensures.fewer }
+    record { kept = c.remove_user_chains.ensures.kept; unmarked = fewer_unmarked c.self.inside.parts.order.items c.remove_user_chains.new.self.order.items c.self.inside.seen.items c.self.invariant.unmarked c.remove_user_chains.ensures.fewer }

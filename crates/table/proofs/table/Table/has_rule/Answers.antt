@@ -18,8 +18,8 @@ returns-in-None c =
     refused (Has c.args.chain.now c.args.rule.now) c.self.view_is NoSuchRule
     (somewhere (table_of p) c.args.chain.now c.in-Some.place (none ∷ []) at ∙ holds none [] (no_text p c.args.chain.now c.in-Some.place c.args.rule.now c.in-Some.ensures.within at (sym c.in-None.ensures.value)))
 
-pub returns-in-Some-rule_place : goal.returns-in-Some-rule_place
-returns-in-Some-rule_place c =
+pub returns-in-Some-rule_index : goal.returns-in-Some-rule_index
+returns-in-Some-rule_index c =
     let p = c.self.inside.parts in
     let at = sym c.in-Some.ensures.place in
     let none = no_such_rule (table_of p) c.args.chain.now c.args.rule.now in
@@ -27,4 +27,4 @@ returns-in-Some-rule_place c =
     subst P c.self.view_is
     (done (Has c.args.chain.now c.args.rule.now) refl (view_of p)
     (somewhere (table_of p) c.args.chain.now c.in-Some.place (none ∷ []) at
-    ∙ passes none [] (some_text p c.args.chain.now c.in-Some.place c.in-Some-rule_place.field-0 c.args.rule.now c.in-Some.ensures.within at (sym c.in-Some-rule_place.ensures.value))) refl)
+    ∙ passes none [] (some_text p c.args.chain.now c.in-Some.place c.in-Some-rule_index.field-0 c.args.rule.now c.in-Some.ensures.within at (sym c.in-Some-rule_index.ensures.value))) refl)

@@ -2,7 +2,7 @@ use Rattle.std.proofs.Common.{◌≡◌, ◌∙◌, ◌<◌, ◌≤◌, sym, ap,
 use Rattle.std.specs.List.{position}
 use Rattle.table.specs.chains.Table.{is_named}
 use Rattle.table.specs.edits.Edits.{Cause, Rename, edited, NoSuchChain, BuiltInChain, BadChainName, ChainExists, built_in, bad_name, exists_already, fault_of, first_fault}
-use Rattle.table.specs.steps.Kept.{IsPlaceFor, AreStored, table_of, view_of}
+use Rattle.table.specs.steps.Kept.{IsIndexFor, AreStored, table_of, view_of}
 use Rattle.table.specs.declared.parts.Parts.{Parts}
 use Rattle.table.proofs.laws.edits.MarkLaws.{moved_unmarked}
 use Rattle.table.proofs.laws.chains.PlaceLaws.{placed_nowhere}
@@ -42,19 +42,19 @@ returns-in_default-read c =
     (new_asked p c.args.old.now new c.in-Some.place c.self.invariant.kept.stored c.if-place-lt-BUILT_IN.false c.in-Some.ensures.within (sym c.in-Some.ensures.place)
     ∙ holds (bad_name new) (exists_already (table_of p) new ∷ []) (ap not (name_refused new c.in_default-read.ensures)))
 
-pub returns-in_default-place_for : goal.returns-in_default-place_for
-returns-in_default-place_for c =
+pub returns-in_default-index_for : goal.returns-in_default-index_for
+returns-in_default-index_for c =
     let p = c.self.inside.parts in
     let new = c.args.new.now in
     refused (Rename c.args.old.now new) c.self.view_is ChainExists
     (new_asked p c.args.old.now new c.in-Some.place c.self.invariant.kept.stored c.if-place-lt-BUILT_IN.false c.in-Some.ensures.within (sym c.in-Some.ensures.place)
     ∙ passes (bad_name new) (exists_already (table_of p) new ∷ []) (ap not (name_read new c.in-Some-read.name c.in-Some-read.ensures).0)
-    ∙ holds (exists_already (table_of p) new) [] (name_taken (table_of p).chains new c.in_default-place_for.ensures))
+    ∙ holds (exists_already (table_of p) new) [] (name_taken (table_of p).chains new c.in_default-index_for.ensures))
 
 pub rename-requires-clause-to : goal.rename-requires-clause-to
 rename-requires-clause-to c =
-    let P : List ℕ → Type 0 = λ n. IsPlaceFor n c.self.inside.parts.chains.slots c.self.inside.parts.order.items c.in-Some-place_for.to in
-    subst P (sym (name_read c.args.new.now c.in-Some-read.name c.in-Some-read.ensures).1) c.in-Some-place_for.ensures
+    let P : List ℕ → Type 0 = λ n. IsIndexFor n c.self.inside.parts.chains.slots c.self.inside.parts.order.items c.in-Some-index_for.to in
+    subst P (sym (name_read c.args.new.now c.in-Some-read.name c.in-Some-read.ensures).1) c.in-Some-index_for.ensures
 
 pub returns : goal.returns
 returns c =
@@ -67,13 +67,13 @@ returns c =
     let read = name_read new c.in-Some-read.name c.in-Some-read.ensures in
     done (Rename old new) c.self.view_is (view_of c.rename.new.self)
     (new_asked p old new c.in-Some.place c.self.invariant.kept.stored c.if-place-lt-BUILT_IN.false c.in-Some.ensures.within at
-    ∙ passes (bad_name new) (exists_already t new ∷ []) (ap not read.0) ∙ passes (exists_already t new) [] (placed_nowhere t new c.in-Some-place_for.ensures.free))
+    ∙ passes (bad_name new) (exists_already t new ∷ []) (ap not read.0) ∙ passes (exists_already t new) [] (placed_nowhere t new c.in-Some-index_for.ensures.free))
     (c.rename.ensures.table ∙ (λ i. edited (Rename (named i) (read.1 i)) t))
 
 pub invariant_of-self : goal.invariant_of-self
 invariant_of-self c =
     record {
       kept = c.rename.ensures.kept;
-      unmarked = moved_unmarked c.self.inside.parts.order.items c.rename.new.self.order.items c.self.inside.seen.items c.in-Some.place c.in-Some-place_for.to c.self.invariant.unmarked c.in-Some.ensures.within
-          c.in-Some-place_for.ensures.within c.rename.ensures.moved;
+      unmarked = moved_unmarked c.self.inside.parts.order.items c.rename.new.self.order.items c.self.inside.seen.items c.in-Some.place c.in-Some-index_for.to c.self.invariant.unmarked c.in-Some.ensures.within
+          c.in-Some-index_for.ensures.within c.rename.ensures.moved;
     }

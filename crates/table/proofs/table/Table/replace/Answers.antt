@@ -35,5 +35,5 @@ returns-clause-step c =
     let at = sym c.in-Some.ensures.place in
     let last = ap (λ n. (out_of_range c.args.number (n)).0) (count_found p chain c.in-Some.place c.in-Some.ensures.within at ∙ sym c.count_at-last.ensures.value) in
     let causes : List ℕ → List Cause = λ (n : List ℕ). (rule_causes t n rule) in
-    put_found (Replace chain c.args.number rule) p c.put_over.new.self chain c.in-Some.place causes (λ rules. slice_set rules (c.args.number - 1) rule) c.put_over.result c.self.view_is c.in-Some.ensures.within at
-    (somewhere t chain c.in-Some.place (range ∷ causes chain) at ∙ passes range (causes chain) (last ∙ sym c.out_of_range.ensures ∙ c.if-out_of_range.false)) refl c.put_over.ensures.answer
+    put_found (Replace chain c.args.number rule) p c.replace_rule.new.self chain c.in-Some.place causes (λ rules. slice_set rules (c.args.number - 1) rule) c.replace_rule.result c.self.view_is c.in-Some.ensures.within at
+    (somewhere t chain c.in-Some.place (range ∷ causes chain) at ∙ passes range (causes chain) (last ∙ sym c.out_of_range.ensures ∙ c.if-out_of_range.false)) refl c.replace_rule.ensures.answer

@@ -1,6 +1,6 @@
 use Rattle.std.proofs.Common.{◌≡◌, ◌∙◌, ap, subst}
 use Rattle.table.specs.chains.Table.{Accept, TableView}
-use Rattle.table.specs.steps.Kept.{hook_place}
+use Rattle.table.specs.steps.Kept.{hook_index}
 use Rattle.table.specs.walk.Walk.{Walked, walk}
 use Rattle.table.proofs.laws.walk.CaseLaws.{walk_is}
 use Rattle.table.proofs.laws.walk.TableWalkLaws.{walk_with}
@@ -9,7 +9,7 @@ use Rattle.table.proofs.table.Table.verdict.Goals as goal
 pub returns : goal.returns
 returns c =
     let P : TableView → Type 0 = λ (v : TableView). c.decide.result ≡ (walk v.table c.args.packet.now).verdict in
-    let is = walk_with 65536 c.self.inside.parts c.args.packet.now c.hook_place-hook.result c.verdict-policy.result Accept c.self.invariant.kept.stored (c.hook_place-hook.ensures ∙ ap hook_place c.hook.ensures.value) c.verdict-policy.ensures in
+    let is = walk_with 65536 c.self.inside.parts c.args.packet.now c.hook_index-hook.result c.verdict-policy.result Accept c.self.invariant.kept.stored (c.hook_index-hook.ensures ∙ ap hook_index c.hook.ensures.value) c.verdict-policy.ensures in
     let walked = subst P c.self.view_is (c.decide.ensures ∙ ap (λ (w : Walked). w.verdict) is) in
     record {
       walk = walked;

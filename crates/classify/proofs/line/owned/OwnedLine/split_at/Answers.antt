@@ -7,13 +7,13 @@ use Rattle.classify.proofs.laws.line.KeptLaws.{split_kept, same_kept}
 use Rattle.classify.specs.steps.Kept.{PiecesAndRoom}
 use Rattle.classify.proofs.line.owned.OwnedLine.split_at.Goals as goal
 
-pub double-requires : goal.double-requires
-double-requires c = omega (arith, c.self.invariant, kept_long _ _ _ _ _ c.self.invariant c.self.view_is, c.requires.piece)
+pub duplicate-requires : goal.duplicate-requires
+duplicate-requires c = omega (arith, c.self.invariant, kept_long _ _ _ _ _ c.self.invariant c.self.view_is, c.requires.piece)
 
 pub overflow_add-k : goal.overflow_add-k
 overflow_add-k c =
     let lt : c.args.k < length c.self.inside.rows.rows = omega (arith, c.self.invariant, kept_long _ _ _ _ _ c.self.invariant c.self.view_is, c.requires.piece) in
-    omega (arith, c.in_ok-double.ensures.few, ap length c.in_ok-double.ensures.ok, length-insert c.self.inside.rows.rows (c.args.k + 1) (get_or c.self.inside.rows.rows c.args.k []) (omega arith), lt)
+    omega (arith, c.in_ok-duplicate.ensures.few, ap length c.in_ok-duplicate.ensures.ok, length-insert c.self.inside.rows.rows (c.args.k + 1) (get_or c.self.inside.rows.rows c.args.k []) (omega arith), lt)
 
 pub insert-requires-clause-place : goal.insert-requires-clause-place
 insert-requires-clause-place c = omega (arith, kept_long _ _ _ _ _ c.self.invariant c.self.view_is, c.requires.piece)
@@ -25,24 +25,24 @@ insert-requires-clause-below c lt =
 pub insert-requires-clause-few : goal.insert-requires-clause-few
 insert-requires-clause-few c =
     let lt : c.args.k < length c.self.inside.rows.rows = omega (arith, c.self.invariant, kept_long _ _ _ _ _ c.self.invariant c.self.view_is, c.requires.piece) in
-    omega (arith, c.in_ok-double.ensures.few, ap length c.in_ok-double.ensures.ok, length-insert c.self.inside.rows.rows (c.args.k + 1) (get_or c.self.inside.rows.rows c.args.k []) (omega arith), c.self.invariant)
+    omega (arith, c.in_ok-duplicate.ensures.few, ap length c.in_ok-duplicate.ensures.ok, length-insert c.self.inside.rows.rows (c.args.k + 1) (get_or c.self.inside.rows.rows c.args.k []) (omega arith), c.self.invariant)
 
 pub overflow_add-k-in-Err : goal.overflow_add-k-in-Err
 overflow_add-k-in-Err c =
     let lt : c.args.k < length c.self.inside.rows.rows = omega (arith, c.self.invariant, kept_long _ _ _ _ _ c.self.invariant c.self.view_is, c.requires.piece) in
-    omega (arith, c.in_ok-double.ensures.few, ap length c.in_ok-double.ensures.ok, length-insert c.self.inside.rows.rows (c.args.k + 1) (get_or c.self.inside.rows.rows c.args.k []) (omega arith), lt)
+    omega (arith, c.in_ok-duplicate.ensures.few, ap length c.in_ok-duplicate.ensures.ok, length-insert c.self.inside.rows.rows (c.args.k + 1) (get_or c.self.inside.rows.rows c.args.k []) (omega arith), lt)
 
 pub remove-requires : goal.remove-requires
 remove-requires c =
     let lt : c.args.k < length c.self.inside.rows.rows = omega (arith, c.self.invariant, kept_long _ _ _ _ _ c.self.invariant c.self.view_is, c.requires.piece) in
-    omega (arith, ap length c.in_ok-double.ensures.ok, length-insert c.self.inside.rows.rows (c.args.k + 1) (get_or c.self.inside.rows.rows c.args.k []) (omega arith), lt)
+    omega (arith, ap length c.in_ok-duplicate.ensures.ok, length-insert c.self.inside.rows.rows (c.args.k + 1) (get_or c.self.inside.rows.rows c.args.k []) (omega arith), lt)
 
 pub invariant_of-self-in-Ok : goal.invariant_of-self-in-Ok
 invariant_of-self-in-Ok c =
     let lt : c.args.k < length c.self.inside.rows.rows = omega (arith, c.self.invariant, kept_long _ _ _ _ _ c.self.invariant c.self.view_is, c.requires.piece) in
     omega (
       arith,
-      ap length c.in_ok-double.ensures.ok,
+      ap length c.in_ok-duplicate.ensures.ok,
       length-insert c.self.inside.rows.rows (c.args.k + 1) (get_or c.self.inside.rows.rows c.args.k []) (omega arith),
       ap length c.in-Ok.ensures.ok,
       length-insert c.self.inside.starts (c.args.k + 1) c.args.x (omega (arith, c.self.invariant)),
@@ -53,14 +53,14 @@ pub invariant_of-self-in-Err : goal.invariant_of-self-in-Err
 invariant_of-self-in-Err c =
     let row : List Bool = get_or c.self.inside.rows.rows c.args.k [] in
     let lt : c.args.k < length c.self.inside.rows.rows = omega (arith, c.self.invariant, kept_long _ _ _ _ _ c.self.invariant c.self.view_is, c.requires.piece) in
-    let back : c.remove.new.self.rows ≡ c.self.inside.rows.rows = c.remove.ensures.rows ∙ ap (λ (rs : List (List Bool)). remove rs (c.args.k + 1)) c.in_ok-double.ensures.ok ∙ remove-insert c.self.inside.rows.rows (c.args.k + 1) row (omega arith) in
+    let back : c.remove.new.self.rows ≡ c.self.inside.rows.rows = c.remove.ensures.rows ∙ ap (λ (rs : List (List Bool)). remove rs (c.args.k + 1)) c.in_ok-duplicate.ensures.ok ∙ remove-insert c.self.inside.rows.rows (c.args.k + 1) row (omega arith) in
     ap length back ∙ c.self.invariant ∙ sym (ap length c.in-Err.ensures.err)
 
 pub invariant_of-self-inside-in-Ok : goal.invariant_of-self-inside-in-Ok
 invariant_of-self-inside-in-Ok c =
     let lt : c.args.k < length c.self.inside.starts = omega (arith, kept_long _ _ _ _ _ c.self.invariant c.self.view_is, c.requires.piece) in (
-      split_kept c.args.self.now c.args.k c.args.x _ c.requires.piece c.requires.above c.requires.below (omega (arith, c.ranges.x)) (omega (arith, c.double.ensures.room, ap (λ (l : PiecesAndRoom). l.room) c.self.view_is)) _
-          (pieces_inserted _ _ _ _ (c.args.k + 1) c.args.x _ (get_or c.self.inside.rows.rows c.args.k []) _ c.self.invariant (omega arith) (kept_pieces _ _ _ _ _ c.self.view_is) c.in-Ok.ensures.ok c.in_ok-double.ensures.ok (sym (kept_row _ _ _ _ _ c.args.k c.self.invariant c.self.view_is lt))),
+      split_kept c.args.self.now c.args.k c.args.x _ c.requires.piece c.requires.above c.requires.below (omega (arith, c.ranges.x)) (omega (arith, c.duplicate.ensures.room, ap (λ (l : PiecesAndRoom). l.room) c.self.view_is)) _
+          (pieces_inserted _ _ _ _ (c.args.k + 1) c.args.x _ (get_or c.self.inside.rows.rows c.args.k []) _ c.self.invariant (omega arith) (kept_pieces _ _ _ _ _ c.self.view_is) c.in-Ok.ensures.ok c.in_ok-duplicate.ensures.ok (sym (kept_row _ _ _ _ _ c.args.k c.self.invariant c.self.view_is lt))),
       tt,
     )
 
@@ -68,17 +68,17 @@ pub invariant_of-self-inside-in-Err : goal.invariant_of-self-inside-in-Err
 invariant_of-self-inside-in-Err c =
     let row : List Bool = get_or c.self.inside.rows.rows c.args.k [] in
     let lt : c.args.k < length c.self.inside.rows.rows = omega (arith, c.self.invariant, kept_long _ _ _ _ _ c.self.invariant c.self.view_is, c.requires.piece) in
-    let back : c.remove.new.self.rows ≡ c.self.inside.rows.rows = c.remove.ensures.rows ∙ ap (λ (rs : List (List Bool)). remove rs (c.args.k + 1)) c.in_ok-double.ensures.ok ∙ remove-insert c.self.inside.rows.rows (c.args.k + 1) row (omega arith) in
-    (same_kept c.args.self.now _ (omega (arith, c.remove.ensures.room, c.double.ensures.room, ap (λ (l : PiecesAndRoom). l.room) c.self.view_is)) _ ((λ i. zip (c.in-Err.ensures.err i) (back i)) ∙ kept_pieces _ _ _ _ _ c.self.view_is), tt)
+    let back : c.remove.new.self.rows ≡ c.self.inside.rows.rows = c.remove.ensures.rows ∙ ap (λ (rs : List (List Bool)). remove rs (c.args.k + 1)) c.in_ok-duplicate.ensures.ok ∙ remove-insert c.self.inside.rows.rows (c.args.k + 1) row (omega arith) in
+    (same_kept c.args.self.now _ (omega (arith, c.remove.ensures.room, c.duplicate.ensures.room, ap (λ (l : PiecesAndRoom). l.room) c.self.view_is)) _ ((λ i. zip (c.in-Err.ensures.err i) (back i)) ∙ kept_pieces _ _ _ _ _ c.self.view_is), tt)
 
 pub returns-in-Ok-clause-ok : goal.returns-in-Ok-clause-ok
 returns-in-Ok-clause-ok c =
     let lt : c.args.k < length c.self.inside.starts = omega (arith, kept_long _ _ _ _ _ c.self.invariant c.self.view_is, c.requires.piece) in
-    pieces_inserted _ _ _ _ (c.args.k + 1) c.args.x _ (get_or c.self.inside.rows.rows c.args.k []) _ c.self.invariant (omega arith) (kept_pieces _ _ _ _ _ c.self.view_is) c.in-Ok.ensures.ok c.in_ok-double.ensures.ok (sym (kept_row _ _ _ _ _ c.args.k c.self.invariant c.self.view_is lt))
+    pieces_inserted _ _ _ _ (c.args.k + 1) c.args.x _ (get_or c.self.inside.rows.rows c.args.k []) _ c.self.invariant (omega arith) (kept_pieces _ _ _ _ _ c.self.view_is) c.in-Ok.ensures.ok c.in_ok-duplicate.ensures.ok (sym (kept_row _ _ _ _ _ c.args.k c.self.invariant c.self.view_is lt))
 
 pub returns-in-Err-clause-err : goal.returns-in-Err-clause-err
 returns-in-Err-clause-err c =
     let row : List Bool = get_or c.self.inside.rows.rows c.args.k [] in
     let lt : c.args.k < length c.self.inside.rows.rows = omega (arith, c.self.invariant, kept_long _ _ _ _ _ c.self.invariant c.self.view_is, c.requires.piece) in
-    let back : c.remove.new.self.rows ≡ c.self.inside.rows.rows = c.remove.ensures.rows ∙ ap (λ (rs : List (List Bool)). remove rs (c.args.k + 1)) c.in_ok-double.ensures.ok ∙ remove-insert c.self.inside.rows.rows (c.args.k + 1) row (omega arith) in
+    let back : c.remove.new.self.rows ≡ c.self.inside.rows.rows = c.remove.ensures.rows ∙ ap (λ (rs : List (List Bool)). remove rs (c.args.k + 1)) c.in_ok-duplicate.ensures.ok ∙ remove-insert c.self.inside.rows.rows (c.args.k + 1) row (omega arith) in
     (λ i. zip (c.in-Err.ensures.err i) (back i)) ∙ kept_pieces _ _ _ _ _ c.self.view_is

@@ -1,5 +1,5 @@
 use Rattle.std.proofs.Common.{◌≡◌, true, is_ok, [], ◌∷◌, ◌++◌, cond, length, rules, ap, ◌∙◌}
-use Rattle.fields.specs.steps.Cutting.{view_place}
+use Rattle.fields.specs.steps.Cutting.{view_state}
 use Rattle.fields.proofs.laws.text.WordEndsLaws.{rise-ended, cut-ended}
 use Rattle.fields.proofs.text.cutting.Cutting.end_word.Goals as goal
 
@@ -16,4 +16,4 @@ returns c =
     let all : c.len.result ≡ length c.args.self.now.bytes.items = search rules in
     let pushed = c.push.ensures.items ∙ ap (λ end. cond (is_ok c.push.result) (ends ++ end ∷ []) ends) all in
     let done : is_ok c.push.result ≡ true = search rules in
-    cut-ended ends c.args.self.now.bytes.items c.push.new.self.items (view_place c.args.self.now.place) _ pushed done c.args.self.now.rise
+    cut-ended ends c.args.self.now.bytes.items c.push.new.self.items (view_state c.args.self.now.state) _ pushed done c.args.self.now.rise

@@ -1,5 +1,5 @@
 use Rattle.std.proofs.Common.{◌≡◌, true, is_ok, rules}
-use Rattle.fields.specs.steps.Cutting.{view_place}
+use Rattle.fields.specs.steps.Cutting.{view_state}
 use Rattle.fields.proofs.laws.text.WordEndsLaws.{rise-pushed, cut-joined}
 use Rattle.fields.proofs.text.cutting.Cutting.join_all.Goals as goal
 
@@ -9,4 +9,4 @@ invariant_of-self c = record { rise = rise-pushed c.args.self.now.ends.items c.a
 pub returns : goal.returns
 returns c =
     let done : is_ok c.extend_from_slice.result ≡ true = search rules in
-    cut-joined c.args.self.now.ends.items c.args.self.now.bytes.items c.args.run.now c.extend_from_slice.new.self.items (view_place c.args.self.now.place) _ c.extend_from_slice.ensures.items done c.args.self.now.rise
+    cut-joined c.args.self.now.ends.items c.args.self.now.bytes.items c.args.run.now c.extend_from_slice.new.self.items (view_state c.args.self.now.state) _ c.extend_from_slice.ensures.items done c.args.self.now.rise

@@ -1,0 +1,8 @@
+use Rattle.std.proofs.Common.{get_or}
+use Rattle.fields.specs.numbers.Spans.{SpanSet}
+use Rattle.classify.specs.steps.Fields.{TakesIn}
+use Rattle.classify.proofs.laws.line.ListLoopLaws.{Edited}
+use Rattle.classify.proofs.classifier.lines.insert_prepared_lines.Given as goal
+
+abbrev pub invariant-loop-k : goal.invariant-loop-k
+invariant-loop-k l = Edited (λ j p q. (s : SpanSet) → TakesIn l.at (get_or l.spans j s) p q) l.fn.lines l.lines l.k

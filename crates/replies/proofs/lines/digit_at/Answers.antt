@@ -1,7 +1,0 @@
-use Rattle.std.proofs.Common.{◌-◌, ◌/◌, ◌%◌, codes, ap}
-use Rattle.std.specs.Prelude.{slice_index}
-use Rattle.replies.proofs.laws.HexadecimalLaws.{bits_of_digits}
-use Rattle.replies.proofs.lines.digit_at.Goals as goal
-
-pub returns : goal.returns
-returns c = ap (λ n. slice_index (codes "0123456789abcdef") (c.args.number / n % 16)) (bits_of_digits (31 - c.args.place))

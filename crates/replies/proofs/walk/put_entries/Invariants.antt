@@ -1,8 +1,0 @@
-use Rattle.std.proofs.Common.{take, flat_map}
-use Rattle.fields.specs.text.Tap.{Wrote}
-use Rattle.replies.specs.Steps.{entry_at}
-use Rattle.replies.specs.Walked.{entry_line}
-use Rattle.replies.proofs.walk.put_entries.Given as goal
-
-abbrev pub invariant-loop-step : goal.invariant-loop-step
-invariant-loop-step g l = Wrote g.W.Write.contents l.initial.output l.output (flat_map (λ step. entry_line (entry_at l.table.table step)) (take l.step-index l.steps))

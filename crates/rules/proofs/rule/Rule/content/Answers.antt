@@ -1,9 +1,0 @@
-use Rattle.rules.specs.steps.Views.{view_content}
-use Rattle.rules.proofs.laws.printing.RoundTripLaws.{is_readable, is_in_order}
-use Rattle.rules.proofs.rule.Rule.content.Goals as goal
-
-pub returns-clause-ordered : goal.returns-clause-ordered
-returns-clause-ordered c = rw (← c.self.view_is) (is_in_order (view_content c.self.inside.content) c.self.invariant)
-
-pub returns-clause-readable : goal.returns-clause-readable
-returns-clause-readable c = rw (← c.self.view_is) (is_readable (view_content c.self.inside.content) c.self.invariant)

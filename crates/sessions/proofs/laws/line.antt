@@ -1,0 +1,4 @@
+pub mod PlaceLaws
+pub mod ResultLaws
+pub mod OutcomeLaws
+pub mod LineLaws

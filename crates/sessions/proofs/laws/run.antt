@@ -1,0 +1,10 @@
+pub mod LeadLaws
+pub mod KeptLaws
+pub mod AcceptedLaws
+pub mod WrittenLaws
+pub mod HeadlineLaws
+pub mod SeveralLaws
+pub mod ReachedLaws
+pub mod ExecuteLaws
+pub mod EndLaws
+pub mod WholeLaws

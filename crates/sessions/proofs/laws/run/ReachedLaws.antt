@@ -1,0 +1,247 @@
+-- How far a run is, and what it did at each of its ends.
+use Rattle.std.proofs.Common.{◌≡◌, ◌⊎◌, inl, inr, ℕ, ◌+◌, ◌<◌, ◌≤◌, arith, length-append, Bool, true, false, List, [], ◌∷◌, ◌++◌, length, Option, Err, refl, sym, ap, subst, ◌∙◌, append_assoc, append-nil}
+use Rattle.std.specs.Io.KnownBytes.{Appends, Consumes}
+use Rattle.std.proofs.KnownBytes.{Consumes-trans, Consumes-nil, Appends-nil, Appends-trans}
+use Rattle.fields.specs.text.Tap.{IsBeginning}
+use Rattle.fields.specs.text.OneLine.{IsOneLine}
+use Rattle.fields.specs.text.Line.{EndsAt, lines_of, ended_lines}
+use Rattle.fields.proofs.laws.text.LineLaws.{lines_of-ended, lines_of-last, ended_lines-ended, ended_lines-part}
+use Rattle.fields.proofs.laws.text.PartLaws.{EndsAt-later}
+use Rattle.table.specs.chains.Table.{Table, TableView}
+use Rattle.table.specs.edits.Boxes.{MakesOneBoxAtMost}
+use Rattle.sessions.specs.line.Outcome.{Line, has_ended}
+use Rattle.sessions.specs.run.Session.{State, step, texts_of}
+use Rattle.sessions.specs.run.Run.{EndsLine, Lead, LineStopped, Moment, Ran, RunFault, Runs, ReadFailed, WriteFailed}
+use Rattle.sessions.specs.steps.Lines.{ExecutedAll, state_of}
+use Rattle.sessions.specs.declared.run.session.Progress.{Progress}
+use Rattle.sessions.proofs.laws.run.LeadLaws.{fold_of, lead_more, texts_more}
+
+-- Lines were read, each up to its newline, and executed, one after another.
+pub record Reached (from : State) (before now : Moment) (p : Progress) : Type 0 where
+  pub bytes : List ℕ
+  pub lines : List Line
+  pub printed : List ℕ
+  pub taken : Consumes before.left now.left bytes
+  pub whole : (rest : List ℕ) → lines_of (bytes ++ rest) ≡ texts_of lines ++ lines_of rest
+  pub ended : (rest : List ℕ) → ended_lines (bytes ++ rest) ≡ texts_of lines ++ ended_lines rest
+  pub ends : EndsLine bytes
+  pub leads : Lead from lines (state_of now.table.table p printed)
+  pub writes : Appends before.given now.given printed
+  pub boxes : now.boxes ≤ before.boxes + length lines
+
+-- the same moment, but for what the reader has left
+abbrev pub reads_on : Moment → Option (List ℕ) → Moment
+reads_on now left = record { left = left; given = now.given; table = now.table; boxes = now.boxes }
+
+-- the same moment, but for what the writer was given
+abbrev pub gives_on : Moment → Option (List ℕ) → Moment
+gives_on now given = record { left = now.left; given = given; table = now.table; boxes = now.boxes }
+
+-- one line more
+abbrev more : List Line → List ℕ → Bool → List Line
+more lines text refused = lines ++ record { text = text; refused = refused } ∷ []
+
+-- a line took the state from one to the other, and its reply is this
+abbrev pub Steps : Table → Progress → List ℕ → Bool → List ℕ → Table → Progress → Type 0
+Steps t p text refused reply t' p' =
+    (printed : List ℕ) → step (state_of t p printed) (record { text = text; refused = refused }) ≡ state_of t' p' (printed ++ reply)
+
+module _ (read : List ℕ → List (List ℕ)) where
+  -- bytes that give these lines and then go on with a line that gives one
+  next_line : (bytes piece text : List ℕ) (lines : List Line) (refused : Bool) → ((rest : List ℕ) → read (bytes ++ rest) ≡ texts_of lines ++ read rest)
+      → (rest : List ℕ) → read (piece ++ rest) ≡ text ∷ read rest → read ((bytes ++ piece) ++ rest) ≡ texts_of (more lines text refused) ++ read rest
+  next_line bytes piece text lines refused whole rest one =
+      ap read (append_assoc bytes piece rest) ∙ whole (piece ++ rest) ∙ ap (λ ls. texts_of lines ++ ls) one
+      ∙ sym (append_assoc (texts_of lines) (text ∷ []) (read rest)) ∙ ap (λ ls. ls ++ read rest) (sym (texts_more lines text refused))
+
+-- a box more is a line more
+boxes_more : (a b old : ℕ) (lines : List Line) (text : List ℕ) (refused : Bool) → a ≤ old + length lines → MakesOneBoxAtMost a b → b ≤ old + length (more lines text refused)
+boxes_more a b old lines text refused few made =
+    let longer : length (more lines text refused) ≡ length lines + 1 = length-append lines (record { text = text; refused = refused } ∷ []) in
+    elim made [ inl same ↦ omega (arith, few, same, longer) | inr one ↦ omega (arith, few, one, longer) ]
+
+-- at the beginning
+pub reached_nothing : (from : State) (before : Moment) (p : Progress) → state_of before.table.table p [] ≡ from → Reached from before before p
+reached_nothing from before p begins = record {
+  bytes = [];
+  lines = [];
+  printed = [];
+  taken = Consumes-nil before.left;
+  whole = λ rest. refl;
+  ended = λ rest. refl;
+  ends = inl refl;
+  leads = begins;
+  writes = Appends-nil before.given;
+  boxes = omega arith;
+}
+
+-- the replies may have been handed on, which gives the writer nothing
+pub handed_on : {from : State} {before now : Moment} {p : Progress} → Reached from before now p → (given : Option (List ℕ)) → Appends now.given given [] → Reached from before (gives_on now given) p
+handed_on {before = before} {now = now} r given nothing = record {
+  bytes = r.bytes;
+  lines = r.lines;
+  printed = r.printed;
+  taken = r.taken;
+  whole = r.whole;
+  ended = r.ended;
+  ends = r.ends;
+  leads = r.leads;
+  writes = subst (Appends before.given given) (append-nil r.printed) (Appends-trans before.given now.given given r.printed [] r.writes nothing);
+  boxes = r.boxes;
+}
+
+module _ {from : State} {before now : Moment} {p : Progress} (r : Reached from before now p) (going : has_ended p.mode ≡ false) (left : Option (List ℕ)) (text : List ℕ) (lone : IsOneLine text) where
+  taken_all : (piece : List ℕ) → Consumes now.left left piece → Consumes before.left left (r.bytes ++ piece)
+  taken_all piece taken = Consumes-trans before.left now.left left r.bytes piece r.taken taken
+
+  met : EndsAt now.left left → EndsAt before.left left
+  met end = EndsAt-later before.left now.left left r.bytes r.taken end
+
+  stopped : LineStopped from r.lines (r.bytes ++ text) r.printed
+  stopped =
+      let is = r.ended text ∙ ap (λ ls. texts_of r.lines ++ ls) (ended_lines-part text lone) ∙ append-nil (texts_of r.lines) in
+      record { last = state_of now.table.table p r.printed; leads = r.leads; texts = sym is; going = going; printed = refl }
+
+  ran_so_far : (fault : RunFault) (finish : State → State) → Consumes now.left left text → Ran from finish r.lines (r.bytes ++ text) (EndsAt before.left left) r.printed (Err fault)
+      → Runs from finish r.lines before (Err fault) (reads_on now left)
+  ran_so_far fault finish taken ran = record {
+    bytes = r.bytes ++ text;
+    written = r.printed;
+    reads = taken_all text taken;
+    writes = r.writes;
+    ran = ran;
+    table = ap (λ (s : State). s.now.table) (sym (fold_of from (state_of now.table.table p r.printed) r.lines r.leads));
+    boxes = r.boxes;
+  }
+
+  -- after a part of a line the reader failed, or the writer as it handed the replies on
+  pub line_failed : (fault : RunFault) (finish : State → State) → Consumes now.left left text → (lines : List Line) × Runs from finish lines before (Err fault) (reads_on now left)
+  line_failed ReadFailed finish taken = (r.lines, ran_so_far ReadFailed finish taken stopped)
+  line_failed WriteFailed finish taken = (r.lines, ran_so_far WriteFailed finish taken (inr (inl stopped)))
+
+  -- there was no line left
+  pub executed_nothing : Consumes now.left left [] → EndsAt now.left left → ExecutedAll from before (reads_on now left) p
+  executed_nothing taken end = record {
+    bytes = r.bytes ++ [];
+    lines = r.lines;
+    printed = r.printed;
+    reads = taken_all [] taken;
+    leads = r.leads;
+    read = record { texts = sym (r.whole [] ∙ append-nil (texts_of r.lines)); whole = inr (met end) };
+    done = inr (met end);
+    writes = r.writes;
+    boxes = r.boxes;
+  }
+
+  module _ (refused : Bool) (reply : List ℕ) (given : Option (List ℕ)) (t' : TableView) (boxes' : ℕ) (p' : Progress) (executed : Steps now.table.table p text refused reply t'.table p')
+      (made : MakesOneBoxAtMost now.boxes boxes') where
+    abbrev next : Moment
+    next = record { left = left; given = given; table = t'; boxes = boxes' }
+
+    abbrev all : List Line
+    all = more r.lines text refused
+
+    few : boxes' ≤ before.boxes + length all
+    few = boxes_more now.boxes boxes' before.boxes r.lines text refused r.boxes made
+
+    all_written : (part : List ℕ) → Appends now.given given part → Appends before.given given (r.printed ++ part)
+    all_written part writes = Appends-trans before.given now.given given r.printed part r.writes writes
+
+    leads_all : Lead from all (state_of t'.table p' (r.printed ++ reply))
+    leads_all =
+        subst (Lead from all) (executed r.printed) (lead_more from (state_of now.table.table p r.printed) r.lines (record { text = text; refused = refused }) r.leads going)
+
+    ended_piece : (rest : List ℕ) → lines_of ((r.bytes ++ (text ++ 10 ∷ [])) ++ rest) ≡ texts_of all ++ lines_of rest
+    ended_piece rest = next_line lines_of r.bytes (text ++ 10 ∷ []) text r.lines refused r.whole rest (lines_of-ended text rest lone)
+
+    ended_texts : texts_of all ≡ lines_of (r.bytes ++ (text ++ 10 ∷ []))
+    ended_texts = sym (ap lines_of (sym (append-nil (r.bytes ++ (text ++ 10 ∷ [])))) ∙ ended_piece [] ∙ append-nil (texts_of all))
+
+    ends_piece : EndsLine (r.bytes ++ (text ++ 10 ∷ []))
+    ends_piece = inr (r.bytes ++ text, sym (append_assoc r.bytes text (10 ∷ [])))
+
+    last_texts : 0 < length text → texts_of all ≡ lines_of (r.bytes ++ text)
+    last_texts some = texts_more r.lines text refused ∙ sym (r.whole text ∙ ap (λ ls. texts_of r.lines ++ ls) (lines_of-last text lone some))
+
+    -- a line that a newline ended was executed
+    pub reached_more : Consumes now.left left (text ++ 10 ∷ []) → Appends now.given given reply → Reached from before next p'
+    reached_more taken wrote = record {
+      bytes = r.bytes ++ (text ++ 10 ∷ []);
+      lines = all;
+      printed = r.printed ++ reply;
+      taken = taken_all (text ++ 10 ∷ []) taken;
+      whole = ended_piece;
+      ended = λ rest. next_line ended_lines r.bytes (text ++ 10 ∷ []) text r.lines refused r.ended rest (ended_lines-ended text rest lone);
+      ends = ends_piece;
+      leads = leads_all;
+      writes = all_written reply wrote;
+      boxes = few;
+    }
+
+    -- and the run has ended
+    pub executed_to_fault : Consumes now.left left (text ++ 10 ∷ []) → Appends now.given given reply → has_ended p'.mode ≡ true → ExecutedAll from before next p'
+    executed_to_fault taken wrote over = record {
+      bytes = r.bytes ++ (text ++ 10 ∷ []);
+      lines = all;
+      printed = r.printed ++ reply;
+      reads = taken_all (text ++ 10 ∷ []) taken;
+      leads = leads_all;
+      read = record { texts = ended_texts; whole = inl ends_piece };
+      done = inl over;
+      writes = all_written reply wrote;
+      boxes = few;
+    }
+
+    -- the last line was executed
+    pub executed_last : 0 < length text → Consumes now.left left text → EndsAt now.left left → Appends now.given given reply → ExecutedAll from before next p'
+    executed_last some taken end wrote = record {
+      bytes = r.bytes ++ text;
+      lines = all;
+      printed = r.printed ++ reply;
+      reads = taken_all text taken;
+      leads = leads_all;
+      read = record { texts = last_texts some; whole = inr (met end) };
+      done = inr (met end);
+      writes = all_written reply wrote;
+      boxes = few;
+    }
+
+    -- the writer failed in the reply to a line of this piece
+    reply_failed : (finish : State → State) (piece : List ℕ) → texts_of all ≡ lines_of (r.bytes ++ piece)
+        → EndsLine (r.bytes ++ piece) ⊎ EndsAt before.left left → Consumes now.left left piece
+        → (part : List ℕ) → IsBeginning part reply → Appends now.given given part → (lines : List Line) × Runs from finish lines before (Err WriteFailed) next
+    reply_failed finish piece texts whole taken part begins writes = (
+      all,
+      record {
+        bytes = r.bytes ++ piece;
+        written = r.printed ++ part;
+        reads = taken_all piece taken;
+        writes = all_written part writes;
+        ran = inl (record {
+          before = r.lines;
+          line = record { text = text; refused = refused };
+          first = state_of now.table.table p r.printed;
+          last = state_of t'.table p' (r.printed ++ reply);
+          split = refl;
+          leads = r.leads;
+          replies = (going, sym (executed r.printed));
+          read = record { texts = texts; whole = whole };
+          between = record {
+            all = (part, refl);
+            part = (begins.0, ap (λ l. r.printed ++ l) begins.1 ∙ sym (append_assoc r.printed part begins.0));
+          };
+        });
+        table = ap (λ (s : State). s.now.table) (sym (fold_of from (state_of t'.table p' (r.printed ++ reply)) all leads_all));
+        boxes = few;
+      },
+    )
+
+    -- it failed in the reply to a line that a newline ended
+    pub write_failed : (finish : State → State) → Consumes now.left left (text ++ 10 ∷ []) → (part : List ℕ) → IsBeginning part reply → Appends now.given given part
+        → (lines : List Line) × Runs from finish lines before (Err WriteFailed) next
+    write_failed finish taken part begins writes = reply_failed finish (text ++ 10 ∷ []) ended_texts (inl ends_piece) taken part begins writes
+
+    -- or in that to the last line
+    pub last_failed : (finish : State → State) → 0 < length text → Consumes now.left left text → EndsAt now.left left
+        → (part : List ℕ) → IsBeginning part reply → Appends now.given given part → (lines : List Line) × Runs from finish lines before (Err WriteFailed) next
+    last_failed finish some taken end part begins writes = reply_failed finish text (last_texts some) (inr (met end)) taken part begins writes

@@ -1,0 +1,12 @@
+use Rattle.std.proofs.Common.{rules}
+use Rattle.sessions.proofs.laws.line.OutcomeLaws.{edit_comes, refused_comes}
+use Rattle.restore.specs.commands.Command.{meaning}
+use Rattle.sessions.proofs.line.outcome.edit.Goals as goal
+
+pub returns-in-Ok-clause-comes : goal.returns-in-Ok-clause-comes
+returns-in-Ok-clause-comes c =
+    edit_comes (meaning c.args.command) c.args.table.now c.apply.new.table _ c.answers.result c.requires c.in-Ok.ensures.step c.answers.ensures.mode c.answers.ensures.reply
+
+pub returns-in-Err-clause-comes : goal.returns-in-Err-clause-comes
+returns-in-Err-clause-comes c =
+    refused_comes (meaning c.args.command) c.args.table.now c.apply.new.table c.in-Err.fault c.fails.result c.requires c.in-Err.ensures.step c.fails.ensures.mode (search rules)

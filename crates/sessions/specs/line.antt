@@ -1,0 +1,5 @@
+pub mod Fault
+pub mod Opening
+pub mod Request
+pub mod Outcome
+pub mod Executed

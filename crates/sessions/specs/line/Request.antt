@@ -1,0 +1,85 @@
+-- What a line of a session asks for: its kind by its first word, and then the words after it.
+use Rattle.std.specs.Prelude.{ℕ, List, [], ◌∷◌, find, length, drop, slice_index_or, Option, Some, None, Result, Ok, Err, codes, if◌then◌else◌}
+use Rattle.std.specs.Str.{bytes_eq}
+use Rattle.fields.specs.packet.Packet.{PacketView, packet_of}
+use Rattle.fields.specs.text.Words.{words_of}
+use Rattle.restore.specs.Sequence.{◌>>=◌, or_refused, refused_as, made_into}
+use Rattle.restore.specs.commands.Command.{Command}
+use Rattle.restore.specs.declared.fault.CommandFault.TheVariants.{WordCount}
+use Rattle.restore.specs.declared.fault.RestoreFault.TheVariants.{Quoting, LineTooLong}
+use Rattle.restore.specs.declared.fault.RestoreFault.TheVariants as restore
+use Rattle.restore.specs.commands.CommandForms.{command_of}
+use Rattle.restore.specs.sections.Section.{is_quiet, is_too_long}
+use Rattle.sessions.specs.line.Fault.{Fault, Line, Packet, UnknownLine, BadRestoreLine, of_line}
+use Rattle.sessions.specs.line.Opening.{Opening, opening_of}
+
+-- what a line asks for: nothing; a command; a listing; a restore that the next lines hold; what becomes of a packet; or the
+-- classifier of a chain
+pub data Request : Type 0 where
+  Nothing : Request
+  Run : Command → Request
+  Save : Request
+  Open : Opening → Request
+  Ask : PacketView → Request
+  Show : List ℕ → Request
+
+-- a wrong number of words
+abbrev pub wrong_count : {A : Type 0} → Result A Fault
+wrong_count = Err (Line (restore.Command WordCount))
+
+-- no word stands after `iptables-save`
+abbrev pub save : List (List ℕ) → Result Request Fault
+save [] = Ok Save
+save (w ∷ ws) = wrong_count
+
+-- one word stands after `lines`, the name of a chain
+abbrev pub show : List (List ℕ) → Result Request Fault
+show (name ∷ []) = Ok (Show name)
+show words = wrong_count
+
+-- the words after `iptables`; the number is the place after the last of them
+abbrev pub run : ℕ → List (List ℕ) → Result Request Fault
+run end words = refused_as (λ fault. of_line (restore.Command fault)) (made_into Run (command_of end words))
+
+-- the words after `iptables-restore`
+abbrev pub opening : List (List ℕ) → Result Request Fault
+opening words = made_into Open (or_refused BadRestoreLine (opening_of words))
+
+-- the words after `packet`
+abbrev pub ask : List (List ℕ) → Result Request Fault
+ask words = refused_as Packet (made_into Ask (packet_of words))
+
+-- a line's first word, and what reads the words after it, up to the place after the last of them
+pub record Kind : Type 0 where
+  pub name : List ℕ
+  pub reads : ℕ → List (List ℕ) → Result Request Fault
+
+-- a row of the table of kinds
+abbrev pub kind : List ℕ → (ℕ → List (List ℕ) → Result Request Fault) → Kind
+kind name reads = record { name = name; reads = reads }
+
+-- the kinds of lines
+abbrev pub kinds : List Kind
+kinds =
+    kind (codes "iptables") run
+    ∷ kind (codes "iptables-save") (λ end words. save words)
+    ∷ kind (codes "iptables-restore") (λ end words. opening words)
+    ∷ kind (codes "packet") (λ end words. ask words)
+    ∷ kind (codes "lines") (λ end words. show words)
+    ∷ []
+
+-- another first word is of no kind
+abbrev pub read_by : Option Kind → ℕ → List (List ℕ) → Result Request Fault
+read_by None end words = Err UnknownLine
+read_by (Some k) end words = k.reads end words
+
+-- what words ask for, by the first of them
+unfoldable pub request_of : List (List ℕ) → Result Request Fault
+request_of words = read_by (find (λ (k : Kind). bytes_eq (slice_index_or words 0 []) k.name) kinds) (length words) (drop 1 words)
+
+-- what a line asks for; its length is asked first, and blank lines and comments ask for nothing
+unfoldable pub request_on : List ℕ → Result Request Fault
+request_on line =
+    if is_too_long line then Err (Line LineTooLong)
+    else if is_quiet line then Ok Nothing
+    else or_refused (Line Quoting) (words_of line) >>= request_of

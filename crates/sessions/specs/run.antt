@@ -1,0 +1,6 @@
+pub mod Session
+pub mod Run
+pub mod Accepted
+pub mod Headline
+pub mod Several
+pub mod Views

@@ -1,5 +1,0 @@
-pub mod Session
-pub mod Run
-pub mod Accepted
-pub mod Headline
-pub mod Several

@@ -1,0 +1,4 @@
+// All lines of an input, to its end.
+
+pub(crate) mod headline;
+pub(crate) mod session;

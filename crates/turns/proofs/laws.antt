@@ -1,4 +1,0 @@
-pub mod PlaceLaws
-pub mod ResultLaws
-pub mod TurnLaws
-pub mod LineLaws
