@@ -294,6 +294,17 @@ impl Session {
         &self.work
     }
 
+    /// Ends the session, and hands over its table and the count of the boxes that its lines had made.
+    pub fn into_parts(self) -> (Table, Work)
+        ensures table { result.0 ≡ table_of self }
+        ensures work { result.1 ≡ boxes_of self }
+        ensures stands { Stands (table_of self) }
+    {
+        self.stands();
+        let Session { table, work, .. } = self;
+        (table, work)
+    }
+
     // What holds of the table; and no chains have two lists of classifiers.
     fn stands(&self)
         ensures stands { Stands (table_of self.now) }
