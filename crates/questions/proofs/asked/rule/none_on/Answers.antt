@@ -1,0 +1,13 @@
+use Rattle.std.proofs.Common.{sym, ◌∙◌, arith, Contains}
+use Rattle.std.proofs.lemmas.Bool.{true≢false}
+use Rattle.questions.specs.declared.walking.task.Leaf.{Leaf}
+use Rattle.questions.proofs.laws.TrailLaws.{items_next}
+use Rattle.questions.proofs.asked.rule.none_on.Goals as goal
+
+pub loop-leaf-preserved : goal.loop-leaf-preserved
+loop-leaf-preserved c =
+    items_next (λ (leaf : Leaf). Contains leaf.trail.items c.args.step → ⊥) c.args.found.now c.loop-leaf.leaf-index c.leaf-item.result (omega arith) c.leaf-item.is c.loop-leaf.invariant
+    (λ on. true≢false (sym (c.is_on.ensures.1 (rw c.as_slice.ensures.value on)) ∙ c.if-is_on.false))
+
+pub returns : goal.returns
+returns c = λ t k d lt. c.loop-leaf.invariant k d (omega (arith, lt))

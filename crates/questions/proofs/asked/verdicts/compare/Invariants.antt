@@ -1,0 +1,8 @@
+use Rattle.std.proofs.Common.{◌≡◌, ℕ, ◌<◌, true, get_or}
+use Rattle.fields.specs.declared.packet.hook.Hook.{Hook}
+use Rattle.fields.specs.packet.Hook.{all_hooks}
+use Rattle.questions.specs.asked.Verdicts.{IsSameAt}
+use Rattle.questions.proofs.asked.verdicts.compare.Given as goal
+
+abbrev pub invariant-loop-hook : goal.invariant-loop-hook
+invariant-loop-hook l = l.clear ≡ true → (k : ℕ) (h : Hook) → k < l.hook-index → IsSameAt l.old.table l.new.table (get_or all_hooks k h)

@@ -1,0 +1,5 @@
+pub mod AreaLaws
+pub mod CrossLaws
+pub mod PacketLaws
+pub mod TrailLaws
+pub mod WaitLaws

@@ -1,0 +1,295 @@
+-- Boxes of packets, place by place.
+use Rattle.std.proofs.Common.{◌≡◌, ◌≢◌, inl, inr, ℕ, zero, suc, ◌+◌, ◌<◌, ◌≤◌, Bool, true, false, cond, ◌&&◌, not, ◌==◌, List, [], ◌∷◌, length, get_or, map, refl, sym, ◌∙◌, ap, arith, subst, ◌⊎◌, below_more}
+use Rattle.std.specs.Prelude.{slice_index}
+use Rattle.std.specs.List.{list_all}
+use Rattle.std.proofs.Math.Dec.{eqb}
+use Rattle.std.proofs.Math.ListN.{set}
+use Rattle.std.proofs.lemmas.Bool.{cases_Bool, cases_eq, and_from, and_parts, cases_lt, lt-ltb, le-ltb, eq-eqb, ne_eqb, eqb-true, true≢false}
+use Rattle.std.proofs.lemmas.List.{get_or-map, length-map, get_or_default, get_or-set_same, get_or-set_other, nil_from_length, same_lists}
+use Rattle.std.proofs.lemmas.List.Sums.{AllPass-from_list_all}
+use Rattle.fields.specs.declared.numbers.field.TheConstants.{FIELDS}
+use Rattle.fields.specs.declared.numbers.field.Field.{Field}
+use Rattle.fields.specs.declared.numbers.field.Field.TheVariants as field
+use Rattle.fields.specs.declared.numbers.spans.Interval.{Interval}
+use Rattle.fields.specs.declared.packet.hook.Hook.{Hook}
+use Rattle.fields.specs.declared.packet.hook.Hook.TheVariants.{Input, Forward, Output}
+use Rattle.fields.specs.numbers.Field.{all_fields, index, number_on, top}
+use Rattle.fields.specs.numbers.Spans.{SpanSet, has}
+use Rattle.fields.specs.packet.Packet.{PacketView, point}
+use Rattle.rules.specs.boxing.Boxed.{IsBox, IsBoxOf}
+use Rattle.rules.specs.rule.Allows.{allows, allows_each, matches}
+use Rattle.rules.specs.rule.Crossing.{cross}
+use Rattle.rules.specs.rule.Rules.{Rule}
+use Rattle.rules.proofs.laws.boxing.BoxLaws.{index-lt, here_is, box_long, top_on}
+use Rattle.classify.specs.classifier.Classifier.{IsPoint, box_allows, box_matches}
+use Rattle.classify.proofs.laws.classifier.ClassifierLaws.{field_at}
+use Rattle.questions.specs.boxes.Area.{Has, IsAtHook, IsBoth, IsIn, may_have, is_without}
+use Rattle.questions.specs.boxes.Cut.{IsInSome, IsApart, IsCut}
+use Rattle.questions.specs.steps.Sides.{no_set, has_at, takes, IsSide, IsPart, IsBeginning, LeavesAt}
+
+pub same_truth : (a b : Bool) → (a ≡ true → b ≡ true) → (b ≡ true → a ≡ true) → a ≡ b
+same_truth true b there back = sym (there refl)
+same_truth false true there back = back refl
+same_truth false false there back = refl
+
+all_true : {A : Type 0} (p : A → Bool) (xs : List A) → ((x : A) → p x ≡ true) → list_all p xs ≡ true
+all_true p [] h = refl
+all_true p (x ∷ xs) h = and_from (p x) (list_all p xs) (h x) (all_true p xs h)
+
+all_alike : {A : Type 0} (p q : A → Bool) (xs : List A) → ((x : A) → p x ≡ q x) → list_all p xs ≡ list_all q xs
+all_alike p q [] same = refl
+all_alike p q (x ∷ xs) same = ap (λ b. b && list_all p xs) (same x) ∙ ap (λ b. q x && b) (all_alike p q xs same)
+
+-- what holds at each place below one, and of what is put there, holds at each place up to it
+pub set_next : {X : Type 0} (P : ℕ → X → Type 0) (xs : List X) (k : ℕ) (v : X) → k < length xs → ((j : ℕ) (d : X) → j < k → P j (get_or xs j d)) → P k v → (j : ℕ) (d : X) → j < k + 1 → P j (get_or (set xs k v) j d)
+set_next {X} P xs k v lt below here j d less =
+    elim (cases_eq j k) [
+      | inl e ↦ (
+          let Q : ℕ → Type 0 = λ i. P i (get_or (set xs k v) i d) in
+          let R : X → Type 0 = λ x. P k x in
+          subst Q (sym e) (subst R (sym (get_or-set_same xs k v d lt)) here))
+      | inr ne ↦ (
+          let R : X → Type 0 = λ x. P j x in
+          let other : j ≢ k = ne in
+          subst R (sym (get_or-set_other xs k j v d other)) (below j d (omega arith)))
+    ]
+
+-- a box that has some numbers has each at its place
+on_field : (box : List SpanSet) (numbers : List ℕ) (f : Field) → box_matches numbers box ≡ true → box_allows box f (number_on numbers f) ≡ true
+on_field box numbers f h =
+    let p : Field → Bool = λ g. box_allows box g (number_on numbers g) in
+    let P : Field → Type 0 = λ g. p g ≡ true in
+    subst P (here_is f f) (AllPass-from_list_all p all_fields h (index f) f (index-lt f))
+
+pub at_place : (box : List SpanSet) (numbers : List ℕ) (k : ℕ) → k < FIELDS → box_matches numbers box ≡ true → has_at box numbers k ≡ true
+at_place box numbers k lt h =
+    let f = field_at k lt in
+    let P : ℕ → Type 0 = λ j. has_at box numbers j ≡ true in
+    subst P f.1 (on_field box numbers f.0 h)
+
+-- and the other way round
+pub from_places : (box : List SpanSet) (numbers : List ℕ) → ((k : ℕ) → k < FIELDS → has_at box numbers k ≡ true) → box_matches numbers box ≡ true
+from_places box numbers h = all_true (λ g. box_allows box g (number_on numbers g)) all_fields (λ g. h (index g) (index-lt g))
+
+-- numbers are within the tops of the sets
+pub within_top : (box : List SpanSet) (numbers : List ℕ) (k : ℕ) (d : SpanSet) → IsBox box → IsPoint numbers → k < FIELDS → slice_index numbers k ≤ (get_or box k d).top
+within_top box numbers k d is point lt =
+    let f = field_at k lt in
+    let here : number_on numbers f.0 ≤ top f.0 = point f.0 in
+    let same : (get_or box k d).top ≡ top f.0 = top_on box is f.0 k d (sym f.1) in
+    omega (arith, here, same, ap (λ j. slice_index numbers j) f.1)
+
+pub same_tops : (own other : List SpanSet) (k : ℕ) (d e : SpanSet) → IsBox own → IsBox other → k < FIELDS → (get_or own k d).top ≡ (get_or other k e).top
+same_tops own other k d e is too lt =
+    let f = field_at k lt in top_on own is f.0 k d (sym f.1) ∙ sym (top_on other too f.0 k e (sym f.1))
+
+-- ---- the parts of a box
+
+module _ (at : ℕ) (own other part : List SpanSet) (is : IsBox own) (h : IsPart at own other part) where
+  pub part_at : (numbers : List ℕ) (k : ℕ) → IsPoint numbers → k < FIELDS → has_at part numbers k ≡ (has_at own numbers k && takes at k (has_at other numbers k))
+  part_at numbers k point lt =
+      let one : IsSide at k (get_or own k no_set) (get_or other k no_set) (get_or part k no_set) = h k no_set no_set no_set lt in
+      one.members (slice_index numbers k) (within_top own numbers k no_set is point lt)
+
+  pub box_of_part : length part ≡ FIELDS → IsBox part
+  box_of_part long =
+      let tops : List SpanSet → List ℕ = map (λ (s : SpanSet). s.top) in
+      let one : length (tops part) ≡ length (tops own) = length-map part (λ (s : SpanSet). s.top) ∙ long ∙ sym (box_long own is) ∙ sym (length-map own (λ (s : SpanSet). s.top)) in
+      let same : tops part ≡ tops own = same_lists (tops part) (tops own) one (λ k d lt.
+      (let within : k < length part = omega (arith, lt, length-map part (λ (s : SpanSet). s.top)) in
+      let under : k < FIELDS = omega (arith, within, long) in
+      let there : k < length own = omega (arith, under, box_long own is) in
+      let side : IsSide at k (get_or own k no_set) (get_or other k no_set) (get_or part k no_set) = h k no_set no_set no_set under in
+      get_or-map (λ (s : SpanSet). s.top) part k no_set d within ∙ side.top ∙ sym (get_or-map (λ (s : SpanSet). s.top) own k no_set d there))) in
+      same ∙ is
+
+takes_below : (at k : ℕ) (b : Bool) → k < at → takes at k b ≡ b
+takes_below at k b lt = ap (λ t. cond t b (cond (eqb k at) (not b) true)) (lt-ltb k at lt)
+
+-- the numbers that are in both
+pub within_both : (own other part : List SpanSet) → IsBox own → IsPart FIELDS own other part → IsBoth own other part
+within_both own other part is h =
+    let at : (numbers : List ℕ) → IsPoint numbers → (k : ℕ) → k < FIELDS → has_at part numbers k ≡ (has_at own numbers k && has_at other numbers k) =
+    λ numbers point k lt. part_at FIELDS own other part is h numbers k point lt ∙ ap (λ b. has_at own numbers k && b) (takes_below FIELDS k (has_at other numbers k) lt) in
+    record {
+      all = λ numbers point a b. record { each = from_places part numbers (λ k lt. at numbers point k lt ∙ and_from (has_at own numbers k) (has_at other numbers k) (at_place own numbers k lt a.each) (at_place other numbers k lt b.each)) };
+      first = λ numbers point e. record { each = from_places own numbers (λ k lt. (and_parts (has_at own numbers k) (has_at other numbers k) (sym (at numbers point k lt) ∙ at_place part numbers k lt e.each)).0) };
+      second = λ numbers point e. record { each = from_places other numbers (λ k lt. (and_parts (has_at own numbers k) (has_at other numbers k) (sym (at numbers point k lt) ∙ at_place part numbers k lt e.each)).1) };
+    }
+
+-- a set without numbers leaves a box without packets
+pub no_numbers : (box : List SpanSet) (numbers : List ℕ) (k : ℕ) (d : SpanSet) → IsBox box → k < length box → (get_or box k d).intervals ≡ [] → Has box numbers → ⊥
+no_numbers box numbers k d is lt none h =
+    let under : k < FIELDS = omega (arith, lt, box_long box is) in
+    let here : has_at box numbers k ≡ false = ap (λ (s : SpanSet). has s.intervals (slice_index numbers k)) (get_or_default box k no_set d lt) ∙ ap (λ (ss : List Interval). has ss (slice_index numbers k)) none in
+    true≢false (sym (at_place box numbers k under h.each) ∙ here)
+
+-- ---- the packets at a hook
+
+module _ (hook : Hook) (sets : List SpanSet) (h : (k : ℕ) (f : Field) (d : SpanSet) → k < FIELDS → IsBeginning hook (get_or all_fields k f) (get_or sets k d)) where
+  on_its_field : (f : Field) (d : SpanSet) → IsBeginning hook f (get_or sets (index f) d)
+  on_its_field f d =
+      let P : Field → Type 0 = λ g. IsBeginning hook g (get_or sets (index f) d) in subst P (here_is f f) (h (index f) f d (index-lt f))
+
+  pub box_of_hook : length sets ≡ FIELDS → IsBox sets
+  box_of_hook long =
+      let same : length (map (λ (s : SpanSet). s.top) sets) ≡ length (map top all_fields) = length-map sets (λ (s : SpanSet). s.top) ∙ long in
+      same_lists (map (λ (s : SpanSet). s.top) sets) (map top all_fields) same (λ k d lt.
+      (let within : k < length sets = omega (arith, lt, length-map sets (λ (s : SpanSet). s.top)) in
+      let under : k < FIELDS = omega (arith, within, long) in
+      let one : IsBeginning hook (get_or all_fields k field.Source) (get_or sets k no_set) = h k field.Source no_set under in
+      get_or-map (λ (s : SpanSet). s.top) sets k no_set d within ∙ one.greatest ∙ sym (get_or-map top all_fields k field.Source d under)))
+
+  may_be : (p : PacketView) (f : Field) → IsAtHook p → p.hook ≡ hook → may_have hook f (point p f) ≡ true
+  may_be p f at e =
+      elim (cases_Bool (is_without hook f)) [
+        | inl t ↦ ap (λ b. cond b (point p f == 0) true) t ∙ zero f hook e t
+        | inr n ↦ ap (λ b. cond b (point p f == 0) true) n
+      ]
+    where
+      is_zero : (x : ℕ) → x ≡ 0 → (x == 0) ≡ true
+      is_zero x e = ap (λ y. y == 0) e
+
+      zero : (f : Field) (own : Hook) → p.hook ≡ own → is_without own f ≡ true → (point p f == 0) ≡ true
+      zero field.OutIface Input e t = is_zero (point p field.OutIface) (at.input e)
+      zero field.InIface Output e t = is_zero (point p field.InIface) (at.output e)
+      zero f Input e t = absurd (true≢false (sym t))
+      zero f Forward e t = absurd (true≢false (sym t))
+      zero f Output e t = absurd (true≢false (sym t))
+
+  pub all_at_hook : (p : PacketView) → IsAtHook p → p.hook ≡ hook → IsIn sets p
+  all_at_hook p at e = record {
+    each =
+        all_true (λ g. box_allows sets g (number_on p.values g)) all_fields
+        (λ g. (on_its_field g no_set).members (point p g) (at.packet.within g) (may_be p g at e));
+  }
+
+-- ---- rules
+
+-- the box of a rule has the numbers that the rule allows
+pub box_of_rule : (rule : Rule) (box : List SpanSet) (numbers : List ℕ) → IsBoxOf rule box → IsPoint numbers → box_matches numbers box ≡ allows_each numbers rule
+box_of_rule rule box numbers is point = all_alike (λ f. box_allows box f (number_on numbers f)) (λ f. allows rule f (number_on numbers f)) all_fields (λ f. is f (number_on numbers f) (point f))
+
+-- ---- the loops
+
+pub side_at : (at k : ℕ) (own other : List SpanSet) (a b side : SpanSet) → a ≡ get_or own k a → b ≡ get_or other k b → k < length own → k < length other → IsSide at k a b side
+    → (d e : SpanSet) → IsSide at k (get_or own k d) (get_or other k e) side
+side_at at k own other a b side is too lt less h d e =
+    let P : SpanSet → Type 0 = λ s. IsSide at k s b side in
+    let Q : SpanSet → Type 0 = λ s. IsSide at k (get_or own k d) s side in
+    subst Q (too ∙ get_or_default other k b e less) (subst P (is ∙ get_or_default own k a d lt) h)
+
+pub sides_next : (at : ℕ) (own other sets : List SpanSet) (k : ℕ) (v a b : SpanSet) → IsBox own → IsBox other → length sets ≡ FIELDS → k < FIELDS → a ≡ get_or own k a → b ≡ get_or other k b
+    → ((place : ℕ) (d e f : SpanSet) → place < k → IsSide at place (get_or own place d) (get_or other place e) (get_or sets place f)) → IsSide at k a b v
+    → (place : ℕ) (d e f : SpanSet) → place < k + 1 → IsSide at place (get_or own place d) (get_or other place e) (get_or (set sets k v) place f)
+sides_next at own other sets k v a b is too long lt ia ib below here place d e f less =
+    let P : ℕ → SpanSet → Type 0 = λ j s. (x y : SpanSet) → IsSide at j (get_or own j x) (get_or other j y) s in
+    set_next P sets k v (omega arith) (λ j s below' x y. below j x y s below') (side_at at k own other a b v ia ib (omega (arith, box_long own is)) (omega (arith, box_long other too)) here) place f less d e
+
+pub begins_next : (hook : Hook) (sets : List SpanSet) (k : ℕ) (v : SpanSet) → length sets ≡ FIELDS → k < FIELDS
+    → ((place : ℕ) (f : Field) (d : SpanSet) → place < k → IsBeginning hook (get_or all_fields place f) (get_or sets place d)) → ((f : Field) → IsBeginning hook (get_or all_fields k f) v)
+    → (place : ℕ) (f : Field) (d : SpanSet) → place < k + 1 → IsBeginning hook (get_or all_fields place f) (get_or (set sets k v) place d)
+begins_next hook sets k v long lt below here place f d less =
+    let P : ℕ → SpanSet → Type 0 = λ j s. (g : Field) → IsBeginning hook (get_or all_fields j g) s in
+    set_next P sets k v (omega arith) (λ j s lt' g. below j g s lt') here place d less f
+
+-- ---- the parts that leave a box
+
+some_lack : (box : List SpanSet) (numbers : List ℕ) (n : ℕ) → ((k : ℕ) → k < n → has_at box numbers k ≡ true) ⊎ ((at : ℕ) × (at < n) × LeavesAt at box numbers)
+some_lack box numbers zero = inl (λ k lt. absurd (omega (arith, lt)))
+some_lack box numbers (suc n) =
+    elim (some_lack box numbers n) [
+      | inr found ↦ inr (found.0, omega (arith, found.1), found.2)
+      | inl below ↦ elim (cases_Bool (has_at box numbers n)) [
+        | inl t ↦ inl (λ k lt. below_more (λ j. has_at box numbers j ≡ true) n below t k (omega (arith, lt)))
+        | inr f ↦ inr (n, omega arith, record { before = below; here = f })
+      ]
+    ]
+
+-- numbers that a box hasn't leave it somewhere
+pub leaves_somewhere : (box : List SpanSet) (numbers : List ℕ) → (Has box numbers → ⊥) → (at : ℕ) × (at < FIELDS) × LeavesAt at box numbers
+leaves_somewhere box numbers lacks =
+    elim (some_lack box numbers FIELDS) [
+      | inl all ↦ absurd (lacks (record { each = from_places box numbers all }))
+      | inr found ↦ found
+    ]
+
+takes_at : (at : ℕ) (b : Bool) → takes at at b ≡ not b
+takes_at at b = ap (λ t. cond t b (cond (eqb at at) (not b) true)) (le-ltb at at (omega arith)) ∙ ap (λ t. cond t (not b) true) (eq-eqb at at refl)
+
+takes_after : (at k : ℕ) (b : Bool) → at < k → takes at k b ≡ true
+takes_after at k b lt = let ne : k ≢ at = omega (arith, lt) in ap (λ t. cond t b (cond (eqb k at) (not b) true)) (le-ltb k at (omega (arith, lt))) ∙ ap (λ t. cond t (not b) true) (ne_eqb k at ne)
+
+-- they are in the part that leaves it there
+pub in_part : (at : ℕ) (own other part : List SpanSet) (numbers : List ℕ) → IsBox own → IsPart at own other part → IsPoint numbers → Has own numbers → LeavesAt at other numbers → Has part numbers
+in_part at own other part numbers is h point there leaves = record {
+  each = from_places part numbers (λ k lt.
+      part_at at own other part is h numbers k point lt ∙ and_from (has_at own numbers k) (takes at k (has_at other numbers k)) (at_place own numbers k lt there.each) (taken k));
+}
+  where
+    taken : (k : ℕ) → takes at k (has_at other numbers k) ≡ true
+    taken k = elim (cases_lt k at) [
+      | inl before ↦ takes_below at k (has_at other numbers k) before ∙ leaves.before k before
+      | inr later ↦ elim (cases_eq k at) [
+        | inl same ↦ (
+            let P : ℕ → Type 0 = λ j. takes at j (has_at other numbers j) ≡ true in
+            subst P (sym same) (takes_at at (has_at other numbers at) ∙ ap not leaves.here))
+        | inr ne ↦ takes_after at k (has_at other numbers k) (omega (arith, later, ne))
+      ]
+    ]
+
+-- where nothing is left of a set, nothing leaves there
+pub nothing_left : (at : ℕ) (own other : List SpanSet) (a b rest : SpanSet) (numbers : List ℕ) → IsBox own → at < FIELDS → a ≡ get_or own at a → b ≡ get_or other at b → length other ≡ FIELDS
+    → ((x : ℕ) → x ≤ a.top → has rest.intervals x ≡ (has a.intervals x && not (has b.intervals x))) → rest.intervals ≡ [] → IsPoint numbers → Has own numbers → LeavesAt at other numbers → ⊥
+nothing_left at own other a b rest numbers is lt ia ib long members none point there leaves =
+    let x : ℕ = slice_index numbers at in
+    let up : slice_index numbers at ≤ (get_or own at a).top = within_top own numbers at a is point lt in
+    let le : x ≤ a.top = omega (arith, up, ap (λ (s : SpanSet). s.top) ia) in
+    let first : has a.intervals x ≡ true = ap (λ (s : SpanSet). has s.intervals x) (ia ∙ get_or_default own at a no_set (omega (arith, lt, box_long own is))) ∙ at_place own numbers at lt there.each in
+    let second : has b.intervals x ≡ false = ap (λ (s : SpanSet). has s.intervals x) (ib ∙ get_or_default other at b no_set (omega (arith, lt, long))) ∙ leaves.here in
+    let both : has rest.intervals x ≡ true = members x le ∙ ap (λ t. t && not (has b.intervals x)) first ∙ ap not second in
+    true≢false (sym both ∙ ap (λ (ss : List Interval). has ss x) none)
+
+pub is_nil : {X : Type 0} (xs : List X) (b : Bool) → b ≡ (length xs == 0) → b ≡ true → xs ≡ []
+is_nil xs b e t = nil_from_length xs (eqb-true (length xs) 0 (sym e ∙ t))
+
+-- what leaves at each place below one, and there, is in some part
+pub parts_next : (other own : List SpanSet) (old new : List (List SpanSet)) (at : ℕ) → ((numbers : List ℕ) → IsInSome old numbers → IsInSome new numbers)
+    → ((numbers : List ℕ) → IsPoint numbers → Has own numbers → LeavesAt at other numbers → IsInSome new numbers)
+    → ((numbers : List ℕ) (k : ℕ) → k < at → IsPoint numbers → Has own numbers → LeavesAt k other numbers → IsInSome old numbers)
+    → (numbers : List ℕ) (k : ℕ) → k < at + 1 → IsPoint numbers → Has own numbers → LeavesAt k other numbers → IsInSome new numbers
+parts_next other own old new at kept added below numbers k lt point has leaves =
+    elim (cases_eq k at) [
+      | inl same ↦ (let P : ℕ → Type 0 = λ j. LeavesAt j other numbers in added numbers point has (subst P same leaves))
+      | inr ne ↦ kept numbers (below numbers k (omega (arith, lt, ne)) point has leaves)
+    ]
+
+-- ---- what a rule makes of a box
+
+pub has_of_rule : (rule : Rule) (box : List SpanSet) (numbers : List ℕ) → IsBoxOf rule box → IsPoint numbers → matches numbers rule ≡ true → Has box numbers
+has_of_rule rule box numbers is point m = record { each = box_of_rule rule box numbers is point ∙ (and_parts (allows_each numbers rule) (cross numbers rule) m).0 }
+
+pub apart_of : (rule : Rule) (area box inside : List SpanSet) → IsBoxOf rule box → IsBoth area box inside → ((numbers : List ℕ) → Has inside numbers → ⊥) → IsApart rule area
+apart_of rule area box inside is both none = record {
+  none = λ numbers point has.
+      elim (cases_Bool (matches numbers rule)) [
+        | inl m ↦ absurd (none numbers (both.all numbers point has (has_of_rule rule box numbers is point m)))
+        | inr f ↦ f
+      ];
+}
+
+pub cut_of : (rule : Rule) (area box inside : List SpanSet) (old new : List (List SpanSet)) → IsBoxOf rule box → IsBoth area box inside
+    → ((numbers : List ℕ) → IsPoint numbers → Has area numbers → (Has box numbers → ⊥) → IsInSome old numbers) → ((numbers : List ℕ) → IsInSome old numbers → IsInSome new numbers)
+    → ((numbers : List ℕ) → IsPoint numbers → Has inside numbers → cross numbers rule ≡ false → IsInSome new numbers) → IsCut rule area inside new
+cut_of rule area box inside old new is both out kept failing = record {
+  matched = λ numbers point has m. both.all numbers point has (has_of_rule rule box numbers is point m);
+  others = λ numbers point has m.
+      elim (cases_Bool (allows_each numbers rule)) [
+        | inl t ↦ failing numbers point (both.all numbers point has (record { each = box_of_rule rule box numbers is point ∙ t }))
+            (sym (ap (λ b. b && cross numbers rule) t) ∙ m)
+        | inr f ↦ kept numbers (out numbers point has (λ h. true≢false (sym (sym (box_of_rule rule box numbers is point) ∙ h.each) ∙ f)))
+      ];
+}
+
+pub begun_here : (hook : Hook) (k : ℕ) (f : Field) (v : SpanSet) → k < FIELDS → IsBeginning hook (get_or all_fields k field.Source) v → IsBeginning hook (get_or all_fields k f) v
+begun_here hook k f v lt h = let P : Field → Type 0 = λ g. IsBeginning hook g v in subst P (get_or_default all_fields k field.Source f lt) h

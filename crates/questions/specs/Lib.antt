@@ -1,0 +1,4 @@
+pub mod Leaves
+pub mod asked
+pub mod boxes
+pub mod steps

@@ -1,0 +1,20 @@
+-- That no two answers hold at once.
+use Rattle.std.specs.Prelude.{◌≡◌, ℕ, List, Ok}
+use Rattle.fields.specs.packet.Packet.{PacketView as Packet, packet_of}
+use Rattle.table.specs.chains.Table.{Table}
+use Rattle.table.specs.walk.Walk.{Entry}
+use Rattle.questions.specs.asked.Rule.{IsDead, IsLive}
+use Rattle.questions.specs.asked.Verdicts.{IsOther, IsSame}
+use Rattle.questions.specs.boxes.Area.{IsAtHook}
+
+-- a line writes only packets that can be at their hooks
+abbrev pub LinesWritePacketsAtHooks : Type 0
+LinesWritePacketsAtHooks = (words : List (List ℕ)) (p : Packet) → packet_of words ≡ Ok p → IsAtHook p
+
+-- a dead rule isn't live
+abbrev pub DeadIsNotLive : Type 0
+DeadIsNotLive = (t : Table) (entry : Entry) (words : List (List ℕ)) → IsDead t entry → IsLive t entry words → ⊥
+
+-- tables that are the same don't differ
+abbrev pub SameIsNotOther : Type 0
+SameIsNotOther = (old new : Table) (words : List (List ℕ)) → IsSame old new → IsOther old new words → ⊥

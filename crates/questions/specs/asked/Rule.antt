@@ -1,0 +1,33 @@
+-- What is asked of a rule, and what the answers say.
+use Rattle.std.specs.Prelude.{◌≡◌, ℕ, List, Contains, Ok}
+use Rattle.fields.specs.declared.packet.hook.Hook.{Hook}
+use Rattle.fields.specs.packet.Packet.{PacketView as Packet, packet_of}
+use Rattle.table.specs.chains.Table.{Table}
+use Rattle.table.specs.walk.Walk.{Entry, walk}
+use Rattle.questions.specs.boxes.Area.{IsAtHook}
+use Rattle.questions.specs.declared.asked.rule.Life.{Life}
+use Rattle.questions.specs.declared.asked.rule.Life.TheVariants.{Dead, Live, Unclear}
+
+-- the rule of an entry matches no packet on its walk, of those that can be at the hook
+abbrev pub IsDeadAt : Table → Entry → Hook → Type 0
+IsDeadAt t entry hook = (p : Packet) → IsAtHook p → p.hook ≡ hook → Contains (walk t p).trail entry → ⊥
+
+-- the rule matches no packet on its walk
+abbrev pub IsDead : Table → Entry → Type 0
+IsDead t entry = (p : Packet) → IsAtHook p → Contains (walk t p).trail entry → ⊥
+
+-- the rule is on the walk of a packet, and a line writes that packet
+abbrev pub IsLive : Table → Entry → List (List ℕ) → Type 0
+IsLive t entry words = (p : Packet) × (packet_of words ≡ Ok p) × Contains (walk t p).trail entry
+
+-- what is said of a rule, for the packets at one hook
+abbrev pub SaysAt : Table → Entry → Hook → Life → Type 0
+SaysAt t entry hook Dead = IsDeadAt t entry hook
+SaysAt t entry hook (Live words) = IsLive t entry words
+SaysAt t entry hook Unclear = Unit {0}
+
+-- what is said of a rule
+abbrev pub Says : Table → Entry → Life → Type 0
+Says t entry Dead = IsDead t entry
+Says t entry (Live words) = IsLive t entry words
+Says t entry Unclear = Unit {0}

@@ -1,0 +1,41 @@
+-- What is asked of two tables, and what the answers say.
+use Rattle.std.specs.Prelude.{◌≡◌, ◌≢◌, ℕ, List, Ok}
+use Rattle.fields.specs.declared.packet.hook.Hook.{Hook}
+use Rattle.fields.specs.packet.Packet.{PacketView as Packet, packet_of}
+use Rattle.table.specs.chains.Table.{Table}
+use Rattle.table.specs.walk.Walk.{walk}
+use Rattle.questions.specs.Leaves.{EndsIn}
+use Rattle.questions.specs.boxes.Area.{IsAtHook}
+use Rattle.questions.specs.declared.asked.verdicts.Likeness.{Likeness}
+use Rattle.questions.specs.declared.asked.verdicts.Likeness.TheVariants.{Same, Differ, Unclear}
+use Rattle.questions.specs.declared.walking.task.Leaf.{Leaf}
+
+-- both tables give the packet one verdict
+abbrev pub IsAlike : Table → Table → Packet → Type 0
+IsAlike old new p = (walk old p).verdict ≡ (walk new p).verdict
+
+-- they do so for each packet that can be at its hook
+abbrev pub IsSame : Table → Table → Type 0
+IsSame old new = (p : Packet) → IsAtHook p → IsAlike old new p
+
+-- for each that can be at one hook
+abbrev pub IsSameAt : Table → Table → Hook → Type 0
+IsSameAt old new hook = (p : Packet) → IsAtHook p → p.hook ≡ hook → IsAlike old new p
+
+-- for each of those that is in a leaf of the first
+abbrev pub IsSameIn : Table → Table → Hook → Leaf → Type 0
+IsSameIn old new hook leaf = (p : Packet) → IsAtHook p → p.hook ≡ hook → EndsIn old p leaf → IsAlike old new p
+
+-- they give a packet two verdicts, and a line writes that packet
+abbrev pub IsOther : Table → Table → List (List ℕ) → Type 0
+IsOther old new words = (p : Packet) × (packet_of words ≡ Ok p) × ((walk old p).verdict ≢ (walk new p).verdict)
+
+-- what is said of two tables, if this is meant by their being alike
+abbrev pub SaysIf : Type 0 → Table → Table → Likeness → Type 0
+SaysIf same old new Same = same
+SaysIf same old new (Differ words) = IsOther old new words
+SaysIf same old new Unclear = Unit {0}
+
+-- what is said of two tables
+abbrev pub Says : Table → Table → Likeness → Type 0
+Says old new likeness = SaysIf (IsSame old new) old new likeness

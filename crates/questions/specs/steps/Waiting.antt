@@ -1,0 +1,91 @@
+-- Boxes on their way through the table, and those that are at its end.
+use Rattle.std.specs.Prelude.{◌≡◌, ◌⊎◌, ℕ, ◌+◌, ◌<◌, IsTrue, List, [], ◌∷◌, length, map, reverse, All, Any}
+use Rattle.fields.specs.declared.packet.hook.Hook.{Hook}
+use Rattle.fields.specs.numbers.Spans.{SpanSet}
+use Rattle.fields.specs.packet.Hook.{name as hook_name}
+use Rattle.fields.specs.packet.Packet.{PacketView as Packet}
+use Rattle.table.specs.chains.Table.{Chain, Table}
+use Rattle.table.specs.declared.verdict.Verdict.{Verdict}
+use Rattle.table.specs.walk.Cases.{Stage, Under, GoesTo}
+use Rattle.table.specs.walk.Walk.{Rest, Entry, end_verdict, whole}
+use Rattle.questions.specs.boxes.Area.{IsAtHook, IsIn}
+use Rattle.questions.specs.boxes.Cut.{IsInSome}
+use Rattle.questions.specs.Leaves.{name_at, entries_of, EndsIn}
+use Rattle.questions.specs.declared.walking.task.Pending.{Pending}
+use Rattle.questions.specs.declared.walking.task.Task.{Task}
+use Rattle.questions.specs.declared.walking.front.Front.{Front}
+
+-- what is left of a chain
+abbrev pub rest_of : List Chain → Pending → Rest
+rest_of chains at = record { chain = name_at chains at.chain; passed = at.passed }
+
+-- what is left of those that wait, the newest first
+abbrev pub rests_of : List Chain → List Pending → List Rest
+rests_of chains waiting = map (rest_of chains) (reverse waiting)
+
+-- what is left behind the next rule
+abbrev pub behind : Pending → Pending
+behind at = record { chain = at.chain; passed = at.passed + 1 }
+
+-- the walk of a packet gets to a stage
+abbrev pub Reaches : Table → Packet → Stage → Type 0
+Reaches t p stage =
+    (n : ℕ) × GoesTo n t.chains (end_verdict t p) p.values (Under (whole (hook_name p.hook) ∷ []) []) stage
+
+-- the packet is one of the box, and its walk gets to a stage
+pub record Stands (t : Table) (p : Packet) (box : List SpanSet) (stage : Stage) : Type 0 where
+  pub inside : IsIn box p
+  pub reaches : Reaches t p stage
+
+-- where the walks of a task are
+abbrev pub stage_of : List Chain → Task → Stage
+stage_of chains task = Under (rests_of chains task.rests.items) (entries_of chains task.trail.items)
+
+-- the packet is in a task
+abbrev pub WaitsIn : Table → Packet → Task → Type 0
+WaitsIn t p task = Stands t p task.area (stage_of t.chains task)
+
+-- the packet is in some task, or in some leaf; where a walk is too long, nothing is said
+abbrev pub IsAccounted : Table → Packet → Front → Type 0
+IsAccounted t p front = IsTrue front.is_long ⊎ (Any (WaitsIn t p) front.tasks.items ⊎ Any (EndsIn t p) front.leaves.items)
+
+-- the chain is there
+abbrev pub IsThere : List Chain → Pending → Type 0
+IsThere chains at = at.chain < length chains
+
+-- all chains that wait are there
+abbrev pub AreThere : List Chain → Task → Type 0
+AreThere chains task = All (IsThere chains) task.rests.items
+
+-- of all tasks
+abbrev pub AllThere : List Chain → Front → Type 0
+AllThere chains front = All (AreThere chains) front.tasks.items
+
+-- a packet that can be at its hook, where the policy is this
+pub record IsAsked (t : Table) (policy : Verdict) (p : Packet) : Type 0 where
+  pub at_hook : IsAtHook p
+  pub ends : end_verdict t p ≡ policy
+
+-- nobody is lost
+pub record Keeps (t : Table) (old new : Front) : Type 0 where
+  pub kept : (p : Packet) → IsAccounted t p old → IsAccounted t p new
+  pub there : AllThere t.chains old → AllThere t.chains new
+
+-- whoever stood there is accounted for, and nobody else is lost
+pub record Moves (t : Table) (policy : Verdict) (box : List SpanSet) (stage : Stage) (old new : Front) : Type 0 where
+  pub moved : (p : Packet) → IsAsked t policy p → Stands t p box stage → IsAccounted t p new
+  pub keeps : Keeps t old new
+
+-- whoever is in one of some boxes, and stood there, is accounted for, and nobody else is lost
+pub record PassesOver (t : Table) (policy : Verdict) (boxes : List (List SpanSet)) (stage : Stage) (old new : Front) : Type 0 where
+  pub passed : (p : Packet) → IsAsked t policy p → IsInSome boxes p.values → Reaches t p stage → IsAccounted t p new
+  pub keeps : Keeps t old new
+
+-- the rule just before a place, as an entry of the trail
+abbrev pub entry_before : List Chain → Pending → Entry
+entry_before chains at = record { chain = name_at chains at.chain; number = at.passed }
+
+-- each packet of a box that can be at the hook is accounted for
+pub record Begins (t : Table) (hook : Hook) (box : List SpanSet) (front : Front) : Type 0 where
+  pub all : (p : Packet) → IsAtHook p → p.hook ≡ hook → IsIn box p → IsAccounted t p front
+  pub there : AllThere t.chains front

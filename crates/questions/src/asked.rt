@@ -1,0 +1,4 @@
+//! What is asked of all packets.
+pub(crate) mod laws;
+pub(crate) mod rule;
+pub(crate) mod verdicts;

@@ -1,0 +1,155 @@
+//! Whether a rule can match at all.
+ghost use Rattle.std.specs.Prelude.{◌≡◌, ◌<◌, ◌≤◌, ◌↔◌, All, Contains, length, IfOk, IfSome, IsTrue};
+ghost use Rattle.table.specs.chains.Table.{chain_at};
+ghost use Rattle.questions.specs.Leaves.{entry_of};
+ghost use Rattle.questions.specs.asked.Rule.{IsLive, Says, SaysAt};
+
+use crate::boxes::area::Area;
+use crate::sampling::sample::{Sample, sample_of};
+use crate::walking::engine::leaves;
+use crate::walking::task::Leaf;
+use fields::{Hook, Words};
+use rules::{Boxed, Work};
+use std::alloc::{AllocError, Global};
+use table::{Step, Table};
+
+/// What is said of a rule.
+#[derive(Drop)]
+pub enum Life {
+    /// It matches no packet on its walk.
+    Dead,
+    /// It is on the walk of a packet, which these words write.
+    Live(Words),
+    /// Neither is known: there were too many boxes, or no packet was found in those with the rule on their trail.
+    Unclear,
+}
+
+// Whether the rule is on a trail.
+fn is_on(trail: &[Step], step: Step) -> bool
+    ensures { IsTrue result ↔ Contains trail.now step }
+{
+    trail.contains(&step)
+}
+
+// A packet that is meant to be one of a box, if the rule is on its trail.
+fn witness(
+    alloc: Global,
+    table: &Table,
+    hook: Hook,
+    area: &Area,
+    step: Step,
+) -> Result<Option<Words>, AllocError>
+    ensures { IfOk result (λ found. IfSome found (IsLive table.now.table (entry_of table.now.table.chains step))) }
+{
+    let Some(sample) = sample_of(alloc, hook, area)? else {
+        return Ok(None);
+    };
+    let Sample { words, packet } = sample;
+    let trail = table.trail(&packet)?;
+    if is_on(trail.steps(), step) {
+        return Ok(Some(words));
+    }
+    Ok(None)
+}
+
+// A packet of some leaf with the rule on its trail, as words that write it.
+fn witness_among(
+    alloc: Global,
+    table: &Table,
+    hook: Hook,
+    found: &[Leaf],
+    step: Step,
+) -> Result<Option<Words>, AllocError>
+    ensures { IfOk result (λ found. IfSome found (IsLive table.now.table (entry_of table.now.table.chains step))) }
+{
+    for leaf in found {
+        if !is_on(leaf.trail.as_slice(), step) {
+            continue;
+        }
+        match witness(alloc, table, hook, &leaf.area, step)? {
+            None => {}
+            Some(words) => return Ok(Some(words)),
+        }
+    }
+    Ok(None)
+}
+
+// Whether no leaf has the rule on its trail.
+fn none_on(found: &[Leaf], step: Step) -> bool
+    ensures { IsTrue result → All (λ leaf. Contains leaf.trail.items step → ⊥) found.now }
+{
+    for leaf in found {
+        if is_on(leaf.trail.as_slice(), step) {
+            return false;
+        }
+    }
+    true
+}
+
+// What is said of a rule, for the packets at one hook: those that its box has walk the table.
+fn life_at(
+    alloc: Global,
+    table: &Table,
+    hook: Hook,
+    step: Step,
+    budget: usize,
+    work: &mut Work,
+) -> Result<Life, AllocError>
+    requires place { step.chain < length table.now.table.chains }
+    requires first { 0 < step.number }
+    requires last { step.number ≤ length (chain_at table.now.table step.chain).rules }
+    ensures { IfOk result (SaysAt table.now.table (entry_of table.now.table.chains step) hook) }
+{
+    table.stands();
+    let boxed = Boxed::of(alloc, table.rule(step.chain, step.number), work)?;
+    let start = Area::at_hook(alloc, hook)?.within(alloc, boxed.spans())?;
+    match leaves(alloc, table, hook, start, budget, work)? {
+        None => Ok(Life::Unclear),
+        Some(found) => {
+            if none_on(found.as_slice(), step) {
+                return Ok(Life::Dead);
+            }
+            match witness_among(alloc, table, hook, found.as_slice(), step)? {
+                Some(words) => Ok(Life::Live(words)),
+                None => Ok(Life::Unclear),
+            }
+        }
+    }
+}
+
+/// Whether rule `number` of the chain at a place, from 1, can match at all. Of each hook the packets that the rule's box has
+/// walk the table as boxes, with `budget` steps (`leaves`).
+///
+/// # Errors
+///
+/// `AllocError` where memory was refused.
+pub fn dead(
+    alloc: Global,
+    table: &Table,
+    place: usize,
+    number: usize,
+    budget: usize,
+    work: &mut Work,
+) -> Result<Life, AllocError>
+    requires place { place < length table.now.table.chains }
+    requires first { 0 < number }
+    requires last { number ≤ length (chain_at table.now.table place).rules }
+    ensures { IfOk result (Says table.now.table (record { chain = (chain_at table.now.table place).name; number = number })) }
+{
+    let step = Step {
+        chain: place,
+        number,
+    };
+    let mut clear = true;
+    for hook in Hook::ALL {
+        match life_at(alloc, table, hook, step, budget, work)? {
+            Life::Dead => {}
+            Life::Live(words) => return Ok(Life::Live(words)),
+            Life::Unclear => clear = false,
+        }
+    }
+    if clear {
+        return Ok(Life::Dead);
+    }
+    Ok(Life::Unclear)
+}

@@ -1,0 +1,182 @@
+//! Whether two tables give each packet the same verdict.
+ghost use Rattle.std.specs.Prelude.{◌≡◌, All, IfOk, IfSome, IsTrue};
+ghost use Rattle.table.specs.declared.verdict.Verdict.{Verdict};
+ghost use Rattle.questions.specs.asked.Verdicts.{IsOther, IsSameAt, IsSameIn, Says, SaysIf};
+
+use crate::boxes::area::Area;
+use crate::sampling::sample::{Sample, sample_of};
+use crate::walking::engine::leaves;
+use crate::walking::task::Leaf;
+use fields::{Hook, Words};
+use rules::Work;
+use std::alloc::{AllocError, Global};
+use table::{Table, Verdict};
+
+/// What is said of two tables.
+#[derive(Drop)]
+pub enum Likeness {
+    /// They give each packet the same verdict.
+    Same,
+    /// They give the packet that these words write two verdicts.
+    Differ(Words),
+    /// Neither is known: there were too many boxes, or no packet was found in those with two verdicts.
+    Unclear,
+}
+
+// Whether all leaves have this verdict.
+fn all_give(found: &[Leaf], verdict: Verdict) -> bool
+    ensures { IsTrue result → All (λ leaf. leaf.verdict ≡ verdict) found.now }
+{
+    for leaf in found {
+        if leaf.verdict != verdict {
+            return false;
+        }
+    }
+    true
+}
+
+// A packet that is meant to be one of a box, if the tables give it two verdicts.
+fn witness(
+    alloc: Global,
+    old: &Table,
+    new: &Table,
+    hook: Hook,
+    area: &Area,
+) -> Result<Option<Words>, AllocError>
+    ensures { IfOk result (λ found. IfSome found (IsOther old.now.table new.now.table)) }
+{
+    let Some(sample) = sample_of(alloc, hook, area)? else {
+        return Ok(None);
+    };
+    let Sample { words, packet } = sample;
+    if old.verdict(&packet) != new.verdict(&packet) {
+        return Ok(Some(words));
+    }
+    Ok(None)
+}
+
+// A packet of some leaf with another verdict than this one.
+fn witness_among(
+    old: &Table,
+    new: &Table,
+    hook: Hook,
+    found: &[Leaf],
+    verdict: Verdict,
+) -> Result<Option<Words>, AllocError>
+    ensures { IfOk result (λ found. IfSome found (IsOther old.now.table new.now.table)) }
+{
+    for leaf in found {
+        if leaf.verdict == verdict {
+            continue;
+        }
+        match witness(*leaf.trail.allocator(), old, new, hook, &leaf.area)? {
+            None => {}
+            Some(words) => return Ok(Some(words)),
+        }
+    }
+    Ok(None)
+}
+
+// What is said of the packets of a leaf of the first table: they walk the second one.
+fn likeness_in(
+    old: &Table,
+    new: &Table,
+    hook: Hook,
+    leaf: &Leaf,
+    budget: usize,
+    work: &mut Work,
+) -> Result<Likeness, AllocError>
+    ensures { IfOk result (SaysIf (IsSameIn old.now.table new.now.table hook leaf.now) old.now.table new.now.table) }
+{
+    let alloc = *leaf.trail.allocator();
+    let start = leaf.area.copy(alloc)?;
+    match leaves(alloc, new, hook, start, budget, work)? {
+        None => Ok(Likeness::Unclear),
+        Some(found) => {
+            if all_give(found.as_slice(), leaf.verdict) {
+                return Ok(Likeness::Same);
+            }
+            match witness_among(old, new, hook, found.as_slice(), leaf.verdict)? {
+                Some(words) => Ok(Likeness::Differ(words)),
+                None => Ok(Likeness::Unclear),
+            }
+        }
+    }
+}
+
+// What is said of the packets of all leaves of the first table.
+fn likeness_among(
+    old: &Table,
+    new: &Table,
+    hook: Hook,
+    found: &[Leaf],
+    budget: usize,
+    work: &mut Work,
+) -> Result<Likeness, AllocError>
+    ensures { IfOk result (SaysIf (All (IsSameIn old.now.table new.now.table hook) found.now) old.now.table new.now.table) }
+{
+    let mut clear = true;
+    for leaf in found {
+        match likeness_in(old, new, hook, leaf, budget, work)? {
+            Likeness::Same => {}
+            Likeness::Differ(words) => return Ok(Likeness::Differ(words)),
+            Likeness::Unclear => clear = false,
+        }
+    }
+    if clear {
+        return Ok(Likeness::Same);
+    }
+    Ok(Likeness::Unclear)
+}
+
+// What is said of the packets at one hook.
+fn likeness_at(
+    alloc: Global,
+    old: &Table,
+    new: &Table,
+    hook: Hook,
+    budget: usize,
+    work: &mut Work,
+) -> Result<Likeness, AllocError>
+    ensures { IfOk result (SaysIf (IsSameAt old.now.table new.now.table hook) old.now.table new.now.table) }
+{
+    let start = Area::at_hook(alloc, hook)?;
+    match leaves(alloc, old, hook, start, budget, work)? {
+        None => Ok(Likeness::Unclear),
+        Some(found) => match likeness_among(old, new, hook, found.as_slice(), budget, work)? {
+            Likeness::Same => Ok(Likeness::Same),
+            Likeness::Differ(words) => Ok(Likeness::Differ(words)),
+            Likeness::Unclear => Ok(Likeness::Unclear),
+        },
+    }
+}
+
+/// Whether two tables give each packet the same verdict, whichever rule gives it. Of each hook all packets walk the first
+/// table as boxes, and each box with one walk then walks the second one: each of these walks has `budget` steps
+/// (`leaves`).
+///
+/// # Errors
+///
+/// `AllocError` where memory was refused.
+pub fn compare(
+    alloc: Global,
+    old: &Table,
+    new: &Table,
+    budget: usize,
+    work: &mut Work,
+) -> Result<Likeness, AllocError>
+    ensures { IfOk result (Says old.now.table new.now.table) }
+{
+    let mut clear = true;
+    for hook in Hook::ALL {
+        match likeness_at(alloc, old, new, hook, budget, work)? {
+            Likeness::Same => {}
+            Likeness::Differ(words) => return Ok(Likeness::Differ(words)),
+            Likeness::Unclear => clear = false,
+        }
+    }
+    if clear {
+        return Ok(Likeness::Same);
+    }
+    Ok(Likeness::Unclear)
+}

@@ -1,0 +1,4 @@
+//! Boxes of packets, and how a rule cuts them.
+pub(crate) mod area;
+pub(crate) mod crossing;
+pub(crate) mod cut;

@@ -1,0 +1,196 @@
+//! Boxes of packets.
+ghost use Rattle.std.specs.Prelude.{◌≡◌, ◌<◌, ◌≤◌, ◌&&◌, ℕ, List, not, length, slice_index_or, IfOk, IsTrue, OnOk};
+ghost use Rattle.fields.specs.declared.numbers.field.Field.{Field};
+ghost use Rattle.fields.specs.numbers.Field.{all_fields, top};
+ghost use Rattle.fields.specs.numbers.Spans.{SpanSet, has};
+ghost use Rattle.fields.specs.packet.Packet.{PacketView};
+ghost use Rattle.rules.specs.boxing.Boxed.{IsBox, set_on};
+ghost use Rattle.questions.specs.boxes.Area.{Has, IsAtHook, IsBoth, IsIn, is_without};
+ghost use Rattle.questions.specs.steps.Sides.{IsBeginning, IsPart, IsSide};
+
+use fields::{FIELDS, Field, Hook, Spans};
+use std::alloc::{AllocError, Global};
+use std::array;
+use std::marker::Model;
+
+/// A box of packets: on each field a set of numbers. A packet is in it if each of its numbers is in the set of its field.
+#[derive(Drop)]
+pub struct Area {
+    sets: [Spans; FIELDS],
+}
+
+impl Model for Area {
+    ghost use Rattle.std.specs.Prelude.{List};
+    ghost use Rattle.fields.specs.numbers.Spans.{SpanSet};
+    ghost use Rattle.rules.specs.boxing.Boxed.{IsBox};
+
+    ghost Value = { List SpanSet };
+
+    ghost view = { λ a. a.sets };
+
+    ghost invariant = { λ a. IsBox a.sets };
+}
+
+// The numbers of a set that another hasn't.
+pub(crate) fn minus(alloc: Global, own: &Spans, other: &Spans) -> Result<Spans, AllocError>
+    requires { own.now.top ≡ other.now.top }
+    ensures top { IfOk result (λ set. set.top ≡ own.now.top) }
+    ensures members { IfOk result (λ set. (x : ℕ) → x ≤ own.now.top
+        → has set.intervals x ≡ (has own.now.intervals x && not (has other.now.intervals x))) }
+{
+    let others = other.except(alloc)?;
+    own.meet(alloc, &others)
+}
+
+// The set at a place of the part of a box that leaves another one at `at`. A set met with itself is its copy.
+fn side(
+    alloc: Global,
+    own: &Spans,
+    other: &Spans,
+    place: usize,
+    at: usize,
+) -> Result<Spans, AllocError>
+    requires { own.now.top ≡ other.now.top }
+    ensures { IfOk result (IsSide at place own.now other.now) }
+{
+    if place < at {
+        own.meet(alloc, other)
+    } else if place == at {
+        minus(alloc, own, other)
+    } else {
+        own.meet(alloc, own)
+    }
+}
+
+// Puts the sets of that part in their places.
+fn put_sides(
+    alloc: Global,
+    own: &[Spans],
+    other: &[Spans],
+    at: usize,
+    sets: &mut [Spans],
+) -> Result<(), AllocError>
+    requires own { IsBox own.now }
+    requires other { IsBox other.now }
+    requires long { length sets.old ≡ FIELDS }
+    ensures { OnOk result (IsPart at own.now other.now sets.new) }
+{
+    for place in 0..FIELDS {
+        sets[place] = side(alloc, &own[place], &other[place], place, at)?;
+    }
+    Ok(())
+}
+
+// Whether packets at a hook have no such interface.
+fn is_without(hook: Hook, field: Field) -> bool
+    ensures { result ≡ is_without hook field }
+{
+    match hook {
+        Hook::Input => matches!(field, Field::OutIface),
+        Hook::Forward => false,
+        Hook::Output => matches!(field, Field::InIface),
+    }
+}
+
+// The numbers that packets at a hook may have on a field.
+fn beginning(alloc: Global, hook: Hook, field: Field) -> Result<Spans, AllocError>
+    ensures { IfOk result (IsBeginning hook field) }
+{
+    let last = if is_without(hook, field) {
+        0
+    } else {
+        field.top()
+    };
+    Spans::one(alloc, field.top(), 0, last)
+}
+
+// Puts them on each field.
+fn open(alloc: Global, hook: Hook, sets: &mut [Spans]) -> Result<(), AllocError>
+    requires { length sets.old ≡ FIELDS }
+    ensures { OnOk result ((place : ℕ) (f : Field) (d : SpanSet) → place < FIELDS
+        → IsBeginning hook (slice_index_or all_fields place f) (slice_index_or sets.new place d)) }
+{
+    for place in 0..FIELDS {
+        sets[place] = beginning(alloc, hook, Field::ALL[place])?;
+    }
+    Ok(())
+}
+
+impl Area {
+    /// All packets that can be at a hook. One for here has no interface that it goes out by, one from here none that it
+    /// came in by.
+    ///
+    /// # Errors
+    ///
+    /// `AllocError` where memory was refused.
+    pub fn at_hook(alloc: Global, hook: Hook) -> Result<Area, AllocError>
+        ensures { IfOk result (λ area. (p : PacketView) → IsAtHook p → p.hook ≡ hook → IsIn area p) }
+    {
+        let mut sets: [Spans; FIELDS] = array::from_fn(|_| Spans::none(alloc, 0));
+        open(alloc, hook, &mut sets)?;
+        Ok(Area { sets })
+    }
+
+    // The part of a box that leaves another one at a place.
+    pub(crate) fn part(
+        alloc: Global,
+        own: &[Spans],
+        other: &[Spans],
+        at: usize,
+    ) -> Result<Area, AllocError>
+        requires own { IsBox own.now }
+        requires other { IsBox other.now }
+        ensures { IfOk result (IsPart at own.now other.now) }
+    {
+        let mut sets: [Spans; FIELDS] = array::from_fn(|_| Spans::none(alloc, 0));
+        put_sides(alloc, own, other, at, &mut sets)?;
+        Ok(Area { sets })
+    }
+
+    /// The packets that are in two boxes, the second by its sets.
+    ///
+    /// # Errors
+    ///
+    /// `AllocError` where memory was refused.
+    pub(crate) fn within(&self, alloc: Global, other: &[Spans]) -> Result<Area, AllocError>
+        requires { IsBox other.now }
+        ensures { IfOk result (IsBoth self.now other.now) }
+    {
+        Area::part(alloc, &self.sets, other, FIELDS)
+    }
+
+    // The box again.
+    pub(crate) fn copy(&self, alloc: Global) -> Result<Area, AllocError>
+        ensures { IfOk result (IsBoth self.now self.now) }
+    {
+        self.within(alloc, &self.sets)
+    }
+
+    // Whether some field has no number, so that no packet is in the box.
+    pub(crate) fn is_empty(&self) -> bool
+        ensures { IsTrue result → (numbers : List ℕ) → Has self.now numbers → ⊥ }
+    {
+        for set in &self.sets {
+            if set.intervals().is_empty() {
+                return true;
+            }
+        }
+        false
+    }
+
+    /// The numbers on a field; they are lent.
+    pub fn on(&self, field: Field) -> &Spans
+        ensures set { result.now.intervals ≡ set_on field self.now }
+        ensures top { result.now.top ≡ top field }
+    {
+        &self.sets[field.index()]
+    }
+
+    /// The sets in the order of `Field::ALL`; they are lent.
+    pub fn sets(&self) -> &[Spans]
+        ensures value { result.now ≡ self.now }
+        ensures whole { IsBox self.now }
+    {
+        self.sets.as_slice()
+    }
+}

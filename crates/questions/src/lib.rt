@@ -1,0 +1,15 @@
+//! Questions about all packets: whether a rule can match at all, and whether two rulesets treat every packet alike. A
+//! box of packets walks the table as a whole, and is cut where a rule matches some of its packets.
+#![tactic(auto)]
+
+mod asked;
+mod boxes;
+mod sampling;
+mod walking;
+
+pub use asked::laws::answers_exclude_each_other;
+pub use asked::rule::{Life, dead};
+pub use asked::verdicts::{Likeness, compare};
+pub use boxes::area::Area;
+pub use walking::engine::leaves;
+pub use walking::task::Leaf;

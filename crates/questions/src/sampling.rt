@@ -1,0 +1,4 @@
+//! Packets of a box, as the words that write them.
+pub(crate) mod choice;
+pub(crate) mod line;
+pub(crate) mod sample;

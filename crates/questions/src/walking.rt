@@ -1,0 +1,5 @@
+//! The walk of whole boxes.
+pub(crate) mod engine;
+pub(crate) mod front;
+pub(crate) mod task;
+pub(crate) mod turn;

@@ -1,0 +1,133 @@
+// The walk of a box through a table.
+ghost use Rattle.std.specs.Prelude.{◌≡◌, IfOk, IfSome, OnOk};
+ghost use Rattle.fields.specs.packet.Packet.{PacketView};
+ghost use Rattle.table.specs.declared.verdict.Verdict.{Verdict};
+ghost use Rattle.table.specs.steps.Kept.{hook_index};
+ghost use Rattle.table.specs.walk.Walk.{end_verdict};
+ghost use Rattle.questions.specs.Leaves.{AreLeavesOf};
+ghost use Rattle.questions.specs.steps.Waiting.{AreThere, Begins, Moves, stage_of};
+
+use crate::boxes::area::Area;
+use crate::walking::front::Front;
+use crate::walking::task::{Leaf, Pending, Task};
+use crate::walking::turn::ask;
+use fields::Hook;
+use rules::Work;
+use std::alloc::{AllocError, Global};
+use table::{Policy, Table, Verdict};
+
+// The most rules that match in a walk.
+const LIMIT: usize = 65536;
+
+// One step of the walks of a task: the policy decides them, a chain comes back, or a rule is asked. Where the trail is full
+// they are too long.
+fn step(
+    table: &Table,
+    policy: Verdict,
+    front: &mut Front,
+    task: Task,
+    work: &mut Work,
+) -> Result<(), AllocError>
+    requires { AreThere table.now.table.chains task }
+    ensures { OnOk result (Moves table.now.table policy task.area (stage_of table.now.table.chains task) front.old front.new) }
+{
+    let Task {
+        area,
+        mut rests,
+        trail,
+    } = task;
+    if trail.len() >= LIMIT {
+        front.is_long = true;
+        return Ok(());
+    }
+    match rests.pop() {
+        None => front.add_leaf(Task { area, rests, trail }, policy, true),
+        Some(at) => {
+            let task = Task { area, rests, trail };
+            table.stands();
+            if at.passed >= table.rule_count(at.chain) {
+                return front.add_task(task);
+            }
+            ask(table, front, task, at, work)
+        }
+    }
+}
+
+// The place of a hook's chain in the order of a listing.
+fn hook_index(hook: Hook) -> usize
+    ensures { result ≡ hook_index hook }
+{
+    match hook {
+        Hook::Input => 0,
+        Hook::Forward => 1,
+        Hook::Output => 2,
+    }
+}
+
+// The verdict of a hook's chain at its end.
+fn policy_at(table: &Table, hook: Hook) -> Verdict
+    ensures { (p : PacketView) → p.hook ≡ hook → end_verdict table.now.table p ≡ result }
+{
+    match table.policy(hook_index(hook)) {
+        Some(Policy::Drop) => Verdict::Drop,
+        _ => Verdict::Accept,
+    }
+}
+
+// A box at the first rule of a hook's chain.
+fn begin(alloc: Global, table: &Table, hook: Hook, start: Area) -> Result<Front, AllocError>
+    ensures { IfOk result (Begins table.now.table hook start) }
+{
+    table.stands();
+    let mut front = Front {
+        alloc,
+        tasks: Vec::new(alloc),
+        leaves: Vec::new(alloc),
+        is_long: false,
+    };
+    let mut rests = Vec::new(alloc);
+    rests.push(Pending {
+        chain: hook_index(hook),
+        passed: 0,
+    })?;
+    front.add_task(Task {
+        area: start,
+        rests,
+        trail: Vec::new(alloc),
+    })?;
+    Ok(front)
+}
+
+/// The walk of a box, from the first rule of a hook's chain: boxes with one walk each, such that every packet of the box
+/// that can be at the hook is in one of them. There are none where a walk has a full trail of 65,536 rules, or where
+/// there are more steps to take than `budget`: a step is one rule asked of one box, or one chain that is at its end.
+///
+/// A step costs the rule's box and, where the rule matches some of the packets, a copy of the box for each field on
+/// which others are left out.
+///
+/// # Errors
+///
+/// `AllocError` where memory was refused.
+pub fn leaves(
+    alloc: Global,
+    table: &Table,
+    hook: Hook,
+    start: Area,
+    budget: usize,
+    work: &mut Work,
+) -> Result<Option<Vec<Leaf>>, AllocError>
+    ensures { IfOk result (λ found. IfSome found (λ leaves. AreLeavesOf table.now.table hook start leaves.items)) }
+{
+    let policy = policy_at(table, hook);
+    let mut front = begin(alloc, table, hook, start)?;
+    for _ in 0..budget {
+        if front.is_long {
+            return Ok(None);
+        }
+        match front.tasks.pop() {
+            None => return Ok(Some(front.leaves)),
+            Some(task) => step(table, policy, &mut front, task, work)?,
+        }
+    }
+    Ok(None)
+}

@@ -1,0 +1,48 @@
+//! Boxes on their way through the table, and at its end.
+ghost use Rattle.std.specs.Prelude.{◌≡◌, IfOk};
+
+use crate::boxes::area::Area;
+use std::alloc::{AllocError, Global};
+use table::{Step, Verdict};
+
+// What is left of a chain: its place in the order of a listing, from 0, and how many of its rules were passed.
+#[derive(Clone, Copy)]
+pub(crate) struct Pending {
+    pub chain: usize,
+    pub passed: usize,
+}
+
+// Packets whose walks are at one place: what is left of the chains there, the newest last, and the trail so far.
+#[derive(Drop)]
+pub(crate) struct Task {
+    pub area: Area,
+    pub rests: Vec<Pending>,
+    pub trail: Vec<Step>,
+}
+
+/// A box of packets whose walks are one: its trail, its verdict, and whether the policy gave it.
+#[derive(Drop)]
+pub struct Leaf {
+    pub area: Area,
+    pub trail: Vec<Step>,
+    pub verdict: Verdict,
+    pub by_policy: bool,
+}
+
+// The rests again.
+pub(crate) fn copy_rests(alloc: Global, rests: &[Pending]) -> Result<Vec<Pending>, AllocError>
+    ensures { IfOk result (λ copy. copy.items ≡ rests.now) }
+{
+    let mut copy = Vec::new(alloc);
+    copy.extend_from_slice(rests)?;
+    Ok(copy)
+}
+
+// The trail again.
+pub(crate) fn copy_trail(alloc: Global, trail: &[Step]) -> Result<Vec<Step>, AllocError>
+    ensures { IfOk result (λ copy. copy.items ≡ trail.now) }
+{
+    let mut copy = Vec::new(alloc);
+    copy.extend_from_slice(trail)?;
+    Ok(copy)
+}
