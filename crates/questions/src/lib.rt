@@ -9,7 +9,7 @@ mod walking;
 
 pub use asked::laws::answers_exclude_each_other;
 pub use asked::rule::{Life, dead};
-pub use asked::verdicts::{Likeness, compare};
+pub use asked::verdicts::{Likeness, compare, compare_at};
 pub use boxes::area::Area;
 pub use walking::engine::leaves;
 pub use walking::task::Leaf;

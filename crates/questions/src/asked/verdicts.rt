@@ -129,8 +129,13 @@ fn likeness_among(
     Ok(Likeness::Unclear)
 }
 
-// What is said of the packets at one hook.
-fn likeness_at(
+/// Whether two tables give each packet at one hook the same verdict, as `compare` says it of all hooks: the packets of the
+/// hook walk the first table as boxes, and each box with one walk then walks the second one.
+///
+/// # Errors
+///
+/// `AllocError` where memory was refused.
+pub fn compare_at(
     alloc: Global,
     old: &Table,
     new: &Table,
@@ -169,7 +174,7 @@ pub fn compare(
 {
     let mut clear = true;
     for hook in Hook::ALL {
-        match likeness_at(alloc, old, new, hook, budget, work)? {
+        match compare_at(alloc, old, new, hook, budget, work)? {
             Likeness::Same => {}
             Likeness::Differ(words) => return Ok(Likeness::Differ(words)),
             Likeness::Unclear => clear = false,
