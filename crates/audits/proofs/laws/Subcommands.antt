@@ -1,0 +1,44 @@
+-- The subcommand that the words name.
+use Rattle.std.proofs.Common.{ap, ap₂, sym, ◌∙◌, ◌≡◌, Bool, true, false, if◌then◌else◌, List, [], Option, Some, None, option_map, inl, inr, ◌⊎◌}
+use Rattle.std.proofs.lemmas.Option.{same_Some}
+use Rattle.clap.specs.Words.{App, HasMatchesOf, Row, Shape, Text, fault_of, is_simple, is_simple_and_free, subcommand_of, subcommand_name_of, subcommand_rows_of}
+use Rattle.clap.specs.Simple.{built, entered, names_of, rows_at}
+use Rattle.clap.specs.Walk.{stop_after}
+use Rattle.clap.specs.declared.parser.matches.ArgMatches.{ArgMatches}
+use Rattle.audits.specs.ProgramLine.{IsSubcommand, program_app}
+
+-- a value whose two halves are known
+both_read : {X A B : Type 0} (h : X → A × B) (o : Option X) (a : A) (b : B) → Some a ≡ option_map (λ x. (h x).0) o
+    → Some b ≡ option_map (λ (p : A × B). p.1) (option_map h o) → option_map h o ≡ Some (a, b)
+both_read h None a b first second = cc
+both_read {A = A} {B = B} h (Some x) a b first second =
+    let pair : A → B → Option (A × B) = λ y z. Some (y, z) in
+    sym (ap₂ pair (same_Some a (h x).0 first) (same_Some b (h x).1 second))
+
+-- the subcommand that a parse met is the one that the words name
+pub named_by_words : (app : App) (words : List Text) (m : ArgMatches) (name : Text) (rows : List Row) → app ≡ program_app → HasMatchesOf app words m
+    → Some name ≡ subcommand_name_of m → Some rows ≡ option_map (λ (p : Text × List Row). p.1) (subcommand_rows_of m)
+    → subcommand_of program_app words ≡ Some (name, rows)
+named_by_words app words m name rows is matches first second =
+    sym (ap (λ a. subcommand_of a words) is) ∙ sym (matches (ap is_simple is)).1 ∙ both_read _ _ _ _ first second
+
+-- words that a parse takes have no fault
+pub taken_words : (app : App) (words : List Text) → app ≡ program_app → (is_simple_and_free app ≡ true → fault_of app words ≡ []) → fault_of program_app words ≡ []
+taken_words app words is taken = sym (ap (λ a. fault_of a words) is) ∙ taken (ap is_simple_and_free is)
+
+-- one of two that may be entered
+one_of_two : (s t : Shape) (words : List Text) (x y : Bool) (met : Text × List Row)
+    → option_map (λ r. rows_at r words) (if x then Some s else (if y then Some t else None)) ≡ Some met
+    → (met.0 ≡ s.name) ⊎ (met.0 ≡ t.name)
+one_of_two s t words true y met e = inl (sym (ap (λ (p : Text × List Row). p.0) (same_Some _ _ e)))
+one_of_two s t words false true met e = inr (sym (ap (λ (p : Text × List Row). p.0) (same_Some _ _ e)))
+one_of_two s t words false false met e = absurd (cc)
+
+-- what is entered is one of the program's subcommands
+entered_is_known : (stop : Option (Text × List Text)) (met : Text × List Row) → entered (built program_app) stop ≡ Some met → IsSubcommand met.0
+entered_is_known None met e = absurd (cc)
+entered_is_known (Some p) met e = one_of_two _ _ p.1 _ _ met e
+
+-- the words name no other subcommand
+pub named_is_known : (words : List Text) (met : Text × List Row) → subcommand_of program_app words ≡ Some met → IsSubcommand met.0
+named_is_known words met e = entered_is_known (stop_after (built program_app).top.rules (names_of (built program_app)) words) met e

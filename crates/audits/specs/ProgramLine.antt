@@ -1,0 +1,76 @@
+-- The program's line, and what `clap` makes of it.
+use Rattle.std.specs.Prelude.{◌≡◌, ◌≢◌, ◌⊎◌, ⊤, [], codes, true, List, Some, None, option_map}
+use Rattle.clap.specs.Words.{App, IsAmong, Row, Rule, Text, fault_of, first_of, kind_of, new_app, new_rule, subcommand_of, with_rule, with_subcommand}
+use Rattle.clap.specs.declared.error.Error.{Error}
+use Rattle.clap.specs.declared.error.kind.ErrorKind.TheVariants.{OutOfMemory}
+use Rattle.audits.specs.declared.audit.Audit.{Audit}
+use Rattle.audits.specs.declared.audit.LineFault.{LineFault}
+use Rattle.audits.specs.declared.audit.LineFault.TheVariants as faults
+use Rattle.audits.specs.declared.audit.Question.{Question}
+use Rattle.audits.specs.declared.audit.Question.TheVariants as questions
+
+-- `--steps N`
+abbrev pub steps_rule : Rule
+steps_rule = record (new_rule (codes "steps")) { long = Some (codes "steps"); value_names = 1 }
+
+-- a file, which has to be there
+abbrev pub file_rule : Text → Rule
+file_rule name = record (new_rule name) { required = true; value_names = 1 }
+
+-- `dead FILE [--steps N]`
+abbrev pub dead_app : App
+dead_app = with_rule (with_rule (new_app (codes "dead")) (file_rule (codes "file"))) steps_rule
+
+-- `compare OLD NEW [--steps N]`
+abbrev pub compare_app : App
+compare_app = with_rule (with_rule (with_rule (new_app (codes "compare")) (file_rule (codes "old"))) (file_rule (codes "new"))) steps_rule
+
+-- its words are those after the program's name, and `help` is no subcommand
+abbrev pub as_program : App → App
+as_program a = record a { top = record a.top { no_binary_name = true; disable_help_subcommand = true } }
+
+-- the program, with its two subcommands
+abbrev pub program_app : App
+program_app = with_subcommand (with_subcommand (as_program (new_app (codes "iptaudit"))) dead_app.top) compare_app.top
+
+-- the name of a subcommand
+abbrev pub IsSubcommand : Text → Type 0
+IsSubcommand name = (name ≡ codes "dead") ⊎ (name ≡ codes "compare")
+
+-- the question of a subcommand, by its name and what was found of its files
+abbrev pub IsQuestion : Text → List Row → Question → Type 0
+IsQuestion name rows (questions.Dead file) = (name ≡ codes "dead")
+    × (Some file.now ≡ first_of (codes "file") rows)
+IsQuestion name rows (questions.Compare old new) = (name ≡ codes "compare")
+    × (Some old.now ≡ first_of (codes "old") rows) × (Some new.now ≡ first_of (codes "new") rows)
+
+-- a file of a subcommand was not found
+abbrev pub LacksFile : Text → List Row → Type 0
+LacksFile name rows = ((name ≡ codes "dead") × (first_of (codes "file") rows ≡ None))
+    ⊎ ((name ≡ codes "compare") × ((first_of (codes "old") rows ≡ None) ⊎ (first_of (codes "new") rows ≡ None)))
+
+-- the audit of a subcommand, by its name and what was found of its files and its option
+abbrev pub IsAuditOf : Text → List Row → Audit → Type 0
+IsAuditOf name rows audit = IsQuestion name rows audit.question
+    × (option_map (λ s. s.now) audit.steps ≡ first_of (codes "steps") rows)
+
+-- `clap` takes the words, and the audit is what it makes of them
+abbrev pub IsAuditOn : List Text → Audit → Type 0
+IsAuditOn words audit = (fault_of program_app words ≡ [])
+    × (met : Text × List Row) × (subcommand_of program_app words ≡ Some met) × IsAuditOf met.0 met.1 audit
+
+-- the fault stands for `clap`'s error
+abbrev pub StandsFor : Error → LineFault → Type 0
+StandsFor error faults.NoMemory = kind_of error ≡ OutOfMemory
+StandsFor error faults.NoSubcommand = ⊥
+StandsFor error faults.NoFile = ⊥
+StandsFor error (faults.Refused kept) = (kept ≡ error) × (kind_of error ≢ OutOfMemory)
+
+-- why the words are no audit: `clap` takes them and they name no subcommand or give no file, or it refuses them with an
+-- error of this kind; nothing is said of memory
+abbrev pub IsFaultOn : List Text → LineFault → Type 0
+IsFaultOn words faults.NoMemory = ⊤
+IsFaultOn words faults.NoSubcommand = (fault_of program_app words ≡ []) × (subcommand_of program_app words ≡ None)
+IsFaultOn words faults.NoFile = (fault_of program_app words ≡ [])
+    × (met : Text × List Row) × (subcommand_of program_app words ≡ Some met) × LacksFile met.0 met.1
+IsFaultOn words (faults.Refused error) = IsAmong (kind_of error) (fault_of program_app words)

@@ -1,0 +1,165 @@
+//! The program's line: what the words after the program's name ask for.
+ghost use Rattle.std.specs.Prelude.{◌≡◌, IfErr, IfOk, MatchOption, false, map};
+ghost use Rattle.clap.specs.Words.{app_of, found_of, kind_of, rows_of, rule_of};
+ghost use Rattle.clap.specs.declared.builder.command.Command.TheViews.{out-Command as fields_of};
+ghost use Rattle.audits.specs.ProgramLine.{IsAuditOn, IsFaultOn, IsQuestion, IsSubcommand, LacksFile, StandsFor, compare_app, dead_app, file_rule, program_app, steps_rule};
+
+use clap::error::ErrorKind;
+use clap::{Arg, ArgMatches, Command, Error};
+use std::alloc::{AllocError, Global};
+
+/// What is asked, and of which files.
+#[derive(Clone, Copy, Debug, PartialEq, Eq)]
+pub enum Question<'a> {
+    /// Which rules no packet can match.
+    Dead { file: &'a str },
+    /// Whether two rulesets give each packet the same verdict.
+    Compare { old: &'a str, new: &'a str },
+}
+
+/// A question, and the number that was given of steps.
+#[derive(Clone, Copy, Debug, PartialEq, Eq)]
+pub struct Audit<'a> {
+    pub question: Question<'a>,
+    pub steps: Option<&'a str>,
+}
+
+/// Why words ask for no audit.
+#[derive(Debug, Drop, thiserror::Error)]
+pub enum LineFault {
+    #[error("no memory")]
+    NoMemory,
+    #[error("no subcommand")]
+    NoSubcommand,
+    /// `clap` takes the words, and gives no file.
+    #[error("no file")]
+    NoFile,
+    /// `clap` refuses the words, or is asked for help. Its text ends with a newline.
+    #[error("{0}")]
+    Refused(Error),
+}
+
+impl From<AllocError> for LineFault {
+    ghost use Rattle.audits.specs.declared.audit.LineFault.TheVariants.{NoMemory};
+
+    ghost from_gives = { λ _ fault. fault ≡ NoMemory };
+
+    fn from(_error: AllocError) -> LineFault {
+        LineFault::NoMemory
+    }
+}
+
+// What `clap` answers in place of matches.
+fn fault_of(error: Error) -> LineFault
+    ensures { StandsFor error result }
+{
+    if error.kind() == ErrorKind::OutOfMemory {
+        LineFault::NoMemory
+    } else {
+        LineFault::Refused(error)
+    }
+}
+
+// The option `--steps N`.
+fn steps<'a>(alloc: Global) -> Arg<'a>
+    ensures rule { rule_of result ≡ steps_rule }
+    ensures local { result.global ≡ false }
+{
+    Arg::new(alloc, "steps").long("steps").value_name("N").help(
+        "Take N steps at most for each question, each a rule asked of a box of packets [default: 20000]",
+    )
+}
+
+// A file, which is a word of its own.
+fn file<'a>(alloc: Global, name: &'a str, shown: &'a str, help: &'a str) -> Arg<'a>
+    ensures rule { rule_of result ≡ file_rule name.entry.now }
+    ensures local { result.global ≡ false }
+{
+    Arg::new(alloc, name)
+        .required(true)
+        .value_name(shown)
+        .help(help)
+}
+
+fn dead<'a>(alloc: Global) -> Result<Command<'a>, AllocError>
+    ensures app { IfOk result (λ c. app_of c ≡ dead_app) }
+    ensures local { IfOk result (λ c. (fields_of c).has_globals ≡ false) }
+{
+    Command::new(alloc, "dead")
+        .about("Print the rules that no packet can match")
+        .arg(file(alloc, "file", "FILE", "A file of iptables-restore"))?
+        .arg(steps(alloc))
+}
+
+fn compare<'a>(alloc: Global) -> Result<Command<'a>, AllocError>
+    ensures app { IfOk result (λ c. app_of c ≡ compare_app) }
+    ensures local { IfOk result (λ c. (fields_of c).has_globals ≡ false) }
+{
+    Command::new(alloc, "compare")
+        .about("Print whether two rulesets give each packet the same verdict")
+        .arg(file(alloc, "old", "OLD", "A file of iptables-restore"))?
+        .arg(file(alloc, "new", "NEW", "Another one"))?
+        .arg(steps(alloc))
+}
+
+fn program<'a>(alloc: Global) -> Result<Command<'a>, AllocError>
+    ensures { IfOk result (λ c. app_of c ≡ program_app) }
+{
+    Command::new(alloc, "iptaudit")
+        .bin_name("iptaudit")?
+        .about("Questions about all packets, asked of files of iptables-restore")
+        .no_binary_name(true)
+        .disable_help_subcommand(true)
+        .subcommand(dead(alloc)?)?
+        .subcommand(compare(alloc)?)
+}
+
+// The question of a subcommand, if its files are there.
+fn question_of<'a>(subcommand: &str, matches: &ArgMatches<'a>) -> Option<Question<'a>>
+    requires { IsSubcommand subcommand.now }
+    ensures { MatchOption result (LacksFile subcommand.now (rows_of (found_of matches.now)))
+        (IsQuestion subcommand.now (rows_of (found_of matches.now))) }
+{
+    match subcommand {
+        "dead" => match matches.get_str("file") {
+            Some(file) => Some(Question::Dead { file }),
+            None => None,
+        },
+        "compare" => match (matches.get_str("old"), matches.get_str("new")) {
+            (Some(old), Some(new)) => Some(Question::Compare { old, new }),
+            _ => None,
+        },
+        _ => unreachable!(),
+    }
+}
+
+impl<'a> Audit<'a> {
+    /// The audit that the words after the program's name ask for.
+    ///
+    /// # Errors
+    ///
+    /// `NoSubcommand` where `clap` takes the words and they name no subcommand; `NoFile` where it gives no file; `Refused`
+    /// where it refuses them, or they ask for help; `NoMemory` where a growth of memory is refused.
+    pub fn read(alloc: Global, words: &'a [&'a str]) -> Result<Audit<'a>, LineFault>
+        // `clap` takes the words, and the audit is exactly what it makes of them.
+        ensures audit { IfOk result (IsAuditOn (map (λ s. s.now) words.entry.now)) }
+
+        // A fault says why the words are no audit, unless memory is refused.
+        ensures fault { IfErr result (IsFaultOn (map (λ s. s.now) words.entry.now)) }
+    {
+        let matches = match program(alloc)?.try_get_matches_from(words) {
+            Ok(matches) => matches,
+            Err(error) => return Err(fault_of(error)),
+        };
+        let Some((name, inner)) = matches.subcommand() else {
+            return Err(LineFault::NoSubcommand);
+        };
+        match question_of(name, inner) {
+            Some(question) => Ok(Audit {
+                question,
+                steps: inner.get_str("steps"),
+            }),
+            None => Err(LineFault::NoFile),
+        }
+    }
+}

@@ -1,0 +1,11 @@
+//! The audits of the program `iptaudit`: what the words after its name ask of rulesets.
+//!
+//! | Line | Audit |
+//! |---|---|
+//! | `dead [--steps N] FILE` | which rules of a ruleset no packet can match |
+//! | `compare [--steps N] OLD NEW` | whether two rulesets give each packet the same verdict |
+#![tactic(auto)]
+
+mod audit;
+
+pub use crate::audit::{Audit, LineFault, Question};
