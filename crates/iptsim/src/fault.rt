@@ -1,68 +1,55 @@
 //! Why the program ends without the status of a session or a restore.
 use jobs::LineFault;
+use programs::ProgramFault;
 use sessions::RunFault;
-use std::alloc::{AllocError, AllocFailed};
+use std::alloc::AllocError;
 use thiserror::Error;
 
 /// Why the program ends without the status of a session or a restore, with its message.
 #[derive(Debug, Drop, Error)]
-pub(crate) enum ProgramFault<'a> {
-    #[error("no memory")]
-    NoMemory,
-    /// A word of the program's line is no text.
-    #[error("a word is not UTF-8")]
-    NotText,
+pub(crate) enum Fault<'a> {
     #[error(transparent)]
     Line(LineFault),
-    #[error("cannot open {0}")]
-    CannotOpen(&'a str),
-    #[error("cannot read {0}")]
-    CannotRead(&'a str),
-    #[error("input failed")]
-    InputFailed,
-    #[error("output failed")]
-    OutputFailed,
+    #[error(transparent)]
+    Program(ProgramFault<'a>),
 }
 
-impl ProgramFault<'_> {
+impl Fault<'_> {
     /// The status that the program ends with: 1, 2 or 4.
     pub(crate) fn status(&self) -> u8 {
         match self {
-            ProgramFault::CannotOpen(_)
-            | ProgramFault::CannotRead(_)
-            | ProgramFault::InputFailed
-            | ProgramFault::OutputFailed => 1,
-            ProgramFault::NotText
-            | ProgramFault::Line(LineFault::NoSubcommand)
-            | ProgramFault::Line(LineFault::Refused(_)) => 2,
-            ProgramFault::NoMemory | ProgramFault::Line(LineFault::NoMemory) => 4,
+            Fault::Program(ProgramFault::CannotOpen(_))
+            | Fault::Program(ProgramFault::CannotRead(_))
+            | Fault::Program(ProgramFault::InputFailed)
+            | Fault::Program(ProgramFault::OutputFailed) => 1,
+            Fault::Program(ProgramFault::NotText)
+            | Fault::Line(LineFault::NoSubcommand)
+            | Fault::Line(LineFault::Refused(_)) => 2,
+            Fault::Program(ProgramFault::NoMemory) | Fault::Line(LineFault::NoMemory) => 4,
         }
     }
 }
 
-impl From<AllocError> for ProgramFault<'_> {
+impl From<AllocError> for Fault<'_> {
     fn from(_error: AllocError) -> Self {
-        ProgramFault::NoMemory
+        Fault::Program(ProgramFault::NoMemory)
     }
 }
 
-impl<T: Drop> From<AllocFailed<T>> for ProgramFault<'_> {
-    fn from(_error: AllocFailed<T>) -> Self {
-        ProgramFault::NoMemory
-    }
-}
-
-impl From<LineFault> for ProgramFault<'_> {
+impl From<LineFault> for Fault<'_> {
     fn from(fault: LineFault) -> Self {
-        ProgramFault::Line(fault)
+        Fault::Line(fault)
     }
 }
 
-impl From<RunFault> for ProgramFault<'_> {
+impl<'a> From<ProgramFault<'a>> for Fault<'a> {
+    fn from(fault: ProgramFault<'a>) -> Self {
+        Fault::Program(fault)
+    }
+}
+
+impl From<RunFault> for Fault<'_> {
     fn from(fault: RunFault) -> Self {
-        match fault {
-            RunFault::ReadFailed => ProgramFault::InputFailed,
-            RunFault::WriteFailed => ProgramFault::OutputFailed,
-        }
+        Fault::Program(ProgramFault::from(fault))
     }
 }
