@@ -1,0 +1,55 @@
+//! Why the program ends without an answer.
+use audits::LineFault;
+use fields::WriteFailed;
+use programs::ProgramFault;
+use std::alloc::AllocError;
+use thiserror::Error;
+
+/// Why the program ends without an answer, with its message.
+#[derive(Debug, Drop, Error)]
+pub(crate) enum Fault<'a> {
+    #[error(transparent)]
+    Line(LineFault),
+    #[error(transparent)]
+    Program(ProgramFault<'a>),
+    /// The word after `--steps`.
+    #[error("no number of steps: {0}")]
+    NoNumber(&'a str),
+    /// A file was refused, and its fault was written.
+    #[error("cannot restore {0}")]
+    CannotRestore(&'a str),
+}
+
+impl Fault<'_> {
+    /// The status that the program ends with: 2 or 4.
+    pub(crate) fn status(&self) -> u8 {
+        match self {
+            Fault::Program(ProgramFault::NoMemory) | Fault::Line(LineFault::NoMemory) => 4,
+            _ => 2,
+        }
+    }
+}
+
+impl From<AllocError> for Fault<'_> {
+    fn from(_error: AllocError) -> Self {
+        Fault::Program(ProgramFault::NoMemory)
+    }
+}
+
+impl From<LineFault> for Fault<'_> {
+    fn from(fault: LineFault) -> Self {
+        Fault::Line(fault)
+    }
+}
+
+impl<'a> From<ProgramFault<'a>> for Fault<'a> {
+    fn from(fault: ProgramFault<'a>) -> Self {
+        Fault::Program(fault)
+    }
+}
+
+impl From<WriteFailed> for Fault<'_> {
+    fn from(_error: WriteFailed) -> Self {
+        Fault::Program(ProgramFault::OutputFailed)
+    }
+}
