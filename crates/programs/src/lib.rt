@@ -3,10 +3,10 @@
 
 mod buffers;
 mod fault;
-mod load;
+mod files;
 mod words;
 
 pub use buffers::{buffered_input, buffered_output, let_go};
 pub use fault::ProgramFault;
-pub use load::load;
+pub use files::load;
 pub use words::{texts_after_name, words_given};

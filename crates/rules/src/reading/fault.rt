@@ -11,7 +11,7 @@ pub enum Refusal {
     #[error("value missing")]
     ValueMissing,
     /// P3: a value can't be read.
-    #[error("or_bad_value value")]
+    #[error("bad value")]
     BadValue,
     /// P4: the option was given before.
     #[error("repeated option")]
