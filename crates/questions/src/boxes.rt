@@ -1,4 +1,3 @@
 //! Boxes of packets, and how a rule cuts them.
 pub(crate) mod area;
-pub(crate) mod crossing;
 pub(crate) mod cut;

@@ -1,5 +1,4 @@
 pub mod Conditions
-pub mod Crossed
 pub mod MatchRows
 pub mod OptionNames
 pub mod OptionRows

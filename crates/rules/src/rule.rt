@@ -4,7 +4,7 @@ ghost use Rattle.std.specs.List.{list_any};
 ghost use Rattle.fields.specs.declared.numbers.field.Field.{Field};
 ghost use Rattle.rules.specs.rule.Actions.{reject_in, target_with, action_with_chain_name};
 ghost use Rattle.rules.specs.rule.Allows.{asks};
-ghost use Rattle.rules.specs.steps.Crossed.{has_both};
+ghost use Rattle.rules.specs.rule.Crossing.{asks_both, cross, has_both};
 ghost use Rattle.rules.specs.steps.Views.{view_spec};
 
 pub(crate) mod action;
@@ -165,9 +165,11 @@ impl Rule {
         Rule { spec, asks_both }
     }
 
-    // Whether a condition of its matches asks several fields at once.
-    pub(crate) fn asks_both(&self) -> bool
-        ensures { result ≡ list_any has_both self.now.matches }
+    /// Whether a condition of the rule asks several fields at once, as `--ports` does. Where none does, the rule matches
+    /// just the packets whose numbers it allows, field by field.
+    pub fn asks_both(&self) -> bool
+        ensures value { result ≡ asks_both self.now }
+        ensures alone { result ≡ false → (numbers : List ℕ) → cross numbers self.now ≡ true }
     {
         self.asks_both
     }

@@ -1,7 +1,8 @@
 -- A packet that a line writes can be at its hook.
-use Rattle.std.proofs.Common.{◌≡◌, ◌≤◌, ℕ, Bool, true, false, cond, ◌&&◌, not, List, [], ◌∷◌, map, refl, sym, ◌∙◌, ap, subst, Option, Some, None, is_some, unwrap_or, lit≤}
-use Rattle.std.specs.Prelude.{Result, Ok, Err, slice_get, slice_index}
+use Rattle.std.proofs.Common.{◌≡◌, ◌≤◌, ◌<◌, ℕ, Bool, true, false, cond, ◌&&◌, not, List, [], ◌∷◌, length, get_or, map, refl, sym, ◌∙◌, ap, subst, Option, Some, None, is_some, unwrap_or, lit≤}
+use Rattle.std.specs.Prelude.{Result, Ok, Err, slice_index}
 use Rattle.std.proofs.lemmas.Bool.{true≢false}
+use Rattle.std.proofs.lemmas.List.Folds.{list_any_at}
 use Rattle.fields.specs.Sequence.{◌>>=◌}
 use Rattle.fields.specs.declared.numbers.field.Field.{Field}
 use Rattle.fields.specs.declared.numbers.field.Field.TheVariants as field
@@ -16,7 +17,6 @@ use Rattle.fields.specs.packet.Packet.{PacketView as Packet, checked, lacks_key,
 use Rattle.fields.proofs.laws.packet.PacketLaws.{number_on_fits}
 use Rattle.questions.specs.asked.Laws.{LinesWritePacketsAtHooks}
 use Rattle.questions.specs.boxes.Area.{IsAtHook}
-use Rattle.questions.proofs.laws.CrossLaws.{any_at}
 
 absent_fits : (f : Field) → (key_of f).absent ≤ top f
 absent_fits field.Source = lit≤ tt
@@ -43,22 +43,22 @@ abbrev numbers : Hook → List (List ℕ) → Packet
 numbers hook words = record { hook = hook; values = map (value_on words) all_fields }
 
 -- a field that isn't carried, and of which no key strays, is what it is where no word gives it
-not_given : (hook : Hook) (words : List (List ℕ)) (f : Field) (k : ℕ) → slice_get all_fields k ≡ Some f → strays_key (shape_of hook words) words ≡ false → carries (shape_of hook words) (key_of f).carrier ≡ false
+not_given : (hook : Hook) (words : List (List ℕ)) (f : Field) (k : ℕ) → k < length all_fields → get_or all_fields k f ≡ f → strays_key (shape_of hook words) words ≡ false → carries (shape_of hook words) (key_of f).carrier ≡ false
     → value_on words f ≡ (key_of f).absent
-not_given hook words f k at none un =
+not_given hook words f k lt at none un =
     by_text (text_of f words) refl
   where
     by_text : (o : Option (List ℕ)) → text_of f words ≡ o → unwrap_or (o >>= λ text. number_of_text f text) (key_of f).absent ≡ (key_of f).absent
     by_text None e = refl
     by_text (Some text) e =
         let one : strays (shape_of hook words) words f ≡ true = ap (λ (o : Option (List ℕ)). is_some o && not (carries (shape_of hook words) (key_of f).carrier)) e ∙ ap not un in
-        absurd (true≢false (sym (any_at (strays (shape_of hook words) words) all_fields k f at one) ∙ none))
+        absurd (true≢false (sym (list_any_at (strays (shape_of hook words) words) all_fields k f lt (ap (strays (shape_of hook words) words) at ∙ one)) ∙ none))
 
 at_hook : (hook : Hook) (words : List (List ℕ)) → strays_key (shape_of hook words) words ≡ false → IsAtHook (numbers hook words)
 at_hook hook words none = record {
   packet = record { whole = refl; within = λ f. (let P : ℕ → Type 0 = λ n. n ≤ top f in subst P (sym (at_index (value_on words) f)) (value_fits words f)) };
-  input = λ e. not_given hook words field.OutIface 3 refl none (goes e);
-  output = λ e. not_given hook words field.InIface 2 refl none (comes e);
+  input = λ e. not_given hook words field.OutIface 3 (lit≤ tt) refl none (goes e);
+  output = λ e. not_given hook words field.InIface 2 (lit≤ tt) refl none (comes e);
 }
   where
     goes : hook ≡ Input → carries (shape_of hook words) (key_of field.OutIface).carrier ≡ false

@@ -8,7 +8,6 @@ ghost use Rattle.questions.specs.boxes.Cut.{IsCutBy, IsInSome};
 ghost use Rattle.questions.specs.steps.Sides.{LeavesAt};
 
 use crate::boxes::area::{Area, minus};
-use crate::boxes::crossing::may_fail;
 use fields::{FIELDS, Spans};
 use rules::{Boxed, Rule, Work};
 use std::alloc::{AllocError, Global};
@@ -70,7 +69,7 @@ fn put_failing(
     ensures added { OnOk result ((numbers : List ℕ) → IsPoint numbers → Has inside.now numbers
         → cross numbers rule.now ≡ false → IsInSome parts.new.items numbers) }
 {
-    if may_fail(alloc, rule)? {
+    if rule.asks_both() {
         parts.push(inside.copy(alloc)?)?;
     }
     Ok(())

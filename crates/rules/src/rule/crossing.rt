@@ -1,8 +1,7 @@
 // What a rule asks of several fields at once.
 ghost use Rattle.std.specs.Prelude.{◌≡◌};
 ghost use Rattle.std.specs.List.{list_all, list_any};
-ghost use Rattle.rules.specs.rule.Crossing.{cross, has_either_port, option_value_crosses, match_crosses};
-ghost use Rattle.rules.specs.steps.Crossed.{is_both, has_both};
+ghost use Rattle.rules.specs.rule.Crossing.{cross, has_both, has_either_port, is_both, option_value_crosses, match_crosses};
 ghost use Rattle.rules.specs.steps.Views.{view_match};
 
 use crate::options::option_value::OptionValue;

@@ -5,9 +5,8 @@ use Rattle.std.proofs.lemmas.Bool.{true≢false}
 use Rattle.std.proofs.lemmas.List.Folds.{list_all-map}
 use Rattle.fields.specs.values.PortRange.{Ports}
 use Rattle.rules.specs.options.Values.{both_ports_in}
-use Rattle.rules.specs.rule.Crossing.{match_crosses, option_value_crosses, ports_cross}
+use Rattle.rules.specs.rule.Crossing.{has_both, is_both, match_crosses, option_value_crosses, ports_cross}
 use Rattle.rules.specs.rule.Rules as viewed
-use Rattle.rules.specs.steps.Crossed.{has_both, is_both}
 use Rattle.rules.specs.declared.options.option_value.OptionValue.{OptionValue}
 use Rattle.rules.specs.declared.rule.spec.Match.{Match}
 use Rattle.rules.specs.steps.Views.{view_match, view_matches}

@@ -1,6 +1,6 @@
 use Rattle.std.proofs.Common.{Bool, List, ap, ◌∙◌}
 use Rattle.std.specs.List.{list_any}
-use Rattle.rules.specs.steps.Crossed.{has_both}
+use Rattle.rules.specs.rule.Crossing.{has_both}
 use Rattle.rules.specs.steps.Views.{view_match}
 use Rattle.rules.specs.declared.rule.spec.Match.{Match}
 use Rattle.rules.proofs.laws.rule.CrossLaws.{any_viewed}

@@ -3,7 +3,7 @@ use Rattle.std.specs.List.{list_all}
 use Rattle.rules.specs.rule.Crossing.{cross, match_crosses}
 use Rattle.rules.specs.rule.Rules.{Rule}
 use Rattle.rules.specs.steps.Views.{view_match}
-use Rattle.rules.proofs.laws.rule.CrossLaws.{each_viewed, free_matches}
+use Rattle.rules.proofs.laws.rule.CrossLaws.{each_viewed}
 use Rattle.rules.proofs.rule.crossing.cross.Goals as goal
 
 pub returns-else-not-asks_both : goal.returns-else-not-asks_both
@@ -17,4 +17,4 @@ returns-else-not-asks_both c =
 pub returns-then-not-asks_both : goal.returns-then-not-asks_both
 unfolding cross
 returns-then-not-asks_both c =
-    ap not c.if-not-asks_both.true ∙ sym (free_matches c.args.packet.now.values c.args.rule.now.matches (sym c.asks_both.ensures ∙ c.if-not-asks_both.true))
+    ap not c.if-not-asks_both.true ∙ sym (c.asks_both.ensures.alone c.if-not-asks_both.true c.args.packet.now.values)
