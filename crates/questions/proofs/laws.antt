@@ -2,3 +2,4 @@ pub mod AreaLaws
 pub mod PacketLaws
 pub mod TrailLaws
 pub mod WaitLaws
+pub mod WithoutLaws

@@ -1,3 +1,4 @@
 pub mod Laws
 pub mod Rule
 pub mod Verdicts
+pub mod Without

@@ -7,7 +7,7 @@ mod boxes;
 mod sampling;
 mod walking;
 
-pub use asked::laws::answers_exclude_each_other;
+pub use asked::laws::{answers_exclude_each_other, dead_rules_can_go};
 pub use asked::rule::{Life, dead};
 pub use asked::verdicts::{Likeness, compare, compare_at};
 pub use boxes::area::Area;

@@ -1,10 +1,12 @@
 -- That no two answers hold at once.
-use Rattle.std.specs.Prelude.{◌≡◌, ℕ, List, Ok}
+use Rattle.std.specs.Prelude.{◌≡◌, ◌≢◌, ℕ, Bool, List, Ok}
 use Rattle.fields.specs.packet.Packet.{PacketView as Packet, packet_of}
 use Rattle.table.specs.chains.Table.{Table}
-use Rattle.table.specs.walk.Walk.{Entry}
+use Rattle.table.specs.declared.verdict.Verdict.TheVariants.{TooLong}
+use Rattle.table.specs.walk.Walk.{Entry, walk}
 use Rattle.questions.specs.asked.Rule.{IsDead, IsLive}
-use Rattle.questions.specs.asked.Verdicts.{IsOther, IsSame}
+use Rattle.questions.specs.asked.Verdicts.{IsAlike, IsOther, IsSame}
+use Rattle.questions.specs.asked.Without.{AreDead, without}
 use Rattle.questions.specs.boxes.Area.{IsAtHook}
 
 -- a line writes only packets that can be at their hooks
@@ -18,3 +20,8 @@ DeadIsNotLive = (t : Table) (entry : Entry) (words : List (List ℕ)) → IsDead
 -- tables that are the same don't differ
 abbrev pub SameIsNotOther : Type 0
 SameIsNotOther = (old new : Table) (words : List (List ℕ)) → IsSame old new → IsOther old new words → ⊥
+
+-- without rules that are dead a table gives each packet the verdict that it gave, but where the walk was too long
+abbrev pub DeadRulesCanGo : Type 0
+DeadRulesCanGo =
+    (t : Table) (goes : Entry → Bool) → AreDead t goes → (p : Packet) → IsAtHook p → (walk t p).verdict ≢ TooLong → IsAlike t (without goes t) p

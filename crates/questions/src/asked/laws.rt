@@ -1,5 +1,5 @@
-//! That no two answers hold at once.
-ghost use Rattle.questions.specs.asked.Laws.{DeadIsNotLive, LinesWritePacketsAtHooks, SameIsNotOther};
+//! That no two answers hold at once, and that dead rules can go.
+ghost use Rattle.questions.specs.asked.Laws.{DeadIsNotLive, DeadRulesCanGo, LinesWritePacketsAtHooks, SameIsNotOther};
 
 /// The law that a packet line writes only packets that can be at their hooks; so a dead rule isn't live, and tables that
 /// give each packet the same verdict give none two verdicts. It does nothing.
@@ -7,4 +7,10 @@ pub fn answers_exclude_each_other()
     ensures lines { LinesWritePacketsAtHooks }
     ensures dead { DeadIsNotLive }
     ensures same { SameIsNotOther }
+{}
+
+/// The law that a ruleset can do without its dead rules, some of them or all at once: each packet that can be at its hook gets the verdict
+/// that it got, unless its walk was too long. It does nothing.
+pub fn dead_rules_can_go()
+    ensures { DeadRulesCanGo }
 {}

@@ -1,0 +1,28 @@
+-- A table without some of its rules.
+use Rattle.std.specs.Prelude.{ℕ, ◌+◌, Bool, List, [], ◌∷◌, map, IsTrue, if◌then◌else◌}
+use Rattle.rules.specs.rule.Rules.{Rule}
+use Rattle.table.specs.chains.Table.{Chain, Table}
+use Rattle.table.specs.walk.Walk.{Entry}
+use Rattle.questions.specs.asked.Rule.{IsDead}
+
+-- the rules that stay of those behind the first so many, where `goes` says of each number whether its rule goes
+abbrev pub staying : (ℕ → Bool) → ℕ → List Rule → List Rule
+staying goes before [] = []
+staying goes before (rule ∷ rules) =
+    if goes (before + 1) then staying goes (before + 1) rules else rule ∷ staying goes (before + 1) rules
+
+-- whether the rule of a chain with the number goes
+abbrev pub goes_of : (Entry → Bool) → List ℕ → ℕ → Bool
+goes_of goes chain number = goes (record { chain = chain; number = number })
+
+-- a chain without its rules that go
+abbrev pub chain_without : (Entry → Bool) → Chain → Chain
+chain_without goes chain = record { name = chain.name; rules = staying (goes_of goes chain.name) 0 chain.rules }
+
+-- a table without the rules that go: the policies and the chains stay
+abbrev pub without : (Entry → Bool) → Table → Table
+without goes t = record { policies = t.policies; chains = map (chain_without goes) t.chains }
+
+-- each rule that goes is dead
+abbrev pub AreDead : Table → (Entry → Bool) → Type 0
+AreDead t goes = (entry : Entry) → IsTrue (goes entry) → IsDead t entry
