@@ -1,3 +1,4 @@
 //! Boxes of packets, and how a rule cuts them.
 pub(crate) mod area;
 pub(crate) mod cut;
+pub(crate) mod meeting;

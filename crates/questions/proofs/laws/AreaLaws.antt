@@ -124,6 +124,15 @@ no_numbers box numbers k d is lt none h =
     let here : has_at box numbers k ≡ false = ap (λ (s : SpanSet). has s.intervals (slice_index numbers k)) (get_or_default box k no_set d lt) ∙ ap (λ (ss : List Interval). has ss (slice_index numbers k)) none in
     true≢false (sym (at_place box numbers k under h.each) ∙ here)
 
+-- two boxes whose sets at a place have nothing in common have no packet in common
+pub nothing_shared : (own other : List SpanSet) (numbers : List ℕ) (k : ℕ) (a b : SpanSet) → IsBox own → IsBox other → k < FIELDS → a ≡ get_or own k a → b ≡ get_or other k b
+    → ((x : ℕ) → (has a.intervals x && has b.intervals x) ≡ false) → Has own numbers → Has other numbers → ⊥
+nothing_shared own other numbers k a b is too lt ia ib none h g =
+    let x : ℕ = slice_index numbers k in
+    let there : (box : List SpanSet) (s : SpanSet) → IsBox box → s ≡ get_or box k s → Has box numbers → has s.intervals x ≡ true =
+    λ box s of e in_box. ap (λ (t : SpanSet). has t.intervals x) (e ∙ get_or_default box k s no_set (omega (arith, lt, box_long box of))) ∙ at_place box numbers k lt in_box.each in
+    true≢false (sym (and_from (has a.intervals x) (has b.intervals x) (there own a is ia h) (there other b too ib g)) ∙ none x)
+
 -- ---- the packets at a hook
 
 module _ (hook : Hook) (sets : List SpanSet) (h : (k : ℕ) (f : Field) (d : SpanSet) → k < FIELDS → IsBeginning hook (get_or all_fields k f) (get_or sets k d)) where
@@ -269,11 +278,11 @@ parts_next other own old new at kept added below numbers k lt point has leaves =
 pub has_of_rule : (rule : Rule) (box : List SpanSet) (numbers : List ℕ) → IsBoxOf rule box → IsPoint numbers → matches numbers rule ≡ true → Has box numbers
 has_of_rule rule box numbers is point m = record { each = box_of_rule rule box numbers is point ∙ (and_parts (allows_each numbers rule) (cross numbers rule) m).0 }
 
-pub apart_of : (rule : Rule) (area box inside : List SpanSet) → IsBoxOf rule box → IsBoth area box inside → ((numbers : List ℕ) → Has inside numbers → ⊥) → IsApart rule area
-apart_of rule area box inside is both none = record {
+pub apart_of : (rule : Rule) (area box : List SpanSet) → IsBoxOf rule box → ((numbers : List ℕ) → Has area numbers → Has box numbers → ⊥) → IsApart rule area
+apart_of rule area box is none = record {
   none = λ numbers point has.
       elim (cases_Bool (matches numbers rule)) [
-        | inl m ↦ absurd (none numbers (both.all numbers point has (has_of_rule rule box numbers is point m)))
+        | inl m ↦ absurd (none numbers has (has_of_rule rule box numbers is point m))
         | inr f ↦ f
       ];
 }

@@ -8,6 +8,7 @@ ghost use Rattle.questions.specs.boxes.Cut.{IsCutBy, IsInSome};
 ghost use Rattle.questions.specs.steps.Sides.{LeavesAt};
 
 use crate::boxes::area::{Area, minus};
+use crate::boxes::meeting::meet;
 use fields::{FIELDS, Spans};
 use rules::{Boxed, Rule, Work};
 use std::alloc::{AllocError, Global};
@@ -75,8 +76,8 @@ fn put_failing(
     Ok(())
 }
 
-// Cuts a box by a rule. It costs the rule's box, one meeting of two sets a field, and for each field on which the rule
-// leaves numbers out a copy of the box.
+// Cuts a box by a rule. It costs the rule's box and, where that has packets in common with the box, one meeting of two sets a
+// field, and for each field on which the rule leaves numbers out a copy of the box.
 pub(crate) fn cut_by(
     alloc: Global,
     rule: &Rule,
@@ -86,10 +87,10 @@ pub(crate) fn cut_by(
     ensures { IfOk result (IsCutBy rule.now area) }
 {
     let boxed = Boxed::of(alloc, rule, work)?;
-    let inside = area.within(alloc, boxed.spans())?;
-    if inside.is_empty() {
+    if !meet(area.sets(), boxed.spans()) {
         return Ok(Cut::Apart(area));
     }
+    let inside = area.within(alloc, boxed.spans())?;
     let mut parts = outside(alloc, area.sets(), boxed.spans())?;
     put_failing(alloc, rule, &inside, &mut parts)?;
     Ok(Cut::Parts(inside, parts))

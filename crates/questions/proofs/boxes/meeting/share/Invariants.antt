@@ -1,0 +1,9 @@
+use Rattle.std.proofs.Common.{◌+◌, length, []}
+use Rattle.fields.proofs.laws.numbers.MeetLaws.{Meeting}
+use Rattle.questions.proofs.boxes.meeting.share.Given as goal
+
+abbrev pub invariant-loop-a : goal.invariant-loop-a
+invariant-loop-a l = Meeting l.own.top l.own.intervals l.other.intervals [] l.left l.right
+
+abbrev pub decreases-loop-a : goal.decreases-loop-a
+decreases-loop-a l = length l.left + length l.right

@@ -1,0 +1,45 @@
+//! Whether boxes have packets in common.
+ghost use Rattle.std.specs.Prelude.{◌≡◌, ◌&&◌, ℕ, List, false};
+ghost use Rattle.fields.specs.numbers.Spans.{has};
+ghost use Rattle.rules.specs.boxing.Boxed.{IsBox};
+ghost use Rattle.classify.specs.classifier.Classifier.{IsPoint};
+ghost use Rattle.questions.specs.boxes.Area.{Has};
+
+use fields::{FIELDS, Spans};
+
+// Whether two sets with one top have a number in common. It takes no memory, and time linear in their intervals.
+fn share(own: &Spans, other: &Spans) -> bool
+    requires { own.now.top ≡ other.now.top }
+    ensures { result ≡ false → (x : ℕ) → (has own.now.intervals x && has other.now.intervals x) ≡ false }
+{
+    let mut left = own.intervals();
+    let mut right = other.intervals();
+    while let (Some((a, after_a)), Some((b, after_b))) = (left.split_first(), right.split_first()) {
+        let first = a.first.max(b.first);
+        let last = a.last.min(b.last);
+        if first <= last {
+            return true;
+        }
+        let rests = if a.last <= b.last {
+            (after_a, right)
+        } else {
+            (left, after_b)
+        };
+        (left, right) = rests;
+    }
+    false
+}
+
+// Whether two boxes have packets in common, by their sets: on each field a number. It takes no memory.
+pub(crate) fn meet(own: &[Spans], other: &[Spans]) -> bool
+    requires own { IsBox own.now }
+    requires other { IsBox other.now }
+    ensures { result ≡ false → (numbers : List ℕ) → Has own.now numbers → Has other.now numbers → ⊥ }
+{
+    for place in 0..FIELDS {
+        if !share(&own[place], &other[place]) {
+            return false;
+        }
+    }
+    true
+}
