@@ -1,4 +1,5 @@
 pub mod AreaLaws
+pub mod BoxesLaws
 pub mod PacketLaws
 pub mod TrailLaws
 pub mod WaitLaws

@@ -11,5 +11,6 @@ pub use asked::laws::{answers_exclude_each_other, dead_rules_can_go};
 pub use asked::rule::{Life, dead};
 pub use asked::verdicts::{Likeness, compare, compare_at};
 pub use boxes::area::Area;
+pub use boxes::boxes::Boxes;
 pub use walking::engine::leaves;
 pub use walking::task::Leaf;

@@ -2,14 +2,15 @@
 ghost use Rattle.std.specs.Prelude.{◌≡◌, ◌<◌, ◌≤◌, ◌↔◌, All, Contains, length, IfOk, IfSome, IsTrue};
 ghost use Rattle.table.specs.chains.Table.{chain_at};
 ghost use Rattle.questions.specs.Leaves.{entry_of};
+ghost use Rattle.questions.specs.boxes.Boxes.{AreBoxesOf};
 ghost use Rattle.questions.specs.asked.Rule.{IsLive, Says, SaysAt};
 
 use crate::boxes::area::Area;
+use crate::boxes::boxes::Boxes;
 use crate::sampling::sample::{Sample, sample_of};
 use crate::walking::engine::leaves;
 use crate::walking::task::Leaf;
 use fields::{Hook, Words};
-use rules::{Boxed, Work};
 use std::alloc::{AllocError, Global};
 use table::{Step, Table};
 
@@ -90,20 +91,21 @@ fn none_on(found: &[Leaf], step: Step) -> bool
 fn life_at(
     alloc: Global,
     table: &Table,
+    boxes: &Boxes,
     hook: Hook,
     step: Step,
     budget: usize,
-    work: &mut Work,
 ) -> Result<Life, AllocError>
+    requires boxes { AreBoxesOf table.now.table.chains boxes.now }
     requires place { step.chain < length table.now.table.chains }
     requires first { 0 < step.number }
     requires last { step.number ≤ length (chain_at table.now.table step.chain).rules }
     ensures { IfOk result (SaysAt table.now.table (entry_of table.now.table.chains step) hook) }
 {
     table.stands();
-    let boxed = Boxed::of(alloc, table.rule(step.chain, step.number), work)?;
+    let boxed = boxes.at(step.chain, step.number);
     let start = Area::at_hook(alloc, hook)?.within(alloc, boxed.spans())?;
-    match leaves(alloc, table, hook, start, budget, work)? {
+    match leaves(alloc, table, boxes, hook, start, budget)? {
         None => Ok(Life::Unclear),
         Some(found) => {
             if none_on(found.as_slice(), step) {
@@ -118,7 +120,7 @@ fn life_at(
 }
 
 /// Whether rule `number` of the chain at a place, from 1, can match at all. Of each hook the packets that the rule's box has
-/// walk the table as boxes, with `budget` steps (`leaves`).
+/// walk the table as boxes, with `budget` steps (`leaves`). The boxes are those of the table's rules (`Boxes::of`).
 ///
 /// # Errors
 ///
@@ -126,11 +128,12 @@ fn life_at(
 pub fn dead(
     alloc: Global,
     table: &Table,
+    boxes: &Boxes,
     place: usize,
     number: usize,
     budget: usize,
-    work: &mut Work,
 ) -> Result<Life, AllocError>
+    requires boxes { AreBoxesOf table.now.table.chains boxes.now }
     requires place { place < length table.now.table.chains }
     requires first { 0 < number }
     requires last { number ≤ length (chain_at table.now.table place).rules }
@@ -142,7 +145,7 @@ pub fn dead(
     };
     let mut clear = true;
     for hook in Hook::ALL {
-        match life_at(alloc, table, hook, step, budget, work)? {
+        match life_at(alloc, table, boxes, hook, step, budget)? {
             Life::Dead => {}
             Life::Live(words) => return Ok(Life::Live(words)),
             Life::Unclear => clear = false,

@@ -1,9 +1,11 @@
 //! Whether two tables give each packet the same verdict.
 ghost use Rattle.std.specs.Prelude.{◌≡◌, All, IfOk, IfSome, IsTrue};
 ghost use Rattle.table.specs.declared.verdict.Verdict.{Verdict};
+ghost use Rattle.questions.specs.boxes.Boxes.{AreBoxesOf};
 ghost use Rattle.questions.specs.asked.Verdicts.{IsOther, IsSameAt, IsSameIn, Says, SaysIf};
 
 use crate::boxes::area::Area;
+use crate::boxes::boxes::Boxes;
 use crate::sampling::sample::{Sample, sample_of};
 use crate::walking::engine::leaves;
 use crate::walking::task::Leaf;
@@ -81,16 +83,17 @@ fn witness_among(
 fn likeness_in(
     old: &Table,
     new: &Table,
+    boxes: &Boxes,
     hook: Hook,
     leaf: &Leaf,
     budget: usize,
-    work: &mut Work,
 ) -> Result<Likeness, AllocError>
+    requires { AreBoxesOf new.now.table.chains boxes.now }
     ensures { IfOk result (SaysIf (IsSameIn old.now.table new.now.table hook leaf.now) old.now.table new.now.table) }
 {
     let alloc = *leaf.trail.allocator();
     let start = leaf.area.copy(alloc)?;
-    match leaves(alloc, new, hook, start, budget, work)? {
+    match leaves(alloc, new, boxes, hook, start, budget)? {
         None => Ok(Likeness::Unclear),
         Some(found) => {
             if all_give(found.as_slice(), leaf.verdict) {
@@ -108,16 +111,17 @@ fn likeness_in(
 fn likeness_among(
     old: &Table,
     new: &Table,
+    boxes: &Boxes,
     hook: Hook,
     found: &[Leaf],
     budget: usize,
-    work: &mut Work,
 ) -> Result<Likeness, AllocError>
+    requires { AreBoxesOf new.now.table.chains boxes.now }
     ensures { IfOk result (SaysIf (All (IsSameIn old.now.table new.now.table hook) found.now) old.now.table new.now.table) }
 {
     let mut clear = true;
     for leaf in found {
-        match likeness_in(old, new, hook, leaf, budget, work)? {
+        match likeness_in(old, new, boxes, hook, leaf, budget)? {
             Likeness::Same => {}
             Likeness::Differ(words) => return Ok(Likeness::Differ(words)),
             Likeness::Unclear => clear = false,
@@ -130,7 +134,8 @@ fn likeness_among(
 }
 
 /// Whether two tables give each packet at one hook the same verdict, as `compare` says it of all hooks: the packets of the
-/// hook walk the first table as boxes, and each box with one walk then walks the second one.
+/// hook walk the first table as boxes, and each box with one walk then walks the second one. It makes the boxes of the rules of
+/// both.
 ///
 /// # Errors
 ///
@@ -145,14 +150,16 @@ pub fn compare_at(
 ) -> Result<Likeness, AllocError>
     ensures { IfOk result (SaysIf (IsSameAt old.now.table new.now.table hook) old.now.table new.now.table) }
 {
+    let old_boxes = Boxes::of(alloc, old, work)?;
     let start = Area::at_hook(alloc, hook)?;
-    match leaves(alloc, old, hook, start, budget, work)? {
-        None => Ok(Likeness::Unclear),
-        Some(found) => match likeness_among(old, new, hook, found.as_slice(), budget, work)? {
-            Likeness::Same => Ok(Likeness::Same),
-            Likeness::Differ(words) => Ok(Likeness::Differ(words)),
-            Likeness::Unclear => Ok(Likeness::Unclear),
-        },
+    let Some(found) = leaves(alloc, old, &old_boxes, hook, start, budget)? else {
+        return Ok(Likeness::Unclear);
+    };
+    let new_boxes = Boxes::of(alloc, new, work)?;
+    match likeness_among(old, new, &new_boxes, hook, found.as_slice(), budget)? {
+        Likeness::Same => Ok(Likeness::Same),
+        Likeness::Differ(words) => Ok(Likeness::Differ(words)),
+        Likeness::Unclear => Ok(Likeness::Unclear),
     }
 }
 

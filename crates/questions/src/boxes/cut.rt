@@ -1,6 +1,6 @@
 // A box of packets cut by a rule.
 ghost use Rattle.std.specs.Prelude.{◌≡◌, ◌<◌, ℕ, List, false, IfOk, OnOk};
-ghost use Rattle.rules.specs.boxing.Boxed.{IsBox};
+ghost use Rattle.rules.specs.boxing.Boxed.{IsBox, IsBoxOf};
 ghost use Rattle.rules.specs.rule.Crossing.{cross};
 ghost use Rattle.classify.specs.classifier.Classifier.{IsPoint};
 ghost use Rattle.questions.specs.boxes.Area.{Has};
@@ -10,7 +10,7 @@ ghost use Rattle.questions.specs.steps.Sides.{LeavesAt};
 use crate::boxes::area::{Area, minus};
 use crate::boxes::meeting::meet;
 use fields::{FIELDS, Spans};
-use rules::{Boxed, Rule, Work};
+use rules::{Boxed, Rule};
 use std::alloc::{AllocError, Global};
 
 // What a rule makes of a box.
@@ -76,17 +76,17 @@ fn put_failing(
     Ok(())
 }
 
-// Cuts a box by a rule. It costs the rule's box and, where that has packets in common with the box, one meeting of two sets a
-// field, and for each field on which the rule leaves numbers out a copy of the box.
+// Cuts a box by a rule. Where the rule's box has packets in common with it, that costs one meeting of two sets a field, and
+// for each field on which the rule leaves numbers out a copy of the box; else no memory.
 pub(crate) fn cut_by(
     alloc: Global,
     rule: &Rule,
+    boxed: &Boxed,
     area: Area,
-    work: &mut Work,
 ) -> Result<Cut, AllocError>
+    requires { IsBoxOf rule.now boxed.now }
     ensures { IfOk result (IsCutBy rule.now area) }
 {
-    let boxed = Boxed::of(alloc, rule, work)?;
     if !meet(area.sets(), boxed.spans()) {
         return Ok(Cut::Apart(area));
     }

@@ -5,14 +5,15 @@ ghost use Rattle.table.specs.declared.verdict.Verdict.{Verdict};
 ghost use Rattle.table.specs.steps.Kept.{hook_index};
 ghost use Rattle.table.specs.walk.Walk.{end_verdict};
 ghost use Rattle.questions.specs.Leaves.{AreLeavesOf};
+ghost use Rattle.questions.specs.boxes.Boxes.{AreBoxesOf};
 ghost use Rattle.questions.specs.steps.Waiting.{AreThere, Begins, Moves, stage_of};
 
 use crate::boxes::area::Area;
+use crate::boxes::boxes::Boxes;
 use crate::walking::front::Front;
 use crate::walking::task::{Leaf, Pending, Task};
 use crate::walking::turn::ask;
 use fields::Hook;
-use rules::Work;
 use std::alloc::{AllocError, Global};
 use table::{Policy, Table, Verdict};
 
@@ -23,12 +24,13 @@ const LIMIT: usize = 65536;
 // they are too long.
 fn step(
     table: &Table,
+    boxes: &Boxes,
     policy: Verdict,
     front: &mut Front,
     task: Task,
-    work: &mut Work,
 ) -> Result<(), AllocError>
-    requires { AreThere table.now.table.chains task }
+    requires boxes { AreBoxesOf table.now.table.chains boxes.now }
+    requires there { AreThere table.now.table.chains task }
     ensures { OnOk result (Moves table.now.table policy task.area (stage_of table.now.table.chains task) front.old front.new) }
 {
     let Task {
@@ -48,7 +50,7 @@ fn step(
             if at.passed >= table.rule_count(at.chain) {
                 return front.add_task(task);
             }
-            ask(table, front, task, at, work)
+            ask(table, boxes, front, task, at)
         }
     }
 }
@@ -102,8 +104,8 @@ fn begin(alloc: Global, table: &Table, hook: Hook, start: Area) -> Result<Front,
 /// that can be at the hook is in one of them. There are none where a walk has a full trail of 65,536 rules, or where
 /// there are more steps to take than `budget`: a step is one rule asked of one box, or one chain that is at its end.
 ///
-/// A step costs the rule's box and, where the rule matches some of the packets, a copy of the box for each field on
-/// which others are left out.
+/// A step takes no memory where the rule matches none of the packets, and else that of a copy of the box for each field on
+/// which others are left out. The boxes of the rules are those of the table (`Boxes::of`).
 ///
 /// # Errors
 ///
@@ -111,11 +113,12 @@ fn begin(alloc: Global, table: &Table, hook: Hook, start: Area) -> Result<Front,
 pub fn leaves(
     alloc: Global,
     table: &Table,
+    boxes: &Boxes,
     hook: Hook,
     start: Area,
     budget: usize,
-    work: &mut Work,
 ) -> Result<Option<Vec<Leaf>>, AllocError>
+    requires { AreBoxesOf table.now.table.chains boxes.now }
     ensures { IfOk result (λ found. IfSome found (λ leaves. AreLeavesOf table.now.table hook start leaves.items)) }
 {
     let policy = policy_at(table, hook);
@@ -126,7 +129,7 @@ pub fn leaves(
         }
         match front.tasks.pop() {
             None => return Ok(Some(front.leaves)),
-            Some(task) => step(table, policy, &mut front, task, work)?,
+            Some(task) => step(table, boxes, policy, &mut front, task)?,
         }
     }
     Ok(None)

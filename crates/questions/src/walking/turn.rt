@@ -6,14 +6,16 @@ ghost use Rattle.table.specs.declared.verdict.Verdict.{Verdict};
 ghost use Rattle.table.specs.walk.Cases.{Under, on_by};
 ghost use Rattle.table.specs.walk.Walk.{after_match, whole};
 ghost use Rattle.questions.specs.Leaves.{entries_of};
+ghost use Rattle.questions.specs.boxes.Boxes.{AreBoxesOf};
 ghost use Rattle.questions.specs.steps.Waiting.{AreThere, IsThere, Moves, PassesOver, behind, entry_before, rest_of, rests_of};
 
 use crate::boxes::area::Area;
+use crate::boxes::boxes::Boxes;
 use crate::boxes::cut::{Cut, cut_by};
 use crate::walking::front::Front;
 use crate::walking::task::{Pending, Task, copy_rests, copy_trail};
 use fields::Name;
-use rules::{Rule, Target, Work};
+use rules::{Rule, Target};
 use std::alloc::AllocError;
 use table::{Step, Table, Verdict};
 
@@ -152,11 +154,12 @@ fn pass_over(
 // behind it.
 pub(crate) fn ask(
     table: &Table,
+    boxes: &Boxes,
     front: &mut Front,
     task: Task,
     at: Pending,
-    work: &mut Work,
 ) -> Result<(), AllocError>
+    requires boxes { AreBoxesOf table.now.table.chains boxes.now }
     requires there { IsThere table.now.table.chains at }
     requires passed { at.passed < length (chain_at table.now.table at.chain).rules }
     requires rests { AreThere table.now.table.chains task }
@@ -171,12 +174,13 @@ pub(crate) fn ask(
     let count = table.rule_count(at.chain);
     prove!(at.passed < count);
     let rule = table.rule(at.chain, at.passed + 1);
+    let boxed = boxes.at(at.chain, at.passed + 1);
     let behind = Pending {
         chain: at.chain,
         passed: at.passed + 1,
     };
     let Task { area, rests, trail } = task;
-    match cut_by(front.alloc, rule, area, work)? {
+    match cut_by(front.alloc, rule, boxed, area)? {
         Cut::Apart(area) => go_on(front, Task { area, rests, trail }, behind),
         Cut::Parts(inside, outside) => {
             pass_over(front, outside, behind, rests.as_slice(), trail.as_slice())?;

@@ -1,10 +1,21 @@
-use Rattle.std.proofs.Common.{◌<◌, length, arith}
+use Rattle.std.proofs.Common.{◌+◌, ◌<◌, length, arith}
 use Rattle.std.proofs.lemmas.List.{length-map}
 use Rattle.std.proofs.lemmas.Result.{on_ok_weaker}
 use Rattle.questions.specs.Leaves.{entry_of, entries_of}
 use Rattle.questions.specs.steps.Waiting.{rests_of}
+use Rattle.questions.proofs.laws.BoxesLaws.{box_at, chain_there, rule_there}
 use Rattle.questions.proofs.laws.WaitLaws.{apart_moves, cut_moves}
 use Rattle.questions.proofs.walking.turn.ask.Goals as goal
+
+pub at-boxed-requires-clause-place : goal.at-boxed-requires-clause-place
+at-boxed-requires-clause-place c = chain_there c.args.table.now.table c.args.boxes.now c.requires.boxes c.args.at.chain (c.args.at.passed + 1) c.requires.there (omega arith) (omega (arith, c.requires.passed))
+
+pub at-boxed-requires-clause-last : goal.at-boxed-requires-clause-last
+at-boxed-requires-clause-last c = rule_there c.args.table.now.table c.args.boxes.now c.requires.boxes c.args.at.chain (c.args.at.passed + 1) c.requires.there (omega arith) (omega (arith, c.requires.passed))
+
+pub cut_by-requires : goal.cut_by-requires
+cut_by-requires c =
+    box_at c.args.table.now.table c.args.boxes.now c.requires.boxes c.args.at.chain (c.args.at.passed + 1) c.requires.there (omega arith) (omega (arith, c.requires.passed)) c.rule-rule.result.now c.at-boxed.result.now c.rule-rule.ensures c.at-boxed.ensures
 
 pub returns-in-Apart : goal.returns-in-Apart
 returns-in-Apart c =

@@ -1,0 +1,105 @@
+-- The boxes of all rules of a table.
+use Rattle.std.proofs.Common.{◌≡◌, inl, inr, ℕ, ◌+◌, ◌-◌, ◌<◌, ◌≤◌, List, [], ◌∷◌, ◌++◌, length, get_or, map, refl, sym, ◌∙◌, ap, arith, subst, Vec, Global}
+use Rattle.std.proofs.lemmas.Bool.{cases_lt}
+use Rattle.std.proofs.lemmas.List.{get_or_append_left, get_or_default, get_or_push, get_or-map, length-append, length-map}
+use Rattle.fields.specs.numbers.Spans.{SpanSet}
+use Rattle.rules.specs.boxing.Boxed.{IsBoxOf}
+use Rattle.rules.specs.rule.Rules.{Rule, empty_rule}
+use Rattle.table.specs.chains.Table.{Chain, Table, chain_at, empty_chain}
+use Rattle.questions.specs.boxes.Boxes.{AreBoxesOf, AreBoxesOfRules}
+
+-- ---- made one after another
+
+-- each of the first n of one list goes with what stands at its place in another, which has so many
+pub record Pair {X Y : Type 0} (P : X → Y → Type 0) (xs : List X) (ys : List Y) (n : ℕ) : Type 0 where
+  pub long : length ys ≡ n
+  pub each : (k : ℕ) (a : X) (b : Y) → k < n → P (get_or xs k a) (get_or ys k b)
+
+pub pair_none : {X Y : Type 0} (P : X → Y → Type 0) (xs : List X) (ys : List Y) → ys ≡ [] → Pair P xs ys 0
+pair_none P xs ys e = record { long = ap length e; each = λ k a b lt. absurd (omega (arith, lt)) }
+
+-- and one more
+pub pair_more : {X Y : Type 0} (P : X → Y → Type 0) (xs : List X) (ys more : List Y) (y : Y) (n : ℕ) → more ≡ ys ++ y ∷ [] → Pair P xs ys n → ((a : X) → P (get_or xs n a) y) → Pair P xs more (n + 1)
+pair_more {X} {Y} P xs ys more y n is pairs here = record {
+  long = ap length is ∙ length-append ys (y ∷ []) ∙ ap (λ m. m + 1) pairs.long;
+  each = λ k a b lt.
+      (let Q : List Y → Type 0 = λ zs. P (get_or xs k a) (get_or zs k b) in
+      let R : Y → Type 0 = λ z. P (get_or xs k a) z in
+      let S : ℕ → Type 0 = λ j. P (get_or xs j a) y in
+      subst Q (sym is)
+      (elim (cases_lt k n) [
+        | inl less ↦ subst R (sym (get_or_append_left ys (y ∷ []) b k (omega (arith, less, pairs.long)))) (pairs.each k a b less)
+        | inr past ↦ (
+            let same : k ≡ n = omega (arith, lt, past) in
+            subst R (sym (get_or_push ys y b k (pairs.long ∙ sym same))) (subst S (sym same) (here a)))
+      ]));
+}
+
+-- a chain's rules with their boxes
+abbrev pub RulePairs : List Rule → List (List SpanSet) → ℕ → Type 0
+RulePairs rules boxes n = Pair IsBoxOf rules boxes n
+
+pub all_rules : (rules : List Rule) (boxes : List (List SpanSet)) (n : ℕ) → n ≡ length rules → RulePairs rules boxes n → AreBoxesOfRules rules boxes
+all_rules rules boxes n all pairs = record { long = pairs.long ∙ all; each = λ k r b lt. pairs.each k r b (omega (arith, lt, all)) }
+
+-- a box made of the next rule
+pub next_rule : (rules : List Rule) (k : ℕ) (rule : Rule) (boxed : List SpanSet) → k < length rules → rule ≡ get_or rules (k + 1 - 1) rule → IsBoxOf rule boxed → (a : Rule) → IsBoxOf (get_or rules k a) boxed
+next_rule rules k rule boxed lt is h a =
+    let P : Rule → Type 0 = λ r. IsBoxOf r boxed in
+    subst P (is ∙ ap (λ j. get_or rules j rule) (omega arith) ∙ get_or_default rules k rule a lt) h
+
+-- the chain's rules have these boxes
+abbrev pub HasBoxes : Chain → Vec (List SpanSet) Global → Type 0
+HasBoxes chain boxes = AreBoxesOfRules chain.rules boxes.items
+
+-- the chains with the boxes of their rules
+abbrev pub ChainPairs : List Chain → List (Vec (List SpanSet) Global) → ℕ → Type 0
+ChainPairs chains boxes n = Pair HasBoxes chains boxes n
+
+pub next_chain : (t : Table) (k : ℕ) (boxes : Vec (List SpanSet) Global) → k < length t.chains → AreBoxesOfRules (chain_at t k).rules boxes.items → (a : Chain) → HasBoxes (get_or t.chains k a) boxes
+next_chain t k boxes lt h a =
+    let P : Chain → Type 0 = λ c. HasBoxes c boxes in subst P (get_or_default t.chains k (empty_chain []) a lt) h
+
+abbrev items_of : Vec (List SpanSet) Global → List (List SpanSet)
+items_of v = v.items
+
+pub all_chains : (chains : List Chain) (boxes : List (Vec (List SpanSet) Global)) (n : ℕ) → n ≡ length chains → ChainPairs chains boxes n → AreBoxesOf chains (map (λ (v : Vec (List SpanSet) Global). v.items) boxes)
+all_chains chains boxes n all pairs = record {
+  long = length-map boxes items_of ∙ pairs.long ∙ all;
+  each = λ k c bs lt.
+      (let there : k < length boxes = omega (arith, lt, all, pairs.long) in
+      let P : List (List SpanSet) → Type 0 = λ own. (let chain : Chain = get_or chains k c in AreBoxesOfRules chain.rules own) in
+      subst P (sym (get_or-map items_of boxes k (empty k there) bs there)) (pairs.each k c (empty k there) (omega (arith, lt, all))));
+}
+  where
+    some : (xs : List (Vec (List SpanSet) Global)) (k : ℕ) → k < length xs → Vec (List SpanSet) Global
+    some [] k lt = absurd (omega (arith, lt))
+    some (x ∷ xs) k lt = x
+
+    empty : (k : ℕ) → k < length boxes → Vec (List SpanSet) Global
+    empty k lt = some boxes k lt
+
+-- ---- asked for
+
+module _ (t : Table) (boxes : List (List (List SpanSet))) (are : AreBoxesOf t.chains boxes) (place number : ℕ) (lt : place < length t.chains) (first : 0 < number) (last : number ≤ length (chain_at t place).rules) where
+  own : AreBoxesOfRules (chain_at t place).rules (get_or boxes place [])
+  own = are.each place (empty_chain []) [] lt
+
+  pub chain_there : place < length boxes
+  chain_there = omega (arith, lt, are.long)
+
+  pub rule_there : number - 1 < length (get_or boxes place [])
+  rule_there = omega (arith, first, last, own.long)
+
+  pub box_at : (rule : Rule) (boxed : List SpanSet) → rule ≡ get_or (chain_at t place).rules (number - 1) rule → boxed ≡ get_or (get_or boxes place []) (number - 1) boxed → IsBoxOf rule boxed
+  box_at rule boxed is at =
+      let P : Rule → Type 0 = λ r. IsBoxOf r boxed in
+      let Q : List SpanSet → Type 0 = λ b. IsBoxOf (get_or (chain_at t place).rules (number - 1) rule) b in
+      subst P (sym is) (subst Q (sym at) (own.each (number - 1) rule boxed (omega (arith, first, last))))
+
+  -- the rule that a place has
+  abbrev pub rule_of : Rule
+  rule_of = get_or (chain_at t place).rules (number - 1) empty_rule
+
+  pub rule_is : rule_of ≡ get_or (chain_at t place).rules (number - 1) rule_of
+  rule_is = get_or_default (chain_at t place).rules (number - 1) empty_rule rule_of (omega (arith, first, last))
