@@ -1,6 +1,10 @@
 pub mod AreaLaws
 pub mod BoxesLaws
+pub mod EndLaws
+pub mod ExactLaws
+pub mod GroupLaws
 pub mod PacketLaws
+pub mod ReachLaws
 pub mod TrailLaws
 pub mod WaitLaws
 pub mod WithoutLaws

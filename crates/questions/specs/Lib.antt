@@ -1,3 +1,4 @@
+pub mod Ends
 pub mod Leaves
 pub mod asked
 pub mod boxes

@@ -1,4 +1,5 @@
 pub mod Laws
+pub mod Reach
 pub mod Rule
 pub mod Verdicts
 pub mod Without

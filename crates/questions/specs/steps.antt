@@ -1,2 +1,4 @@
+pub mod Exact
+pub mod Groups
 pub mod Sides
 pub mod Waiting

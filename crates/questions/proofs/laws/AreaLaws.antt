@@ -2,9 +2,9 @@
 use Rattle.std.proofs.Common.{◌≡◌, ◌≢◌, inl, inr, ℕ, zero, suc, ◌+◌, ◌<◌, ◌≤◌, Bool, true, false, cond, ◌&&◌, not, ◌==◌, List, [], ◌∷◌, length, get_or, map, refl, sym, ◌∙◌, ap, arith, subst, ◌⊎◌, below_more}
 use Rattle.std.specs.Prelude.{slice_index}
 use Rattle.std.specs.List.{list_all}
-use Rattle.std.proofs.Math.Dec.{eqb}
+use Rattle.std.proofs.Math.Dec.{eqb, leb}
 use Rattle.std.proofs.Math.ListN.{set}
-use Rattle.std.proofs.lemmas.Bool.{cases_Bool, cases_eq, and_from, and_parts, cases_lt, lt-ltb, le-ltb, eq-eqb, ne_eqb, eqb-true, true≢false}
+use Rattle.std.proofs.lemmas.Bool.{cases_Bool, cases_eq, and_from, and_parts, cases_lt, lt-ltb, le-ltb, le-leb, leb-true, eq-eqb, ne_eqb, eqb-true, or_left, true≢false}
 use Rattle.std.proofs.lemmas.List.{get_or-map, length-map, get_or_default, get_or-set_same, get_or-set_other, nil_from_length, same_lists}
 use Rattle.std.proofs.lemmas.List.Sums.{AllPass-from_list_all}
 use Rattle.fields.specs.declared.numbers.field.TheConstants.{FIELDS}
@@ -14,18 +14,18 @@ use Rattle.fields.specs.declared.numbers.spans.Interval.{Interval}
 use Rattle.fields.specs.declared.packet.hook.Hook.{Hook}
 use Rattle.fields.specs.declared.packet.hook.Hook.TheVariants.{Input, Forward, Output}
 use Rattle.fields.specs.numbers.Field.{all_fields, index, number_on, top}
-use Rattle.fields.specs.numbers.Spans.{SpanSet, has}
-use Rattle.fields.specs.packet.Packet.{PacketView, point}
-use Rattle.rules.specs.boxing.Boxed.{IsBox, IsBoxOf}
+use Rattle.fields.specs.numbers.Spans.{AreSpansFrom, SpanSet, has}
+use Rattle.fields.specs.packet.Packet.{PacketView, IsPacket, point}
+use Rattle.rules.specs.boxing.Boxed.{IsBox, IsBoxOf, set_on}
 use Rattle.rules.specs.rule.Allows.{allows, allows_each, matches}
 use Rattle.rules.specs.rule.Crossing.{cross}
 use Rattle.rules.specs.rule.Rules.{Rule}
 use Rattle.rules.proofs.laws.boxing.BoxLaws.{index-lt, here_is, box_long, top_on}
 use Rattle.classify.specs.classifier.Classifier.{IsPoint, box_allows, box_matches}
 use Rattle.classify.proofs.laws.classifier.ClassifierLaws.{field_at}
-use Rattle.questions.specs.boxes.Area.{Has, IsAtHook, IsBoth, IsIn, may_have, is_without}
+use Rattle.questions.specs.boxes.Area.{Has, HasNumbers, IsAtHook, IsBoth, IsIn, IsNarrowed, may_have, is_without}
 use Rattle.questions.specs.boxes.Cut.{IsInSome, IsApart, IsCut}
-use Rattle.questions.specs.steps.Sides.{no_set, has_at, takes, IsSide, IsPart, IsBeginning, LeavesAt}
+use Rattle.questions.specs.steps.Sides.{no_set, has_at, takes, HasOne, IsSide, IsPart, IsBeginning, LeavesAt}
 
 pub same_truth : (a b : Bool) → (a ≡ true → b ≡ true) → (b ≡ true → a ≡ true) → a ≡ b
 same_truth true b there back = sym (there refl)
@@ -55,7 +55,7 @@ set_next {X} P xs k v lt below here j d less =
     ]
 
 -- a box that has some numbers has each at its place
-on_field : (box : List SpanSet) (numbers : List ℕ) (f : Field) → box_matches numbers box ≡ true → box_allows box f (number_on numbers f) ≡ true
+pub on_field : (box : List SpanSet) (numbers : List ℕ) (f : Field) → box_matches numbers box ≡ true → box_allows box f (number_on numbers f) ≡ true
 on_field box numbers f h =
     let p : Field → Bool = λ g. box_allows box g (number_on numbers g) in
     let P : Field → Type 0 = λ g. p g ≡ true in
@@ -70,6 +70,10 @@ at_place box numbers k lt h =
 -- and the other way round
 pub from_places : (box : List SpanSet) (numbers : List ℕ) → ((k : ℕ) → k < FIELDS → has_at box numbers k ≡ true) → box_matches numbers box ≡ true
 from_places box numbers h = all_true (λ g. box_allows box g (number_on numbers g)) all_fields (λ g. h (index g) (index-lt g))
+
+-- the same by fields
+pub from_fields : (box : List SpanSet) (numbers : List ℕ) → ((f : Field) → box_allows box f (number_on numbers f) ≡ true) → Has box numbers
+from_fields box numbers h = record { each = all_true (λ g. box_allows box g (number_on numbers g)) all_fields h }
 
 -- numbers are within the tops of the sets
 pub within_top : (box : List SpanSet) (numbers : List ℕ) (k : ℕ) (d : SpanSet) → IsBox box → IsPoint numbers → k < FIELDS → slice_index numbers k ≤ (get_or box k d).top
@@ -133,6 +137,65 @@ nothing_shared own other numbers k a b is too lt ia ib none h g =
     λ box s of e in_box. ap (λ (t : SpanSet). has t.intervals x) (e ∙ get_or_default box k s no_set (omega (arith, lt, box_long box of))) ∙ at_place box numbers k lt in_box.each in
     true≢false (sym (and_from (has a.intervals x) (has b.intervals x) (there own a is ia h) (there other b too ib g)) ∙ none x)
 
+first_of : (top low : ℕ) (ss : List Interval) → AreSpansFrom top low ss → (ss ≡ [] → ⊥) → (x : ℕ) × (x ≤ top) × (has ss x ≡ true)
+first_of top low [] h ne = absurd (ne refl)
+first_of top low (s ∷ ss) h ne =
+    (s.first, omega (arith, h.1, h.2), or_left (leb s.first s.first && leb s.first s.last) _ (and_from (leb s.first s.first) (leb s.first s.last) (le-leb s.first s.first (omega arith)) (le-leb s.first s.last h.1)))
+
+-- a set with an interval has a number
+pub first_number : (s : SpanSet) (b : Bool) → AreSpansFrom s.top 0 s.intervals → b ≡ (length s.intervals == 0) → b ≡ false → HasOne s
+first_number s b h e f = first_of s.top 0 s.intervals h (λ none. true≢false (sym (ap (λ (ss : List Interval). length ss == 0) none) ∙ sym e ∙ f))
+
+-- where each set has a number, so has each field
+pub numbers_from : (box : List SpanSet) → IsBox box → ((k : ℕ) (d : SpanSet) → k < FIELDS → HasOne (get_or box k d)) → HasNumbers box
+numbers_from box is h f =
+    let one : HasOne (get_or box (index f) no_set) = h (index f) no_set (index-lt f) in
+    (one.0, omega (arith, one.1, top_on box is f (index f) no_set refl), one.2)
+
+-- ---- a set in the place of a field's
+
+module _ (box : List SpanSet) (f : Field) (v wanted : SpanSet) (is : IsBox box) (members : (x : ℕ) → has v.intervals x ≡ (has (set_on f box) x && has wanted.intervals x)) where
+  narrow_here : (numbers : List ℕ) → has_at (set box (index f) v) numbers (index f) ≡ (has_at box numbers (index f) && has wanted.intervals (number_on numbers f))
+  narrow_here numbers =
+      let lt : index f < length box = omega (arith, index-lt f, box_long box is) in
+      ap (λ (s : SpanSet). has s.intervals (number_on numbers f)) (get_or-set_same box (index f) v no_set lt) ∙ members (number_on numbers f)
+
+  narrow_there : (numbers : List ℕ) (k : ℕ) → (k ≡ index f → ⊥) → has_at (set box (index f) v) numbers k ≡ has_at box numbers k
+  narrow_there numbers k ne =
+      let other : k ≢ index f = ne in
+      ap (λ (s : SpanSet). has s.intervals (slice_index numbers k)) (get_or-set_other box (index f) k v no_set other)
+
+  narrow_at : IsNarrowed f wanted box (set box (index f) v)
+  narrow_at = record {
+    all = λ numbers point own ok. record {
+      each = from_places (set box (index f) v) numbers (λ k lt. elim (cases_eq k (index f)) [
+        | inl e ↦ (
+            let P : ℕ → Type 0 = λ j. has_at (set box (index f) v) numbers j ≡ true in
+            let two : (has_at box numbers (index f) && has wanted.intervals (number_on numbers f)) ≡ true = and_from (has_at box numbers (index f)) (has wanted.intervals (number_on numbers f)) (at_place box numbers (index f) (index-lt f) own.each) ok in
+            subst P (sym e) (narrow_here numbers ∙ two))
+        | inr ne ↦ narrow_there numbers k ne ∙ at_place box numbers k lt own.each
+      ]);
+    };
+    own = λ numbers point new. record {
+      each = from_places box numbers (λ k lt. elim (cases_eq k (index f)) [
+        | inl e ↦ (let P : ℕ → Type 0 = λ j. has_at box numbers j ≡ true in subst P (sym e) (both numbers new).0)
+        | inr ne ↦ sym (narrow_there numbers k ne) ∙ at_place (set box (index f) v) numbers k lt new.each
+      ]);
+    };
+    members = λ numbers point new. (both numbers new).1;
+  }
+    where
+      both : (numbers : List ℕ) → Has (set box (index f) v) numbers → (has_at box numbers (index f) ≡ true) × (has wanted.intervals (number_on numbers f) ≡ true)
+      both numbers new = and_parts (has_at box numbers (index f)) (has wanted.intervals (number_on numbers f)) (sym (narrow_here numbers) ∙ at_place (set box (index f) v) numbers (index f) (index-lt f) new.each)
+
+  pub narrowed_to : (k : ℕ) → k ≡ index f → IsNarrowed f wanted box (set box k v)
+  narrowed_to k at = let P : ℕ → Type 0 = λ j. IsNarrowed f wanted box (set box j v) in subst P (sym at) narrow_at
+
+-- 0 alone is from 0 to 0
+pub only_zero : (x : ℕ) → (leb 0 x && leb x 0) ≡ (x == 0)
+only_zero x = same_truth (leb 0 x && leb x 0) (x == 0) (λ t. eq-eqb x 0 (omega (arith, leb-true x 0 (and_parts (leb 0 x) (leb x 0) t).1)))
+    (λ t. and_from (leb 0 x) (leb x 0) (le-leb 0 x (omega arith)) (le-leb x 0 (omega (arith, eqb-true x 0 t))))
+
 -- ---- the packets at a hook
 
 module _ (hook : Hook) (sets : List SpanSet) (h : (k : ℕ) (f : Field) (d : SpanSet) → k < FIELDS → IsBeginning hook (get_or all_fields k f) (get_or sets k d)) where
@@ -170,8 +233,21 @@ module _ (hook : Hook) (sets : List SpanSet) (h : (k : ℕ) (f : Field) (d : Spa
   all_at_hook p at e = record {
     each =
         all_true (λ g. box_allows sets g (number_on p.values g)) all_fields
-        (λ g. (on_its_field g no_set).members (point p g) (at.packet.within g) (may_be p g at e));
+        (λ g. (on_its_field g no_set).members (point p g) (at.packet.within g) ∙ may_be p g at e);
   }
+
+  pub only_at_hook : (p : PacketView) → IsPacket p → p.hook ≡ hook → IsIn sets p → IsAtHook p
+  only_at_hook p is e inside = record {
+    packet = is;
+    input = λ i. missing field.OutIface (ap (λ h. is_without h field.OutIface) (sym e ∙ i));
+    output = λ o. missing field.InIface (ap (λ h. is_without h field.InIface) (sym e ∙ o));
+  }
+    where
+      missing : (f : Field) → is_without hook f ≡ true → point p f ≡ 0
+      missing f t =
+          let has_it : has_at sets p.values (index f) ≡ true = at_place sets p.values (index f) (index-lt f) inside.each in
+          let is_zero : may_have hook f (point p f) ≡ (point p f == 0) = ap (λ b. cond b (point p f == 0) true) t in
+          eqb-true (point p f) 0 (sym is_zero ∙ sym ((on_its_field f no_set).members (point p f) (is.within f)) ∙ has_it)
 
 -- ---- rules
 

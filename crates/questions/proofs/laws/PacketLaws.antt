@@ -34,7 +34,7 @@ value_fits words f = by_text (text_of f words)
     by_text None = absent_fits f
     by_text (Some text) = by_number text (number_of_text f text) refl
 
-at_index : (f : Field → ℕ) (g : Field) → slice_index (map f all_fields) (index g) ≡ f g
+pub at_index : (f : Field → ℕ) (g : Field) → slice_index (map f all_fields) (index g) ≡ f g
 at_index f field.Source = refl
 at_index f _ = refl
 

@@ -29,9 +29,9 @@ use Rattle.questions.specs.boxes.Area.{Has, IsAtHook, IsBoth, IsIn}
 use Rattle.questions.specs.declared.walking.task.Leaf.{Leaf}
 use Rattle.questions.proofs.laws.AreaLaws.{has_of_rule}
 
--- the rule of an entry matches
+-- the rule of an entry matches; rules are numbered from 1
 abbrev pub IsMatched : List Chain → List ℕ → Entry → Type 0
-IsMatched cs values entry = (rule : Rule) × (slice_get (rules_of cs entry.chain) (entry.number - 1) ≡ Some rule) × IsTrue (matches values rule)
+IsMatched cs values entry = (rule : Rule) × (slice_get (rules_of cs entry.chain) (entry.number - 1) ≡ Some rule) × IsTrue (matches values rule) × (0 < entry.number)
 
 module _ (cs : List Chain) (policy : Verdict) (values : List ℕ) where
   abbrev AreMatched : Stage → Type 0
@@ -50,7 +50,7 @@ module _ (cs : List Chain) (policy : Verdict) (values : List ℕ) where
   step_matched (Under (rest ∷ waiting) trail) next (inr (inr (inr p))) h = subst AreMatched (sym p.1) h
   step_matched (Under (rest ∷ waiting) trail) next (inr (inr (inl p))) h =
       let entry : Entry = record { chain = rest.chain; number = rest.passed + 1 } in
-      let here : IsMatched cs values entry = (p.0, ap (slice_get (rules_of cs rest.chain)) (omega arith) ∙ p.1, p.2) in
+      let here : IsMatched cs values entry = (p.0, ap (slice_get (rules_of cs rest.chain)) (omega arith) ∙ p.1, p.2, omega arith) in
       subst AreMatched (sym p.4) (on_matched _ (trail ++ entry ∷ []) (All-push (IsMatched cs values) trail entry h here))
 
   goes_matched : (n : ℕ) (now last : Stage) → GoesTo n cs policy values now last → AreMatched now → AreMatched last

@@ -31,10 +31,14 @@ IsPart at own other part =
     (place : ℕ) (d e f : SpanSet) → place < FIELDS
     → IsSide at place (slice_index_or own place d) (slice_index_or other place e) (slice_index_or part place f)
 
+-- a set has a number
+abbrev pub HasOne : SpanSet → Type 0
+HasOne set = (x : ℕ) × (x ≤ set.top) × (has set.intervals x ≡ true)
+
 -- the numbers that packets at a hook may have on a field
 pub record IsBeginning (hook : Hook) (field : Field) (set : SpanSet) : Type 0 where
   pub greatest : set.top ≡ top field
-  pub members : (x : ℕ) → x ≤ top field → may_have hook field x ≡ true → has set.intervals x ≡ true
+  pub members : (x : ℕ) → x ≤ top field → has set.intervals x ≡ may_have hook field x
 
 -- numbers leave a box at a place: the first where it hasn't theirs
 pub record LeavesAt (at : ℕ) (box : List SpanSet) (numbers : List ℕ) : Type 0 where

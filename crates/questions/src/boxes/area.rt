@@ -1,12 +1,12 @@
 //! Boxes of packets.
-ghost use Rattle.std.specs.Prelude.{◌≡◌, ◌<◌, ◌≤◌, ◌&&◌, ℕ, List, not, length, slice_index_or, IfOk, IsTrue, OnOk};
+ghost use Rattle.std.specs.Prelude.{◌≡◌, ◌<◌, ◌≤◌, ◌&&◌, ℕ, [], false, List, All, Any, not, length, slice_index_or, IfOk, IsTrue, OnOk};
 ghost use Rattle.fields.specs.declared.numbers.field.Field.{Field};
 ghost use Rattle.fields.specs.numbers.Field.{all_fields, top};
 ghost use Rattle.fields.specs.numbers.Spans.{SpanSet, has};
-ghost use Rattle.fields.specs.packet.Packet.{PacketView};
+ghost use Rattle.fields.specs.packet.Packet.{PacketView, IsPacket};
 ghost use Rattle.rules.specs.boxing.Boxed.{IsBox, set_on};
-ghost use Rattle.questions.specs.boxes.Area.{Has, IsAtHook, IsBoth, IsIn, is_without};
-ghost use Rattle.questions.specs.steps.Sides.{IsBeginning, IsPart, IsSide};
+ghost use Rattle.questions.specs.boxes.Area.{Has, HasNumbers, IsAtHook, IsBoth, IsIn, IsNarrowed, is_without};
+ghost use Rattle.questions.specs.steps.Sides.{HasOne, IsBeginning, IsPart, IsSide};
 
 use fields::{FIELDS, Field, Hook, Spans};
 use std::alloc::{AllocError, Global};
@@ -81,6 +81,27 @@ fn put_sides(
     Ok(())
 }
 
+// Whether a set has no number.
+fn is_bare(set: &Spans) -> bool
+    ensures none { IsTrue result → set.now.intervals ≡ [] }
+    ensures some { result ≡ false → HasOne set.now }
+{
+    set.intervals().is_empty()
+}
+
+// Whether some set has no number.
+fn some_bare(sets: &[Spans]) -> bool
+    ensures none { IsTrue result → Any (λ set. set.intervals ≡ []) sets.now }
+    ensures some { result ≡ false → All HasOne sets.now }
+{
+    for set in sets {
+        if is_bare(set) {
+            return true;
+        }
+    }
+    false
+}
+
 // Whether packets at a hook have no such interface.
 fn is_without(hook: Hook, field: Field) -> bool
     ensures { result ≡ is_without hook field }
@@ -96,12 +117,10 @@ fn is_without(hook: Hook, field: Field) -> bool
 fn beginning(alloc: Global, hook: Hook, field: Field) -> Result<Spans, AllocError>
     ensures { IfOk result (IsBeginning hook field) }
 {
-    let last = if is_without(hook, field) {
-        0
-    } else {
-        field.top()
-    };
-    Spans::one(alloc, field.top(), 0, last)
+    if is_without(hook, field) {
+        return Spans::one(alloc, field.top(), 0, 0);
+    }
+    Spans::one(alloc, field.top(), 0, field.top())
 }
 
 // Puts them on each field.
@@ -124,7 +143,8 @@ impl Area {
     ///
     /// `AllocError` where memory was refused.
     pub fn at_hook(alloc: Global, hook: Hook) -> Result<Area, AllocError>
-        ensures { IfOk result (λ area. (p : PacketView) → IsAtHook p → p.hook ≡ hook → IsIn area p) }
+        ensures all { IfOk result (λ area. (p : PacketView) → IsAtHook p → p.hook ≡ hook → IsIn area p) }
+        ensures only { IfOk result (λ area. (p : PacketView) → IsPacket p → p.hook ≡ hook → IsIn area p → IsAtHook p) }
     {
         let mut sets: [Spans; FIELDS] = array::from_fn(|_| Spans::none(alloc, 0));
         open(alloc, hook, &mut sets)?;
@@ -168,14 +188,24 @@ impl Area {
 
     // Whether some field has no number, so that no packet is in the box.
     pub(crate) fn is_empty(&self) -> bool
-        ensures { IsTrue result → (numbers : List ℕ) → Has self.now numbers → ⊥ }
+        ensures none { IsTrue result → (numbers : List ℕ) → Has self.now numbers → ⊥ }
+        ensures some { result ≡ false → HasNumbers self.now }
     {
-        for set in &self.sets {
-            if set.intervals().is_empty() {
-                return true;
-            }
-        }
-        false
+        some_bare(&self.sets)
+    }
+
+    /// The packets of the box whose number on a field is in a set.
+    ///
+    /// # Errors
+    ///
+    /// `AllocError` where memory was refused.
+    pub fn narrow(mut self, alloc: Global, field: Field, wanted: &Spans) -> Result<Area, AllocError>
+        requires { wanted.now.top ≡ top field }
+        ensures { IfOk result (IsNarrowed field wanted.now self) }
+    {
+        let shared = self.on(field).meet(alloc, wanted)?;
+        self.sets[field.index()] = shared;
+        Ok(self)
     }
 
     /// The numbers on a field; they are lent.

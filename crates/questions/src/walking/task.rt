@@ -29,6 +29,20 @@ pub struct Leaf {
     pub by_policy: bool,
 }
 
+impl Leaf {
+    ghost use Rattle.questions.specs.Ends.{step_of};
+
+    /// The rule that decides, the last of the trail; none where the policy does.
+    pub fn decider(&self) -> Option<Step>
+        ensures { result ≡ step_of self.now }
+    {
+        if self.by_policy {
+            return None;
+        }
+        self.trail.last().copied()
+    }
+}
+
 // The rests again.
 pub(crate) fn copy_rests(alloc: Global, rests: &[Pending]) -> Result<Vec<Pending>, AllocError>
     ensures { IfOk result (λ copy. copy.items ≡ rests.now) }

@@ -14,4 +14,4 @@ returns-then-none_on c =
     (rule_is c.args.table.now.table c.args.boxes.now c.requires.boxes c.args.step.chain c.args.step.number c.requires.place c.requires.first c.requires.last)
     (rw c.spans.ensures.value (box_at c.args.table.now.table c.args.boxes.now c.requires.boxes c.args.step.chain c.args.step.number c.requires.place c.requires.first c.requires.last
     (rule_of c.args.table.now.table c.args.boxes.now c.requires.boxes c.args.step.chain c.args.step.number c.requires.place c.requires.first c.requires.last) c.at-boxed.result.now
-    (rule_is c.args.table.now.table c.args.boxes.now c.requires.boxes c.args.step.chain c.args.step.number c.requires.place c.requires.first c.requires.last) c.at-boxed.ensures)) c.in_ok-start.ensures can (c.in_ok-at_hook.ensures p can e) (λ inside. (rw c.in-Some.is at c.in_ok-leaves.ensures) p can e inside) (rw c.as_slice.ensures.value at (c.none_on.ensures c.if-none_on.true)) on
+    (rule_is c.args.table.now.table c.args.boxes.now c.requires.boxes c.args.step.chain c.args.step.number c.requires.place c.requires.first c.requires.last) c.at-boxed.ensures)) c.in_ok-start.ensures can (c.in_ok-at_hook.ensures.all p can e) (λ inside. (rw c.in-Some.is at c.in_ok-leaves.ensures) p can e inside) (rw c.as_slice.ensures.value at (c.none_on.ensures c.if-none_on.true)) on

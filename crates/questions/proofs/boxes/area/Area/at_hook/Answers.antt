@@ -1,6 +1,6 @@
 use Rattle.std.proofs.Common.{◌≡◌, length, ◌∙◌, rules}
 use Rattle.fields.specs.declared.numbers.field.TheConstants.{FIELDS}
-use Rattle.questions.proofs.laws.AreaLaws.{all_at_hook, box_of_hook}
+use Rattle.questions.proofs.laws.AreaLaws.{all_at_hook, box_of_hook, only_at_hook}
 use Rattle.questions.proofs.boxes.area.Area.at_hook.Goals as goal
 
 pub invariant_of-result : goal.invariant_of-result
@@ -8,5 +8,8 @@ invariant_of-result c =
     let long : length c.open.new.sets ≡ FIELDS = c.open.auto.sets ∙ search rules in
     box_of_hook c.args.hook c.open.new.sets c.in_ok-open.ensures long
 
-pub returns : goal.returns
-returns c = all_at_hook c.args.hook c.open.new.sets c.in_ok-open.ensures
+pub returns-clause-all : goal.returns-clause-all
+returns-clause-all c = all_at_hook c.args.hook c.open.new.sets c.in_ok-open.ensures
+
+pub returns-clause-only : goal.returns-clause-only
+returns-clause-only c = only_at_hook c.args.hook c.open.new.sets c.in_ok-open.ensures

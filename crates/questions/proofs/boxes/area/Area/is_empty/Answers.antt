@@ -1,8 +1,10 @@
-use Rattle.std.proofs.Common.{sym, ◌∙◌, arith}
-use Rattle.questions.proofs.laws.AreaLaws.{is_nil, no_numbers}
+use Rattle.questions.proofs.laws.AreaLaws.{no_numbers, numbers_from}
+use Rattle.std.proofs.Common.{arith}
+use Rattle.rules.proofs.laws.boxing.BoxLaws.{box_long}
 use Rattle.questions.proofs.boxes.area.Area.is_empty.Goals as goal
 
-pub returns-then-is_empty : goal.returns-then-is_empty
-returns-then-is_empty c =
-    λ t numbers h. no_numbers c.self.inside.sets numbers c.loop-set.set-index c.set-item.result c.self.invariant (omega arith)
-    (sym c.intervals.ensures.value ∙ is_nil c.intervals.result.now c.is_empty.result c.is_empty.ensures c.if-is_empty.true) (rw c.self.view_is h)
+pub returns-clause-none : goal.returns-clause-none
+returns-clause-none c = λ t numbers h. (let w = c.some_bare.ensures.none t in no_numbers c.self.inside.sets numbers w.0 w.1 c.self.invariant w.2 (rw (← w.3) at w.4) (rw c.self.view_is h))
+
+pub returns-clause-some : goal.returns-clause-some
+returns-clause-some c = λ f. rw (← c.self.view_is) (numbers_from c.self.inside.sets c.self.invariant (λ k d lt. c.some_bare.ensures.some f k d (omega (arith, lt, box_long c.self.inside.sets c.self.invariant))))

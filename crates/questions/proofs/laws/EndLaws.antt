@@ -1,0 +1,83 @@
+-- Who decides the walk that a leaf shows: a rule of the table, or the policy.
+use Rattle.std.proofs.Common.{◌≡◌, inl, inr, ℕ, suc, ◌-◌, ◌<◌, Bool, true, false, cond, List, [], ◌∷◌, length, map, refl, sym, ◌∙◌, ap, arith, subst, Option, Some, None, Contains}
+use Rattle.std.specs.Prelude.{IfSome, slice_get}
+use Rattle.std.specs.Option.{option_map}
+use Rattle.std.proofs.lemmas.Slice.Eq.{bytes_eq-Decides}
+use Rattle.std.proofs.lemmas.Bool.{cases_Bool}
+use Rattle.std.proofs.lemmas.List.{length-map}
+use Rattle.std.proofs.lemmas.List.Elements.{All-contains, Contains-get_or}
+use Rattle.std.proofs.lemmas.Option.{get_or_from_slice_get, slice_get-map, slice_get_within}
+use Rattle.fields.specs.packet.Packet.{PacketView as Packet}
+use Rattle.rules.specs.rule.Rules.{Rule}
+use Rattle.table.specs.chains.Sound.{IsSound}
+use Rattle.table.specs.chains.Table.{Chain, Table, chain_at, empty_chain, is_named, rules_of}
+use Rattle.table.specs.declared.walk.trail.Step.{Step}
+use Rattle.table.specs.walk.Walk.{Walked, walk}
+use Rattle.table.proofs.laws.chains.KeepLaws.{rules_by_name}
+use Rattle.questions.specs.Ends.{IsRule, decider_of, step_of}
+use Rattle.questions.specs.Leaves.{name_at, entry_of, entries_of, walked_of}
+use Rattle.questions.specs.declared.walking.task.Leaf.{Leaf}
+use Rattle.questions.proofs.laws.TrailLaws.{IsMatched, one_place, trail_matches}
+
+pub none_some : {X : Type 0} {x : X} → ◌≡◌ {A = Option X} None (Some x) → ⊥
+none_some e = cc
+
+-- the decider of the walk that a leaf shows
+pub decider_shown : (cs : List Chain) (leaf : Leaf) → decider_of (walked_of cs leaf) ≡ option_map (entry_of cs) (step_of leaf)
+decider_shown cs leaf = by_case leaf.by_policy
+  where
+    steps : List Step
+    steps = leaf.trail.items
+
+    last : slice_get (map (entry_of cs) steps) (length (map (entry_of cs) steps) - 1) ≡ option_map (entry_of cs) (slice_get steps (length steps - 1))
+    last = ap (λ n. slice_get (map (entry_of cs) steps) (n - 1)) (length-map steps (entry_of cs)) ∙ slice_get-map (entry_of cs) steps (length steps - 1)
+
+    by_case : (b : Bool) → cond b None (slice_get (map (entry_of cs) steps) (length (map (entry_of cs) steps) - 1)) ≡ option_map (entry_of cs) (cond b None (slice_get steps (length steps - 1)))
+    by_case true = refl
+    by_case false = last
+
+-- a chain that has a rule is there
+rules_there : (cs : List Chain) (name : List ℕ) (k : ℕ) (rule : Rule) → slice_get (rules_of cs name) k ≡ Some rule → (j : ℕ) × (j < length cs) × (name_at cs j ≡ name)
+rules_there [] name k rule e = absurd (none_some e)
+rules_there (c ∷ cs) name k rule e =
+    elim (cases_Bool (is_named name c)) [
+      | inl t ↦ (0, omega arith, (bytes_eq-Decides c.name name).0 t)
+      | inr f ↦ (
+          let r = rules_there cs name k rule (sym (ap (λ b. slice_get (cond b c.rules (rules_of cs name)) k) f) ∙ e) in
+          (suc r.0, omega (arith, r.1), r.2))
+    ]
+
+-- the step of an entry on a trail is a rule of the table
+pub rule_of_entry : (t : Table) (p : Packet) (step : Step) → IsSound t → IsMatched t.chains p.values (entry_of t.chains step) → IsRule t step
+rule_of_entry t p step s m =
+    let there = rules_there t.chains (name_at t.chains step.chain) (step.number - 1) m.0 m.1 in
+    let at : step.chain ≡ there.0 = one_place t step.chain there.0 s there.1 (sym there.2) in
+    let lt : step.chain < length t.chains = omega (arith, at, there.1) in
+    let own : rules_of t.chains (name_at t.chains step.chain) ≡ (chain_at t step.chain).rules = rules_by_name t (chain_at t step.chain) s (Contains-get_or t.chains step.chain (empty_chain []) lt) in
+    let within : step.number - 1 < length (rules_of t.chains (name_at t.chains step.chain)) = slice_get_within (rules_of t.chains (name_at t.chains step.chain)) (step.number - 1) m.0 m.1 in
+    let long : length (rules_of t.chains (name_at t.chains step.chain)) ≡ length (chain_at t step.chain).rules = ap (λ (rs : List Rule). length rs) own in
+    record { chain = lt; first = m.3; last = omega (arith, within, long) }
+
+-- so is the decider of a leaf that shows a packet's walk
+pub decider_is_rule : (t : Table) (p : Packet) (leaf : Leaf) → IsSound t → walk t p ≡ walked_of t.chains leaf → IfSome (step_of leaf) (IsRule t)
+decider_is_rule t p leaf s e = by_case leaf.by_policy
+  where
+    steps : List Step
+    steps = leaf.trail.items
+
+    on_trail : (step : Step) → slice_get steps (length steps - 1) ≡ Some step → IsRule t step
+    on_trail step is =
+        let k : ℕ = length steps - 1 in
+        let lt : k < length steps = slice_get_within steps k step is in
+        let mapped : slice_get (entries_of t.chains steps) k ≡ Some (entry_of t.chains step) = slice_get-map (entry_of t.chains) steps k ∙ ap (option_map (entry_of t.chains)) is in
+        let on : Contains (entries_of t.chains steps) (entry_of t.chains step) = (k, slice_get_within (entries_of t.chains steps) k (entry_of t.chains step) mapped, get_or_from_slice_get (entries_of t.chains steps) k (entry_of t.chains step) (entry_of t.chains step) mapped) in
+        let P : Walked → Type 0 = λ (w : Walked). Contains w.trail (entry_of t.chains step) in
+        rule_of_entry t p step s (All-contains (IsMatched t.chains p.values) (walk t p).trail (entry_of t.chains step) (trail_matches t p) (subst P (sym e) on))
+
+    by_option : (o : Option Step) → slice_get steps (length steps - 1) ≡ o → IfSome o (IsRule t)
+    by_option None is = tt
+    by_option (Some step) is = on_trail step is
+
+    by_case : (b : Bool) → IfSome (cond b None (slice_get steps (length steps - 1))) (IsRule t)
+    by_case true = tt
+    by_case false = by_option (slice_get steps (length steps - 1)) refl

@@ -1,0 +1,153 @@
+-- From exact leaves to what becomes of some packets.
+use Rattle.std.proofs.Common.{◌≡◌, ℕ, ◌≤◌, true, cond, List, get_or, map, refl, sym, ◌∙◌, ap, subst, Option, Some, None, All}
+use Rattle.std.specs.Prelude.{Any, IfSome}
+use Rattle.std.specs.Option.{option_map}
+use Rattle.std.proofs.Math.Dec.{eqb}
+use Rattle.std.proofs.lemmas.Bool.{cond_both, eq-eqb, eqb-true}
+use Rattle.std.proofs.lemmas.List.Elements.{All-contains}
+use Rattle.fields.specs.declared.numbers.field.Field.{Field}
+use Rattle.fields.specs.declared.packet.hook.Hook.{Hook}
+use Rattle.fields.specs.numbers.Field.{all_fields, index, top}
+use Rattle.fields.specs.numbers.Spans.{SpanSet}
+use Rattle.fields.specs.packet.Packet.{PacketView as Packet, IsPacket, point}
+use Rattle.rules.proofs.laws.boxing.BoxLaws.{here_is}
+use Rattle.classify.specs.classifier.Classifier.{IsPoint, box_allows}
+use Rattle.table.specs.chains.Sound.{IsSound}
+use Rattle.table.specs.chains.Table.{Table}
+use Rattle.table.specs.declared.verdict.Verdict.{Verdict}
+use Rattle.table.specs.declared.walk.trail.Step.{Step}
+use Rattle.table.specs.walk.Walk.{Entry, Walked, walk}
+use Rattle.questions.specs.Ends.{EndsBy, IsRule, decider_of, step_of}
+use Rattle.questions.specs.Leaves.{AreLeavesOf, entry_of, walked_of}
+use Rattle.questions.specs.asked.Reach.{Gets, HasItsNumber, IsMeant, IsReach, IsReached}
+use Rattle.questions.specs.boxes.Area.{HasNumbers, IsBoth, IsIn}
+use Rattle.questions.specs.declared.asked.reach.Given.{Given}
+use Rattle.questions.specs.declared.asked.reached.Reached.{Reached}
+use Rattle.questions.specs.declared.walking.task.Leaf.{Leaf}
+use Rattle.questions.specs.steps.Exact.{AnyHas, AreExact, IsExact, IsMet}
+use Rattle.questions.specs.steps.Groups.{AreGroups, HasEnd, IsGroup, IsListed}
+use Rattle.questions.proofs.laws.AreaLaws.{from_fields, on_field}
+use Rattle.questions.proofs.laws.EndLaws.{decider_is_rule, decider_shown, none_some}
+use Rattle.questions.proofs.laws.PacketLaws.{at_index}
+use Rattle.questions.proofs.laws.TrailLaws.{one_place}
+
+-- ---- a packet of a box with a number that its set on a field has
+
+module _ (hook : Hook) (box : List SpanSet) (some : HasNumbers box) (f : Field) (x : ℕ) (le : x ≤ top f) (on : box_allows box f x ≡ true) where
+  abbrev pick : Field → ℕ
+  pick g = cond (eqb (index g) (index f)) x (some g).0
+
+  same_field : (g : Field) → eqb (index g) (index f) ≡ true → f ≡ g
+  same_field g e = sym (here_is f f) ∙ ap (λ k. get_or all_fields k f) (sym (eqb-true (index g) (index f) e)) ∙ here_is g f
+
+  pick_within : (g : Field) → pick g ≤ top g
+  pick_within g =
+      let P : ℕ → Type 0 = λ n. n ≤ top g in
+      let Q : Field → Type 0 = λ h. x ≤ top h in
+      cond_both (eqb (index g) (index f)) x (some g).0 P (λ e. subst Q (same_field g e) le) (λ e. (some g).1)
+
+  pick_allowed : (g : Field) → box_allows box g (pick g) ≡ true
+  pick_allowed g =
+      let P : ℕ → Type 0 = λ n. box_allows box g n ≡ true in
+      let Q : Field → Type 0 = λ h. box_allows box h x ≡ true in
+      cond_both (eqb (index g) (index f)) x (some g).0 P (λ e. subst Q (same_field g e) on) (λ e. (some g).2)
+
+  abbrev pub packet_with : Packet
+  packet_with = record { hook = hook; values = map pick all_fields }
+
+  pub with_packet : IsPacket packet_with
+  with_packet = record { whole = refl; within = λ g. (let P : ℕ → Type 0 = λ n. n ≤ top g in subst P (sym (at_index pick g)) (pick_within g)) }
+
+  pub with_inside : IsIn box packet_with
+  with_inside = from_fields box packet_with.values (λ g. (let P : ℕ → Type 0 = λ n. box_allows box g n ≡ true in subst P (sym (at_index pick g)) (pick_allowed g)))
+
+  pub with_number : point packet_with f ≡ x
+  with_number = at_index pick f ∙ ap (λ b. cond b x (some f).0) (eq-eqb (index f) (index f) refl)
+
+-- ---- the answer
+
+module _ (t : Table) (s : IsSound t) (given met : Given) (f : Field) (exact : List Leaf) (reached : List Reached) (m : IsMet given met) (each : All (IsExact t met) exact) (groups : AreGroups f exact reached) where
+  ends_as : (p : Packet) (leaf : Leaf) (verdict : Verdict) (by : Option Step) → walk t p ≡ walked_of t.chains leaf → leaf.verdict ≡ verdict → step_of leaf ≡ by → EndsBy t p verdict by
+  ends_as p leaf verdict by e v d = record {
+    gives = ap (λ (w : Walked). w.verdict) e ∙ v;
+    decides = ap decider_of e ∙ decider_shown t.chains leaf ∙ ap (option_map (entry_of t.chains)) d;
+  }
+
+  -- the packet of an exact leaf with a number of its set
+  gets_in : (entry : Reached) (x : ℕ) (leaf : Leaf) → IsExact t met leaf → HasEnd entry.verdict entry.by leaf → x ≤ top f → box_allows leaf.area f x ≡ true → (p : Packet) × Gets t given f entry x p × (walk t p ≡ walked_of t.chains leaf)
+  gets_in entry x leaf ex end le on =
+      let p : Packet = packet_with given.hook leaf.area ex.some f x le on in
+      let is : IsPacket p = with_packet given.hook leaf.area ex.some f x le on in
+      let inside : IsIn leaf.area p = with_inside given.hook leaf.area ex.some f x le on in
+      let meant : IsMeant given p = m.only p is refl (ex.inside p.values is.within inside) in
+      let walked : walk t p ≡ walked_of t.chains leaf = ex.walked p meant.can (sym m.there) inside in
+      (p, record { meant = meant; number = with_number given.hook leaf.area ex.some f x le on; ends = ends_as p leaf entry.verdict entry.by walked end.0 end.1 }, walked)
+
+  reached_by : (entry : Reached) → IsGroup f exact entry → IsReached t given f entry
+  reached_by entry group =
+      let w = group.some in
+      let ex : IsExact t met w.1 = All-contains (IsExact t met) exact w.1 each (w.0, w.2, w.3) in
+      let n = ex.some f in
+      let one = gets_in entry n.0 w.1 ex w.4 n.1 n.2 in
+      let P : Option Step → Type 0 = λ o. IfSome o (IsRule t) in
+      record {
+        greatest = group.numbers.greatest;
+        some = (n.0, n.1, group.numbers.all n.0 n.1 (w.0, w.1, w.2, w.3, (w.4, n.2)));
+        each = λ x le on. (
+            let g = group.numbers.only x le on in
+            let own = gets_in entry x g.1 (All-contains (IsExact t met) exact g.1 each (g.0, g.2, g.3)) g.4.0 le g.4.1 in
+            (own.0, own.1));
+        rule = subst P w.4.1 (decider_is_rule t one.0 w.1 s one.2);
+      }
+
+  all_reached : All (IsReached t given f) reached
+  all_reached k d lt = reached_by (get_or reached k d) (groups.each k d lt)
+
+  -- the entry of a packet of an exact leaf
+  number_of : (p : Packet) → IsMeant given p → AnyHas p.values exact → Any (HasItsNumber t f p) reached
+  number_of p meant w =
+      let ex : IsExact t met w.1 = All-contains (IsExact t met) exact w.1 each (w.0, w.2, w.3) in
+      let walked : walk t p ≡ walked_of t.chains w.1 = ex.walked p meant.can (meant.there ∙ sym m.there) w.4 in
+      let e = All-contains (IsListed reached) exact w.1 groups.all (w.0, w.2, w.3) in
+      let group : IsGroup f exact e.1 = All-contains (IsGroup f exact) reached e.1 groups.each (e.0, e.2, e.3) in (
+        e.0,
+        e.1,
+        e.2,
+        e.3,
+        record {
+          number = group.numbers.all (point p f) (meant.can.packet.within f) (w.0, w.1, w.2, w.3, ((sym e.4.0, sym e.4.1), on_field w.1.area p.values f w.4.each));
+          ends = ends_as p w.1 e.1.verdict e.1.by walked (sym e.4.0) (sym e.4.1);
+        },
+      )
+
+  same_step : (a b : Step) → IsRule t b → entry_of t.chains a ≡ entry_of t.chains b → a ≡ b
+  same_step a b is e =
+      let chain : a.chain ≡ b.chain = one_place t a.chain b.chain s is.chain (ap (λ (n : Entry). n.chain) e) in
+      let number : a.number ≡ b.number = ap (λ (n : Entry). n.number) e in
+      let make : ℕ → ℕ → Step = λ c n. record { chain = c; number = n } in
+      ap (λ c. make c a.number) chain ∙ ap (λ n. make b.chain n) number
+
+  same_by : (a b : Option Step) → IfSome b (IsRule t) → option_map (entry_of t.chains) a ≡ option_map (entry_of t.chains) b → a ≡ b
+  same_by None None is e = refl
+  same_by None (Some b) is e = absurd (none_some e)
+  same_by (Some a) None is e = absurd (none_some (sym e))
+  same_by (Some a) (Some b) is e = ap Some (same_step a b is (some_is e))
+    where
+      some_is : {x y : Entry} → ◌≡◌ {A = Option Entry} (Some x) (Some y) → x ≡ y
+      some_is e = cc
+
+  pub reach_of : ((p : Packet) → IsMeant given p → AnyHas p.values exact) → IsReach t given f reached
+  reach_of has_all = record {
+    each = all_reached;
+    all = λ p meant. number_of p meant (has_all p meant);
+    one = λ i j d below lt same. groups.one i j d below lt (same.verdict, same_by (get_or reached i d).by (get_or reached j d).by (all_reached j d lt).rule same.decider);
+  }
+
+-- each packet that is asked about is in an exact leaf
+pub all_exact : (t : Table) (given met : Given) (start : List SpanSet) (found exact : List Leaf) → IsMet given met → IsBoth met.area met.area start → AreLeavesOf t met.hook start found → AreExact t met found exact
+    → (p : Packet) → IsMeant given p → AnyHas p.values exact
+all_exact t given met start found exact m copy leaves is p meant =
+    let point : IsPoint p.values = meant.can.packet.within in
+    let inside : IsIn met.area p = m.all p meant in
+    let w = leaves p meant.can (meant.there ∙ sym m.there) (copy.all p.values point inside inside) in
+    is.all p.values point inside (w.0, w.1, w.2, w.3, w.4.inside)

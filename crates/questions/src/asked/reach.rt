@@ -1,0 +1,63 @@
+//! What becomes of packets that are given in part.
+ghost use Rattle.std.specs.Prelude.{IfOk, IfSome};
+ghost use Rattle.questions.specs.asked.Reach.{IsReach};
+ghost use Rattle.questions.specs.steps.Exact.{IsMet};
+
+use crate::asked::exact::exact_of;
+use crate::asked::reached::{Reached, grouped};
+use crate::boxes::area::Area;
+use crate::boxes::boxes::Boxes;
+use crate::walking::engine::leaves;
+use fields::{Field, Hook};
+use rules::Work;
+use std::alloc::{AllocError, Global};
+use table::Table;
+
+/// The packets of a box that can be at a hook.
+#[derive(Drop)]
+pub struct Given {
+    pub hook: Hook,
+    pub area: Area,
+}
+
+// Those that can be there, as a box.
+fn met(alloc: Global, given: &Given) -> Result<Given, AllocError>
+    ensures { IfOk result (IsMet given.now) }
+{
+    let hook = given.hook;
+    let area = Area::at_hook(alloc, hook)?.within(alloc, given.area.sets())?;
+    Ok(Given { hook, area })
+}
+
+/// What becomes of some packets: for each verdict and the rule or the policy that decides, the numbers that the packets with this
+/// end have on a field. Each number is that of such a packet, and each packet's number is there. Nothing is known where there
+/// are more steps to take than `budget` (`leaves`), or where rules that ask both ports leave open which packets they match.
+///
+/// The packets walk the table as boxes, and each box that came to an end walks it again, with `budget` steps each time. The boxes of
+/// the table's rules are made before.
+///
+/// # Errors
+///
+/// `AllocError` where memory was refused.
+pub fn reach(
+    alloc: Global,
+    table: &Table,
+    given: &Given,
+    field: Field,
+    budget: usize,
+    work: &mut Work,
+) -> Result<Option<Vec<Reached>>, AllocError>
+    ensures { IfOk result (λ found. IfSome found (λ reached. IsReach table.now.table given.now field reached.items)) }
+{
+    table.stands();
+    let boxes = Boxes::of(alloc, table, work)?;
+    let asked = met(alloc, given)?;
+    let start = asked.area.copy(alloc)?;
+    let Some(found) = leaves(alloc, table, &boxes, asked.hook, start, budget)? else {
+        return Ok(None);
+    };
+    match exact_of(alloc, table, &boxes, &asked, found.as_slice(), budget)? {
+        None => Ok(None),
+        Some(exact) => Ok(Some(grouped(alloc, field, exact.as_slice())?)),
+    }
+}
