@@ -1,5 +1,6 @@
-# Read by bin/iptsim and bin/quick: the crates on which the program stands, whether a file that was built of them is up to
-# date, and what both scripts say. `root` is the top of the repository, and `name` is what a script's messages begin with.
+# Read by bin/iptsim, bin/iptaudit and bin/quick: the crates on which a program stands, whether a file that was built of them is
+# up to date, and what these scripts say. `root` is the top of the repository, `made` the program's crate, and `name` is what a
+# script's messages begin with.
 
 # What each crate stands on, by crates.txt.
 declare -A uses=()
@@ -17,7 +18,7 @@ gather() {
   done
   crates+=("$1")
 }
-gather iptsim
+gather "$made"
 
 # is_built FILE FOLDER..: whether the file is there, and nothing in these folders of the crates is newer, nor crates.txt.
 is_built() {

@@ -17,9 +17,9 @@ steps_rule = record (new_rule (codes "steps")) { long = Some (codes "steps"); va
 abbrev pub file_rule : Text → Rule
 file_rule name = record (new_rule name) { required = true; value_names = 1 }
 
--- `dead FILE [--steps N]`
-abbrev pub dead_app : App
-dead_app = with_rule (with_rule (new_app (codes "dead")) (file_rule (codes "file"))) steps_rule
+-- `NAME FILE [--steps N]`
+abbrev pub one_file_app : Text → App
+one_file_app name = with_rule (with_rule (new_app name) (file_rule (codes "file"))) steps_rule
 
 -- `compare OLD NEW [--steps N]`
 abbrev pub compare_app : App
@@ -29,24 +29,34 @@ compare_app = with_rule (with_rule (with_rule (new_app (codes "compare")) (file_
 abbrev pub as_program : App → App
 as_program a = record a { top = record a.top { no_binary_name = true; disable_help_subcommand = true } }
 
--- the program, with its two subcommands
+-- the program, with its four subcommands
 abbrev pub program_app : App
-program_app = with_subcommand (with_subcommand (as_program (new_app (codes "iptaudit"))) dead_app.top) compare_app.top
+program_app = with_subcommand (with_subcommand (with_subcommand (with_subcommand (as_program (new_app (codes "iptaudit")))
+    (one_file_app (codes "dead")).top) compare_app.top) (one_file_app (codes "tests")).top) (one_file_app (codes "cover")).top
+
+-- the name of a subcommand that asks about one file
+abbrev pub AsksOneFile : Text → Type 0
+AsksOneFile name = (name ≡ codes "dead") ⊎ (name ≡ codes "tests") ⊎ (name ≡ codes "cover")
 
 -- the name of a subcommand
 abbrev pub IsSubcommand : Text → Type 0
-IsSubcommand name = (name ≡ codes "dead") ⊎ (name ≡ codes "compare")
+IsSubcommand name = (name ≡ codes "dead") ⊎ (name ≡ codes "compare") ⊎ (name ≡ codes "tests") ⊎ (name ≡ codes "cover")
+
+-- the one file of a subcommand of this name
+abbrev pub AsksOf : Text → Text → List Row → Text → Type 0
+AsksOf subcommand name rows file = (name ≡ subcommand) × (Some file ≡ first_of (codes "file") rows)
 
 -- the question of a subcommand, by its name and what was found of its files
 abbrev pub IsQuestion : Text → List Row → Question → Type 0
-IsQuestion name rows (questions.Dead file) = (name ≡ codes "dead")
-    × (Some file.now ≡ first_of (codes "file") rows)
+IsQuestion name rows (questions.Dead file) = AsksOf (codes "dead") name rows file.now
 IsQuestion name rows (questions.Compare old new) = (name ≡ codes "compare")
     × (Some old.now ≡ first_of (codes "old") rows) × (Some new.now ≡ first_of (codes "new") rows)
+IsQuestion name rows (questions.Tests file) = AsksOf (codes "tests") name rows file.now
+IsQuestion name rows (questions.Cover file) = AsksOf (codes "cover") name rows file.now
 
 -- a file of a subcommand was not found
 abbrev pub LacksFile : Text → List Row → Type 0
-LacksFile name rows = ((name ≡ codes "dead") × (first_of (codes "file") rows ≡ None))
+LacksFile name rows = (AsksOneFile name × (first_of (codes "file") rows ≡ None))
     ⊎ ((name ≡ codes "compare") × ((first_of (codes "old") rows ≡ None) ⊎ (first_of (codes "new") rows ≡ None)))
 
 -- the audit of a subcommand, by its name and what was found of its files and its option

@@ -1,8 +1,8 @@
 //! The program's line: what the words after the program's name ask for.
-ghost use Rattle.std.specs.Prelude.{◌≡◌, IfErr, IfOk, MatchOption, false, map};
-ghost use Rattle.clap.specs.Words.{app_of, found_of, kind_of, rows_of, rule_of};
+ghost use Rattle.std.specs.Prelude.{◌≡◌, IfErr, IfOk, MatchOption, codes, false, map};
+ghost use Rattle.clap.specs.Words.{app_of, found_of, kind_of, new_app, rows_of, rule_of, with_subcommand};
 ghost use Rattle.clap.specs.declared.builder.command.Command.TheViews.{out-Command as fields_of};
-ghost use Rattle.audits.specs.ProgramLine.{IsAuditOn, IsFaultOn, IsQuestion, IsSubcommand, LacksFile, StandsFor, compare_app, dead_app, file_rule, program_app, steps_rule};
+ghost use Rattle.audits.specs.ProgramLine.{IsAuditOn, IsFaultOn, IsQuestion, IsSubcommand, LacksFile, StandsFor, as_program, compare_app, file_rule, one_file_app, program_app, steps_rule};
 
 use clap::error::ErrorKind;
 use clap::{Arg, ArgMatches, Command, Error};
@@ -15,6 +15,10 @@ pub enum Question<'a> {
     Dead { file: &'a str },
     /// Whether two rulesets give each packet the same verdict.
     Compare { old: &'a str, new: &'a str },
+    /// A packet for each rule.
+    Tests { file: &'a str },
+    /// Which rules match none of some packets.
+    Cover { file: &'a str },
 }
 
 /// A question, and the number that was given of steps.
@@ -81,12 +85,13 @@ fn file<'a>(alloc: Global, name: &'a str, shown: &'a str, help: &'a str) -> Arg<
         .help(help)
 }
 
-fn dead<'a>(alloc: Global) -> Result<Command<'a>, AllocError>
-    ensures app { IfOk result (λ c. app_of c ≡ dead_app) }
+// A subcommand that asks about one file.
+fn one_file<'a>(alloc: Global, name: &'a str, about: &'a str) -> Result<Command<'a>, AllocError>
+    ensures app { IfOk result (λ c. app_of c ≡ one_file_app name.entry.now) }
     ensures local { IfOk result (λ c. (fields_of c).has_globals ≡ false) }
 {
-    Command::new(alloc, "dead")
-        .about("Print the rules that no packet can match")
+    Command::new(alloc, name)
+        .about(about)
         .arg(file(alloc, "file", "FILE", "A file of iptables-restore"))?
         .arg(steps(alloc))
 }
@@ -102,16 +107,46 @@ fn compare<'a>(alloc: Global) -> Result<Command<'a>, AllocError>
         .arg(steps(alloc))
 }
 
+// The program without its subcommands.
+fn named<'a>(alloc: Global) -> Result<Command<'a>, AllocError>
+    ensures { IfOk result (λ c. app_of c ≡ as_program (new_app (codes "iptaudit"))) }
+{
+    Ok(
+        Command::new(alloc, "iptaudit")
+            .bin_name("iptaudit")?
+            .about("Questions about all packets, asked of files of iptables-restore")
+            .no_binary_name(true)
+            .disable_help_subcommand(true),
+    )
+}
+
+// Adds a subcommand without global options.
+fn with<'a>(command: Command<'a>, subcommand: Command<'a>) -> Result<Command<'a>, AllocError>
+    requires { (fields_of subcommand).has_globals ≡ false }
+    ensures { IfOk result (λ c. app_of c ≡ with_subcommand (app_of command.entry) (app_of subcommand.entry).top) }
+{
+    command.subcommand(subcommand)
+}
+
 fn program<'a>(alloc: Global) -> Result<Command<'a>, AllocError>
     ensures { IfOk result (λ c. app_of c ≡ program_app) }
 {
-    Command::new(alloc, "iptaudit")
-        .bin_name("iptaudit")?
-        .about("Questions about all packets, asked of files of iptables-restore")
-        .no_binary_name(true)
-        .disable_help_subcommand(true)
-        .subcommand(dead(alloc)?)?
-        .subcommand(compare(alloc)?)
+    let dead = one_file(alloc, "dead", "Print the rules that no packet can match")?;
+    let tests = one_file(
+        alloc,
+        "tests",
+        "Print a session with a packet for each rule",
+    )?;
+    let cover = one_file(
+        alloc,
+        "cover",
+        "Print the rules that match none of the packets on standard input",
+    )?;
+    let program = with(named(alloc)?, dead)?;
+    let program = with(program, compare(alloc)?)?;
+    let program = with(program, tests)?;
+    let program = with(program, cover)?;
+    Ok(program)
 }
 
 // The question of a subcommand, if its files are there.
@@ -128,6 +163,14 @@ fn question_of<'a>(subcommand: &str, matches: &ArgMatches<'a>) -> Option<Questio
         "compare" => match (matches.get_str("old"), matches.get_str("new")) {
             (Some(old), Some(new)) => Some(Question::Compare { old, new }),
             _ => None,
+        },
+        "tests" => match matches.get_str("file") {
+            Some(file) => Some(Question::Tests { file }),
+            None => None,
+        },
+        "cover" => match matches.get_str("file") {
+            Some(file) => Some(Question::Cover { file }),
+            None => None,
         },
         _ => unreachable!(),
     }

@@ -4,6 +4,8 @@
 //! |---|---|
 //! | `dead [--steps N] FILE` | which rules of a ruleset no packet can match |
 //! | `compare [--steps N] OLD NEW` | whether two rulesets give each packet the same verdict |
+//! | `tests [--steps N] FILE` | a packet for each rule |
+//! | `cover [--steps N] FILE` | which rules match none of the packets on standard input |
 #![tactic(auto)]
 
 mod audit;

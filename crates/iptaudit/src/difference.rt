@@ -1,40 +1,13 @@
 //! Whether two rulesets give each packet the same verdict.
+use crate::asking::Asking;
 use crate::fault::Fault;
-use fields::{Hook, Packet, Tap, Text, Words, WriteFailed};
-use questions::{Likeness, compare_at};
-use rules::Work;
+use crate::packet_line::put_packet;
+use fields::{Hook, Packet, Tap, Words};
+use questions::Likeness;
 use sessions::write_walk;
-use std::alloc::Global;
-use std::io::Write;
+use std::io::{IsTerminal, Write};
+use std::rt::Clock;
 use table::Table;
-
-// How many bytes a word of a packet line has at most.
-const WORD_MAX: usize = 256;
-
-// Whether a byte stands between quotes.
-fn is_quoted(byte: u8) -> bool {
-    matches!(byte, b' ' | b'\t' | b'"' | b'\'' | b'\\')
-}
-
-// Writes a word of a line, in quotes where it needs them.
-fn put_word<W: Write>(word: &[u8], output: &mut Tap<W>) -> Result<(), WriteFailed> {
-    if word.iter().any(|byte| is_quoted(*byte)) {
-        if let Some(text) = Text::<WORD_MAX>::read(word) {
-            return text.put(output);
-        }
-    }
-    output.put(word)
-}
-
-// Writes the line that asks a session about a packet: `packet INPUT src=10.0.0.1 ..`.
-fn put_packet<W: Write>(words: &Words, output: &mut Tap<W>) -> Result<(), WriteFailed> {
-    output.put(b"packet")?;
-    for place in 0..words.len() {
-        output.put(b" ")?;
-        put_word(words.get(place), output)?;
-    }
-    output.put(b"\n")
-}
 
 // Writes what a table does with a packet, below a heading.
 fn put_walk<'a, W: Write>(
@@ -84,22 +57,22 @@ fn put_likeness<'a, W: Write>(
 }
 
 /// Writes of each hook whether two tables give each packet there the same verdict, and answers the status: 1 where they
-/// don't at some hook, else 3 where it isn't known at some, else 0. Each walk of boxes takes `budget` steps at most (`compare_at`).
+/// don't at some hook, else 3 where it isn't known at some, else 0.
 ///
 /// # Errors
 ///
 /// Where memory was refused, or a write failed.
-pub(crate) fn write_differences<'a, W: Write>(
-    alloc: Global,
+pub(crate) fn write_differences<'a, R: Clock, E: Print + IsTerminal, W: Write>(
+    asking: &mut Asking<'_, R, E>,
     old: &Table,
     new: &Table,
-    budget: usize,
-    work: &mut Work,
     output: &mut Tap<W>,
 ) -> Result<u8, Fault<'a>> {
+    asking.begin(Hook::ALL.len());
     let (mut differ, mut unclear) = (false, false);
     for hook in Hook::ALL {
-        let likeness = compare_at(alloc, old, new, hook, budget, work)?;
+        asking.next();
+        let likeness = asking.likeness(old, new, hook)?;
         put_likeness(old, new, hook, &likeness, output)?;
         match likeness {
             Likeness::Same => {}

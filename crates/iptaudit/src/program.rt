@@ -1,13 +1,20 @@
 //! What the program does: it reads its line, restores the files, and answers what is asked of them.
+use crate::asking::Asking;
 use crate::difference::write_differences;
+use crate::each_rule::{Form, write_rules};
 use crate::fault::Fault;
-use crate::tally::write_dead;
+use crate::marks::Marks;
+use crate::packet_input::mark_packets;
+use crate::progress::Progress;
 use audits::{Audit, LineFault, Question};
 use fields::Tap;
-use programs::{ProgramFault, buffered_output, let_go, load, texts_after_name, words_given};
+use programs::{
+    ProgramFault, buffered_input, buffered_output, let_go, load, texts_after_name, words_given,
+};
 use sessions::Session;
-use std::io::{self, Write};
-use std::rt::{Env, Files};
+use std::io::{self, IsTerminal, Write};
+use std::rt::{Clock, Env, Files};
+use table::Table;
 
 // How many steps are taken at most for each question, where no number is given.
 const STEPS: usize = 20_000;
@@ -16,8 +23,8 @@ const STEPS: usize = 20_000;
 /// program's status.
 pub(crate) fn run<R, E>(rt: &R, errors: &E) -> u8
 where
-    R: Env + Files + Print + AllocGlobal,
-    E: Print,
+    R: Clock + Env + Files + Input + Print + AllocGlobal,
+    E: Print + IsTerminal,
 {
     match words_given(rt) {
         Ok(words) => run_words(rt, errors, words.as_slice()),
@@ -28,8 +35,8 @@ where
 // The same, of the words that were given, the program's name first.
 fn run_words<R, E>(rt: &R, errors: &E, words: &[String]) -> u8
 where
-    R: Files + Print + AllocGlobal,
-    E: Print,
+    R: Clock + Files + Input + Print + AllocGlobal,
+    E: Print + IsTerminal,
 {
     let texts = match texts_after_name(rt.alloc(), words) {
         Ok(texts) => texts,
@@ -62,15 +69,15 @@ fn steps_of(word: Option<&str>) -> Result<usize, Fault<'_>> {
     }
 }
 
-// A session that has restored a file.
-fn restored<'a, R, E>(rt: &R, errors: &E, file: &'a str) -> Result<Session, Fault<'a>>
+// The table that a file restores.
+fn restored<'a, R, E>(rt: &R, errors: &E, file: &'a str) -> Result<Table, Fault<'a>>
 where
     R: Files + AllocGlobal,
     E: Print,
 {
     let mut session = Session::new(rt.alloc())?;
     match load(rt, errors, &mut session, file)? {
-        0 => Ok(session),
+        0 => Ok(session.into_parts().0),
         4 => Err(Fault::Program(ProgramFault::NoMemory)),
         _ => Err(Fault::CannotRestore(file)),
     }
@@ -79,13 +86,15 @@ where
 // Answers what the words ask, and answers the status.
 fn run_line<'a, R, E>(rt: &R, errors: &E, words: &'a [&'a str]) -> Result<u8, Fault<'a>>
 where
-    R: Files + Print + AllocGlobal,
-    E: Print,
+    R: Clock + Files + Input + Print + AllocGlobal,
+    E: Print + IsTerminal,
 {
     let audit = Audit::read(rt.alloc(), words)?;
     let steps = steps_of(audit.steps)?;
     let mut output = buffered_output(rt.alloc(), io::writer(rt))?;
-    let answered = answer(rt, errors, audit.question, steps, &mut output);
+    let mut asking = Asking::new(rt.alloc(), steps, Progress::new(rt, errors));
+    let answered = answer(rt, errors, audit.question, &mut asking, &mut output);
+    asking.end();
     let flushed = output.flush();
     let_go(output);
     let status = answered?;
@@ -93,28 +102,69 @@ where
     Ok(status)
 }
 
+// Marks the rules that match a packet of standard input. There are no marks where a line of it was refused, whose fault was
+// written.
+fn marked<'a, R, E>(rt: &R, errors: &E, table: &Table) -> Result<Option<Marks>, Fault<'a>>
+where
+    R: Input + AllocGlobal,
+    E: Print,
+{
+    let mut marks = Marks::new(rt.alloc(), table)?;
+    let mut input = buffered_input(rt.alloc(), rt.reader())?;
+    if mark_packets(rt.alloc(), table, &mut input, errors, &mut marks)? {
+        return Ok(Some(marks));
+    }
+    Ok(None)
+}
+
+// Writes which rules match none of the packets on standard input, and answers the status.
+fn write_cover<'a, R, E, W>(
+    rt: &R,
+    errors: &E,
+    asking: &mut Asking<'_, R, E>,
+    table: &Table,
+    output: &mut Tap<W>,
+) -> Result<u8, Fault<'a>>
+where
+    R: Clock + Input + AllocGlobal,
+    E: Print + IsTerminal,
+    W: Write,
+{
+    match marked(rt, errors, table)? {
+        Some(marks) => write_rules(asking, table, Form::Cover(&marks), output),
+        None => Ok(2),
+    }
+}
+
 // Restores the files of a question, and writes its answer.
 fn answer<'a, R, E, W>(
     rt: &R,
     errors: &E,
     question: Question<'a>,
-    steps: usize,
+    asking: &mut Asking<'_, R, E>,
     output: &mut Tap<W>,
 ) -> Result<u8, Fault<'a>>
 where
-    R: Files + AllocGlobal,
-    E: Print,
+    R: Clock + Files + Input + AllocGlobal,
+    E: Print + IsTerminal,
     W: Write,
 {
     match question {
         Question::Dead { file } => {
-            let (table, mut work) = restored(rt, errors, file)?.into_parts();
-            write_dead(rt.alloc(), &table, steps, &mut work, output)
+            let table = restored(rt, errors, file)?;
+            write_rules(asking, &table, Form::Dead, output)
+        }
+        Question::Tests { file } => {
+            let table = restored(rt, errors, file)?;
+            write_rules(asking, &table, Form::Tests, output)
+        }
+        Question::Cover { file } => {
+            let table = restored(rt, errors, file)?;
+            write_cover(rt, errors, asking, &table, output)
         }
         Question::Compare { old, new } => {
-            let (old, mut work) = restored(rt, errors, old)?.into_parts();
-            let (new, _) = restored(rt, errors, new)?.into_parts();
-            write_differences(rt.alloc(), &old, &new, steps, &mut work, output)
+            let (old, new) = (restored(rt, errors, old)?, restored(rt, errors, new)?);
+            write_differences(asking, &old, &new, output)
         }
     }
 }

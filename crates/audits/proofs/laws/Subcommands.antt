@@ -1,9 +1,9 @@
 -- The subcommand that the words name.
-use Rattle.std.proofs.Common.{ap, ap₂, sym, ◌∙◌, ◌≡◌, Bool, true, false, if◌then◌else◌, List, [], Option, Some, None, option_map, inl, inr, ◌⊎◌}
+use Rattle.std.proofs.Common.{ap, ap₂, sym, ◌∙◌, ◌≡◌, Bool, true, false, if◌then◌else◌, List, [], ◌∷◌, find, Option, Some, None, option_map, inl, inr, ◌⊎◌}
 use Rattle.std.proofs.lemmas.Option.{same_Some}
 use Rattle.clap.specs.Words.{App, HasMatchesOf, Row, Shape, Text, fault_of, is_simple, is_simple_and_free, subcommand_of, subcommand_name_of, subcommand_rows_of}
-use Rattle.clap.specs.Simple.{built, entered, names_of, rows_at}
-use Rattle.clap.specs.Walk.{stop_after}
+use Rattle.clap.specs.Simple.{built, entered, label_of, names_of, rows_at}
+use Rattle.clap.specs.Walk.{answers_to, stop_after}
 use Rattle.clap.specs.declared.parser.matches.ArgMatches.{ArgMatches}
 use Rattle.audits.specs.ProgramLine.{IsSubcommand, program_app}
 
@@ -26,18 +26,36 @@ named_by_words app words m name rows is matches first second =
 pub taken_words : (app : App) (words : List Text) → app ≡ program_app → (is_simple_and_free app ≡ true → fault_of app words ≡ []) → fault_of program_app words ≡ []
 taken_words app words is taken = sym (ap (λ a. fault_of a words) is) ∙ taken (ap is_simple_and_free is)
 
--- one of two that may be entered
-one_of_two : (s t : Shape) (words : List Text) (x y : Bool) (met : Text × List Row)
-    → option_map (λ r. rows_at r words) (if x then Some s else (if y then Some t else None)) ≡ Some met
-    → (met.0 ≡ s.name) ⊎ (met.0 ≡ t.name)
-one_of_two s t words true y met e = inl (sym (ap (λ (p : Text × List Row). p.0) (same_Some _ _ e)))
-one_of_two s t words false true met e = inr (sym (ap (λ (p : Text × List Row). p.0) (same_Some _ _ e)))
-one_of_two s t words false false met e = absurd (cc)
+-- the name is that of one of the shapes
+abbrev pub IsNamed : List Shape → Text → Type 0
+IsNamed [] name = ⊥
+IsNamed (s ∷ []) name = name ≡ s.name
+IsNamed (s ∷ t ∷ more) name = (name ≡ s.name) ⊎ IsNamed (t ∷ more) name
+
+-- what is met is the first shape, or one after it
+first_or_later : (x : Bool) (s : Shape) (later : Option Shape) (words : List Text) (met : Text × List Row)
+    → option_map (λ r. rows_at r words) (if x then Some s else later) ≡ Some met
+    → (met.0 ≡ s.name) ⊎ (option_map (λ r. rows_at r words) later ≡ Some met)
+first_or_later true s later words met e = inl (sym (ap (λ (p : Text × List Row). p.0) (same_Some _ _ e)))
+first_or_later false s later words met e = inr e
+
+-- what is met has the name of a shape
+found_is_named : (test : Shape → Bool) (shapes : List Shape) (words : List Text) (met : Text × List Row)
+    → option_map (λ r. rows_at r words) (find test shapes) ≡ Some met → IsNamed shapes met.0
+found_is_named test [] words met e = absurd (cc)
+found_is_named test (s ∷ []) words met e = elim (first_or_later (test s) s None words met e) [
+  | inl first ↦ first
+  | inr later ↦ absurd (cc)
+]
+found_is_named test (s ∷ t ∷ more) words met e = elim (first_or_later (test s) s (find test (t ∷ more)) words met e) [
+  | inl first ↦ inl first
+  | inr later ↦ inr (found_is_named test (t ∷ more) words met later)
+]
 
 -- what is entered is one of the program's subcommands
 entered_is_known : (stop : Option (Text × List Text)) (met : Text × List Row) → entered (built program_app) stop ≡ Some met → IsSubcommand met.0
 entered_is_known None met e = absurd (cc)
-entered_is_known (Some p) met e = one_of_two _ _ p.1 _ _ met e
+entered_is_known (Some p) met e = found_is_named (λ s. answers_to p.0 (label_of s)) (built program_app).subs p.1 met e
 
 -- the words name no other subcommand
 pub named_is_known : (words : List Text) (met : Text × List Row) → subcommand_of program_app words ≡ Some met → IsSubcommand met.0

@@ -8,7 +8,7 @@ pub returns-in-Some : goal.returns-in-Some
 returns-in-Some c = (c.in-dead.is, c.in-Some.ensures ∙ first_value-rows (found_of c.args.matches.now) (codes "file"))
 
 pub returns-in-None : goal.returns-in-None
-returns-in-None c = inl (c.in-dead.is, sym (c.in-None.ensures ∙ first_value-rows (found_of c.args.matches.now) (codes "file")))
+returns-in-None c = inl (inl c.in-dead.is, sym (c.in-None.ensures ∙ first_value-rows (found_of c.args.matches.now) (codes "file")))
 
 pub returns-in-Some-Some : goal.returns-in-Some-Some
 returns-in-Some-Some c = (
@@ -25,3 +25,15 @@ returns-in_default-2 c = inr (
     | in_default-2-via-in_default w ↦ inl (sym (w.in_default-2.ensures ∙ first_value-rows (found_of c.args.matches.now) (codes "old")))
   ],
 )
+
+pub returns-in-Some-get_str : goal.returns-in-Some-get_str
+returns-in-Some-get_str c = (c.in-tests.is, c.in-Some-get_str.ensures ∙ first_value-rows (found_of c.args.matches.now) (codes "file"))
+
+pub returns-in-None-get_str : goal.returns-in-None-get_str
+returns-in-None-get_str c = inl (inr (inl c.in-tests.is), sym (c.in-None-get_str.ensures ∙ first_value-rows (found_of c.args.matches.now) (codes "file")))
+
+pub returns-in-Some-get_str-2 : goal.returns-in-Some-get_str-2
+returns-in-Some-get_str-2 c = (c.in-cover.is, c.in-Some-get_str-2.ensures ∙ first_value-rows (found_of c.args.matches.now) (codes "file"))
+
+pub returns-in-None-get_str-2 : goal.returns-in-None-get_str-2
+returns-in-None-get_str-2 c = inl (inr (inr c.in-cover.is), sym (c.in-None-get_str-2.ensures ∙ first_value-rows (found_of c.args.matches.now) (codes "file")))

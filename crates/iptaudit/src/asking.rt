@@ -1,0 +1,86 @@
+//! The questions that are asked of tables, what they may take, and how far they are.
+ghost use Rattle.std.specs.Prelude.{◌<◌, ◌≤◌, length};
+ghost use Rattle.table.specs.chains.Table.{chain_at};
+
+use crate::progress::Progress;
+use fields::Hook;
+use questions::{Life, Likeness, compare_at, dead};
+use rules::Work;
+use std::alloc::{AllocError, Global};
+use std::io::IsTerminal;
+use std::rt::Clock;
+use table::{Step, Table};
+
+/// How many steps each question takes at most, the boxes that the questions so far made, and how many were asked.
+#[derive(Drop)]
+pub(crate) struct Asking<'a, R, E> {
+    alloc: Global,
+    steps: usize,
+    work: Work,
+    progress: Progress<'a, R, E>,
+}
+
+impl<'a, R: Clock, E: Print + IsTerminal> Asking<'a, R, E> {
+    /// Before any question.
+    pub(crate) fn new(
+        alloc: Global,
+        steps: usize,
+        progress: Progress<'a, R, E>,
+    ) -> Asking<'a, R, E> {
+        Asking {
+            alloc,
+            steps,
+            work: Work::new(),
+            progress,
+        }
+    }
+
+    /// So many questions are to be asked.
+    pub(crate) fn begin(&mut self, all: usize) {
+        self.progress.begin(all);
+    }
+
+    /// The next question is asked, or it needn't be.
+    pub(crate) fn next(&mut self) {
+        self.progress.note();
+    }
+
+    /// No more questions are asked.
+    pub(crate) fn end(&mut self) {
+        self.progress.end();
+    }
+
+    /// Whether a rule can match (`dead`).
+    ///
+    /// # Errors
+    ///
+    /// `AllocError` where memory was refused.
+    pub(crate) fn life(&mut self, table: &Table, at: Step) -> Result<Life, AllocError>
+        requires place { at.chain < length table.now.table.chains }
+        requires first { 0 < at.number }
+        requires last { at.number ≤ length (chain_at table.now.table at.chain).rules }
+    {
+        dead(
+            self.alloc,
+            table,
+            at.chain,
+            at.number,
+            self.steps,
+            &mut self.work,
+        )
+    }
+
+    /// Whether two tables give each packet at a hook the same verdict (`compare_at`).
+    ///
+    /// # Errors
+    ///
+    /// `AllocError` where memory was refused.
+    pub(crate) fn likeness(
+        &mut self,
+        old: &Table,
+        new: &Table,
+        hook: Hook,
+    ) -> Result<Likeness, AllocError> {
+        compare_at(self.alloc, old, new, hook, self.steps, &mut self.work)
+    }
+}
