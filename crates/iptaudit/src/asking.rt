@@ -1,8 +1,10 @@
 //! The questions that are asked of tables, what they may take, and how far they are.
 ghost use Rattle.std.specs.Prelude.{◌<◌, ◌≤◌, length};
 ghost use Rattle.table.specs.chains.Table.{chain_at};
+ghost use Rattle.questions.specs.boxes.Boxes.{AreBoxesOf};
 
 use crate::progress::Progress;
+use crate::subject::Subject;
 use fields::Hook;
 use questions::{Life, Likeness, compare_at, dead};
 use rules::Work;
@@ -11,12 +13,11 @@ use std::io::IsTerminal;
 use std::rt::Clock;
 use table::{Step, Table};
 
-/// How many steps each question takes at most, the boxes that the questions so far made, and how many were asked.
+/// How many steps each question takes at most, and how many were asked.
 #[derive(Drop)]
 pub(crate) struct Asking<'a, R, E> {
     alloc: Global,
     steps: usize,
-    work: Work,
     progress: Progress<'a, R, E>,
 }
 
@@ -30,7 +31,6 @@ impl<'a, R: Clock, E: Print + IsTerminal> Asking<'a, R, E> {
         Asking {
             alloc,
             steps,
-            work: Work::new(),
             progress,
         }
     }
@@ -55,18 +55,19 @@ impl<'a, R: Clock, E: Print + IsTerminal> Asking<'a, R, E> {
     /// # Errors
     ///
     /// `AllocError` where memory was refused.
-    pub(crate) fn life(&mut self, table: &Table, at: Step) -> Result<Life, AllocError>
-        requires place { at.chain < length table.now.table.chains }
+    pub(crate) fn life(&self, subject: &Subject, at: Step) -> Result<Life, AllocError>
+        requires boxes { AreBoxesOf subject.now.table.table.chains subject.now.boxes }
+        requires place { at.chain < length subject.now.table.table.chains }
         requires first { 0 < at.number }
-        requires last { at.number ≤ length (chain_at table.now.table at.chain).rules }
+        requires last { at.number ≤ length (chain_at subject.now.table.table at.chain).rules }
     {
         dead(
             self.alloc,
-            table,
+            &subject.table,
+            &subject.boxes,
             at.chain,
             at.number,
             self.steps,
-            &mut self.work,
         )
     }
 
@@ -76,11 +77,12 @@ impl<'a, R: Clock, E: Print + IsTerminal> Asking<'a, R, E> {
     ///
     /// `AllocError` where memory was refused.
     pub(crate) fn likeness(
-        &mut self,
+        &self,
         old: &Table,
         new: &Table,
         hook: Hook,
+        work: &mut Work,
     ) -> Result<Likeness, AllocError> {
-        compare_at(self.alloc, old, new, hook, self.steps, &mut self.work)
+        compare_at(self.alloc, old, new, hook, self.steps, work)
     }
 }

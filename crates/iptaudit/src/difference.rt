@@ -4,6 +4,7 @@ use crate::fault::Fault;
 use crate::packet_line::put_packet;
 use fields::{Hook, Packet, Tap, Words};
 use questions::Likeness;
+use rules::Work;
 use sessions::write_walk;
 use std::io::{IsTerminal, Write};
 use std::rt::Clock;
@@ -66,13 +67,14 @@ pub(crate) fn write_differences<'a, R: Clock, E: Print + IsTerminal, W: Write>(
     asking: &mut Asking<'_, R, E>,
     old: &Table,
     new: &Table,
+    work: &mut Work,
     output: &mut Tap<W>,
 ) -> Result<u8, Fault<'a>> {
     asking.begin(Hook::ALL.len());
     let (mut differ, mut unclear) = (false, false);
     for hook in Hook::ALL {
         asking.next();
-        let likeness = asking.likeness(old, new, hook)?;
+        let likeness = asking.likeness(old, new, hook, work)?;
         put_likeness(old, new, hook, &likeness, output)?;
         match likeness {
             Likeness::Same => {}

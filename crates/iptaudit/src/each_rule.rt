@@ -1,12 +1,14 @@
 //! What is known of each rule, in the order of a listing.
 ghost use Rattle.std.specs.Prelude.{◌<◌, ◌≤◌, length};
 ghost use Rattle.table.specs.chains.Table.{chain_at};
+ghost use Rattle.questions.specs.boxes.Boxes.{AreBoxesOf};
 
 use crate::asking::Asking;
 use crate::fault::Fault;
 use crate::marks::Marks;
 use crate::packet_line::put_packet;
 use crate::rule_line::put_rule;
+use crate::subject::Subject;
 use crate::tally::Tally;
 use fields::{Tap, WriteFailed};
 use questions::Life;
@@ -88,44 +90,46 @@ impl<'a> Form<'a> {
 // Asks of a rule, and writes what is known of it.
 fn write_rule<'a, R: Clock, E: Print + IsTerminal, W: Write>(
     asking: &mut Asking<'_, R, E>,
-    table: &Table,
+    subject: &Subject,
     form: Form<'_>,
     at: Step,
     tally: &mut Tally,
     output: &mut Tap<W>,
 ) -> Result<(), Fault<'a>>
-    requires place { at.chain < length table.now.table.chains }
+    requires boxes { AreBoxesOf subject.now.table.table.chains subject.now.boxes }
+    requires place { at.chain < length subject.now.table.table.chains }
     requires first { 0 < at.number }
-    requires last { at.number ≤ length (chain_at table.now.table at.chain).rules }
+    requires last { at.number ≤ length (chain_at subject.now.table.table at.chain).rules }
 {
     asking.next();
     if form.is_covered(at) {
         tally.note_covered();
         return Ok(());
     }
-    let life = asking.life(table, at)?;
+    let life = asking.life(subject, at)?;
     tally.note(&life);
-    form.put(table, at, &life, output)?;
+    form.put(&subject.table, at, &life, output)?;
     Ok(())
 }
 
 // Asks of each rule of the chain at a place.
 fn write_chain<'a, R: Clock, E: Print + IsTerminal, W: Write>(
     asking: &mut Asking<'_, R, E>,
-    table: &Table,
+    subject: &Subject,
     form: Form<'_>,
     place: usize,
     tally: &mut Tally,
     output: &mut Tap<W>,
 ) -> Result<(), Fault<'a>>
-    requires { place < length table.now.table.chains }
+    requires boxes { AreBoxesOf subject.now.table.table.chains subject.now.boxes }
+    requires place { place < length subject.now.table.table.chains }
 {
-    for before in 0..table.rule_count(place) {
+    for before in 0..subject.table.rule_count(place) {
         let at = Step {
             chain: place,
             number: before + 1,
         };
-        write_rule(asking, table, form, at, tally, output)?;
+        write_rule(asking, subject, form, at, tally, output)?;
     }
     Ok(())
 }
@@ -147,14 +151,16 @@ fn rules_of(table: &Table) -> usize {
 /// Where memory was refused, or a write failed.
 pub(crate) fn write_rules<'a, R: Clock, E: Print + IsTerminal, W: Write>(
     asking: &mut Asking<'_, R, E>,
-    table: &Table,
+    subject: &Subject,
     form: Form<'_>,
     output: &mut Tap<W>,
-) -> Result<u8, Fault<'a>> {
-    asking.begin(rules_of(table));
+) -> Result<u8, Fault<'a>>
+    requires { AreBoxesOf subject.now.table.table.chains subject.now.boxes }
+{
+    asking.begin(rules_of(&subject.table));
     let mut tally = Tally::new();
-    for place in 0..table.chain_count() {
-        write_chain(asking, table, form, place, &mut tally, output)?;
+    for place in 0..subject.table.chain_count() {
+        write_chain(asking, subject, form, place, &mut tally, output)?;
     }
     Ok(form.end(&tally, output)?)
 }

@@ -11,6 +11,7 @@ mod packet_line;
 mod program;
 mod progress;
 mod rule_line;
+mod subject;
 mod tally;
 
 use crate::program::run;

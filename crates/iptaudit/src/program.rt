@@ -1,4 +1,7 @@
 //! What the program does: it reads its line, restores the files, and answers what is asked of them.
+ghost use Rattle.std.specs.Prelude.{IfOk};
+ghost use Rattle.questions.specs.boxes.Boxes.{AreBoxesOf};
+
 use crate::asking::Asking;
 use crate::difference::write_differences;
 use crate::each_rule::{Form, write_rules};
@@ -6,11 +9,13 @@ use crate::fault::Fault;
 use crate::marks::Marks;
 use crate::packet_input::mark_packets;
 use crate::progress::Progress;
+use crate::subject::Subject;
 use audits::{Audit, LineFault, Question};
 use fields::Tap;
 use programs::{
     ProgramFault, buffered_input, buffered_output, let_go, load, texts_after_name, words_given,
 };
+use questions::Boxes;
 use sessions::Session;
 use std::io::{self, IsTerminal, Write};
 use std::rt::{Clock, Env, Files};
@@ -69,18 +74,30 @@ fn steps_of(word: Option<&str>) -> Result<usize, Fault<'_>> {
     }
 }
 
-// The table that a file restores.
-fn restored<'a, R, E>(rt: &R, errors: &E, file: &'a str) -> Result<Table, Fault<'a>>
+// A session that has restored a file.
+fn restored<'a, R, E>(rt: &R, errors: &E, file: &'a str) -> Result<Session, Fault<'a>>
 where
     R: Files + AllocGlobal,
     E: Print,
 {
     let mut session = Session::new(rt.alloc())?;
     match load(rt, errors, &mut session, file)? {
-        0 => Ok(session.into_parts().0),
+        0 => Ok(session),
         4 => Err(Fault::Program(ProgramFault::NoMemory)),
         _ => Err(Fault::CannotRestore(file)),
     }
+}
+
+// The table that a file restores, with the boxes of its rules.
+fn subject_of<'a, R, E>(rt: &R, errors: &E, file: &'a str) -> Result<Subject, Fault<'a>>
+where
+    R: Files + AllocGlobal,
+    E: Print,
+    ensures { IfOk result (λ subject. AreBoxesOf subject.table.table.chains subject.boxes) }
+{
+    let (table, mut work) = restored(rt, errors, file)?.into_parts();
+    let boxes = Boxes::of(rt.alloc(), &table, &mut work)?;
+    Ok(Subject { table, boxes })
 }
 
 // Answers what the words ask, and answers the status.
@@ -122,16 +139,17 @@ fn write_cover<'a, R, E, W>(
     rt: &R,
     errors: &E,
     asking: &mut Asking<'_, R, E>,
-    table: &Table,
+    subject: &Subject,
     output: &mut Tap<W>,
 ) -> Result<u8, Fault<'a>>
 where
     R: Clock + Input + AllocGlobal,
     E: Print + IsTerminal,
     W: Write,
+    requires { AreBoxesOf subject.now.table.table.chains subject.now.boxes }
 {
-    match marked(rt, errors, table)? {
-        Some(marks) => write_rules(asking, table, Form::Cover(&marks), output),
+    match marked(rt, errors, &subject.table)? {
+        Some(marks) => write_rules(asking, subject, Form::Cover(&marks), output),
         None => Ok(2),
     }
 }
@@ -151,20 +169,21 @@ where
 {
     match question {
         Question::Dead { file } => {
-            let table = restored(rt, errors, file)?;
-            write_rules(asking, &table, Form::Dead, output)
+            let subject = subject_of(rt, errors, file)?;
+            write_rules(asking, &subject, Form::Dead, output)
         }
         Question::Tests { file } => {
-            let table = restored(rt, errors, file)?;
-            write_rules(asking, &table, Form::Tests, output)
+            let subject = subject_of(rt, errors, file)?;
+            write_rules(asking, &subject, Form::Tests, output)
         }
         Question::Cover { file } => {
-            let table = restored(rt, errors, file)?;
-            write_cover(rt, errors, asking, &table, output)
+            let subject = subject_of(rt, errors, file)?;
+            write_cover(rt, errors, asking, &subject, output)
         }
         Question::Compare { old, new } => {
-            let (old, new) = (restored(rt, errors, old)?, restored(rt, errors, new)?);
-            write_differences(asking, &old, &new, output)
+            let (old, mut work) = restored(rt, errors, old)?.into_parts();
+            let (new, _) = restored(rt, errors, new)?.into_parts();
+            write_differences(asking, &old, &new, &mut work, output)
         }
     }
 }
