@@ -1,4 +1,6 @@
+pub mod BesideLaws
 pub mod BitLaws
+pub mod CopyLaws
 pub mod GetLaws
 pub mod MarkLaws
 pub mod MoveLaws

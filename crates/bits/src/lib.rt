@@ -9,7 +9,7 @@ mod summary;
 mod words;
 
 pub use bit_row::{BitRow, MOST_BITS};
-pub use moves::insert_at;
+pub use moves::{insert_at, insert_pair_at};
 pub use rows::Rows;
 pub use summary::{is_marked, next_marked};
 pub use words::bit_at;

@@ -52,3 +52,28 @@ pub fn insert_at(items: &mut Vec<u32>, at: usize, item: u32) -> Result<(), Alloc
     items[at] = item;
     Ok(())
 }
+
+/// Puts two numbers in at a place, the first there and the other after it: the later ones move up by two, in one move.
+///
+/// # Errors
+///
+/// `AllocError` where memory was refused, never where there is room for both: the numbers are as before.
+pub fn insert_pair_at(
+    items: &mut Vec<u32>,
+    at: usize,
+    first: u32,
+    other: u32,
+) -> Result<(), AllocError>
+    requires { at ≤ length items.old.items }
+    ensures ok { OnOk result (items.new.items ≡ insert (insert items.old.items at other) at first) }
+    ensures err { OnErr result (items.new.items ≡ items.old.items) }
+    ensures there { length items.old.items + 1 < vec_capacity items.old → IsOk result }
+{
+    items.reserve(2)?;
+    items.push_reserved(first);
+    items.push_reserved(other);
+    raise(items.as_mut_slice(), at, 2);
+    items[at] = first;
+    items[at + 1] = other;
+    Ok(())
+}

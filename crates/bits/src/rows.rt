@@ -9,10 +9,10 @@ ghost use Rattle.bits.specs.steps.Shifts.{Shifts};
 ghost use Rattle.bits.specs.steps.Summaries.{IsSummaryOf, SumUp};
 
 use crate::bit_row::MOST_WORDS;
-use crate::moves::insert_at;
+use crate::moves::{insert_at, insert_pair_at};
 use crate::sparse::{Way, shift};
 use crate::summary::{is_marked, marked};
-use crate::words::{bit_at, same_bits, set_bit};
+use crate::words::{bit_at, same_beside, same_bits, set_bit};
 use std::alloc::{AllocError, Global};
 use std::marker::Model;
 
@@ -140,6 +140,23 @@ fn widen(
         wide.resize((slot + 1) * wider, 0)?;
     }
     Ok(wide)
+}
+
+// Puts the words of a row after all words, twice.
+fn append_twice(words: &mut Vec<u64>, start: usize, width: usize) -> Result<(), AllocError>
+    requires { start + width ≤ length words.old.items }
+    ensures ok { OnOk result (words.new.items ≡ (words.old.items ++ take width (drop start words.old.items)) ++ take width (drop start words.old.items)) }
+    ensures err { OnErr result (words.new.items ≡ words.old.items) }
+{
+    let before = words.len();
+    words.extend_from_within(start..start + width)?;
+    match words.extend_from_within(start..start + width) {
+        Ok(()) => Ok(()),
+        Err(refused) => {
+            words.truncate(before);
+            Err(refused)
+        }
+    }
 }
 
 /// Rows of equally many bits, in an order: the bit at p is bit p mod 64 of the row's word p div 64. A row's slot is where
@@ -273,6 +290,32 @@ impl Rows {
         same_bits(self.row(one), self.row(other))
     }
 
+    /// Whether two rows are equal beside the bits at a place.
+    pub fn same_beside(&self, one: usize, other: usize, at: usize) -> bool
+        requires one { one < length self.now.rows }
+        requires other { other < length self.now.rows }
+        ensures { IsTrue result ↔ (remove (slice_index_or self.now.rows one []) at ≡ remove (slice_index_or self.now.rows other []) at) }
+    {
+        let _len = self.len;
+        same_beside(self.row(one), self.row(other), at)
+    }
+
+    /// Where the rows begin, side by side up to one of them, that have its bit at a place.
+    pub fn run_start(&self, row: usize, at: usize) -> usize
+        requires row { row < length self.now.rows }
+        requires place { All (λ row. at < length row) self.now.rows }
+        ensures within { result ≤ row }
+        ensures alike { (k : ℕ) → result ≤ k → k ≤ row
+            → slice_index_or (slice_index_or self.now.rows k []) at false ≡ slice_index_or (slice_index_or self.now.rows row []) at false }
+    {
+        let bit = self.get(row, at);
+        let mut first = row;
+        while first > 0 && self.get(first - 1, at) == bit {
+            first -= 1;
+        }
+        first
+    }
+
     /// Puts a copy of a row after it.
     ///
     /// # Errors
@@ -293,6 +336,32 @@ impl Rows {
         self.words.extend_from_within(start..start + self.width)?;
         let _ = insert_at(&mut self.slots, row + 1, slot);
         let _ = self.summaries.push(self.summaries[from]);
+        Ok(())
+    }
+
+    /// Puts two copies of a row after it, by one move of the slots after them.
+    ///
+    /// # Errors
+    ///
+    /// `AllocError` where memory was refused, or there would be more than 2 to the 32 rows: the rows are as before.
+    pub fn duplicate_twice(&mut self, row: usize) -> Result<(), AllocError>
+        requires { row < length self.old.rows }
+        ensures ok { OnOk result (self.new.rows
+            ≡ insert (insert self.old.rows (row + 1) (slice_index_or self.old.rows row [])) (row + 1) (slice_index_or self.old.rows row [])) }
+        ensures err { OnErr result (self.new.rows ≡ self.old.rows) }
+        ensures few { OnOk result (length self.new.rows ≤ 2 ^ 32) }
+        ensures room { self.new.room ≡ self.old.room }
+    {
+        let slot = slot_after(self.slots.len())?;
+        let next = slot_after(self.slots.len() + 1)?;
+        self.slots.reserve(2)?;
+        self.summaries.reserve(2)?;
+        let from = self.slots[row] as usize;
+        append_twice(&mut self.words, from * self.width, self.width)?;
+        let _ = insert_pair_at(&mut self.slots, row + 1, next, slot);
+        let summary = self.summaries[from];
+        self.summaries.push_reserved(summary);
+        self.summaries.push_reserved(summary);
         Ok(())
     }
 

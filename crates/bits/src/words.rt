@@ -1,7 +1,7 @@
 //! Bits moved within words and from word to word.
 
-ghost use Rattle.std.specs.Prelude.{◌≡◌, ◌++◌, ◌∷◌, [], ◌<◌, ◌≤◌, ◌*◌, length, false, insert, remove, slice_set, slice_index, slice_index_or, take, ℕ, IsTrue, ◌↔◌};
-ghost use Rattle.bits.specs.steps.Packing.{word_bits, all_bits, low_bit, top_bit, IsPacked};
+ghost use Rattle.std.specs.Prelude.{◌≡◌, ◌≢◌, ◌++◌, ◌∷◌, [], ◌<◌, ◌≤◌, ◌+◌, ◌*◌, length, false, insert, remove, slice_set, slice_index, slice_index_or, take, ℕ, IsTrue, ◌↔◌};
+ghost use Rattle.bits.specs.steps.Packing.{word_bits, all_bits, low_bit, top_bit, AreAlikeBeside, IsPacked};
 
 /// The bit at a place of some words.
 pub fn bit_at(words: &[u64], at: usize) -> bool
@@ -21,6 +21,34 @@ pub(crate) fn same_bits(one: &[u64], other: &[u64]) -> bool
         let word = one[k];
         let others = other[k];
         if word != others {
+            return false;
+        }
+    }
+    true
+}
+
+// Whether two words, each the k-th of a row, have equal bits beside those at a place of the rows.
+fn same_word_beside(word: u64, other: u64, k: usize, at: usize) -> bool
+    ensures { IsTrue result ↔ ((r : ℕ) → r < 64 → 64 * k + r ≢ at
+        → slice_index_or (word_bits 64 word) r false ≡ slice_index_or (word_bits 64 other) r false) }
+{
+    if word == other {
+        return true;
+    }
+    if k != at / 64 {
+        return false;
+    }
+    let offset = (at % 64) as u32;
+    set_bit(word, offset, false) == set_bit(other, offset, false)
+}
+
+/// Whether the words of two rows have equal bits beside those at one place.
+pub(crate) fn same_beside(one: &[u64], other: &[u64], at: usize) -> bool
+    requires { length one.now ≡ length other.now }
+    ensures { IsTrue result ↔ AreAlikeBeside at (64 * length one.now) (all_bits one.now) (all_bits other.now) }
+{
+    for k in 0..one.len() {
+        if !same_word_beside(one[k], other[k], k, at) {
             return false;
         }
     }

@@ -2,7 +2,7 @@
 use Rattle.std.proofs.Common.{◌≡◌, ℕ, ◌+◌, ◌-◌, ◌<◌, ◌≤◌, List, [], ◌∷◌, ◌++◌, length, take, drop, get_or, refl, sym, ◌∙◌, ap, arith, length-append, take-add}
 use Rattle.std.proofs.Math.ListN.{set}
 use Rattle.std.specs.List.{insert}
-use Rattle.std.proofs.lemmas.List.{take-append-drop, length-take-le, take-take, take-set, drop-set, drop_all, drop-drop, drop-take, take_at, drop_at, drop_more, length-set, take-append-le, drop-append-le, length-drop}
+use Rattle.std.proofs.lemmas.List.{take-append-drop, length-take-le, take-take, take-set, take-set-le, drop-set, drop-set-add, drop_all, drop-drop, drop-take, take_at, drop_at, drop_more, length-set, take-append-le, drop-append-le, length-drop}
 use Rattle.std.proofs.lemmas.Simd.{put_chunk_is, length-chunk, length-put_chunk}
 use lib.Lanes.{chunk, put_chunk}
 use Rattle.bits.specs.steps.Moves.{Raised}
@@ -109,3 +109,24 @@ filled_one xs ys new at x g =
     ∙ ap (λ (zs : List ℕ). zs ++ drop at (set new at x)) (take-set new at x ∙ gap_low xs ys new at 1 g)
     ∙ ap (λ (zs : List ℕ). take at xs ++ zs)
     (drop-set new at x (omega (arith, g.same, length-append xs ys, g.few, g.within)) ∙ ap (λ (zs : List ℕ). x ∷ zs) (gap_high xs ys new at 1 g))
+
+-- two elements put in at a place, one before the other
+inserted_pair : (xs : List ℕ) (at x y : ℕ) → at ≤ length xs → insert (insert xs at y) at x ≡ take at xs ++ (x ∷ y ∷ drop at xs)
+inserted_pair xs at x y le =
+    let long : length (take at xs) ≡ at = length-take-le at xs le in
+    ap (λ (zs : List ℕ). zs ++ (x ∷ drop at (insert xs at y))) (take_at (take at xs) (y ∷ drop at xs) at long)
+    ∙ ap (λ (zs : List ℕ). take at xs ++ (x ∷ zs)) (drop_at (take at xs) (y ∷ drop at xs) at long)
+
+-- two elements put into a gap
+pub filled_pair : (xs ys new : List ℕ) (at x y : ℕ) → HasGap xs ys new at 2 → set (set new at x) (at + 1) y ≡ insert (insert xs at y) at x
+filled_pair xs ys new at x y g =
+    let one : List ℕ = set new at x in
+    let both : List ℕ = set one (at + 1) y in
+    let size : length new ≡ length xs + 2 = g.same ∙ length-append xs ys ∙ ap (λ (n : ℕ). length xs + n) g.few in
+    let next : at + 1 + 1 ≡ at + 2 = omega arith in
+    sym (take-append-drop at both)
+    ∙ ap (λ (zs : List ℕ). zs ++ drop at both) (take-set-le at one (at + 1) y (omega arith) ∙ take-set new at x ∙ gap_low xs ys new at 2 g)
+    ∙ ap (λ (zs : List ℕ). take at xs ++ zs) (drop-set-add at one 1 y ∙ ap (λ (zs : List ℕ). set zs 1 y) (drop-set new at x (omega (arith, size, g.within)))
+    ∙ ap (λ (zs : List ℕ). x ∷ set zs 0 y) (drop_more new (at + 1) 0 (omega (arith, size, g.within)))
+    ∙ ap (λ (zs : List ℕ). x ∷ y ∷ zs) (ap (λ (n : ℕ). drop n new) next ∙ gap_high xs ys new at 2 g))
+    ∙ sym (inserted_pair xs at x y g.within)

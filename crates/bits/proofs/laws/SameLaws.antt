@@ -19,7 +19,7 @@ low_bit_decides v w e =
           omega arith)
     ]
 
-same_word : (n v w : ℕ) → v < 2 ^ n → w < 2 ^ n → word_bits n v ≡ word_bits n w → v ≡ w
+pub same_word : (n v w : ℕ) → v < 2 ^ n → w < 2 ^ n → word_bits n v ≡ word_bits n w → v ≡ w
 unfolding word_bits
 same_word zero v w a b e = omega arith
 same_word (suc n) v w a b e =

@@ -1,7 +1,7 @@
 pub mod ApartLaws
 pub mod AroundLaws
-pub mod BitPlaceLaws
 pub mod BoxLaws
+pub mod DropLaws
 pub mod EditLaws
 pub mod EndLaws
 pub mod JoinLaws
@@ -18,4 +18,5 @@ pub mod RunLaws
 pub mod ShownLaws
 pub mod StartLaws
 pub mod StepLaws
+pub mod TwiceLaws
 pub mod UnsplitLaws

@@ -61,6 +61,11 @@ IsJoined bit above j old new =
     ((new ≡ old) × (suc j < length old → bit ≢ above → row_of old j ≢ row_of old (suc j))) ⊎ ((suc j < length old)
     × (row_of old j ≡ row_of old (suc j)) × (new ≡ remove old (suc j)))
 
+-- the piece after the j-th joined to it if their rows are equal beside the answers of one box
+abbrev pub IsJoinedBeside : ℕ → ℕ → List (ℕ × List Bool) → List (ℕ × List Bool) → Type 0
+IsJoinedBeside at j old new =
+    ((new ≡ old) × (remove (row_of old j) at ≢ remove (row_of old (j + 1)) at)) ⊎ ((new ≡ remove old (j + 1)) × (remove (row_of old j) at ≡ remove (row_of old (j + 1)) at))
+
 -- neighbours with one bit at the place still have two rows after the change
 abbrev pub KeepsApart : (ℕ × List Bool → ℕ × List Bool) → ℕ → List (ℕ × List Bool) → Type 0
 KeepsApart g at line =

@@ -2,13 +2,13 @@
 
 ghost use Rattle.fields.specs.declared.numbers.spans.Interval.{Interval};
 ghost use Rattle.std.specs.Prelude.{◌≡◌, ◌<◌, ◌≤◌, ◌+◌, ◌-◌, ℕ, length, OnOk, IsOk, List, map, insert};
-ghost use Rattle.std.specs.Prelude.{remove, slice_set, slice_index_or, false, [], ◌∷◌};
-ghost use Rattle.classify.specs.line.Line.{IsLineOf};
+ghost use Rattle.std.specs.Prelude.{remove, slice_set, slice_index, slice_index_or, false, [], ◌∷◌, IsTrue};
+ghost use Rattle.classify.specs.line.Line.{IsLineOf, starts};
 ghost use Rattle.classify.specs.steps.Pieces.{Differ, IsRising, IsSplitOf, StartsAt, row_bits};
 ghost use Rattle.fields.specs.numbers.Spans.{has};
 ghost use Rattle.classify.specs.steps.Cuts.{CutsStart, EndsStart, ChangesAt, IsApart};
-ghost use Rattle.classify.specs.steps.Edits.{with_written, IsMergeOf, IsUnsplitAt};
-ghost use Rattle.classify.specs.steps.Edits.{IsNumber, IsEndOf, IsJoined, KeepsApart, Says, row_of};
+ghost use Rattle.classify.specs.steps.Edits.{with_written, without_answer, IsMergeOf, IsUnsplitAt};
+ghost use Rattle.classify.specs.steps.Edits.{IsNumber, IsEndOf, IsJoined, IsJoinedBeside, KeepsApart, Says, row_of};
 ghost use Rattle.classify.specs.steps.Fields.{IsCutFor};
 ghost use Rattle.classify.specs.steps.Kept.{IsSound};
 
@@ -17,8 +17,11 @@ use crate::line::put::put_answers;
 use fields::{Interval, Spans};
 use std::alloc::AllocError;
 
-// Cuts the piece that x is in, so that a piece starts at x: both halves have its row.
-fn split(line: &mut OwnedLine, x: u128) -> Result<(), AllocError>
+// Cuts the piece that x is in, whose place is given, so that a piece starts at x: both halves have its row.
+fn split(line: &mut OwnedLine, place: usize, x: u128) -> Result<(), AllocError>
+    requires within { place < length line.old.pieces }
+    requires low { slice_index (starts line.old.pieces) place ≤ x }
+    requires high { place + 1 < length line.old.pieces → x < slice_index (starts line.old.pieces) (place + 1) }
     ensures split { (top : ℕ) (spans : List Interval) → x ≤ top → ChangesAt spans x → IsRising top line.old.pieces
         → IsSplitOf top spans line.old.pieces line.new.pieces }
     ensures ok { OnOk result (StartsAt x line.new.pieces) }
@@ -26,14 +29,26 @@ fn split(line: &mut OwnedLine, x: u128) -> Result<(), AllocError>
     ensures kept { StartsAt x line.old.pieces → line.new.pieces ≡ line.old.pieces }
     ensures room { line.new.room ≡ line.old.room }
 {
-    let place = line.place_of(x);
     if line.start(place) < x {
         line.split_at(place, x)?;
     }
     Ok(())
 }
 
-// Cuts a line where an interval begins, and after its end.
+// Whether two rising numbers are in one piece, and it starts at neither.
+fn are_inside(line: &OwnedLine, place: usize, x: u128, y: u128) -> bool
+    requires { place < length line.now.pieces }
+    ensures above { IsTrue result → slice_index (starts line.now.pieces) place < x }
+    ensures rising { IsTrue result → x < y }
+    ensures below { IsTrue result → place + 1 < length line.now.pieces → y < slice_index (starts line.now.pieces) (place + 1) }
+{
+    if place < line.len() - 1 && line.start(place + 1) <= y {
+        return false;
+    }
+    line.start(place) < x && x < y
+}
+
+// Cuts a line where an interval begins, and after its end: by one move where both cuts fall into one piece.
 fn split_interval(line: &mut OwnedLine, top: u128, interval: Interval) -> Result<(), AllocError>
     requires rising { IsRising top line.old.pieces }
     requires begins { interval.first ≤ top }
@@ -45,11 +60,18 @@ fn split_interval(line: &mut OwnedLine, top: u128, interval: Interval) -> Result
     ensures kept { EndsStart top line.old.pieces interval → line.new.pieces ≡ line.old.pieces }
     ensures room { line.new.room ≡ line.old.room }
 {
-    split(line, interval.first)?;
-    if interval.last < top {
-        split(line, interval.last + 1)?;
+    let place = line.place_of(interval.first);
+    if interval.last >= top {
+        return split(line, place, interval.first);
+    }
+    let after = interval.last + 1;
+    if are_inside(line, place, interval.first, after) {
+        line.split_twice_at(place, interval.first, after)?;
         return Ok(());
     }
+    split(line, place, interval.first)?;
+    let later = line.place_of(after);
+    split(line, later, after)?;
     Ok(())
 }
 
@@ -181,7 +203,38 @@ pub(crate) fn insert_prepared(line: &mut OwnedLine, at: usize, spans: &Spans)
     put_answers(line, at, spans);
 }
 
-// Takes a box out: first its answers, with the cuts that only these made, and then its place.
+// Joins a piece to the one before it if their rows are equal beside the answers of one box.
+fn join_beside(line: &mut OwnedLine, k: usize, at: usize)
+    requires later { 0 < k }
+    requires piece { k < length line.old.pieces }
+    ensures joined { IsJoinedBeside at (k - 1) line.old.pieces line.new.pieces }
+    ensures long { row_bits line.new.pieces ≡ row_bits line.old.pieces }
+    ensures room { line.new.room ≡ line.old.room }
+{
+    if line.is_same_beside(k - 1, at) {
+        line.remove(k);
+    }
+}
+
+// Takes out the cuts that only one box's answers make. Rows are compared where these change from a piece to the next; of all
+// other pieces no more than the one bit is looked at.
+fn drop_cuts(line: &mut OwnedLine, at: usize)
+    requires place { at < row_bits line.old.pieces }
+    requires differ { Differ line.old.pieces }
+    ensures merge { (top : ℕ) → IsRising top (map (without_answer at) line.old.pieces)
+        → IsMergeOf top (map (without_answer at) line.old.pieces) (map (without_answer at) line.new.pieces) }
+    ensures long { row_bits line.new.pieces ≡ row_bits line.old.pieces }
+    ensures room { line.new.room ≡ line.old.room }
+{
+    let last = line.len() - 1;
+    let mut k = line.run_start(last, at);
+    while k > 0 {
+        join_beside(line, k, at);
+        k = line.run_start(k - 1, at);
+    }
+}
+
+// Takes a box out: first the cuts that only its answers made, and then its place.
 pub(crate) fn remove_box(line: &mut OwnedLine, at: usize)
     requires place { at < row_bits line.old.pieces }
     requires differ { Differ line.old.pieces }
@@ -190,8 +243,7 @@ pub(crate) fn remove_box(line: &mut OwnedLine, at: usize)
         → IsLineOf has top (remove sets at) line.new.pieces }
     ensures room { line.new.room ≡ line.old.room + 1 }
 {
-    let none = Spans::none(line.allocator(), 0);
-    set_answers(line, at, &none);
+    drop_cuts(line, at);
     line.remove_column(at);
 }
 

@@ -60,11 +60,6 @@ impl OwnedLine {
         })
     }
 
-    // What its memory comes from.
-    pub(crate) fn allocator(&self) -> Global {
-        self.starts.allocator()
-    }
-
     // How many pieces there are.
     pub(crate) fn len(&self) -> usize
         ensures { result ≡ length self.now.pieces }
@@ -176,6 +171,29 @@ impl OwnedLine {
         }
     }
 
+    // Cuts a piece at two rising numbers, by one move: both new ones have its row. Where memory is refused the pieces are as
+    // before.
+    pub(crate) fn split_twice_at(&mut self, k: usize, x: u128, y: u128) -> Result<(), AllocError>
+        requires piece { k < length self.old.pieces }
+        requires above { slice_index (starts self.old.pieces) k < x }
+        requires rising { x < y }
+        requires below { k + 1 < length self.old.pieces → y < slice_index (starts self.old.pieces) (k + 1) }
+        ensures ok { OnOk result (self.new.pieces
+            ≡ insert (insert self.old.pieces (k + 1) (y, row_of self.old.pieces k)) (k + 1) (x, row_of self.old.pieces k)) }
+        ensures err { OnErr result (self.new.pieces ≡ self.old.pieces) }
+        ensures room { self.new.room ≡ self.old.room }
+    {
+        self.rows.duplicate_twice(k)?;
+        match self.starts.insert_pair(k + 1, x, y) {
+            Ok(()) => Ok(()),
+            Err(refused) => {
+                self.rows.remove(k + 1);
+                self.rows.remove(k + 1);
+                Err(refused)
+            }
+        }
+    }
+
     // Whether a piece has the row of the one after it.
     pub(crate) fn is_same_after(&self, k: usize) -> bool
         requires { k + 1 < length self.now.pieces }
@@ -183,6 +201,27 @@ impl OwnedLine {
     {
         let _pieces = self.rows.count();
         self.rows.same(k, k + 1)
+    }
+
+    // Whether a piece has the row of the one after it, beside the bits at a place.
+    pub(crate) fn is_same_beside(&self, k: usize, at: usize) -> bool
+        requires { k + 1 < length self.now.pieces }
+        ensures { IsTrue result ↔ (remove (row_of self.now.pieces k) at ≡ remove (row_of self.now.pieces (k + 1)) at) }
+    {
+        let _pieces = self.rows.count();
+        self.rows.same_beside(k, k + 1, at)
+    }
+
+    // Where the pieces begin, side by side up to one of them, that have its bit at a place.
+    pub(crate) fn run_start(&self, k: usize, at: usize) -> usize
+        requires piece { k < length self.now.pieces }
+        requires place { at < row_bits self.now.pieces }
+        ensures within { result ≤ k }
+        ensures alike { (j : ℕ) → result ≤ j → j ≤ k
+            → slice_index_or (row_of self.now.pieces j) at false ≡ slice_index_or (row_of self.now.pieces k) at false }
+    {
+        let _pieces = self.rows.count();
+        self.rows.run_start(k, at)
     }
 
     // Takes a piece out, which is not the first.

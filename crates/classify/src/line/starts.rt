@@ -4,7 +4,7 @@ ghost use Rattle.std.specs.Prelude.{ℕ, ◌≡◌, ◌<◌, ◌≤◌, ◌+◌,
 ghost use Rattle.std.specs.List.Sorted.{IsNonDecreasingBy};
 
 use crate::line::places;
-use bits::insert_at;
+use bits::{insert_at, insert_pair_at};
 use std::alloc::{AllocError, Global};
 use std::marker::Model;
 
@@ -37,11 +37,6 @@ impl Starts {
             narrow,
             wide: Vec::new(alloc),
         })
-    }
-
-    // What its memory comes from.
-    pub(crate) fn allocator(&self) -> Global {
-        *self.narrow.allocator()
     }
 
     // The number at a place.
@@ -88,6 +83,47 @@ impl Starts {
         }
         self.wide.insert(k - narrow, x)?;
         Ok(())
+    }
+
+    // Puts two rising numbers in at a place, before a greater one or at the end: where both are narrow, by one move.
+    pub(crate) fn insert_pair(&mut self, k: usize, x: u128, y: u128) -> Result<(), AllocError>
+        requires place { k ≤ length self.old }
+        requires rising { x < y }
+        requires below { k < length self.old → y < slice_index self.old k }
+        requires few { length self.old + 1 < 2 ^ 32 }
+        ensures ok { OnOk result (self.new ≡ insert (insert self.old k y) k x) }
+        ensures err { OnErr result (self.new ≡ self.old) }
+    {
+        let narrow = self.narrow.len();
+        if k < narrow {
+            let _after = self.narrow[k];
+            insert_pair_at(&mut self.narrow, k, x as u32, y as u32)?;
+            return Ok(());
+        }
+        if k == narrow && y <= u128::from(u32::MAX) {
+            insert_pair_at(&mut self.narrow, k, x as u32, y as u32)?;
+            return Ok(());
+        }
+        self.insert_each(k, x, y)
+    }
+
+    // Puts two rising numbers in at a place, one by one.
+    fn insert_each(&mut self, k: usize, x: u128, y: u128) -> Result<(), AllocError>
+        requires place { k ≤ length self.old }
+        requires rising { x < y }
+        requires below { k < length self.old → y < slice_index self.old k }
+        requires few { length self.old + 1 < 2 ^ 32 }
+        ensures ok { OnOk result (self.new ≡ insert (insert self.old k y) k x) }
+        ensures err { OnErr result (self.new ≡ self.old) }
+    {
+        self.insert(k, y)?;
+        match self.insert(k, x) {
+            Ok(()) => Ok(()),
+            Err(refused) => {
+                self.remove(k);
+                Err(refused)
+            }
+        }
     }
 
     // Takes a number out.

@@ -1,7 +1,7 @@
 -- A box put in or taken out leaves the line of the boxes as they are then.
 use Rattle.fields.specs.declared.numbers.spans.Interval.{Interval}
 use Rattle.classify.proofs.laws.line.ApartLaws.{cuts_behind}
-use Rattle.std.proofs.Common.{◌≡◌, ◌≢◌, ℕ, suc, ◌+◌, ◌-◌, ◌<◌, ◌≤◌, Bool, List, [], ◌∷◌, ◌++◌, take, drop, refl, sym, ◌∙◌, ap, arith, subst, map}
+use Rattle.std.proofs.Common.{◌≡◌, ℕ, suc, ◌+◌, ◌-◌, ◌<◌, ◌≤◌, Bool, List, [], ◌∷◌, ◌++◌, take, drop, refl, sym, ◌∙◌, ap, arith, subst, map}
 use Rattle.std.specs.List.{insert, remove}
 use Rattle.std.proofs.Math.ListN.{set}
 use Rattle.std.proofs.lemmas.List.{map-append, take-map, drop-map, map-set}
@@ -9,10 +9,10 @@ use Rattle.std.proofs.lemmas.List.Edits.{length-insert, length-remove}
 use Rattle.classify.specs.line.Line.{row_at, IsLineOf}
 use Rattle.fields.specs.numbers.Spans.{has}
 use Rattle.classify.specs.steps.Cuts.{CutsStart}
-use Rattle.classify.specs.steps.Pieces.{piece_at, row_in, IsRising, Differ, IsSplitOf, SayTheSame, row_bits}
+use Rattle.classify.specs.steps.Pieces.{piece_at, row_in, IsRising, Differ, IsSplitOf, row_bits}
 use Rattle.classify.specs.steps.Kept.{PiecesAndRoom, IsSound}
 use Rattle.classify.specs.steps.Edits.{IsMergeOf, with_answer, with_test, with_written, without_answer, Says}
-use Rattle.classify.proofs.laws.line.StepLaws.{EachPiece, AreStepsOf, steps_from, says_from_steps, one_list_of_steps, piece_at_each, rows_from, before_all}
+use Rattle.classify.proofs.laws.line.StepLaws.{AreStepsOf, steps_from, says_from_steps, one_list_of_steps}
 use Rattle.classify.proofs.laws.line.LineLaws.{AreSteps, line_from_steps, steps_from_line, cases_rows}
 use Rattle.classify.proofs.laws.line.EditLaws.{rows_say, rows_rising, same_over_piece}
 use Rattle.classify.proofs.laws.line.KeptLaws.{bits_said}
@@ -125,22 +125,6 @@ without_say top at sets (d ∷ ps) r says x le =
 pub without_rising : (top at : ℕ) (line : List Cut) → IsRising top line → IsRising top (map (without_answer at) line)
 without_rising top at [] r = r
 without_rising top at (d ∷ ps) r = (r.0, rows_rising top 0 (λ p. remove p.1 at) ps r.1)
-
--- ---- rows after a split are rows from before it
-
-weaker : (P : List Bool → Type 0) (f : ℕ → List Bool) (ps : List Cut) → ((x : ℕ) → P (f x)) → EachPiece (λ p. p.1 ≡ f p.0) ps → EachPiece (λ p. P p.1) ps
-weaker P f [] h e = tt
-weaker P f (p ∷ ps) h e = (subst P (sym e.0) (h p.0), weaker P f ps h e.1)
-
-pub rows_kept : (P : List Bool → Type 0) (top : ℕ) (old now : List Cut) → IsRising top old → IsRising top now → SayTheSame old now → EachPiece (λ p. P p.1) old → EachPiece (λ p. P p.1) now
-rows_kept P top [] now r t s h = absurd r
-rows_kept P top (d ∷ ps) [] r t s h = absurd t
-rows_kept P top (d ∷ ps) (e ∷ qs) r t s h =
-    let old_has : (x : ℕ) → P (row_in (d ∷ ps) x) = λ x. subst P (sym (row_in_first d ps x r.0)) (piece_at_each (λ p. P p.1) d ps x h.0 h.1) in
-    let same : (x : ℕ) → (piece_at e qs x).1 ≡ row_in (d ∷ ps) x = λ x. sym (row_in_first e qs x t.0) ∙ s x in
-    let first : e.1 ≡ row_in (d ∷ ps) 0 = sym (ap (λ (p : Cut). p.1) (before_all top 0 e qs 0 t.1 (omega arith))) ∙ same 0 in
-    let le0 : 0 ≤ top = omega arith in
-    (subst P (sym first) (old_has 0), weaker P (row_in (d ∷ ps)) qs old_has (rows_from (row_in (d ∷ ps)) top 0 e qs t.1 le0 (λ x _ _. same x)))
 
 -- ---- how long the rows are
 

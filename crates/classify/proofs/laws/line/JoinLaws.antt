@@ -50,7 +50,7 @@ take-write [] (suc j) q = refl
 take-write (p ∷ ps) zero q = refl
 take-write (p ∷ ps) (suc j) q = ap (λ (cs : List Cut). p ∷ cs) (take-write ps j q)
 
-take-less : (xs ys : List Cut) (j : ℕ) → take (suc j) xs ≡ take (suc j) ys → take j xs ≡ take j ys
+pub take-less : (xs ys : List Cut) (j : ℕ) → take (suc j) xs ≡ take (suc j) ys → take j xs ≡ take j ys
 take-less xs ys zero e = refl
 take-less [] [] (suc j) e = refl
 take-less [] (y ∷ ys) (suc j) e = absurd (let n : 0 ≡ suc (length (take (suc j) ys)) = ap length e in omega arith)

@@ -19,13 +19,19 @@ use Rattle.classify.specs.steps.Kept.{PiecesAndRoom, most_start}
 use Rattle.classify.specs.steps.Edits.{with_answer, with_bit, with_test, with_written, row_of}
 use Rattle.classify.specs.steps.Runs.{IsRunIn, IsRunWritten}
 use Rattle.classify.proofs.laws.line.ShownLaws.{Cut}
-use Rattle.classify.proofs.laws.line.BitPlaceLaws.{set-insert}
 use Rattle.classify.proofs.laws.line.KeptLaws.{row_long}
 use Rattle.classify.proofs.laws.line.EndLaws.{ends_from_cuts, starts_zero}
 use Rattle.classify.proofs.laws.line.RunLaws.{bits_as_long, bits_start, bits_written, start_was}
 
 abbrev none : Cut
 none = (0, [])
+
+-- a bit put in and then written
+set-insert : (bs : List Bool) (at : ℕ) (a b : Bool) → at ≤ length bs → set (insert bs at a) at b ≡ insert bs at b
+set-insert [] zero a b le = refl
+set-insert [] (suc at) a b le = absurd (omega arith)
+set-insert (c ∷ cs) zero a b le = refl
+set-insert (c ∷ cs) (suc at) a b le = ap (λ (bs : List Bool). c ∷ bs) (set-insert cs at a b (omega arith))
 
 -- ---- tests of a number
 

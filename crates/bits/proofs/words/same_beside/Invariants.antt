@@ -1,0 +1,6 @@
+use Rattle.std.proofs.Common.{◌*◌}
+use Rattle.bits.specs.steps.Packing.{all_bits, AreAlikeBeside}
+use Rattle.bits.proofs.words.same_beside.Given as goal
+
+abbrev pub invariant-loop-k : goal.invariant-loop-k
+invariant-loop-k l = AreAlikeBeside l.at (64 * l.k) (all_bits l.one) (all_bits l.other)
