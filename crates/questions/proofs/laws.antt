@@ -3,8 +3,10 @@ pub mod BoxesLaws
 pub mod EndLaws
 pub mod ExactLaws
 pub mod GroupLaws
+pub mod NameLaws
 pub mod PacketLaws
 pub mod ReachLaws
+pub mod TakerLaws
 pub mod TrailLaws
 pub mod WaitLaws
 pub mod WithoutLaws

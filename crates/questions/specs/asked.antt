@@ -1,5 +1,6 @@
 pub mod Laws
 pub mod Reach
+pub mod Reason
 pub mod Rule
 pub mod Verdicts
 pub mod Without

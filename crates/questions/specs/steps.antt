@@ -1,4 +1,5 @@
 pub mod Exact
 pub mod Groups
 pub mod Sides
+pub mod Takers
 pub mod Waiting

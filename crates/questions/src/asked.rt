@@ -3,5 +3,6 @@ pub(crate) mod exact;
 pub(crate) mod laws;
 pub(crate) mod reach;
 pub(crate) mod reached;
+pub(crate) mod reason;
 pub(crate) mod rule;
 pub(crate) mod verdicts;

@@ -10,6 +10,7 @@ mod walking;
 pub use asked::laws::{answers_exclude_each_other, dead_rules_can_go};
 pub use asked::reach::{Given, reach};
 pub use asked::reached::Reached;
+pub use asked::reason::{Reason, why_dead};
 pub use asked::rule::{Life, dead};
 pub use asked::verdicts::{Likeness, compare, compare_at};
 pub use boxes::area::Area;

@@ -81,6 +81,12 @@ all_chains chains boxes n all pairs = record {
 
 -- ---- asked for
 
+-- the rule at a place, whose box this is
+pub record OwnBox (t : Table) (place number : ℕ) (boxed : List SpanSet) : Type 0 where
+  pub rule : Rule
+  pub is : rule ≡ get_or (chain_at t place).rules (number - 1) rule
+  pub is_box : IsBoxOf rule boxed
+
 module _ (t : Table) (boxes : List (List (List SpanSet))) (are : AreBoxesOf t.chains boxes) (place number : ℕ) (lt : place < length t.chains) (first : 0 < number) (last : number ≤ length (chain_at t place).rules) where
   own : AreBoxesOfRules (chain_at t place).rules (get_or boxes place [])
   own = are.each place (empty_chain []) [] lt
@@ -97,9 +103,9 @@ module _ (t : Table) (boxes : List (List (List SpanSet))) (are : AreBoxesOf t.ch
       let Q : List SpanSet → Type 0 = λ b. IsBoxOf (get_or (chain_at t place).rules (number - 1) rule) b in
       subst P (sym is) (subst Q (sym at) (own.each (number - 1) rule boxed (omega (arith, first, last))))
 
-  -- the rule that a place has
-  abbrev pub rule_of : Rule
-  rule_of = get_or (chain_at t place).rules (number - 1) empty_rule
-
-  pub rule_is : rule_of ≡ get_or (chain_at t place).rules (number - 1) rule_of
-  rule_is = get_or_default (chain_at t place).rules (number - 1) empty_rule rule_of (omega (arith, first, last))
+  -- a box that was asked for, with the rule whose box it is
+  pub own_box : (boxed : List SpanSet) → boxed ≡ get_or (get_or boxes place []) (number - 1) boxed → OwnBox t place number boxed
+  own_box boxed at =
+      let rule : Rule = get_or (chain_at t place).rules (number - 1) empty_rule in
+      let is : rule ≡ get_or (chain_at t place).rules (number - 1) rule = get_or_default (chain_at t place).rules (number - 1) empty_rule rule (omega (arith, first, last)) in
+      record { rule = rule; is = is; is_box = box_at rule boxed is at }

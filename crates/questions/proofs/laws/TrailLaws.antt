@@ -74,7 +74,7 @@ no_empty_name (a ∷ b ∷ c ∷ ns) (suc (suc (suc j))) h lt e =
     let P : List ℕ → Type 0 = λ n. IsTrue (is_name n) in
     true≢false (sym (subst P e own.form))
 
-name_is : (cs : List Chain) (i : ℕ) → name_at cs i ≡ get_or (names_of cs) i []
+pub name_is : (cs : List Chain) (i : ℕ) → name_at cs i ≡ get_or (names_of cs) i []
 name_is [] zero = refl
 name_is [] (suc i) = refl
 name_is (c ∷ cs) zero = refl

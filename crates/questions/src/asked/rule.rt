@@ -76,7 +76,7 @@ fn witness_among(
 }
 
 // Whether no leaf has the rule on its trail.
-fn none_on(found: &[Leaf], step: Step) -> bool
+pub(crate) fn none_on(found: &[Leaf], step: Step) -> bool
     ensures { IsTrue result → All (λ leaf. Contains leaf.trail.items step → ⊥) found.now }
 {
     for leaf in found {
