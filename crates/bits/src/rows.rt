@@ -1,6 +1,6 @@
 //! Rows of equally many bits, packed 64 to a word, all in one vector of words.
 
-ghost use Rattle.std.specs.Prelude.{◌≡◌, ◌<◌, ◌≤◌, ◌+◌, ◌-◌, ◌*◌, ◌^◌, [], ◌∷◌, length, map, insert, remove, slice_set, slice_index_or};
+ghost use Rattle.std.specs.Prelude.{◌≡◌, ◌≢◌, ◌<◌, ◌≤◌, ◌+◌, ◌-◌, ◌*◌, ◌^◌, [], ◌∷◌, length, map, insert, remove, slice_set, slice_index_or};
 ghost use Rattle.std.specs.Prelude.{false, true, take, drop, IfOk, OnOk, OnErr, IsOk, IsTrue, ◌↔◌, ◌%◌};
 ghost use Rattle.std.specs.Prelude.{ℕ, All, replicate, ◌++◌};
 ghost use Rattle.bits.specs.steps.Packing.{all_bits, IsPacked};
@@ -307,6 +307,8 @@ impl Rows {
         ensures within { result ≤ row }
         ensures alike { (k : ℕ) → result ≤ k → k ≤ row
             → slice_index_or (slice_index_or self.now.rows k []) at false ≡ slice_index_or (slice_index_or self.now.rows row []) at false }
+        ensures first { 0 < result → slice_index_or (slice_index_or self.now.rows (result - 1) []) at false
+            ≢ slice_index_or (slice_index_or self.now.rows row []) at false }
     {
         let bit = self.get(row, at);
         let mut first = row;

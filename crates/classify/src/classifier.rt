@@ -33,9 +33,10 @@ struct PointRows<'a> {
 ///
 /// Places count from 0. A box put in at the end costs the pieces that it allows. One put in elsewhere moves the words of
 /// all rows from its place on, but passes over words that allow nothing. The rows of a line have one room, which
-/// doubles: then its rows are copied. A replacement looks at each piece of each line. A removal asks one bit of each piece,
-/// compares two rows where it changes, and moves words as an insert does. A cut is made or goes only where the box's own answers change; it moves the starts after it on
-/// that line, and copies one row. Both cuts of an interval that lies within one piece move them once.
+/// doubles: then its rows are copied. A replacement looks at each piece of each line. A removal asks one bit of each
+/// piece, compares two rows where that bit changes, and moves words as an insert does. A cut is made or goes only where
+/// the box's own answers change; it moves the starts after it on that line, and copies one row. Both cuts of an interval
+/// that lies within one piece move them once.
 #[derive(Drop)]
 pub struct Classifier {
     len: usize,
