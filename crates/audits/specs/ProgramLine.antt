@@ -1,6 +1,8 @@
 -- The program's line, and what `clap` makes of it.
-use Rattle.std.specs.Prelude.{◌≡◌, ◌≢◌, ◌⊎◌, ⊤, [], codes, true, List, Some, None, option_map}
-use Rattle.clap.specs.Words.{App, IsAmong, Row, Rule, Text, fault_of, first_of, kind_of, new_app, new_rule, subcommand_of, with_rule, with_subcommand}
+use Rattle.std.specs.Prelude.{◌≡◌, ◌≢◌, ◌⊎◌, ⊤, [], codes, map, true, List, Some, None, option_map, unwrap_or}
+use Rattle.clap.specs.Words.{App, IsAmong, Row, Rule, Text, all_of, fault_of, first_of, kind_of, new_app, new_rule, subcommand_of, with_rule, with_subcommand}
+use Rattle.clap.specs.Lexer.{usize_max}
+use Rattle.clap.specs.declared.builder.action.ArgAction.TheVariants.{Append}
 use Rattle.clap.specs.declared.error.Error.{Error}
 use Rattle.clap.specs.declared.error.kind.ErrorKind.TheVariants.{OutOfMemory}
 use Rattle.audits.specs.declared.audit.Audit.{Audit}
@@ -29,18 +31,31 @@ compare_app = with_rule (with_rule (with_rule (new_app (codes "compare")) (file_
 abbrev pub as_program : App → App
 as_program a = record a { top = record a.top { no_binary_name = true; disable_help_subcommand = true } }
 
--- the program, with its four subcommands
+-- one word or more
+abbrev pub words_rule : Rule
+words_rule = record (new_rule (codes "word")) {
+  required = true;
+  action = Some Append;
+  range = Some (record { start_inclusive = 1; end_inclusive = usize_max });
+  value_names = 1;
+}
+
+-- `reach FILE WORD.. [--steps N]`
+abbrev pub reach_app : App
+reach_app = with_rule (with_rule (with_rule (new_app (codes "reach")) (file_rule (codes "file"))) words_rule) steps_rule
+
+-- the program, with its five subcommands
 abbrev pub program_app : App
-program_app = with_subcommand (with_subcommand (with_subcommand (with_subcommand (as_program (new_app (codes "iptaudit")))
-    (one_file_app (codes "dead")).top) compare_app.top) (one_file_app (codes "tests")).top) (one_file_app (codes "cover")).top
+program_app = with_subcommand (with_subcommand (with_subcommand (with_subcommand (with_subcommand (as_program (new_app (codes "iptaudit")))
+    (one_file_app (codes "dead")).top) compare_app.top) (one_file_app (codes "tests")).top) (one_file_app (codes "cover")).top) reach_app.top
 
 -- the name of a subcommand that asks about one file
 abbrev pub AsksOneFile : Text → Type 0
-AsksOneFile name = (name ≡ codes "dead") ⊎ (name ≡ codes "tests") ⊎ (name ≡ codes "cover")
+AsksOneFile name = (name ≡ codes "dead") ⊎ (name ≡ codes "tests") ⊎ (name ≡ codes "cover") ⊎ (name ≡ codes "reach")
 
 -- the name of a subcommand
 abbrev pub IsSubcommand : Text → Type 0
-IsSubcommand name = (name ≡ codes "dead") ⊎ (name ≡ codes "compare") ⊎ (name ≡ codes "tests") ⊎ (name ≡ codes "cover")
+IsSubcommand name = (name ≡ codes "dead") ⊎ (name ≡ codes "compare") ⊎ (name ≡ codes "tests") ⊎ (name ≡ codes "cover") ⊎ (name ≡ codes "reach")
 
 -- the one file of a subcommand of this name
 abbrev pub AsksOf : Text → Text → List Row → Text → Type 0
@@ -53,16 +68,22 @@ IsQuestion name rows (questions.Compare old new) = (name ≡ codes "compare")
     × (Some old.now ≡ first_of (codes "old") rows) × (Some new.now ≡ first_of (codes "new") rows)
 IsQuestion name rows (questions.Tests file) = AsksOf (codes "tests") name rows file.now
 IsQuestion name rows (questions.Cover file) = AsksOf (codes "cover") name rows file.now
+IsQuestion name rows (questions.Reach file) = AsksOf (codes "reach") name rows file.now
 
 -- a file of a subcommand was not found
 abbrev pub LacksFile : Text → List Row → Type 0
 LacksFile name rows = (AsksOneFile name × (first_of (codes "file") rows ≡ None))
     ⊎ ((name ≡ codes "compare") × ((first_of (codes "old") rows ≡ None) ⊎ (first_of (codes "new") rows ≡ None)))
 
--- the audit of a subcommand, by its name and what was found of its files and its option
+-- all that was found under a name
+abbrev pub values_of : Text → List Row → List Text
+values_of name rows = unwrap_or (all_of name rows) []
+
+-- the audit of a subcommand, by its name and what was found of its files, its option and its words
 abbrev pub IsAuditOf : Text → List Row → Audit → Type 0
 IsAuditOf name rows audit = IsQuestion name rows audit.question
     × (option_map (λ s. s.now) audit.steps ≡ first_of (codes "steps") rows)
+    × (map (λ s. s.now) audit.words.items ≡ values_of (codes "word") rows)
 
 -- `clap` takes the words, and the audit is what it makes of them
 abbrev pub IsAuditOn : List Text → Audit → Type 0

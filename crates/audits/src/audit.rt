@@ -2,10 +2,10 @@
 ghost use Rattle.std.specs.Prelude.{◌≡◌, IfErr, IfOk, MatchOption, codes, false, map};
 ghost use Rattle.clap.specs.Words.{app_of, found_of, kind_of, new_app, rows_of, rule_of, with_subcommand};
 ghost use Rattle.clap.specs.declared.builder.command.Command.TheViews.{out-Command as fields_of};
-ghost use Rattle.audits.specs.ProgramLine.{IsAuditOn, IsFaultOn, IsQuestion, IsSubcommand, LacksFile, StandsFor, as_program, compare_app, file_rule, one_file_app, program_app, steps_rule};
+ghost use Rattle.audits.specs.ProgramLine.{IsAuditOn, IsFaultOn, IsQuestion, IsSubcommand, LacksFile, StandsFor, as_program, compare_app, file_rule, one_file_app, program_app, reach_app, steps_rule, values_of, words_rule};
 
 use clap::error::ErrorKind;
-use clap::{Arg, ArgMatches, Command, Error};
+use clap::{Arg, ArgAction, ArgMatches, Command, Error};
 use std::alloc::{AllocError, Global};
 
 /// What is asked, and of which files.
@@ -19,13 +19,16 @@ pub enum Question<'a> {
     Tests { file: &'a str },
     /// Which rules match none of some packets.
     Cover { file: &'a str },
+    /// What becomes of some packets, by their numbers on a field.
+    Reach { file: &'a str },
 }
 
-/// A question, and the number that was given of steps.
-#[derive(Clone, Copy, Debug, PartialEq, Eq)]
+/// A question, the number that was given of steps, and the words after the file, where some packets are asked about.
+#[derive(Debug, Drop)]
 pub struct Audit<'a> {
     pub question: Question<'a>,
     pub steps: Option<&'a str>,
+    pub words: Vec<&'a str>,
 }
 
 /// Why words ask for no audit.
@@ -96,6 +99,30 @@ fn one_file<'a>(alloc: Global, name: &'a str, about: &'a str) -> Result<Command<
         .arg(steps(alloc))
 }
 
+// Words that say which packets are asked about: one or more, after the file.
+fn words<'a>(alloc: Global) -> Arg<'a>
+    ensures rule { rule_of result ≡ words_rule }
+    ensures local { result.global ≡ false }
+{
+    Arg::new(alloc, "word")
+        .required(true)
+        .action(ArgAction::Append)
+        .num_args(1..)
+        .value_name("WORD")
+        .help("A hook, key=value of packets, and by=FIELD")
+}
+
+fn reach<'a>(alloc: Global) -> Result<Command<'a>, AllocError>
+    ensures app { IfOk result (λ c. app_of c ≡ reach_app) }
+    ensures local { IfOk result (λ c. (fields_of c).has_globals ≡ false) }
+{
+    Command::new(alloc, "reach")
+        .about("Print what becomes of some packets, by their numbers on a field")
+        .arg(file(alloc, "file", "FILE", "A file of iptables-restore"))?
+        .arg(words(alloc))?
+        .arg(steps(alloc))
+}
+
 fn compare<'a>(alloc: Global) -> Result<Command<'a>, AllocError>
     ensures app { IfOk result (λ c. app_of c ≡ compare_app) }
     ensures local { IfOk result (λ c. (fields_of c).has_globals ≡ false) }
@@ -146,6 +173,7 @@ fn program<'a>(alloc: Global) -> Result<Command<'a>, AllocError>
     let program = with(program, compare(alloc)?)?;
     let program = with(program, tests)?;
     let program = with(program, cover)?;
+    let program = with(program, reach(alloc)?)?;
     Ok(program)
 }
 
@@ -172,7 +200,25 @@ fn question_of<'a>(subcommand: &str, matches: &ArgMatches<'a>) -> Option<Questio
             Some(file) => Some(Question::Cover { file }),
             None => None,
         },
+        "reach" => match matches.get_str("file") {
+            Some(file) => Some(Question::Reach { file }),
+            None => None,
+        },
         _ => unreachable!(),
+    }
+}
+
+// The words after the file, where there are any.
+fn words_of<'a>(alloc: Global, matches: &ArgMatches<'a>) -> Result<Vec<&'a str>, AllocError>
+    ensures { IfOk result (λ words. map (λ s. s.now) words.items ≡ values_of (codes "word") (rows_of (found_of matches.now))) }
+{
+    let mut words = Vec::new(alloc);
+    match matches.get_strs("word") {
+        Some(given) => {
+            words.extend_from_slice(given)?;
+            Ok(words)
+        }
+        None => Ok(words),
     }
 }
 
@@ -197,10 +243,12 @@ impl<'a> Audit<'a> {
         let Some((name, inner)) = matches.subcommand() else {
             return Err(LineFault::NoSubcommand);
         };
+        let words = words_of(alloc, inner)?;
         match question_of(name, inner) {
             Some(question) => Ok(Audit {
                 question,
                 steps: inner.get_str("steps"),
+                words,
             }),
             None => Err(LineFault::NoFile),
         }

@@ -6,6 +6,7 @@
 //! | `compare [--steps N] OLD NEW` | whether two rulesets give each packet the same verdict |
 //! | `tests [--steps N] FILE` | a packet for each rule |
 //! | `cover [--steps N] FILE` | which rules match none of the packets on standard input |
+//! | `reach [--steps N] FILE WORD..` | what becomes of some packets, by their numbers on a field |
 #![tactic(auto)]
 
 mod audit;

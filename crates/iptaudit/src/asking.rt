@@ -5,8 +5,8 @@ ghost use Rattle.questions.specs.boxes.Boxes.{AreBoxesOf};
 
 use crate::progress::Progress;
 use crate::subject::Subject;
-use fields::Hook;
-use questions::{Life, Likeness, compare_at, dead};
+use fields::{Field, Hook};
+use questions::{Given, Life, Likeness, Reached, compare_at, dead, reach};
 use rules::Work;
 use std::alloc::{AllocError, Global};
 use std::io::IsTerminal;
@@ -33,6 +33,11 @@ impl<'a, R: Clock, E: Print + IsTerminal> Asking<'a, R, E> {
             steps,
             progress,
         }
+    }
+
+    /// What memory comes from.
+    pub(crate) fn alloc(&self) -> Global {
+        self.alloc
     }
 
     /// So many questions are to be asked.
@@ -84,5 +89,20 @@ impl<'a, R: Clock, E: Print + IsTerminal> Asking<'a, R, E> {
         work: &mut Work,
     ) -> Result<Likeness, AllocError> {
         compare_at(self.alloc, old, new, hook, self.steps, work)
+    }
+
+    /// What becomes of some packets, by their numbers on a field (`reach`).
+    ///
+    /// # Errors
+    ///
+    /// `AllocError` where memory was refused.
+    pub(crate) fn reach(
+        &self,
+        table: &Table,
+        given: &Given,
+        field: Field,
+        work: &mut Work,
+    ) -> Result<Option<Vec<Reached>>, AllocError> {
+        reach(self.alloc, table, given, field, self.steps, work)
     }
 }

@@ -15,6 +15,13 @@ pub(crate) enum Fault<'a> {
     /// The word after `--steps`.
     #[error("no number of steps: {0}")]
     NoNumber(&'a str),
+    #[error("no hook: {0}")]
+    NoHook(&'a str),
+    /// A word that is no `key=value` of packets and no `by=FIELD`, or one too many.
+    #[error("bad word: {0}")]
+    BadWord(&'a str),
+    #[error("by=FIELD is missing")]
+    NoField,
     /// A file was refused, and its fault was written.
     #[error("cannot restore {0}")]
     CannotRestore(&'a str),

@@ -1,11 +1,14 @@
 //! The program `iptaudit`: questions about all packets, asked of files of iptables-restore.
 #![tactic(auto)]
 
+mod asked_packets;
 mod asking;
 mod difference;
 mod each_rule;
 mod fault;
 mod marks;
+mod notation;
+mod outcomes;
 mod packet_input;
 mod packet_line;
 mod program;
@@ -13,19 +16,21 @@ mod progress;
 mod rule_line;
 mod subject;
 mod tally;
+mod value_range;
 
 use crate::program::run;
 use std::process::ExitCode;
 
 /// Answers what the words after the program's name ask: `dead [--steps N] FILE`, `compare [--steps N] OLD NEW`,
-/// `tests [--steps N] FILE` or `cover [--steps N] FILE`.
+/// `tests [--steps N] FILE`, `cover [--steps N] FILE` or `reach [--steps N] FILE HOOK key=value.. by=FIELD`.
 ///
 /// `dead` prints a line for each rule that no packet can match, in the order of a listing, and for each of which it isn't
 /// known; and then how many there were. `compare` prints a line for each built-in chain: whether both rulesets give each
 /// packet there the same verdict, and where they don't, a packet with its walk in each. `tests` prints a session: for each
 /// rule a comment that names it, and a packet that it matches. `cover` reads packets from standard input, as lines of a
 /// session, and prints of each rule that matches none of them whether there is a packet that it matches, and which; and then
-/// how many rules there were of each kind.
+/// how many rules there were of each kind. `reach` prints what becomes of some packets: of each verdict and what decides, the
+/// numbers of their packets on a field.
 ///
 /// Answers go to standard output. A fault in a file or in a packet goes to standard error, as `line N: CODE text`, and so does
 /// each message of the program itself. Where standard error is a terminal, it is told once a second how many questions are
@@ -33,7 +38,7 @@ use std::process::ExitCode;
 ///
 /// | Status | Cause |
 /// |---|---|
-/// | 0 | no rule is dead; the rulesets are alike; each rule that can match does match a packet of standard input |
+/// | 0 | no rule is dead; the rulesets are alike; each rule that can match does match a packet of standard input; what becomes of some packets is known |
 /// | 1 | a rule is dead; a packet gets two verdicts; a rule that can match a packet matches none of standard input |
 /// | 2 | a file cannot be opened, read or restored; standard input fails, or a line of it is no packet; output failed; the words are refused, ask for help or name no subcommand |
 /// | 3 | nothing of this was found, and something isn't known |

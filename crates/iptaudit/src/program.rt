@@ -2,11 +2,13 @@
 ghost use Rattle.std.specs.Prelude.{IfOk};
 ghost use Rattle.questions.specs.boxes.Boxes.{AreBoxesOf};
 
+use crate::asked_packets::Asked;
 use crate::asking::Asking;
 use crate::difference::write_differences;
 use crate::each_rule::{Form, write_rules};
 use crate::fault::Fault;
 use crate::marks::Marks;
+use crate::outcomes::write_outcomes;
 use crate::packet_input::mark_packets;
 use crate::progress::Progress;
 use crate::subject::Subject;
@@ -110,7 +112,7 @@ where
     let steps = steps_of(audit.steps)?;
     let mut output = buffered_output(rt.alloc(), io::writer(rt))?;
     let mut asking = Asking::new(rt.alloc(), steps, Progress::new(rt, errors));
-    let answered = answer(rt, errors, audit.question, &mut asking, &mut output);
+    let answered = answer(rt, errors, &audit, &mut asking, &mut output);
     asking.end();
     let flushed = output.flush();
     let_go(output);
@@ -158,7 +160,7 @@ where
 fn answer<'a, R, E, W>(
     rt: &R,
     errors: &E,
-    question: Question<'a>,
+    audit: &Audit<'a>,
     asking: &mut Asking<'_, R, E>,
     output: &mut Tap<W>,
 ) -> Result<u8, Fault<'a>>
@@ -167,7 +169,7 @@ where
     E: Print + IsTerminal,
     W: Write,
 {
-    match question {
+    match audit.question {
         Question::Dead { file } => {
             let subject = subject_of(rt, errors, file)?;
             write_rules(asking, &subject, Form::Dead, output)
@@ -184,6 +186,11 @@ where
             let (old, mut work) = restored(rt, errors, old)?.into_parts();
             let (new, _) = restored(rt, errors, new)?.into_parts();
             write_differences(asking, &old, &new, &mut work, output)
+        }
+        Question::Reach { file } => {
+            let asked = Asked::read(rt.alloc(), audit.words.as_slice())?;
+            let (table, mut work) = restored(rt, errors, file)?.into_parts();
+            write_outcomes(asking, &table, &asked, &mut work, output)
         }
     }
 }

@@ -5,7 +5,8 @@ use Rattle.audits.proofs.audit.program.Goals as goal
 pub returns : goal.returns
 returns c =
     let add : App → App → App = λ program subcommand. with_subcommand program subcommand.top in
-    c.in_ok-program-4.ensures ∙ ap₂ add (c.in_ok-program-3.ensures
+    c.in_ok-program-5.ensures ∙ ap₂ add (c.in_ok-program-4.ensures
+    ∙ ap₂ add (c.in_ok-program-3.ensures
     ∙ ap₂ add (c.in_ok-program-2.ensures
     ∙ ap₂ add (c.in_ok-program.ensures
-    ∙ ap₂ add c.in_ok-named.ensures c.in_ok-dead.ensures.app) c.in_ok-compare.ensures.app) c.in_ok-tests.ensures.app) c.in_ok-cover.ensures.app
+    ∙ ap₂ add c.in_ok-named.ensures c.in_ok-dead.ensures.app) c.in_ok-compare.ensures.app) c.in_ok-tests.ensures.app) c.in_ok-cover.ensures.app) c.in_ok-reach.ensures.app

@@ -36,4 +36,10 @@ pub returns-in-Some-get_str-2 : goal.returns-in-Some-get_str-2
 returns-in-Some-get_str-2 c = (c.in-cover.is, c.in-Some-get_str-2.ensures ∙ first_value-rows (found_of c.args.matches.now) (codes "file"))
 
 pub returns-in-None-get_str-2 : goal.returns-in-None-get_str-2
-returns-in-None-get_str-2 c = inl (inr (inr c.in-cover.is), sym (c.in-None-get_str-2.ensures ∙ first_value-rows (found_of c.args.matches.now) (codes "file")))
+returns-in-None-get_str-2 c = inl (inr (inr (inl c.in-cover.is)), sym (c.in-None-get_str-2.ensures ∙ first_value-rows (found_of c.args.matches.now) (codes "file")))
+
+pub returns-in-Some-get_str-3 : goal.returns-in-Some-get_str-3
+returns-in-Some-get_str-3 c = (c.in-reach.is, c.in-Some-get_str-3.ensures ∙ first_value-rows (found_of c.args.matches.now) (codes "file"))
+
+pub returns-in-None-get_str-3 : goal.returns-in-None-get_str-3
+returns-in-None-get_str-3 c = inl (inr (inr (inr c.in-reach.is)), sym (c.in-None-get_str-3.ensures ∙ first_value-rows (found_of c.args.matches.now) (codes "file")))

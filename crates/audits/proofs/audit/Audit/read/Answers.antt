@@ -15,7 +15,7 @@ returns-in-Some-question_of-clause-audit c =
       taken_words _ texts c.in_ok-program.ensures c.in-Ok.ensures.kinds,
       _,
       named_by_words _ texts c.in-Ok.matches _ _ c.in_ok-program.ensures c.in-Ok.ensures.matches c.in-Some.ensures.name c.in-Some.ensures.rows,
-      (c.in-Some-question_of.ensures, c.get_str.ensures ∙ first_value-rows (found_of c.in-Some.inner.now) (codes "steps")),
+      (c.in-Some-question_of.ensures, c.get_str.ensures ∙ first_value-rows (found_of c.in-Some.inner.now) (codes "steps"), c.in_ok-words.ensures),
     )
 
 pub returns-clause-fault : goal.returns-clause-fault

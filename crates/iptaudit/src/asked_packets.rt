@@ -1,0 +1,116 @@
+//! The packets of a question about some packets, and the field that their numbers are told by.
+ghost use Rattle.std.specs.Prelude.{◌≡◌};
+
+use crate::fault::Fault;
+use crate::value_range::range_of;
+use fields::{FIELDS, Field, Hook, Spans, cut_at};
+use questions::{Area, Given};
+use std::alloc::Global;
+
+/// Some packets, and a field.
+#[derive(Drop)]
+pub(crate) struct Asked {
+    pub(crate) given: Given,
+    pub(crate) field: Field,
+}
+
+// The field of a key.
+fn field_named(name: &[u8]) -> Option<Field> {
+    for field in Field::ALL {
+        if field.name() == name {
+            return Some(field);
+        }
+    }
+    None
+}
+
+// The field after `by=`, where a word has it.
+fn field_by<'a>(word: &'a str) -> Result<Option<Field>, Fault<'a>> {
+    match cut_at(word.as_bytes(), b'=') {
+        Some((b"by", name)) => match field_named(name) {
+            Some(field) => Ok(Some(field)),
+            None => Err(Fault::BadWord(word)),
+        },
+        _ => Ok(None),
+    }
+}
+
+// The field that the one word `by=FIELD` names.
+fn asked_field<'a>(words: &[&'a str]) -> Result<Field, Fault<'a>> {
+    let mut asked = None;
+    for word in words {
+        if let Some(field) = field_by(word)? {
+            if asked.is_some() {
+                return Err(Fault::BadWord(word));
+            }
+            asked = Some(field);
+        }
+    }
+    match asked {
+        Some(field) => Ok(field),
+        None => Err(Fault::NoField),
+    }
+}
+
+// The packets of a box that the word `key=value` allows too. A key stands once.
+fn narrowed<'a>(
+    alloc: Global,
+    area: Area,
+    seen: &mut [bool; FIELDS],
+    word: &'a str,
+) -> Result<Area, Fault<'a>> {
+    let Some((key, text)) = cut_at(word.as_bytes(), b'=') else {
+        return Err(Fault::BadWord(word));
+    };
+    let Some(field) = field_named(key) else {
+        return Err(Fault::BadWord(word));
+    };
+    if seen[field.index()] {
+        return Err(Fault::BadWord(word));
+    }
+    seen[field.index()] = true;
+    let Some((first, last)) = range_of(alloc, field, text)? else {
+        return Err(Fault::BadWord(word));
+    };
+    if first > last || last > field.top() {
+        return Err(Fault::BadWord(word));
+    }
+    let set = Spans::one(alloc, field.top(), first, last)?;
+    Ok(area.narrow(alloc, field, &set)?)
+}
+
+// The packets at a hook that all words but `by=FIELD` allow.
+fn asked_area<'a>(alloc: Global, hook: Hook, words: &[&'a str]) -> Result<Area, Fault<'a>> {
+    let mut area = Area::at_hook(alloc, hook)?;
+    let mut seen = [false; FIELDS];
+    for word in words {
+        if field_by(word)?.is_none() {
+            area = narrowed(alloc, area, &mut seen, word)?;
+        }
+    }
+    Ok(area)
+}
+
+impl Asked {
+    /// The question that words ask: a hook, then `key=value` and `by=FIELD` in any order. A value is that of a packet line, a
+    /// range of ports or of times to live, or a prefix of addresses.
+    ///
+    /// # Errors
+    ///
+    /// `NoHook`, `BadWord` and `NoField` by the first word at fault, or where `by=FIELD` is missing; or where memory was
+    /// refused.
+    pub(crate) fn read<'a>(alloc: Global, words: &[&'a str]) -> Result<Asked, Fault<'a>> {
+        let Some((first, words)) = words.split_first() else {
+            return Err(Fault::NoField);
+        };
+        let Some(hook) = Hook::read(first.as_bytes()) else {
+            return Err(Fault::NoHook(first));
+        };
+        let field = asked_field(words)?;
+        let area = asked_area(alloc, hook, words)?;
+        Ok(Asked {
+            given: Given { hook, area },
+            field,
+        })
+    }
+}

@@ -1,0 +1,85 @@
+//! What becomes of some packets, by their numbers on a field.
+use crate::asked_packets::Asked;
+use crate::asking::Asking;
+use crate::fault::Fault;
+use crate::notation::put_set;
+use fields::{Field, Tap, WriteFailed};
+use itoa::Buffer;
+use questions::Reached;
+use rules::Work;
+use std::alloc::Global;
+use std::io::{IsTerminal, Write};
+use std::rt::Clock;
+use table::{Step, Table, Verdict};
+
+fn put_verdict<W: Write>(verdict: Verdict, output: &mut Tap<W>) -> Result<(), WriteFailed> {
+    match verdict {
+        Verdict::Accept => output.put(b"ACCEPT"),
+        Verdict::Drop => output.put(b"DROP"),
+        Verdict::Reject(kind) => {
+            output.put(b"REJECT ")?;
+            kind.put(output)
+        }
+        Verdict::TooLong => output.put(b"TOOLONG"),
+    }
+}
+
+// Writes what decides: `policy`, or a rule as `INPUT 3`.
+fn put_decider<W: Write>(
+    table: &Table,
+    by: Option<Step>,
+    output: &mut Tap<W>,
+) -> Result<(), WriteFailed> {
+    match by {
+        Some(step) if step.chain < table.chain_count() => {
+            let mut digits = Buffer::new();
+            output.put_all(&[
+                table.chain_name(step.chain),
+                b" ",
+                digits.format(step.number).as_bytes(),
+            ])
+        }
+        _ => output.put(b"policy"),
+    }
+}
+
+// Writes the line of packets with one end: `ACCEPT by INPUT 3: 22, 80`.
+fn put_reached<'a, W: Write>(
+    alloc: Global,
+    table: &Table,
+    field: Field,
+    reached: &Reached,
+    output: &mut Tap<W>,
+) -> Result<(), Fault<'a>> {
+    put_verdict(reached.verdict, output)?;
+    output.put(b" by ")?;
+    put_decider(table, reached.by, output)?;
+    output.put(b": ")?;
+    put_set(alloc, field, &reached.numbers, output)?;
+    Ok(output.put(b"\n")?)
+}
+
+/// Writes what becomes of some packets, each verdict with what decides, and the numbers of its packets on the field; and
+/// answers the status: 3 where it isn't known, else 0.
+///
+/// # Errors
+///
+/// Where memory was refused, or a write failed.
+pub(crate) fn write_outcomes<'a, R: Clock, E: Print + IsTerminal, W: Write>(
+    asking: &mut Asking<'_, R, E>,
+    table: &Table,
+    asked: &Asked,
+    work: &mut Work,
+    output: &mut Tap<W>,
+) -> Result<u8, Fault<'a>> {
+    asking.begin(1);
+    asking.next();
+    let Some(found) = asking.reach(table, &asked.given, asked.field, work)? else {
+        output.put(b"unclear\n")?;
+        return Ok(3);
+    };
+    for reached in found.as_slice() {
+        put_reached(asking.alloc(), table, asked.field, reached, output)?;
+    }
+    Ok(0)
+}
