@@ -1,19 +1,18 @@
 -- A walk through a table without its dead rules.
-use Rattle.std.proofs.Common.{◌≡◌, ◌≢◌, inl, inr, ◌⊎◌, ℕ, zero, suc, ◌+◌, ◌<◌, ◌≤◌, Bool, true, false, cond, List, [], ◌∷◌, ◌++◌, length, map, refl, sym, ◌∙◌, ap, arith, subst, Option, Some, None, Contains}
+use Rattle.std.proofs.Common.{◌≡◌, ◌≢◌, inl, inr, ℕ, zero, suc, ◌+◌, ◌<◌, Bool, true, false, cond, List, [], ◌∷◌, ◌++◌, length, map, refl, sym, ◌∙◌, ap, arith, subst, Option, Some, None, Contains}
 use Rattle.std.specs.Prelude.{slice_get, IsTrue, IsFalse}
 use Rattle.std.proofs.Math.Numerals.{add-one}
-use Rattle.std.proofs.lemmas.Bool.{cases_Bool, cond-true, cond-false, true≢false}
+use Rattle.std.proofs.lemmas.Bool.{cases_Bool, cond-true, cond-false}
 use Rattle.std.proofs.lemmas.List.{length-append}
 use Rattle.std.proofs.lemmas.List.Elements.{Contains-append_left, Contains-push}
 use Rattle.std.proofs.lemmas.Slice.Eq.{bytes_eq-Decides}
 use Rattle.fields.specs.packet.Hook.{name as hook_name}
-use Rattle.fields.specs.packet.Packet.{PacketView as Packet}
 use Rattle.rules.specs.rule.Actions.{target_of}
 use Rattle.rules.specs.rule.Allows.{matches}
 use Rattle.rules.specs.rule.Rules.{Rule}
 use Rattle.rules.specs.declared.rule.target.Target.{Target}
 use Rattle.rules.specs.declared.rule.target.Target.TheVariants as target
-use Rattle.table.specs.chains.Table.{Chain, Table, is_named, rules_of}
+use Rattle.table.specs.chains.Table.{Chain, is_named, rules_of}
 use Rattle.table.specs.declared.verdict.Verdict.{Verdict}
 use Rattle.table.specs.declared.verdict.Verdict.TheVariants.{TooLong}
 use Rattle.table.specs.walk.Cases.{Stage, Under, Over, next_rule, behind, with_next, on_by, StepsTo, GoesTo}
