@@ -2,6 +2,7 @@ pub mod BesideLaws
 pub mod BitLaws
 pub mod CopyLaws
 pub mod GetLaws
+pub mod MarginLaws
 pub mod MarkLaws
 pub mod MoveLaws
 pub mod PaddedLaws

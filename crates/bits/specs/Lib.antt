@@ -1,3 +1,4 @@
 pub mod BitRow
+pub mod MarginRows
 pub mod Rows
 pub mod steps

@@ -2,6 +2,7 @@
 #![tactic(auto)]
 
 mod bit_row;
+mod margin_rows;
 mod moves;
 mod rows;
 mod sparse;
@@ -9,6 +10,7 @@ mod summary;
 mod words;
 
 pub use bit_row::{BitRow, MOST_BITS};
+pub use margin_rows::MarginRows;
 pub use moves::{insert_at, insert_pair_at};
 pub use rows::Rows;
 pub use summary::{is_marked, next_marked};

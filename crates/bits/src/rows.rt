@@ -4,7 +4,7 @@ ghost use Rattle.std.specs.Prelude.{◌≡◌, ◌≢◌, ◌<◌, ◌≤◌, �
 ghost use Rattle.std.specs.Prelude.{false, true, take, drop, IfOk, OnOk, OnErr, IsOk, IsTrue, ◌↔◌, ◌%◌};
 ghost use Rattle.std.specs.Prelude.{ℕ, All, replicate, ◌++◌};
 ghost use Rattle.bits.specs.steps.Packing.{all_bits, IsPacked};
-ghost use Rattle.bits.specs.steps.Held.{redirected, words_in, EachSlot, Gains};
+ghost use Rattle.bits.specs.steps.Held.{redirected, words_in, EachSlot, Writes};
 ghost use Rattle.bits.specs.steps.Shifts.{Shifts};
 ghost use Rattle.bits.specs.steps.Summaries.{IsSummaryOf, SumUp};
 
@@ -85,35 +85,35 @@ fn shift_all(words: &mut Vec<u64>, summaries: &mut Vec<u64>, width: usize, at: u
     }
 }
 
-// Writes a 1 at a place of each row of so many words, as they are lent: so the loop needn't ask a vector where they are.
-fn mark_each(words: &mut [u64], summaries: &mut [u64], width: usize, at: usize)
+// Writes a bit at a place of each row of so many words, as they are lent: so the loop needn't ask a vector where they are.
+fn write_each(words: &mut [u64], summaries: &mut [u64], width: usize, at: usize, bit: bool)
     requires place { at < 64 * width }
     requires whole { length words.old ≡ length summaries.old * width }
     requires summed { SumUp width summaries.old words.old (length summaries.old) }
     ensures len { length words.new ≡ length words.old }
-    ensures rows { EachSlot (Gains at) width words.old words.new (length summaries.old) }
+    ensures rows { EachSlot (Writes at bit) width words.old words.new (length summaries.old) }
     ensures counted { length summaries.new ≡ length summaries.old }
     ensures summed { SumUp width summaries.new words.new (length summaries.old) }
 {
     for slot in 0..summaries.len() {
         let place = slot * width + at / 64;
         let word = words[place];
-        words[place] = set_bit(word, (at % 64) as u32, true);
-        summaries[slot] = marked(summaries[slot], at / 64, true);
+        words[place] = set_bit(word, (at % 64) as u32, bit);
+        summaries[slot] = marked(summaries[slot], at / 64, bit);
     }
 }
 
-// Writes a 1 at a place of each row of so many words.
-fn mark_all(words: &mut Vec<u64>, summaries: &mut Vec<u64>, width: usize, at: usize)
+// Writes a bit at a place of each row of so many words.
+fn write_all(words: &mut Vec<u64>, summaries: &mut Vec<u64>, width: usize, at: usize, bit: bool)
     requires place { at < 64 * width }
     requires whole { length words.old.items ≡ length summaries.old.items * width }
     requires summed { SumUp width summaries.old.items words.old.items (length summaries.old.items) }
     ensures len { length words.new.items ≡ length words.old.items }
-    ensures rows { EachSlot (Gains at) width words.old.items words.new.items (length summaries.old.items) }
+    ensures rows { EachSlot (Writes at bit) width words.old.items words.new.items (length summaries.old.items) }
     ensures counted { length summaries.new.items ≡ length summaries.old.items }
     ensures summed { SumUp width summaries.new.items words.new.items (length summaries.old.items) }
 {
-    mark_each(words.as_mut_slice(), summaries.as_mut_slice(), width, at);
+    write_each(words.as_mut_slice(), summaries.as_mut_slice(), width, at, bit);
 }
 
 // The words of so many rows, each with words of zeros after it.
@@ -269,15 +269,15 @@ impl Rows {
         self.summaries[slot] = marked(self.summaries[slot], at / 64, bit);
     }
 
-    /// Writes a 1 at a place of each row: it goes from slot to slot.
-    pub fn set_all(&mut self, at: usize)
+    /// Writes a bit at a place of each row: it goes from slot to slot.
+    pub fn set_all(&mut self, at: usize, bit: bool)
         requires some { 0 < length self.old.rows }
         requires place { All (λ row. at < length row) self.old.rows }
-        ensures rows { self.new.rows ≡ map (λ row. slice_set row at true) self.old.rows }
+        ensures rows { self.new.rows ≡ map (λ row. slice_set row at bit) self.old.rows }
         ensures room { self.new.room ≡ self.old.room }
     {
         let _len = self.len;
-        mark_all(&mut self.words, &mut self.summaries, self.width, at);
+        write_all(&mut self.words, &mut self.summaries, self.width, at, bit);
     }
 
     /// Whether two rows are equal.
@@ -425,6 +425,13 @@ impl Rows {
         self.len -= 1;
     }
 
+    /// Whether there is room for one more bit in each row.
+    pub fn has_room(&self) -> bool
+        ensures { IsTrue result ↔ (0 < self.now.room) }
+    {
+        self.len < 64 * self.width
+    }
+
     /// Takes the memory that one more bit in each row needs: all rows move where there is no room.
     ///
     /// # Errors
@@ -437,7 +444,7 @@ impl Rows {
         ensures ok { OnOk result (0 < self.new.room) }
         ensures there { 0 < self.old.room → IsOk result }
     {
-        if self.len < 64 * self.width {
+        if self.has_room() {
             return Ok(());
         }
         let wider = twice(self.width);

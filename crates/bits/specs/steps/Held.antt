@@ -1,5 +1,5 @@
 -- Rows of equally many bits as they are held: each has a slot, and a slot has as many words as any other.
-use Rattle.std.specs.Prelude.{◌≡◌, ◌≢◌, ℕ, ◌*◌, ◌^◌, ◌<◌, ◌≤◌, ◌==◌, Bool, false, true, List, [], ◌∷◌, length, take, drop, All, if◌then◌else◌, ◌++◌, insert, remove, slice_set}
+use Rattle.std.specs.Prelude.{◌≡◌, ◌≢◌, ℕ, ◌*◌, ◌^◌, ◌<◌, ◌≤◌, ◌==◌, Bool, false, List, [], ◌∷◌, length, take, drop, All, if◌then◌else◌, ◌++◌, insert, remove, slice_set}
 use Rattle.bits.specs.steps.Packing.{all_bits}
 
 -- the words in a slot
@@ -51,9 +51,9 @@ TakesIn at old new = (top : Bool) × (all_bits new ++ top ∷ [] ≡ insert (all
 abbrev pub GivesUp : ℕ → List ℕ → List ℕ → Type 0
 GivesUp at old new = all_bits new ≡ remove (all_bits old) at ++ false ∷ []
 
--- a 1 written at a place of a row's words
-abbrev pub Gains : ℕ → List ℕ → List ℕ → Type 0
-Gains at old new = all_bits new ≡ slice_set (all_bits old) at true
+-- a bit written at a place of a row's words
+abbrev pub Writes : ℕ → Bool → List ℕ → List ℕ → Type 0
+Writes at bit old new = all_bits new ≡ slice_set (all_bits old) at bit
 
 -- R holds of the words in each slot before and after
 abbrev pub EachSlot : (List ℕ → List ℕ → Type 0) → ℕ → List ℕ → List ℕ → ℕ → Type 0

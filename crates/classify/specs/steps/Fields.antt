@@ -23,16 +23,22 @@ tops = map top all_fields
 abbrev pub most_boxes : ℕ
 most_boxes = 64 * (2 ^ 58 - 1)
 
+-- as many blank places stand before the first box's in each line as in any other
+abbrev pub HaveOneMargin : List PiecesAndRoom → Type 0
+HaveOneMargin lines =
+    (j k : ℕ) (l : PiecesAndRoom) → j < length lines → k < length lines → (slice_index_or lines j l).room.before ≡ (slice_index_or lines k l).room.before
+
 -- the lines of so many boxes as they stand between edits
 pub record IsKept (len : ℕ) (lines : List PiecesAndRoom) : Type 0 where
   pub few : len ≤ most_boxes
   pub fields : length lines ≡ FIELDS
   pub sound : (k : ℕ) (l : PiecesAndRoom) → k < length lines → IsSound (slice_index tops k) len (slice_index_or lines k l)
+  pub margin : HaveOneMargin lines
 
 -- the least room of some lines, and n at most
 unfoldable pub room_of_lines : ℕ → List PiecesAndRoom → ℕ
 room_of_lines n [] = n
-room_of_lines n (l ∷ ls) = min l.room (room_of_lines n ls)
+room_of_lines n (l ∷ ls) = min l.room.places (room_of_lines n ls)
 
 -- how many boxes go in before a row has to grow: no more than a classifier may have
 abbrev pub room_beside : ℕ → List PiecesAndRoom → ℕ
@@ -79,9 +85,10 @@ HasOnlyCuts s l = IsApart s.intervals l.pieces
 abbrev pub IsKeptWithCuts : SpanSet → PiecesAndRoom → PiecesAndRoom → Type 0
 IsKeptWithCuts s l m = HasCuts s l → m.pieces ≡ l.pieces
 
--- no room is lost
-abbrev pub KeepsRoom : PiecesAndRoom → PiecesAndRoom → Type 0
-KeepsRoom l m = l.room ≤ m.room
+-- no room is lost, and as many blank places stand before
+pub record KeepsRoom (l m : PiecesAndRoom) : Type 0 where
+  pub more : l.room.places ≤ m.room.places
+  pub before : m.room.before ≡ l.room.before
 
 -- the room is the same
 abbrev pub HasSameRoom : PiecesAndRoom → PiecesAndRoom → Type 0
@@ -94,15 +101,15 @@ pub record IsRoomier (l m : PiecesAndRoom) : Type 0 where
 
 -- the room of one bit is used, and no more
 abbrev pub UsesRoom : PiecesAndRoom → PiecesAndRoom → Type 0
-UsesRoom l m = l.room ≤ m.room + 1
+UsesRoom l m = l.room.places ≤ m.room.places + 1
 
 -- each row has room for one bit more than before
 abbrev pub FreesRoom : PiecesAndRoom → PiecesAndRoom → Type 0
-FreesRoom l m = m.room ≡ l.room + 1
+FreesRoom l m = m.room.places ≡ l.room.places + 1
 
 -- each row has room for all bits that it had, beside what it had room for
 abbrev pub FreesAll : PiecesAndRoom → PiecesAndRoom → Type 0
-FreesAll l m = m.room ≡ l.room + row_bits l.pieces
+FreesAll l m = m.room.places ≡ l.room.places + row_bits l.pieces
 
 -- a line as it stands between edits, with so many bits a row
 abbrev pub Stands : ℕ → SpanSet → PiecesAndRoom → Type 0
@@ -133,17 +140,28 @@ pub record IsCutFor (s : SpanSet) (l : PiecesAndRoom) : Type 0 where
   pub cuts : HasCuts s l
   pub apart : HasOnlyCuts s l
 
+-- of so many blank places a bit put in before all others takes one, where there is one, and any other none
+pub record TakesPlace (at old new : ℕ) : Type 0 where
+  pub first : at ≡ 0 → new ≡ old - 1
+  pub later : 0 < at → new ≡ old
+
+-- a bit taken out leaves one more, where it was before all others
+pub record LeavesPlace (at old new : ℕ) : Type 0 where
+  pub first : at ≡ 0 → new ≡ old + 1
+  pub later : 0 < at → new ≡ old
+
 -- a box's set put in at a place: the line of any sets becomes that of the sets with it, and the rows are longer by one bit
 pub record TakesIn (at : ℕ) (s : SpanSet) (old new : PiecesAndRoom) : Type 0 where
   pub line : (sets : List (List Interval)) → Says s.top sets old.pieces
       → IsLineOf has s.top (insert sets at s.intervals) new.pieces
   pub sound : IsSound s.top (row_bits old.pieces + 1) new
-  pub room : new.room + 1 ≡ old.room
+  pub room : new.room.places + 1 ≡ old.room.places
+  pub margin : TakesPlace at old.room.before new.room.before
 
 -- nothing need grow for the set's answers: pieces start where they change, and each row has room for a bit
 pub record HasRoom (s : SpanSet) (l : PiecesAndRoom) : Type 0 where
   pub cuts : CutsStart s.top s.intervals l.pieces
-  pub room : 0 < l.room
+  pub room : 0 < l.room.places
 
 -- a box's set put in the place of another: the line of any sets becomes that of the sets with it, and the rows stay as long
 pub record TakesOver (at : ℕ) (s : SpanSet) (old new : PiecesAndRoom) : Type 0 where
@@ -162,3 +180,4 @@ pub record LosesBox (at : ℕ) (old new : PiecesAndRoom) : Type 0 where
       → IsLineOf has top (remove sets at) new.pieces
   pub sound : (top : ℕ) → IsRising top old.pieces → IsSound top (row_bits old.pieces - 1) new
   pub room : FreesRoom old new
+  pub margin : LeavesPlace at old.room.before new.room.before

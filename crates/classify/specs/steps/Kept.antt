@@ -2,23 +2,24 @@
 use Rattle.std.specs.Prelude.{◌≡◌, ℕ, ◌+◌, ◌-◌, ◌^◌, ◌%◌, Bool, List, [], ◌∷◌, length, refl}
 use Rattle.std.specs.Coded.{Coded, Coded-set, code_by, coded_ℕ, coded_bool, coded_list, coded×, ×_prop, Unit-prop, le_prop}
 use Rattle.classify.specs.steps.Pieces.{IsRising, IsRisingFrom, Differ, EachRow, row_bits}
+use Rattle.bits.specs.MarginRows.{Room}
 use base.Stored.{coded_sub}
 
 -- the greatest number that a piece may start at
 abbrev pub most_start : ℕ
 most_start = 2 ^ 128 - 1
 
--- the pieces rise from 0, each row has as many bits as the first, and these and the room for more fill words
-pub record IsLine (pieces : List (ℕ × List Bool)) (room : ℕ) : Type 0 where
+-- the pieces rise from 0, each row has as many bits as the first, and these and the places for more fill words
+pub record IsLine (pieces : List (ℕ × List Bool)) (places : ℕ) : Type 0 where
   pub rising : IsRising most_start pieces
   pub rows : EachRow (row_bits pieces) pieces
-  pub whole : (row_bits pieces + room) % 64 ≡ 0
+  pub whole : (row_bits pieces + places) % 64 ≡ 0
 
--- what a line shows: where each piece starts, with its row; and how many bits more go into each row before memory is needed
+-- what a line shows: where each piece starts, with its row; and the room of each row for more bits
 pub record PiecesAndRoom : Type 0 where
   pub pieces : List (ℕ × List Bool)
-  pub room : ℕ
-  pub stands : IsLine pieces room
+  pub room : Room
+  pub stands : IsLine pieces room.places
 
 -- a line as it stands between edits: no piece starts above the top, no two neighbours are equal, and each row has so many bits
 pub record IsSound (top n : ℕ) (line : PiecesAndRoom) : Type 0 where
@@ -46,21 +47,21 @@ each_row_prop : (n : ℕ) (line : List (ℕ × List Bool)) → IsProp (EachRow n
 each_row_prop n [] = Unit-prop
 each_row_prop n (p ∷ ps) = ×_prop (equal_prop (length p.1) n) (each_row_prop n ps)
 
--- that pieces and a room are a line: all three parts of it
-pub line_prop : (pieces : List (ℕ × List Bool)) (room : ℕ) → IsProp (IsLine pieces room)
-line_prop pieces room = λ g h i.
+-- that pieces and places are a line: all three parts of it
+pub line_prop : (pieces : List (ℕ × List Bool)) (places : ℕ) → IsProp (IsLine pieces places)
+line_prop pieces places = λ g h i.
     record {
       rising = rising_prop most_start pieces g.rising h.rising i;
       rows = each_row_prop (row_bits pieces) pieces g.rows h.rows i;
-      whole = equal_prop ((row_bits pieces + room) % 64) 0 g.whole h.whole i;
+      whole = equal_prop ((row_bits pieces + places) % 64) 0 g.whole h.whole i;
     }
 
 -- how pieces and a room are stored
-abbrev data_code : Coded (List (ℕ × List Bool) × ℕ)
-data_code = coded× (coded_list (coded× coded_ℕ (coded_list coded_bool))) coded_ℕ
+abbrev data_code : Coded (List (ℕ × List Bool) × (ℕ × ℕ))
+data_code = coded× (coded_list (coded× coded_ℕ (coded_list coded_bool))) (coded× coded_ℕ coded_ℕ)
 
 -- a line is stored as its pieces and its room
 abbrev pub line_code : Coded PiecesAndRoom
 line_code =
-    code_by ((d : List (ℕ × List Bool) × ℕ) × IsLine d.0 d.1) (coded_sub data_code (λ d. IsLine d.0 d.1) (λ d. line_prop d.0 d.1)) (λ l. ((l.pieces, l.room), l.stands))
-    (λ p. record { pieces = p.0.0; room = p.0.1; stands = p.1 }) (λ _. refl)
+    code_by ((d : List (ℕ × List Bool) × (ℕ × ℕ)) × IsLine d.0 d.1.0) (coded_sub data_code (λ d. IsLine d.0 d.1.0) (λ d. line_prop d.0 d.1.0)) (λ l. ((l.pieces, (l.room.places, l.room.before)), l.stands))
+    (λ p. record { pieces = p.0.0; room = record { places = p.0.1.0; before = p.0.1.1 }; stands = p.1 }) (λ _. refl)

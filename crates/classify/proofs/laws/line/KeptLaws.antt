@@ -102,7 +102,7 @@ set_rising top zero row (p ∷ ps) lt r = r
 set_rising top (suc k) row (p ∷ ps) lt r = (r.0, set_from top 0 k row ps (omega arith) r.1)
 
 -- a row of the same length in the place of another
-pub set_line : (l : PiecesAndRoom) (k n : ℕ) (row : List Bool) → k < length l.pieces → length row ≡ row_bits l.pieces → n ≡ l.room → (line : List Cut) → line ≡ set l.pieces k (slice_index (starts l.pieces) k, row)
+pub set_line : (l : PiecesAndRoom) (k n : ℕ) (row : List Bool) → k < length l.pieces → length row ≡ row_bits l.pieces → n ≡ l.room.places → (line : List Cut) → line ≡ set l.pieces k (slice_index (starts l.pieces) k, row)
     → IsLine line n × (row_bits line ≡ row_bits l.pieces)
 set_line l k n row lt e room line is =
     let p : Cut = (slice_index (starts l.pieces) k, row) in
@@ -140,7 +140,7 @@ bits_left j [] = refl
 bits_left j (p ∷ ps) = refl
 
 -- a piece taken out, which is not the first
-pub left_kept : (l : PiecesAndRoom) (k n : ℕ) → 0 < k → n ≡ l.room → (line : List Cut) → line ≡ remove l.pieces k → IsLine line n
+pub left_kept : (l : PiecesAndRoom) (k n : ℕ) → 0 < k → n ≡ l.room.places → (line : List Cut) → line ≡ remove l.pieces k → IsLine line n
 left_kept l k n later room line is =
     let back : k ≡ suc (k - 1) = omega arith in
     let P : List Cut → Type 0 = λ cs. IsLine cs n in

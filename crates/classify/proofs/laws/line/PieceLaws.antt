@@ -7,31 +7,32 @@ use Rattle.std.proofs.lemmas.Slice.Zip.{firsts-zip, get_or-zip}
 use Rattle.classify.specs.line.Line.{starts}
 use Rattle.classify.specs.steps.Edits.{row_of}
 use Rattle.classify.proofs.laws.line.ShownLaws.{Cut}
+use Rattle.bits.specs.MarginRows.{Room}
 use Rattle.classify.specs.steps.Kept.{IsLine, PiecesAndRoom}
 
 abbrev Row : Type 0
 Row = List Bool
 
 -- starts and rows that show a line
-abbrev pub Show : (ss : List ℕ) (rs : List Row) (n : ℕ) → IsLine (zip ss rs) n → PiecesAndRoom → Type 0
+abbrev pub Show : (ss : List ℕ) (rs : List Row) (n : Room) → IsLine (zip ss rs) n.places → PiecesAndRoom → Type 0
 Show ss rs n s l = record { pieces = zip ss rs; room = n; stands = s } ≡ l
 
-pub kept_pieces : (ss : List ℕ) (rs : List Row) (n : ℕ) (s : IsLine (zip ss rs) n) (l : PiecesAndRoom) → Show ss rs n s l → zip ss rs ≡ l.pieces
+pub kept_pieces : (ss : List ℕ) (rs : List Row) (n : Room) (s : IsLine (zip ss rs) n.places) (l : PiecesAndRoom) → Show ss rs n s l → zip ss rs ≡ l.pieces
 kept_pieces ss rs n s l v = ap (λ (k : PiecesAndRoom). k.pieces) v
 
-pub kept_starts : (ss : List ℕ) (rs : List Row) (n : ℕ) (s : IsLine (zip ss rs) n) (l : PiecesAndRoom) → length rs ≡ length ss → Show ss rs n s l → starts l.pieces ≡ ss
+pub kept_starts : (ss : List ℕ) (rs : List Row) (n : Room) (s : IsLine (zip ss rs) n.places) (l : PiecesAndRoom) → length rs ≡ length ss → Show ss rs n s l → starts l.pieces ≡ ss
 kept_starts ss rs n s l e v = sym (ap starts (kept_pieces ss rs n s l v)) ∙ firsts-zip ss rs e
 
-pub kept_long : (ss : List ℕ) (rs : List Row) (n : ℕ) (s : IsLine (zip ss rs) n) (l : PiecesAndRoom) → length rs ≡ length ss → Show ss rs n s l → length l.pieces ≡ length ss
+pub kept_long : (ss : List ℕ) (rs : List Row) (n : Room) (s : IsLine (zip ss rs) n.places) (l : PiecesAndRoom) → length rs ≡ length ss → Show ss rs n s l → length l.pieces ≡ length ss
 kept_long ss rs n s l e v = sym (length-map l.pieces (λ (p : Cut). p.0)) ∙ ap length (kept_starts ss rs n s l e v)
 
-pub kept_row : (ss : List ℕ) (rs : List Row) (n : ℕ) (s : IsLine (zip ss rs) n) (l : PiecesAndRoom) (k : ℕ) → length rs ≡ length ss → Show ss rs n s l → k < length ss → row_of l.pieces k ≡ get_or rs k []
+pub kept_row : (ss : List ℕ) (rs : List Row) (n : Room) (s : IsLine (zip ss rs) n.places) (l : PiecesAndRoom) (k : ℕ) → length rs ≡ length ss → Show ss rs n s l → k < length ss → row_of l.pieces k ≡ get_or rs k []
 kept_row ss rs n s l k e v lt =
     let none : Cut = (0, []) in
     ap (λ (p : Cut). p.1) (sym (ap (λ (ps : List Cut). get_or ps k none) (kept_pieces ss rs n s l v)) ∙ get_or-zip ss rs k none lt (omega arith))
 
 -- what holds of each row of the line holds of the rows
-pub each_row_kept : (P : Row → Type 0) (ss : List ℕ) (rs : List Row) (n : ℕ) (s : IsLine (zip ss rs) n) (l : PiecesAndRoom) → length rs ≡ length ss → Show ss rs n s l → ((k : ℕ) → k < length l.pieces → P (row_of l.pieces k)) → All P rs
+pub each_row_kept : (P : Row → Type 0) (ss : List ℕ) (rs : List Row) (n : Room) (s : IsLine (zip ss rs) n.places) (l : PiecesAndRoom) → length rs ≡ length ss → Show ss rs n s l → ((k : ℕ) → k < length l.pieces → P (row_of l.pieces k)) → All P rs
 each_row_kept P ss rs n s l e v h = λ k d lt.
     let below : k < length ss = omega arith in
     subst P (kept_row ss rs n s l k e v below ∙ get_or_default rs k [] d lt) (h k (omega (arith, kept_long ss rs n s l e v)))

@@ -78,7 +78,7 @@ cut_twice_new line k x y top h r s =
     split_not_there line x k (record { within = h.piece; high = λ lt. omega (arith, h.below lt, h.rising) }) h.above top r s
 
 -- a line cut twice is a line
-pub cut_twice_kept : (l : PiecesAndRoom) (k x y n : ℕ) → AreWithin l.pieces k x y → y ≤ most_start → n ≡ l.room → (line : List Cut) → line ≡ cut_twice l.pieces k x y → IsLine line n
+pub cut_twice_kept : (l : PiecesAndRoom) (k x y n : ℕ) → AreWithin l.pieces k x y → y ≤ most_start → n ≡ l.room.places → (line : List Cut) → line ≡ cut_twice l.pieces k x y → IsLine line n
 cut_twice_kept l k x y n h le room line is =
     let mid : PiecesAndRoom = record { pieces = cut_above l.pieces k y; room = l.room; stands = split_kept l k y l.room h.piece (omega (arith, h.above, h.rising)) h.below le refl (cut_above l.pieces k y) refl } in
     let i = then_in l.pieces k x y h in

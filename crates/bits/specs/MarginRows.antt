@@ -1,0 +1,20 @@
+-- What rows with a margin show: blank places stand before the first bit of each.
+use Rattle.std.specs.Prelude.{◌≡◌, ℕ, Bool, false, List, ◌++◌, map, replicate}
+
+-- how many bits more go into each row before memory is needed, and how many of their places stand before its first bit
+pub record Room : Type 0 where
+  pub places : ℕ
+  pub before : ℕ
+
+-- the rows in their order, and their room
+pub record RowsInRoom : Type 0 where
+  pub rows : List (List Bool)
+  pub room : Room
+
+-- a row after so many blank places
+abbrev pub after_margin : ℕ → List Bool → List Bool
+after_margin margin row = replicate margin false ++ row
+
+-- the rows, each after so many blank places
+abbrev pub AreAfter : ℕ → List (List Bool) → List (List Bool) → Type 0
+AreAfter margin rows wide = wide ≡ map (after_margin margin) rows
