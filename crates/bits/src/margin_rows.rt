@@ -237,6 +237,7 @@ impl MarginRows {
         ensures rows { self.new.rows ≡ self.old.rows }
         ensures places { self.new.room.places ≡ self.old.room.places }
         ensures before { self.new.room.before ≡ self.old.room.before - 1 }
+        ensures after { 0 < self.old.room.places → self.new.room.before < self.new.room.places }
     {
         if self.margin == 0 {
             return;

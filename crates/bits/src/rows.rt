@@ -113,7 +113,13 @@ fn write_all(words: &mut Vec<u64>, summaries: &mut Vec<u64>, width: usize, at: u
     ensures counted { length summaries.new.items ≡ length summaries.old.items }
     ensures summed { SumUp width summaries.new.items words.new.items (length summaries.old.items) }
 {
-    write_each(words.as_mut_slice(), summaries.as_mut_slice(), width, at, bit);
+    write_each(
+        words.as_mut_slice(),
+        summaries.as_mut_slice(),
+        width,
+        at,
+        bit,
+    );
 }
 
 // The words of so many rows, each with words of zeros after it.

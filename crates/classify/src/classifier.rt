@@ -10,7 +10,8 @@ ghost use Rattle.rules.specs.rule.Rules.{Rule};
 ghost use Rattle.classify.specs.search.NextMatch.{next_match};
 
 use crate::classifier::candidates::Candidates;
-use crate::line::owned::{LentRow, OwnedLine};
+use crate::classifier::point::PointRows;
+use crate::line::owned::OwnedLine;
 use crate::line::view::Line;
 use bits::MOST_BITS;
 use fields::{FIELDS, Field};
@@ -22,12 +23,7 @@ use std::marker::Model;
 pub(crate) mod candidates;
 pub(crate) mod lines;
 pub(crate) mod of_rules;
-
-// The words of each field's row at a point, and a summary of what all these rows have.
-struct PointRows<'a> {
-    words: [&'a [u64]; FIELDS],
-    summary: u64,
-}
+pub(crate) mod point;
 
 /// The classifier of a list of boxes: on each field the line of their answers, and no more.
 ///
@@ -63,12 +59,6 @@ impl Classifier {
     ghost use Rattle.classify.specs.classifier.Classifier.{IsClassifierOf, IsClassifierOfRules, EditsBoxes, EditsRules};
     ghost use Rattle.classify.specs.classifier.OfRules.{lines_of};
     ghost use Rattle.classify.specs.classifier.Classifier.{HasNoNewCut, line_on, IsPoint, box_matches};
-    ghost use Rattle.std.specs.Prelude.{slice_index_or};
-    ghost use Rattle.classify.specs.steps.Pieces.{row_in};
-    ghost use Rattle.classify.specs.steps.CommonPlaces.{IsRowAt, AreRowsAt};
-    ghost use Rattle.bits.specs.steps.Summaries.{IsSummaryOf};
-    ghost use Rattle.classify.specs.steps.Summaries.{SumUpPoint};
-    ghost use Rattle.classify.specs.steps.Fields.{shown_line};
 
     /// The classifier of no box.
     ///
@@ -183,32 +173,6 @@ impl Classifier {
         self.len = 0;
     }
 
-    // The row of a field's line at a number; it is lent.
-    fn row(&self, place: usize, x: u128) -> LentRow<'_>
-        requires { place < FIELDS }
-        ensures row { IsRowAt self.now.shown place x result.words.now }
-        ensures summed { IsSummaryOf result.summary (row_in (slice_index_or self.now.shown.lines place []) x) }
-    {
-        let line = &self.lines[place];
-        line.row_at(x)
-    }
-
-    // The rows of all fields at a point; they are lent.
-    fn rows(&self, point: &[u128; FIELDS]) -> PointRows<'_>
-        ensures rows { AreRowsAt self.now.shown point.now result.words FIELDS }
-        ensures summed { SumUpPoint self.now.shown point.now result.summary FIELDS }
-    {
-        let none: &[u64] = &[];
-        let mut words = [none; FIELDS];
-        let mut summary = u64::MAX;
-        for place in 0..FIELDS {
-            let row = self.row(place, point[place]);
-            words[place] = row.words;
-            summary &= row.summary;
-        }
-        PointRows { words, summary }
-    }
-
     /// Which boxes allow the point. The point has a number for each field, in the order of `Field::ALL`.
     ///
     /// It takes no memory and copies no row. It costs a search for a place on each line.
@@ -219,8 +183,12 @@ impl Classifier {
         ensures rules { (rules : List Rule) → IsClassifierOfRules rules self.now.shown
             → result ≡ map (allows_each point.now) rules }
     {
-        let PointRows { words, summary } = self.rows(point);
-        Candidates::of(self.len, words, summary)
+        let PointRows {
+            margin,
+            words,
+            summary,
+        } = point::rows_at(&self.lines, self.len, point);
+        Candidates::of(margin, self.len, words, summary)
     }
 
     /// The least place, at or after `from`, of a box that allows the point; there may be none. It takes no memory, and

@@ -1,6 +1,6 @@
 //! The search for the first place that every row has: rows and-ed word by word.
 
-ghost use Rattle.std.specs.Prelude.{IsTrue, ◌<◌, ◌≤◌, ◌+◌, ◌*◌, ◌/◌, ◌^◌, ℕ};
+ghost use Rattle.std.specs.Prelude.{IsTrue, ◌<◌, ◌≤◌, ◌+◌, ◌-◌, ◌*◌, ◌/◌, ◌^◌, ℕ};
 ghost use Rattle.bits.specs.steps.First.{Nowhere, IsFirst};
 ghost use Rattle.classify.specs.steps.CommonPlaces.{IsAndAt, AreWide, HaveAll};
 ghost use Rattle.classify.specs.steps.Summaries.{SumUpAll};
@@ -88,14 +88,9 @@ fn head(rows: &[&[u64]], summary: u64, from: usize) -> Option<usize>
     None
 }
 
-/// The first place at or after `from` that every row has. The rows have one summary, with the bit of each word in which all
-/// of them have a place.
-pub(crate) fn first_common(
-    rows: &[&[u64]],
-    summary: u64,
-    words: usize,
-    from: usize,
-) -> Option<usize>
+// The first place at or after `from` that every row has. The rows have one summary, with the bit of each word in which all
+// of them have a place.
+fn first_common(rows: &[&[u64]], summary: u64, words: usize, from: usize) -> Option<usize>
     requires wide { AreWide words rows.now }
     requires few { words < 2 ^ 58 }
     requires summed { SumUpAll summary words rows.now }
@@ -110,5 +105,29 @@ pub(crate) fn first_common(
             let start = skip(rows, summary, from / 64 + 1, words);
             scan(rows, start, words)
         }
+    }
+}
+
+/// The first place at or after `from` that every row has, where places are counted from the end of a margin that all rows
+/// have.
+pub(crate) fn first_after(
+    rows: &[&[u64]],
+    summary: u64,
+    words: usize,
+    margin: usize,
+    from: usize,
+) -> Option<usize>
+    requires wide { AreWide words rows.now }
+    requires few { words < 2 ^ 58 }
+    requires summed { SumUpAll summary words rows.now }
+    requires within { margin ≤ 64 * words }
+    ensures { IsFirst (λ p. HaveAll rows.now (margin + p)) from (64 * words - margin) result }
+{
+    if from >= 64 * words - margin {
+        return None;
+    }
+    match first_common(rows, summary, words, margin + from) {
+        Some(place) => Some(place - margin),
+        None => None,
     }
 }

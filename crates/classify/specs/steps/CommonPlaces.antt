@@ -5,6 +5,7 @@ use Rattle.std.specs.List.{list_all, range_with_len}
 use Rattle.std.specs.Borrow.{Bor}
 use Rattle.std.specs.Int.{bit_at}
 use Rattle.fields.specs.declared.numbers.field.TheConstants.{FIELDS}
+use Rattle.bits.specs.MarginRows.{after_margin}
 use Rattle.bits.specs.steps.Packing.{all_bits, IsPacked}
 use Rattle.classify.specs.steps.Pieces.{row_in}
 use Rattle.classify.specs.classifier.Classifier.{Classified}
@@ -34,12 +35,12 @@ all_have rows place = list_all (λ (row : Bor (List ℕ)). slice_index_or (all_b
 abbrev pub common_bits : ℕ → List (Bor (List ℕ)) → List Bool
 common_bits len rows = map (all_have rows) (range_with_len 0 len)
 
--- the words of the row of a field's line at a number
-pub record IsRowAt (c : Classified) (place x : ℕ) (row : List ℕ) : Type 0 where
-  pub packed : IsPacked row c.len
-  pub bits : take c.len (all_bits row) ≡ row_in (slice_index_or c.lines place []) x
+-- the words of the row of a field's line at a number, after a margin
+pub record IsRowAt (margin : ℕ) (c : Classified) (place x : ℕ) (row : List ℕ) : Type 0 where
+  pub packed : IsPacked row (margin + c.len)
+  pub bits : take (margin + c.len) (all_bits row) ≡ after_margin margin (row_in (slice_index_or c.lines place []) x)
 
 -- a row for each field, as far as a place, at the point's number
-pub record AreRowsAt (c : Classified) (point : List ℕ) (rows : List (Bor (List ℕ))) (upto : ℕ) : Type 0 where
+pub record AreRowsAt (margin : ℕ) (c : Classified) (point : List ℕ) (rows : List (Bor (List ℕ))) (upto : ℕ) : Type 0 where
   pub long : length rows ≡ FIELDS
-  pub are : (j : ℕ) (d : Bor (List ℕ)) → j < upto → IsRowAt c j (slice_index point j) (slice_index_or rows j d).now
+  pub are : (j : ℕ) (d : Bor (List ℕ)) → j < upto → IsRowAt margin c j (slice_index point j) (slice_index_or rows j d).now

@@ -5,6 +5,7 @@ use Rattle.fields.specs.declared.numbers.field.TheConstants.{FIELDS}
 use Rattle.fields.specs.declared.numbers.spans.Interval.{Interval}
 use Rattle.fields.specs.numbers.Field.{all_fields, top}
 use Rattle.fields.specs.numbers.Spans.{SpanSet, has}
+use Rattle.classify.specs.classifier.Classifier.{Classified}
 use Rattle.classify.specs.line.Line.{IsLineOf}
 use Rattle.classify.specs.steps.Cuts.{CutsStart, IsApart}
 use Rattle.classify.specs.steps.Edits.{IsMergeOf, Says}
@@ -14,6 +15,10 @@ use Rattle.classify.specs.steps.Kept.{PiecesAndRoom, IsSound}
 -- the cuts and rows of a line
 abbrev pub shown_line : PiecesAndRoom → List (ℕ × List Bool)
 shown_line l = l.pieces
+
+-- what so many boxes and their lines show
+abbrev pub shown_by : ℕ → List PiecesAndRoom → Classified
+shown_by len lines = record { len = len; lines = map shown_line lines }
 
 -- the tops of the fields, in their order
 unfoldable pub tops : List ℕ
@@ -107,9 +112,21 @@ UsesRoom l m = l.room.places ≤ m.room.places + 1
 abbrev pub FreesRoom : PiecesAndRoom → PiecesAndRoom → Type 0
 FreesRoom l m = m.room.places ≡ l.room.places + 1
 
--- each row has room for all bits that it had, beside what it had room for
-abbrev pub FreesAll : PiecesAndRoom → PiecesAndRoom → Type 0
-FreesAll l m = m.room.places ≡ l.room.places + row_bits l.pieces
+-- each row has room for all bits that it had, beside what it had room for, and no blank place before them
+pub record FreesAll (l m : PiecesAndRoom) : Type 0 where
+  pub places : m.room.places ≡ l.room.places + row_bits l.pieces
+  pub before : m.room.before ≡ 0
+
+-- each row has room for one bit more after its last
+abbrev pub HasRoomAfter : PiecesAndRoom → Type 0
+HasRoomAfter l = l.room.before < l.room.places
+
+-- the same line, with a blank place less before each row, where there was one: so there is room after the rows, where there is any
+pub record IsClosedUp (l m : PiecesAndRoom) : Type 0 where
+  pub same : m.pieces ≡ l.pieces
+  pub places : m.room.places ≡ l.room.places
+  pub before : m.room.before ≡ l.room.before - 1
+  pub after : 0 < l.room.places → HasRoomAfter m
 
 -- a line as it stands between edits, with so many bits a row
 abbrev pub Stands : ℕ → SpanSet → PiecesAndRoom → Type 0

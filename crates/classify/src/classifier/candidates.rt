@@ -1,6 +1,6 @@
 //! The boxes that allow a point, as the rows of its fields have them in common.
 
-ghost use Rattle.std.specs.Prelude.{◌≡◌};
+ghost use Rattle.std.specs.Prelude.{◌≡◌, ◌+◌, drop};
 ghost use Rattle.classify.specs.search.NextMatch.{next_match};
 ghost use Rattle.classify.specs.steps.CommonPlaces.{common_bits};
 ghost use Rattle.classify.specs.steps.Summaries.{AreCandidates};
@@ -12,30 +12,37 @@ use std::marker::Model;
 /// Whether each box allows a point, at the box's place. The rows of the point are lent.
 #[derive(Drop)]
 pub struct Candidates<'a> {
+    margin: usize,
     len: usize,
     words: [&'a [u64]; FIELDS],
     summary: u64,
 }
 
 impl<'a> Model for Candidates<'a> {
-    ghost use Rattle.std.specs.Prelude.{Bool, List};
+    ghost use Rattle.std.specs.Prelude.{Bool, List, ◌+◌, drop};
     ghost use Rattle.classify.specs.steps.CommonPlaces.{common_bits};
     ghost use Rattle.classify.specs.steps.Summaries.{AreCandidates};
 
     ghost Value = { List Bool };
 
-    ghost view = { λ c. common_bits c.len c.words };
+    ghost view = { λ c. drop c.margin (common_bits (c.margin + c.len) c.words) };
 
-    ghost invariant = { λ c. AreCandidates c.len c.summary c.words };
+    ghost invariant = { λ c. AreCandidates (c.margin + c.len) c.summary c.words };
 }
 
 impl<'a> Candidates<'a> {
-    // What the rows of the fields, of so many bits each, have in common.
-    pub(crate) fn of(len: usize, words: [&'a [u64]; FIELDS], summary: u64) -> Candidates<'a>
-        requires { AreCandidates len summary words }
-        ensures { result ≡ common_bits len words.entry }
+    // What the rows of the fields, of so many bits each after a margin, have in common.
+    pub(crate) fn of(
+        margin: usize,
+        len: usize,
+        words: [&'a [u64]; FIELDS],
+        summary: u64,
+    ) -> Candidates<'a>
+        requires { AreCandidates (margin + len) summary words }
+        ensures { result ≡ drop margin (common_bits (margin + len) words.entry) }
     {
         Candidates {
+            margin,
             len,
             words,
             summary,
@@ -50,6 +57,7 @@ impl<'a> Candidates<'a> {
     pub fn next(&self, from: usize) -> Option<usize>
         ensures { result ≡ next_match (λ bit. bit) self.now from }
     {
-        search::first_common(&self.words, self.summary, self.len.div_ceil(64), from)
+        let words = (self.margin + self.len).div_ceil(64);
+        search::first_after(&self.words, self.summary, words, self.margin, from)
     }
 }

@@ -1,11 +1,12 @@
 //! The lines of all fields: each step on every line in turn.
 
-ghost use Rattle.std.specs.Prelude.{◌≡◌, ◌<◌, ◌≤◌, ◌+◌, ◌%◌, ℕ, length, OnOk, OnErr, IsOk};
+ghost use Rattle.std.specs.Prelude.{◌≡◌, ◌<◌, ◌≤◌, ◌+◌, ◌%◌, ℕ, length, OnOk, OnErr, IsOk, IsTrue};
 ghost use Rattle.classify.specs.steps.Pieces.{row_bits};
 ghost use Rattle.classify.specs.steps.Fields.{EachLine, EachEdit, ShowTheSame, AreEmpty, EachField, OnEach};
 ghost use Rattle.classify.specs.steps.Fields.{Rises, HasCuts, HasOnlyCuts, Stands, IsCutMore, IsJoinedUp, InsertsSet};
 ghost use Rattle.classify.specs.steps.Fields.{ReplacesSet, UsesRoom, FreesAll};
 ghost use Rattle.classify.specs.steps.Fields.{IsCutFor, HasRoom, TakesIn, TakesOver, HasPlace, LosesBox};
+ghost use Rattle.classify.specs.steps.Fields.{HasRoomAfter, IsClosedUp, HaveOneMargin};
 ghost use Rattle.classify.specs.steps.Fields.{IsKeptWithCuts, HasSameRoom, IsRoomier, KeepsRoom};
 
 use crate::line::edit;
@@ -33,8 +34,8 @@ fn split_lines(lines: &mut [OwnedLine], spans: &[Spans]) -> Result<(), AllocErro
 // Takes the memory that one more bit in each row of every line needs.
 fn reserve_lines(lines: &mut [OwnedLine]) -> Result<(), AllocError>
     ensures more { EachEdit IsRoomier lines.old lines.new }
-    ensures room { OnOk result (EachEdit (λ _ m. 0 < m.room) lines.old lines.new) }
-    ensures there { EachLine (λ l. 0 < l.room) lines.old → IsOk result }
+    ensures room { OnOk result (EachEdit (λ _ m. 0 < m.room.places) lines.old lines.new) }
+    ensures there { EachLine (λ l. 0 < l.room.places) lines.old → IsOk result }
 {
     for k in 0..lines.len() {
         let line = &mut lines[k];
@@ -49,7 +50,7 @@ fn prepare_lines(lines: &mut [OwnedLine], spans: &[Spans]) -> Result<(), AllocEr
     requires rising { OnEach Rises spans.now lines.old }
     ensures split { EachField IsCutMore spans.now lines.old lines.new }
     ensures cuts { OnOk result (EachField (λ s _ m. HasCuts s m) spans.now lines.old lines.new) }
-    ensures ready { OnOk result (EachLine (λ m. 0 < m.room) lines.new) }
+    ensures ready { OnOk result (EachLine (λ m. 0 < m.room.places) lines.new) }
     ensures there { OnEach HasRoom spans.now lines.old → IsOk result }
     ensures room { EachEdit KeepsRoom lines.old lines.new }
 {
@@ -75,13 +76,49 @@ fn unsplit_lines(lines: &mut [OwnedLine], spans: &[Spans])
 fn insert_prepared_lines(lines: &mut [OwnedLine], at: usize, spans: &[Spans])
     requires as_long { length spans.now ≡ length lines.old }
     requires cut { OnEach IsCutFor spans.now lines.old }
-    requires room { EachLine (λ l. 0 < l.room) lines.old }
+    requires room { EachLine (λ l. 0 < l.room.places) lines.old }
+    requires after { 0 < at → EachLine HasRoomAfter lines.old }
     requires place { EachLine (λ l. at ≤ row_bits l.pieces) lines.old }
     ensures { EachField (TakesIn at) spans.now lines.old lines.new }
 {
     for k in 0..lines.len() {
         let line = &mut lines[k];
         edit::insert_prepared(line, at, &spans[k]);
+    }
+}
+
+// Whether each row of every line has room after its last bit.
+fn have_room_after(lines: &[OwnedLine]) -> bool
+    ensures { IsTrue result → EachLine HasRoomAfter lines.now }
+{
+    for k in 0..lines.len() {
+        let line = &lines[k];
+        if !line.has_room_after() {
+            return false;
+        }
+    }
+    true
+}
+
+// Gives a blank place before each row up, in every line.
+fn close_margins(lines: &mut [OwnedLine])
+    ensures { EachEdit IsClosedUp lines.old lines.new }
+{
+    for k in 0..lines.len() {
+        let line = &mut lines[k];
+        line.close_margin();
+    }
+}
+
+// Makes room after the rows, where a box's place is not before all others and some line lacks it.
+fn make_way(lines: &mut [OwnedLine], at: usize)
+    requires { EachLine (λ l. 0 < l.room.places) lines.old }
+    ensures same { EachEdit (λ l m. (m.pieces ≡ l.pieces) × (m.room.places ≡ l.room.places)) lines.old lines.new }
+    ensures after { 0 < at → EachLine HasRoomAfter lines.new }
+    ensures margin { HaveOneMargin lines.old → HaveOneMargin lines.new }
+{
+    if at > 0 && !have_room_after(lines) {
+        close_margins(lines);
     }
 }
 
@@ -101,9 +138,11 @@ pub(crate) fn insert_lines(
     ensures room { OnOk result (EachEdit UsesRoom lines.old lines.new) }
     ensures err { OnErr result (ShowTheSame lines.old lines.new) }
     ensures back { OnErr result (EachEdit KeepsRoom lines.old lines.new) }
+    ensures margin { HaveOneMargin lines.old → HaveOneMargin lines.new }
 {
     match prepare_lines(lines, spans) {
         Ok(()) => {
+            make_way(lines, at);
             insert_prepared_lines(lines, at, spans);
             Ok(())
         }

@@ -9,7 +9,7 @@ ghost use Rattle.fields.specs.numbers.Spans.{has};
 ghost use Rattle.classify.specs.steps.Cuts.{CutsStart, EndsStart, ChangesAt, IsApart};
 ghost use Rattle.classify.specs.steps.Edits.{with_written, without_answer, IsMergeOf, IsUnsplitAt};
 ghost use Rattle.classify.specs.steps.Edits.{IsNumber, IsEndOf, IsJoined, IsJoinedBeside, KeepsApart, Says, row_of};
-ghost use Rattle.classify.specs.steps.Fields.{IsCutFor};
+ghost use Rattle.classify.specs.steps.Fields.{IsCutFor, HasRoomAfter, TakesPlace, LeavesPlace, FreesRoom, FreesAll};
 ghost use Rattle.classify.specs.steps.Kept.{IsSound};
 
 use crate::line::owned::OwnedLine;
@@ -194,11 +194,13 @@ fn set_answers(line: &mut OwnedLine, at: usize, spans: &Spans)
 pub(crate) fn insert_prepared(line: &mut OwnedLine, at: usize, spans: &Spans)
     requires cut { IsCutFor spans.now line.old }
     requires place { at ≤ row_bits line.old.pieces }
-    requires room { 0 < line.old.room }
+    requires room { 0 < line.old.room.places }
+    requires after { 0 < at → HasRoomAfter line.old }
     ensures sound { IsSound spans.now.top (row_bits line.old.pieces + 1) line.new }
     ensures line { (sets : List (List Interval)) → Says spans.now.top sets line.old.pieces
         → IsLineOf has spans.now.top (insert sets at spans.now.intervals) line.new.pieces }
-    ensures room { line.new.room + 1 ≡ line.old.room }
+    ensures room { line.new.room.places + 1 ≡ line.old.room.places }
+    ensures margin { TakesPlace at line.old.room.before line.new.room.before }
 {
     put_answers(line, at, spans);
 }
@@ -207,6 +209,7 @@ pub(crate) fn insert_prepared(line: &mut OwnedLine, at: usize, spans: &Spans)
 fn join_beside(line: &mut OwnedLine, k: usize, at: usize)
     requires later { 0 < k }
     requires piece { k < length line.old.pieces }
+    requires place { at < row_bits line.old.pieces }
     ensures joined { IsJoinedBeside at (k - 1) line.old.pieces line.new.pieces }
     ensures long { row_bits line.new.pieces ≡ row_bits line.old.pieces }
     ensures room { line.new.room ≡ line.old.room }
@@ -241,7 +244,8 @@ pub(crate) fn remove_box(line: &mut OwnedLine, at: usize)
     ensures sound { (top : ℕ) → IsRising top line.old.pieces → IsSound top (row_bits line.old.pieces - 1) line.new }
     ensures line { (top : ℕ) (sets : List (List Interval)) → IsLineOf has top sets line.old.pieces
         → IsLineOf has top (remove sets at) line.new.pieces }
-    ensures room { line.new.room ≡ line.old.room + 1 }
+    ensures room { FreesRoom line.old line.new }
+    ensures margin { LeavesPlace at line.old.room.before line.new.room.before }
 {
     drop_cuts(line, at);
     line.remove_column(at);
@@ -262,7 +266,7 @@ pub(crate) fn replace_box(line: &mut OwnedLine, at: usize, spans: &Spans)
 // Takes every box out: one piece without a bit is left.
 pub(crate) fn clear(line: &mut OwnedLine)
     ensures empty { line.new.pieces ≡ (0, []) ∷ [] }
-    ensures room { line.new.room ≡ line.old.room + row_bits line.old.pieces }
+    ensures room { FreesAll line.old line.new }
 {
     line.clear();
 }

@@ -2,16 +2,18 @@
 
 ghost use Rattle.std.specs.Prelude.{ℕ, ◌≡◌, ◌<◌, ◌≤◌, ◌+◌, ◌%◌, length, map, insert, remove, slice_set, slice_index, slice_index_or, take};
 ghost use Rattle.std.specs.Prelude.{false, true, IfOk, IsOk, OnOk, OnErr, IsTrue, ◌↔◌, [], ◌∷◌};
+ghost use Rattle.bits.specs.MarginRows.{after_margin};
 ghost use Rattle.bits.specs.steps.Packing.{all_bits, IsPacked};
 ghost use Rattle.classify.specs.line.Line.{starts};
 ghost use Rattle.classify.specs.steps.Kept.{IsLine, line_prop};
 ghost use Rattle.classify.specs.steps.Pieces.{row_bits, row_in};
 ghost use Rattle.classify.specs.steps.Edits.{row_of};
+ghost use Rattle.classify.specs.steps.Fields.{HasRoomAfter, TakesPlace, LeavesPlace, IsClosedUp, IsRoomier, FreesRoom, FreesAll};
 ghost use Rattle.bits.specs.steps.Summaries.{IsSummaryOf};
 ghost use Rattle.std.specs.List.{zip};
 
 use crate::line::starts::Starts;
-use bits::Rows;
+use bits::MarginRows;
 use std::alloc::{AllocError, Global};
 use std::marker::Model;
 use std::mem::size_of;
@@ -31,8 +33,8 @@ pub(crate) struct LentRow<'a> {
 #[derive(Drop)]
 pub(crate) struct OwnedLine {
     starts: Starts,
-    rows: Rows,
-    ghost stands: { IsLine (zip starts rows.rows) rows.room } by { line_prop (zip starts rows.rows) rows.room },
+    rows: MarginRows,
+    ghost stands: { IsLine (zip starts rows.rows) rows.room.places } by { line_prop (zip starts rows.rows) rows.room.places },
 }
 
 impl Model for OwnedLine {
@@ -52,11 +54,11 @@ impl Model for OwnedLine {
 impl OwnedLine {
     // The line of no box: one piece without a bit.
     pub(crate) fn open(alloc: Global) -> Result<OwnedLine, AllocError>
-        ensures { IfOk result (λ line. (line.pieces ≡ (0, []) ∷ []) × (line.room ≡ 0)) }
+        ensures { IfOk result (λ line. (line.pieces ≡ (0, []) ∷ []) × (line.room.places ≡ 0) × (line.room.before ≡ 0)) }
     {
         Ok(OwnedLine {
             starts: Starts::zero(alloc)?,
-            rows: Rows::with_one_row(alloc)?,
+            rows: MarginRows::with_one_row(alloc)?,
         })
     }
 
@@ -84,6 +86,13 @@ impl OwnedLine {
         self.starts.count_to(x) - 1
     }
 
+    // How many blank places stand before the first bit of each row.
+    pub(crate) fn margin(&self) -> usize
+        ensures { result ≡ self.now.room.before }
+    {
+        self.rows.margin()
+    }
+
     // How many bits a row has.
     pub(crate) fn bits(&self, k: usize) -> usize
         requires { k < length self.now.pieces }
@@ -92,28 +101,30 @@ impl OwnedLine {
         self.rows.bits(k)
     }
 
-    // The words of a row; they are lent.
+    // The words of a row and its margin; they are lent.
     pub(crate) fn words(&self, k: usize) -> &[u64]
         requires { k < length self.now.pieces }
-        ensures packed { IsPacked result.now (length (row_of self.now.pieces k)) }
-        ensures bits { take (length (row_of self.now.pieces k)) (all_bits result.now) ≡ row_of self.now.pieces k }
+        ensures packed { IsPacked result.now (length (after_margin self.now.room.before (row_of self.now.pieces k))) }
+        ensures bits { take (length (after_margin self.now.room.before (row_of self.now.pieces k))) (all_bits result.now)
+            ≡ after_margin self.now.room.before (row_of self.now.pieces k) }
     {
         self.rows.row(k)
     }
 
-    // The summary of a row.
+    // The summary of a row and its margin.
     pub(crate) fn summary(&self, k: usize) -> u64
         requires { k < length self.now.pieces }
-        ensures { IsSummaryOf result (row_of self.now.pieces k) }
+        ensures { IsSummaryOf result (after_margin self.now.room.before (row_of self.now.pieces k)) }
     {
         self.rows.summary(k)
     }
 
-    // The row of the piece that a number is in; it is lent.
+    // The row of the piece that a number is in, and its margin; they are lent.
     pub(crate) fn row_at(&self, x: u128) -> LentRow<'_>
-        ensures packed { IsPacked result.words.now (length (row_in self.now.pieces x)) }
-        ensures bits { take (length (row_in self.now.pieces x)) (all_bits result.words.now) ≡ row_in self.now.pieces x }
-        ensures summed { IsSummaryOf result.summary (row_in self.now.pieces x) }
+        ensures packed { IsPacked result.words.now (length (after_margin self.now.room.before (row_in self.now.pieces x))) }
+        ensures bits { take (length (after_margin self.now.room.before (row_in self.now.pieces x))) (all_bits result.words.now)
+            ≡ after_margin self.now.room.before (row_in self.now.pieces x) }
+        ensures summed { IsSummaryOf result.summary (after_margin self.now.room.before (row_in self.now.pieces x)) }
     {
         let place = self.place_of(x);
         LentRow {
@@ -149,7 +160,7 @@ impl OwnedLine {
         ensures pieces { self.new.pieces ≡ map (λ p. (p.0, slice_set p.1 at true)) self.old.pieces }
         ensures room { self.new.room ≡ self.old.room }
     {
-        self.rows.set_all(at);
+        self.rows.set_all(at, true);
     }
 
     // Cuts a piece at a number: the new one has its row. Where memory is refused the pieces are as before.
@@ -205,7 +216,8 @@ impl OwnedLine {
 
     // Whether a piece has the row of the one after it, beside the bits at a place.
     pub(crate) fn is_same_beside(&self, k: usize, at: usize) -> bool
-        requires { k + 1 < length self.now.pieces }
+        requires piece { k + 1 < length self.now.pieces }
+        requires place { at < row_bits self.now.pieces }
         ensures { IsTrue result ↔ (remove (row_of self.now.pieces k) at ≡ remove (row_of self.now.pieces (k + 1)) at) }
     {
         let _pieces = self.rows.count();
@@ -235,31 +247,49 @@ impl OwnedLine {
         self.rows.remove(k);
     }
 
-    // Puts a 0 into each row at a place, where there is room: the later bits move up by one.
+    // Puts a 0 into each row at a place. Before all other bits it takes a blank place, where there is one, and no bit moves;
+    // elsewhere the later bits move up by one.
     pub(crate) fn insert_column(&mut self, at: usize)
         requires place { at ≤ row_bits self.old.pieces }
-        requires room { 0 < self.old.room }
+        requires room { 0 < self.old.room.places }
+        requires after { 0 < at → HasRoomAfter self.old }
         ensures pieces { self.new.pieces ≡ map (λ p. (p.0, insert p.1 at false)) self.old.pieces }
-        ensures room { self.new.room + 1 ≡ self.old.room }
+        ensures room { self.new.room.places + 1 ≡ self.old.room.places }
+        ensures margin { TakesPlace at self.old.room.before self.new.room.before }
     {
         self.rows.insert_column(at);
     }
 
-    // Takes a bit out of each row at a place: the later ones move down by one.
+    // Takes a bit out of each row at a place. The first leaves a blank place, and no bit moves; of any other the later ones
+    // move down by one.
     pub(crate) fn remove_column(&mut self, at: usize)
         requires { at < row_bits self.old.pieces }
         ensures pieces { self.new.pieces ≡ map (λ p. (p.0, remove p.1 at)) self.old.pieces }
-        ensures room { self.new.room ≡ self.old.room + 1 }
+        ensures room { FreesRoom self.old self.new }
+        ensures margin { LeavesPlace at self.old.room.before self.new.room.before }
     {
         self.rows.remove_column(at);
     }
 
+    // Gives the blank place before each row, where there is one, up for a place after its last bit: all bits move down.
+    pub(crate) fn close_margin(&mut self)
+        ensures { IsClosedUp self.old self.new }
+    {
+        self.rows.close_margin();
+    }
+
+    // Whether there is room for one more bit after the last of each row.
+    pub(crate) fn has_room_after(&self) -> bool
+        ensures { IsTrue result ↔ HasRoomAfter self.now }
+    {
+        self.rows.has_room_after()
+    }
+
     // Takes the memory that one more bit in each row needs.
     pub(crate) fn reserve(&mut self) -> Result<(), AllocError>
-        ensures pieces { self.new.pieces ≡ self.old.pieces }
-        ensures more { self.old.room ≤ self.new.room }
-        ensures ok { OnOk result (0 < self.new.room) }
-        ensures there { 0 < self.old.room → IsOk result }
+        ensures more { IsRoomier self.old self.new }
+        ensures ok { OnOk result (0 < self.new.room.places) }
+        ensures there { 0 < self.old.room.places → IsOk result }
     {
         self.rows.reserve()
     }
@@ -267,7 +297,7 @@ impl OwnedLine {
     // Leaves the first piece alone, without a bit.
     pub(crate) fn clear(&mut self)
         ensures pieces { self.new.pieces ≡ (0, []) ∷ [] }
-        ensures room { self.new.room ≡ self.old.room + row_bits self.old.pieces }
+        ensures room { FreesAll self.old self.new }
     {
         self.starts.keep_first();
         self.rows.clear();

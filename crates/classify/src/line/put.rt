@@ -2,6 +2,7 @@
 
 ghost use Rattle.std.specs.Prelude.{◌≡◌, ◌<◌, ◌≤◌, ◌+◌, ℕ, length, map, false, slice_index_or};
 ghost use Rattle.classify.specs.steps.Cuts.{CutsStart};
+ghost use Rattle.classify.specs.steps.Fields.{HasRoomAfter, TakesPlace};
 ghost use Rattle.classify.specs.steps.Edits.{row_of, with_answer, with_written};
 ghost use Rattle.classify.specs.steps.Pieces.{StartsAt, row_bits};
 ghost use Rattle.classify.specs.steps.Runs.{IsRunIn, IsRunWritten};
@@ -113,9 +114,11 @@ fn allows_most(line: &OwnedLine, spans: &Spans) -> bool {
 pub(crate) fn put_answers(line: &mut OwnedLine, at: usize, spans: &Spans)
     requires cuts { CutsStart spans.now.top spans.now.intervals line.old.pieces }
     requires place { at ≤ row_bits line.old.pieces }
-    requires room { 0 < line.old.room }
+    requires room { 0 < line.old.room.places }
+    requires after { 0 < at → HasRoomAfter line.old }
     ensures answers { line.new.pieces ≡ map (with_answer at spans.now.intervals) line.old.pieces }
-    ensures room { line.new.room + 1 ≡ line.old.room }
+    ensures room { line.new.room.places + 1 ≡ line.old.room.places }
+    ensures margin { TakesPlace at line.old.room.before line.new.room.before }
 {
     line.insert_column(at);
     if allows_most(line, spans) {

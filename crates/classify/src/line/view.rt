@@ -12,21 +12,23 @@ use std::marker::Model;
 /// The answers of each box in a piece, at the box's place.
 #[derive(Drop)]
 pub struct Row<'a> {
+    margin: usize,
     len: usize,
     words: &'a [u64],
     summary: u64,
 }
 
 impl<'a> Model for Row<'a> {
-    ghost use Rattle.std.specs.Prelude.{Bool, List, take};
+    ghost use Rattle.std.specs.Prelude.{Bool, List, ◌+◌, take, drop};
     ghost use Rattle.bits.specs.steps.Packing.{IsPacked, all_bits};
     ghost use Rattle.bits.specs.steps.Summaries.{IsSummaryOf};
 
     ghost Value = { List Bool };
 
-    ghost view = { λ r. take r.len (all_bits r.words.now) };
+    ghost view = { λ r. drop r.margin (take (r.margin + r.len) (all_bits r.words.now)) };
 
-    ghost invariant = { λ r. IsPacked r.words.now r.len × IsSummaryOf r.summary (take r.len (all_bits r.words.now)) };
+    ghost invariant = { λ r. IsPacked r.words.now (r.margin + r.len)
+        × IsSummaryOf r.summary (take (r.margin + r.len) (all_bits r.words.now)) };
 }
 
 impl<'a> Row<'a> {
@@ -42,7 +44,7 @@ impl<'a> Row<'a> {
         requires { at < length self.now }
         ensures { result ≡ slice_index_or self.now at false }
     {
-        bit_at(self.words, at)
+        bit_at(self.words, self.margin + at)
     }
 
     /// The least place, at or after `from`, of a box that allows the numbers of the piece; there may be none.
@@ -53,7 +55,7 @@ impl<'a> Row<'a> {
         ensures { result ≡ next_match (λ bit. bit) self.now from }
     {
         let words = self.words;
-        search::first_common(&[words], self.summary, words.len(), from)
+        search::first_after(&[words], self.summary, words.len(), self.margin, from)
     }
 }
 
@@ -89,6 +91,7 @@ impl<'a> Piece<'a> {
         let line = self.line;
         let place = self.place;
         Row {
+            margin: line.margin(),
             len: line.bits(place),
             words: line.words(place),
             summary: line.summary(place),

@@ -18,7 +18,7 @@ use Rattle.rules.proofs.laws.boxing.BoxLaws as box_laws
 use Rattle.classify.specs.line.Line.{row_at, IsLineOf}
 use Rattle.classify.specs.steps.Cuts.{CutsStart}
 use Rattle.classify.specs.steps.Pieces.{IsRising, Differ, row_bits}
-use Rattle.classify.specs.steps.Fields.{shown_line, tops, IsKept, most_boxes, LosesBox}
+use Rattle.classify.specs.steps.Fields.{shown_line, tops, HaveOneMargin, IsKept, most_boxes, LosesBox}
 use Rattle.classify.specs.classifier.Classifier.{box_allows, line_on, IsClassifierOf, HasNoNewCut}
 use Rattle.classify.proofs.laws.line.BoxLaws.{empty_line, empty_sound}
 use Rattle.classify.proofs.laws.line.LineLaws.{AreSteps, line_from_steps, steps_from_line, starts_from_test}
@@ -180,8 +180,8 @@ classifier_empty new n h =
           subst P (sym (shown_at_place new (index field) a.0 lt ∙ h (index field) a.0 lt)) (empty_line (λ box x. box_allows box field x) (top field)));
     }
 
-pub kept_empty : (new : List PiecesAndRoom) → length new ≡ FIELDS → ((k : ℕ) (l : PiecesAndRoom) → k < length new → shown_line (get_or new k l) ≡ (0, []) ∷ []) → IsKept 0 new
-kept_empty new n h = record { few = omega arith; fields = n; sound = λ k l lt. empty_sound (slice_index tops k) (get_or new k l) (h k l lt) }
+pub kept_empty : (new : List PiecesAndRoom) → length new ≡ FIELDS → ((k : ℕ) (l : PiecesAndRoom) → k < length new → shown_line (get_or new k l) ≡ (0, []) ∷ []) → HaveOneMargin new → IsKept 0 new
+kept_empty new n h margin = record { few = omega arith; fields = n; sound = λ k l lt. empty_sound (slice_index tops k) (get_or new k l) (h k l lt); margin = margin }
 
 -- the tops of a box's sets are those of the fields
 tops_of : (spans box : List SpanSet) (k : ℕ) (s : SpanSet) → spans ≡ box → IsBox box → k < FIELDS → (get_or spans k s).top ≡ slice_index tops k
@@ -194,18 +194,19 @@ sound_lines old spans box len n same whole h k s l lt =
     subst Q (sym (tops_of spans box k s same whole (omega arith))) (h.sound k l lt)
 
 pub still_sound : (new : List PiecesAndRoom) (spans box : List SpanSet) (len : ℕ) → length new ≡ FIELDS → spans ≡ box → IsBox box → len ≤ most_boxes
-    → ((k : ℕ) (s : SpanSet) (l : PiecesAndRoom) → k < length new → IsSound (get_or spans k s).top len (get_or new k l)) → IsKept len new
-still_sound new spans box len n same whole few h =
+    → ((k : ℕ) (s : SpanSet) (l : PiecesAndRoom) → k < length new → IsSound (get_or spans k s).top len (get_or new k l)) → HaveOneMargin new → IsKept len new
+still_sound new spans box len n same whole few h margin =
     record {
       few = few;
       fields = n;
       sound = λ k l lt.
           (let Q : ℕ → Type 0 = λ t. IsSound t len (get_or new k l) in
           subst Q (tops_of spans box k no_set same whole (omega arith)) (h k no_set l lt));
+      margin = margin;
     }
 
-pub kept_shown : (old new : List PiecesAndRoom) (len : ℕ) → length new ≡ length old → ((k : ℕ) (l : PiecesAndRoom) → k < length old → shown_line (get_or new k l) ≡ shown_line (get_or old k l)) → IsKept len old → IsKept len new
-kept_shown old new len n same h =
+pub kept_shown : (old new : List PiecesAndRoom) (len : ℕ) → length new ≡ length old → ((k : ℕ) (l : PiecesAndRoom) → k < length old → shown_line (get_or new k l) ≡ shown_line (get_or old k l)) → HaveOneMargin new → IsKept len old → IsKept len new
+kept_shown old new len n same margin h =
     record {
       few = h.few;
       fields = n ∙ h.fields;
@@ -215,6 +216,7 @@ kept_shown old new len n same h =
           let P : List (ℕ × List Bool) → Type 0 = λ line. IsRising (slice_index tops k) line × Differ line × (row_bits line ≡ len) in
           let is = subst P (sym (same k l lt')) (was.rising, was.differ, was.bits) in
           record { rising = is.0; differ = is.1; bits = is.2 });
+      margin = margin;
     }
 
 pub same_shown : (old new : List PiecesAndRoom) → length new ≡ length old → ((k : ℕ) (l : PiecesAndRoom) → k < length old → shown_line (get_or new k l) ≡ shown_line (get_or old k l)) → map shown_line new ≡ map shown_line old
@@ -228,11 +230,11 @@ same_shown (l ∷ ls) (m ∷ ms) n h =
 
 -- lines that were copied one by one from those lent
 pub copied : (lent : List (Bor PiecesAndRoom)) (old new : List PiecesAndRoom) → map (λ r. r.now) lent ≡ old → ((k : ℕ) (r : Bor PiecesAndRoom) (l : PiecesAndRoom) → k < length old → get_or new k l ≡ (get_or lent k r).now)
-    → (k : ℕ) (l : PiecesAndRoom) → k < length old → shown_line (get_or new k l) ≡ shown_line (get_or old k l)
+    → (k : ℕ) (l : PiecesAndRoom) → k < length old → get_or new k l ≡ get_or old k l
 copied lent old new from each k l lt =
     let r : Bor PiecesAndRoom = record { ref_ptr = (0, 0); now = l } in
     let long : length lent ≡ length old = sym (length-map lent (λ (s : Bor PiecesAndRoom). s.now)) ∙ ap length from in
-    ap shown_line (each k r l lt ∙ sym (get_or-map (λ (s : Bor PiecesAndRoom). s.now) lent k r l (omega arith)) ∙ ap (λ (ls : List PiecesAndRoom). get_or ls k l) from)
+    each k r l lt ∙ sym (get_or-map (λ (s : Bor PiecesAndRoom). s.now) lent k r l (omega arith)) ∙ ap (λ (ls : List PiecesAndRoom). get_or ls k l) from
 
 pub no_new_cuts : (old : List PiecesAndRoom) (spans box : List SpanSet) (len : ℕ) → length old ≡ FIELDS → spans ≡ box → IsBox box → HasNoNewCut box (record { len = len; lines = map shown_line old })
     → (k : ℕ) (s : SpanSet) (l : PiecesAndRoom) → k < length old → CutsStart (get_or spans k s).top (get_or spans k s).intervals (shown_line (get_or old k l))

@@ -1,11 +1,12 @@
 -- The room of a classifier is the least of all its lines.
-use Rattle.std.proofs.Common.{◌≡◌, ◌≢◌, ℕ, zero, suc, ◌+◌, ◌-◌, ◌<◌, ◌≤◌, ◌%◌, List, [], ◌∷◌, length, get_or, arith}
+use Rattle.std.proofs.Common.{◌≡◌, ◌≢◌, ℕ, zero, suc, ◌+◌, ◌-◌, ◌<◌, ◌≤◌, ◌%◌, List, [], ◌∷◌, length, get_or, refl, sym, ◌∙◌, ap, arith}
 use Rattle.std.proofs.lemmas.List.Elements.{All-nil, All-cons, All-head, All-tail}
-use Rattle.classify.specs.steps.Fields.{most_boxes, room_of_lines, room_beside, IsKept, EachLine, EachEdit, KeepsRoom, UsesRoom, FreesRoom, FreesAll}
+use Rattle.classify.specs.steps.Fields.{most_boxes, room_of_lines, room_beside, IsKept, HaveOneMargin, EachLine, EachEdit, HasSameRoom, KeepsRoom, UsesRoom, FreesRoom, FreesAll, TakesPlace, LeavesPlace}
+use Rattle.bits.specs.MarginRows.{Room}
 use Rattle.classify.specs.steps.Kept.{PiecesAndRoom}
 
 abbrev Fits : ℕ → PiecesAndRoom → Type 0
-Fits n l = n ≤ l.room
+Fits n l = n ≤ l.room.places
 
 -- no line has less room than all together
 pub each_line : (n m : ℕ) (ls : List PiecesAndRoom) → n ≤ room_of_lines m ls → (n ≤ m) × EachLine (Fits n) ls
@@ -37,10 +38,14 @@ used old new len (suc n) long step le =
 pub used_room : (old new : List PiecesAndRoom) (len : ℕ) → length new ≡ length old → EachEdit UsesRoom old new → room_beside len old ≤ room_beside (len + 1) new + 1
 used_room old new len long step = used old new len (room_beside len old) long step (omega arith)
 
+-- lines with the same room keep it
+pub same_keeps : (l m : PiecesAndRoom) → HasSameRoom l m → KeepsRoom l m
+same_keeps l m same = record { more = omega (arith, ap (λ (r : Room). r.places) same); before = ap (λ (r : Room). r.before) same }
+
 pub kept_room : (old new : List PiecesAndRoom) (len : ℕ) → length new ≡ length old → EachEdit KeepsRoom old new → room_beside len old ≤ room_beside len new
 kept_room old new len long step =
     let n : ℕ = room_beside len old in
-    moved_room old new (most_boxes - len) (most_boxes - len) n n (omega arith) (λ some. some) long (λ k l lt h. omega (arith, step k l lt))
+    moved_room old new (most_boxes - len) (most_boxes - len) n n (omega arith) (λ some. some) long (λ k l lt h. omega (arith, (step k l lt).more))
 
 -- a box taken out leaves room for one more
 pub freed_room : (old new : List PiecesAndRoom) (len : ℕ) → 0 < len → len ≤ most_boxes → length new ≡ length old → EachEdit FreesRoom old new → room_beside len old < room_beside (len - 1) new
@@ -55,7 +60,7 @@ pub room_of_all : (old new : List PiecesAndRoom) (len : ℕ) → IsKept len old 
 room_of_all old new len kept long step =
     let n : ℕ = room_beside len old in
     let few : len ≤ most_boxes = kept.few in
-    moved_room old new (most_boxes - len) (most_boxes - 0) n (n + len) (omega arith) (λ le. omega arith) long (λ k l lt h. omega (arith, step k l lt, (kept.sound k l lt).bits))
+    moved_room old new (most_boxes - len) (most_boxes - 0) n (n + len) (omega arith) (λ le. omega arith) long (λ k l lt h. omega (arith, (step k l lt).places, (kept.sound k l lt).bits))
 
 -- no row's last word is full, so there is room
 pub last_words_room : (lines : List PiecesAndRoom) (len : ℕ) → IsKept len lines → len % 64 ≢ 0 → 0 < room_beside len lines
@@ -63,3 +68,24 @@ last_words_room lines len kept part =
     let few : len ≤ most_boxes = kept.few in
     let one : 1 ≤ room_beside len lines = least_line 1 (most_boxes - len) lines (omega arith) (λ k l lt. omega (arith, (get_or lines k l).stands.whole, (kept.sound k l lt).bits)) in
     omega arith
+
+-- ---- one margin of all lines
+
+-- lines without a blank place
+pub none_before : (lines : List PiecesAndRoom) → EachLine (λ l. l.room.before ≡ 0) lines → HaveOneMargin lines
+none_before lines h j k l lt lt' = h j l lt ∙ sym (h k l lt')
+
+-- an edit that makes of each line's margin what it makes of any other's
+pub margin_by : (f : ℕ → ℕ) (old new : List PiecesAndRoom) → length new ≡ length old → EachEdit (λ l m. m.room.before ≡ f l.room.before) old new → HaveOneMargin old → HaveOneMargin new
+margin_by f old new long step h j k l lt lt' =
+    let one : j < length old = omega arith in
+    let other : k < length old = omega arith in
+    step j l one ∙ ap f (h j k l one other) ∙ sym (step k l other)
+
+pub margin_taken : (at : ℕ) (old new : List PiecesAndRoom) → length new ≡ length old → EachEdit (λ l m. TakesPlace at l.room.before m.room.before) old new → HaveOneMargin old → HaveOneMargin new
+margin_taken zero old new long step = margin_by (λ n. n - 1) old new long (λ k l lt. (step k l lt).first refl)
+margin_taken (suc at) old new long step = margin_by (λ n. n) old new long (λ k l lt. (step k l lt).later (omega arith))
+
+pub margin_left : (at : ℕ) (old new : List PiecesAndRoom) → length new ≡ length old → EachEdit (λ l m. LeavesPlace at l.room.before m.room.before) old new → HaveOneMargin old → HaveOneMargin new
+margin_left zero old new long step = margin_by (λ n. n + 1) old new long (λ k l lt. (step k l lt).first refl)
+margin_left (suc at) old new long step = margin_by (λ n. n) old new long (λ k l lt. (step k l lt).later (omega arith))

@@ -4,6 +4,7 @@ use Rattle.std.specs.List.{insert, remove}
 use Rattle.std.specs.Prelude.{slice_index}
 use Rattle.std.proofs.Math.Dec.{leb}
 use Rattle.std.proofs.Math.ListN.{set}
+use Rattle.bits.specs.MarginRows.{Room}
 use Rattle.classify.specs.line.Line.{starts}
 use Rattle.classify.specs.steps.Pieces.{piece_at, IsRisingFrom, IsRising, EachRow, SayTheSame, row_bits, row_in}
 use Rattle.classify.specs.steps.Edits.{row_of}
@@ -118,7 +119,7 @@ each_insert n zero p (q ∷ ps) e h = (e, h)
 each_insert n (suc k) p (q ∷ ps) e h = (h.0, each_insert n k p ps e h.1)
 
 -- a piece cut at a number
-pub split_kept : (l : PiecesAndRoom) (k x n : ℕ) → k < length l.pieces → slice_index (starts l.pieces) k < x → (k + 1 < length l.pieces → x < slice_index (starts l.pieces) (k + 1)) → x ≤ most_start → n ≡ l.room
+pub split_kept : (l : PiecesAndRoom) (k x n : ℕ) → k < length l.pieces → slice_index (starts l.pieces) k < x → (k + 1 < length l.pieces → x < slice_index (starts l.pieces) (k + 1)) → x ≤ most_start → n ≡ l.room.places
     → (line : List Cut) → line ≡ insert l.pieces (k + 1) (x, row_of l.pieces k) → IsLine line n
 split_kept l k x n lt above below le room line is =
     let h : IsIn l.pieces x k = record { within = lt; high = below } in
@@ -150,7 +151,7 @@ left_kept l k n later room line is =
     (record { rising = merge_line_rising most_start l.pieces (k - 1) l.stands.rising; rows = subst Q (sym same) (each_left (row_bits l.pieces) (suc (k - 1)) l.pieces l.stands.rows); whole = omega (arith, same, room, l.stands.whole) })
 
 -- the same pieces
-pub same_kept : (l : PiecesAndRoom) (n : ℕ) → n % 64 ≡ l.room % 64 → (line : List Cut) → line ≡ l.pieces → IsLine line n
+pub same_kept : (l : PiecesAndRoom) (n : ℕ) → n % 64 ≡ l.room.places % 64 → (line : List Cut) → line ≡ l.pieces → IsLine line n
 same_kept l n room line is =
     let P : List Cut → Type 0 = λ cs. IsLine cs n in
     subst P (sym is) (record { rising = l.stands.rising; rows = l.stands.rows; whole = omega (arith, room, l.stands.whole) })
@@ -164,5 +165,5 @@ empty_kept n room line is =
 -- lines with equal pieces and room are equal
 pub same_line : (l m : PiecesAndRoom) → l.pieces ≡ m.pieces → l.room ≡ m.room → l ≡ m
 same_line l m pieces room =
-    let P : List Cut × ℕ → Type 0 = λ d. (s : IsLine d.0 d.1) → (let k : PiecesAndRoom = record { pieces = d.0; room = d.1; stands = s } in l ≡ k) in
-    subst P (λ i. (pieces i, room i)) (λ s i. record { pieces = l.pieces; room = l.room; stands = line_prop l.pieces l.room l.stands s i }) m.stands
+    let P : List Cut × Room → Type 0 = λ d. (s : IsLine d.0 d.1.places) → (let k : PiecesAndRoom = record { pieces = d.0; room = d.1; stands = s } in l ≡ k) in
+    subst P (λ i. (pieces i, room i)) (λ s i. record { pieces = l.pieces; room = l.room; stands = line_prop l.pieces l.room.places l.stands s i }) m.stands

@@ -31,6 +31,12 @@ kept_row ss rs n s l k e v lt =
     let none : Cut = (0, []) in
     ap (λ (p : Cut). p.1) (sym (ap (λ (ps : List Cut). get_or ps k none) (kept_pieces ss rs n s l v)) ∙ get_or-zip ss rs k none lt (omega arith))
 
+-- what holds of a row and the places before it holds of the line's
+pub lent_row : (P : ℕ → Row → Type 0) (ss : List ℕ) (rs : List Row) (n : Room) (s : IsLine (zip ss rs) n.places) (l : PiecesAndRoom) (k : ℕ) → length rs ≡ length ss → Show ss rs n s l → k < length ss → P n.before (get_or rs k []) → P l.room.before (row_of l.pieces k)
+lent_row P ss rs n s l k e v lt h =
+    let Q : ℕ → Type 0 = λ m. P m (get_or rs k []) in
+    subst (P l.room.before) (sym (kept_row ss rs n s l k e v lt)) (subst Q (ap (λ (m : PiecesAndRoom). m.room.before) v) h)
+
 -- what holds of each row of the line holds of the rows
 pub each_row_kept : (P : Row → Type 0) (ss : List ℕ) (rs : List Row) (n : Room) (s : IsLine (zip ss rs) n.places) (l : PiecesAndRoom) → length rs ≡ length ss → Show ss rs n s l → ((k : ℕ) → k < length l.pieces → P (row_of l.pieces k)) → All P rs
 each_row_kept P ss rs n s l e v h = λ k d lt.

@@ -80,7 +80,7 @@ cut_twice_new line k x y top h r s =
 -- a line cut twice is a line
 pub cut_twice_kept : (l : PiecesAndRoom) (k x y n : ℕ) → AreWithin l.pieces k x y → y ≤ most_start → n ≡ l.room.places → (line : List Cut) → line ≡ cut_twice l.pieces k x y → IsLine line n
 cut_twice_kept l k x y n h le room line is =
-    let mid : PiecesAndRoom = record { pieces = cut_above l.pieces k y; room = l.room; stands = split_kept l k y l.room h.piece (omega (arith, h.above, h.rising)) h.below le refl (cut_above l.pieces k y) refl } in
+    let mid : PiecesAndRoom = record { pieces = cut_above l.pieces k y; room = l.room; stands = split_kept l k y l.room.places h.piece (omega (arith, h.above, h.rising)) h.below le refl (cut_above l.pieces k y) refl } in
     let i = then_in l.pieces k x y h in
     split_kept mid k x n i.within (then_above l.pieces k x y h) i.high (omega (arith, h.rising, le)) room line (is ∙ then_is l.pieces k x y h)
 

@@ -1,8 +1,8 @@
 -- What the rows of a point have in common: the answers of the boxes, and the search among them.
-use Rattle.std.proofs.Common.{◌≡◌, inl, inr, ℕ, ◌+◌, ◌*◌, ◌^◌, ◌<◌, ◌≤◌, Bool, true, false, List, [], length, get_or, map, sym, ◌∙◌, ap, arith, lit<, Option, Some, None, Bor}
+use Rattle.std.proofs.Common.{◌≡◌, inl, inr, ℕ, ◌+◌, ◌-◌, ◌*◌, ◌^◌, ◌<◌, ◌≤◌, Bool, true, false, List, [], length, drop, get_or, map, sym, ◌∙◌, ap, arith, lit<, Option, Some, None, Bor}
 use Rattle.classify.proofs.laws.line.LineLaws.{same_tests}
 use Rattle.std.proofs.lemmas.Bool.{cases_lt, true≢false}
-use Rattle.std.proofs.lemmas.List.{get_or-take, get_or-map, length-map, same_lists}
+use Rattle.std.proofs.lemmas.List.{get_or-take, get_or-drop, get_or-map, length-drop, length-map, same_lists}
 use Rattle.std.proofs.lemmas.List.FromFn.{get_or-map-range_with_len, length-map-range_with_len}
 use Rattle.std.proofs.lemmas.List.Sums.{AllPass-from_list_all, list_all-from_AllPass}
 use Rattle.fields.specs.declared.numbers.field.TheConstants.{FIELDS}
@@ -38,25 +38,32 @@ common_at len p rows d lt = get_or-map-range_with_len (all_have rows) 0 len p p 
 
 -- ---- the rows of a point
 
-pub rows_are_candidates : (c : Classified) (point : List ℕ) (rows : Rows) (summary : ℕ) → AreRowsAt c point rows FIELDS → SumUpPoint c point summary FIELDS → AreCandidates c.len summary rows
-rows_are_candidates c point rows summary h sum = record {
+pub rows_are_candidates : (m : ℕ) (c : Classified) (point : List ℕ) (rows : Rows) (summary : ℕ) → AreRowsAt m c point rows FIELDS → SumUpPoint m c point summary FIELDS → AreCandidates (m + c.len) summary rows
+rows_are_candidates m c point rows summary h sum = record {
   long = h.long;
   packed = λ k d lt. (h.are k d (omega (arith, h.long, lt))).packed;
   summed = λ p within every. sum p (λ j below.
-      sym (ap (λ (bs : List Bool). get_or bs p false) (h.are j none below).bits) ∙ get_or-take c.len (all_bits (get_or rows j none).now) p false within ∙ every j none (omega (arith, h.long, below)));
+      sym (ap (λ (bs : List Bool). get_or bs p false) (h.are j none below).bits) ∙ get_or-take (m + c.len) (all_bits (get_or rows j none).now) p false within ∙ every j none (omega (arith, h.long, below)));
 }
 
-pub common_answers : (c : Classified) (boxes : List (List SpanSet)) (point : List ℕ) (rows : Rows) → IsClassifierOf boxes c → IsPoint point → AreRowsAt c point rows FIELDS → common_bits c.len rows ≡ map (box_matches point) boxes
-common_answers c boxes point rows h within rs =
-    same_lists (common_bits c.len rows) (map (box_matches point) boxes) (common_long c.len rows ∙ h.len ∙ sym (length-map boxes (box_matches point))) (λ k d lt.
-    let in' : k < c.len = omega (arith, lt, common_long c.len rows) in
+pub common_answers : (m : ℕ) (c : Classified) (boxes : List (List SpanSet)) (point : List ℕ) (rows : Rows) → IsClassifierOf boxes c → IsPoint point → AreRowsAt m c point rows FIELDS → drop m (common_bits (m + c.len) rows) ≡ map (box_matches point) boxes
+common_answers m c boxes point rows h within rs =
+    let all : List Bool = common_bits (m + c.len) rows in
+    let long : length (drop m all) ≡ c.len = omega (arith, length-drop m all, common_long (m + c.len) rows) in
+    same_lists (drop m all) (map (box_matches point) boxes) (long ∙ h.len ∙ sym (length-map boxes (box_matches point))) (λ k d lt.
+    let in' : k < c.len = omega (arith, lt, long) in
     let boxed : k < length boxes = omega (arith, in', h.len) in
-    let both = have_to_allow c boxes point rows k [] h within rs.long rs.are boxed in
-    common_at c.len k rows d in'
-    ∙ same_tests (all_have rows k) (box_matches point (get_or boxes k [])) (λ e. both.0 (have_all rows k e)) (λ e. all_have-true rows k (both.1 e))
+    let both = have_to_allow m c boxes point rows k [] h within rs.long rs.are boxed in
+    get_or-drop m all k d
+    ∙ common_at (m + c.len) (m + k) rows d (omega arith)
+    ∙ same_tests (all_have rows (m + k)) (box_matches point (get_or boxes k [])) (λ e. both.0 (have_all rows (m + k) e)) (λ e. all_have-true rows (m + k) (both.1 e))
     ∙ sym (get_or-map (box_matches point) boxes k [] d boxed))
 
 -- ---- the search among them
+
+-- rows have so few bits that these can be counted
+pub are_counted : (len summary : ℕ) (rows : Rows) → AreCandidates len summary rows → len < 2 ^ 64
+are_counted len summary rows h = let row = h.packed 0 none (omega (arith, h.long, some)) in omega (arith, row.few, row.covers)
 
 module _ (len summary words : ℕ) (rows : Rows) (h : AreCandidates len summary rows) (covers : len ≤ 64 * words) (tight : 64 * words < len + 64) where
   pub are_wide : AreWide words rows
@@ -81,16 +88,18 @@ module _ (len summary words : ℕ) (rows : Rows) (h : AreCandidates len summary 
   pub are_summed : SumUpAll summary words rows
   are_summed p lt every = h.summed p (in_bounds p lt every) every
 
-  pub next_of_common : (from : ℕ) (r : Option ℕ) → IsFirst (HaveAll rows) from (64 * words) r → r ≡ next_match (λ bit. bit) (common_bits len rows) from
-  next_of_common from None first =
-      next_from_first (λ (bit : Bool). bit) (common_bits len rows) from false None (λ k ge lt passes.
-      let in' : k < len = omega (arith, lt, common_long len rows) in
-      first k ge (omega (arith, in', covers)) (have_all rows k (sym (common_at len k rows false in') ∙ passes)))
-  next_of_common from (Some m) first =
-      let in' : m < len = in_bounds m first.1 first.2 in
-      next_from_first (λ (bit : Bool). bit) (common_bits len rows) from false (Some m) (
+  -- after a margin
+  pub next_of_common : (m from : ℕ) (r : Option ℕ) → m ≤ len → IsFirst (λ p. HaveAll rows (m + p)) from (64 * words - m) r → r ≡ next_match (λ bit. bit) (drop m (common_bits len rows)) from
+  next_of_common m from None le first =
+      next_from_first (λ (bit : Bool). bit) (drop m (common_bits len rows)) from false None (λ k ge lt passes.
+      let in' : m + k < len = omega (arith, lt, common_long len rows, length-drop m (common_bits len rows)) in
+      first k ge (omega (arith, in', covers)) (have_all rows (m + k) (sym (common_at len (m + k) rows false in') ∙ sym (get_or-drop m (common_bits len rows) k false) ∙ passes)))
+  next_of_common m from (Some n) le first =
+      let in' : m + n < len = in_bounds (m + n) (omega (arith, first.1)) first.2 in
+      next_from_first (λ (bit : Bool). bit) (drop m (common_bits len rows)) from false (Some n) (
         first.0,
-        omega (arith, in', common_long len rows),
-        common_at len m rows false in' ∙ all_have-true rows m first.2,
-        λ k ge lt passes. first.3 k ge lt (have_all rows k (sym (common_at len k rows false (omega (arith, lt, in'))) ∙ passes)),
+        omega (arith, in', common_long len rows, length-drop m (common_bits len rows)),
+        get_or-drop m (common_bits len rows) n false ∙ common_at len (m + n) rows false in' ∙ all_have-true rows (m + n) first.2,
+        λ k ge lt passes.
+            first.3 k ge lt (have_all rows (m + k) (sym (common_at len (m + k) rows false (omega (arith, lt, in'))) ∙ sym (get_or-drop m (common_bits len rows) k false) ∙ passes)),
       )

@@ -3,6 +3,8 @@ use Rattle.std.proofs.Common.{◌≡◌, ◌↔◌, inl, inr, ℕ, zero, suc, �
 use Rattle.std.specs.Prelude.{◌/◌, ◌%◌, ◌^◌, slice_index, bit_and}
 use Rattle.std.specs.Int.{bit_at}
 use Rattle.std.proofs.lemmas.Nat.Bits.{bit_at_and, bit_at_ones}
+use Rattle.bits.specs.MarginRows.{after_margin}
+use Rattle.bits.proofs.laws.MarginLaws.{get-after, length-after}
 use Rattle.bits.specs.steps.Summaries.{IsSummaryOf}
 use Rattle.classify.specs.steps.Summaries.{SumUpAll, SumUpPoint}
 use Rattle.std.specs.List.{list_all, position_or_len}
@@ -21,7 +23,7 @@ use Rattle.fields.specs.numbers.Spans.{SpanSet}
 use Rattle.bits.specs.steps.Packing.{all_bits, IsPacked}
 use Rattle.classify.specs.line.Line.{row_at}
 use Rattle.classify.specs.steps.Pieces.{row_in}
-use Rattle.classify.specs.steps.Fields.{shown_line, IsKept}
+use Rattle.classify.specs.steps.Fields.{shown_line, shown_by, IsKept}
 use Rattle.bits.specs.steps.First.{IsFirst}
 use Rattle.classify.specs.steps.CommonPlaces.{IsRowAt, AreRowsAt, HaveAll}
 use Rattle.rules.specs.boxing.Boxed.{set_on}
@@ -46,34 +48,61 @@ field_row lines len k x d n h lt =
     let lt' : k < length lines = omega arith in
     record { long = said_long (get_or lines k d) x ∙ (h.sound k d lt').bits; same = sym (shown_at_place lines k d lt') }
 
+-- a row that a line lends, after the margin of all lines
+pub field_lent : (lines : List PiecesAndRoom) (len m k x : ℕ) (now : PiecesAndRoom) (row : List ℕ) → IsField lines len k x now → now.room.before ≡ m
+    → IsPacked row (length (after_margin now.room.before (row_in now.pieces x)))
+    → take (length (after_margin now.room.before (row_in now.pieces x))) (all_bits row) ≡ after_margin now.room.before (row_in now.pieces x)
+    → IsRowAt m (shown_by len lines) k x row
+field_lent lines len m k x now row f margin packed bits =
+    let own : List Bool = row_in now.pieces x in
+    let P : ℕ → Type 0 = λ n. IsPacked row (length (after_margin n own)) in
+    let Q : ℕ → Type 0 = λ n. take (length (after_margin n own)) (all_bits row) ≡ after_margin n own in
+    let R : ℕ → Type 0 = λ n. IsPacked row n in
+    let long : length (after_margin m own) ≡ m + len = length-after m own ∙ ap (λ n. m + n) f.long in
+    record {
+      packed = subst R long (subst P margin packed);
+      bits = ap (λ n. take n (all_bits row)) (sym long) ∙ subst Q margin bits ∙ ap (λ (line : List (ℕ × List Bool)). after_margin m (row_in line x)) f.same;
+    }
+
+-- and its summary
+pub field_summed : (lines : List PiecesAndRoom) (len m k x summary : ℕ) (now : PiecesAndRoom) → IsField lines len k x now → now.room.before ≡ m
+    → IsSummaryOf summary (after_margin now.room.before (row_in now.pieces x)) → IsSummaryOf summary (after_margin m (row_in (get_or (map shown_line lines) k []) x))
+field_summed lines len m k x summary now f margin h =
+    let P : ℕ → Type 0 = λ n. IsSummaryOf summary (after_margin n (row_in now.pieces x)) in
+    let Q : List (ℕ × List Bool) → Type 0 = λ line. IsSummaryOf summary (after_margin m (row_in line x)) in
+    subst Q f.same (subst P margin h)
+
 -- ---- all rows
 
-pub lent_more : (c : Classified) (point : List ℕ) (rows : List (Bor (List ℕ))) (k : ℕ) (row : Bor (List ℕ)) → AreRowsAt c point rows k → k < FIELDS → IsRowAt c k (slice_index point k) row.now → AreRowsAt c point (set rows k row) (k + 1)
-lent_more c point rows k row h lt r =
+pub lent_more : (m : ℕ) (c : Classified) (point : List ℕ) (rows : List (Bor (List ℕ))) (k : ℕ) (row : Bor (List ℕ)) → AreRowsAt m c point rows k → k < FIELDS → IsRowAt m c k (slice_index point k) row.now → AreRowsAt m c point (set rows k row) (k + 1)
+lent_more m c point rows k row h lt r =
     let in' : k < length rows = omega (arith, h.long) in
     record {
       long = length-set rows k row ∙ h.long;
       are = λ j d below.
           elim (cases_eq j k) [
             | inl at ↦ (
-                let P : ℕ → Type 0 = λ i. IsRowAt c i (slice_index point i) (get_or (set rows k row) i d).now in
-                let Q : Bor (List ℕ) → Type 0 = λ s. IsRowAt c k (slice_index point k) s.now in
+                let P : ℕ → Type 0 = λ i. IsRowAt m c i (slice_index point i) (get_or (set rows k row) i d).now in
+                let Q : Bor (List ℕ) → Type 0 = λ s. IsRowAt m c k (slice_index point k) s.now in
                 subst P (sym at) (subst Q (sym (get_or-set_same rows k row d in')) r))
             | inr ne ↦ (
-                let Q : Bor (List ℕ) → Type 0 = λ s. IsRowAt c j (slice_index point j) s.now in
+                let Q : Bor (List ℕ) → Type 0 = λ s. IsRowAt m c j (slice_index point j) s.now in
                 subst Q (sym (get_or-set_other rows k j row d ne)) (h.are j d (omega arith)))
           ];
     }
 
 -- a bit of a field's row is a box's answer
-row_answer : (c : Classified) (boxes : List (List SpanSet)) (point : List ℕ) (field : Field) (row : List ℕ) (p : ℕ) (b : List SpanSet) → IsClassifierOf boxes c → IsPoint point
-    → IsRowAt c (index field) (slice_index point (index field)) row → p < length boxes → get_or (all_bits row) p false ≡ box_allows (get_or boxes p b) field (number_on point field)
-row_answer c boxes point field row p b h within r lt =
-    let in' : p < c.len = omega (arith, h.len) in
+row_answer : (m : ℕ) (c : Classified) (boxes : List (List SpanSet)) (point : List ℕ) (field : Field) (row : List ℕ) (p : ℕ) (b : List SpanSet) → IsClassifierOf boxes c → IsPoint point
+    → IsRowAt m c (index field) (slice_index point (index field)) row → p < length boxes → get_or (all_bits row) (m + p) false ≡ box_allows (get_or boxes p b) field (number_on point field)
+row_answer m c boxes point field row p b h within r lt =
+    let in' : m + p < m + c.len = omega (arith, h.len) in
     let x : ℕ = number_on point field in
     let said : row_in (line_on field c) x ≡ row_at (λ box y. box_allows box field y) boxes x =
     says_from_line (top field) (map (set_on field) boxes) (line_on field c) (line_of_sets field (top field) boxes (line_on field c) (h.lines field)) x (within field) ∙ sym (row_of_sets field boxes x) in
-    sym (get_or-take c.len (all_bits row) p false in') ∙ ap (λ (bs : List Bool). get_or bs p false) (r.bits ∙ said) ∙ get_or-map (λ box. box_allows box field x) boxes p b false lt
+    sym (get_or-take (m + c.len) (all_bits row) (m + p) false in')
+    ∙ ap (λ (bs : List Bool). get_or bs (m + p) false) (r.bits ∙ ap (after_margin m) said)
+    ∙ get-after m p (row_at (λ box y. box_allows box field y) boxes x) false
+    ∙ get_or-map (λ box. box_allows box field x) boxes p b false lt
 
 every_passes : (test : Field → Bool) (fs : List Field) → ((field : Field) → test field ≡ true) → list_all test fs ≡ true
 every_passes test [] h = refl
@@ -86,18 +115,18 @@ passes_each test h field =
       | inr f ↦ absurd (true≢false (sym h ∙ list_all_at test ALL (index field) field (index-lt field) (ap test (here_is field field) ∙ f)))
     ]
 
-pub have_to_allow : (c : Classified) (boxes : List (List SpanSet)) (point : List ℕ) (rows : List (Bor (List ℕ))) (p : ℕ) (b : List SpanSet) → IsClassifierOf boxes c → IsPoint point
-    → length rows ≡ FIELDS → ((j : ℕ) (d : Bor (List ℕ)) → j < FIELDS → IsRowAt c j (slice_index point j) (get_or rows j d).now) → p < length boxes → HaveAll rows p ↔ (box_matches point (get_or boxes p b) ≡ true)
-have_to_allow c boxes point rows p b h within n are lt =
+pub have_to_allow : (m : ℕ) (c : Classified) (boxes : List (List SpanSet)) (point : List ℕ) (rows : List (Bor (List ℕ))) (p : ℕ) (b : List SpanSet) → IsClassifierOf boxes c → IsPoint point
+    → length rows ≡ FIELDS → ((j : ℕ) (d : Bor (List ℕ)) → j < FIELDS → IsRowAt m c j (slice_index point j) (get_or rows j d).now) → p < length boxes → HaveAll rows (m + p) ↔ (box_matches point (get_or boxes p b) ≡ true)
+have_to_allow m c boxes point rows p b h within n are lt =
     let none : Bor (List ℕ) = record { ref_ptr = (0, 0); now = [] } in
     let test : Field → Bool = λ field. box_allows (get_or boxes p b) field (number_on point field) in (
       λ every. every_passes test ALL (λ field.
           (let k : index field < length rows = omega (arith, index-lt field) in
-          sym (row_answer c boxes point field (get_or rows (index field) none).now p b h within (are (index field) none (index-lt field)) lt) ∙ every (index field) none k)),
+          sym (row_answer m c boxes point field (get_or rows (index field) none).now p b h within (are (index field) none (index-lt field)) lt) ∙ every (index field) none k)),
       λ pass k d below.
           (let f = field_at k (omega arith) in
-          let P : ℕ → Type 0 = λ j. get_or (all_bits (get_or rows j d).now) p false ≡ true in
-          subst P f.1 (row_answer c boxes point f.0 (get_or rows (index f.0) d).now p b h within (are (index f.0) d (index-lt f.0)) lt ∙ passes_each test pass f.0)),
+          let P : ℕ → Type 0 = λ j. get_or (all_bits (get_or rows j d).now) (m + p) false ≡ true in
+          subst P f.1 (row_answer m c boxes point f.0 (get_or rows (index f.0) d).now p b h within (are (index f.0) d (index-lt f.0)) lt ∙ passes_each test pass f.0)),
     )
 
 -- no row has a bit past the boxes
@@ -110,11 +139,11 @@ none_past row len p h le lt =
 
 -- ---- the summary of all rows
 
-pub point_first : (c : Classified) (point : List ℕ) → SumUpPoint c point (2 ^ 64 - 1) 0
-point_first c point p each = bit_at_ones 64 (p / 64 / 2 % 64) (omega arith)
+pub point_first : (m : ℕ) (c : Classified) (point : List ℕ) → SumUpPoint m c point (2 ^ 64 - 1) 0
+point_first m c point p each = bit_at_ones 64 (p / 64 / 2 % 64) (omega arith)
 
-pub point_more : (c : Classified) (point : List ℕ) (summary s k : ℕ) → SumUpPoint c point summary k → IsSummaryOf s (row_in (get_or c.lines k []) (slice_index point k)) → SumUpPoint c point (bit_and summary s) (k + 1)
-point_more c point summary s k h one p each =
+pub point_more : (m : ℕ) (c : Classified) (point : List ℕ) (summary s k : ℕ) → SumUpPoint m c point summary k → IsSummaryOf s (after_margin m (row_in (get_or c.lines k []) (slice_index point k))) → SumUpPoint m c point (bit_and summary s) (k + 1)
+point_more m c point summary s k h one p each =
     let all : bit_at summary (p / 64 / 2 % 64) ≡ 1 = h p (λ j lt. each j (omega arith)) in
     let last : bit_at s (p / 64 / 2 % 64) ≡ 1 = one p (each k (omega arith)) in
     bit_at_and summary s (p / 64 / 2 % 64) ∙ omega arith
@@ -170,17 +199,20 @@ one_within : (row : Bor (List ℕ)) (len p : ℕ) → IsPacked row.now len → p
 one_within row len p h lt have =
     elim (cases_lt p len) [ inl in' ↦ in' | inr le ↦ absurd (true≢false (sym (one_is row p have) ∙ none_past row.now len p h le lt)) ]
 
-pub next_of_one : (row : Bor (List ℕ)) (bits : List Bool) (from : ℕ) (r : Option ℕ) → IsPacked row.now (length bits) → take (length bits) (all_bits row.now) ≡ bits
-    → IsFirst (HaveAll (row ∷ [])) from (64 * length row.now) r → r ≡ next_match (λ bit. bit) bits from
-next_of_one row bits from None h e first =
-    next_from_first (λ (bit : Bool). bit) bits from false None (λ k ge lt t. first k ge (omega (arith, h.covers)) (have_one row k (sym (one_has row bits k e lt) ∙ t)))
-next_of_one row bits from (Some m) h e first =
-    let in' : m < length bits = one_within row (length bits) m h first.1 first.2 in
-    next_from_first (λ (bit : Bool). bit) bits from false (Some m) (
+-- after a margin
+pub next_of_one : (row : Bor (List ℕ)) (bits : List Bool) (m from : ℕ) (r : Option ℕ) → IsPacked row.now (length bits) → take (length bits) (all_bits row.now) ≡ bits → m ≤ length bits
+    → IsFirst (λ p. HaveAll (row ∷ []) (m + p)) from (64 * length row.now - m) r → r ≡ next_match (λ bit. bit) (drop m bits) from
+next_of_one row bits m from None h e le first =
+    next_from_first (λ (bit : Bool). bit) (drop m bits) from false None (λ k ge lt t.
+    let in' : m + k < length bits = omega (arith, length-drop m bits) in
+    first k ge (omega (arith, h.covers)) (have_one row (m + k) (sym (one_has row bits (m + k) e in') ∙ sym (get_or-drop m bits k false) ∙ t)))
+next_of_one row bits m from (Some n) h e le first =
+    let in' : m + n < length bits = one_within row (length bits) (m + n) h (omega (arith, first.1)) first.2 in
+    next_from_first (λ (bit : Bool). bit) (drop m bits) from false (Some n) (
       first.0,
-      in',
-      one_has row bits m e in' ∙ one_is row m first.2,
-      λ k ge lt t. first.3 k ge lt (have_one row k (sym (one_has row bits k e (omega arith)) ∙ t)),
+      omega (arith, length-drop m bits),
+      get_or-drop m bits n false ∙ one_has row bits (m + n) e in' ∙ one_is row (m + n) first.2,
+      λ k ge lt t. first.3 k ge lt (have_one row (m + k) (sym (one_has row bits (m + k) e (omega arith)) ∙ sym (get_or-drop m bits k false) ∙ t)),
     )
 
 pub one_sums_up : (row : Bor (List ℕ)) (bits : List Bool) (summary : ℕ) → IsPacked row.now (length bits) → take (length bits) (all_bits row.now) ≡ bits → IsSummaryOf summary bits → SumUpAll summary (length row.now) (row ∷ [])

@@ -3,12 +3,13 @@ use Rattle.fields.specs.declared.numbers.field.TheConstants.{FIELDS}
 use Rattle.classify.specs.steps.Fields.{room_beside}
 use Rattle.classify.specs.classifier.Classifier.{ClassifiedAndRoom}
 use Rattle.classify.proofs.laws.classifier.ClassifierLaws.{classifier_empty, kept_empty}
-use Rattle.classify.proofs.laws.classifier.RoomLaws.{room_of_all}
+use Rattle.classify.proofs.laws.classifier.RoomLaws.{room_of_all, none_before}
 use Rattle.classify.proofs.laws.classifier.RuleLaws.{no_rules}
 use Rattle.classify.proofs.classifier.Classifier.clear.Goals as goal
 
 pub invariant_of-self : goal.invariant_of-self
 invariant_of-self c = kept_empty c.clear_lines.new.lines (c.clear_lines.auto.lines ∙ c.self.invariant.fields) (λ k l lt. c.clear_lines.ensures.empty k l (omega (arith, c.clear_lines.auto.lines)))
+    (none_before c.clear_lines.new.lines (λ k l lt. (c.clear_lines.ensures.room k l (omega (arith, c.clear_lines.auto.lines))).before))
 
 pub returns-clause-boxes : goal.returns-clause-boxes
 returns-clause-boxes c =

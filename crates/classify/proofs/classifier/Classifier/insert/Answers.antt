@@ -17,7 +17,7 @@ pub invariant_of-self-2 : goal.invariant_of-self-2
 invariant_of-self-2 c =
     let n : length c.self.inside.lines ≡ FIELDS = c.self.invariant.fields in
     still_sound c.insert_lines.new.lines c.spans.result.now c.args.boxed (c.self.inside.len + 1) (c.insert_lines.auto.lines ∙ n) c.spans.ensures.value c.spans.ensures.whole (omega arith)
-    (λ k s l lt. c.in_ok-insert_lines.ensures.sound k s l (omega (arith, c.insert_lines.auto.lines)))
+    (λ k s l lt. c.in_ok-insert_lines.ensures.sound k s l (omega (arith, c.insert_lines.auto.lines))) (c.insert_lines.ensures.margin c.self.invariant.margin)
 
 pub returns-clause-boxes : goal.returns-clause-boxes
 returns-clause-boxes c boxes h =
@@ -31,7 +31,7 @@ pub returns-clause-rules : goal.returns-clause-rules
 returns-clause-rules c rule is rules h = rules_inserted rules c.args.at rule c.args.boxed c.args.self.now.shown _ (returns-clause-boxes c) h is
 
 pub invariant_of-self : goal.invariant_of-self
-invariant_of-self c = kept_shown c.self.inside.lines c.insert_lines.new.lines c.self.inside.len c.insert_lines.auto.lines c.in_err-insert_lines.ensures.err c.self.invariant
+invariant_of-self c = kept_shown c.self.inside.lines c.insert_lines.new.lines c.self.inside.len c.insert_lines.auto.lines c.in_err-insert_lines.ensures.err (c.insert_lines.ensures.margin c.self.invariant.margin) c.self.invariant
 
 pub returns-in_err-insert_lines-clause-err : goal.returns-in_err-insert_lines-clause-err
 returns-in_err-insert_lines-clause-err c =

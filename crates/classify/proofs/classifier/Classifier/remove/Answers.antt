@@ -4,7 +4,7 @@ use Rattle.fields.specs.declared.numbers.field.TheConstants.{FIELDS}
 use Rattle.classify.specs.classifier.Classifier.{Classified, ClassifiedAndRoom, IsClassifierOf}
 use Rattle.classify.specs.steps.Fields.{tops, room_beside}
 use Rattle.classify.proofs.laws.classifier.ClassifierLaws.{classifier_without}
-use Rattle.classify.proofs.laws.classifier.RoomLaws.{freed_room}
+use Rattle.classify.proofs.laws.classifier.RoomLaws.{freed_room, margin_left}
 use Rattle.classify.proofs.laws.classifier.RuleLaws.{rules_removed}
 use Rattle.classify.proofs.classifier.Classifier.remove.Goals as goal
 
@@ -23,6 +23,7 @@ invariant_of-self c =
           let was = c.self.invariant.sound k l lt' in
           let is = (c.remove_lines.ensures k l lt').sound (slice_index tops k) was.rising in
           record { rising = is.rising; differ = is.differ; bits = omega (arith, is.bits, was.bits) });
+      margin = margin_left c.args.at _ _ c.remove_lines.auto.lines (λ k l lt. (c.remove_lines.ensures k l lt).margin) c.self.invariant.margin;
     }
 
 pub returns-clause-boxes : goal.returns-clause-boxes

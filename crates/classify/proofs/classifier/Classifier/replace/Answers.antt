@@ -2,9 +2,10 @@ use Rattle.std.proofs.Common.{arith, ap, length, ◌≤◌, List, ℕ, subst, �
 use Rattle.std.proofs.lemmas.Bool.{false≢true}
 use Rattle.fields.specs.declared.numbers.field.TheConstants.{FIELDS}
 use Rattle.classify.specs.classifier.Classifier.{Classified, ClassifiedAndRoom, IsClassifierOf, HasNoNewCut}
+use Rattle.bits.specs.MarginRows.{Room}
 use Rattle.classify.specs.steps.Fields.{room_beside}
 use Rattle.classify.proofs.laws.classifier.ClassifierLaws.{classifier_written, sound_lines, still_sound, kept_shown, same_shown, no_new_cuts, on_err_anyway}
-use Rattle.classify.proofs.laws.classifier.RoomLaws.{kept_room}
+use Rattle.classify.proofs.laws.classifier.RoomLaws.{kept_room, margin_by, same_keeps}
 use Rattle.classify.proofs.laws.classifier.RuleLaws.{rules_replaced}
 use Rattle.classify.proofs.classifier.Classifier.replace.Goals as goal
 
@@ -18,6 +19,7 @@ invariant_of-self-2 c =
     let n : length c.self.inside.lines ≡ FIELDS = c.self.invariant.fields in
     still_sound c.replace_lines.new.lines c.spans.result.now c.args.boxed c.self.inside.len (c.replace_lines.auto.lines ∙ n) c.spans.ensures.value c.spans.ensures.whole c.self.invariant.few
     (λ k s l lt. c.in_ok-replace_lines.ensures.sound k s l (omega (arith, c.replace_lines.auto.lines)))
+    (margin_by (λ n. n) _ _ c.replace_lines.auto.lines (λ k l lt. ap (λ (r : Room). r.before) (c.replace_lines.ensures.room k l lt)) c.self.invariant.margin)
 
 pub returns-clause-boxes : goal.returns-clause-boxes
 returns-clause-boxes c boxes h =
@@ -31,7 +33,8 @@ pub returns-clause-rules : goal.returns-clause-rules
 returns-clause-rules c rule is rules h = rules_replaced rules c.args.at rule c.args.boxed c.args.self.now.shown _ (returns-clause-boxes c) h is
 
 pub invariant_of-self : goal.invariant_of-self
-invariant_of-self c = kept_shown c.self.inside.lines c.replace_lines.new.lines c.self.inside.len c.replace_lines.auto.lines c.in_err-replace_lines.ensures.err c.self.invariant
+invariant_of-self c = kept_shown c.self.inside.lines c.replace_lines.new.lines c.self.inside.len c.replace_lines.auto.lines c.in_err-replace_lines.ensures.err
+    (margin_by (λ n. n) _ _ c.replace_lines.auto.lines (λ k l lt. ap (λ (r : Room). r.before) (c.replace_lines.ensures.room k l lt)) c.self.invariant.margin) c.self.invariant
 
 pub returns-in_err-replace_lines-clause-err : goal.returns-in_err-replace_lines-clause-err
 returns-in_err-replace_lines-clause-err c =
@@ -48,9 +51,9 @@ returns-in_err-replace_lines-clause-there c none =
 pub returns-clause-room : goal.returns-clause-room
 returns-clause-room c none =
     let Q : ClassifiedAndRoom → Type 0 = λ k. k.room ≤ room_beside c.self.inside.len c.replace_lines.new.lines in
-    subst Q c.self.view_is (kept_room c.self.inside.lines c.replace_lines.new.lines c.self.inside.len c.replace_lines.auto.lines (λ k l lt. omega (arith, c.replace_lines.ensures.room k l lt)))
+    subst Q c.self.view_is (kept_room c.self.inside.lines c.replace_lines.new.lines c.self.inside.len c.replace_lines.auto.lines (λ k l lt. same_keeps _ _ (c.replace_lines.ensures.room k l lt)))
 
 pub returns-in_err-replace_lines-clause-kept : goal.returns-in_err-replace_lines-clause-kept
 returns-in_err-replace_lines-clause-kept c =
     let Q : ClassifiedAndRoom → Type 0 = λ k. k.room ≤ room_beside c.self.inside.len c.replace_lines.new.lines in
-    on_err_anyway c.from_residual.result (subst Q c.self.view_is (kept_room c.self.inside.lines c.replace_lines.new.lines c.self.inside.len c.replace_lines.auto.lines (λ k l lt. omega (arith, c.replace_lines.ensures.room k l lt))))
+    on_err_anyway c.from_residual.result (subst Q c.self.view_is (kept_room c.self.inside.lines c.replace_lines.new.lines c.self.inside.len c.replace_lines.auto.lines (λ k l lt. same_keeps _ _ (c.replace_lines.ensures.room k l lt))))

@@ -18,7 +18,7 @@ loop-k-preserved c =
     let h = c.loop-k.invariant in
     edited_more _ _ c.loop-k.lines c.loop-k.k (get_or c.loop-k.lines c.loop-k.k c.index-lines-k.result) c.remove_box.new.line h (omega (arith, h.as_long))
     (ap (λ (d : PiecesAndRoom). get_or c.loop-k.lines c.loop-k.k d) c.index-lines-k.is)
-    (record { line = λ top sets. c.remove_box.ensures.line top sets; sound = λ top r. c.remove_box.ensures.sound top r; room = c.remove_box.ensures.room })
+    (record { line = λ top sets. c.remove_box.ensures.line top sets; sound = λ top r. c.remove_box.ensures.sound top r; room = c.remove_box.ensures.room; margin = c.remove_box.ensures.margin })
 
 pub returns : goal.returns
 returns c k l lt = c.loop-k.invariant.done k l (omega arith)

@@ -12,21 +12,21 @@ returns-in_err-reserve-clause-more c k l lt =
     let h : Edited R c.args.lines.now c.loop-k.lines c.loop-k.k = edited_weaker _ R c.args.lines.now c.loop-k.lines c.loop-k.k (λ j p q r. r.0) c.loop-k.invariant in
     let m : Edited R c.args.lines.now (set c.loop-k.lines c.loop-k.k c.reserve.new.self) (c.loop-k.k + 1) =
     edited_more R c.args.lines.now c.loop-k.lines c.loop-k.k (get_or c.loop-k.lines c.loop-k.k c.index-lines-k.result) c.reserve.new.self h (omega (arith, h.as_long))
-    (ap (λ (d : PiecesAndRoom). get_or c.loop-k.lines c.loop-k.k d) c.index-lines-k.is) (record { same = c.reserve.ensures.pieces; room = c.reserve.ensures.more }) in
-    edited_anyway R c.args.lines.now _ (c.loop-k.k + 1) k l m (λ _. record { same = refl; room = omega arith })
+    (ap (λ (d : PiecesAndRoom). get_or c.loop-k.lines c.loop-k.k d) c.index-lines-k.is) (c.reserve.ensures.more) in
+    edited_anyway R c.args.lines.now _ (c.loop-k.k + 1) k l m (λ _. record { same = refl; room = record { more = omega arith; before = refl } })
 
 pub returns-in_err-reserve-clause-there : goal.returns-in_err-reserve-clause-there
 returns-in_err-reserve-clause-there c room =
     let h = c.loop-k.invariant in
     let lt : c.loop-k.k < length c.args.lines.now = omega (arith, h.as_long) in
-    let P : PiecesAndRoom → Type 0 = λ p. 0 < p.room in
+    let P : PiecesAndRoom → Type 0 = λ p. 0 < p.room.places in
     absurd (false≢true (c.in_err-reserve.ensures.there (subst P (sym (h.rest c.loop-k.k c.index-lines-k.result (omega arith))) (room c.loop-k.k c.index-lines-k.result lt))))
 
 pub loop-k-preserved : goal.loop-k-preserved
 loop-k-preserved c =
     let h = c.loop-k.invariant in
     edited_more _ _ c.loop-k.lines c.loop-k.k (get_or c.loop-k.lines c.loop-k.k c.index-lines-k.result) c.reserve.new.self h (omega (arith, h.as_long))
-    (ap (λ (d : PiecesAndRoom). get_or c.loop-k.lines c.loop-k.k d) c.index-lines-k.is) (record { same = c.reserve.ensures.pieces; room = c.reserve.ensures.more }, c.in_ok-reserve.ensures.ok)
+    (ap (λ (d : PiecesAndRoom). get_or c.loop-k.lines c.loop-k.k d) c.index-lines-k.is) (c.reserve.ensures.more, c.in_ok-reserve.ensures.ok)
 
 pub returns-clause-more : goal.returns-clause-more
 returns-clause-more c k l lt = (c.loop-k.invariant.done k l (omega arith)).0

@@ -4,4 +4,4 @@ use Rattle.classify.proofs.laws.line.ListLoopLaws.{Edited}
 use Rattle.classify.proofs.classifier.lines.reserve_lines.Given as goal
 
 abbrev pub invariant-loop-k : goal.invariant-loop-k
-invariant-loop-k l = Edited (λ _ p q. IsRoomier p q × (0 < q.room)) l.fn.lines l.lines l.k
+invariant-loop-k l = Edited (λ _ p q. IsRoomier p q × (0 < q.room.places)) l.fn.lines l.lines l.k

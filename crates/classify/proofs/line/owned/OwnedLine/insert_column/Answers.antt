@@ -12,7 +12,7 @@ insert_column-requires-clause-place c =
 
 pub invariant_of-self-inside : goal.invariant_of-self-inside
 invariant_of-self-inside c = (
-  mapped_line (λ row. insert row c.args.at false) (row_bits c.args.self.now.pieces + 1) _ c.args.self.now (λ bs e. omega (arith, length-insert bs c.args.at false (omega (arith, c.requires.place)), e)) (omega (arith, c.args.self.now.stands.whole, c.insert_column.ensures.room, ap (λ (l : PiecesAndRoom). l.room) c.self.view_is)) _
+  mapped_line (λ row. insert row c.args.at false) (row_bits c.args.self.now.pieces + 1) _ c.args.self.now (λ bs e. omega (arith, length-insert bs c.args.at false (omega (arith, c.requires.place)), e)) (omega (arith, c.args.self.now.stands.whole, c.insert_column.ensures.room, ap (λ (l : PiecesAndRoom). l.room.places) c.self.view_is)) _
       (pieces_mapped _ _ _ (λ row. insert row c.args.at false) _ (kept_pieces _ _ _ _ _ c.self.view_is) c.insert_column.ensures.rows),
   tt,
 )

@@ -1,4 +1,5 @@
 use Rattle.std.proofs.Common.{ap, arith}
+use Rattle.bits.specs.MarginRows.{Room}
 use Rattle.classify.specs.steps.Kept.{PiecesAndRoom}
 use Rattle.classify.proofs.laws.line.PieceLaws.{kept_long, kept_pieces, pieces_removed}
 use Rattle.classify.proofs.laws.line.KeptLaws.{left_kept}
@@ -12,7 +13,7 @@ remove-requires-2 c = omega (arith, c.self.invariant, kept_long _ _ _ _ _ c.self
 
 pub invariant_of-self-inside : goal.invariant_of-self-inside
 invariant_of-self-inside c = (
-  left_kept c.args.self.now c.args.k _ c.requires.later (omega (arith, c.remove-2.ensures.room, ap (λ (l : PiecesAndRoom). l.room) c.self.view_is)) _
+  left_kept c.args.self.now c.args.k _ c.requires.later (omega (arith, ap (λ (r : Room). r.places) c.remove-2.ensures.room, ap (λ (l : PiecesAndRoom). l.room.places) c.self.view_is)) _
       (pieces_removed _ _ _ _ c.args.k _ c.self.invariant (kept_pieces _ _ _ _ _ c.self.view_is) c.remove.ensures c.remove-2.ensures.rows),
   tt,
 )

@@ -1,6 +1,7 @@
 use Rattle.std.proofs.Common.{◌∙◌, ◌<◌, ap, arith, length, set, true}
 use Rattle.std.proofs.lemmas.List.{length-set}
 use Rattle.classify.specs.steps.Pieces.{row_bits}
+use Rattle.bits.specs.MarginRows.{Room}
 use Rattle.classify.specs.steps.Kept.{PiecesAndRoom}
 use Rattle.classify.proofs.laws.line.PieceLaws.{each_row_kept, kept_pieces, pieces_mapped}
 use Rattle.classify.proofs.laws.line.KeptLaws.{row_long, mapped_line}
@@ -12,7 +13,7 @@ set_all-requires-clause-place c =
 
 pub invariant_of-self-inside : goal.invariant_of-self-inside
 invariant_of-self-inside c = (
-  mapped_line (λ row. set row c.args.at true) (row_bits c.args.self.now.pieces) _ c.args.self.now (λ bs e. length-set bs c.args.at true ∙ e) (omega (arith, c.args.self.now.stands.whole, c.set_all.ensures.room, ap (λ (l : PiecesAndRoom). l.room) c.self.view_is)) _
+  mapped_line (λ row. set row c.args.at true) (row_bits c.args.self.now.pieces) _ c.args.self.now (λ bs e. length-set bs c.args.at true ∙ e) (omega (arith, c.args.self.now.stands.whole, ap (λ (r : Room). r.places) c.set_all.ensures.room, ap (λ (l : PiecesAndRoom). l.room.places) c.self.view_is)) _
       (pieces_mapped _ _ _ (λ row. set row c.args.at true) _ (kept_pieces _ _ _ _ _ c.self.view_is) c.set_all.ensures.rows),
   tt,
 )

@@ -4,6 +4,7 @@ use Rattle.std.specs.Prelude.{slice_index}
 use Rattle.std.proofs.lemmas.List.Edits.{length-insert}
 use Rattle.classify.proofs.laws.line.PieceLaws.{kept_long, kept_row, kept_pieces, kept_starts, pieces_inserted, remove-insert}
 use Rattle.classify.proofs.laws.line.KeptLaws.{split_kept, same_kept}
+use Rattle.bits.specs.MarginRows.{Room}
 use Rattle.classify.specs.steps.Kept.{PiecesAndRoom}
 use Rattle.classify.proofs.line.owned.OwnedLine.split_at.Goals as goal
 
@@ -59,7 +60,7 @@ invariant_of-self-in-Err c =
 pub invariant_of-self-inside-in-Ok : goal.invariant_of-self-inside-in-Ok
 invariant_of-self-inside-in-Ok c =
     let lt : c.args.k < length c.self.inside.starts = omega (arith, kept_long _ _ _ _ _ c.self.invariant c.self.view_is, c.requires.piece) in (
-      split_kept c.args.self.now c.args.k c.args.x _ c.requires.piece c.requires.above c.requires.below (omega (arith, c.ranges.x)) (omega (arith, c.duplicate.ensures.room, ap (λ (l : PiecesAndRoom). l.room) c.self.view_is)) _
+      split_kept c.args.self.now c.args.k c.args.x _ c.requires.piece c.requires.above c.requires.below (omega (arith, c.ranges.x)) (omega (arith, ap (λ (r : Room). r.places) c.duplicate.ensures.room, ap (λ (l : PiecesAndRoom). l.room.places) c.self.view_is)) _
           (pieces_inserted _ _ _ _ (c.args.k + 1) c.args.x _ (get_or c.self.inside.rows.rows c.args.k []) _ c.self.invariant (omega arith) (kept_pieces _ _ _ _ _ c.self.view_is) c.in-Ok.ensures.ok c.in_ok-duplicate.ensures.ok (sym (kept_row _ _ _ _ _ c.args.k c.self.invariant c.self.view_is lt))),
       tt,
     )
@@ -69,7 +70,7 @@ invariant_of-self-inside-in-Err c =
     let row : List Bool = get_or c.self.inside.rows.rows c.args.k [] in
     let lt : c.args.k < length c.self.inside.rows.rows = omega (arith, c.self.invariant, kept_long _ _ _ _ _ c.self.invariant c.self.view_is, c.requires.piece) in
     let back : c.remove.new.self.rows ≡ c.self.inside.rows.rows = c.remove.ensures.rows ∙ ap (λ (rs : List (List Bool)). remove rs (c.args.k + 1)) c.in_ok-duplicate.ensures.ok ∙ remove-insert c.self.inside.rows.rows (c.args.k + 1) row (omega arith) in
-    (same_kept c.args.self.now _ (omega (arith, c.remove.ensures.room, c.duplicate.ensures.room, ap (λ (l : PiecesAndRoom). l.room) c.self.view_is)) _ ((λ i. zip (c.in-Err.ensures.err i) (back i)) ∙ kept_pieces _ _ _ _ _ c.self.view_is), tt)
+    (same_kept c.args.self.now _ (omega (arith, ap (λ (r : Room). r.places) c.remove.ensures.room, ap (λ (r : Room). r.places) c.duplicate.ensures.room, ap (λ (l : PiecesAndRoom). l.room.places) c.self.view_is)) _ ((λ i. zip (c.in-Err.ensures.err i) (back i)) ∙ kept_pieces _ _ _ _ _ c.self.view_is), tt)
 
 pub returns-in-Ok-clause-ok : goal.returns-in-Ok-clause-ok
 returns-in-Ok-clause-ok c =

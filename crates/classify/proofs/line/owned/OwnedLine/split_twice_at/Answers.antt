@@ -5,6 +5,7 @@ use Rattle.std.proofs.lemmas.List.Edits.{length-remove}
 use Rattle.classify.proofs.laws.line.PieceLaws.{kept_long, kept_row, kept_pieces, kept_starts}
 use Rattle.classify.proofs.laws.line.KeptLaws.{same_kept}
 use Rattle.classify.proofs.laws.line.TwiceLaws.{cut_twice_kept, long_twice, pieces_cut_twice, taken_back}
+use Rattle.bits.specs.MarginRows.{Room}
 use Rattle.classify.specs.steps.Kept.{PiecesAndRoom}
 use Rattle.classify.proofs.line.owned.OwnedLine.split_twice_at.Goals as goal
 
@@ -38,7 +39,7 @@ pub invariant_of-self-inside-in-Ok : goal.invariant_of-self-inside-in-Ok
 invariant_of-self-inside-in-Ok c =
     let lt : c.args.k < length c.self.inside.starts = omega (arith, kept_long _ _ _ _ _ c.self.invariant c.self.view_is, c.requires.piece) in (
       cut_twice_kept c.args.self.now c.args.k c.args.x c.args.y _ (record { piece = c.requires.piece; above = c.requires.above; rising = c.requires.rising; below = c.requires.below }) (omega (arith, c.ranges.y))
-          (omega (arith, c.duplicate_twice.ensures.room, ap (λ (l : PiecesAndRoom). l.room) c.self.view_is)) _
+          (omega (arith, ap (λ (r : Room). r.places) c.duplicate_twice.ensures.room, ap (λ (l : PiecesAndRoom). l.room.places) c.self.view_is)) _
           (pieces_cut_twice _ _ _ _ c.args.k c.args.x c.args.y (get_or c.self.inside.rows.rows c.args.k []) _ c.self.invariant lt (kept_pieces _ _ _ _ _ c.self.view_is) c.in-Ok.ensures.ok c.in_ok-duplicate_twice.ensures.ok
           (sym (kept_row _ _ _ _ _ c.args.k c.self.invariant c.self.view_is lt))),
       tt,
@@ -71,7 +72,7 @@ invariant_of-self-inside-in-Err c =
     let row : List Bool = get_or c.self.inside.rows.rows c.args.k [] in
     let back : c.remove-in-Err.new.self.rows ≡ c.self.inside.rows.rows =
     c.remove-in-Err.ensures.rows ∙ taken_back c.self.inside.rows.rows c.duplicate_twice.new.self.rows c.remove.new.self.rows (c.args.k + 1) row row (omega arith) c.in_ok-duplicate_twice.ensures.ok c.remove.ensures.rows in
-    (same_kept c.args.self.now _ (omega (arith, c.remove-in-Err.ensures.room, c.remove.ensures.room, c.duplicate_twice.ensures.room, ap (λ (l : PiecesAndRoom). l.room) c.self.view_is)) _ ((λ i. zip (c.in-Err.ensures.err i) (back i)) ∙ kept_pieces _ _ _ _ _ c.self.view_is), tt)
+    (same_kept c.args.self.now _ (omega (arith, ap (λ (r : Room). r.places) c.remove-in-Err.ensures.room, ap (λ (r : Room). r.places) c.remove.ensures.room, ap (λ (r : Room). r.places) c.duplicate_twice.ensures.room, ap (λ (l : PiecesAndRoom). l.room.places) c.self.view_is)) _ ((λ i. zip (c.in-Err.ensures.err i) (back i)) ∙ kept_pieces _ _ _ _ _ c.self.view_is), tt)
 
 pub invariant_of-self-in-Err : goal.invariant_of-self-in-Err
 invariant_of-self-in-Err c =
