@@ -4,6 +4,7 @@ mod drafts;
 mod drawn;
 mod edits;
 mod emptied;
+mod front;
 mod pair;
 mod rows;
 mod searches;
