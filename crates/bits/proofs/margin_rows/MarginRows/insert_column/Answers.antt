@@ -1,4 +1,4 @@
-use Rattle.std.proofs.Common.{◌≡◌, ◌+◌, ◌-◌, ◌∙◌, ℕ, suc, sym, ap, arith, subst, map, false, List, Bool}
+use Rattle.std.proofs.Common.{◌≡◌, ◌+◌, ◌-◌, ◌∙◌, ℕ, suc, ap, arith, subst, map, false, List, Bool}
 use Rattle.std.specs.List.{insert}
 use Rattle.bits.specs.MarginRows.{AreAfter}
 use Rattle.bits.proofs.laws.MarginLaws.{shown_rows, still-after, shown-after, all-after, insert-after, all-taken, reach-up-to-after}

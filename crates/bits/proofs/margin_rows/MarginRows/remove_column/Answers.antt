@@ -1,4 +1,4 @@
-use Rattle.std.proofs.Common.{◌≡◌, ◌+◌, ◌-◌, ◌<◌, ◌∙◌, ℕ, suc, sym, ap, arith, subst, map, false, length, List, Bool, All}
+use Rattle.std.proofs.Common.{◌≡◌, ◌+◌, ◌<◌, ◌∙◌, ℕ, suc, ap, arith, subst, map, length, List, Bool, All}
 use Rattle.std.specs.List.{remove}
 use Rattle.bits.specs.MarginRows.{AreAfter}
 use Rattle.bits.proofs.laws.MarginLaws.{shown_rows, still-after, shown-after, all-after, remove-after, all-given, reach-after}

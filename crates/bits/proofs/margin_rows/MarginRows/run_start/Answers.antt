@@ -1,4 +1,4 @@
-use Rattle.std.proofs.Common.{◌+◌, ◌≡◌, ◌∙◌, sym, ap, arith, length, get_or, false, [], List, Bool}
+use Rattle.std.proofs.Common.{◌+◌, ◌≡◌, ◌∙◌, sym, ap, arith, get_or, false, [], List, Bool}
 use Rattle.bits.proofs.laws.MarginLaws.{shown_rows, at-after, get-after, long-after, reach-after}
 use Rattle.bits.proofs.margin_rows.MarginRows.run_start.Goals as goal
 

@@ -1,4 +1,4 @@
-use Rattle.std.proofs.Common.{◌∙◌, ◌*◌, ap, arith, map, set, sym, true, Bool, List, ℕ}
+use Rattle.std.proofs.Common.{◌∙◌, ◌*◌, ap, arith, map, set, sym, Bool, List, ℕ}
 use Rattle.bits.specs.Rows.{RowsAndRoom}
 use Rattle.bits.proofs.laws.PlaceLaws.{place_below}
 use Rattle.bits.proofs.laws.SummaryLaws.{all_written_held, all_written_shown, summed_again}

@@ -1,4 +1,4 @@
-use Rattle.std.proofs.Common.{◌<◌, ◌+◌, ◌∙◌, sym, ap, arith, length, drop, get_or, false, take, List, Bool}
+use Rattle.std.proofs.Common.{◌<◌, ◌+◌, ◌∙◌, sym, ap, arith, length, get_or, false, take, List, Bool}
 use Rattle.std.proofs.lemmas.List.{get_or-drop, get_or-take, length-drop}
 use Rattle.bits.specs.steps.Packing.{all_bits}
 use Rattle.bits.proofs.laws.RowLaws.{front_len}
