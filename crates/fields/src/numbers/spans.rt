@@ -3,11 +3,12 @@
 ghost use Rattle.std.specs.Prelude.{◌≡◌, ◌≤◌, ◌<◌, ◌&&◌, ◌||◌, ℕ, nat_le, not, [], IfOk};
 ghost use Rattle.fields.specs.numbers.Spans.{has, AreSpansFrom, CanonicalIsUnique};
 
+use smallvec::SmallVec;
 use std::alloc::{AllocError, Global};
 use std::marker::Model;
 
 /// The numbers from `first` to `last`, both among them.
-#[derive(Clone, Copy, Debug, PartialEq, Eq)]
+#[derive(Clone, Copy, Debug, Default, PartialEq, Eq)]
 pub struct Interval {
     pub first: u128,
     pub last: u128,
@@ -20,7 +21,7 @@ pub struct Interval {
 #[derive(Drop)]
 pub struct Spans {
     top: u128,
-    intervals: Vec<Interval>,
+    intervals: SmallVec<Interval, 1>,
 }
 
 impl Model for Spans {
@@ -40,7 +41,7 @@ impl Spans {
     {
         Spans {
             top,
-            intervals: Vec::new(alloc),
+            intervals: SmallVec::new(alloc),
         }
     }
 
@@ -59,7 +60,7 @@ impl Spans {
         ensures top { IfOk result (λ set. set.top ≡ top) }
         ensures members { IfOk result (λ set. (x : ℕ) → has set.intervals x ≡ (nat_le first x && nat_le x last)) }
     {
-        let mut intervals = Vec::new(alloc);
+        let mut intervals = SmallVec::new(alloc);
         if first <= last {
             intervals.push(Interval { first, last })?;
         }
@@ -77,7 +78,7 @@ impl Spans {
         ensures top { IfOk result (λ set. set.top ≡ top) }
         ensures members { IfOk result (λ set. (x : ℕ) → x ≤ top → F.post test x (has set.intervals x)) }
     {
-        let mut runs = Vec::new(alloc);
+        let mut runs = SmallVec::new(alloc);
         // The test holds of all numbers from `first` to before `x`; the number after the top ends the last of these
         // runs.
         let mut first = 0;
@@ -105,10 +106,10 @@ impl Spans {
         ensures top { IfOk result (λ set. set.top ≡ self.now.top) }
         ensures members { IfOk result (λ set. (x : ℕ) → x ≤ self.now.top → has set.intervals x ≡ not (has self.now.intervals x)) }
     {
-        let mut gaps = Vec::new(alloc);
+        let mut gaps = SmallVec::new(alloc);
         // Where the next gap starts, if there is a number left for it.
         let mut start = Some(0);
-        for taken in &self.intervals {
+        for taken in self.intervals.as_slice() {
             if let Some(first) = start
                 && first < taken.first
             {
@@ -143,7 +144,7 @@ impl Spans {
         ensures top { IfOk result (λ set. set.top ≡ self.now.top) }
         ensures members { IfOk result (λ set. (x : ℕ) → has set.intervals x ≡ (has self.now.intervals x && has other.now.intervals x)) }
     {
-        let mut shared = Vec::new(alloc);
+        let mut shared = SmallVec::new(alloc);
         let mut left = self.intervals.as_slice();
         let mut right = other.intervals.as_slice();
         while let (Some((a, after_a)), Some((b, after_b))) = (

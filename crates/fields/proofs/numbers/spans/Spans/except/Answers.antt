@@ -1,4 +1,5 @@
-use Rattle.std.proofs.Common.{◌≡◌, sym, ◌∙◌, arith, get_or, ℕ, ap, subst, None, Vec, Global}
+use Rattle.std.proofs.Common.{◌≡◌, sym, ◌∙◌, arith, get_or, ℕ, ap, subst, None}
+use Rattle.smallvec.specs.SmallVec.{SmallVec}
 use Rattle.fields.specs.declared.numbers.spans.Interval.{Interval}
 use Rattle.fields.specs.numbers.Spans.{SpanSet, AreSpansFrom}
 use Rattle.fields.proofs.laws.numbers.ExceptLaws.{AreGapsFrom, GapAppended, StartsBehind, excepting_next, excepting_ended, gap_appended, no_room, no_start, begins_within, last_gap_appended, no_last}
@@ -9,11 +10,11 @@ use Rattle.fields.proofs.numbers.spans.Spans.except.Goals.{then-taken-self, else
 pub loop-taken-preserved : goal.loop-taken-preserved
 loop-taken-preserved c =
     let top : c.self.inside.top ≡ c.args.self.now.top = ap (λ (s : SpanSet). s.top) c.self.view_is in
-    let items = λ (v : Vec Interval Global). v.items in
+    let items = λ (v : SmallVec Interval). v.items in
     let zeros : Interval = record { first = 0; last = 0 } in
-    let taken : Interval = get_or c.deref-taken-items.result.now c.loop-taken.taken-index zeros in
+    let taken : Interval = get_or c.as_slice-taken-items.result.now c.loop-taken.taken-index zeros in
     let appended : GapAppended c.args.self.now.top taken c.loop-taken.start c.loop-taken.gaps.items c.match-start.gaps.items = elim c.match-start.branch [
-      | in-Some+then-first-taken+in_ok-push w ↦ gap_appended _ _ _ _ _ _ w.in-Some.is w.if-first-taken.true (ap items w.gaps-is ∙ w.in_ok-push.ensures.items)
+      | in-Some+then-first-taken+in_ok-push w ↦ gap_appended _ _ _ _ _ _ w.in-Some.is w.if-first-taken.true (ap items w.gaps-is ∙ w.in_ok-push.ensures.ok)
       | in_default w ↦ elim w.in_default.branch [
         | in_default-via-in-None-1 w' ↦ (
             let none : c.loop-taken.start ≡ None = cc in
@@ -30,9 +31,9 @@ loop-taken-preserved c =
 all_gaps : (c : goal.Joined-start-2) → AreGapsFrom c.args.self.now.top 0 c.args.self.now.intervals c.match-start-2.gaps.items
 all_gaps c =
     let top : c.self.inside.top ≡ c.args.self.now.top = ap (λ (s : SpanSet). s.top) c.self.view_is in
-    let items = λ (v : Vec Interval Global). v.items in
+    let items = λ (v : SmallVec Interval). v.items in
     excepting_ended _ _ _ _ _ _ _ c.loop-taken-test.false c.loop-taken.invariant (elim c.match-start-2.branch [
-      | in-Some-start+in_ok-push-2 w ↦ last_gap_appended _ _ _ _ _ _ w.in-Some-start.is c.loop-taken.invariant.within top (ap items w.gaps-is ∙ w.in_ok-push-2.ensures.items)
+      | in-Some-start+in_ok-push-2 w ↦ last_gap_appended _ _ _ _ _ _ w.in-Some-start.is c.loop-taken.invariant.within top (ap items w.gaps-is ∙ w.in_ok-push-2.ensures.ok)
       | in_default2 w ↦ (let none : c.loop-taken.start ≡ None = cc in no_last _ _ _ _ none (ap items w.gaps-is))
     ])
 

@@ -9,8 +9,8 @@ use Rattle.fields.proofs.numbers.spans.Spans.has.Goals as goal
 pub returns : goal.returns
 returns c =
     let own : c.deref.result.now ≡ c.deref-2.result.now = cc in
-    let all : c.deref-2.result.now ≡ c.args.self.now.intervals = c.deref-2.ensures.value ∙ ap (λ (s : SpanSet). s.intervals) c.self.view_is in
-    let rise : AreSpansFrom c.self.inside.top 0 c.deref.result.now = rw c.deref.ensures.value c.self.invariant in
+    let all : c.deref-2.result.now ≡ c.args.self.now.intervals = c.deref-2.ensures ∙ ap (λ (s : SpanSet). s.intervals) c.self.view_is in
+    let rise : AreSpansFrom c.self.inside.top 0 c.deref.result.now = rw c.deref.ensures c.self.invariant in
     let parted = IsPartitionedBy-ltb (λ (s : Interval). s.last) _ c.args.x (ends_rise _ _ _ rise) in
     let point = IsPartitionPoint-from_clause (λ (s : Interval). ltb s.last c.args.x) _ _ c.partition_point-place.ensures.partitioned parted (λ a r q k. search rules) in
     let P : List Interval → Type 0 = λ spans. IsPartitionPoint (λ (s : Interval). ltb s.last c.args.x ≡ true) (λ (s : Interval). ltb s.last c.args.x ≡ false) spans c.partition_point-place.result in

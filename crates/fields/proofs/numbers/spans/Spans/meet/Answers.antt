@@ -1,4 +1,5 @@
-use Rattle.std.proofs.Common.{◌≡◌, sym, ◌∙◌, arith, ℕ, List, ap, subst, inl, inr, Vec, Global, Bor}
+use Rattle.std.proofs.Common.{◌≡◌, sym, ◌∙◌, arith, ℕ, List, ap, subst, inl, inr, Bor}
+use Rattle.smallvec.specs.SmallVec.{SmallVec}
 use Rattle.fields.specs.declared.numbers.spans.Interval.{Interval}
 use Rattle.fields.specs.numbers.Spans.{SpanSet, AreSpansFrom}
 use Rattle.fields.proofs.laws.numbers.MeetLaws.{Appended, appended_shared, appended_none, Advanced, meeting_next, meeting_ended, IsMeet}
@@ -7,11 +8,11 @@ use Rattle.fields.proofs.numbers.spans.Spans.meet.Goals.{then-first-last+in_ok-p
 
 pub loop-a-preserved : goal.loop-a-preserved
 loop-a-preserved c =
-    let items = λ (v : Vec Interval Global). v.items in
+    let items = λ (v : SmallVec Interval). v.items in
     let left = λ (r : Bor (List Interval) × Bor (List Interval)). r.0.now in
     let right = λ (r : Bor (List Interval) × Bor (List Interval)). r.1.now in
     let appended : Appended c.in-Some-Some.a.now c.in-Some-Some.b.now c.loop-a.shared.items c.if-first-last.shared.items = elim c.if-first-last.branch [
-      | then-first-last+in_ok-push w ↦ appended_shared _ _ _ _ _ _ c.max-first.ensures c.min-last.ensures w.if-first-last.true (ap items w.shared-is ∙ w.in_ok-push.ensures.items)
+      | then-first-last+in_ok-push w ↦ appended_shared _ _ _ _ _ _ c.max-first.ensures c.min-last.ensures w.if-first-last.true (ap items w.shared-is ∙ w.in_ok-push.ensures.ok)
       | else-first-last w ↦ appended_none _ _ _ _ _ _ c.max-first.ensures c.min-last.ensures w.if-first-last.false (ap items w.shared-is)
     ] in
     let advanced : Advanced c.loop-a.left.now c.loop-a.right.now c.in-Some-Some.after_a.now c.in-Some-Some.after_b.now c.in-Some-Some.a.now c.in-Some-Some.b.now c.if-a-b.rests.0.now c.if-a-b.rests.1.now

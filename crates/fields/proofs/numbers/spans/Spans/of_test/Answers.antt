@@ -1,4 +1,5 @@
-use Rattle.std.proofs.Common.{◌≡◌, ◌≤◌, ◌+◌, ℕ, Bool, false, arith, ap, sym, ◌∙◌, subst, Vec, Global}
+use Rattle.std.proofs.Common.{◌≡◌, ◌≤◌, ◌+◌, ℕ, Bool, false, arith, ap, sym, ◌∙◌, subst}
+use Rattle.smallvec.specs.SmallVec.{SmallVec}
 use Rattle.fields.specs.declared.numbers.spans.Interval.{Interval}
 use Rattle.fields.specs.numbers.Spans.{AreSpansFrom}
 use Rattle.fields.proofs.laws.numbers.TestLaws.{Testing, testing_held, testing_ended, tested, RunAppended, run_appended, no_run}
@@ -8,7 +9,7 @@ use Rattle.fields.proofs.numbers.spans.Spans.of_test.Goals.{then-x-top, then-x-t
 pub loop-x-preserved : goal.loop-x-preserved
 loop-x-preserved g c =
     let T : ℕ → Bool → Type 0 = λ x b. goal.F-post g c.args.test x b in
-    let items = λ (v : Vec Interval Global). v.items in
+    let items = λ (v : SmallVec Interval). v.items in
     elim c.if-x-top.branch [
       | then-x-top w ↦ (
           let fails : c.loop-x.x ≤ c.args.top → T c.loop-x.x false = elim w.then-x-top.branch [
@@ -18,13 +19,13 @@ loop-x-preserved g c =
           let appended : RunAppended c.loop-x.first c.loop-x.x c.loop-x.runs.items c.if-x-top.runs.items = elim w.if-first-x.branch [
             | then-first-x+in_ok-push w' ↦ (
                 let same : c.if-x-top.runs.items ≡ w'.push.new.self.items = ap items w.runs-is ∙ ap items w'.runs-is in
-                run_appended _ _ _ _ _ _ w'.if-first-x.true w'.into.ensures w'.into-then-first-x.ensures (rw same w'.in_ok-push.ensures.items))
+                run_appended _ _ _ _ _ _ w'.if-first-x.true w'.into.ensures w'.into-then-first-x.ensures (rw same w'.in_ok-push.ensures.ok))
             | else-first-x w' ↦ no_run _ _ _ _ w'.if-first-x.false (ap items w.runs-is ∙ ap items w'.runs-is)
           ] in
           subst (λ (n : ℕ). Testing T c.args.top n (c.loop-x.x + 1) c.if-x-top.runs.items) (sym w.first-is)
           (testing_ended T c.args.top _ _ _ _ c.loop-x.invariant fails appended))
       | else-x-top+else-not-test w ↦ (
-          let P : ℕ → Vec Interval Global → Type 0 = λ n v. Testing T c.args.top n (c.loop-x.x + 1) v.items in
+          let P : ℕ → SmallVec Interval → Type 0 = λ n v. Testing T c.args.top n (c.loop-x.x + 1) v.items in
           let held : P c.loop-x.first c.loop-x.runs = testing_held T c.args.top _ _ _ c.loop-x.invariant w.if-x-top.false w.if-not-test.ensures in
           subst (P c.if-x-top.first) (sym w.runs-is) (subst (λ (n : ℕ). P n c.loop-x.runs) (sym w.first-is) held))
     ]
