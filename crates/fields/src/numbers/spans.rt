@@ -17,7 +17,8 @@ pub struct Interval {
 /// A set of numbers from 0 to a top value, kept as its intervals: they rise, and between two of them
 /// there is a number that is in neither, so each set has one such list (`canonical_is_unique`).
 ///
-/// An interval takes 32 bytes. A call that makes a set answers `AllocError` only where memory was refused.
+/// An interval takes 32 bytes. One lies in the set itself, so a set takes memory only for several, and a call that makes a
+/// set answers `AllocError` only where memory was refused.
 #[derive(Drop)]
 pub struct Spans {
     top: u128,

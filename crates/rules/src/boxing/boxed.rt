@@ -153,9 +153,9 @@ impl Boxed {
     /// The box of a rule: on each field exactly the numbers that the rule allows there. It counts as one in `work`,
     /// also when memory is refused.
     ///
-    /// It costs a small allocation for each field and some for each condition. The first condition on a field gives its
-    /// set; each further one costs time linear in the intervals of its set, at most 32, and of the box's on its field. A
-    /// list of ports makes its set port by port.
+    /// It takes memory where a condition's set, or what is left of several, has two intervals or more. The first condition on
+    /// a field gives its set; each further one costs time linear in the intervals of its set, at most 32, and of the box's on
+    /// its field. A list of ports makes its set port by port.
     ///
     /// # Errors
     ///
