@@ -1,17 +1,14 @@
 //! The questions that are asked of tables, what they may take, and how far they are.
 ghost use Rattle.std.specs.Prelude.{◌<◌, ◌≤◌, length};
 ghost use Rattle.table.specs.chains.Table.{chain_at};
-ghost use Rattle.questions.specs.boxes.Boxes.{AreBoxesOf};
 
 use crate::progress::Progress;
-use crate::subject::Subject;
 use fields::{Field, Hook};
-use questions::{Given, Life, Likeness, Reached, compare_at, dead, reach};
-use rules::Work;
+use questions::{BoxedTable, Given, Life, Likeness, Reached, compare_at, dead, reach};
 use std::alloc::{AllocError, Global};
 use std::io::IsTerminal;
 use std::rt::Clock;
-use table::{Step, Table};
+use table::Step;
 
 /// How many steps each question takes at most, and how many were asked.
 #[derive(Drop)]
@@ -60,20 +57,12 @@ impl<'a, R: Clock, E: Print + IsTerminal> Asking<'a, R, E> {
     /// # Errors
     ///
     /// `AllocError` where memory was refused.
-    pub(crate) fn life(&self, subject: &Subject, at: Step) -> Result<Life, AllocError>
-        requires boxes { AreBoxesOf subject.now.table.table.chains subject.now.boxes }
+    pub(crate) fn life(&self, subject: &BoxedTable, at: Step) -> Result<Life, AllocError>
         requires place { at.chain < length subject.now.table.table.chains }
         requires first { 0 < at.number }
         requires last { at.number ≤ length (chain_at subject.now.table.table at.chain).rules }
     {
-        dead(
-            self.alloc,
-            &subject.table,
-            &subject.boxes,
-            at.chain,
-            at.number,
-            self.steps,
-        )
+        dead(self.alloc, subject, at.chain, at.number, self.steps)
     }
 
     /// Whether two tables give each packet at a hook the same verdict (`compare_at`).
@@ -83,12 +72,11 @@ impl<'a, R: Clock, E: Print + IsTerminal> Asking<'a, R, E> {
     /// `AllocError` where memory was refused.
     pub(crate) fn likeness(
         &self,
-        old: &Table,
-        new: &Table,
+        old: &BoxedTable,
+        new: &BoxedTable,
         hook: Hook,
-        work: &mut Work,
     ) -> Result<Likeness, AllocError> {
-        compare_at(self.alloc, old, new, hook, self.steps, work)
+        compare_at(self.alloc, old, new, hook, self.steps)
     }
 
     /// What becomes of some packets, by their numbers on a field (`reach`).
@@ -98,11 +86,10 @@ impl<'a, R: Clock, E: Print + IsTerminal> Asking<'a, R, E> {
     /// `AllocError` where memory was refused.
     pub(crate) fn reach(
         &self,
-        table: &Table,
+        subject: &BoxedTable,
         given: &Given,
         field: Field,
-        work: &mut Work,
     ) -> Result<Option<Vec<Reached>>, AllocError> {
-        reach(self.alloc, table, given, field, self.steps, work)
+        reach(self.alloc, subject, given, field, self.steps)
     }
 }

@@ -3,8 +3,7 @@ use crate::asking::Asking;
 use crate::fault::Fault;
 use crate::packet_line::put_packet;
 use fields::{Hook, Packet, Tap, Words};
-use questions::Likeness;
-use rules::Work;
+use questions::{BoxedTable, Likeness};
 use sessions::write_walk;
 use std::io::{IsTerminal, Write};
 use std::rt::Clock;
@@ -65,17 +64,16 @@ fn put_likeness<'a, W: Write>(
 /// Where memory was refused, or a write failed.
 pub(crate) fn write_differences<'a, R: Clock, E: Print + IsTerminal, W: Write>(
     asking: &mut Asking<'_, R, E>,
-    old: &Table,
-    new: &Table,
-    work: &mut Work,
+    old: &BoxedTable,
+    new: &BoxedTable,
     output: &mut Tap<W>,
 ) -> Result<u8, Fault<'a>> {
     asking.begin(Hook::ALL.len());
     let (mut differ, mut unclear) = (false, false);
     for hook in Hook::ALL {
         asking.next();
-        let likeness = asking.likeness(old, new, hook, work)?;
-        put_likeness(old, new, hook, &likeness, output)?;
+        let likeness = asking.likeness(old, new, hook)?;
+        put_likeness(&old.table, &new.table, hook, &likeness, output)?;
         match likeness {
             Likeness::Same => {}
             Likeness::Differ(_) => differ = true,

@@ -1,17 +1,15 @@
 //! What is known of each rule, in the order of a listing.
 ghost use Rattle.std.specs.Prelude.{◌<◌, ◌≤◌, length};
 ghost use Rattle.table.specs.chains.Table.{chain_at};
-ghost use Rattle.questions.specs.boxes.Boxes.{AreBoxesOf};
 
 use crate::asking::Asking;
 use crate::fault::Fault;
 use crate::marks::Marks;
 use crate::packet_line::put_packet;
 use crate::rule_line::put_rule;
-use crate::subject::Subject;
 use crate::tally::Tally;
 use fields::{Tap, WriteFailed};
-use questions::Life;
+use questions::{BoxedTable, Life};
 use std::io::{IsTerminal, Write};
 use std::rt::Clock;
 use table::{Step, Table};
@@ -90,13 +88,12 @@ impl<'a> Form<'a> {
 // Asks of a rule, and writes what is known of it.
 fn write_rule<'a, R: Clock, E: Print + IsTerminal, W: Write>(
     asking: &mut Asking<'_, R, E>,
-    subject: &Subject,
+    subject: &BoxedTable,
     form: Form<'_>,
     at: Step,
     tally: &mut Tally,
     output: &mut Tap<W>,
 ) -> Result<(), Fault<'a>>
-    requires boxes { AreBoxesOf subject.now.table.table.chains subject.now.boxes }
     requires place { at.chain < length subject.now.table.table.chains }
     requires first { 0 < at.number }
     requires last { at.number ≤ length (chain_at subject.now.table.table at.chain).rules }
@@ -115,14 +112,13 @@ fn write_rule<'a, R: Clock, E: Print + IsTerminal, W: Write>(
 // Asks of each rule of the chain at a place.
 fn write_chain<'a, R: Clock, E: Print + IsTerminal, W: Write>(
     asking: &mut Asking<'_, R, E>,
-    subject: &Subject,
+    subject: &BoxedTable,
     form: Form<'_>,
     place: usize,
     tally: &mut Tally,
     output: &mut Tap<W>,
 ) -> Result<(), Fault<'a>>
-    requires boxes { AreBoxesOf subject.now.table.table.chains subject.now.boxes }
-    requires place { place < length subject.now.table.table.chains }
+    requires { place < length subject.now.table.table.chains }
 {
     for before in 0..subject.table.rule_count(place) {
         let at = Step {
@@ -151,12 +147,10 @@ fn rules_of(table: &Table) -> usize {
 /// Where memory was refused, or a write failed.
 pub(crate) fn write_rules<'a, R: Clock, E: Print + IsTerminal, W: Write>(
     asking: &mut Asking<'_, R, E>,
-    subject: &Subject,
+    subject: &BoxedTable,
     form: Form<'_>,
     output: &mut Tap<W>,
-) -> Result<u8, Fault<'a>>
-    requires { AreBoxesOf subject.now.table.table.chains subject.now.boxes }
-{
+) -> Result<u8, Fault<'a>> {
     asking.begin(rules_of(&subject.table));
     let mut tally = Tally::new();
     for place in 0..subject.table.chain_count() {

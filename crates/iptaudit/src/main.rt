@@ -14,7 +14,6 @@ mod packet_line;
 mod program;
 mod progress;
 mod rule_line;
-mod subject;
 mod tally;
 mod value_range;
 

@@ -5,8 +5,7 @@ use crate::fault::Fault;
 use crate::notation::put_set;
 use fields::{Field, Tap, WriteFailed};
 use itoa::Buffer;
-use questions::Reached;
-use rules::Work;
+use questions::{BoxedTable, Reached};
 use std::alloc::Global;
 use std::io::{IsTerminal, Write};
 use std::rt::Clock;
@@ -67,19 +66,18 @@ fn put_reached<'a, W: Write>(
 /// Where memory was refused, or a write failed.
 pub(crate) fn write_outcomes<'a, R: Clock, E: Print + IsTerminal, W: Write>(
     asking: &mut Asking<'_, R, E>,
-    table: &Table,
+    subject: &BoxedTable,
     asked: &Asked,
-    work: &mut Work,
     output: &mut Tap<W>,
 ) -> Result<u8, Fault<'a>> {
     asking.begin(1);
     asking.next();
-    let Some(found) = asking.reach(table, &asked.given, asked.field, work)? else {
+    let Some(found) = asking.reach(subject, &asked.given, asked.field)? else {
         output.put(b"unclear\n")?;
         return Ok(3);
     };
     for reached in found.as_slice() {
-        put_reached(asking.alloc(), table, asked.field, reached, output)?;
+        put_reached(asking.alloc(), &subject.table, asked.field, reached, output)?;
     }
     Ok(0)
 }

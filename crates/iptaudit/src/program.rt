@@ -1,6 +1,4 @@
 //! What the program does: it reads its line, restores the files, and answers what is asked of them.
-ghost use Rattle.std.specs.Prelude.{IfOk};
-ghost use Rattle.questions.specs.boxes.Boxes.{AreBoxesOf};
 
 use crate::asked_packets::Asked;
 use crate::asking::Asking;
@@ -11,13 +9,12 @@ use crate::marks::Marks;
 use crate::outcomes::write_outcomes;
 use crate::packet_input::mark_packets;
 use crate::progress::Progress;
-use crate::subject::Subject;
 use audits::{Audit, LineFault, Question};
 use fields::Tap;
 use programs::{
     ProgramFault, buffered_input, buffered_output, let_go, load, texts_after_name, words_given,
 };
-use questions::Boxes;
+use questions::BoxedTable;
 use sessions::Session;
 use std::io::{self, IsTerminal, Write};
 use std::rt::{Clock, Env, Files};
@@ -91,15 +88,13 @@ where
 }
 
 // The table that a file restores, with the boxes of its rules.
-fn subject_of<'a, R, E>(rt: &R, errors: &E, file: &'a str) -> Result<Subject, Fault<'a>>
+fn subject_of<'a, R, E>(rt: &R, errors: &E, file: &'a str) -> Result<BoxedTable, Fault<'a>>
 where
     R: Files + AllocGlobal,
     E: Print,
-    ensures { IfOk result (λ subject. AreBoxesOf subject.table.table.chains subject.boxes) }
 {
     let (table, mut work) = restored(rt, errors, file)?.into_parts();
-    let boxes = Boxes::of(rt.alloc(), &table, &mut work)?;
-    Ok(Subject { table, boxes })
+    Ok(BoxedTable::of(rt.alloc(), table, &mut work)?)
 }
 
 // Answers what the words ask, and answers the status.
@@ -141,14 +136,13 @@ fn write_cover<'a, R, E, W>(
     rt: &R,
     errors: &E,
     asking: &mut Asking<'_, R, E>,
-    subject: &Subject,
+    subject: &BoxedTable,
     output: &mut Tap<W>,
 ) -> Result<u8, Fault<'a>>
 where
     R: Clock + Input + AllocGlobal,
     E: Print + IsTerminal,
     W: Write,
-    requires { AreBoxesOf subject.now.table.table.chains subject.now.boxes }
 {
     match marked(rt, errors, &subject.table)? {
         Some(marks) => write_rules(asking, subject, Form::Cover(&marks), output),
@@ -183,14 +177,14 @@ where
             write_cover(rt, errors, asking, &subject, output)
         }
         Question::Compare { old, new } => {
-            let (old, mut work) = restored(rt, errors, old)?.into_parts();
-            let (new, _) = restored(rt, errors, new)?.into_parts();
-            write_differences(asking, &old, &new, &mut work, output)
+            let old = subject_of(rt, errors, old)?;
+            let new = subject_of(rt, errors, new)?;
+            write_differences(asking, &old, &new, output)
         }
         Question::Reach { file } => {
             let asked = Asked::read(rt.alloc(), audit.words.as_slice())?;
-            let (table, mut work) = restored(rt, errors, file)?.into_parts();
-            write_outcomes(asking, &table, &asked, &mut work, output)
+            let subject = subject_of(rt, errors, file)?;
+            write_outcomes(asking, &subject, &asked, output)
         }
     }
 }

@@ -1,6 +1,7 @@
 -- Who decides a walk.
-use Rattle.std.specs.Prelude.{◌≡◌, ◌-◌, ◌<◌, ◌≤◌, length, slice_get, Option, None, option_map, if◌then◌else◌}
+use Rattle.std.specs.Prelude.{◌≡◌, ◌-◌, ◌<◌, ◌≤◌, length, slice_get, slice_index_or, Option, None, option_map, if◌then◌else◌}
 use Rattle.fields.specs.packet.Packet.{PacketView as Packet}
+use Rattle.rules.specs.rule.Rules.{Rule, empty_rule}
 use Rattle.table.specs.chains.Table.{Table, chain_at}
 use Rattle.table.specs.declared.verdict.Verdict.{Verdict}
 use Rattle.table.specs.declared.walk.trail.Step.{Step}
@@ -21,6 +22,10 @@ pub record IsRule (t : Table) (step : Step) : Type 0 where
   pub chain : step.chain < length t.chains
   pub first : 0 < step.number
   pub last : step.number ≤ length (chain_at t step.chain).rules
+
+-- the rule of a step
+abbrev pub rule_at : Table → Step → Rule
+rule_at t step = slice_index_or (chain_at t step.chain).rules (step.number - 1) empty_rule
 
 -- the packet's walk ends with the verdict, by the rule or, where none is named, by the policy
 pub record EndsBy (t : Table) (p : Packet) (verdict : Verdict) (by : Option Step) : Type 0 where

@@ -1,6 +1,7 @@
 //! What is asked of all packets.
 pub(crate) mod exact;
 pub(crate) mod laws;
+pub(crate) mod matching;
 pub(crate) mod reach;
 pub(crate) mod reached;
 pub(crate) mod reason;

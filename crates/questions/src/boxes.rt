@@ -1,5 +1,5 @@
 //! Boxes of packets, and how a rule cuts them.
 pub(crate) mod area;
-pub(crate) mod boxes;
+pub(crate) mod boxed_table;
 pub(crate) mod cut;
 pub(crate) mod meeting;

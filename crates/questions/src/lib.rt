@@ -14,6 +14,6 @@ pub use asked::reason::{Reason, why_dead};
 pub use asked::rule::{Life, dead};
 pub use asked::verdicts::{Likeness, compare, compare_at};
 pub use boxes::area::Area;
-pub use boxes::boxes::Boxes;
+pub use boxes::boxed_table::BoxedTable;
 pub use walking::engine::leaves;
 pub use walking::task::Leaf;

@@ -81,31 +81,23 @@ all_chains chains boxes n all pairs = record {
 
 -- ---- asked for
 
--- the rule at a place, whose box this is
-pub record OwnBox (t : Table) (place number : ℕ) (boxed : List SpanSet) : Type 0 where
-  pub rule : Rule
-  pub is : rule ≡ get_or (chain_at t place).rules (number - 1) rule
-  pub is_box : IsBoxOf rule boxed
-
-module _ (t : Table) (boxes : List (List (List SpanSet))) (are : AreBoxesOf t.chains boxes) (place number : ℕ) (lt : place < length t.chains) (first : 0 < number) (last : number ≤ length (chain_at t place).rules) where
-  own : AreBoxesOfRules (chain_at t place).rules (get_or boxes place [])
-  own = are.each place (empty_chain []) [] lt
-
+module _ (t : Table) (boxes : List (Vec (List SpanSet) Global)) (are : AreBoxesOf t.chains (map (λ (v : Vec (List SpanSet) Global). v.items) boxes)) (place number : ℕ) (lt : place < length t.chains) (first : 0 < number) (last : number ≤ length (chain_at t place).rules) where
   pub chain_there : place < length boxes
-  chain_there = omega (arith, lt, are.long)
+  chain_there = omega (arith, lt, are.long, length-map boxes items_of)
 
-  pub rule_there : number - 1 < length (get_or boxes place [])
-  rule_there = omega (arith, first, last, own.long)
+  own : (v : Vec (List SpanSet) Global) → AreBoxesOfRules (chain_at t place).rules (get_or boxes place v).items
+  own v =
+      let P : List (List SpanSet) → Type 0 = λ bs. AreBoxesOfRules (chain_at t place).rules bs in
+      subst P (get_or-map items_of boxes place v [] chain_there) (are.each place (empty_chain []) [] lt)
 
-  pub box_at : (rule : Rule) (boxed : List SpanSet) → rule ≡ get_or (chain_at t place).rules (number - 1) rule → boxed ≡ get_or (get_or boxes place []) (number - 1) boxed → IsBoxOf rule boxed
-  box_at rule boxed is at =
-      let P : Rule → Type 0 = λ r. IsBoxOf r boxed in
-      let Q : List SpanSet → Type 0 = λ b. IsBoxOf (get_or (chain_at t place).rules (number - 1) rule) b in
-      subst P (sym is) (subst Q (sym at) (own.each (number - 1) rule boxed (omega (arith, first, last))))
+  pub rule_there : (v : Vec (List SpanSet) Global) → number - 1 < length (get_or boxes place v).items
+  rule_there v = omega (arith, first, last, (own v).long)
 
-  -- a box that was asked for, with the rule whose box it is
-  pub own_box : (boxed : List SpanSet) → boxed ≡ get_or (get_or boxes place []) (number - 1) boxed → OwnBox t place number boxed
-  own_box boxed at =
-      let rule : Rule = get_or (chain_at t place).rules (number - 1) empty_rule in
-      let is : rule ≡ get_or (chain_at t place).rules (number - 1) rule = get_or_default (chain_at t place).rules (number - 1) empty_rule rule (omega (arith, first, last)) in
-      record { rule = rule; is = is; is_box = box_at rule boxed is at }
+  pub box_there : (v : Vec (List SpanSet) Global) (b : List SpanSet) → IsBoxOf (get_or (chain_at t place).rules (number - 1) empty_rule) (get_or (get_or boxes place v).items (number - 1) b)
+  box_there v b = (own v).each (number - 1) empty_rule b (omega (arith, first, last))
+
+-- the box of a rule that was asked for too
+pub own_box : (rules : List Rule) (k : ℕ) (rule : Rule) (boxed : List SpanSet) → k < length rules → rule ≡ get_or rules k rule → IsBoxOf (get_or rules k empty_rule) boxed → IsBoxOf rule boxed
+own_box rules k rule boxed lt is h =
+    let P : Rule → Type 0 = λ r. IsBoxOf r boxed in
+    subst P (get_or_default rules k empty_rule rule lt ∙ sym is) h

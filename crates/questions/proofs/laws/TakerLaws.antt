@@ -13,52 +13,39 @@ use Rattle.fields.specs.packet.Hook.{all_hooks}
 use Rattle.fields.specs.numbers.Spans.{SpanSet, has}
 use Rattle.fields.specs.packet.Packet.{PacketView as Packet, point}
 use Rattle.rules.specs.boxing.Boxed.{IsBoxOf, set_on}
-use Rattle.rules.specs.rule.Allows.{allows, matches}
-use Rattle.rules.specs.rule.Rules.{Rule, empty_rule}
+use Rattle.rules.specs.rule.Allows.{matches}
 use Rattle.classify.specs.classifier.Classifier.{IsPoint}
 use Rattle.table.specs.chains.Sound.{IsSound}
-use Rattle.table.specs.chains.Table.{Table, chain_at}
+use Rattle.table.specs.chains.Table.{Table}
 use Rattle.table.specs.declared.walk.trail.Step.{Step}
 use Rattle.table.specs.walk.Walk.{Walked, walk}
-use Rattle.questions.specs.Ends.{IsRule, decider_of, step_of}
+use Rattle.questions.specs.Ends.{IsRule, decider_of, rule_at, step_of}
 use Rattle.questions.specs.Leaves.{AreLeavesOf, EndsIn, entry_of}
-use Rattle.questions.specs.asked.Reason.{IsDecidedAmong, IsImpossible, IsTaken, rule_at}
+use Rattle.questions.specs.asked.Reason.{IsDecidedAmong, IsImpossible, IsTaken}
 use Rattle.questions.specs.asked.Rule.{IsDead}
 use Rattle.questions.specs.boxes.Area.{Has, IsAtHook, IsBoth, IsIn}
 use Rattle.questions.specs.declared.walking.task.Leaf.{Leaf}
-use Rattle.questions.specs.steps.Takers.{AreBefore, IsDecided, Grows, IsAmong, IsTakenAt, Takes, TakesAll}
+use Rattle.questions.specs.steps.Takers.{AreBefore, AreWalksOf, IsDecided, Grows, IsAmong, IsTakenAt, Takes, TakesAll}
 use Rattle.questions.proofs.laws.AreaLaws.{has_of_rule, on_field}
 use Rattle.questions.proofs.laws.EndLaws.{decider_is_rule, decider_shown}
-use Rattle.questions.proofs.laws.TrailLaws.{items_next, never_on, rule_matches}
-
--- the rule of a step that was asked for
-pub rule_is : (t : Table) (step : Step) (rule : Rule) → IsRule t step → rule ≡ get_or (chain_at t step.chain).rules (step.number - 1) rule → rule ≡ rule_at t step
-rule_is t step rule is at = at ∙ get_or_default (chain_at t step.chain).rules (step.number - 1) rule empty_rule (omega (arith, is.first, is.last))
+use Rattle.questions.proofs.laws.TrailLaws.{items_next, rule_matches}
 
 -- ---- a set of a rule's box without numbers
 
-pub impossible_of : (t : Table) (step : Step) (rule : Rule) (box : List SpanSet) (f : Field) → IsSound t → IsRule t step → rule ≡ get_or (chain_at t step.chain).rules (step.number - 1) rule → IsBoxOf rule box → set_on f box ≡ [] → IsImpossible (rule_at t step) f
-impossible_of t step rule box f s is at boxed none p can =
-    let P : Rule → Type 0 = λ (r : Rule). allows r f (point p f) ≡ false in
-    subst P (rule_is t step rule is at) (sym (boxed f (point p f) (can.packet.within f)) ∙ ap (λ ss. has ss (point p f)) none)
+pub impossible_of : (t : Table) (step : Step) (box : List SpanSet) (f : Field) → IsBoxOf (rule_at t step) box → set_on f box ≡ [] → IsImpossible (rule_at t step) f
+impossible_of t step box f boxed none p can = sym (boxed f (point p f) (can.packet.within f)) ∙ ap (λ ss. has ss (point p f)) none
 
-pub dead_of : (t : Table) (step : Step) (rule : Rule) (box : List SpanSet) (f : Field) → IsSound t → IsRule t step → rule ≡ get_or (chain_at t step.chain).rules (step.number - 1) rule → IsBoxOf rule box → set_on f box ≡ [] → IsDead t (entry_of t.chains step)
-dead_of t step rule box f s is at boxed none p can on =
-    let own : Has box p.values = has_of_rule rule box p.values boxed can.packet.within (rule_matches t p step rule s is.chain is.first is.last at on) in
+pub dead_of : (t : Table) (step : Step) (box : List SpanSet) (f : Field) → IsSound t → IsRule t step → IsBoxOf (rule_at t step) box → set_on f box ≡ [] → IsDead t (entry_of t.chains step)
+dead_of t step box f s is boxed none p can on =
+    let own : Has box p.values = has_of_rule (rule_at t step) box p.values boxed can.packet.within (rule_matches t p step s is on) in
     true≢false (sym (on_field box p.values f own.each) ∙ ap (λ ss. has ss (point p f)) none)
 
 -- ---- the leaves of the packets that a rule matches
 
-pub before_of : (t : Table) (hook : Hook) (step : Step) (rule : Rule) (all box start : List SpanSet) (leaves : List Leaf) → IsSound t → IsRule t step → rule ≡ get_or (chain_at t step.chain).rules (step.number - 1) rule → IsBoxOf rule box → IsBoth all box start
-    → ((p : Packet) → IsAtHook p → p.hook ≡ hook → IsIn all p) → AreLeavesOf t hook start leaves → All (λ leaf. Contains leaf.trail.items step → ⊥) leaves → All IsDecided leaves → AreBefore t step hook leaves
-before_of t hook step rule all box start leaves s is at boxed both inside cover none decided = record {
-  decided = decided;
-  dead = λ p can e on. never_on t p step rule all box start leaves s is.chain is.first is.last at boxed both can (inside p can e) (cover p can e) none on;
-  all = λ p can e m. (
-      let P : Rule → Type 0 = λ (r : Rule). matches p.values r ≡ true in
-      let point : IsPoint p.values = can.packet.within in
-      cover p can e (both.all p.values point (inside p can e) (has_of_rule rule box p.values boxed point (subst P (sym (rule_is t step rule is at)) m))));
-}
+pub walks_of : (t : Table) (step : Step) (hook : Hook) (all box start : List SpanSet) (leaves : List Leaf) → IsBoxOf (rule_at t step) box → ((p : Packet) → IsAtHook p → p.hook ≡ hook → IsIn all p) → IsBoth all box start → AreLeavesOf t hook start leaves → AreWalksOf t step hook leaves
+walks_of t step hook all box start leaves boxed inside both cover p can e m =
+    let point : IsPoint p.values = can.packet.within in
+    cover p can e (both.all p.values point (inside p can e) (has_of_rule (rule_at t step) box p.values boxed point m))
 
 -- ---- the rules that decide them
 

@@ -6,13 +6,11 @@ use Rattle.std.proofs.lemmas.Bool.{cases_lt, true≢false}
 use Rattle.std.proofs.lemmas.List.{length-map, get_or-map, get_or_default, get_or_past}
 use Rattle.std.proofs.lemmas.List.Elements.{All-nil, All-push, All-contains, Contains-get_or}
 use Rattle.std.proofs.lemmas.Option.{slice_get-get_or}
-use Rattle.fields.specs.numbers.Spans.{SpanSet}
+use Rattle.fields.specs.declared.packet.hook.Hook.{Hook}
 use Rattle.fields.specs.packet.Packet.{PacketView as Packet}
 use Rattle.fields.specs.values.Name.{is_name}
-use Rattle.rules.specs.boxing.Boxed.{IsBoxOf}
 use Rattle.rules.specs.rule.Allows.{matches}
-use Rattle.classify.specs.classifier.Classifier.{IsPoint}
-use Rattle.rules.specs.rule.Rules.{Rule}
+use Rattle.rules.specs.rule.Rules.{Rule, empty_rule}
 use Rattle.table.specs.chains.Sound.{IsSound, AreListed, IsUserName}
 use Rattle.table.specs.chains.Table.{Chain, Table, chain_at, empty_chain, is_named, names_of, rules_of}
 use Rattle.table.specs.declared.verdict.Verdict.{Verdict}
@@ -24,10 +22,11 @@ use Rattle.table.specs.walk.Walk.{Entry, Next, Ends, GoesOn, Walked, end_verdict
 use Rattle.table.proofs.laws.chains.KeepLaws.{listed_differ, rules_by_name}
 use Rattle.table.proofs.laws.chains.PlaceLaws.{IsPlaced, differing_at, placed_at}
 use Rattle.table.proofs.laws.walk.CaseLaws.{walks_by_cases}
+use Rattle.questions.specs.Ends.{IsRule, rule_at}
 use Rattle.questions.specs.Leaves.{name_at, entry_of, entries_of, EndsIn}
-use Rattle.questions.specs.boxes.Area.{Has, IsAtHook, IsBoth, IsIn}
+use Rattle.questions.specs.boxes.Area.{IsAtHook}
 use Rattle.questions.specs.declared.walking.task.Leaf.{Leaf}
-use Rattle.questions.proofs.laws.AreaLaws.{has_of_rule}
+use Rattle.questions.specs.steps.Takers.{AreWalksOf}
 
 -- the rule of an entry matches; rules are numbered from 1
 abbrev pub IsMatched : List Chain → List ℕ → Entry → Type 0
@@ -113,14 +112,14 @@ on_leaf t p leaf step s lt ends c =
     step_in t leaf.trail.items step s lt (subst P ends.walked c)
 
 -- a rule on the trail matches
-pub rule_matches : (t : Table) (p : Packet) (step : Step) (rule : Rule) → IsSound t → step.chain < length t.chains → 0 < step.number → step.number ≤ length (chain_at t step.chain).rules → rule ≡ get_or (chain_at t step.chain).rules (step.number - 1) rule
-    → Contains (walk t p).trail (entry_of t.chains step) → matches p.values rule ≡ true
-rule_matches t p step rule s lt first last is c =
+pub rule_matches : (t : Table) (p : Packet) (step : Step) → IsSound t → IsRule t step → Contains (walk t p).trail (entry_of t.chains step) → matches p.values (rule_at t step) ≡ true
+rule_matches t p step s is c =
+    let own_rules : List Rule = (chain_at t step.chain).rules in
     let m : IsMatched t.chains p.values (entry_of t.chains step) = All-contains (IsMatched t.chains p.values) (walk t p).trail (entry_of t.chains step) (trail_matches t p) c in
-    let own : rules_of t.chains (name_at t.chains step.chain) ≡ (chain_at t step.chain).rules = rules_by_name t (chain_at t step.chain) s (Contains-get_or t.chains step.chain (empty_chain []) lt) in
-    let within : step.number - 1 < length (chain_at t step.chain).rules = omega (arith, first, last) in
-    let one : ◌≡◌ {A = Option Rule} (Some rule) (Some m.0) =
-    ap Some is ∙ sym (slice_get-get_or (chain_at t step.chain).rules (step.number - 1) rule within) ∙ sym (ap (λ (rs : List Rule). slice_get rs (step.number - 1)) own) ∙ m.1 in
+    let own : rules_of t.chains (name_at t.chains step.chain) ≡ own_rules = rules_by_name t (chain_at t step.chain) s (Contains-get_or t.chains step.chain (empty_chain []) is.chain) in
+    let within : step.number - 1 < length own_rules = omega (arith, is.first, is.last) in
+    let one : ◌≡◌ {A = Option Rule} (Some (rule_at t step)) (Some m.0) =
+    sym (slice_get-get_or own_rules (step.number - 1) empty_rule within) ∙ sym (ap (λ (rs : List Rule). slice_get rs (step.number - 1)) own) ∙ m.1 in
     ap (matches p.values) (some_is one) ∙ m.2
   where
     some_is : {a b : Rule} → ◌≡◌ {A = Option Rule} (Some a) (Some b) → a ≡ b
@@ -136,15 +135,12 @@ items_next {X} P xs i x within is below here k d lt =
           subst P (is ∙ get_or_default xs i x d within ∙ ap (λ j. get_or xs j d) (sym at)) here)
     ]
 
--- where no leaf of those that a rule's box comes to has the rule on its trail, it is on none
-pub never_on : (t : Table) (p : Packet) (step : Step) (rule : Rule) (all box start : List SpanSet) (leaves : List Leaf) → IsSound t → step.chain < length t.chains → 0 < step.number → step.number ≤ length (chain_at t step.chain).rules
-    → rule ≡ get_or (chain_at t step.chain).rules (step.number - 1) rule → IsBoxOf rule box → IsBoth all box start → IsAtHook p → IsIn all p → (IsIn start p → Any (EndsIn t p) leaves) → All (λ leaf. Contains leaf.trail.items step → ⊥) leaves
+-- where no leaf of the packets that a rule matches has the rule on its trail, it is on the walk of none
+pub never_on : (t : Table) (p : Packet) (step : Step) (hook : Hook) (leaves : List Leaf) → IsSound t → IsRule t step → AreWalksOf t step hook leaves → All (λ leaf. Contains leaf.trail.items step → ⊥) leaves → IsAtHook p → p.hook ≡ hook
     → Contains (walk t p).trail (entry_of t.chains step) → ⊥
-never_on t p step rule all box start leaves s lt first last is boxed both can inside found none on =
-    let point : IsPoint p.values = can.packet.within in
-    let own : Has box p.values = has_of_rule rule box p.values boxed point (rule_matches t p step rule s lt first last is on) in
-    let leaf = found (both.all p.values point inside own) in
-    All-contains (λ (l : Leaf). Contains l.trail.items step → ⊥) leaves leaf.1 none (leaf.0, leaf.2, leaf.3) (on_leaf t p leaf.1 step s lt leaf.4 on)
+never_on t p step hook leaves s is walks none can e on =
+    let leaf = walks p can e (rule_matches t p step s is on) in
+    All-contains (λ (l : Leaf). Contains l.trail.items step → ⊥) leaves leaf.1 none (leaf.0, leaf.2, leaf.3) (on_leaf t p leaf.1 step s is.chain leaf.4 on)
 
 -- ---- a step of a trail that was asked for is an entry of the walk
 

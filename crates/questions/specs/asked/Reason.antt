@@ -1,22 +1,18 @@
 -- Why a rule is dead.
-use Rattle.std.specs.Prelude.{◌≡◌, ◌⊎◌, ◌-◌, ℕ, true, List, Some, slice_index_or, All, AllPairs, Any, Contains, IsFalse}
+use Rattle.std.specs.Prelude.{◌≡◌, ◌⊎◌, ℕ, true, List, Some, All, AllPairs, Any, Contains, IsFalse}
 use Rattle.fields.specs.declared.numbers.field.Field.{Field}
 use Rattle.fields.specs.packet.Packet.{PacketView as Packet, point}
 use Rattle.rules.specs.rule.Allows.{allows, matches}
-use Rattle.rules.specs.rule.Rules.{Rule, empty_rule}
+use Rattle.rules.specs.rule.Rules.{Rule}
 use Rattle.table.specs.chains.Table.{Table, chain_at, is_built_in, is_referenced}
 use Rattle.table.specs.declared.walk.trail.Step.{Step}
 use Rattle.table.specs.walk.Walk.{Entry, walk}
-use Rattle.questions.specs.Ends.{IsRule, decider_of}
+use Rattle.questions.specs.Ends.{IsRule, decider_of, rule_at}
 use Rattle.questions.specs.Leaves.{entry_of}
 use Rattle.questions.specs.asked.Rule.{IsDead}
 use Rattle.questions.specs.boxes.Area.{IsAtHook}
 use Rattle.questions.specs.declared.asked.reason.Reason.{Reason}
 use Rattle.questions.specs.declared.asked.reason.Reason.TheVariants.{Impossible, Unreached, Taken}
-
--- the rule of a step
-abbrev pub rule_at : Table → Step → Rule
-rule_at t step = slice_index_or (chain_at t step.chain).rules (step.number - 1) empty_rule
 
 -- the rule allows no number on the field that a packet can have
 abbrev pub IsImpossible : Rule → Field → Type 0

@@ -5,9 +5,9 @@ use Rattle.fields.specs.packet.Packet.{PacketView as Packet}
 use Rattle.rules.specs.rule.Allows.{matches}
 use Rattle.table.specs.chains.Table.{Table}
 use Rattle.table.specs.declared.walk.trail.Step.{Step}
-use Rattle.questions.specs.Ends.{IsRule, step_of}
+use Rattle.questions.specs.Ends.{IsRule, rule_at, step_of}
 use Rattle.questions.specs.Leaves.{EndsIn, entry_of}
-use Rattle.questions.specs.asked.Reason.{IsDecidedAmong, rule_at}
+use Rattle.questions.specs.asked.Reason.{IsDecidedAmong}
 use Rattle.questions.specs.asked.Rule.{IsDeadAt}
 use Rattle.questions.specs.boxes.Area.{IsAtHook}
 use Rattle.questions.specs.declared.walking.task.Leaf.{Leaf}
@@ -16,10 +16,14 @@ use Rattle.questions.specs.declared.walking.task.Leaf.{Leaf}
 abbrev pub IsDecided : Leaf → Type 0
 IsDecided leaf = step_of leaf ≡ None → leaf.by_policy ≡ true
 
+-- each packet at the hook that the rule matches is in some leaf, and has its walk
+abbrev pub AreWalksOf : Table → Step → Hook → List Leaf → Type 0
+AreWalksOf t step hook leaves = (p : Packet) → IsAtHook p → p.hook ≡ hook → matches p.values (rule_at t step) ≡ true → Any (EndsIn t p) leaves
+
 -- the rule is on the walk of no packet at the hook, and the leaves have the walks of those that it matches
 pub record AreBefore (t : Table) (step : Step) (hook : Hook) (leaves : List Leaf) : Type 0 where
   pub dead : IsDeadAt t (entry_of t.chains step) hook
-  pub all : (p : Packet) → IsAtHook p → p.hook ≡ hook → matches p.values (rule_at t step) ≡ true → Any (EndsIn t p) leaves
+  pub all : AreWalksOf t step hook leaves
   pub decided : All IsDecided leaves
 
 -- the leaf's decider, where it is a rule of the table, is one of the steps

@@ -1,16 +1,14 @@
 // Boxes of which all packets have one walk.
 ghost use Rattle.std.specs.Prelude.{◌≡◌, IfOk, IfSome};
-ghost use Rattle.questions.specs.boxes.Boxes.{AreBoxesOf};
 ghost use Rattle.questions.specs.steps.Exact.{AreExact, IsSharedOf, IsWalkOf};
 
 use crate::asked::reach::Given;
 use crate::boxes::area::Area;
-use crate::boxes::boxes::Boxes;
+use crate::boxes::boxed_table::BoxedTable;
 use crate::walking::engine::leaves;
 use crate::walking::task::Leaf;
 use fields::Hook;
 use std::alloc::{AllocError, Global};
-use table::Table;
 
 // What becomes of the packets that a leaf shares with a box.
 #[derive(Drop)]
@@ -26,17 +24,15 @@ enum Shared {
 // The walk of all packets of a box, if it comes to one leaf.
 fn walk_of(
     alloc: Global,
-    table: &Table,
-    boxes: &Boxes,
+    subject: &BoxedTable,
     hook: Hook,
     area: Area,
     budget: usize,
 ) -> Result<Option<Leaf>, AllocError>
-    requires { AreBoxesOf table.now.table.chains boxes.now }
-    ensures { IfOk result (λ found. IfSome found (IsWalkOf table.now.table hook area)) }
+    ensures { IfOk result (λ found. IfSome found (IsWalkOf subject.now.table.table hook area)) }
 {
     let start = area.copy(alloc)?;
-    let Some(mut found) = leaves(alloc, table, boxes, hook, start, budget)? else {
+    let Some(mut found) = leaves(alloc, subject, hook, start, budget)? else {
         return Ok(None);
     };
     let Some(only) = found.pop() else {
@@ -62,20 +58,18 @@ fn walk_of(
 // The packets that a leaf shares with a box, with their walk.
 fn part_of(
     alloc: Global,
-    table: &Table,
-    boxes: &Boxes,
+    subject: &BoxedTable,
     given: &Given,
     leaf: &Leaf,
     budget: usize,
 ) -> Result<Shared, AllocError>
-    requires { AreBoxesOf table.now.table.chains boxes.now }
-    ensures { IfOk result (IsSharedOf table.now.table given.now leaf.now) }
+    ensures { IfOk result (IsSharedOf subject.now.table.table given.now leaf.now) }
 {
     let part = leaf.area.within(alloc, given.area.sets())?;
     if part.is_empty() {
         return Ok(Shared::Nobody);
     }
-    match walk_of(alloc, table, boxes, given.hook, part, budget)? {
+    match walk_of(alloc, subject, given.hook, part, budget)? {
         Some(leaf) => Ok(Shared::One(leaf)),
         None => Ok(Shared::Several),
     }
@@ -85,18 +79,16 @@ fn part_of(
 // packets with several walks.
 pub(crate) fn exact_of(
     alloc: Global,
-    table: &Table,
-    boxes: &Boxes,
+    subject: &BoxedTable,
     given: &Given,
     found: &[Leaf],
     budget: usize,
 ) -> Result<Option<Vec<Leaf>>, AllocError>
-    requires { AreBoxesOf table.now.table.chains boxes.now }
-    ensures { IfOk result (λ exact. IfSome exact (λ leaves. AreExact table.now.table given.now found.now leaves.items)) }
+    ensures { IfOk result (λ exact. IfSome exact (λ leaves. AreExact subject.now.table.table given.now found.now leaves.items)) }
 {
     let mut exact = Vec::new(alloc);
     for leaf in found {
-        match part_of(alloc, table, boxes, given, leaf, budget)? {
+        match part_of(alloc, subject, given, leaf, budget)? {
             Shared::Nobody => {}
             Shared::One(leaf) => exact.push(leaf)?,
             Shared::Several => return Ok(None),

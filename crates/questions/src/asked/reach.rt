@@ -6,12 +6,10 @@ ghost use Rattle.questions.specs.steps.Exact.{IsMet};
 use crate::asked::exact::exact_of;
 use crate::asked::reached::{Reached, grouped};
 use crate::boxes::area::Area;
-use crate::boxes::boxes::Boxes;
+use crate::boxes::boxed_table::BoxedTable;
 use crate::walking::engine::leaves;
 use fields::{Field, Hook};
-use rules::Work;
 use std::alloc::{AllocError, Global};
-use table::Table;
 
 /// The packets of a box that can be at a hook.
 #[derive(Drop)]
@@ -33,30 +31,27 @@ fn met(alloc: Global, given: &Given) -> Result<Given, AllocError>
 /// end have on a field. Each number is that of such a packet, and each packet's number is there. Nothing is known where there
 /// are more steps to take than `budget` (`leaves`), or where rules that ask both ports leave open which packets they match.
 ///
-/// The packets walk the table as boxes, and each box that came to an end walks it again, with `budget` steps each time. The boxes of
-/// the table's rules are made before.
+/// The packets walk the table as boxes, and each box that came to an end walks it again, with `budget` steps each time.
 ///
 /// # Errors
 ///
 /// `AllocError` where memory was refused.
 pub fn reach(
     alloc: Global,
-    table: &Table,
+    subject: &BoxedTable,
     given: &Given,
     field: Field,
     budget: usize,
-    work: &mut Work,
 ) -> Result<Option<Vec<Reached>>, AllocError>
-    ensures { IfOk result (λ found. IfSome found (λ reached. IsReach table.now.table given.now field reached.items)) }
+    ensures { IfOk result (λ found. IfSome found (λ reached. IsReach subject.now.table.table given.now field reached.items)) }
 {
-    table.stands();
-    let boxes = Boxes::of(alloc, table, work)?;
+    subject.table.stands();
     let asked = met(alloc, given)?;
     let start = asked.area.copy(alloc)?;
-    let Some(found) = leaves(alloc, table, &boxes, asked.hook, start, budget)? else {
+    let Some(found) = leaves(alloc, subject, asked.hook, start, budget)? else {
         return Ok(None);
     };
-    match exact_of(alloc, table, &boxes, &asked, found.as_slice(), budget)? {
+    match exact_of(alloc, subject, &asked, found.as_slice(), budget)? {
         None => Ok(None),
         Some(exact) => Ok(Some(grouped(alloc, field, exact.as_slice())?)),
     }

@@ -3,14 +3,12 @@ ghost use Rattle.std.specs.Prelude.{◌≡◌, ◌↔◌, ◌<◌, ◌≤◌, fa
 ghost use Rattle.rules.specs.boxing.Boxed.{set_on};
 ghost use Rattle.table.specs.chains.Table.{chain_at, is_referenced, names};
 ghost use Rattle.questions.specs.Ends.{IsRule};
-ghost use Rattle.questions.specs.boxes.Boxes.{AreBoxesOf};
 ghost use Rattle.questions.specs.asked.Reason.{Explains, IsTaken, IsUnreached};
 ghost use Rattle.questions.specs.steps.Takers.{AreBefore, IsDecided, Takes, TakesAll};
 
+use crate::asked::matching::walks_of_rule;
 use crate::asked::rule::none_on;
-use crate::boxes::area::Area;
-use crate::boxes::boxes::Boxes;
-use crate::walking::engine::leaves;
+use crate::boxes::boxed_table::BoxedTable;
 use crate::walking::task::Leaf;
 use fields::{Field, Hook};
 use rules::{Boxed, Rule, Target};
@@ -144,20 +142,16 @@ fn add_takers(table: &Table, found: &[Leaf], takers: &mut Vec<Step>) -> Result<(
 // The walks of the packets at a hook that a rule matches, if it is on none of them.
 fn leaves_before(
     alloc: Global,
-    table: &Table,
-    boxes: &Boxes,
+    subject: &BoxedTable,
     hook: Hook,
     step: Step,
     budget: usize,
 ) -> Result<Option<Vec<Leaf>>, AllocError>
-    requires boxes { AreBoxesOf table.now.table.chains boxes.now }
-    requires step { IsRule table.now.table step }
-    ensures { IfOk result (λ found. IfSome found (λ leaves. AreBefore table.now.table step hook leaves.items)) }
+    requires { IsRule subject.now.table.table step }
+    ensures { IfOk result (λ found. IfSome found (λ leaves. AreBefore subject.now.table.table step hook leaves.items)) }
 {
-    table.stands();
-    let boxed = boxes.at(step.chain, step.number);
-    let start = Area::at_hook(alloc, hook)?.within(alloc, boxed.spans())?;
-    let Some(found) = leaves(alloc, table, boxes, hook, start, budget)? else {
+    subject.table.stands();
+    let Some(found) = walks_of_rule(alloc, subject, hook, step, budget)? else {
         return Ok(None);
     };
     if !none_on(found.as_slice(), step) {
@@ -172,21 +166,19 @@ fn leaves_before(
 // The rules that decide the packets that a rule matches, if it is dead.
 fn takers_of(
     alloc: Global,
-    table: &Table,
-    boxes: &Boxes,
+    subject: &BoxedTable,
     step: Step,
     budget: usize,
 ) -> Result<Option<Vec<Step>>, AllocError>
-    requires boxes { AreBoxesOf table.now.table.chains boxes.now }
-    requires step { IsRule table.now.table step }
-    ensures { IfOk result (λ found. IfSome found (λ takers. IsTaken table.now.table step takers.items)) }
+    requires { IsRule subject.now.table.table step }
+    ensures { IfOk result (λ found. IfSome found (λ takers. IsTaken subject.now.table.table step takers.items)) }
 {
-    table.stands();
+    subject.table.stands();
     let mut takers = Vec::new(alloc);
     for hook in Hook::ALL {
-        match leaves_before(alloc, table, boxes, hook, step, budget)? {
+        match leaves_before(alloc, subject, hook, step, budget)? {
             None => return Ok(None),
-            Some(found) => add_takers(table, found.as_slice(), &mut takers)?,
+            Some(found) => add_takers(&subject.table, found.as_slice(), &mut takers)?,
         }
     }
     Ok(Some(takers))
@@ -194,38 +186,36 @@ fn takers_of(
 
 /// Why rule `number` of the chain at a place, from 1, is dead: it allows no number on a field, or no walk comes to its chain, or
 /// others decide all packets that it matches. That is found as `dead` finds it, of each hook with `budget` steps. There is
-/// no answer where the rule isn't known to be dead. The boxes are those of the table's rules (`Boxes::of`).
+/// no answer where the rule isn't known to be dead.
 ///
 /// # Errors
 ///
 /// `AllocError` where memory was refused.
 pub fn why_dead(
     alloc: Global,
-    table: &Table,
-    boxes: &Boxes,
+    subject: &BoxedTable,
     place: usize,
     number: usize,
     budget: usize,
 ) -> Result<Option<Reason>, AllocError>
-    requires boxes { AreBoxesOf table.now.table.chains boxes.now }
-    requires place { place < length table.now.table.chains }
+    requires place { place < length subject.now.table.table.chains }
     requires first { 0 < number }
-    requires last { number ≤ length (chain_at table.now.table place).rules }
-    ensures { IfOk result (λ found. IfSome found (Explains table.now.table (record { chain = place; number = number }))) }
+    requires last { number ≤ length (chain_at subject.now.table.table place).rules }
+    ensures { IfOk result (λ found. IfSome found (Explains subject.now.table.table (record { chain = place; number = number }))) }
 {
-    table.stands();
+    subject.table.stands();
     let step = Step {
         chain: place,
         number,
     };
-    let boxed = boxes.at(place, number);
+    let boxed = subject.at(place, number);
     if let Some(field) = bare_field(boxed) {
         return Ok(Some(Reason::Impossible(field)));
     }
-    if is_unreached(table, place) {
+    if is_unreached(&subject.table, place) {
         return Ok(Some(Reason::Unreached));
     }
-    match takers_of(alloc, table, boxes, step, budget)? {
+    match takers_of(alloc, subject, step, budget)? {
         None => Ok(None),
         Some(takers) => Ok(Some(Reason::Taken(takers))),
     }

@@ -1,14 +1,14 @@
 //! Whether a rule can match at all.
 ghost use Rattle.std.specs.Prelude.{◌≡◌, ◌<◌, ◌≤◌, ◌↔◌, All, Contains, length, IfOk, IfSome, IsTrue};
 ghost use Rattle.table.specs.chains.Table.{chain_at};
+ghost use Rattle.questions.specs.Ends.{IsRule};
 ghost use Rattle.questions.specs.Leaves.{entry_of};
-ghost use Rattle.questions.specs.boxes.Boxes.{AreBoxesOf};
 ghost use Rattle.questions.specs.asked.Rule.{IsLive, Says, SaysAt};
 
+use crate::asked::matching::walks_of_rule;
 use crate::boxes::area::Area;
-use crate::boxes::boxes::Boxes;
+use crate::boxes::boxed_table::BoxedTable;
 use crate::sampling::sample::{Sample, sample_of};
-use crate::walking::engine::leaves;
 use crate::walking::task::Leaf;
 use fields::{Hook, Words};
 use std::alloc::{AllocError, Global};
@@ -90,28 +90,22 @@ pub(crate) fn none_on(found: &[Leaf], step: Step) -> bool
 // What is said of a rule, for the packets at one hook: those that its box has walk the table.
 fn life_at(
     alloc: Global,
-    table: &Table,
-    boxes: &Boxes,
+    subject: &BoxedTable,
     hook: Hook,
     step: Step,
     budget: usize,
 ) -> Result<Life, AllocError>
-    requires boxes { AreBoxesOf table.now.table.chains boxes.now }
-    requires place { step.chain < length table.now.table.chains }
-    requires first { 0 < step.number }
-    requires last { step.number ≤ length (chain_at table.now.table step.chain).rules }
-    ensures { IfOk result (SaysAt table.now.table (entry_of table.now.table.chains step) hook) }
+    requires { IsRule subject.now.table.table step }
+    ensures { IfOk result (SaysAt subject.now.table.table (entry_of subject.now.table.table.chains step) hook) }
 {
-    table.stands();
-    let boxed = boxes.at(step.chain, step.number);
-    let start = Area::at_hook(alloc, hook)?.within(alloc, boxed.spans())?;
-    match leaves(alloc, table, boxes, hook, start, budget)? {
+    subject.table.stands();
+    match walks_of_rule(alloc, subject, hook, step, budget)? {
         None => Ok(Life::Unclear),
         Some(found) => {
             if none_on(found.as_slice(), step) {
                 return Ok(Life::Dead);
             }
-            match witness_among(alloc, table, hook, found.as_slice(), step)? {
+            match witness_among(alloc, &subject.table, hook, found.as_slice(), step)? {
                 Some(words) => Ok(Life::Live(words)),
                 None => Ok(Life::Unclear),
             }
@@ -120,24 +114,22 @@ fn life_at(
 }
 
 /// Whether rule `number` of the chain at a place, from 1, can match at all. Of each hook the packets that the rule's box has
-/// walk the table as boxes, with `budget` steps (`leaves`). The boxes are those of the table's rules (`Boxes::of`).
+/// walk the table as boxes, with `budget` steps (`leaves`).
 ///
 /// # Errors
 ///
 /// `AllocError` where memory was refused.
 pub fn dead(
     alloc: Global,
-    table: &Table,
-    boxes: &Boxes,
+    subject: &BoxedTable,
     place: usize,
     number: usize,
     budget: usize,
 ) -> Result<Life, AllocError>
-    requires boxes { AreBoxesOf table.now.table.chains boxes.now }
-    requires place { place < length table.now.table.chains }
+    requires place { place < length subject.now.table.table.chains }
     requires first { 0 < number }
-    requires last { number ≤ length (chain_at table.now.table place).rules }
-    ensures { IfOk result (Says table.now.table (record { chain = (chain_at table.now.table place).name; number = number })) }
+    requires last { number ≤ length (chain_at subject.now.table.table place).rules }
+    ensures { IfOk result (Says subject.now.table.table (record { chain = (chain_at subject.now.table.table place).name; number = number })) }
 {
     let step = Step {
         chain: place,
@@ -145,7 +137,7 @@ pub fn dead(
     };
     let mut clear = true;
     for hook in Hook::ALL {
-        match life_at(alloc, table, boxes, hook, step, budget)? {
+        match life_at(alloc, subject, hook, step, budget)? {
             Life::Dead => {}
             Life::Live(words) => return Ok(Life::Live(words)),
             Life::Unclear => clear = false,

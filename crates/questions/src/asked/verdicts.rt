@@ -1,16 +1,14 @@
 //! Whether two tables give each packet the same verdict.
 ghost use Rattle.std.specs.Prelude.{◌≡◌, All, IfOk, IfSome, IsTrue};
 ghost use Rattle.table.specs.declared.verdict.Verdict.{Verdict};
-ghost use Rattle.questions.specs.boxes.Boxes.{AreBoxesOf};
 ghost use Rattle.questions.specs.asked.Verdicts.{IsOther, IsSameAt, IsSameIn, Says, SaysIf};
 
 use crate::boxes::area::Area;
-use crate::boxes::boxes::Boxes;
+use crate::boxes::boxed_table::BoxedTable;
 use crate::sampling::sample::{Sample, sample_of};
 use crate::walking::engine::leaves;
 use crate::walking::task::Leaf;
 use fields::{Hook, Words};
-use rules::Work;
 use std::alloc::{AllocError, Global};
 use table::{Table, Verdict};
 
@@ -82,24 +80,22 @@ fn witness_among(
 // What is said of the packets of a leaf of the first table: they walk the second one.
 fn likeness_in(
     old: &Table,
-    new: &Table,
-    boxes: &Boxes,
+    new: &BoxedTable,
     hook: Hook,
     leaf: &Leaf,
     budget: usize,
 ) -> Result<Likeness, AllocError>
-    requires { AreBoxesOf new.now.table.chains boxes.now }
-    ensures { IfOk result (SaysIf (IsSameIn old.now.table new.now.table hook leaf.now) old.now.table new.now.table) }
+    ensures { IfOk result (SaysIf (IsSameIn old.now.table new.now.table.table hook leaf.now) old.now.table new.now.table.table) }
 {
     let alloc = *leaf.trail.allocator();
     let start = leaf.area.copy(alloc)?;
-    match leaves(alloc, new, boxes, hook, start, budget)? {
+    match leaves(alloc, new, hook, start, budget)? {
         None => Ok(Likeness::Unclear),
         Some(found) => {
             if all_give(found.as_slice(), leaf.verdict) {
                 return Ok(Likeness::Same);
             }
-            match witness_among(old, new, hook, found.as_slice(), leaf.verdict)? {
+            match witness_among(old, &new.table, hook, found.as_slice(), leaf.verdict)? {
                 Some(words) => Ok(Likeness::Differ(words)),
                 None => Ok(Likeness::Unclear),
             }
@@ -110,18 +106,16 @@ fn likeness_in(
 // What is said of the packets of all leaves of the first table.
 fn likeness_among(
     old: &Table,
-    new: &Table,
-    boxes: &Boxes,
+    new: &BoxedTable,
     hook: Hook,
     found: &[Leaf],
     budget: usize,
 ) -> Result<Likeness, AllocError>
-    requires { AreBoxesOf new.now.table.chains boxes.now }
-    ensures { IfOk result (SaysIf (All (IsSameIn old.now.table new.now.table hook) found.now) old.now.table new.now.table) }
+    ensures { IfOk result (SaysIf (All (IsSameIn old.now.table new.now.table.table hook) found.now) old.now.table new.now.table.table) }
 {
     let mut clear = true;
     for leaf in found {
-        match likeness_in(old, new, boxes, hook, leaf, budget)? {
+        match likeness_in(old, new, hook, leaf, budget)? {
             Likeness::Same => {}
             Likeness::Differ(words) => return Ok(Likeness::Differ(words)),
             Likeness::Unclear => clear = false,
@@ -134,29 +128,25 @@ fn likeness_among(
 }
 
 /// Whether two tables give each packet at one hook the same verdict, as `compare` says it of all hooks: the packets of the
-/// hook walk the first table as boxes, and each box with one walk then walks the second one. It makes the boxes of the rules of
-/// both.
+/// hook walk the first table as boxes, and each box with one walk then walks the second one.
 ///
 /// # Errors
 ///
 /// `AllocError` where memory was refused.
 pub fn compare_at(
     alloc: Global,
-    old: &Table,
-    new: &Table,
+    old: &BoxedTable,
+    new: &BoxedTable,
     hook: Hook,
     budget: usize,
-    work: &mut Work,
 ) -> Result<Likeness, AllocError>
-    ensures { IfOk result (SaysIf (IsSameAt old.now.table new.now.table hook) old.now.table new.now.table) }
+    ensures { IfOk result (SaysIf (IsSameAt old.now.table.table new.now.table.table hook) old.now.table.table new.now.table.table) }
 {
-    let old_boxes = Boxes::of(alloc, old, work)?;
     let start = Area::at_hook(alloc, hook)?;
-    let Some(found) = leaves(alloc, old, &old_boxes, hook, start, budget)? else {
+    let Some(found) = leaves(alloc, old, hook, start, budget)? else {
         return Ok(Likeness::Unclear);
     };
-    let new_boxes = Boxes::of(alloc, new, work)?;
-    match likeness_among(old, new, &new_boxes, hook, found.as_slice(), budget)? {
+    match likeness_among(&old.table, new, hook, found.as_slice(), budget)? {
         Likeness::Same => Ok(Likeness::Same),
         Likeness::Differ(words) => Ok(Likeness::Differ(words)),
         Likeness::Unclear => Ok(Likeness::Unclear),
@@ -172,16 +162,15 @@ pub fn compare_at(
 /// `AllocError` where memory was refused.
 pub fn compare(
     alloc: Global,
-    old: &Table,
-    new: &Table,
+    old: &BoxedTable,
+    new: &BoxedTable,
     budget: usize,
-    work: &mut Work,
 ) -> Result<Likeness, AllocError>
-    ensures { IfOk result (Says old.now.table new.now.table) }
+    ensures { IfOk result (Says old.now.table.table new.now.table.table) }
 {
     let mut clear = true;
     for hook in Hook::ALL {
-        match compare_at(alloc, old, new, hook, budget, work)? {
+        match compare_at(alloc, old, new, hook, budget)? {
             Likeness::Same => {}
             Likeness::Differ(words) => return Ok(Likeness::Differ(words)),
             Likeness::Unclear => clear = false,

@@ -5,11 +5,10 @@ ghost use Rattle.table.specs.declared.verdict.Verdict.{Verdict};
 ghost use Rattle.table.specs.steps.Kept.{hook_index};
 ghost use Rattle.table.specs.walk.Walk.{end_verdict};
 ghost use Rattle.questions.specs.Leaves.{AreLeavesOf};
-ghost use Rattle.questions.specs.boxes.Boxes.{AreBoxesOf};
 ghost use Rattle.questions.specs.steps.Waiting.{AreThere, Begins, Moves, stage_of};
 
 use crate::boxes::area::Area;
-use crate::boxes::boxes::Boxes;
+use crate::boxes::boxed_table::BoxedTable;
 use crate::walking::front::Front;
 use crate::walking::task::{Leaf, Pending, Task};
 use crate::walking::turn::ask;
@@ -23,15 +22,13 @@ const LIMIT: usize = 65536;
 // One step of the walks of a task: the policy decides them, a chain comes back, or a rule is asked. Where the trail is full
 // they are too long.
 fn step(
-    table: &Table,
-    boxes: &Boxes,
+    subject: &BoxedTable,
     policy: Verdict,
     front: &mut Front,
     task: Task,
 ) -> Result<(), AllocError>
-    requires boxes { AreBoxesOf table.now.table.chains boxes.now }
-    requires there { AreThere table.now.table.chains task }
-    ensures { OnOk result (Moves table.now.table policy task.area (stage_of table.now.table.chains task) front.old front.new) }
+    requires { AreThere subject.now.table.table.chains task }
+    ensures { OnOk result (Moves subject.now.table.table policy task.area (stage_of subject.now.table.table.chains task) front.old front.new) }
 {
     let Task {
         area,
@@ -46,11 +43,11 @@ fn step(
         None => front.add_leaf(Task { area, rests, trail }, policy, true),
         Some(at) => {
             let task = Task { area, rests, trail };
-            table.stands();
-            if at.passed >= table.rule_count(at.chain) {
+            subject.table.stands();
+            if at.passed >= subject.table.rule_count(at.chain) {
                 return front.add_task(task);
             }
-            ask(table, boxes, front, task, at)
+            ask(subject, front, task, at)
         }
     }
 }
@@ -105,31 +102,29 @@ fn begin(alloc: Global, table: &Table, hook: Hook, start: Area) -> Result<Front,
 /// there are more steps to take than `budget`: a step is one rule asked of one box, or one chain that is at its end.
 ///
 /// A step takes no memory where the rule matches none of the packets, and else that of a copy of the box for each field on
-/// which others are left out. The boxes of the rules are those of the table (`Boxes::of`).
+/// which others are left out.
 ///
 /// # Errors
 ///
 /// `AllocError` where memory was refused.
 pub fn leaves(
     alloc: Global,
-    table: &Table,
-    boxes: &Boxes,
+    subject: &BoxedTable,
     hook: Hook,
     start: Area,
     budget: usize,
 ) -> Result<Option<Vec<Leaf>>, AllocError>
-    requires { AreBoxesOf table.now.table.chains boxes.now }
-    ensures { IfOk result (λ found. IfSome found (λ leaves. AreLeavesOf table.now.table hook start leaves.items)) }
+    ensures { IfOk result (λ found. IfSome found (λ leaves. AreLeavesOf subject.now.table.table hook start leaves.items)) }
 {
-    let policy = policy_at(table, hook);
-    let mut front = begin(alloc, table, hook, start)?;
+    let policy = policy_at(&subject.table, hook);
+    let mut front = begin(alloc, &subject.table, hook, start)?;
     for _ in 0..budget {
         if front.is_long {
             return Ok(None);
         }
         match front.tasks.pop() {
             None => return Ok(Some(front.leaves)),
-            Some(task) => step(table, boxes, policy, &mut front, task)?,
+            Some(task) => step(subject, policy, &mut front, task)?,
         }
     }
     Ok(None)

@@ -6,11 +6,10 @@ ghost use Rattle.table.specs.declared.verdict.Verdict.{Verdict};
 ghost use Rattle.table.specs.walk.Cases.{Under, on_by};
 ghost use Rattle.table.specs.walk.Walk.{after_match, whole};
 ghost use Rattle.questions.specs.Leaves.{entries_of};
-ghost use Rattle.questions.specs.boxes.Boxes.{AreBoxesOf};
 ghost use Rattle.questions.specs.steps.Waiting.{AreThere, IsThere, Moves, PassesOver, behind, entry_before, rest_of, rests_of};
 
 use crate::boxes::area::Area;
-use crate::boxes::boxes::Boxes;
+use crate::boxes::boxed_table::BoxedTable;
 use crate::boxes::cut::{Cut, cut_by};
 use crate::walking::front::Front;
 use crate::walking::task::{Pending, Task, copy_rests, copy_trail};
@@ -153,28 +152,27 @@ fn pass_over(
 // The next rule of a chain is asked of the packets of a box: those that it matches follow its target, the others go on
 // behind it.
 pub(crate) fn ask(
-    table: &Table,
-    boxes: &Boxes,
+    subject: &BoxedTable,
     front: &mut Front,
     task: Task,
     at: Pending,
 ) -> Result<(), AllocError>
-    requires boxes { AreBoxesOf table.now.table.chains boxes.now }
-    requires there { IsThere table.now.table.chains at }
-    requires passed { at.passed < length (chain_at table.now.table at.chain).rules }
-    requires rests { AreThere table.now.table.chains task }
+    requires there { IsThere subject.now.table.table.chains at }
+    requires passed { at.passed < length (chain_at subject.now.table.table at.chain).rules }
+    requires rests { AreThere subject.now.table.table.chains task }
     requires room { length task.trail.items < 65536 }
     ensures { OnOk result ((policy : Verdict)
-        → Moves table.now.table policy task.area
-        (Under (rest_of table.now.table.chains at ∷ rests_of table.now.table.chains task.rests.items)
-        (entries_of table.now.table.chains task.trail.items))
+        → Moves subject.now.table.table policy task.area
+        (Under (rest_of subject.now.table.table.chains at ∷ rests_of subject.now.table.table.chains task.rests.items)
+        (entries_of subject.now.table.table.chains task.trail.items))
         front.old front.new) }
 {
+    let table = &subject.table;
     table.stands();
     let count = table.rule_count(at.chain);
     prove!(at.passed < count);
     let rule = table.rule(at.chain, at.passed + 1);
-    let boxed = boxes.at(at.chain, at.passed + 1);
+    let boxed = subject.at(at.chain, at.passed + 1);
     let behind = Pending {
         chain: at.chain,
         passed: at.passed + 1,

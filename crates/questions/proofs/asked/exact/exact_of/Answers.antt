@@ -16,7 +16,7 @@ loop-leaf-preserved c =
       | in-One+in_ok-push-in-One w ↦ (
           let own = rw w.in-One.is at c.in_ok-part_of.ensures in
           rw (w.exact-is, w.in_ok-push-in-One.ensures.items) (record {
-            each = All-push (IsExact c.args.table.now.table c.args.given.now) c.loop-leaf.exact.items w.in-One.leaf c.loop-leaf.invariant.each own.0;
+            each = All-push (IsExact c.args.subject.now.table.table c.args.given.now) c.loop-leaf.exact.items w.in-One.leaf c.loop-leaf.invariant.each own.0;
             all = one_next c.args.given.now c.args.found.now c.loop-leaf.leaf-index c.leaf-item.result lt c.leaf-item.is c.loop-leaf.exact.items w.in-One.leaf c.loop-leaf.invariant.all own.1;
           }))
     ]
@@ -24,4 +24,4 @@ loop-leaf-preserved c =
 pub returns : goal.returns
 returns c =
     let all : length c.args.found.now ≡ c.loop-leaf.leaf-index = omega arith in
-    exact_end c.args.table.now.table c.args.given.now c.args.found.now c.loop-leaf.exact.items c.loop-leaf.leaf-index all c.loop-leaf.invariant.each c.loop-leaf.invariant.all
+    exact_end c.args.subject.now.table.table c.args.given.now c.args.found.now c.loop-leaf.exact.items c.loop-leaf.leaf-index all c.loop-leaf.invariant.each c.loop-leaf.invariant.all

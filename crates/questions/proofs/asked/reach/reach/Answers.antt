@@ -5,7 +5,7 @@ use Rattle.questions.proofs.asked.reach.reach.Goals as goal
 
 pub returns : goal.returns
 returns c =
-    let t = c.args.table.now.table in
+    let t = c.args.subject.now.table.table in
     let given = c.args.given.now in
     let met = c.in_ok-asked.asked in
     let exact = c.in-Some-2.exact.items in

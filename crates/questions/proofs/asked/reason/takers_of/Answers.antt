@@ -5,7 +5,7 @@ use Rattle.questions.proofs.asked.reason.takers_of.Goals as goal
 
 pub loop-hook-preserved : goal.loop-hook-preserved
 loop-hook-preserved c =
-    let t = c.args.table.now.table in
+    let t = c.args.subject.now.table.table in
     let leaves = c.in-Some.found.items in
     let old = c.loop-hook.takers.items in
     let new = c.add_takers.new.takers.items in
@@ -18,6 +18,6 @@ loop-hook-preserved c =
 
 pub returns : goal.returns
 returns c =
-    let t = c.args.table.now.table in
+    let t = c.args.subject.now.table.table in
     let steps = c.loop-hook.takers.items in
     taken_of t c.args.step steps (hooks_all (λ hook. IsTakenAt t c.args.step hook steps) (λ k h lt. c.loop-hook.invariant.hooks k h (omega (arith, lt)))) c.loop-hook.invariant.rules c.loop-hook.invariant.once

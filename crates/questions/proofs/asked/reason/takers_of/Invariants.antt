@@ -9,7 +9,7 @@ use Rattle.questions.proofs.asked.reason.takers_of.Given as goal
 
 abbrev pub invariant-loop-hook : goal.invariant-loop-hook
 invariant-loop-hook l = record {
-  hooks : (k : ℕ) (h : Hook) → k < l.hook-index → IsTakenAt l.table.table l.fn.step (get_or all_hooks k h) l.takers.items;
-  rules : All (IsRule l.table.table) l.takers.items;
+  hooks : (k : ℕ) (h : Hook) → k < l.hook-index → IsTakenAt l.subject.table.table l.fn.step (get_or all_hooks k h) l.takers.items;
+  rules : All (IsRule l.subject.table.table) l.takers.items;
   once : AllPairs (λ (a b : Step). a ≡ b → ⊥) l.takers.items;
 }

@@ -5,4 +5,4 @@ use Rattle.questions.specs.asked.Verdicts.{IsSameAt}
 use Rattle.questions.proofs.asked.verdicts.compare.Given as goal
 
 abbrev pub invariant-loop-hook : goal.invariant-loop-hook
-invariant-loop-hook l = l.clear ≡ true → (k : ℕ) (h : Hook) → k < l.hook-index → IsSameAt l.old.table l.new.table (get_or all_hooks k h)
+invariant-loop-hook l = l.clear ≡ true → (k : ℕ) (h : Hook) → k < l.hook-index → IsSameAt l.old.table.table l.new.table.table (get_or all_hooks k h)

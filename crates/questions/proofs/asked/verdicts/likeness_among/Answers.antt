@@ -8,6 +8,6 @@ use Rattle.questions.proofs.asked.verdicts.likeness_among.Goals.{in-Same, in-Unc
 pub loop-leaf-preserved : goal.loop-leaf-preserved
 loop-leaf-preserved c =
     elim c.match-branch-2.branch [
-      | in-Same w ↦ λ clear. items_next (IsSameIn c.args.old.now.table c.args.new.now.table c.args.hook) c.args.found.now c.loop-leaf.leaf-index c.leaf-item.result (omega arith) c.leaf-item.is (c.loop-leaf.invariant (sym w.clear-is ∙ clear)) (rw w.in-Same.is at c.in_ok-likeness_in.ensures)
+      | in-Same w ↦ λ clear. items_next (IsSameIn c.args.old.now.table c.args.new.now.table.table c.args.hook) c.args.found.now c.loop-leaf.leaf-index c.leaf-item.result (omega arith) c.leaf-item.is (c.loop-leaf.invariant (sym w.clear-is ∙ clear)) (rw w.in-Same.is at c.in_ok-likeness_in.ensures)
       | in-Unclear w ↦ λ clear. absurd (true≢false (sym clear ∙ w.clear-is))
     ]

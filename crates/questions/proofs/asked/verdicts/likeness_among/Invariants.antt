@@ -4,4 +4,4 @@ use Rattle.questions.specs.declared.walking.task.Leaf.{Leaf}
 use Rattle.questions.proofs.asked.verdicts.likeness_among.Given as goal
 
 abbrev pub invariant-loop-leaf : goal.invariant-loop-leaf
-invariant-loop-leaf l = l.clear ≡ true → (k : ℕ) (d : Leaf) → k < l.leaf-index → IsSameIn l.old.table l.new.table l.fn.hook (get_or l.found k d)
+invariant-loop-leaf l = l.clear ≡ true → (k : ℕ) (d : Leaf) → k < l.leaf-index → IsSameIn l.old.table l.new.table.table l.fn.hook (get_or l.found k d)

@@ -9,7 +9,7 @@ use Rattle.questions.proofs.walking.engine.step.Goals as goal
 
 pub returns-then-at-rule_count : goal.returns-then-at-rule_count
 returns-then-at-rule_count c =
-    let t = c.args.table.now.table in
+    let t = c.args.subject.now.table.table in
     let es = entries_of t.chains c.args.task.trail.items in
     let all = All-pop (IsThere t.chains) c.args.task.rests.items c.pop.new.self.items c.pop.result c.pop.ensures.items c.requires.there in
     let there = rw c.in-Some.is at all.1 in
@@ -18,13 +18,13 @@ returns-then-at-rule_count c =
 
 pub returns-in-None : goal.returns-in-None
 returns-in-None c =
-    let t = c.args.table.now.table in
+    let t = c.args.subject.now.table.table in
     let es = entries_of t.chains c.args.task.trail.items in
     on_ok_weaker c.add_leaf.result (λ h. at_no_rest t c.args.policy c.args.task.area c.args.front.now c.add_leaf.new.self c.args.task.rests.items es (nil_from_length c.args.task.rests.items (omega (arith, c.in-None.ensures.cases.0, c.args.task.rests.ok.0)))
     (ended t c.args.policy c.args.task.area c.args.front.now c.add_leaf.new.self es (h t c.args.policy))) c.add_leaf.ensures
 
 pub returns-else-at-rule_count : goal.returns-else-at-rule_count
 returns-else-at-rule_count c =
-    let t = c.args.table.now.table in
+    let t = c.args.subject.now.table.table in
     let es = entries_of t.chains c.args.task.trail.items in
     on_ok_weaker c.ask.result (λ h. at_rest t c.args.policy c.args.task.area c.args.front.now c.ask.new.front c.args.task.rests.items c.pop.new.self.items c.in-Some.at es c.in-Some.ensures.items (h c.args.policy)) c.ask.ensures

@@ -1,32 +1,27 @@
 use Rattle.std.proofs.Common.{◌+◌, ◌<◌, length, arith}
 use Rattle.std.proofs.lemmas.List.{length-map}
 use Rattle.std.proofs.lemmas.Result.{on_ok_weaker}
+use Rattle.table.specs.chains.Table.{chain_at}
 use Rattle.questions.specs.Leaves.{entry_of, entries_of}
 use Rattle.questions.specs.steps.Waiting.{rests_of}
-use Rattle.questions.proofs.laws.BoxesLaws.{box_at, chain_there, rule_there}
+use Rattle.questions.proofs.laws.BoxesLaws.{own_box}
 use Rattle.questions.proofs.laws.WaitLaws.{apart_moves, cut_moves}
 use Rattle.questions.proofs.walking.turn.ask.Goals as goal
 
-pub at-boxed-requires-clause-place : goal.at-boxed-requires-clause-place
-at-boxed-requires-clause-place c = chain_there c.args.table.now.table c.args.boxes.now c.requires.boxes c.args.at.chain (c.args.at.passed + 1) c.requires.there (omega arith) (omega (arith, c.requires.passed))
-
-pub at-boxed-requires-clause-last : goal.at-boxed-requires-clause-last
-at-boxed-requires-clause-last c = rule_there c.args.table.now.table c.args.boxes.now c.requires.boxes c.args.at.chain (c.args.at.passed + 1) c.requires.there (omega arith) (omega (arith, c.requires.passed))
-
 pub cut_by-requires : goal.cut_by-requires
 cut_by-requires c =
-    box_at c.args.table.now.table c.args.boxes.now c.requires.boxes c.args.at.chain (c.args.at.passed + 1) c.requires.there (omega arith) (omega (arith, c.requires.passed)) c.rule-rule.result.now c.at-boxed.result.now c.rule-rule.ensures c.at-boxed.ensures
+    own_box (chain_at c.args.subject.now.table.table c.args.at.chain).rules (c.args.at.passed + 1 - 1) c.rule-rule.result.now c.at-boxed.result.now (omega (arith, c.requires.passed)) c.rule-rule.ensures c.at-boxed.ensures
 
 pub returns-in-Apart : goal.returns-in-Apart
 returns-in-Apart c =
-    let t = c.args.table.now.table in
+    let t = c.args.subject.now.table.table in
     let cut = rw c.in-Apart.is at c.in_ok-area.ensures in
     on_ok_weaker c.go_on.result (λ h policy. apart_moves t c.stands.ensures.sound policy c.args.at c.requires.there c.rule-rule.result.now c.requires.passed c.rule-rule.ensures (rests_of t.chains c.args.task.rests.items) (entries_of t.chains c.args.task.trail.items)
     c.args.task.area c.args.front.now c.go_on.new.front cut.1 (rw cut.0 at (h t policy c.requires.there c.requires.rests))) c.go_on.ensures
 
 pub returns-in_ok-pass_over-in-Parts : goal.returns-in_ok-pass_over-in-Parts
 returns-in_ok-pass_over-in-Parts c =
-    let t = c.args.table.now.table in
+    let t = c.args.subject.now.table.table in
     let cut = rw c.in-Parts.is at c.in_ok-area.ensures in
     let room : length (entries_of t.chains c.args.task.trail.items) < 65536 = omega (arith, length-map c.args.task.trail.items (entry_of t.chains), c.requires.room) in
     on_ok_weaker c.follow.result (λ h policy. cut_moves t c.stands.ensures.sound policy c.args.at c.requires.there c.rule-rule.result.now c.requires.passed c.rule-rule.ensures (rests_of t.chains c.args.task.rests.items) (entries_of t.chains c.args.task.trail.items)

@@ -1,5 +1,5 @@
 use Rattle.questions.proofs.laws.BoxesLaws.{ChainPairs}
-use Rattle.questions.proofs.boxes.boxes.Boxes.of.Given as goal
+use Rattle.questions.proofs.boxes.boxed_table.BoxedTable.of.Given as goal
 
 abbrev pub invariant-loop-place : goal.invariant-loop-place
 invariant-loop-place l = ChainPairs l.table.table.chains l.chains.items l.place

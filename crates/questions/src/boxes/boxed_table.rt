@@ -1,0 +1,64 @@
+//! A table with the boxes of its rules.
+ghost use Rattle.std.specs.Prelude.{◌≡◌, ◌<◌, ◌≤◌, ◌-◌, [], length, map, slice_index_or, IfOk};
+ghost use Rattle.rules.specs.boxing.Boxed.{IsBoxOf};
+ghost use Rattle.rules.specs.rule.Rules.{empty_rule};
+ghost use Rattle.table.specs.chains.Table.{chain_at};
+ghost use Rattle.questions.specs.boxes.Boxes.{AreBoxesOf, AreBoxesOfRules};
+
+use rules::{Boxed, Work};
+use std::alloc::{AllocError, Global};
+use table::Table;
+
+/// A table with the boxes of its rules. These are made once, for any number of questions.
+#[derive(Drop)]
+pub struct BoxedTable {
+    /// What is asked about.
+    pub table: Table,
+    // The boxes of the rules, chain by chain in the order of a listing.
+    chains: Vec<Vec<Boxed>>,
+    ghost boxes: { AreBoxesOf table.table.chains (map (λ v. v.items) chains.items) },
+}
+
+// The boxes of the rules of the chain at a place.
+fn boxes_of_chain(
+    alloc: Global,
+    table: &Table,
+    place: usize,
+    work: &mut Work,
+) -> Result<Vec<Boxed>, AllocError>
+    requires { place < length table.now.table.chains }
+    ensures { IfOk result (λ boxes. AreBoxesOfRules (chain_at table.now.table place).rules boxes.items) }
+{
+    let mut boxes = Vec::new(alloc);
+    for before in 0..table.rule_count(place) {
+        boxes.push(Boxed::of(alloc, table.rule(place, before + 1), work)?)?;
+    }
+    Ok(boxes)
+}
+
+impl BoxedTable {
+    /// A table with the boxes of its rules: each is made, and counted in `work`.
+    ///
+    /// # Errors
+    ///
+    /// `AllocError` where memory was refused.
+    pub fn of(alloc: Global, table: Table, work: &mut Work) -> Result<BoxedTable, AllocError>
+        ensures { IfOk result (λ made. made.table ≡ table) }
+    {
+        let mut chains = Vec::new(alloc);
+        for place in 0..table.chain_count() {
+            chains.push(boxes_of_chain(alloc, &table, place, work)?)?;
+        }
+        Ok(BoxedTable { table, chains })
+    }
+
+    // The box of rule `number` of the chain at a place, from 1; it is lent.
+    pub(crate) fn at(&self, place: usize, number: usize) -> &Boxed
+        requires place { place < length self.now.table.table.chains }
+        requires first { 0 < number }
+        requires last { number ≤ length (chain_at self.now.table.table place).rules }
+        ensures { IsBoxOf (slice_index_or (chain_at self.now.table.table place).rules (number - 1) empty_rule) result.now }
+    {
+        &self.chains[place][number - 1]
+    }
+}
