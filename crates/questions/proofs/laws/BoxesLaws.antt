@@ -1,5 +1,5 @@
 -- The boxes of all rules of a table.
-use Rattle.std.proofs.Common.{◌≡◌, inl, inr, ℕ, ◌+◌, ◌-◌, ◌<◌, ◌≤◌, List, [], ◌∷◌, ◌++◌, length, get_or, map, sym, ◌∙◌, ap, arith, subst, Vec, Global}
+use Rattle.std.proofs.Common.{◌≡◌, inl, inr, ℕ, ◌+◌, ◌-◌, ◌<◌, ◌≤◌, List, [], ◌∷◌, ◌++◌, length, get_or, map, sym, ◌∙◌, ap, arith, subst, Vec, vec_len, Global}
 use Rattle.std.proofs.lemmas.Bool.{cases_lt}
 use Rattle.std.proofs.lemmas.List.{get_or_append_left, get_or_default, get_or_push, get_or-map, length-append, length-map}
 use Rattle.fields.specs.numbers.Spans.{SpanSet}
@@ -85,16 +85,19 @@ module _ (t : Table) (boxes : List (Vec (List SpanSet) Global)) (are : AreBoxesO
   pub chain_there : place < length boxes
   chain_there = omega (arith, lt, are.long, length-map boxes items_of)
 
-  own : (v : Vec (List SpanSet) Global) → AreBoxesOfRules (chain_at t place).rules (get_or boxes place v).items
-  own v =
+  own : (v : Vec (List SpanSet) Global) → v ≡ get_or boxes place v → AreBoxesOfRules (chain_at t place).rules v.items
+  own v e =
       let P : List (List SpanSet) → Type 0 = λ bs. AreBoxesOfRules (chain_at t place).rules bs in
-      subst P (get_or-map items_of boxes place v [] chain_there) (are.each place (empty_chain []) [] lt)
+      let Q : Vec (List SpanSet) Global → Type 0 = λ w. AreBoxesOfRules (chain_at t place).rules w.items in
+      subst Q (sym e) (subst P (get_or-map items_of boxes place v [] chain_there) (are.each place (empty_chain []) [] lt))
 
-  pub rule_there : (v : Vec (List SpanSet) Global) → number - 1 < length (get_or boxes place v).items
-  rule_there v = omega (arith, first, last, (own v).long)
+  pub rule_there : (v : Vec (List SpanSet) Global) → v ≡ get_or boxes place v → number - 1 < vec_len v
+  rule_there v e = omega (arith, first, last, (own v e).long, v.ok.0)
 
-  pub box_there : (v : Vec (List SpanSet) Global) (b : List SpanSet) → IsBoxOf (get_or (chain_at t place).rules (number - 1) empty_rule) (get_or (get_or boxes place v).items (number - 1) b)
-  box_there v b = (own v).each (number - 1) empty_rule b (omega (arith, first, last))
+  pub box_there : (v : Vec (List SpanSet) Global) (b : List SpanSet) → v ≡ get_or boxes place v → b ≡ get_or v.items (number - 1) b → IsBoxOf (get_or (chain_at t place).rules (number - 1) empty_rule) b
+  box_there v b e is =
+      let P : List SpanSet → Type 0 = λ own. IsBoxOf (get_or (chain_at t place).rules (number - 1) empty_rule) own in
+      subst P (sym is) ((own v e).each (number - 1) empty_rule b (omega (arith, first, last)))
 
 -- the box of a rule that was asked for too
 pub own_box : (rules : List Rule) (k : ℕ) (rule : Rule) (boxed : List SpanSet) → k < length rules → rule ≡ get_or rules k rule → IsBoxOf (get_or rules k empty_rule) boxed → IsBoxOf rule boxed

@@ -24,5 +24,8 @@ pub(crate) fn walks_of_rule(
 {
     let boxed = subject.at(step.chain, step.number);
     let start = Area::at_hook(alloc, hook)?.within(alloc, boxed.spans())?;
-    leaves(alloc, subject, hook, start, budget)
+    let Some(found) = leaves(alloc, subject, hook, start, budget)? else {
+        return Ok(None);
+    };
+    Ok(Some(found))
 }
