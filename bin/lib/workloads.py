@@ -1,11 +1,16 @@
-"""Rules and packets of three kinds, drawn with a fixed seed: what `bin/costs` gives to the program.
+"""Rules and packets of some kinds, drawn with a fixed seed: what `bin/costs` gives to the program. Called as a program,
+`workloads.py RULES KIND..` prints so many rules of each kind and their packets, which the program `bench` reads.
 
 - generated: two prefixes or hosts, TCP or UDP, and mostly a port or some in a row, all drawn at random;
 - distinct: no two rules share a packet: each has two prefixes and two ports of its own, in an order that jumps about;
-- mixed: as a machine's dump has them: few prefixes, ports and interfaces, each in many rules, and rules that ask for little.
+- mixed: as a machine's dump has them: few prefixes, ports and interfaces, each in many rules, and rules that ask for little;
+- both, which `bin/costs` leaves out: each rule asks for two ports of its own, as the source port or the destination port.
+
+Printed with `-first`, `-last` or `-none` after its name, `distinct` and `both` have the packets of one rule alone, or of none.
 """
 
 import random
+import sys
 
 KINDS = ("generated", "distinct", "mixed")
 COMMON_PORTS = (22, 25, 53, 80, 110, 123, 143, 443, 465, 587, 993, 995, 3306, 5432, 8080, 8443)
@@ -97,12 +102,24 @@ def mixed(dice, pool, known):
     return rule, packet(dice, source, destination, protocol, interface or dice.choice(("eth0", "eth1")), dice.randrange(1024, 65536), port)
 
 
+def both(dice, place):
+    source_port, port = 1025 + place % 8192, dice.randrange(40000, 65536)
+    rule = f"-p tcp -m multiport --ports {source_port},{20000 + place % 8192} -j ACCEPT"
+    return rule, packet(dice, None, None, "tcp", "eth0", source_port, port)
+
+
+def stray(dice):
+    """A packet of no rule of `distinct` and `both`, and mostly of none at all."""
+    return packet(dice, None, None, "tcp", "eth0", 65535, dice.randrange(40000, 65536))
+
+
 def of_kind(kind, count):
     """So many rules, and a packet of each, of which every fourth goes somewhere else."""
     dice = random.Random(7)
     pool = [prefix(dice, length, length) for length in dice.choices((8, 16, 20, 22, 24, 28, 30, 32), k=max(count // 4, 1))]
     known = list(COMMON_PORTS) + [dice.randrange(1024, 65536) for _ in range(80)]
-    make = {"generated": lambda place: generated(dice), "distinct": lambda place: distinct(dice, place), "mixed": lambda place: mixed(dice, pool, known)}[kind]
+    make = {"generated": lambda place: generated(dice), "distinct": lambda place: distinct(dice, place),
+            "mixed": lambda place: mixed(dice, pool, known), "both": lambda place: both(dice, place)}[kind]
     rules, packets = zip(*(make(place) for place in range(count)))
     packets = [packet(dice, None, None, "tcp", "eth0", 1024, 80) if place % 4 == 0 else line for place, line in enumerate(packets)]
     dice.shuffle(packets)
@@ -122,3 +139,21 @@ def hurting(count):
 def restore(rules):
     """The file that restores these rules into INPUT."""
     return "*filter\n:INPUT DROP [0:0]\n:FORWARD ACCEPT [0:0]\n:OUTPUT ACCEPT [0:0]\n" + "".join(f"-A INPUT {rule}\n" for rule in rules) + "COMMIT\n"
+
+
+def printed(name, count):
+    """So many rules of a kind, and packets, as lines of which the first names them."""
+    kind, _, match = name.partition("-")
+    rules, packets = of_kind(kind, count)
+    dice = random.Random(11)
+    if match == "none":
+        packets = [stray(dice) for _ in range(1024)]
+    elif match:
+        place = {"first": 0, "last": count - 1}[match]
+        packets = [{"distinct": distinct, "both": both}[kind](dice, place)[1] for _ in range(1024)]
+    return f"# {count} rules, {name}\n" + restore(rules) + "".join(line + "\n" for line in packets)
+
+
+if __name__ == "__main__":
+    for name in sys.argv[2:]:
+        sys.stdout.write(printed(name, int(sys.argv[1])))

@@ -1,38 +1,64 @@
 //! Who is asked about packets: how often an answer is the one that is due, and how long it takes.
 
-use crate::questions::Question;
 use crate::walk;
+use crate::workload::Workload;
 use anyhow::Result;
 use classify::Classifier;
-use rules::{Boxed, Rule};
+use fields::Packet;
+use rules::Boxed;
+use std::alloc::{AllocError, Global};
 use std::rt::Clock;
-use std::time::Instant;
-use table::Table;
+use std::time::{Duration, Instant};
+use table::{Table, Verdict};
+
+/// How often all packets are asked about at most.
+const ROUNDS: usize = 1000;
+
+/// A packet, and what the plain walks answer: the place of the first box that allows it, and the verdict.
+#[derive(Drop)]
+pub(crate) struct Question {
+    packet: Packet,
+    place: Option<usize>,
+    verdict: Verdict,
+}
+
+/// The packets of a workload.
+pub(crate) fn questions(alloc: Global, workload: &Workload) -> Result<Vec<Question>, AllocError> {
+    let mut questions = Vec::with_capacity(alloc, workload.packets.len())?;
+    for packet in &workload.packets {
+        questions.push(Question {
+            packet: *packet,
+            place: walk::first(&workload.boxes, packet.numbers()),
+            verdict: walk::verdict(workload, packet),
+        })?;
+    }
+    Ok(questions)
+}
 
 /// Who is asked.
 #[derive(Clone, Copy)]
 pub(crate) enum Asked<'a> {
     /// The classifier of the rules, for the place.
     Classifier(&'a Classifier),
-    /// The plain walk over the boxes of the rules, for the place.
-    Walk(&'a [Boxed]),
-    /// The plain walk over the boxes and the rules, of which what each asks of both ports is asked too, for the place.
-    Rules(&'a [Boxed], &'a [Rule]),
+    /// The plain walk over boxes, for the place.
+    Boxes(&'a [Boxed]),
     /// The table, for the verdict.
     Table(&'a Table),
+    /// The plain walk over the boxes and rules of a workload, for the verdict.
+    Rules(&'a Workload),
 }
 
 impl Asked<'_> {
     /// Whether the answer is the one that is due.
-    pub(crate) fn is_right(self, question: &Question) -> bool {
-        let point = question.packet.numbers();
+    fn is_right(self, question: &Question) -> bool {
+        let packet = &question.packet;
         match self {
-            Asked::Classifier(classifier) => classifier.next(point, 0) == question.place,
-            Asked::Walk(boxes) => walk::first(boxes, point) == question.place,
-            Asked::Rules(boxes, rules) => {
-                walk::first_match(boxes, rules, &question.packet) == question.place
+            Asked::Classifier(classifier) => {
+                classifier.next(packet.numbers(), 0) == question.place
             }
-            Asked::Table(table) => table.verdict(&question.packet) == question.target.verdict(),
+            Asked::Boxes(boxes) => walk::first(boxes, packet.numbers()) == question.place,
+            Asked::Table(table) => table.verdict(packet) == question.verdict,
+            Asked::Rules(workload) => walk::verdict(workload, packet) == question.verdict,
         }
     }
 
@@ -44,21 +70,19 @@ impl Asked<'_> {
             .count()
     }
 
-    /// The nanoseconds that an answer takes, of so many, and how many were wrong. The packets are asked about in turn.
-    pub(crate) fn time(
-        self,
-        rt: &impl Clock,
-        questions: &[Question],
-        times: usize,
-    ) -> Result<(u128, usize)> {
+    /// The nanoseconds that an answer takes, and how many were wrong. The packets are asked about in turn, round and round for a
+    /// second or so.
+    pub(crate) fn time(self, rt: &impl Clock, questions: &[Question]) -> Result<(u128, usize)> {
         let start = Instant::now(rt)?;
-        let mut wrong = 0usize;
-        for (question, _) in questions.iter().cycle().zip(0..times) {
-            if !self.is_right(question) {
-                wrong = wrong.saturating_add(1);
+        let (mut asked, mut right) = (0usize, 0usize);
+        for _ in 0..ROUNDS {
+            asked = asked.saturating_add(questions.len());
+            right = right.saturating_add(self.right(questions));
+            if start.elapsed(rt)? >= Duration::from_secs(1) {
+                break;
             }
         }
         let took = start.elapsed(rt)?.as_nanos();
-        Ok((took / (times as u128).max(1), wrong))
+        Ok((took / (asked as u128).max(1), asked.saturating_sub(right)))
     }
 }

@@ -1,7 +1,9 @@
 //! The plain walk, which the classifier is measured against: each box in turn, and of it each field.
 
+use crate::workload::Workload;
 use fields::{FIELDS, Packet};
-use rules::{Boxed, Rule, cross};
+use rules::{Boxed, Target, cross};
+use table::Verdict;
 
 /// Whether a box allows each number of a point on its field.
 fn allows(boxed: &Boxed, point: &[u128; FIELDS]) -> bool {
@@ -17,8 +19,16 @@ pub(crate) fn first(boxes: &[Boxed], point: &[u128; FIELDS]) -> Option<usize> {
     boxes.iter().position(|boxed| allows(boxed, point))
 }
 
-/// The place of the first rule that matches a packet: its box allows each number, and what it asks of both ports holds.
-pub(crate) fn first_match(boxes: &[Boxed], rules: &[Rule], packet: &Packet) -> Option<usize> {
-    boxes.iter().zip(rules).position(|(boxed, rule)| allows(boxed, packet.numbers())
-        && cross(rule, packet))
+/// What becomes of a packet by rules that accept or drop: the first decides whose box allows each number, and of which holds
+/// what it asks of both ports. What none decides is dropped.
+pub(crate) fn verdict(workload: &Workload, packet: &Packet) -> Verdict {
+    for (boxed, rule) in workload.boxes.iter().zip(&workload.rules) {
+        if allows(boxed, packet.numbers()) && cross(rule, packet) {
+            return match rule.target() {
+                Some(Target::Accept) => Verdict::Accept,
+                _ => Verdict::Drop,
+            };
+        }
+    }
+    Verdict::Drop
 }
