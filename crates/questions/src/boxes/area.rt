@@ -13,10 +13,11 @@ use std::alloc::{AllocError, Global};
 use std::array;
 use std::marker::Model;
 
-/// A box of packets: on each field a set of numbers. A packet is in it if each of its numbers is in the set of its field.
+/// A box of packets: on each field a set of numbers. A packet is in it if each of its numbers is in the set of its field. It
+/// lies in memory of its own, so that it is moved at no cost.
 #[derive(Drop)]
 pub struct Area {
-    sets: [Spans; FIELDS],
+    sets: Box<[Spans; FIELDS]>,
 }
 
 impl Model for Area {
@@ -26,9 +27,9 @@ impl Model for Area {
 
     ghost Value = { List SpanSet };
 
-    ghost view = { λ a. a.sets };
+    ghost view = { λ a. a.sets.value };
 
-    ghost invariant = { λ a. IsBox a.sets };
+    ghost invariant = { λ a. IsBox a.sets.value };
 }
 
 // The numbers of a set that another hasn't.
@@ -148,7 +149,9 @@ impl Area {
     {
         let mut sets: [Spans; FIELDS] = array::from_fn(|_| Spans::none(alloc, 0));
         open(alloc, hook, &mut sets)?;
-        Ok(Area { sets })
+        Ok(Area {
+            sets: Box::new(alloc, sets)?,
+        })
     }
 
     // The part of a box that leaves another one at a place.
@@ -164,7 +167,9 @@ impl Area {
     {
         let mut sets: [Spans; FIELDS] = array::from_fn(|_| Spans::none(alloc, 0));
         put_sides(alloc, own, other, at, &mut sets)?;
-        Ok(Area { sets })
+        Ok(Area {
+            sets: Box::new(alloc, sets)?,
+        })
     }
 
     /// The packets that are in two boxes, the second by its sets.
@@ -176,14 +181,14 @@ impl Area {
         requires { IsBox other.now }
         ensures { IfOk result (IsBoth self.now other.now) }
     {
-        Area::part(alloc, &self.sets, other, FIELDS)
+        Area::part(alloc, self.sets(), other, FIELDS)
     }
 
     // The box again.
     pub(crate) fn copy(&self, alloc: Global) -> Result<Area, AllocError>
         ensures { IfOk result (IsBoth self.now self.now) }
     {
-        self.within(alloc, &self.sets)
+        self.within(alloc, self.sets())
     }
 
     // Whether some field has no number, so that no packet is in the box.
@@ -191,7 +196,7 @@ impl Area {
         ensures none { IsTrue result → (numbers : List ℕ) → Has self.now numbers → ⊥ }
         ensures some { result ≡ false → HasNumbers self.now }
     {
-        some_bare(&self.sets)
+        some_bare(self.sets())
     }
 
     /// The packets of the box whose number on a field is in a set.

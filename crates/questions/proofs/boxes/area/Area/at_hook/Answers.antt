@@ -6,10 +6,10 @@ use Rattle.questions.proofs.boxes.area.Area.at_hook.Goals as goal
 pub invariant_of-result : goal.invariant_of-result
 invariant_of-result c =
     let long : length c.open.new.sets ≡ FIELDS = c.open.auto.sets ∙ search rules in
-    box_of_hook c.args.hook c.open.new.sets c.in_ok-open.ensures long
+    rw c.in_ok-new.ensures.ok (box_of_hook c.args.hook c.open.new.sets c.in_ok-open.ensures long)
 
 pub returns-clause-all : goal.returns-clause-all
-returns-clause-all c = all_at_hook c.args.hook c.open.new.sets c.in_ok-open.ensures
+returns-clause-all c = rw c.in_ok-new.ensures.ok (all_at_hook c.args.hook c.open.new.sets c.in_ok-open.ensures)
 
 pub returns-clause-only : goal.returns-clause-only
-returns-clause-only c = only_at_hook c.args.hook c.open.new.sets c.in_ok-open.ensures
+returns-clause-only c = rw c.in_ok-new.ensures.ok (only_at_hook c.args.hook c.open.new.sets c.in_ok-open.ensures)
