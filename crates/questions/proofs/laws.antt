@@ -3,7 +3,7 @@ pub mod BoxesLaws
 pub mod EndLaws
 pub mod ExactLaws
 pub mod GroupLaws
-pub mod NameLaws
+pub mod LeadLaws
 pub mod PacketLaws
 pub mod ReachLaws
 pub mod TakerLaws

@@ -1,5 +1,6 @@
 pub mod Exact
 pub mod Groups
+pub mod Leading
 pub mod Sides
 pub mod Takers
 pub mod Waiting

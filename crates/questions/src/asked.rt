@@ -1,9 +1,11 @@
 //! What is asked of all packets.
 pub(crate) mod exact;
 pub(crate) mod laws;
+pub(crate) mod leading;
 pub(crate) mod matching;
 pub(crate) mod reach;
 pub(crate) mod reached;
 pub(crate) mod reason;
 pub(crate) mod rule;
+pub(crate) mod takers;
 pub(crate) mod verdicts;

@@ -12,6 +12,7 @@ pub use asked::reach::{Given, reach};
 pub use asked::reached::Reached;
 pub use asked::reason::{Reason, why_dead};
 pub use asked::rule::{Life, dead};
+pub use asked::takers::Takers;
 pub use asked::verdicts::{Likeness, compare, compare_at};
 pub use boxes::area::Area;
 pub use boxes::boxed_table::BoxedTable;

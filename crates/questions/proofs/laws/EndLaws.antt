@@ -37,7 +37,7 @@ decider_shown cs leaf = by_case leaf.by_policy
     by_case false = last
 
 -- a chain that has a rule is there
-rules_there : (cs : List Chain) (name : List ℕ) (k : ℕ) (rule : Rule) → slice_get (rules_of cs name) k ≡ Some rule → (j : ℕ) × (j < length cs) × (name_at cs j ≡ name)
+pub rules_there : (cs : List Chain) (name : List ℕ) (k : ℕ) (rule : Rule) → slice_get (rules_of cs name) k ≡ Some rule → (j : ℕ) × (j < length cs) × (name_at cs j ≡ name)
 rules_there [] name k rule e = absurd (none_some e)
 rules_there (c ∷ cs) name k rule e =
     elim (cases_Bool (is_named name c)) [

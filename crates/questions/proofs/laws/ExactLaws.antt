@@ -1,6 +1,6 @@
 -- Boxes of which all packets have one walk.
-use Rattle.std.proofs.Common.{◌≡◌, ℕ, zero, suc, ◌+◌, ◌<◌, List, [], ◌∷◌, ◌++◌, length, get_or, refl, sym, ◌∙◌, ap, arith, subst, All}
-use Rattle.std.specs.Prelude.{Any}
+use Rattle.std.proofs.Common.{◌≡◌, ℕ, zero, suc, ◌+◌, ◌<◌, List, [], ◌∷◌, ◌++◌, length, get_or, refl, sym, ◌∙◌, ap, arith, subst, Option, Some, None, Vec, Global, All}
+use Rattle.std.specs.Prelude.{Any, IfSome}
 use Rattle.std.proofs.lemmas.List.Quantifiers.{Any-push}
 use Rattle.fields.specs.declared.packet.hook.Hook.{Hook}
 use Rattle.fields.specs.numbers.Spans.{SpanSet}
@@ -12,7 +12,7 @@ use Rattle.questions.specs.Leaves.{AreLeavesOf, EndsIn, walked_of}
 use Rattle.questions.specs.boxes.Area.{Has, HasNumbers, IsAtHook, IsBoth, IsIn}
 use Rattle.questions.specs.declared.asked.reach.Given.{Given}
 use Rattle.questions.specs.declared.walking.task.Leaf.{Leaf}
-use Rattle.questions.specs.steps.Exact.{AnyHas, AreExact, HasShared, IsExact, IsMet, IsWalkOf}
+use Rattle.questions.specs.steps.Exact.{AnyHas, AreExact, AreExactWalks, HasShared, IsExact, IsMet, IsWalkOf}
 use Rattle.questions.proofs.laws.GroupLaws.{any_left}
 use Rattle.questions.proofs.laws.TrailLaws.{items_next}
 
@@ -69,3 +69,19 @@ exact_end t given found exact i e each below = record {
       let P : Leaf → Type 0 = λ (l : Leaf). Has l.area numbers in
       below any.0 any.1 (omega (arith, any.2, e)) numbers point own (subst P (sym any.3) any.4));
 }
+
+-- the exact leaves of all leaves
+pub exact_walks_of : (t : Table) (given : Given) (start : List SpanSet) (found exact : List Leaf) → IsBoth given.area given.area start → AreLeavesOf t given.hook start found → AreExact t given found exact → AreExactWalks t given exact
+exact_walks_of t given start found exact copy leaves is = record {
+  each = is.each;
+  all = λ p can there inside. (
+      let point : IsPoint p.values = can.packet.within in
+      let w = leaves p can there (copy.all p.values point inside inside) in
+      is.all p.values point inside (w.0, w.1, w.2, w.3, w.4.inside));
+}
+
+-- the same where they are known
+pub exact_walks_if : (t : Table) (given : Given) (start : List SpanSet) (found : List Leaf) (o : Option (Vec Leaf Global)) → IsBoth given.area given.area start → AreLeavesOf t given.hook start found → IfSome o (λ (v : Vec Leaf Global). AreExact t given found v.items)
+    → IfSome o (λ (v : Vec Leaf Global). AreExactWalks t given v.items)
+exact_walks_if t given start found None copy leaves h = h
+exact_walks_if t given start found (Some v) copy leaves h = exact_walks_of t given start found v.items copy leaves h

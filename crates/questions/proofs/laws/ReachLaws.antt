@@ -11,20 +11,20 @@ use Rattle.fields.specs.numbers.Field.{all_fields, index, top}
 use Rattle.fields.specs.numbers.Spans.{SpanSet}
 use Rattle.fields.specs.packet.Packet.{PacketView as Packet, IsPacket, point}
 use Rattle.rules.proofs.laws.boxing.BoxLaws.{here_is}
-use Rattle.classify.specs.classifier.Classifier.{IsPoint, box_allows}
+use Rattle.classify.specs.classifier.Classifier.{box_allows}
 use Rattle.table.specs.chains.Sound.{IsSound}
 use Rattle.table.specs.chains.Table.{Table}
 use Rattle.table.specs.declared.verdict.Verdict.{Verdict}
 use Rattle.table.specs.declared.walk.trail.Step.{Step}
 use Rattle.table.specs.walk.Walk.{Entry, Walked, walk}
 use Rattle.questions.specs.Ends.{EndsBy, IsRule, decider_of, step_of}
-use Rattle.questions.specs.Leaves.{AreLeavesOf, entry_of, walked_of}
+use Rattle.questions.specs.Leaves.{entry_of, walked_of}
 use Rattle.questions.specs.asked.Reach.{Gets, HasItsNumber, IsMeant, IsReach, IsReached}
-use Rattle.questions.specs.boxes.Area.{HasNumbers, IsBoth, IsIn}
+use Rattle.questions.specs.boxes.Area.{HasNumbers, IsIn}
 use Rattle.questions.specs.declared.asked.reach.Given.{Given}
 use Rattle.questions.specs.declared.asked.reached.Reached.{Reached}
 use Rattle.questions.specs.declared.walking.task.Leaf.{Leaf}
-use Rattle.questions.specs.steps.Exact.{AnyHas, AreExact, IsExact, IsMet}
+use Rattle.questions.specs.steps.Exact.{AnyHas, AreExactWalks, IsExact, IsMet}
 use Rattle.questions.specs.steps.Groups.{AreGroups, HasEnd, IsGroup, IsListed}
 use Rattle.questions.proofs.laws.AreaLaws.{from_fields, on_field}
 use Rattle.questions.proofs.laws.EndLaws.{decider_is_rule, decider_shown, none_some}
@@ -136,18 +136,9 @@ module _ (t : Table) (s : IsSound t) (given met : Given) (f : Field) (exact : Li
       some_is : {x y : Entry} → ◌≡◌ {A = Option Entry} (Some x) (Some y) → x ≡ y
       some_is e = cc
 
-  pub reach_of : ((p : Packet) → IsMeant given p → AnyHas p.values exact) → IsReach t given f reached
-  reach_of has_all = record {
+  pub reach_of : AreExactWalks t met exact → IsReach t given f reached
+  reach_of walks = record {
     each = all_reached;
-    all = λ p meant. number_of p meant (has_all p meant);
+    all = λ p meant. number_of p meant (walks.all p meant.can (meant.there ∙ sym m.there) (m.all p meant));
     one = λ i j d below lt same. groups.one i j d below lt (same.verdict, same_by (get_or reached i d).by (get_or reached j d).by (all_reached j d lt).rule same.decider);
   }
-
--- each packet that is asked about is in an exact leaf
-pub all_exact : (t : Table) (given met : Given) (start : List SpanSet) (found exact : List Leaf) → IsMet given met → IsBoth met.area met.area start → AreLeavesOf t met.hook start found → AreExact t met found exact
-    → (p : Packet) → IsMeant given p → AnyHas p.values exact
-all_exact t given met start found exact m copy leaves is p meant =
-    let point : IsPoint p.values = meant.can.packet.within in
-    let inside : IsIn met.area p = m.all p meant in
-    let w = leaves p meant.can (meant.there ∙ sym m.there) (copy.all p.values point inside inside) in
-    is.all p.values point inside (w.0, w.1, w.2, w.3, w.4.inside)

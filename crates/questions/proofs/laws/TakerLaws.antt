@@ -1,34 +1,43 @@
--- The rules that decide the packets which another rule matches.
-use Rattle.std.proofs.Common.{◌≡◌, inl, inr, ℕ, ◌+◌, ◌-◌, ◌<◌, true, false, List, [], ◌∷◌, ◌++◌, length, get_or, refl, sym, ◌∙◌, ap, arith, subst, Option, Some, None, All, Contains}
-use Rattle.std.specs.Prelude.{AllPairs, IfSome}
+-- Who decides the packets that a rule matches.
+use Rattle.std.proofs.Common.{◌≡◌, ◌⊎◌, inl, inr, ℕ, ◌+◌, ◌<◌, Bool, true, false, List, [], ◌∷◌, ◌++◌, length, get_or, refl, sym, ◌∙◌, ap, arith, subst, Option, Some, None, All, Contains}
+use Rattle.std.specs.Prelude.{AllPairs, Any, IfSome, IsTrue, MatchOption}
 use Rattle.std.specs.Option.{option_map}
-use Rattle.std.proofs.lemmas.Bool.{true≢false}
+use Rattle.std.proofs.lemmas.Bool.{and_from, true≢false}
 use Rattle.std.proofs.lemmas.List.{get_or_default}
-use Rattle.std.proofs.lemmas.List.Elements.{All-contains, All-push, Contains-append_left}
+use Rattle.std.proofs.lemmas.List.Elements.{All-contains, Contains-append_left, Contains-get_or, Contains-push, Contains-push_cases}
 use Rattle.std.proofs.lemmas.List.Quantifiers.{all_pairs_push}
 use Rattle.fields.specs.declared.numbers.field.Field.{Field}
+use Rattle.fields.specs.declared.numbers.field.Field.TheVariants as field
 use Rattle.fields.specs.declared.packet.hook.Hook.{Hook}
 use Rattle.fields.specs.declared.packet.hook.Hook.TheVariants.{Input, Forward, Output}
-use Rattle.fields.specs.packet.Hook.{all_hooks}
+use Rattle.fields.specs.packet.Hook.{all_hooks, name as hook_name}
 use Rattle.fields.specs.numbers.Spans.{SpanSet, has}
-use Rattle.fields.specs.packet.Packet.{PacketView as Packet, point}
+use Rattle.fields.specs.packet.Packet.{PacketView as Packet, IsPacket, point}
 use Rattle.rules.specs.boxing.Boxed.{IsBoxOf, set_on}
-use Rattle.rules.specs.rule.Allows.{matches}
+use Rattle.rules.specs.rule.Allows.{allows_each}
+use Rattle.rules.specs.rule.Crossing.{cross}
 use Rattle.classify.specs.classifier.Classifier.{IsPoint}
-use Rattle.table.specs.chains.Sound.{IsSound}
-use Rattle.table.specs.chains.Table.{Table}
+use Rattle.table.specs.chains.Sound.{IsSound, Leads}
+use Rattle.table.specs.chains.Table.{Table, chain_at}
 use Rattle.table.specs.declared.walk.trail.Step.{Step}
-use Rattle.table.specs.walk.Walk.{Walked, walk}
+use Rattle.table.specs.steps.Kept.{hook_index}
+use Rattle.table.specs.walk.Walk.{Entry, Walked, walk}
 use Rattle.questions.specs.Ends.{IsRule, decider_of, rule_at, step_of}
-use Rattle.questions.specs.Leaves.{AreLeavesOf, EndsIn, entry_of}
-use Rattle.questions.specs.asked.Reason.{IsDecidedAmong, IsImpossible, IsTaken}
-use Rattle.questions.specs.asked.Rule.{IsDead}
+use Rattle.questions.specs.Leaves.{AreLeavesOf, entry_of, walked_of}
+use Rattle.questions.specs.asked.Reason.{HasPacket, IsDecidedAmong, IsDecidedBy, IsImpossible, IsLed, IsMeantFor, IsTaken}
+use Rattle.questions.specs.asked.Rule.{IsDead, IsDeadAt}
 use Rattle.questions.specs.boxes.Area.{Has, IsAtHook, IsBoth, IsIn}
+use Rattle.questions.specs.declared.asked.reach.Given.{Given}
+use Rattle.questions.specs.declared.asked.takers.Takers.{Takers}
 use Rattle.questions.specs.declared.walking.task.Leaf.{Leaf}
-use Rattle.questions.specs.steps.Takers.{AreBefore, AreWalksOf, IsDecided, Grows, IsAmong, IsTakenAt, Takes, TakesAll}
-use Rattle.questions.proofs.laws.AreaLaws.{has_of_rule, on_field}
+use Rattle.questions.specs.steps.Exact.{AreExactWalks, IsExact}
+use Rattle.questions.specs.steps.Leading.{AreLeading, IsMarked}
+use Rattle.questions.specs.steps.Takers.{AllTake, AreBefore, AreWalksOf, Grows, IsAmong, IsBoxAt, IsDecided, IsMatchedAt, IsTakenAt, IsWalked, Takes, TakesAll, TakesOne}
+use Rattle.questions.proofs.laws.AreaLaws.{box_of_rule, has_of_rule, on_field}
 use Rattle.questions.proofs.laws.EndLaws.{decider_is_rule, decider_shown}
-use Rattle.questions.proofs.laws.TrailLaws.{items_next, rule_matches}
+use Rattle.questions.proofs.laws.LeadLaws.{entry_led, hook_leads, hook_led}
+use Rattle.questions.proofs.laws.ReachLaws.{packet_with, with_inside, with_packet}
+use Rattle.questions.proofs.laws.TrailLaws.{items_next, never_on, rule_matches}
 
 -- ---- a set of a rule's box without numbers
 
@@ -40,91 +49,209 @@ dead_of t step box f s is boxed none p can on =
     let own : Has box p.values = has_of_rule (rule_at t step) box p.values boxed can.packet.within (rule_matches t p step s is on) in
     true≢false (sym (on_field box p.values f own.each) ∙ ap (λ ss. has ss (point p f)) none)
 
--- ---- the leaves of the packets that a rule matches
+-- ---- the packets that a rule matches
 
-pub walks_of : (t : Table) (step : Step) (hook : Hook) (all box start : List SpanSet) (leaves : List Leaf) → IsBoxOf (rule_at t step) box → ((p : Packet) → IsAtHook p → p.hook ≡ hook → IsIn all p) → IsBoth all box start → AreLeavesOf t hook start leaves → AreWalksOf t step hook leaves
-walks_of t step hook all box start leaves boxed inside both cover p can e m =
-    let point : IsPoint p.values = can.packet.within in
-    cover p can e (both.all p.values point (inside p can e) (has_of_rule (rule_at t step) box p.values boxed point m))
-
--- ---- the rules that decide them
-
-pub grows_same : (t : Table) (steps : List Step) → Grows t steps steps
-grows_same t steps = record { kept = λ step h. h; rules = λ h. h; once = λ h. h }
-
-pub grows_on : (t : Table) (a b c : List Step) → Grows t a b → Grows t b c → Grows t a c
-grows_on t a b c first then = record { kept = λ step h. then.kept step (first.kept step h); rules = λ h. then.rules (first.rules h); once = λ h. then.once (first.once h) }
-
-pub among_on : (t : Table) (a b : List Step) (leaf : Leaf) → Grows t a b → IsAmong t a leaf → IsAmong t b leaf
-among_on t a b leaf g = by_option (step_of leaf)
-  where
-    by_option : (o : Option Step) → IfSome o (λ step. IsRule t step → Contains a step) → IfSome o (λ step. IsRule t step → Contains b step)
-    by_option None h = tt
-    by_option (Some step) h = λ is. g.kept step (h is)
-
-not_there : (steps : List Step) (step : Step) → (Contains steps step → ⊥) → (k : ℕ) (d : Step) → k < length steps → get_or steps k d ≡ step → ⊥
-not_there steps step none k d lt e = none (k, lt, get_or_default steps k step d lt ∙ e)
-
-pub grows_push : (t : Table) (steps : List Step) (step : Step) → IsRule t step → (Contains steps step → ⊥) → Grows t steps (steps ++ step ∷ [])
-grows_push t steps step is none = record {
-  kept = λ own h. Contains-append_left steps (step ∷ []) own h;
-  rules = λ h. All-push (IsRule t) steps step h is;
-  once = λ h. all_pairs_push (λ (a b : Step). a ≡ b → ⊥) steps step h (not_there steps step none);
+pub box_at : (t : Table) (step : Step) (hook : Hook) (there box area : List SpanSet) → IsBoxOf (rule_at t step) box → ((p : Packet) → IsAtHook p → p.hook ≡ hook → IsIn there p) → ((p : Packet) → IsPacket p → p.hook ≡ hook → IsIn there p → IsAtHook p)
+    → IsBoth there box area → IsBoxAt t step hook (record { hook = hook; area = area })
+box_at t step hook there box area boxed all only both = record {
+  there = refl;
+  all = λ p m. both.all p.values m.can.packet.within (all p m.can m.there) (has_of_rule (rule_at t step) box p.values boxed m.can.packet.within m.matched);
+  only = λ p is e inside.
+      (only p is e (both.first p.values is.within inside), sym (box_of_rule (rule_at t step) box p.values boxed is.within) ∙ (both.second p.values is.within inside).each);
 }
 
-pub among_by : (t : Table) (steps : List Step) (leaf : Leaf) (step : Step) → step_of leaf ≡ Some step → (IsRule t step → Contains steps step) → IsAmong t steps leaf
-among_by t steps leaf step e h = let P : Option Step → Type 0 = λ o. IfSome o (λ s. IsRule t s → Contains steps s) in subst P (sym e) h
+pub walks_of : (t : Table) (step : Step) (hook : Hook) (given : Given) (leaves : List Leaf) → IsBoxAt t step hook given → AreLeavesOf t hook given.area leaves → AreWalksOf t step hook leaves
+walks_of t step hook given leaves box cover p m = cover p m.can m.there (box.all p m)
 
-pub among_none : (t : Table) (steps : List Step) (leaf : Leaf) → step_of leaf ≡ None → IsAmong t steps leaf
-among_none t steps leaf e = let P : Option Step → Type 0 = λ o. IfSome o (λ s. IsRule t s → Contains steps s) in subst P (sym e) tt
+module _ (t : Table) (step : Step) (hook : Hook) (given : Given) (s : IsSound t) (is : IsRule t step) (box : IsBoxAt t step hook given) (alone : (numbers : List ℕ) → cross numbers (rule_at t step) ≡ true) where
+  -- a packet of an exact leaf
+  walked_in : (leaf : Leaf) → IsExact t given leaf → IsWalked t step hook leaf
+  walked_in leaf ex =
+      let n = ex.some field.Source in
+      let p : Packet = packet_with given.hook leaf.area ex.some field.Source n.0 n.1 n.2 in
+      let packet : IsPacket p = with_packet given.hook leaf.area ex.some field.Source n.0 n.1 n.2 in
+      let inside : IsIn leaf.area p = with_inside given.hook leaf.area ex.some field.Source n.0 n.1 n.2 in
+      let own = box.only p packet box.there (ex.inside p.values packet.within inside) in
+      (p, record { can = own.0; there = box.there; matched = and_from (allows_each p.values (rule_at t step)) (cross p.values (rule_at t step)) own.1 (alone p.values) }, ex.walked p own.0 refl inside)
 
-pub takers_next : (t : Table) (leaves : List Leaf) (i : ℕ) (leaf : Leaf) (old new : List Step) → i < length leaves → leaf ≡ get_or leaves i leaf → Takes t leaf old new → ((k : ℕ) (d : Leaf) → k < i → IsAmong t old (get_or leaves k d))
-    → (k : ℕ) (d : Leaf) → k < i + 1 → IsAmong t new (get_or leaves k d)
-takers_next t leaves i leaf old new lt is takes below = items_next (IsAmong t new) leaves i leaf lt is (λ k d less. among_on t old new (get_or leaves k d) takes.grows (below k d less)) takes.added
+  pub before_of : (exact : List Leaf) → AreExactWalks t given exact → All (λ leaf. Contains leaf.trail.items step → ⊥) exact → All IsDecided exact → AreBefore t step hook exact
+  before_of exact walks none decided =
+      let all : AreWalksOf t step hook exact = λ p m. (
+      let there = m.there ∙ sym box.there in
+      let w = walks.all p m.can there (box.all p m) in
+      let ex : IsExact t given w.1 = All-contains (IsExact t given) exact w.1 walks.each (w.0, w.2, w.3) in
+      (w.0, w.1, w.2, w.3, record { inside = w.4; walked = ex.walked p m.can there w.4 })) in
+      record {
+        dead = λ p can e on. never_on t p step hook exact s is all none can e on;
+        all = all;
+        each = λ k d lt. walked_in (get_or exact k d) (walks.each k d lt);
+        decided = decided;
+      }
 
--- a packet of a leaf is decided by the policy, or by the leaf's step
-decided_by : (t : Table) (p : Packet) (steps : List Step) (leaf : Leaf) → IsSound t → EndsIn t p leaf → IsDecided leaf → IsAmong t steps leaf → IsDecidedAmong t steps p
-decided_by t p steps leaf s ends own among = by_option (step_of leaf) refl (ap decider_of ends.walked ∙ decider_shown t.chains leaf) (decider_is_rule t p leaf s ends.walked) among
-  where
-    by_option : (o : Option Step) → step_of leaf ≡ o → decider_of (walk t p) ≡ option_map (entry_of t.chains) o → IfSome o (IsRule t) → IfSome o (λ step. IsRule t step → Contains steps step) → IsDecidedAmong t steps p
-    by_option None at e is h = inl (ap (λ (w : Walked). w.by_policy) ends.walked ∙ own at)
-    by_option (Some step) at e is h = (let c = h is in inr (c.0, step, c.1, c.2, e))
+-- ---- who decides them
 
-pub taken_at : (t : Table) (step : Step) (hook : Hook) (leaves : List Leaf) (steps : List Step) → IsSound t → AreBefore t step hook leaves → All (IsAmong t steps) leaves → IsTakenAt t step hook steps
-taken_at t step hook leaves steps s before among = record {
-  dead = before.dead;
-  decided = λ p can e m. (
-      let w = before.all p can e m in
-      decided_by t p steps w.1 s w.4 (All-contains IsDecided leaves w.1 before.decided (w.0, w.2, w.3)) (All-contains (IsAmong t steps) leaves w.1 among (w.0, w.2, w.3)));
-}
+pub grows_same : (takers : Takers) → Grows takers takers
+grows_same takers = record { kept = λ by h. h; once = λ h. h }
 
--- more steps decide as much
-pub taken_on : (t : Table) (step : Step) (hook : Hook) (a b : List Step) → Grows t a b → IsTakenAt t step hook a → IsTakenAt t step hook b
-taken_on t step hook a b g at = record {
-  dead = at.dead;
-  decided = λ p can e m. elim (at.decided p can e m) [
-    | inl none ↦ inl none
-    | inr w ↦ (let c = g.kept w.1 (w.0, w.2, w.3) in inr (c.0, w.1, c.1, c.2, w.4))
-  ];
-}
+pub grows_on : (a b c : Takers) → Grows a b → Grows b c → Grows a c
+grows_on a b c first then = record { kept = λ by h. then.kept by (first.kept by h); once = λ h. then.once (first.once h) }
 
--- at each hook
-pub taken_of : (t : Table) (step : Step) (steps : List Step) → ((hook : Hook) → IsTakenAt t step hook steps) → All (IsRule t) steps → AllPairs (λ (a b : Step). a ≡ b → ⊥) steps → IsTaken t step steps
-taken_of t step steps at rules once = record {
-  dead = λ p can on. (at p.hook).dead p can refl on;
-  decided = λ p can m. (at p.hook).decided p can refl m;
-  rules = rules;
-  once = once;
-}
+module _ (leaf : Leaf) (old new : Takers) where
+  pub takes_policy : step_of leaf ≡ None → new.rules.items ≡ old.rules.items → new.policy ≡ true → Takes leaf old new
+  takes_policy e same now = record {
+    grows = record { kept = kept; once = λ h. subst O (sym same) h };
+    added = subst (IsAmong new) (sym e) now;
+    only = only;
+  }
+    where
+      O : List Step → Type 0
+      O items = AllPairs (λ (a b : Step). a ≡ b → ⊥) items
 
-pub takers_step : (t : Table) (step : Step) (i : ℕ) (d : Hook) (leaves : List Leaf) (old new : List Step) → IsSound t → i < 3 → AreBefore t step (get_or all_hooks i d) leaves → TakesAll t leaves old new → ((k : ℕ) (h : Hook) → k < i → IsTakenAt t step (get_or all_hooks k h) old)
-    → (k : ℕ) (h : Hook) → k < i + 1 → IsTakenAt t step (get_or all_hooks k h) new
-takers_step t step i d leaves old new s lt before takes below =
-    let hook : Hook = get_or all_hooks i d in
-    items_next (λ (h : Hook). IsTakenAt t step h new) all_hooks i hook lt (get_or_default all_hooks i d hook lt) (λ k h less. taken_on t step (get_or all_hooks k h) old new takes.grows (below k h less)) (taken_at t step hook leaves new s before takes.added)
+      kept : (by : Option Step) → IsAmong old by → IsAmong new by
+      kept None h = now
+      kept (Some x) h = let P : List Step → Type 0 = λ xs. Contains xs x in subst P (sym same) h
+
+      only : (by : Option Step) → IsAmong new by → IsAmong old by ⊎ (step_of leaf ≡ by)
+      only None h = inr e
+      only (Some x) h = let P : List Step → Type 0 = λ xs. Contains xs x in inl (subst P same h)
+
+  module _ (step : Step) (e : step_of leaf ≡ Some step) where
+    pub takes_known : new ≡ old → Contains old.rules.items step → Takes leaf old new
+    takes_known same c = let P : Takers → Type 0 = λ n. Takes leaf old n in subst P (sym same) (record { grows = grows_same old; added = subst (IsAmong old) (sym e) c; only = λ by h. inl h })
+
+    pub takes_new : (Contains old.rules.items step → ⊥) → new.rules.items ≡ old.rules.items ++ step ∷ [] → new.policy ≡ old.policy → Takes leaf old new
+    takes_new none is policy = record {
+      grows = record { kept = kept; once = λ h. subst O (sym is) (all_pairs_push (λ (a b : Step). a ≡ b → ⊥) old.rules.items step h not_there) };
+      added = subst (IsAmong new) (sym e) (let P : List Step → Type 0 = λ xs. Contains xs step in subst P (sym is) (Contains-push old.rules.items step));
+      only = only;
+    }
+      where
+        O : List Step → Type 0
+        O items = AllPairs (λ (a b : Step). a ≡ b → ⊥) items
+
+        not_there : (k : ℕ) (d : Step) → k < length old.rules.items → get_or old.rules.items k d ≡ step → ⊥
+        not_there k d lt at = none (k, lt, get_or_default old.rules.items k step d lt ∙ at)
+
+        kept : (by : Option Step) → IsAmong old by → IsAmong new by
+        kept None h = policy ∙ h
+        kept (Some x) h = let P : List Step → Type 0 = λ xs. Contains xs x in subst P (sym is) (Contains-append_left old.rules.items (step ∷ []) x h)
+
+        only : (by : Option Step) → IsAmong new by → IsAmong old by ⊎ (step_of leaf ≡ by)
+        only None h = inl (sym policy ∙ h)
+        only (Some x) h =
+            let P : List Step → Type 0 = λ xs. Contains xs x in
+            elim (Contains-push_cases old.rules.items step x (subst P is h)) [
+              | inl c ↦ inl c
+              | inr same ↦ inr (e ∙ ap Some same)
+            ]
+
+-- leaf after leaf
+module _ (leaves : List Leaf) (i : ℕ) (leaf : Leaf) (lt : i < length leaves) (is : leaf ≡ get_or leaves i leaf) (first old new : Takers) (takes : Takes leaf old new) where
+  abbrev Own : Takers → Leaf → Type 0
+  Own takers l = IsAmong takers (step_of l)
+
+  pub added_next : ((k : ℕ) (d : Leaf) → k < i → IsAmong old (step_of (get_or leaves k d))) → (k : ℕ) (d : Leaf) → k < i + 1 → IsAmong new (step_of (get_or leaves k d))
+  added_next below = items_next (Own new) leaves i leaf lt is (λ k d less. takes.grows.kept (step_of (get_or leaves k d)) (below k d less)) takes.added
+
+  pub only_next : ((by : Option Step) → IsAmong old by → IsAmong first by ⊎ Any (λ (l : Leaf). step_of l ≡ by) leaves) → (by : Option Step) → IsAmong new by → IsAmong first by ⊎ Any (λ (l : Leaf). step_of l ≡ by) leaves
+  only_next below by h = elim (takes.only by h) [
+    | inl before ↦ below by before
+    | inr e ↦ inr (i, leaf, lt, sym is, e)
+  ]
+
+-- ---- hook after hook
+
+module _ (t : Table) (step : Step) where
+  pub nobody_takes : (takers : Takers) → takers.rules.items ≡ [] → takers.policy ≡ false → AllTake t step takers
+  nobody_takes takers none off None h = absurd (true≢false (sym h ∙ off))
+  nobody_takes takers none off (Some x) h = absurd (omega (arith, h.1, ap (λ (xs : List Step). length xs) none))
+
+  -- a hook from which nothing leads to the rule's chain
+  pub unled_at : (takers : Takers) (hook : Hook) → (IsLed t step hook → ⊥) → IsTakenAt t step takers hook
+  unled_at takers hook none = record {
+    dead = λ p can e on. (let P : Hook → Type 0 = λ h. IsLed t step h in none (subst P e (entry_led t p (entry_of t.chains step) on)));
+    decided = λ led. absurd (none led);
+  }
+
+  pub taken_on : (hook : Hook) (a b : Takers) → Grows a b → IsTakenAt t step a hook → IsTakenAt t step b hook
+  taken_on hook a b g at = record {
+    dead = at.dead;
+    decided = λ led p m. elim (at.decided led p m) [
+      | inl policy ↦ inl (g.kept None policy.0, policy.1)
+      | inr w ↦ (let c = g.kept (Some w.1) (w.0, w.2, w.3) in inr (c.0, w.1, c.1, c.2, w.4))
+    ];
+  }
+
+  module _ (s : IsSound t) where
+    -- a packet of a leaf is decided by whom the leaf shows
+    shown_by : (p : Packet) (leaf : Leaf) (by : Option Step) → walk t p ≡ walked_of t.chains leaf → IsDecided leaf → step_of leaf ≡ by → MatchOption by (IsTrue (walk t p).by_policy) (λ taker. IsRule t taker × IsDecidedBy t p taker)
+    shown_by p leaf None walked own e = ap (λ (w : Walked). w.by_policy) walked ∙ own e
+    shown_by p leaf (Some x) walked own e =
+        let P : Option Step → Type 0 = λ o. IfSome o (IsRule t) in
+        (subst P e (decider_is_rule t p leaf s walked), ap decider_of walked ∙ decider_shown t.chains leaf ∙ ap (option_map (entry_of t.chains)) e)
+
+    among_of : (p : Packet) (takers : Takers) (by : Option Step) → MatchOption by (IsTrue (walk t p).by_policy) (λ taker. IsRule t taker × IsDecidedBy t p taker) → IsAmong takers by → IsDecidedAmong t takers p
+    among_of p takers None shown h = inl (h, shown)
+    among_of p takers (Some x) shown h = inr (h.0, x, h.1, h.2, shown.1)
+
+    module _ (hook : Hook) (leaves : List Leaf) (old new : Takers) (before : AreBefore t step hook leaves) (takes : TakesAll leaves old new) where
+      pub taken_at : IsTakenAt t step new hook
+      taken_at = record {
+        dead = before.dead;
+        decided = λ led p m. (
+            let w = before.all p m in
+            let own : IsDecided w.1 = All-contains IsDecided leaves w.1 before.decided (w.0, w.2, w.3) in
+            among_of p new (step_of w.1) (shown_by p w.1 (step_of w.1) w.4.walked own refl) (All-contains (λ (l : Leaf). IsAmong new (step_of l)) leaves w.1 takes.added (w.0, w.2, w.3)));
+      }
+
+      pub all_take : IsLed t step hook → AllTake t step old → AllTake t step new
+      all_take led below by h = elim (takes.only by h) [
+        | inl there ↦ below by there
+        | inr w ↦ (
+            let one = All-contains (IsWalked t step hook) leaves w.1 before.each (w.0, w.2, w.3) in
+            let m : IsMatchedAt t step hook one.0 = one.1 in
+            let own : IsDecided w.1 = All-contains IsDecided leaves w.1 before.decided (w.0, w.2, w.3) in
+            let P : Hook → Type 0 = λ k. IsLed t step k in
+            (one.0, record { can = m.can; led = subst P (sym m.there) led; matched = m.matched }, shown_by one.0 w.1 by one.2 own w.4))
+      ]
+
+    -- of all hooks
+    pub taken_of : (takers : Takers) → ((hook : Hook) → IsTakenAt t step takers hook) → AllTake t step takers → AllPairs (λ (a b : Step). a ≡ b → ⊥) takers.rules.items → IsDead t (entry_of t.chains step) × IsTaken t step takers
+    taken_of takers at each once = (
+      λ p can on. (at p.hook).dead p can refl on,
+      record {
+        all = λ p m. (at p.hook).decided m.led p (record { can = m.can; there = refl; matched = m.matched });
+        each = λ k d lt. (let own = each (Some (get_or takers.rules.items k d)) (Contains-get_or takers.rules.items k d lt) in (own.0, own.1, own.2.1));
+        policy = each None;
+        rules = λ k d lt. (each (Some (get_or takers.rules.items k d)) (Contains-get_or takers.rules.items k d lt)).2.0;
+        once = once;
+      },
+    )
+
+  pub hooks_next : (old new : Takers) (i : ℕ) (d : Hook) → i < 3 → Grows old new → IsTakenAt t step new (get_or all_hooks i d) → ((k : ℕ) (h : Hook) → k < i → IsTakenAt t step old (get_or all_hooks k h)) → (k : ℕ) (h : Hook) → k < i + 1 → IsTakenAt t step new (get_or all_hooks k h)
+  hooks_next old new i d lt grows here below =
+      let hook : Hook = get_or all_hooks i d in
+      items_next (IsTakenAt t step new) all_hooks i hook lt (get_or_default all_hooks i d hook lt) (λ k h less. taken_on (get_or all_hooks k h) old new grows (below k h less)) here
 
 -- what holds at each place of the hooks holds of each
 pub hooks_all : (P : Hook → Type 0) → ((k : ℕ) (h : Hook) → k < 3 → P (get_or all_hooks k h)) → (hook : Hook) → P hook
 hooks_all P all Input = all 0 Input (omega arith)
 hooks_all P all Forward = all 1 Input (omega arith)
 hooks_all P all Output = all 2 Input (omega arith)
+
+-- ---- what is said
+
+-- takers that decide something have a packet
+pub packet_of_policy : (t : Table) (step : Step) (takers : Takers) → IsTaken t step takers → takers.policy ≡ true → HasPacket t step
+packet_of_policy t step takers is h = let own = is.policy h in (own.0, own.1)
+
+pub packet_of_rule : (t : Table) (step : Step) (takers : Takers) → IsTaken t step takers → 0 < length takers.rules.items → HasPacket t step
+packet_of_rule t step takers is h =
+    let d : Step = step in
+    let own = is.each 0 d h in (own.0, own.1)
+
+pub no_packet : (t : Table) (step : Step) (takers : Takers) → IsTaken t step takers → takers.rules.items ≡ [] → takers.policy ≡ false → HasPacket t step → ⊥
+no_packet t step takers is none off w = elim (is.all w.0 w.1) [
+  | inl policy ↦ true≢false (sym policy.0 ∙ off)
+  | inr own ↦ absurd (omega (arith, own.2, ap (λ (xs : List Step). length xs) none))
+]

@@ -139,7 +139,7 @@ items_next {X} P xs i x within is below here k d lt =
 pub never_on : (t : Table) (p : Packet) (step : Step) (hook : Hook) (leaves : List Leaf) → IsSound t → IsRule t step → AreWalksOf t step hook leaves → All (λ leaf. Contains leaf.trail.items step → ⊥) leaves → IsAtHook p → p.hook ≡ hook
     → Contains (walk t p).trail (entry_of t.chains step) → ⊥
 never_on t p step hook leaves s is walks none can e on =
-    let leaf = walks p can e (rule_matches t p step s is on) in
+    let leaf = walks p (record { can = can; there = e; matched = rule_matches t p step s is on }) in
     All-contains (λ (l : Leaf). Contains l.trail.items step → ⊥) leaves leaf.1 none (leaf.0, leaf.2, leaf.3) (on_leaf t p leaf.1 step s is.chain leaf.4 on)
 
 -- ---- a step of a trail that was asked for is an entry of the walk

@@ -276,7 +276,7 @@ module _ (t : Table) (policy : Verdict) (box : List SpanSet) (old new : Front) w
 
 -- ---- the first rule of a hook's chain
 
-named_first : (cs : List Chain) (hook : Hook) → take 3 (names_of cs) ≡ built_in_names → (name_at cs (hook_index hook) ≡ hook_name hook) × (hook_index hook < length cs)
+pub named_first : (cs : List Chain) (hook : Hook) → take 3 (names_of cs) ≡ built_in_names → (name_at cs (hook_index hook) ≡ hook_name hook) × (hook_index hook < length cs)
 named_first [] hook e = absurd (omega (arith, ap (λ (ns : List (List ℕ)). length ns) e))
 named_first (a ∷ []) hook e = absurd (omega (arith, ap (λ (ns : List (List ℕ)). length ns) e))
 named_first (a ∷ b ∷ []) hook e = absurd (omega (arith, ap (λ (ns : List (List ℕ)). length ns) e))

@@ -1,46 +1,68 @@
 -- Why a rule is dead.
-use Rattle.std.specs.Prelude.{◌≡◌, ◌⊎◌, ℕ, true, List, Some, All, AllPairs, Any, Contains, IsFalse}
+use Rattle.std.specs.Prelude.{◌≡◌, ◌⊎◌, ℕ, true, List, Some, All, AllPairs, Any, IsFalse, IsTrue}
 use Rattle.fields.specs.declared.numbers.field.Field.{Field}
+use Rattle.fields.specs.declared.packet.hook.Hook.{Hook}
+use Rattle.fields.specs.packet.Hook.{name as hook_name}
 use Rattle.fields.specs.packet.Packet.{PacketView as Packet, point}
 use Rattle.rules.specs.rule.Allows.{allows, matches}
 use Rattle.rules.specs.rule.Rules.{Rule}
-use Rattle.table.specs.chains.Table.{Table, chain_at, is_built_in, is_referenced}
+use Rattle.table.specs.chains.Sound.{Leads}
+use Rattle.table.specs.chains.Table.{Table, chain_at}
 use Rattle.table.specs.declared.walk.trail.Step.{Step}
-use Rattle.table.specs.walk.Walk.{Entry, walk}
+use Rattle.table.specs.walk.Walk.{walk}
 use Rattle.questions.specs.Ends.{IsRule, decider_of, rule_at}
 use Rattle.questions.specs.Leaves.{entry_of}
 use Rattle.questions.specs.asked.Rule.{IsDead}
 use Rattle.questions.specs.boxes.Area.{IsAtHook}
 use Rattle.questions.specs.declared.asked.reason.Reason.{Reason}
-use Rattle.questions.specs.declared.asked.reason.Reason.TheVariants.{Impossible, Unreached, Taken}
+use Rattle.questions.specs.declared.asked.reason.Reason.TheVariants.{Impossible, Unreached, NoPacket, Taken}
+use Rattle.questions.specs.declared.asked.takers.Takers.{Takers}
+
+-- jumps and gotos lead from the hook's chain to the rule's chain
+abbrev pub IsLed : Table → Step → Hook → Type 0
+IsLed t step hook = Leads t.chains (hook_name hook) (chain_at t step.chain).name
+
+-- the packet might come to the rule and would match it: it can be at its hook, which leads to the rule's chain, and the rule matches it
+pub record IsMeantFor (t : Table) (step : Step) (p : Packet) : Type 0 where
+  pub can : IsAtHook p
+  pub led : IsLed t step p.hook
+  pub matched : matches p.values (rule_at t step) ≡ true
+
+-- there is such a packet
+abbrev pub HasPacket : Table → Step → Type 0
+HasPacket t step = (p : Packet) × IsMeantFor t step p
 
 -- the rule allows no number on the field that a packet can have
 abbrev pub IsImpossible : Rule → Field → Type 0
 IsImpossible rule field = (p : Packet) → IsAtHook p → IsFalse (allows rule field (point p field))
 
--- the chain is no built-in one, and no rule names it, so that no packet's walk has a rule of it
-pub record IsUnreached (t : Table) (name : List ℕ) : Type 0 where
-  pub user : IsFalse (is_built_in name)
-  pub unnamed : IsFalse (is_referenced t.chains name)
-  pub never : (p : Packet) (entry : Entry) → Contains (walk t p).trail entry → entry.chain ≡ name → ⊥
+-- no jumps and gotos lead from a built-in chain to the rule's chain
+abbrev pub IsUnreached : Table → Step → Type 0
+IsUnreached t step = (hook : Hook) → IsLed t step hook → ⊥
 
--- the policy decides the packet's walk, or one of the rules
-abbrev pub IsDecidedAmong : Table → List Step → Packet → Type 0
-IsDecidedAmong t steps p = ((walk t p).by_policy ≡ true) ⊎ Any (λ step. decider_of (walk t p) ≡ Some (entry_of t.chains step)) steps
+-- a rule decides the packet's walk
+abbrev pub IsDecidedBy : Table → Packet → Step → Type 0
+IsDecidedBy t p by = decider_of (walk t p) ≡ Some (entry_of t.chains by)
 
--- Each packet that the rule matches is decided by the policy or by one of the steps, and not after the rule. The steps are rules of the table,
--- each named once.
-pub record IsTaken (t : Table) (step : Step) (steps : List Step) : Type 0 where
-  pub dead : IsDead t (entry_of t.chains step)
-  pub decided : (p : Packet) → IsAtHook p → matches p.values (rule_at t step) ≡ true → IsDecidedAmong t steps p
-  pub rules : All (IsRule t) steps
-  pub once : AllPairs (λ a b. a ≡ b → ⊥) steps
+-- one of the rules decides the packet's walk, or the policy, if it is named
+abbrev pub IsDecidedAmong : Table → Takers → Packet → Type 0
+IsDecidedAmong t takers p = (IsTrue takers.policy × IsTrue (walk t p).by_policy) ⊎ Any (IsDecidedBy t p) takers.rules.items
+
+-- just these decide the packets that might come to the rule and would match it: each of the packets is decided by one of them, and each of them
+-- decides some packet; they are rules of the table, each named once
+pub record IsTaken (t : Table) (step : Step) (takers : Takers) : Type 0 where
+  pub all : (p : Packet) → IsMeantFor t step p → IsDecidedAmong t takers p
+  pub each : All (λ by. (p : Packet) × IsMeantFor t step p × IsDecidedBy t p by) takers.rules.items
+  pub policy : IsTrue takers.policy → (p : Packet) × IsMeantFor t step p × IsTrue (walk t p).by_policy
+  pub rules : All (IsRule t) takers.rules.items
+  pub once : AllPairs (λ a b. a ≡ b → ⊥) takers.rules.items
 
 -- what a reason says of the rule of a step
 abbrev pub IsReason : Table → Step → Reason → Type 0
 IsReason t step (Impossible field) = IsImpossible (rule_at t step) field
-IsReason t step Unreached = IsUnreached t (chain_at t step.chain).name
-IsReason t step (Taken steps) = IsTaken t step steps.items
+IsReason t step Unreached = IsUnreached t step
+IsReason t step NoPacket = HasPacket t step → ⊥
+IsReason t step (Taken takers) = HasPacket t step × IsTaken t step takers
 
 -- the rule is dead, for this reason
 pub record Explains (t : Table) (step : Step) (reason : Reason) : Type 0 where

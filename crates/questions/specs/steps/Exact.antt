@@ -49,3 +49,8 @@ AnyHas numbers leaves = Any (λ (leaf : Leaf). Has leaf.area numbers) leaves
 pub record AreExact (t : Table) (given : Given) (found exact : List Leaf) : Type 0 where
   pub each : All (IsExact t given) exact
   pub all : (numbers : List ℕ) → IsPoint numbers → Has given.area numbers → AnyHas numbers found → AnyHas numbers exact
+
+-- each packet of the box that can be at the hook is one of an exact leaf
+pub record AreExactWalks (t : Table) (given : Given) (exact : List Leaf) : Type 0 where
+  pub each : All (IsExact t given) exact
+  pub all : (p : Packet) → IsAtHook p → p.hook ≡ given.hook → IsIn given.area p → AnyHas p.values exact

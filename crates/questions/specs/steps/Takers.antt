@@ -1,52 +1,82 @@
--- The rules that decide the packets which another rule matches.
-use Rattle.std.specs.Prelude.{◌≡◌, true, List, None, All, AllPairs, Any, Contains, IfSome}
+-- Who decides the packets that a rule matches.
+use Rattle.std.specs.Prelude.{◌≡◌, ◌⊎◌, true, List, Option, Some, None, All, AllPairs, Any, Contains, MatchOption, IsTrue}
 use Rattle.fields.specs.declared.packet.hook.Hook.{Hook}
-use Rattle.fields.specs.packet.Packet.{PacketView as Packet}
-use Rattle.rules.specs.rule.Allows.{matches}
+use Rattle.fields.specs.packet.Packet.{PacketView as Packet, IsPacket}
+use Rattle.rules.specs.rule.Allows.{allows_each, matches}
 use Rattle.table.specs.chains.Table.{Table}
 use Rattle.table.specs.declared.walk.trail.Step.{Step}
+use Rattle.table.specs.walk.Walk.{walk}
 use Rattle.questions.specs.Ends.{IsRule, rule_at, step_of}
-use Rattle.questions.specs.Leaves.{EndsIn, entry_of}
-use Rattle.questions.specs.asked.Reason.{IsDecidedAmong}
+use Rattle.questions.specs.Leaves.{EndsIn, entry_of, walked_of}
+use Rattle.questions.specs.asked.Reason.{IsDecidedAmong, IsDecidedBy, IsLed, IsMeantFor}
 use Rattle.questions.specs.asked.Rule.{IsDeadAt}
-use Rattle.questions.specs.boxes.Area.{IsAtHook}
+use Rattle.questions.specs.boxes.Area.{IsAtHook, IsIn}
+use Rattle.questions.specs.declared.asked.reach.Given.{Given}
+use Rattle.questions.specs.declared.asked.takers.Takers.{Takers}
 use Rattle.questions.specs.declared.walking.task.Leaf.{Leaf}
 
--- the policy decides, or a rule
-abbrev pub IsDecided : Leaf → Type 0
-IsDecided leaf = step_of leaf ≡ None → leaf.by_policy ≡ true
+-- the packet can be at the hook and is there, and the rule matches it
+pub record IsMatchedAt (t : Table) (step : Step) (hook : Hook) (p : Packet) : Type 0 where
+  pub can : IsAtHook p
+  pub there : p.hook ≡ hook
+  pub matched : matches p.values (rule_at t step) ≡ true
+
+-- of the packets at the hook a box has those that the rule matches, and none that can't be there or has a number that the rule doesn't allow
+pub record IsBoxAt (t : Table) (step : Step) (hook : Hook) (given : Given) : Type 0 where
+  pub there : given.hook ≡ hook
+  pub all : (p : Packet) → IsMatchedAt t step hook p → IsIn given.area p
+  pub only : (p : Packet) → IsPacket p → p.hook ≡ hook → IsIn given.area p → IsAtHook p × (allows_each p.values (rule_at t step) ≡ true)
 
 -- each packet at the hook that the rule matches is in some leaf, and has its walk
 abbrev pub AreWalksOf : Table → Step → Hook → List Leaf → Type 0
-AreWalksOf t step hook leaves = (p : Packet) → IsAtHook p → p.hook ≡ hook → matches p.values (rule_at t step) ≡ true → Any (EndsIn t p) leaves
+AreWalksOf t step hook leaves = (p : Packet) → IsMatchedAt t step hook p → Any (EndsIn t p) leaves
 
--- the rule is on the walk of no packet at the hook, and the leaves have the walks of those that it matches
+-- one of them has the walk that the leaf shows
+abbrev pub IsWalked : Table → Step → Hook → Leaf → Type 0
+IsWalked t step hook leaf = (p : Packet) × IsMatchedAt t step hook p × (walk t p ≡ walked_of t.chains leaf)
+
+-- the policy decides, or a rule
+abbrev pub IsDecided : Leaf → Type 0
+IsDecided leaf = step_of leaf ≡ None → IsTrue leaf.by_policy
+
+-- the rule is on the walk of no packet at the hook, and the leaves have just the walks of those that it matches
 pub record AreBefore (t : Table) (step : Step) (hook : Hook) (leaves : List Leaf) : Type 0 where
   pub dead : IsDeadAt t (entry_of t.chains step) hook
   pub all : AreWalksOf t step hook leaves
+  pub each : All (IsWalked t step hook) leaves
   pub decided : All IsDecided leaves
 
--- the leaf's decider, where it is a rule of the table, is one of the steps
-abbrev pub IsAmong : Table → List Step → Leaf → Type 0
-IsAmong t steps leaf = IfSome (step_of leaf) (λ step. IsRule t step → Contains steps step)
+-- who decides a leaf is among them
+abbrev pub IsAmong : Takers → Option Step → Type 0
+IsAmong takers by = MatchOption by (IsTrue takers.policy) (Contains takers.rules.items)
 
--- steps, and others before them
-pub record Grows (t : Table) (old new : List Step) : Type 0 where
-  pub kept : (step : Step) → Contains old step → Contains new step
-  pub rules : All (IsRule t) old → All (IsRule t) new
-  pub once : AllPairs (λ a b. a ≡ b → ⊥) old → AllPairs (λ a b. a ≡ b → ⊥) new
+-- more of them
+pub record Grows (old new : Takers) : Type 0 where
+  pub kept : (by : Option Step) → IsAmong old by → IsAmong new by
+  pub once : AllPairs (λ a b. a ≡ b → ⊥) old.rules.items → AllPairs (λ a b. a ≡ b → ⊥) new.rules.items
 
--- with the decider of a leaf
-pub record Takes (t : Table) (leaf : Leaf) (old new : List Step) : Type 0 where
-  pub grows : Grows t old new
-  pub added : IsAmong t new leaf
+-- with who decides a leaf, and nobody else
+pub record Takes (leaf : Leaf) (old new : Takers) : Type 0 where
+  pub grows : Grows old new
+  pub added : IsAmong new (step_of leaf)
+  pub only : (by : Option Step) → IsAmong new by → IsAmong old by ⊎ (step_of leaf ≡ by)
 
--- with those of all leaves
-pub record TakesAll (t : Table) (leaves : List Leaf) (old new : List Step) : Type 0 where
-  pub grows : Grows t old new
-  pub added : All (IsAmong t new) leaves
+-- with those who decide all leaves, and nobody else
+pub record TakesAll (leaves : List Leaf) (old new : Takers) : Type 0 where
+  pub grows : Grows old new
+  pub added : All (λ leaf. IsAmong new (step_of leaf)) leaves
+  pub only : (by : Option Step) → IsAmong new by → IsAmong old by ⊎ Any (λ leaf. step_of leaf ≡ by) leaves
 
--- the rule is dead at the hook, and the packets there that it matches are decided by the policy or by one of the steps
-pub record IsTakenAt (t : Table) (step : Step) (hook : Hook) (steps : List Step) : Type 0 where
+-- the packet might come to the rule and would match it, and this rule, or the policy, decides it
+abbrev pub TakesOne : Table → Step → Option Step → Type 0
+TakesOne t step by =
+    (p : Packet) × IsMeantFor t step p × MatchOption by (IsTrue (walk t p).by_policy) (λ taker. IsRule t taker × IsDecidedBy t p taker)
+
+-- each of them decides such a packet
+abbrev pub AllTake : Table → Step → Takers → Type 0
+AllTake t step takers = (by : Option Step) → IsAmong takers by → TakesOne t step by
+
+-- the rule is dead at the hook, and if this leads to the rule's chain, they decide the packets there that it matches
+pub record IsTakenAt (t : Table) (step : Step) (takers : Takers) (hook : Hook) : Type 0 where
   pub dead : IsDeadAt t (entry_of t.chains step) hook
-  pub decided : (p : Packet) → IsAtHook p → p.hook ≡ hook → matches p.values (rule_at t step) ≡ true → IsDecidedAmong t steps p
+  pub decided : IsLed t step hook → (p : Packet) → IsMatchedAt t step hook p → IsDecidedAmong t takers p

@@ -1,6 +1,6 @@
 // Boxes of which all packets have one walk.
 ghost use Rattle.std.specs.Prelude.{◌≡◌, IfOk, IfSome};
-ghost use Rattle.questions.specs.steps.Exact.{AreExact, IsSharedOf, IsWalkOf};
+ghost use Rattle.questions.specs.steps.Exact.{AreExact, AreExactWalks, IsSharedOf, IsWalkOf};
 
 use crate::asked::reach::Given;
 use crate::boxes::area::Area;
@@ -77,7 +77,7 @@ fn part_of(
 
 // The packets that some leaves share with a box, as boxes of which all packets have one walk; none where some box may have
 // packets with several walks.
-pub(crate) fn exact_of(
+fn exact_of(
     alloc: Global,
     subject: &BoxedTable,
     given: &Given,
@@ -95,4 +95,20 @@ pub(crate) fn exact_of(
         }
     }
     Ok(Some(exact))
+}
+
+// The walks of all packets of a box that can be at a hook, as boxes of which all packets have one walk; none where that isn't known.
+pub(crate) fn exact_walks(
+    alloc: Global,
+    subject: &BoxedTable,
+    given: &Given,
+    budget: usize,
+) -> Result<Option<Vec<Leaf>>, AllocError>
+    ensures { IfOk result (λ found. IfSome found (λ exact. AreExactWalks subject.now.table.table given.now exact.items)) }
+{
+    let start = given.area.copy(alloc)?;
+    let Some(found) = leaves(alloc, subject, given.hook, start, budget)? else {
+        return Ok(None);
+    };
+    exact_of(alloc, subject, given, found.as_slice(), budget)
 }

@@ -3,11 +3,10 @@ ghost use Rattle.std.specs.Prelude.{IfOk, IfSome};
 ghost use Rattle.questions.specs.asked.Reach.{IsReach};
 ghost use Rattle.questions.specs.steps.Exact.{IsMet};
 
-use crate::asked::exact::exact_of;
+use crate::asked::exact::exact_walks;
 use crate::asked::reached::{Reached, grouped};
 use crate::boxes::area::Area;
 use crate::boxes::boxed_table::BoxedTable;
-use crate::walking::engine::leaves;
 use fields::{Field, Hook};
 use std::alloc::{AllocError, Global};
 
@@ -47,11 +46,7 @@ pub fn reach(
 {
     subject.table.stands();
     let asked = met(alloc, given)?;
-    let start = asked.area.copy(alloc)?;
-    let Some(found) = leaves(alloc, subject, asked.hook, start, budget)? else {
-        return Ok(None);
-    };
-    match exact_of(alloc, subject, &asked, found.as_slice(), budget)? {
+    match exact_walks(alloc, subject, &asked, budget)? {
         None => Ok(None),
         Some(exact) => Ok(Some(grouped(alloc, field, exact.as_slice())?)),
     }

@@ -5,10 +5,12 @@ ghost use Rattle.questions.specs.Ends.{IsRule};
 ghost use Rattle.questions.specs.Leaves.{entry_of};
 ghost use Rattle.questions.specs.asked.Rule.{IsLive, Says, SaysAt};
 
-use crate::asked::matching::walks_of_rule;
+use crate::asked::matching::packets_of;
+use crate::asked::reach::Given;
 use crate::boxes::area::Area;
 use crate::boxes::boxed_table::BoxedTable;
 use crate::sampling::sample::{Sample, sample_of};
+use crate::walking::engine::leaves;
 use crate::walking::task::Leaf;
 use fields::{Hook, Words};
 use std::alloc::{AllocError, Global};
@@ -99,7 +101,8 @@ fn life_at(
     ensures { IfOk result (SaysAt subject.now.table.table (entry_of subject.now.table.table.chains step) hook) }
 {
     subject.table.stands();
-    match walks_of_rule(alloc, subject, hook, step, budget)? {
+    let Given { hook: _, area } = packets_of(alloc, subject, hook, step)?;
+    match leaves(alloc, subject, hook, area, budget)? {
         None => Ok(Life::Unclear),
         Some(found) => {
             if none_on(found.as_slice(), step) {

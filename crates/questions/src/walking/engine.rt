@@ -53,7 +53,7 @@ fn step(
 }
 
 // The place of a hook's chain in the order of a listing.
-fn hook_index(hook: Hook) -> usize
+pub(crate) fn hook_index(hook: Hook) -> usize
     ensures { result ≡ hook_index hook }
 {
     match hook {

@@ -1,6 +1,15 @@
-use Rattle.std.proofs.Common.{refl}
+use Rattle.std.proofs.Common.{◌≡◌, false, sym, ◌∙◌}
+use Rattle.std.proofs.lemmas.Bool.{true≢false}
+use Rattle.fields.specs.declared.packet.hook.Hook.{Hook}
+use Rattle.table.specs.chains.Table.{chain_at}
 use Rattle.table.specs.declared.walk.trail.Step.{Step}
+use Rattle.table.specs.steps.Kept.{hook_index}
+use Rattle.std.specs.Prelude.{slice_index_or}
 use Rattle.questions.specs.Ends.{IsRule}
+use Rattle.questions.specs.Leaves.{entry_of}
+use Rattle.questions.specs.asked.Reason.{IsUnreached}
+use Rattle.questions.specs.steps.Leading.{AreLeading}
+use Rattle.questions.proofs.laws.LeadLaws.{entry_led, hook_led}
 use Rattle.questions.proofs.laws.TakerLaws.{dead_of, impossible_of}
 use Rattle.questions.proofs.asked.reason.why_dead.Goals as goal
 
@@ -15,7 +24,20 @@ returns-in-Some c =
       why = impossible_of t step c.at-boxed.result.now c.in-Some.field c.at-boxed.ensures none;
     }
 
-pub returns-then-is_unreached : goal.returns-then-is_unreached
-returns-then-is_unreached c =
-    let is = c.is_unreached.ensures c.if-is_unreached.true in
-    record { dead = λ p can on. is.never p _ on refl; why = is }
+pub returns-then-none_led : goal.returns-then-none_led
+returns-then-none_led c =
+    let t = c.args.subject.now.table.table in
+    let step : Step = record { chain = c.args.place; number = c.args.number } in
+    let name = (chain_at t c.args.place).name in
+    let marks = c.in-Some-2.marks.items in
+    let leading : AreLeading t name marks = rw c.in-Some-2.is at c.in_ok-marks.ensures in
+    let unmarked : (hook : Hook) → slice_index_or marks (hook_index hook) false ≡ false = rw c.as_slice.ensures.value at (c.none_led.ensures c.if-none_led.true) in
+    let unreached : IsUnreached t step = λ hook led. true≢false (sym (hook_led t name marks hook c.stands.ensures.sound leading led) ∙ unmarked hook) in
+    record { dead = λ p can on. unreached p.hook (entry_led t p (entry_of t.chains step) on); why = unreached }
+
+pub returns : goal.returns
+returns c =
+    let t = c.args.subject.now.table.table in
+    let step : Step = record { chain = c.args.place; number = c.args.number } in
+    let both = rw c.in-Some-3.is at c.in_ok-takers_of.ensures in
+    record { dead = both.0; why = c.reason_by.ensures t step both.1 }

@@ -1,0 +1,233 @@
+-- Where walks come to: to the chains that jumps and gotos lead to.
+use Rattle.std.proofs.Common.{◌≡◌, inl, inr, ℕ, zero, suc, ◌+◌, ◌-◌, ◌<◌, Bool, true, false, List, [], ◌∷◌, ◌++◌, length, get_or, refl, sym, ◌∙◌, ap, arith, subst, Option, Some, None, All, Contains}
+use Rattle.std.specs.Prelude.{◌↔◌, slice_get, IsTrue}
+use Rattle.std.specs.List.{list_any, position}
+use Rattle.std.proofs.Math.ListN.{set}
+use Rattle.std.proofs.lemmas.Bool.{cases_Bool, cases_eq, true≢false}
+use Rattle.std.proofs.lemmas.List.{get_or_default, get_or-set_same, get_or-set_other, length-set}
+use Rattle.std.proofs.lemmas.List.Elements.{All-cons, All-contains, All-head, All-nil, All-push, All-tail, Contains-get_or}
+use Rattle.std.proofs.lemmas.Option.{get_or_from_slice_get, slice_get-get_or, slice_get_within}
+use Rattle.std.proofs.lemmas.Slice.Eq.{bytes_eq-Decides}
+use Rattle.fields.specs.declared.packet.hook.Hook.{Hook}
+use Rattle.fields.specs.declared.packet.hook.Hook.TheVariants.{Input, Forward, Output}
+use Rattle.fields.specs.packet.Hook.{name as hook_name}
+use Rattle.fields.specs.packet.Packet.{PacketView as Packet}
+use Rattle.rules.specs.declared.rule.target.Target.{Target}
+use Rattle.rules.specs.declared.rule.target.Target.TheVariants as target
+use Rattle.rules.specs.rule.Actions.{target_of}
+use Rattle.rules.specs.rule.Rules.{Rule, empty_rule}
+use Rattle.table.specs.chains.Sound.{IsSound, Leads, Names, Path}
+use Rattle.table.specs.chains.Table.{Chain, Table, chain_at, chain_in, chain_named_by, empty_chain, is_named, rules_of}
+use Rattle.table.specs.declared.verdict.Verdict.{Verdict}
+use Rattle.table.specs.steps.Kept.{hook_index}
+use Rattle.table.specs.walk.Cases.{Stage, Under, Over, StepsTo, GoesTo, on_by}
+use Rattle.table.specs.walk.Walk.{Entry, Next, Ends, GoesOn, Rest, after_match, end_verdict, walk, whole}
+use Rattle.table.proofs.laws.chains.KeepLaws.{rules_by_name}
+use Rattle.table.proofs.laws.chains.PlaceLaws.{IsPlaced, placed_at, any_none, has_at}
+use Rattle.table.proofs.laws.walk.CaseLaws.{walks_by_cases}
+use Rattle.questions.specs.Leaves.{name_at}
+use Rattle.questions.specs.steps.Leading.{AllLead, AreClosed, AreLeading, IsMarked, IsMarkedName, LeadsOn, NamesMarked, Spreads}
+use Rattle.questions.proofs.laws.EndLaws.{none_some, rules_there}
+use Rattle.questions.proofs.laws.TrailLaws.{one_place}
+use Rattle.questions.proofs.laws.WaitLaws.{named_first}
+
+-- ---- walks stay in a set of chains that has the hook's chain and, with a chain, each that its rules name
+
+found_in : {X : Type 0} (xs : List X) (k : ℕ) (x : X) → slice_get xs k ≡ Some x → Contains xs x
+found_in xs k x e = (k, slice_get_within xs k x e, get_or_from_slice_get xs k x x e)
+
+module _ (cs : List Chain) (policy : Verdict) (values : List ℕ) (In : List ℕ → Type 0) (closed : (a b : List ℕ) → In a → Names cs a b → In b) where
+  abbrev IsInside : Rest → Type 0
+  IsInside rest = In rest.chain
+
+  abbrev IsOf : Entry → Type 0
+  IsOf entry = In entry.chain
+
+  abbrev AreInside : Stage → Type 0
+  AreInside (Under rests trail) = All IsInside rests × All IsOf trail
+  AreInside (Over walked) = All IsOf walked.trail
+
+  abbrev GoesInside : Next → Type 0
+  GoesInside (Ends v) = Unit {0}
+  GoesInside (GoesOn rests) = All IsInside rests
+
+  on_inside : (next : Next) (trail : List Entry) → GoesInside next → All IsOf trail → AreInside (on_by next trail)
+  on_inside (Ends v) trail n h = h
+  on_inside (GoesOn rests) trail n h = (n, h)
+
+  by_target : (o : Option Target) (own : Rest) (stack : List Rest) → ((name : List ℕ) → chain_in o ≡ Some name → In name) → IsInside own → All IsInside stack → GoesInside (after_match o own stack)
+  by_target None own stack f h hs = All-cons IsInside own stack h hs
+  by_target (Some target.Log) own stack f h hs = All-cons IsInside own stack h hs
+  by_target (Some target.Accept) own stack f h hs = tt
+  by_target (Some target.Drop) own stack f h hs = tt
+  by_target (Some (target.Reject kind)) own stack f h hs = tt
+  by_target (Some target.Return) own stack f h hs = hs
+  by_target (Some (target.Jump chain)) own stack f h hs = All-cons IsInside (whole chain) (own ∷ stack) (f chain refl) (All-cons IsInside own stack h hs)
+  by_target (Some (target.Goto chain)) own stack f h hs = All-cons IsInside (whole chain) stack (f chain refl) hs
+
+  step_inside : (now next : Stage) → StepsTo cs policy values now next → AreInside now → AreInside next
+  step_inside (Over walked) next s h = absurd s
+  step_inside (Under [] trail) next s h = subst AreInside (sym s) h.1
+  step_inside (Under (rest ∷ waiting) trail) next (inl p) h =
+      let own : IsInside rest = All-head IsInside rest waiting h.0 in
+      subst AreInside (sym p.3) (All-cons IsInside (record { chain = rest.chain; passed = rest.passed + 1 }) waiting own (All-tail IsInside rest waiting h.0), h.1)
+  step_inside (Under (rest ∷ waiting) trail) next (inr (inl p)) h = subst AreInside (sym p.4) (All-nil IsOf)
+  step_inside (Under (rest ∷ waiting) trail) next (inr (inr (inr p))) h = subst AreInside (sym p.1) (All-tail IsInside rest waiting h.0, h.1)
+  step_inside (Under (rest ∷ waiting) trail) next (inr (inr (inl p))) h =
+      let own : IsInside rest = All-head IsInside rest waiting h.0 in
+      let entry : Entry = record { chain = rest.chain; number = rest.passed + 1 } in
+      let behind : Rest = record { chain = rest.chain; passed = rest.passed + 1 } in
+      subst AreInside (sym p.4) (on_inside _ (trail ++ entry ∷ [])
+      (by_target (target_of p.0) behind waiting (λ name e. closed rest.chain name own (p.0, found_in (rules_of cs rest.chain) rest.passed p.0 p.1, e)) own (All-tail IsInside rest waiting h.0))
+      (All-push IsOf trail entry h.1 own))
+
+  goes_inside : (n : ℕ) (now last : Stage) → GoesTo n cs policy values now last → AreInside now → AreInside last
+  goes_inside zero now last g h = subst AreInside g h
+  goes_inside (suc n) now last g h = goes_inside n g.0 last g.2 (step_inside now g.0 g.1 h)
+
+pub stays_inside : (t : Table) (p : Packet) (In : List ℕ → Type 0) → ((a b : List ℕ) → In a → Names t.chains a b → In b) → In (hook_name p.hook) → (entry : Entry) → Contains (walk t p).trail entry → In entry.chain
+stays_inside t p In closed first entry on =
+    let w = walks_by_cases t p in
+    let own : Entry → Type 0 = λ (e : Entry). In e.chain in
+    let rests : Rest → Type 0 = λ (r : Rest). In r.chain in
+    All-contains own (walk t p).trail entry
+    (goes_inside t.chains (end_verdict t p) p.values In closed w.0 _ (Over (walk t p)) w.1 (All-cons rests (whole (hook_name p.hook)) [] first (All-nil rests), All-nil own)) on
+
+-- ---- so they come only where jumps and gotos lead
+
+path_more : (cs : List Chain) (n : ℕ) (a b c : List ℕ) → Path cs n a b → Names cs b c → Path cs (suc n) a c
+path_more cs zero a b c e h = let P : List ℕ → Type 0 = λ x. Names cs x c in (c, subst P (sym e) h, refl)
+path_more cs (suc n) a b c path h = (path.0, path.1, path_more cs n path.0 b c path.2 h)
+
+pub entry_led : (t : Table) (p : Packet) (entry : Entry) → Contains (walk t p).trail entry → Leads t.chains (hook_name p.hook) entry.chain
+entry_led t p entry on =
+    stays_inside t p (λ chain. Leads t.chains (hook_name p.hook) chain) (λ a b led h. (suc led.0, path_more t.chains led.0 (hook_name p.hook) a b led.1 h)) (0, refl) entry on
+
+-- ---- marks
+
+-- a name by its place
+pub marked_name : (t : Table) (marks : List Bool) (name : List ℕ) (place : ℕ) → IsSound t → Some place ≡ position (is_named name) t.chains → IsMarkedName t.chains marks name → IsMarked marks place
+marked_name t marks name place s e h =
+    let placed : IsPlaced t name place = placed_at t name place (sym e) in
+    let same : place ≡ h.0 = one_place t place h.0 s h.1 (placed.named (empty_chain []) ∙ sym h.3) in
+    let P : ℕ → Type 0 = λ k. IsMarked marks k in
+    subst P (sym same) h.2
+
+pub name_marked : (t : Table) (marks : List Bool) (name : List ℕ) (place : ℕ) → Some place ≡ position (is_named name) t.chains → IsMarked marks place → IsMarkedName t.chains marks name
+name_marked t marks name place e h =
+    let placed : IsPlaced t name place = placed_at t name place (sym e) in
+    (place, placed.within, h, placed.named (empty_chain []))
+
+pub no_name : (t : Table) (marks : List Bool) (name : List ℕ) → None ≡ position (is_named name) t.chains → IsMarkedName t.chains marks name → ⊥
+no_name t marks name e h =
+    true≢false (sym (has_at t.chains name h.0 (empty_chain []) h.1 ((bytes_eq-Decides (name_at t.chains h.0) name).1 h.3)) ∙ any_none (is_named name) t.chains (sym e))
+
+-- a rule that names a chain names a marked one where the name is one's
+pub naming : (cs : List Chain) (marks : List Bool) (rule : Rule) (name : List ℕ) (b : Bool) → chain_named_by rule ≡ Some name → IsTrue b ↔ IsMarkedName cs marks name → IsTrue b ↔ NamesMarked cs marks rule
+naming cs marks rule name b e iff = (λ h. (name, e, iff.0 h), λ w. (let P : List ℕ → Type 0 = λ n. IsMarkedName cs marks n in iff.1 (subst P (same_name (sym w.1 ∙ e)) w.2)))
+  where
+    same_name : {x y : List ℕ} → ◌≡◌ {A = Option (List ℕ)} (Some x) (Some y) → x ≡ y
+    same_name e = cc
+
+-- and one that names none doesn't
+pub not_naming : (cs : List Chain) (marks : List Bool) (rule : Rule) → chain_named_by rule ≡ None → NamesMarked cs marks rule → ⊥
+not_naming cs marks rule e w = none_some (sym e ∙ w.1)
+
+-- rule after rule
+pub at_passed : (rules : List Rule) (k : ℕ) (rule : Rule) → k < length rules → rule ≡ get_or rules (k + 1 - 1) rule → rule ≡ get_or rules k rule
+at_passed rules k rule lt is = is ∙ ap (λ j. get_or rules j rule) (omega arith)
+
+pub none_on_of : (t : Table) (marks : List Bool) (place i : ℕ) → length (chain_at t place).rules ≡ i → ((k : ℕ) (d : Rule) → k < i → NamesMarked t.chains marks (get_or (chain_at t place).rules k d) → ⊥) → LeadsOn t marks place → ⊥
+none_on_of t marks place i e none w =
+    let P : Rule → Type 0 = λ r. NamesMarked t.chains marks r in
+    none w.1.0 w.0 (omega (arith, w.1.1, e)) (subst P (sym w.1.2) w.2)
+
+-- a rule of the chain at a place is one of those that its name has
+names_from : (t : Table) (place : ℕ) (rule : Rule) (name : List ℕ) → IsSound t → place < length t.chains → Contains (chain_at t place).rules rule → chain_named_by rule ≡ Some name → Names t.chains (name_at t.chains place) name
+names_from t place rule name s lt there e =
+    let own : rules_of t.chains (name_at t.chains place) ≡ (chain_at t place).rules = rules_by_name t (chain_at t place) s (Contains-get_or t.chains place (empty_chain []) lt) in
+    let P : List Rule → Type 0 = λ rs. Contains rs rule in
+    (rule, subst P (sym own) there, e)
+
+-- one mark more, for a chain with a rule that names a marked one
+pub spread_by : (t : Table) (marks : List Bool) (place : ℕ) → IsSound t → length marks ≡ length t.chains → place < length t.chains → LeadsOn t marks place → Spreads t marks (set marks place true)
+spread_by t marks place s long lt on = record {
+  long = length-set marks place true;
+  kept = λ k h. elim (cases_eq k place) [
+    | inl e ↦ marked_here k e
+    | inr ne ↦ get_or-set_other marks place k true false ne ∙ h
+  ];
+  each = λ name all k within h. elim (cases_eq k place) [
+    | inl e ↦ (
+        let P : ℕ → Type 0 = λ j. Leads t.chains (name_at t.chains j) name in
+        let next = on.2.2 in
+        let led : Leads t.chains (name_at t.chains next.0) name = all next.0 next.1 next.2 in
+        let first = names_from t place on.0 on.2.0 s lt on.1 on.2.1 in
+        let Q : List ℕ → Type 0 = λ n. Names t.chains (name_at t.chains place) n in
+        subst P (sym e) (suc led.0, (name_at t.chains next.0, subst Q (sym next.3) first, led.1)))
+    | inr ne ↦ all k within (sym (get_or-set_other marks place k true false ne) ∙ h)
+  ];
+}
+  where
+    marked_here : (k : ℕ) → k ≡ place → IsMarked (set marks place true) k
+    marked_here k e = let P : ℕ → Type 0 = λ j. IsMarked (set marks place true) j in subst P (sym e) (get_or-set_same marks place true false (omega (arith, lt, long)))
+
+pub spread_same : (t : Table) (marks : List Bool) → Spreads t marks marks
+spread_same t marks = record { long = refl; kept = λ k h. h; each = λ name h. h }
+
+pub spread_on : (t : Table) (a b c : List Bool) → Spreads t a b → Spreads t b c → Spreads t a c
+spread_on t a b c one two = record { long = two.long ∙ one.long; kept = λ k h. two.kept k (one.kept k h); each = λ name h. two.each name (one.each name h) }
+
+-- one chain more was looked at
+pub closed_next : (t : Table) (old new : List Bool) (place : ℕ) → new ≡ old → AreClosed t old place → (LeadsOn t old place → IsMarked old place) → AreClosed t new (place + 1)
+closed_next t old new place same below here = subst P (sym same) (λ k lt h. elim (cases_eq k place) [
+  | inl e ↦ (let Q : ℕ → Type 0 = λ j. LeadsOn t old j → IsMarked old j in subst Q (sym e) here h)
+  | inr ne ↦ below k (omega (arith, lt, ne)) h
+])
+  where
+    P : List Bool → Type 0
+    P marks = AreClosed t marks (place + 1)
+
+-- where the marks are closed, each chain is marked from which a path leads to one that is marked
+module _ (t : Table) (s : IsSound t) (marks : List Bool) (place : ℕ) (lt : place < length t.chains) (own : IsMarked marks place) (closed : AreClosed t marks (length t.chains)) where
+  chain_of : (n : ℕ) (name : List ℕ) → Path t.chains n name (name_at t.chains place) → (j : ℕ) × (j < length t.chains) × (name_at t.chains j ≡ name)
+  chain_of zero name e = (place, lt, sym e)
+  chain_of (suc n) name path =
+      let on = path.1.1 in
+      rules_there t.chains name on.0 path.1.0 (slice_get-get_or (rules_of t.chains name) on.0 path.1.0 on.1 ∙ ap Some on.2)
+
+  is_marked : (n k : ℕ) → k < length t.chains → Path t.chains n (name_at t.chains k) (name_at t.chains place) → IsMarked marks k
+  is_marked zero k within e = let P : ℕ → Type 0 = λ j. IsMarked marks j in subst P (sym (one_place t k place s lt e)) own
+  is_marked (suc n) k within path =
+      let rule : Rule = path.1.0 in
+      let next = chain_of n path.0 path.2 in
+      let P : List ℕ → Type 0 = λ name. Path t.chains n name (name_at t.chains place) in
+      let there : IsMarked marks next.0 = is_marked n next.0 next.1 (subst P (sym next.2) path.2) in
+      let rules : rules_of t.chains (name_at t.chains k) ≡ (chain_at t k).rules = rules_by_name t (chain_at t k) s (Contains-get_or t.chains k (empty_chain []) within) in
+      let Q : List Rule → Type 0 = λ rs. Contains rs rule in
+      closed k within (rule, subst Q rules path.1.1, (path.0, path.1.2, (next.0, next.1, there, next.2)))
+
+  pub leading_of : length marks ≡ length t.chains → AllLead t (name_at t.chains place) marks → AreLeading t (name_at t.chains place) marks
+  leading_of long all = record { long = long; each = all; all = λ k within led. is_marked led.0 k within led.1 }
+
+-- at first the chain itself is marked, and no other
+pub first_leads : (t : Table) (marks : List Bool) (place : ℕ) → ((k : ℕ) → get_or marks k false ≡ false) → AllLead t (name_at t.chains place) (set marks place true)
+first_leads t marks place none k within h = elim (cases_eq k place) [
+  | inl e ↦ (0, ap (name_at t.chains) e)
+  | inr ne ↦ absurd (true≢false (sym h ∙ get_or-set_other marks place k true false ne ∙ none k))
+]
+
+-- ---- hooks
+
+-- the chain of a hook is marked just where a path leads from it
+pub hook_leads : (t : Table) (name : List ℕ) (marks : List Bool) (hook : Hook) → IsSound t → AreLeading t name marks → IsMarked marks (hook_index hook) → Leads t.chains (hook_name hook) name
+hook_leads t name marks hook s leading h =
+    let named = named_first t.chains hook s.listed.built_in in
+    let P : List ℕ → Type 0 = λ n. Leads t.chains n name in
+    subst P named.0 (leading.each (hook_index hook) named.1 h)
+
+pub hook_led : (t : Table) (name : List ℕ) (marks : List Bool) (hook : Hook) → IsSound t → AreLeading t name marks → Leads t.chains (hook_name hook) name → IsMarked marks (hook_index hook)
+hook_led t name marks hook s leading h =
+    let named = named_first t.chains hook s.listed.built_in in
+    let P : List ℕ → Type 0 = λ n. Leads t.chains n name in
+    leading.all (hook_index hook) named.1 (subst P (sym named.0) h)

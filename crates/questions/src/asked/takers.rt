@@ -1,0 +1,135 @@
+//! Who decides the packets that a rule would match.
+ghost use Rattle.std.specs.Prelude.{◌≡◌, All, IfOk, IfSome, IsTrue, OnOk};
+ghost use Rattle.table.specs.chains.Table.{chain_at};
+ghost use Rattle.questions.specs.Ends.{IsRule};
+ghost use Rattle.questions.specs.Leaves.{entry_of};
+ghost use Rattle.questions.specs.asked.Reason.{IsTaken};
+ghost use Rattle.questions.specs.asked.Rule.{IsDead};
+ghost use Rattle.questions.specs.steps.Leading.{AreLeading};
+ghost use Rattle.questions.specs.steps.Takers.{AreBefore, IsDecided};
+
+use crate::asked::exact::exact_walks;
+use crate::asked::leading::is_led;
+use crate::asked::matching::packets_of;
+use crate::asked::rule::none_on;
+use crate::boxes::boxed_table::BoxedTable;
+use crate::walking::task::Leaf;
+use fields::Hook;
+use std::alloc::{AllocError, Global};
+use table::Step;
+
+/// Who decides some packets: rules, each named once, and policies or none.
+#[derive(Drop)]
+pub struct Takers {
+    /// The rules.
+    pub rules: Vec<Step>,
+    /// Whether a policy decides some of the packets.
+    pub policy: bool,
+}
+
+impl Takers {
+    ghost use Rattle.questions.specs.steps.Takers.{Takes, TakesAll};
+
+    // Adds who decides a leaf.
+    fn add(&mut self, leaf: &Leaf) -> Result<(), AllocError>
+        ensures { OnOk result (Takes leaf.now self.old self.new) }
+    {
+        let Some(step) = leaf.decider() else {
+            self.policy = true;
+            return Ok(());
+        };
+        if self.rules.contains(&step) {
+            return Ok(());
+        }
+        self.rules.push(step)?;
+        Ok(())
+    }
+
+    // Adds who decides any of the leaves.
+    fn add_all(&mut self, found: &[Leaf]) -> Result<(), AllocError>
+        ensures { OnOk result (TakesAll found.now self.old self.new) }
+    {
+        for leaf in found {
+            self.add(leaf)?;
+        }
+        Ok(())
+    }
+}
+
+// Whether the policy or a rule decides the walk of a leaf, and not its length.
+fn is_decided(leaf: &Leaf) -> bool
+    ensures { IsTrue result → IsDecided leaf.now }
+{
+    leaf.by_policy || leaf.decider().is_some()
+}
+
+// Whether that holds of all leaves.
+fn are_decided(found: &[Leaf]) -> bool
+    ensures { IsTrue result → All IsDecided found.now }
+{
+    for leaf in found {
+        if !is_decided(leaf) {
+            return false;
+        }
+    }
+    true
+}
+
+// The walks of the packets at a hook that a rule matches, as boxes of which all packets have one walk, if the rule is on none. Of a
+// rule that asks both ports it isn't known which packets of its box it matches.
+fn walks_before(
+    alloc: Global,
+    subject: &BoxedTable,
+    hook: Hook,
+    step: Step,
+    budget: usize,
+) -> Result<Option<Vec<Leaf>>, AllocError>
+    requires { IsRule subject.now.table.table step }
+    ensures { IfOk result (λ found. IfSome found (λ leaves. AreBefore subject.now.table.table step hook leaves.items)) }
+{
+    subject.table.stands();
+    let rule = subject.table.rule(step.chain, step.number);
+    if rule.asks_both() {
+        return Ok(None);
+    }
+    let given = packets_of(alloc, subject, hook, step)?;
+    let Some(found) = exact_walks(alloc, subject, &given, budget)? else {
+        return Ok(None);
+    };
+    if !none_on(found.as_slice(), step) {
+        return Ok(None);
+    }
+    if !are_decided(found.as_slice()) {
+        return Ok(None);
+    }
+    Ok(Some(found))
+}
+
+// Who decides the packets that a rule would match, if it is dead. The marks are those of the chains that lead to the rule's chain.
+pub(crate) fn takers_of(
+    alloc: Global,
+    subject: &BoxedTable,
+    step: Step,
+    marks: &[bool],
+    budget: usize,
+) -> Result<Option<Takers>, AllocError>
+    requires step { IsRule subject.now.table.table step }
+    requires marks { AreLeading subject.now.table.table (chain_at subject.now.table.table step.chain).name marks.now }
+    ensures { IfOk result (λ found. IfSome found (λ takers. IsDead subject.now.table.table (entry_of subject.now.table.table.chains step) × IsTaken subject.now.table.table step takers)) }
+{
+    subject.table.stands();
+    let mut takers = Takers {
+        rules: Vec::new(alloc),
+        policy: false,
+    };
+    for hook in Hook::ALL {
+        if !is_led(marks, hook) {
+            continue;
+        }
+        match walks_before(alloc, subject, hook, step, budget)? {
+            None => return Ok(None),
+            Some(found) => takers.add_all(found.as_slice())?,
+        }
+    }
+    Ok(Some(takers))
+}
