@@ -4,7 +4,7 @@ use anyhow::Result;
 use classify::Classifier;
 use rules::{Boxed, Rule, Work};
 use std::alloc::{AllocError, Global};
-use table::{Table, TableFault};
+use table::Table;
 
 /// The box of a rule.
 pub(crate) fn box_of(alloc: Global, rule: &Rule) -> Result<Boxed, AllocError> {
