@@ -7,9 +7,10 @@
 //! refused, and 4 where one was.
 //!
 //! With a word it makes the cases of that group alone, each group from nothing: `sets`, `values`, `rules`, `classifiers`,
-//! `tables` or `sessions`.
+//! `tables`, `questions` or `sessions`.
 #![tactic(auto)]
 
+mod asked;
 mod bit_rows;
 mod boxes;
 mod case;
@@ -29,6 +30,7 @@ mod words;
 use crate::case::{Refusals, Trouble};
 use classify::Classifier;
 use fields::Packet;
+use questions::BoxedTable;
 use sessions::Session;
 use std::alloc::Global;
 use std::env;
@@ -44,6 +46,7 @@ const GROUPS: &[&str] = &[
     "rules",
     "classifiers",
     "tables",
+    "questions",
     "sessions",
 ];
 
@@ -233,6 +236,31 @@ fn run_of_tables<R: Print + AllocGlobal>(rt: &R, refusals: &mut Refusals) {
     }
 }
 
+/// The questions about all packets, all asked of one table.
+fn run_of_answers<R: Print + AllocGlobal>(rt: &R, refusals: &mut Refusals, subject: &BoxedTable) {
+    let alloc = rt.alloc();
+    tell(rt, "lives", asked::lives(alloc, refusals, subject));
+    tell(
+        rt,
+        "rulesets compared",
+        asked::compared(alloc, refusals, subject),
+    );
+    tell(
+        rt,
+        "packets by their ports",
+        asked::reached(alloc, refusals, subject),
+    );
+    tell(rt, "walks", asked::walked(alloc, refusals, subject));
+}
+
+/// The cases of questions about all packets.
+fn run_of_questions<R: Print + AllocGlobal>(rt: &R, refusals: &mut Refusals) {
+    match asked::boxes(rt.alloc(), refusals) {
+        Ok(subject) => run_of_answers(rt, refusals, &subject),
+        Err(trouble) => tell(rt, "lives", Err(trouble)),
+    }
+}
+
 /// The cases of a session, which each finds as those before it left it.
 fn run_of_lines<R: Print + AllocGlobal>(rt: &R, refusals: &mut Refusals, session: &mut Session) {
     let alloc = rt.alloc();
@@ -269,6 +297,7 @@ fn run_of<R: Print + AllocGlobal>(rt: &R, refusals: &mut Refusals, group: &str) 
         "rules" => run_of_rules(rt, refusals),
         "classifiers" => run_of_classifiers(rt, refusals),
         "tables" => run_of_tables(rt, refusals),
+        "questions" => run_of_questions(rt, refusals),
         "sessions" => run_of_sessions(rt, refusals),
         _ => {}
     }
