@@ -4,7 +4,9 @@ ghost use Rattle.table.specs.chains.Table.{chain_at};
 
 use crate::progress::Progress;
 use fields::{Field, Hook};
-use questions::{BoxedTable, Given, Life, Likeness, Reached, compare_at, dead, reach};
+use questions::{
+    BoxedTable, Given, Life, Likeness, Reached, Reason, compare_at, dead, reach, why_dead,
+};
 use std::alloc::{AllocError, Global};
 use std::io::IsTerminal;
 use std::rt::Clock;
@@ -63,6 +65,23 @@ impl<'a, R: Clock, E: Print + IsTerminal> Asking<'a, R, E> {
         requires last { at.number ≤ length (chain_at subject.now.table.table at.chain).rules }
     {
         dead(self.alloc, subject, at.chain, at.number, self.steps)
+    }
+
+    /// Why a rule is dead, if that is known (`why_dead`).
+    ///
+    /// # Errors
+    ///
+    /// `AllocError` where memory was refused.
+    pub(crate) fn reason(
+        &self,
+        subject: &BoxedTable,
+        at: Step,
+    ) -> Result<Option<Reason>, AllocError>
+        requires place { at.chain < length subject.now.table.table.chains }
+        requires first { 0 < at.number }
+        requires last { at.number ≤ length (chain_at subject.now.table.table at.chain).rules }
+    {
+        why_dead(self.alloc, subject, at.chain, at.number, self.steps)
     }
 
     /// Whether two tables give each packet at a hook the same verdict (`compare_at`).

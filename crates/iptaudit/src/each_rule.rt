@@ -6,6 +6,7 @@ use crate::asking::Asking;
 use crate::fault::Fault;
 use crate::marks::Marks;
 use crate::packet_line::put_packet;
+use crate::reason_line::put_reason;
 use crate::rule_line::put_rule;
 use crate::tally::Tally;
 use fields::{Tap, WriteFailed};
@@ -32,6 +33,11 @@ impl<'a> Form<'a> {
             Form::Cover(marks) => marks.has(at),
             Form::Dead | Form::Tests => false,
         }
+    }
+
+    // Whether it is written why a rule is dead.
+    fn has_reasons(self) -> bool {
+        matches!(self, Form::Dead)
     }
 
     // What stands before a rule of which this is known; there is no line of a rule that isn't asked for.
@@ -85,6 +91,26 @@ impl<'a> Form<'a> {
     }
 }
 
+// Writes why a rule that is dead is so, if that is known and asked for.
+fn write_reason<'a, R: Clock, E: Print + IsTerminal, W: Write>(
+    asking: &Asking<'_, R, E>,
+    subject: &BoxedTable,
+    form: Form<'_>,
+    at: Step,
+    output: &mut Tap<W>,
+) -> Result<(), Fault<'a>>
+    requires place { at.chain < length subject.now.table.table.chains }
+    requires first { 0 < at.number }
+    requires last { at.number ≤ length (chain_at subject.now.table.table at.chain).rules }
+{
+    if form.has_reasons() {
+        if let Some(reason) = asking.reason(subject, at)? {
+            put_reason(&subject.table, at.chain, &reason, output)?;
+        }
+    }
+    Ok(())
+}
+
 // Asks of a rule, and writes what is known of it.
 fn write_rule<'a, R: Clock, E: Print + IsTerminal, W: Write>(
     asking: &mut Asking<'_, R, E>,
@@ -106,7 +132,10 @@ fn write_rule<'a, R: Clock, E: Print + IsTerminal, W: Write>(
     let life = asking.life(subject, at)?;
     tally.note(&life);
     form.put(&subject.table, at, &life, output)?;
-    Ok(())
+    match life {
+        Life::Dead => write_reason(asking, subject, form, at, output),
+        Life::Live(_) | Life::Unclear => Ok(()),
+    }
 }
 
 // Asks of each rule of the chain at a place.

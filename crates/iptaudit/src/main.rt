@@ -13,6 +13,7 @@ mod packet_input;
 mod packet_line;
 mod program;
 mod progress;
+mod reason_line;
 mod rule_line;
 mod tally;
 mod value_range;
@@ -23,8 +24,8 @@ use std::process::ExitCode;
 /// Answers what the words after the program's name ask: `dead [--steps N] FILE`, `compare [--steps N] OLD NEW`,
 /// `tests [--steps N] FILE`, `cover [--steps N] FILE` or `reach [--steps N] FILE HOOK key=value.. by=FIELD`.
 ///
-/// `dead` prints a line for each rule that no packet can match, in the order of a listing, and for each of which it isn't
-/// known; and then how many there were. `compare` prints a line for each built-in chain: whether both rulesets give each
+/// `dead` prints a line for each rule that no packet can match, in the order of a listing, with a line that says why, and one
+/// for each of which it isn't known; and then how many there were. `compare` prints a line for each built-in chain: whether both rulesets give each
 /// packet there the same verdict, and where they don't, a packet with its walk in each. `tests` prints a session: for each
 /// rule a comment that names it, and a packet that it matches. `cover` reads packets from standard input, as lines of a
 /// session, and prints of each rule that matches none of them whether there is a packet that it matches, and which; and then

@@ -3,8 +3,8 @@ use crate::asked_packets::Asked;
 use crate::asking::Asking;
 use crate::fault::Fault;
 use crate::notation::put_set;
+use crate::rule_line::put_rule_name;
 use fields::{Field, Tap, WriteFailed};
-use itoa::Buffer;
 use questions::{BoxedTable, Reached};
 use std::alloc::Global;
 use std::io::{IsTerminal, Write};
@@ -30,15 +30,8 @@ fn put_decider<W: Write>(
     output: &mut Tap<W>,
 ) -> Result<(), WriteFailed> {
     match by {
-        Some(step) if step.chain < table.chain_count() => {
-            let mut digits = Buffer::new();
-            output.put_all(&[
-                table.chain_name(step.chain),
-                b" ",
-                digits.format(step.number).as_bytes(),
-            ])
-        }
-        _ => output.put(b"policy"),
+        Some(step) => put_rule_name(table, step, output),
+        None => output.put(b"policy"),
     }
 }
 
