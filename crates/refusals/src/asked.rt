@@ -128,14 +128,15 @@ fn known_of(
 
 /// `dead` and `why_dead`.
 pub fn lives(alloc: Global, refusals: &mut Refusals, subject: &BoxedTable) -> Result<(), Trouble> {
-    match known_of(alloc, refusals, subject, LAST)? {
-        (Life::Live(words), None) => expect(are_words(&words, DROPPED))?,
-        _ => return Err(Trouble::OtherAnswer),
+    let (life, reason) = known_of(alloc, refusals, subject, LAST)?;
+    expect(reason.is_none())?;
+    match life {
+        Life::Live(words) => expect(are_words(&words, DROPPED))?,
+        Life::Dead | Life::Unclear => return Err(Trouble::OtherAnswer),
     }
-    match known_of(alloc, refusals, subject, DEAD)? {
-        (Life::Dead, Some(Reason::Taken(_))) => Ok(()),
-        _ => Err(Trouble::OtherAnswer),
-    }
+    let (life, reason) = known_of(alloc, refusals, subject, DEAD)?;
+    expect(matches!(&life, Life::Dead))?;
+    expect(matches!(&reason, Some(Reason::Taken(_))))
 }
 
 /// Whether the table and another give the packets of INPUT the same verdicts; a refusal leaves both.
