@@ -16,3 +16,4 @@ pub mod SlotRowLaws
 pub mod SummaryLaws
 pub mod WidenLaws
 pub mod WordLaws
+pub mod WordMoveLaws

@@ -1,5 +1,6 @@
 -- What rows with a margin show: blank places stand before the first bit of each.
-use Rattle.std.specs.Prelude.{◌≡◌, ℕ, Bool, false, List, ◌++◌, map, replicate}
+use Rattle.std.specs.Prelude.{◌≡◌, ℕ, ◌-◌, nat_lt, Bool, false, List, ◌++◌, map, replicate, if◌then◌else◌}
+use Rattle.bits.specs.Rows.{two_words}
 
 -- how many bits more go into each row before memory is needed, and how many of their places stand before its first bit
 pub record Room : Type 0 where
@@ -18,3 +19,7 @@ after_margin margin row = replicate margin false ++ row
 -- the rows, each after so many blank places
 abbrev pub AreAfter : ℕ → List (List Bool) → List (List Bool) → Type 0
 AreAfter margin rows wide = wide ≡ map (after_margin margin) rows
+
+-- how many blank places are left where some are given up: those of two words go, or where there are fewer one
+abbrev pub closed_up : ℕ → ℕ
+closed_up before = if nat_lt before two_words then before - 1 else before - two_words

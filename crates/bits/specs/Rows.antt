@@ -5,3 +5,7 @@ use Rattle.std.specs.Prelude.{ℕ, Bool, List}
 pub record RowsAndRoom : Type 0 where
   pub rows : List (List Bool)
   pub room : ℕ
+
+-- the places of two words
+abbrev pub two_words : ℕ
+two_words = 128

@@ -4,6 +4,7 @@
 mod bit_row;
 mod margin_rows;
 mod moves;
+mod row_move;
 mod rows;
 mod sparse;
 mod summary;
@@ -12,6 +13,6 @@ mod words;
 pub use bit_row::{BitRow, MOST_BITS};
 pub use margin_rows::MarginRows;
 pub use moves::{insert_at, insert_pair_at};
-pub use rows::Rows;
+pub use rows::{Rows, TWO_WORDS};
 pub use summary::{is_marked, next_marked};
 pub use words::bit_at;

@@ -2,11 +2,12 @@
 
 ghost use Rattle.std.specs.Prelude.{◌≡◌, ◌<◌, ◌≤◌, ◌+◌, ◌-◌, ◌^◌, ℕ, [], ◌∷◌, length, map, insert, remove, slice_set, slice_index_or};
 ghost use Rattle.std.specs.Prelude.{false, take, All, IfOk, OnOk, OnErr, IsOk, IsTrue, ◌↔◌, ◌%◌};
-ghost use Rattle.bits.specs.MarginRows.{after_margin};
+ghost use Rattle.bits.specs.MarginRows.{after_margin, closed_up};
+ghost use Rattle.bits.specs.Rows.{two_words};
 ghost use Rattle.bits.specs.steps.Packing.{all_bits, IsPacked};
 ghost use Rattle.bits.specs.steps.Summaries.{IsSummaryOf};
 
-use crate::rows::Rows;
+use crate::rows::{Rows, TWO_WORDS};
 use std::alloc::{AllocError, Global};
 use std::marker::Model;
 
@@ -230,35 +231,55 @@ impl MarginRows {
         self.rows.remove_column(self.margin + at);
     }
 
-    /// Gives the blank place before each row, where there is one, up for a place after its last bit: all bits move down by
-    /// one.
+    /// Makes two words of blank places before each row, of the room after its last bit: words move, and no bit within them.
+    pub fn open_margin(&mut self)
+        requires some { 0 < length self.old.rows }
+        requires room { self.old.room.before + two_words ≤ self.old.room.places }
+        ensures rows { self.new.rows ≡ self.old.rows }
+        ensures places { self.new.room.places ≡ self.old.room.places }
+        ensures before { self.new.room.before ≡ self.old.room.before + two_words }
+    {
+        self.rows.insert_words();
+        let _bits = self.rows.bits(0);
+        self.margin += TWO_WORDS;
+    }
+
+    /// Gives blank places before each row, where there are any, up for places after its last bit: those of two words, which
+    /// move whole, or where there are fewer one, for which all bits move.
     pub fn close_margin(&mut self)
         requires { 0 < length self.old.rows }
         ensures rows { self.new.rows ≡ self.old.rows }
         ensures places { self.new.room.places ≡ self.old.room.places }
-        ensures before { self.new.room.before ≡ self.old.room.before - 1 }
+        ensures before { self.new.room.before ≡ closed_up self.old.room.before }
         ensures after { 0 < self.old.room.places → self.new.room.before < self.new.room.places }
     {
         if self.margin == 0 {
             return;
         }
-        self.rows.remove_column(0);
-        self.margin -= 1;
+        if self.margin < TWO_WORDS {
+            self.rows.remove_column(0);
+            self.margin -= 1;
+            return;
+        }
+        self.rows.remove_words();
+        self.margin -= TWO_WORDS;
     }
 
-    /// Whether there is room for one more bit after the last of each row.
-    pub fn has_room_after(&self) -> bool
-        ensures { IsTrue result ↔ (self.now.room.before < self.now.room.places) }
+    /// How many bits more go in after the last of each row before memory is needed.
+    pub fn room_after(&self) -> usize
+        ensures { result ≡ self.now.room.places - self.now.room.before }
     {
-        self.rows.has_room()
+        self.rows.room()
     }
 
-    /// Takes the memory that one more bit in each row needs: none where there is room.
+    /// Takes the memory that one more bit in each row needs, at a place or after it. None is needed where there is room.
+    /// But for a place after the first more is taken, where it is there, if all room there is would come of bits that move:
+    /// that of fewer blank places than two words have.
     ///
     /// # Errors
     ///
     /// `AllocError` where memory was refused, never where there is room: the rows are as before.
-    pub fn reserve(&mut self) -> Result<(), AllocError>
+    pub fn reserve(&mut self, at: usize) -> Result<(), AllocError>
         ensures rows { self.new.rows ≡ self.old.rows }
         ensures more { self.old.room.places ≤ self.new.room.places }
         ensures before { self.new.room.before ≡ self.old.room.before }
@@ -266,10 +287,13 @@ impl MarginRows {
         ensures ok { OnOk result (0 < self.new.room.places) }
         ensures there { 0 < self.old.room.places → IsOk result }
     {
-        if self.margin > 0 {
-            return Ok(());
+        if self.margin == 0 {
+            return self.rows.reserve();
         }
-        self.rows.reserve()
+        if at > 0 && self.margin < TWO_WORDS {
+            let _ = self.rows.reserve();
+        }
+        Ok(())
     }
 
     /// Leaves the first row alone, without a bit or a margin.

@@ -3,18 +3,23 @@
 ghost use Rattle.std.specs.Prelude.{◌≡◌, ◌≢◌, ◌<◌, ◌≤◌, ◌+◌, ◌-◌, ◌*◌, ◌^◌, [], ◌∷◌, length, map, insert, remove, slice_set, slice_index_or};
 ghost use Rattle.std.specs.Prelude.{false, true, take, drop, IfOk, OnOk, OnErr, IsOk, IsTrue, ◌↔◌, ◌%◌};
 ghost use Rattle.std.specs.Prelude.{ℕ, All, replicate, ◌++◌};
+ghost use Rattle.bits.specs.Rows.{two_words};
 ghost use Rattle.bits.specs.steps.Packing.{all_bits, IsPacked};
 ghost use Rattle.bits.specs.steps.Held.{redirected, words_in, EachSlot, Writes};
-ghost use Rattle.bits.specs.steps.Shifts.{Shifts};
+ghost use Rattle.bits.specs.steps.RowMoves.{Fits, Makes};
 ghost use Rattle.bits.specs.steps.Summaries.{IsSummaryOf, SumUp};
 
 use crate::bit_row::MOST_WORDS;
 use crate::moves::{insert_at, insert_pair_at};
-use crate::sparse::{Way, shift};
+use crate::row_move::{Move, make};
+use crate::sparse::Way;
 use crate::summary::{is_marked, marked};
 use crate::words::{bit_at, same_beside, same_bits, set_bit};
 use std::alloc::{AllocError, Global};
 use std::marker::Model;
+
+/// The places of two words: a summary has one bit for both.
+pub const TWO_WORDS: usize = 128;
 
 // Twice as many words, and one where there is none.
 fn twice(width: usize) -> usize
@@ -66,21 +71,21 @@ fn redirect(slots: &mut [u32], from: u32, to: u32)
     }
 }
 
-// Moves the bits from a place on in each row of so many words.
-fn shift_all(words: &mut Vec<u64>, summaries: &mut Vec<u64>, width: usize, at: usize, way: Way)
-    requires place { at < 64 * width }
+// Makes a move of bits in each row of so many words.
+fn move_all(words: &mut Vec<u64>, summaries: &mut Vec<u64>, width: usize, how: Move)
+    requires fits { Fits how width }
     requires whole { length words.old.items ≡ length summaries.old.items * width }
     requires few { width < 2 ^ 58 }
     requires summed { SumUp width summaries.old.items words.old.items (length summaries.old.items) }
     ensures len { length words.new.items ≡ length words.old.items }
-    ensures rows { EachSlot (Shifts way at) width words.old.items words.new.items (length summaries.old.items) }
+    ensures rows { EachSlot (Makes how) width words.old.items words.new.items (length summaries.old.items) }
     ensures counted { length summaries.new.items ≡ length summaries.old.items }
     ensures summed { SumUp width summaries.new.items words.new.items (length summaries.old.items) }
 {
     for slot in 0..summaries.len() {
         let start = slot * width;
         let mut summary = summaries[slot];
-        shift(words.slice_mut(start..start + width), &mut summary, at, way);
+        make(words.slice_mut(start..start + width), &mut summary, how);
         summaries[slot] = summary;
     }
 }
@@ -404,12 +409,11 @@ impl Rows {
             self.len += 1;
             return;
         }
-        shift_all(
+        move_all(
             &mut self.words,
             &mut self.summaries,
             self.width,
-            at,
-            Way::In,
+            Move::Bits(Way::In, at),
         );
         self.len += 1;
     }
@@ -421,21 +425,51 @@ impl Rows {
         ensures rows { self.new.rows ≡ map (λ row. remove row at) self.old.rows }
         ensures room { self.new.room ≡ self.old.room + 1 }
     {
-        shift_all(
+        move_all(
             &mut self.words,
             &mut self.summaries,
             self.width,
-            at,
-            Way::Out,
+            Move::Bits(Way::Out, at),
         );
         self.len -= 1;
     }
 
-    /// Whether there is room for one more bit in each row.
-    pub fn has_room(&self) -> bool
-        ensures { IsTrue result ↔ (0 < self.now.room) }
+    /// Puts two words of 0s in before the bits of each row, where there is room: words move, and no bit within them.
+    pub fn insert_words(&mut self)
+        requires { two_words ≤ self.old.room }
+        ensures rows { self.new.rows ≡ map (λ row. replicate two_words false ++ row) self.old.rows }
+        ensures room { self.new.room + two_words ≡ self.old.room }
     {
-        self.len < 64 * self.width
+        move_all(
+            &mut self.words,
+            &mut self.summaries,
+            self.width,
+            Move::Words(Way::In),
+        );
+        self.len += TWO_WORDS;
+    }
+
+    /// Takes the bits of the first two words out of each row: words move, and no bit within them.
+    pub fn remove_words(&mut self)
+        requires some { 0 < length self.old.rows }
+        requires long { All (λ row. two_words ≤ length row) self.old.rows }
+        ensures rows { self.new.rows ≡ map (drop two_words) self.old.rows }
+        ensures room { self.new.room ≡ self.old.room + two_words }
+    {
+        move_all(
+            &mut self.words,
+            &mut self.summaries,
+            self.width,
+            Move::Words(Way::Out),
+        );
+        self.len -= TWO_WORDS;
+    }
+
+    /// How many bits more go into each row before memory is needed.
+    pub fn room(&self) -> usize
+        ensures { result ≡ self.now.room }
+    {
+        64 * self.width - self.len
     }
 
     /// Takes the memory that one more bit in each row needs: all rows move where there is no room.
@@ -450,7 +484,7 @@ impl Rows {
         ensures ok { OnOk result (0 < self.new.room) }
         ensures there { 0 < self.old.room → IsOk result }
     {
-        if self.has_room() {
+        if self.room() > 0 {
             return Ok(());
         }
         let wider = twice(self.width);

@@ -27,14 +27,18 @@ pub(crate) mod point;
 
 /// The classifier of a list of boxes: on each field the line of their answers, and no more.
 ///
-/// Places count from 0. A box put in at the end costs the pieces that it allows, and so does one put in at the front where
-/// one was taken out: its places were left blank. One put in elsewhere moves the words of all rows from its place on, but
-/// passes over words that allow nothing; where a line has no room after its rows and blank places stand before them, all rows
-/// move by one first. The rows of a line have one room, which doubles: then its rows are copied. A replacement looks at each
-/// piece of each line. A removal asks one bit of each piece, and compares two rows where that bit changes; at the front it
-/// writes a 0 into each row, and elsewhere it moves words as an insert does. A cut is made or goes only where the box's own
-/// answers change; it moves the starts after it on that line, and copies one row. Both cuts of an interval that lies within
-/// one piece move them once.
+/// Places count from 0. A box put in at the end costs the pieces that it allows. So does one put in at the front: it takes one
+/// of the blank places that stand before the rows, of which one taken out at the front leaves one. Where there is none, those
+/// of two words are made at once, by one move of all words. One put in elsewhere moves the words of all rows from its place
+/// on, but passes over words that allow nothing. Where a line has no room after its rows and blank places stand before them,
+/// those of two words are given up first, by one move of all words; where there are fewer, twice the room is taken, or where
+/// that memory is refused all rows move by one bit.
+///
+/// The rows of a line have one room, which doubles: then its rows are copied. A replacement looks at each piece of each line.
+/// A removal asks one bit of each piece, and compares two rows where that bit changes; at the front it writes a 0 into each
+/// row, and elsewhere it moves words as an insert does. A cut is made or goes only where the box's own answers change; it
+/// moves the starts after it on that line, and copies one row. Both cuts of an interval that lies within one piece move them
+/// once.
 #[derive(Drop)]
 pub struct Classifier {
     len: usize,

@@ -1,5 +1,5 @@
 -- Rows after blank places: what an edit of such rows is to the rows themselves.
-use Rattle.std.proofs.Common.{◌≡◌, ℕ, zero, suc, ◌+◌, ◌<◌, ◌≤◌, Bool, false, List, [], ◌∷◌, length, drop, get_or, refl, sym, ◌∙◌, ap, arith, subst, map, All}
+use Rattle.std.proofs.Common.{◌≡◌, ℕ, zero, suc, ◌+◌, ◌-◌, ◌<◌, ◌≤◌, Bool, false, List, [], ◌∷◌, length, drop, get_or, refl, sym, ◌∙◌, ap, arith, subst, map, All}
 use Rattle.std.specs.List.{insert, remove}
 use Rattle.std.proofs.Math.ListN.{set}
 use Rattle.std.proofs.lemmas.List.{get_or-map, length-map}
@@ -173,3 +173,39 @@ reach-up-to-after m at rows wide e h = each-after (λ row. m + at ≤ length row
 -- rows after a margin have a bit
 pub some-after : (m : ℕ) (rows wide : List Row) → AreAfter m rows wide → 0 < m → All (λ row. 0 < length row) wide
 some-after m rows wide e some = each-after (λ row. 0 < length row) m rows wide e (λ k d lt. omega (arith, length-after m (get_or rows k d)))
+
+-- ---- blank places of two words
+
+after-after : (a b : ℕ) (row : Row) → after_margin a (after_margin b row) ≡ after_margin (a + b) row
+after-after zero b row = let e : 0 + b ≡ b = omega arith in ap (λ n. after_margin n row) (sym e)
+after-after (suc a) b row = ap (λ (bs : Row). false ∷ bs) (after-after a b row) ∙ ap (λ n. after_margin n row) (sym (more a b))
+
+-- more blank places before each row
+pub all-opened : (n m : ℕ) (rows wide new : List Row) → new ≡ map (λ row. after_margin n row) wide → AreAfter m rows wide → AreAfter (m + n) rows new
+all-opened n m rows wide new is e = is ∙ ap (map (λ row. after_margin n row)) e ∙ go rows
+  where
+    sum : n + m ≡ m + n
+    sum = omega arith
+
+    go : (rs : List Row) → map (λ row. after_margin n row) (map (after_margin m) rs) ≡ map (after_margin (m + n)) rs
+    go [] = refl
+    go (r ∷ rs) =
+        ap (λ (bs : Row). bs ∷ map (λ row. after_margin n row) (map (after_margin m) rs)) (after-after n m r ∙ ap (λ k. after_margin k r) sum)
+        ∙ ap (λ (bs : List Row). after_margin (m + n) r ∷ bs) (go rs)
+
+-- fewer of them
+pub all-dropped : (n m : ℕ) (rows wide : List Row) → n ≤ m → AreAfter m rows wide → AreAfter (m - n) rows (map (drop n) wide)
+all-dropped n m rows wide le e = ap (map (drop n)) e ∙ go rows
+  where
+    sum : m ≡ n + (m - n)
+    sum = omega (arith, le)
+
+    go : (rs : List Row) → map (drop n) (map (after_margin m) rs) ≡ map (after_margin (m - n)) rs
+    go [] = refl
+    go (r ∷ rs) =
+        ap (λ (bs : Row). drop n bs ∷ map (drop n) (map (after_margin m) rs)) (ap (λ k. after_margin k r) sum ∙ sym (after-after n (m - n) r))
+        ∙ ap (λ (bs : Row). bs ∷ map (drop n) (map (after_margin m) rs)) (drop-after n (after_margin (m - n) r))
+        ∙ ap (λ (bs : List Row). after_margin (m - n) r ∷ bs) (go rs)
+
+pub long-enough-after : (n m : ℕ) (rows wide : List Row) → AreAfter m rows wide → n ≤ m → All (λ row. n ≤ length row) wide
+long-enough-after n m rows wide e le = each-after (λ row. n ≤ length row) m rows wide e (λ k d lt. omega (arith, le, length-after m (get_or rows k d)))

@@ -1,6 +1,8 @@
 -- The lines of all fields at once, each at its field's place.
 use Rattle.std.specs.Prelude.{◌≡◌, ℕ, ◌+◌, ◌*◌, ◌^◌, ◌-◌, ◌≤◌, ◌<◌, min, Bool, List, [], ◌∷◌, map, length, slice_index}
 use Rattle.std.specs.Prelude.{slice_index_or, slice_set, insert, remove}
+use Rattle.bits.specs.MarginRows.{closed_up}
+use Rattle.bits.specs.Rows.{two_words}
 use Rattle.fields.specs.declared.numbers.field.TheConstants.{FIELDS}
 use Rattle.fields.specs.declared.numbers.spans.Interval.{Interval}
 use Rattle.fields.specs.numbers.Field.{all_fields, top}
@@ -117,16 +119,22 @@ pub record FreesAll (l m : PiecesAndRoom) : Type 0 where
   pub places : m.room.places ≡ l.room.places + row_bits l.pieces
   pub before : m.room.before ≡ 0
 
--- each row has room for one bit more after its last
-abbrev pub HasRoomAfter : PiecesAndRoom → Type 0
-HasRoomAfter l = l.room.before < l.room.places
+-- each row has room for so many bits more after its last
+abbrev pub HasRoomAfter : ℕ → PiecesAndRoom → Type 0
+HasRoomAfter bits l = bits ≤ l.room.places - l.room.before
 
--- the same line, with a blank place less before each row, where there was one: so there is room after the rows, where there is any
+-- the same line, with blank places more before each row, which two words have
+pub record IsOpenedUp (l m : PiecesAndRoom) : Type 0 where
+  pub same : m.pieces ≡ l.pieces
+  pub places : m.room.places ≡ l.room.places
+  pub before : m.room.before ≡ l.room.before + two_words
+
+-- the same line, with fewer blank places before each row, where there were any: so there is room after the rows, where there is any
 pub record IsClosedUp (l m : PiecesAndRoom) : Type 0 where
   pub same : m.pieces ≡ l.pieces
   pub places : m.room.places ≡ l.room.places
-  pub before : m.room.before ≡ l.room.before - 1
-  pub after : 0 < l.room.places → HasRoomAfter m
+  pub before : m.room.before ≡ closed_up l.room.before
+  pub after : 0 < l.room.places → HasRoomAfter 1 m
 
 -- a line as it stands between edits, with so many bits a row
 abbrev pub Stands : ℕ → SpanSet → PiecesAndRoom → Type 0

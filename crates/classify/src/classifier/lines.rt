@@ -1,16 +1,18 @@
 //! The lines of all fields: each step on every line in turn.
 
 ghost use Rattle.std.specs.Prelude.{◌≡◌, ◌<◌, ◌≤◌, ◌+◌, ◌%◌, ℕ, length, OnOk, OnErr, IsOk, IsTrue};
+ghost use Rattle.bits.specs.Rows.{two_words};
 ghost use Rattle.classify.specs.steps.Pieces.{row_bits};
 ghost use Rattle.classify.specs.steps.Fields.{EachLine, EachEdit, ShowTheSame, AreEmpty, EachField, OnEach};
 ghost use Rattle.classify.specs.steps.Fields.{Rises, HasCuts, HasOnlyCuts, Stands, IsCutMore, IsJoinedUp, InsertsSet};
 ghost use Rattle.classify.specs.steps.Fields.{ReplacesSet, UsesRoom, FreesAll};
 ghost use Rattle.classify.specs.steps.Fields.{IsCutFor, HasRoom, TakesIn, TakesOver, HasPlace, LosesBox};
-ghost use Rattle.classify.specs.steps.Fields.{HasRoomAfter, IsClosedUp, HaveOneMargin};
+ghost use Rattle.classify.specs.steps.Fields.{HasRoomAfter, IsOpenedUp, IsClosedUp, HaveOneMargin};
 ghost use Rattle.classify.specs.steps.Fields.{IsKeptWithCuts, HasSameRoom, IsRoomier, KeepsRoom};
 
 use crate::line::edit;
 use crate::line::owned::OwnedLine;
+use bits::TWO_WORDS;
 use fields::Spans;
 use std::alloc::{AllocError, Global};
 
@@ -31,21 +33,21 @@ fn split_lines(lines: &mut [OwnedLine], spans: &[Spans]) -> Result<(), AllocErro
     Ok(())
 }
 
-// Takes the memory that one more bit in each row of every line needs.
-fn reserve_lines(lines: &mut [OwnedLine]) -> Result<(), AllocError>
+// Takes the memory that one more bit in each row of every line needs, for a box at a place among the boxes.
+fn reserve_lines(lines: &mut [OwnedLine], at: usize) -> Result<(), AllocError>
     ensures more { EachEdit IsRoomier lines.old lines.new }
     ensures room { OnOk result (EachEdit (λ _ m. 0 < m.room.places) lines.old lines.new) }
     ensures there { EachLine (λ l. 0 < l.room.places) lines.old → IsOk result }
 {
     for k in 0..lines.len() {
         let line = &mut lines[k];
-        line.reserve()?;
+        line.reserve(at)?;
     }
     Ok(())
 }
 
 // Takes all memory that a box needs, in every line: rows whose words have a place left need none.
-fn prepare_lines(lines: &mut [OwnedLine], spans: &[Spans]) -> Result<(), AllocError>
+fn prepare_lines(lines: &mut [OwnedLine], at: usize, spans: &[Spans]) -> Result<(), AllocError>
     requires as_long { length spans.now ≡ length lines.old }
     requires rising { OnEach Rises spans.now lines.old }
     ensures split { EachField IsCutMore spans.now lines.old lines.new }
@@ -55,7 +57,7 @@ fn prepare_lines(lines: &mut [OwnedLine], spans: &[Spans]) -> Result<(), AllocEr
     ensures room { EachEdit KeepsRoom lines.old lines.new }
 {
     split_lines(lines, spans)?;
-    reserve_lines(lines)
+    reserve_lines(lines, at)
 }
 
 // Takes the cuts wherever the box's answers change back, in every line, where the rows are equal.
@@ -77,7 +79,7 @@ fn insert_prepared_lines(lines: &mut [OwnedLine], at: usize, spans: &[Spans])
     requires as_long { length spans.now ≡ length lines.old }
     requires cut { OnEach IsCutFor spans.now lines.old }
     requires room { EachLine (λ l. 0 < l.room.places) lines.old }
-    requires after { 0 < at → EachLine HasRoomAfter lines.old }
+    requires after { 0 < at → EachLine (HasRoomAfter 1) lines.old }
     requires place { EachLine (λ l. at ≤ row_bits l.pieces) lines.old }
     ensures { EachField (TakesIn at) spans.now lines.old lines.new }
 {
@@ -87,20 +89,31 @@ fn insert_prepared_lines(lines: &mut [OwnedLine], at: usize, spans: &[Spans])
     }
 }
 
-// Whether each row of every line has room after its last bit.
-fn have_room_after(lines: &[OwnedLine]) -> bool
-    ensures { IsTrue result → EachLine HasRoomAfter lines.now }
+// Whether so many bits go in after the last of each row of every line before memory is needed.
+fn have_room_after(lines: &[OwnedLine], bits: usize) -> bool
+    ensures { IsTrue result → EachLine (HasRoomAfter bits) lines.now }
 {
     for k in 0..lines.len() {
         let line = &lines[k];
-        if !line.has_room_after() {
+        if line.room_after() < bits {
             return false;
         }
     }
     true
 }
 
-// Gives a blank place before each row up, in every line.
+// Makes blank places before each row, in every line.
+fn open_margins(lines: &mut [OwnedLine])
+    requires { EachLine (HasRoomAfter two_words) lines.old }
+    ensures { EachEdit IsOpenedUp lines.old lines.new }
+{
+    for k in 0..lines.len() {
+        let line = &mut lines[k];
+        line.open_margin();
+    }
+}
+
+// Gives blank places before each row up, in every line.
 fn close_margins(lines: &mut [OwnedLine])
     ensures { EachEdit IsClosedUp lines.old lines.new }
 {
@@ -110,15 +123,23 @@ fn close_margins(lines: &mut [OwnedLine])
     }
 }
 
-// Makes room after the rows, where a box's place is not before all others and some line lacks it.
+// Makes way for a box at a place: room after the rows where it isn't before all others and some line has none, and blank
+// places before them where it is and there are none.
 fn make_way(lines: &mut [OwnedLine], at: usize)
     requires { EachLine (λ l. 0 < l.room.places) lines.old }
     ensures same { EachEdit (λ l m. (m.pieces ≡ l.pieces) × (m.room.places ≡ l.room.places)) lines.old lines.new }
-    ensures after { 0 < at → EachLine HasRoomAfter lines.new }
+    ensures after { 0 < at → EachLine (HasRoomAfter 1) lines.new }
     ensures margin { HaveOneMargin lines.old → HaveOneMargin lines.new }
 {
-    if at > 0 && !have_room_after(lines) {
-        close_margins(lines);
+    if at > 0 {
+        if !have_room_after(lines, 1) {
+            close_margins(lines);
+        }
+        return;
+    }
+    let has_none = lines.first().is_some_and(|line| line.margin() == 0);
+    if has_none && have_room_after(lines, TWO_WORDS) {
+        open_margins(lines);
     }
 }
 
@@ -140,7 +161,7 @@ pub(crate) fn insert_lines(
     ensures back { OnErr result (EachEdit KeepsRoom lines.old lines.new) }
     ensures margin { HaveOneMargin lines.old → HaveOneMargin lines.new }
 {
-    match prepare_lines(lines, spans) {
+    match prepare_lines(lines, at, spans) {
         Ok(()) => {
             make_way(lines, at);
             insert_prepared_lines(lines, at, spans);

@@ -195,7 +195,7 @@ pub(crate) fn insert_prepared(line: &mut OwnedLine, at: usize, spans: &Spans)
     requires cut { IsCutFor spans.now line.old }
     requires place { at ≤ row_bits line.old.pieces }
     requires room { 0 < line.old.room.places }
-    requires after { 0 < at → HasRoomAfter line.old }
+    requires after { 0 < at → HasRoomAfter 1 line.old }
     ensures sound { IsSound spans.now.top (row_bits line.old.pieces + 1) line.new }
     ensures line { (sets : List (List Interval)) → Says spans.now.top sets line.old.pieces
         → IsLineOf has spans.now.top (insert sets at spans.now.intervals) line.new.pieces }

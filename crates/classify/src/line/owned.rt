@@ -1,14 +1,15 @@
 //! A line as the classifier keeps it: where its pieces start, and their rows.
 
-ghost use Rattle.std.specs.Prelude.{ℕ, ◌≡◌, ◌<◌, ◌≤◌, ◌+◌, ◌%◌, length, map, insert, remove, slice_set, slice_index, slice_index_or, take};
+ghost use Rattle.std.specs.Prelude.{ℕ, ◌≡◌, ◌<◌, ◌≤◌, ◌+◌, ◌-◌, ◌%◌, length, map, insert, remove, slice_set, slice_index, slice_index_or, take};
 ghost use Rattle.std.specs.Prelude.{false, true, IfOk, IsOk, OnOk, OnErr, IsTrue, ◌↔◌, [], ◌∷◌};
 ghost use Rattle.bits.specs.MarginRows.{after_margin};
+ghost use Rattle.bits.specs.Rows.{two_words};
 ghost use Rattle.bits.specs.steps.Packing.{all_bits, IsPacked};
 ghost use Rattle.classify.specs.line.Line.{starts};
 ghost use Rattle.classify.specs.steps.Kept.{IsLine, line_prop};
 ghost use Rattle.classify.specs.steps.Pieces.{row_bits, row_in};
 ghost use Rattle.classify.specs.steps.Edits.{row_of};
-ghost use Rattle.classify.specs.steps.Fields.{HasRoomAfter, TakesPlace, LeavesPlace, IsClosedUp, IsRoomier, FreesRoom, FreesAll};
+ghost use Rattle.classify.specs.steps.Fields.{HasRoomAfter, TakesPlace, LeavesPlace, IsOpenedUp, IsClosedUp, IsRoomier, FreesRoom, FreesAll};
 ghost use Rattle.bits.specs.steps.Summaries.{IsSummaryOf};
 ghost use Rattle.std.specs.List.{zip};
 
@@ -252,7 +253,7 @@ impl OwnedLine {
     pub(crate) fn insert_column(&mut self, at: usize)
         requires place { at ≤ row_bits self.old.pieces }
         requires room { 0 < self.old.room.places }
-        requires after { 0 < at → HasRoomAfter self.old }
+        requires after { 0 < at → HasRoomAfter 1 self.old }
         ensures pieces { self.new.pieces ≡ map (λ p. (p.0, insert p.1 at false)) self.old.pieces }
         ensures room { self.new.room.places + 1 ≡ self.old.room.places }
         ensures margin { TakesPlace at self.old.room.before self.new.room.before }
@@ -271,27 +272,35 @@ impl OwnedLine {
         self.rows.remove_column(at);
     }
 
-    // Gives the blank place before each row, where there is one, up for a place after its last bit: all bits move down.
+    // Makes two words of blank places before each row, of the room after its last bit.
+    pub(crate) fn open_margin(&mut self)
+        requires { HasRoomAfter two_words self.old }
+        ensures { IsOpenedUp self.old self.new }
+    {
+        self.rows.open_margin();
+    }
+
+    // Gives blank places before each row, where there are any, up for places after its last bit.
     pub(crate) fn close_margin(&mut self)
         ensures { IsClosedUp self.old self.new }
     {
         self.rows.close_margin();
     }
 
-    // Whether there is room for one more bit after the last of each row.
-    pub(crate) fn has_room_after(&self) -> bool
-        ensures { IsTrue result ↔ HasRoomAfter self.now }
+    // How many bits more go in after the last of each row before memory is needed.
+    pub(crate) fn room_after(&self) -> usize
+        ensures { result ≡ self.now.room.places - self.now.room.before }
     {
-        self.rows.has_room_after()
+        self.rows.room_after()
     }
 
-    // Takes the memory that one more bit in each row needs.
-    pub(crate) fn reserve(&mut self) -> Result<(), AllocError>
+    // Takes the memory that one more bit in each row needs, at a place or after it.
+    pub(crate) fn reserve(&mut self, at: usize) -> Result<(), AllocError>
         ensures more { IsRoomier self.old self.new }
         ensures ok { OnOk result (0 < self.new.room.places) }
         ensures there { 0 < self.old.room.places → IsOk result }
     {
-        self.rows.reserve()
+        self.rows.reserve(at)
     }
 
     // Leaves the first piece alone, without a bit.

@@ -115,7 +115,7 @@ pub(crate) fn put_answers(line: &mut OwnedLine, at: usize, spans: &Spans)
     requires cuts { CutsStart spans.now.top spans.now.intervals line.old.pieces }
     requires place { at ≤ row_bits line.old.pieces }
     requires room { 0 < line.old.room.places }
-    requires after { 0 < at → HasRoomAfter line.old }
+    requires after { 0 < at → HasRoomAfter 1 line.old }
     ensures answers { line.new.pieces ≡ map (with_answer at spans.now.intervals) line.old.pieces }
     ensures room { line.new.room.places + 1 ≡ line.old.room.places }
     ensures margin { TakesPlace at line.old.room.before line.new.room.before }

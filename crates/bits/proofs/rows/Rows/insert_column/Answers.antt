@@ -21,9 +21,9 @@ invariant_of-self-2 c =
     let room : 64 * c.self.inside.width - c.self.inside.len ≡ c.args.self.now.room = ap (λ (r : RowsAndRoom). r.room) c.self.view_is in
     let held : vec_len c.self.inside.slots ≡ length c.self.inside.slots.items = search rules in
     let most = place_at_most _ _ c.args.at _ _ c.args.self.now c.self.invariant.0 c.self.view_is c.requires.some c.requires.place in (
-      opened_held c.self.inside.len c.self.inside.width c.args.at c.self.inside.slots.items c.self.inside.words.items c.shift_all.new.words.items c.self.invariant.0 (omega (arith, c.requires.room)) most c.shift_all.ensures.len
-          (λ slot lt. c.shift_all.ensures.rows slot (omega (arith, lt, c.self.invariant.1.counted))),
-      summed_again _ _ _ _ _ _ c.self.invariant.1 c.shift_all.ensures.counted c.shift_all.ensures.summed,
+      opened_held c.self.inside.len c.self.inside.width c.args.at c.self.inside.slots.items c.self.inside.words.items c.move_all.new.words.items c.self.invariant.0 (omega (arith, c.requires.room)) most c.move_all.ensures.len
+          (λ slot lt. c.move_all.ensures.rows slot (omega (arith, lt, c.self.invariant.1.counted))),
+      summed_again _ _ _ _ _ _ c.self.invariant.1 c.move_all.ensures.counted c.move_all.ensures.summed,
     )
 
 pub returns-clause-rows : goal.returns-clause-rows
@@ -31,6 +31,6 @@ returns-clause-rows c =
     let room : 64 * c.self.inside.width - c.self.inside.len ≡ c.args.self.now.room = ap (λ (r : RowsAndRoom). r.room) c.self.view_is in
     let held : vec_len c.self.inside.slots ≡ length c.self.inside.slots.items = search rules in
     let most = place_at_most _ _ c.args.at _ _ c.args.self.now c.self.invariant.0 c.self.view_is c.requires.some c.requires.place in
-    opened_shown c.self.inside.len c.self.inside.width c.args.at c.self.inside.slots.items c.self.inside.words.items c.shift_all.new.words.items c.self.invariant.0 (omega (arith, c.requires.room)) most c.shift_all.ensures.len
-    (λ slot lt. c.shift_all.ensures.rows slot (omega (arith, lt, c.self.invariant.1.counted)))
+    opened_shown c.self.inside.len c.self.inside.width c.args.at c.self.inside.slots.items c.self.inside.words.items c.move_all.new.words.items c.self.invariant.0 (omega (arith, c.requires.room)) most c.move_all.ensures.len
+    (λ slot lt. c.move_all.ensures.rows slot (omega (arith, lt, c.self.invariant.1.counted)))
     ∙ ap (λ (r : RowsAndRoom). map (λ (row : List Bool). insert row c.args.at false) r.rows) c.self.view_is

@@ -4,8 +4,8 @@ use Rattle.bits.proofs.laws.PlaceLaws.{place_below, closed_held, closed_shown}
 use Rattle.bits.proofs.laws.SummaryLaws.{summed_again}
 use Rattle.bits.proofs.rows.Rows.remove_column.Goals as goal
 
-pub shift_all-requires-clause-place : goal.shift_all-requires-clause-place
-shift_all-requires-clause-place c = omega (arith, place_below _ _ c.args.at _ _ c.args.self.now c.self.invariant.0 c.self.view_is c.requires.some c.requires.place, c.self.invariant.0.covers)
+pub move_all-requires-clause-fits : goal.move_all-requires-clause-fits
+move_all-requires-clause-fits c = omega (arith, place_below _ _ c.args.at _ _ c.args.self.now c.self.invariant.0 c.self.view_is c.requires.some c.requires.place, c.self.invariant.0.covers)
 
 pub overflow_sub-self : goal.overflow_sub-self
 overflow_sub-self c = omega (arith, place_below _ _ c.args.at _ _ c.args.self.now c.self.invariant.0 c.self.view_is c.requires.some c.requires.place)
@@ -14,17 +14,17 @@ pub invariant_of-self : goal.invariant_of-self
 invariant_of-self c =
     let held : vec_len c.self.inside.slots ≡ length c.self.inside.slots.items = search rules in
     let below = place_below _ _ c.args.at _ _ c.args.self.now c.self.invariant.0 c.self.view_is c.requires.some c.requires.place in (
-      closed_held c.self.inside.len c.self.inside.width c.args.at c.self.inside.slots.items c.self.inside.words.items c.shift_all.new.words.items c.self.invariant.0 below c.shift_all.ensures.len
-          (λ slot lt. c.shift_all.ensures.rows slot (omega (arith, lt, c.self.invariant.1.counted))),
-      summed_again _ _ _ _ _ _ c.self.invariant.1 c.shift_all.ensures.counted c.shift_all.ensures.summed,
+      closed_held c.self.inside.len c.self.inside.width c.args.at c.self.inside.slots.items c.self.inside.words.items c.move_all.new.words.items c.self.invariant.0 below c.move_all.ensures.len
+          (λ slot lt. c.move_all.ensures.rows slot (omega (arith, lt, c.self.invariant.1.counted))),
+      summed_again _ _ _ _ _ _ c.self.invariant.1 c.move_all.ensures.counted c.move_all.ensures.summed,
     )
 
 pub returns-clause-rows : goal.returns-clause-rows
 returns-clause-rows c =
     let held : vec_len c.self.inside.slots ≡ length c.self.inside.slots.items = search rules in
     let below = place_below _ _ c.args.at _ _ c.args.self.now c.self.invariant.0 c.self.view_is c.requires.some c.requires.place in
-    closed_shown c.self.inside.len c.self.inside.width c.args.at c.self.inside.slots.items c.self.inside.words.items c.shift_all.new.words.items c.self.invariant.0 below
-    (λ slot lt. c.shift_all.ensures.rows slot (omega (arith, lt, c.self.invariant.1.counted)))
+    closed_shown c.self.inside.len c.self.inside.width c.args.at c.self.inside.slots.items c.self.inside.words.items c.move_all.new.words.items c.self.invariant.0 below
+    (λ slot lt. c.move_all.ensures.rows slot (omega (arith, lt, c.self.invariant.1.counted)))
     ∙ ap (λ (r : RowsAndRoom). map (λ (row : List Bool). remove row c.args.at) r.rows) c.self.view_is
 
 pub returns-clause-room : goal.returns-clause-room

@@ -12,7 +12,7 @@ insert_prepared-requires c =
     let h = c.loop-k.invariant in
     let lt : c.loop-k.k < length c.args.lines.now = omega (arith, h.as_long) in
     let own : PiecesAndRoom = get_or c.args.lines.now c.loop-k.k c.index-lines-k.result in
-    let P : PiecesAndRoom → Type 0 = λ p. IsCutFor c.index-spans-k.result p × (c.args.at ≤ row_bits p.pieces) × (0 < p.room.places) × (0 < c.args.at → HasRoomAfter p) in
+    let P : PiecesAndRoom → Type 0 = λ p. IsCutFor c.index-spans-k.result p × (c.args.at ≤ row_bits p.pieces) × (0 < p.room.places) × (0 < c.args.at → HasRoomAfter 1 p) in
     let Q : SpanSet → Type 0 = λ s. IsCutFor s own in
     let all = subst P (sym (h.rest c.loop-k.k c.index-lines-k.result (omega arith)))
     (subst Q (sym c.index-spans-k.is) (c.requires.cut c.loop-k.k c.index-spans-k.result c.index-lines-k.result lt), c.requires.place c.loop-k.k c.index-lines-k.result lt, c.requires.room c.loop-k.k c.index-lines-k.result lt, λ later. c.requires.after later c.loop-k.k c.index-lines-k.result lt) in

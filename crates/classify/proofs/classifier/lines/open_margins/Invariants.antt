@@ -1,0 +1,6 @@
+use Rattle.classify.specs.steps.Fields.{IsOpenedUp}
+use Rattle.classify.proofs.laws.line.ListLoopLaws.{Edited}
+use Rattle.classify.proofs.classifier.lines.open_margins.Given as goal
+
+abbrev pub invariant-loop-k : goal.invariant-loop-k
+invariant-loop-k l = Edited (λ _ p q. IsOpenedUp p q) l.fn.lines l.lines l.k
