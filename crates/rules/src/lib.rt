@@ -16,5 +16,6 @@ pub use reading::grammar::reading_is_by_grammar;
 pub use reading::read_rule;
 pub use rule::Rule;
 pub use rule::crossing::cross;
+pub use rule::port_sets::{Crossing, cross_ports};
 pub use rule::renamed::renamed_reads_back;
 pub use rule::target::Target;

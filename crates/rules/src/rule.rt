@@ -10,6 +10,7 @@ ghost use Rattle.rules.specs.steps.Views.{view_spec};
 pub(crate) mod action;
 pub(crate) mod copy;
 pub(crate) mod crossing;
+pub(crate) mod port_sets;
 pub(crate) mod renamed;
 pub(crate) mod spec;
 pub(crate) mod target;

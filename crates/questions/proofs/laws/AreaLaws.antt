@@ -1,10 +1,10 @@
 -- Boxes of packets, place by place.
-use Rattle.std.proofs.Common.{◌≡◌, ◌≢◌, inl, inr, ℕ, zero, suc, ◌+◌, ◌<◌, ◌≤◌, Bool, true, false, cond, ◌&&◌, not, ◌==◌, List, [], ◌∷◌, length, get_or, map, refl, sym, ◌∙◌, ap, arith, subst, ◌⊎◌, below_more}
+use Rattle.std.proofs.Common.{◌≡◌, ◌≢◌, inl, inr, ℕ, zero, suc, ◌+◌, ◌<◌, ◌≤◌, Bool, true, false, cond, ◌&&◌, not, ◌==◌, List, [], ◌∷◌, ◌++◌, length, get_or, map, refl, sym, ◌∙◌, ap, arith, subst, ◌⊎◌, below_more}
 use Rattle.std.specs.Prelude.{slice_index}
 use Rattle.std.specs.List.{list_all}
 use Rattle.std.proofs.Math.Dec.{eqb, leb}
 use Rattle.std.proofs.Math.ListN.{set}
-use Rattle.std.proofs.lemmas.Bool.{cases_Bool, cases_eq, and_from, and_parts, cases_lt, lt-ltb, le-ltb, le-leb, leb-true, eq-eqb, ne_eqb, eqb-true, or_left, true≢false}
+use Rattle.std.proofs.lemmas.Bool.{cases_Bool, cases_eq, and_from, and_parts, cases_lt, lt-ltb, le-ltb, le-leb, leb-true, eq-eqb, ne_eqb, eqb-true, true≢false}
 use Rattle.std.proofs.lemmas.List.{get_or-map, length-map, get_or_default, get_or-set_same, get_or-set_other, nil_from_length, same_lists}
 use Rattle.std.proofs.lemmas.List.Sums.{AllPass-from_list_all}
 use Rattle.fields.specs.declared.numbers.field.TheConstants.{FIELDS}
@@ -18,13 +18,14 @@ use Rattle.fields.specs.numbers.Spans.{AreSpansFrom, SpanSet, has}
 use Rattle.fields.specs.packet.Packet.{PacketView, IsPacket, point}
 use Rattle.rules.specs.boxing.Boxed.{IsBox, IsBoxOf, set_on}
 use Rattle.rules.specs.rule.Allows.{allows, allows_each, matches}
-use Rattle.rules.specs.rule.Crossing.{cross}
+use Rattle.rules.specs.rule.Crossing.{cross, HavePorts}
 use Rattle.rules.specs.rule.Rules.{Rule}
 use Rattle.rules.proofs.laws.boxing.BoxLaws.{index-lt, here_is, box_long, top_on}
+use Rattle.rules.proofs.laws.rule.PortLaws as ports
 use Rattle.classify.specs.classifier.Classifier.{IsPoint, box_allows, box_matches}
 use Rattle.classify.proofs.laws.classifier.ClassifierLaws.{field_at}
 use Rattle.questions.specs.boxes.Area.{Has, HasNumbers, IsAtHook, IsBoth, IsIn, IsNarrowed, may_have, is_without}
-use Rattle.questions.specs.boxes.Cut.{IsInSome, IsApart, IsCut}
+use Rattle.questions.specs.boxes.Cut.{IsInSome, IsApart, IsCut, IsPartedFor}
 use Rattle.questions.specs.steps.Sides.{no_set, has_at, takes, HasOne, IsSide, IsPart, IsBeginning, LeavesAt}
 
 pub same_truth : (a b : Bool) → (a ≡ true → b ≡ true) → (b ≡ true → a ≡ true) → a ≡ b
@@ -137,14 +138,9 @@ nothing_shared own other numbers k a b is too lt ia ib none h g =
     λ box s of e in_box. ap (λ (t : SpanSet). has t.intervals x) (e ∙ get_or_default box k s no_set (omega (arith, lt, box_long box of))) ∙ at_place box numbers k lt in_box.each in
     true≢false (sym (and_from (has a.intervals x) (has b.intervals x) (there own a is ia h) (there other b too ib g)) ∙ none x)
 
-first_of : (top low : ℕ) (ss : List Interval) → AreSpansFrom top low ss → (ss ≡ [] → ⊥) → (x : ℕ) × (x ≤ top) × (has ss x ≡ true)
-first_of top low [] h ne = absurd (ne refl)
-first_of top low (s ∷ ss) h ne =
-    (s.first, omega (arith, h.1, h.2), or_left (leb s.first s.first && leb s.first s.last) _ (and_from (leb s.first s.first) (leb s.first s.last) (le-leb s.first s.first (omega arith)) (le-leb s.first s.last h.1)))
-
 -- a set with an interval has a number
 pub first_number : (s : SpanSet) (b : Bool) → AreSpansFrom s.top 0 s.intervals → b ≡ (length s.intervals == 0) → b ≡ false → HasOne s
-first_number s b h e f = first_of s.top 0 s.intervals h (λ none. true≢false (sym (ap (λ (ss : List Interval). length ss == 0) none) ∙ sym e ∙ f))
+first_number s b h e f = let m = ports.first_number s b h e f in (m.0, m.1.0, m.1.1)
 
 -- where each set has a number, so has each field
 pub numbers_from : (box : List SpanSet) → IsBox box → ((k : ℕ) (d : SpanSet) → k < FIELDS → HasOne (get_or box k d)) → HasNumbers box
@@ -363,17 +359,62 @@ apart_of rule area box is none = record {
       ];
 }
 
-pub cut_of : (rule : Rule) (area box inside : List SpanSet) (old new : List (List SpanSet)) → IsBoxOf rule box → IsBoth area box inside
-    → ((numbers : List ℕ) → IsPoint numbers → Has area numbers → (Has box numbers → ⊥) → IsInSome old numbers) → ((numbers : List ℕ) → IsInSome old numbers → IsInSome new numbers)
-    → ((numbers : List ℕ) → IsPoint numbers → Has inside numbers → cross numbers rule ≡ false → IsInSome new numbers) → IsCut rule area inside new
-cut_of rule area box inside old new is both out kept failing = record {
-  matched = λ numbers point has m. both.all numbers point has (has_of_rule rule box numbers is point m);
-  others = λ numbers point has m.
+module _ (rule : Rule) (area box inside : List SpanSet) (is : IsBoxOf rule box) (both : IsBoth area box inside) where
+  -- a packet that isn't inside is not in the rule's box, and one that is has what the rule allows
+  by_box : (numbers : List ℕ) → IsPoint numbers → Has area numbers → (Has inside numbers × (allows_each numbers rule ≡ true)) ⊎ ((Has box numbers → ⊥) × (allows_each numbers rule ≡ false))
+  by_box numbers point has =
       elim (cases_Bool (allows_each numbers rule)) [
-        | inl t ↦ failing numbers point (both.all numbers point has (record { each = box_of_rule rule box numbers is point ∙ t }))
-            (sym (ap (λ b. b && cross numbers rule) t) ∙ m)
-        | inr f ↦ kept numbers (out numbers point has (λ h. true≢false (sym (sym (box_of_rule rule box numbers is point) ∙ h.each) ∙ f)))
-      ];
+        | inl t ↦ inl (both.all numbers point has (record { each = box_of_rule rule box numbers is point ∙ t }), t)
+        | inr f ↦ inr (λ h. true≢false (sym (sym (box_of_rule rule box numbers is point) ∙ h.each) ∙ f), f)
+      ]
+
+  -- a rule that fails all that are inside matches none
+  pub fails_all : ((numbers : List ℕ) → IsPoint numbers → Has inside numbers → cross numbers rule ≡ false) → IsApart rule area
+  fails_all fails = record {
+    none = λ numbers point has.
+        elim (by_box numbers point has) [
+          | inl here ↦ ap (λ b. b && cross numbers rule) here.1 ∙ fails numbers point here.0
+          | inr out ↦ ap (λ b. b && cross numbers rule) out.1
+        ];
+  }
+
+  module _ (outside : List (List SpanSet)) (out : (numbers : List ℕ) → IsPoint numbers → Has area numbers → (Has box numbers → ⊥) → IsInSome outside numbers) where
+    pub cut_of : ((numbers : List ℕ) → IsPoint numbers → Has inside numbers → cross numbers rule ≡ true) → IsCut rule area inside outside
+    cut_of holds = record {
+      matched = λ numbers point has m. both.all numbers point has (has_of_rule rule box numbers is point m);
+      others = λ numbers point has m.
+          elim (by_box numbers point has) [
+            | inl here ↦ absurd (true≢false (sym (ap (λ b. b && cross numbers rule) here.1 ∙ holds numbers point here.0) ∙ m))
+            | inr gone ↦ out numbers point has gone.0
+          ];
+    }
+
+    pub parted_of : (again : List (List SpanSet)) → ((numbers : List ℕ) → IsPoint numbers → Has inside numbers → IsInSome again numbers) → IsPartedFor rule area again outside
+    parted_of again parts = record {
+      matched = λ numbers point has m. parts numbers point (both.all numbers point has (has_of_rule rule box numbers is point m));
+      others = λ numbers point has m.
+          elim (by_box numbers point has) [
+            | inl here ↦ inl (parts numbers point here.0)
+            | inr gone ↦ inr (out numbers point has gone.0)
+          ];
+    }
+
+-- numbers that are in one of two boxes, which were put into a list one after the other
+pub two_parts : (numbers : List ℕ) (one other : List SpanSet) (none first both : List (List SpanSet)) → none ≡ [] → first ≡ none ++ one ∷ [] → both ≡ first ++ other ∷ [] → Has one numbers ⊎ Has other numbers → IsInSome both numbers
+two_parts numbers one other none first both n f b h =
+    let is : both ≡ one ∷ other ∷ [] = b ∙ ap (λ (bs : List (List SpanSet)). bs ++ other ∷ []) (f ∙ ap (λ (bs : List (List SpanSet)). bs ++ one ∷ []) n) in
+    let P : List (List SpanSet) → Type 0 = λ bs. IsInSome bs numbers in
+    subst P (sym is) (elim h [
+      | inl l ↦ (one, (0, omega arith, refl), l)
+      | inr r ↦ (other, (1, omega arith, refl), r)
+    ])
+
+-- what is said of a test of the ports in a box is said of the box's packets
+pub in_ports : (box : List SpanSet) (source destination : SpanSet) (numbers : List ℕ) → source.top ≡ top field.SourcePort → source.intervals ≡ set_on field.SourcePort box
+    → destination.top ≡ top field.DestinationPort → destination.intervals ≡ set_on field.DestinationPort box → IsPoint numbers → Has box numbers → HavePorts source destination numbers
+in_ports box source destination numbers from at to there point here = record {
+  from = (omega (arith, point field.SourcePort, from), ap (λ (ss : List Interval). has ss (number_on numbers field.SourcePort)) at ∙ on_field box numbers field.SourcePort here.each);
+  to = (omega (arith, point field.DestinationPort, to), ap (λ (ss : List Interval). has ss (number_on numbers field.DestinationPort)) there ∙ on_field box numbers field.DestinationPort here.each);
 }
 
 pub begun_here : (hook : Hook) (k : ℕ) (f : Field) (v : SpanSet) → k < FIELDS → IsBeginning hook (get_or all_fields k field.Source) v → IsBeginning hook (get_or all_fields k f) v

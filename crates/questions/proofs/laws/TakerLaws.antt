@@ -1,5 +1,5 @@
 -- Who decides the packets that a rule matches.
-use Rattle.std.proofs.Common.{◌≡◌, ◌⊎◌, inl, inr, ℕ, ◌+◌, ◌<◌, Bool, true, false, List, [], ◌∷◌, ◌++◌, length, get_or, refl, sym, ◌∙◌, ap, arith, subst, Option, Some, None, All, Contains}
+use Rattle.std.proofs.Common.{◌≡◌, ◌⊎◌, inl, inr, ℕ, ◌+◌, ◌<◌, true, false, List, [], ◌∷◌, ◌++◌, length, get_or, refl, sym, ◌∙◌, ap, arith, subst, Option, Some, None, All, Contains}
 use Rattle.std.specs.Prelude.{AllPairs, Any, IfSome, IsTrue, MatchOption}
 use Rattle.std.specs.Option.{option_map}
 use Rattle.std.proofs.lemmas.Bool.{and_from, true≢false}
@@ -10,32 +10,29 @@ use Rattle.fields.specs.declared.numbers.field.Field.{Field}
 use Rattle.fields.specs.declared.numbers.field.Field.TheVariants as field
 use Rattle.fields.specs.declared.packet.hook.Hook.{Hook}
 use Rattle.fields.specs.declared.packet.hook.Hook.TheVariants.{Input, Forward, Output}
-use Rattle.fields.specs.packet.Hook.{all_hooks, name as hook_name}
+use Rattle.fields.specs.packet.Hook.{all_hooks}
 use Rattle.fields.specs.numbers.Spans.{SpanSet, has}
 use Rattle.fields.specs.packet.Packet.{PacketView as Packet, IsPacket, point}
 use Rattle.rules.specs.boxing.Boxed.{IsBoxOf, set_on}
 use Rattle.rules.specs.rule.Allows.{allows_each}
 use Rattle.rules.specs.rule.Crossing.{cross}
-use Rattle.classify.specs.classifier.Classifier.{IsPoint}
-use Rattle.table.specs.chains.Sound.{IsSound, Leads}
-use Rattle.table.specs.chains.Table.{Table, chain_at}
+use Rattle.table.specs.chains.Sound.{IsSound}
+use Rattle.table.specs.chains.Table.{Table}
 use Rattle.table.specs.declared.walk.trail.Step.{Step}
-use Rattle.table.specs.steps.Kept.{hook_index}
-use Rattle.table.specs.walk.Walk.{Entry, Walked, walk}
+use Rattle.table.specs.walk.Walk.{Walked, walk}
 use Rattle.questions.specs.Ends.{IsRule, decider_of, rule_at, step_of}
 use Rattle.questions.specs.Leaves.{AreLeavesOf, entry_of, walked_of}
-use Rattle.questions.specs.asked.Reason.{HasPacket, IsDecidedAmong, IsDecidedBy, IsImpossible, IsLed, IsMeantFor, IsTaken}
-use Rattle.questions.specs.asked.Rule.{IsDead, IsDeadAt}
+use Rattle.questions.specs.asked.Reason.{HasPacket, IsDecidedAmong, IsDecidedBy, IsImpossible, IsLed, IsTaken}
+use Rattle.questions.specs.asked.Rule.{IsDead}
 use Rattle.questions.specs.boxes.Area.{Has, IsAtHook, IsBoth, IsIn}
 use Rattle.questions.specs.declared.asked.reach.Given.{Given}
 use Rattle.questions.specs.declared.asked.takers.Takers.{Takers}
 use Rattle.questions.specs.declared.walking.task.Leaf.{Leaf}
 use Rattle.questions.specs.steps.Exact.{AreExactWalks, IsExact}
-use Rattle.questions.specs.steps.Leading.{AreLeading, IsMarked}
-use Rattle.questions.specs.steps.Takers.{AllTake, AreBefore, AreWalksOf, Grows, IsAmong, IsBoxAt, IsDecided, IsMatchedAt, IsTakenAt, IsWalked, Takes, TakesAll, TakesOne}
+use Rattle.questions.specs.steps.Takers.{AllTake, AreBefore, AreWalksOf, Grows, IsAmong, IsBoxAt, IsDecided, IsMatchedAt, IsTakenAt, IsWalked, Takes, TakesAll}
 use Rattle.questions.proofs.laws.AreaLaws.{box_of_rule, has_of_rule, on_field}
 use Rattle.questions.proofs.laws.EndLaws.{decider_is_rule, decider_shown}
-use Rattle.questions.proofs.laws.LeadLaws.{entry_led, hook_leads, hook_led}
+use Rattle.questions.proofs.laws.LeadLaws.{entry_led}
 use Rattle.questions.proofs.laws.ReachLaws.{packet_with, with_inside, with_packet}
 use Rattle.questions.proofs.laws.TrailLaws.{items_next, never_on, rule_matches}
 

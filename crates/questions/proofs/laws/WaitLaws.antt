@@ -28,7 +28,7 @@ use Rattle.table.proofs.laws.chains.PlaceLaws.{IsPlaced, placed_at, any_none}
 use Rattle.table.proofs.laws.walk.CaseLaws.{walk_is}
 use Rattle.questions.specs.Leaves.{name_at, entry_of, entries_of, walked_of, EndsIn, AreLeavesOf}
 use Rattle.questions.specs.boxes.Area.{Has, IsAtHook}
-use Rattle.questions.specs.boxes.Cut.{IsInSome, IsCut, IsApart}
+use Rattle.questions.specs.boxes.Cut.{IsInSome, IsCut, IsPartedFor, IsApart}
 use Rattle.questions.specs.steps.Waiting.{rest_of, rests_of, behind, Reaches, stage_of, WaitsIn, IsAccounted, IsThere, AreThere, IsAsked, Keeps, Moves, PassesOver, Begins, entry_before}
 use Rattle.questions.specs.declared.walking.front.Front.{Front}
 use Rattle.questions.specs.declared.walking.task.Leaf.{Leaf}
@@ -240,6 +240,20 @@ module _ (t : Table) (sound : IsSound t) (policy : Verdict) (at : Pending) (ther
             | inr un ↦ h.keeps.kept p (over.passed p asked (cut.others p.values asked.at_hook.packet.within stands.inside un) (goes_past p un stands.reaches))
           ];
       keeps = keeps_then t old mid new over.keeps h.keeps;
+    }
+
+    pub parted_moves : (box : List SpanSet) (again outside : List (List SpanSet)) (old mid new : Front) → IsPartedFor rule box again outside → PassesOver t policy outside after old mid → PassesOver t policy again here mid new
+        → Moves t policy box here old new
+    parted_moves box again outside old mid new parted over once = record {
+      moved = λ p asked stands.
+          elim (cases_Bool (matches p.values rule)) [
+            | inl m ↦ once.passed p asked (parted.matched p.values asked.at_hook.packet.within stands.inside m) stands.reaches
+            | inr un ↦ elim (parted.others p.values asked.at_hook.packet.within stands.inside un) [
+              | inl here ↦ once.passed p asked here stands.reaches
+              | inr out ↦ once.keeps.kept p (over.passed p asked out (goes_past p un stands.reaches))
+            ]
+          ];
+      keeps = keeps_then t old mid new over.keeps once.keeps;
     }
 
 -- ---- the end of all chains, and of the trail

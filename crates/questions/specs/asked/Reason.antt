@@ -1,5 +1,5 @@
 -- Why a rule is dead.
-use Rattle.std.specs.Prelude.{◌≡◌, ◌⊎◌, ℕ, true, List, Some, All, AllPairs, Any, IsFalse, IsTrue}
+use Rattle.std.specs.Prelude.{◌≡◌, ◌⊎◌, true, Some, All, AllPairs, Any, IsFalse, IsTrue}
 use Rattle.fields.specs.declared.numbers.field.Field.{Field}
 use Rattle.fields.specs.declared.packet.hook.Hook.{Hook}
 use Rattle.fields.specs.packet.Hook.{name as hook_name}

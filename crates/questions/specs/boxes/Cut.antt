@@ -1,12 +1,12 @@
 -- What a rule makes of a box of packets.
-use Rattle.std.specs.Prelude.{◌≡◌, ℕ, true, false, List, Contains}
+use Rattle.std.specs.Prelude.{◌≡◌, ◌⊎◌, ℕ, true, false, List, Contains}
 use Rattle.fields.specs.numbers.Spans.{SpanSet}
 use Rattle.classify.specs.classifier.Classifier.{IsPoint}
 use Rattle.rules.specs.rule.Allows.{matches}
 use Rattle.rules.specs.rule.Rules.{Rule}
 use Rattle.questions.specs.boxes.Area.{Has}
 use Rattle.questions.specs.declared.boxes.cut.Cut.{Cut}
-use Rattle.questions.specs.declared.boxes.cut.Cut.TheVariants.{Apart, Parts}
+use Rattle.questions.specs.declared.boxes.cut.Cut.TheVariants.{Apart, Parts, ByPorts}
 
 -- the numbers are in one of the boxes
 abbrev pub IsInSome : List (List SpanSet) → List ℕ → Type 0
@@ -23,7 +23,15 @@ pub record IsCut (rule : Rule) (box inside : List SpanSet) (outside : List (List
 pub record IsApart (rule : Rule) (box : List SpanSet) : Type 0 where
   pub none : (numbers : List ℕ) → IsPoint numbers → Has box numbers → matches numbers rule ≡ false
 
+-- the packets that the rule matches are in some parts, and each other is in one of these or of some others
+pub record IsPartedFor (rule : Rule) (box : List SpanSet) (again outside : List (List SpanSet)) : Type 0 where
+  pub matched : (numbers : List ℕ) → IsPoint numbers → Has box numbers → matches numbers rule ≡ true
+      → IsInSome again numbers
+  pub others : (numbers : List ℕ) → IsPoint numbers → Has box numbers → matches numbers rule ≡ false
+      → IsInSome again numbers ⊎ IsInSome outside numbers
+
 -- by what became of the box
 abbrev pub IsCutBy : Rule → List SpanSet → Cut → Type 0
 IsCutBy rule box (Apart same) = (same ≡ box) × IsApart rule box
 IsCutBy rule box (Parts inside outside) = IsCut rule box inside outside.items
+IsCutBy rule box (ByPorts again outside) = IsPartedFor rule box again.items outside.items

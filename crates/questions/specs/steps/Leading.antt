@@ -1,5 +1,5 @@
 -- Chains from which jumps and gotos lead to a chain, by marks.
-use Rattle.std.specs.Prelude.{◌≡◌, ℕ, ◌<◌, Bool, true, false, List, Some, length, slice_index_or, All, Contains}
+use Rattle.std.specs.Prelude.{◌≡◌, ℕ, ◌<◌, Bool, true, false, List, Some, length, slice_index_or, Contains}
 use Rattle.rules.specs.rule.Rules.{Rule}
 use Rattle.table.specs.chains.Sound.{Leads}
 use Rattle.table.specs.chains.Table.{Chain, Table, chain_at, chain_named_by}

@@ -1,5 +1,5 @@
 -- Who decides the packets that a rule matches.
-use Rattle.std.specs.Prelude.{◌≡◌, ◌⊎◌, true, List, Option, Some, None, All, AllPairs, Any, Contains, MatchOption, IsTrue}
+use Rattle.std.specs.Prelude.{◌≡◌, ◌⊎◌, true, List, Option, None, All, AllPairs, Any, Contains, MatchOption, IsTrue}
 use Rattle.fields.specs.declared.packet.hook.Hook.{Hook}
 use Rattle.fields.specs.packet.Packet.{PacketView as Packet, IsPacket}
 use Rattle.rules.specs.rule.Allows.{allows_each, matches}

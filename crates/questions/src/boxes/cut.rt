@@ -1,16 +1,17 @@
 // A box of packets cut by a rule.
-ghost use Rattle.std.specs.Prelude.{◌≡◌, ◌<◌, ℕ, List, false, IfOk, OnOk};
+ghost use Rattle.std.specs.Prelude.{◌≡◌, ◌<◌, ℕ, List, IfOk, OnOk};
+ghost use Rattle.fields.specs.numbers.Field.{top};
 ghost use Rattle.rules.specs.boxing.Boxed.{IsBox, IsBoxOf};
-ghost use Rattle.rules.specs.rule.Crossing.{cross};
+ghost use Rattle.rules.specs.rule.Rules.{Rule};
 ghost use Rattle.classify.specs.classifier.Classifier.{IsPoint};
-ghost use Rattle.questions.specs.boxes.Area.{Has};
+ghost use Rattle.questions.specs.boxes.Area.{Has, IsBoth};
 ghost use Rattle.questions.specs.boxes.Cut.{IsCutBy, IsInSome};
 ghost use Rattle.questions.specs.steps.Sides.{LeavesAt};
 
 use crate::boxes::area::{Area, minus};
 use crate::boxes::meeting::meet;
-use fields::{FIELDS, Spans};
-use rules::{Boxed, Rule};
+use fields::{FIELDS, Field, Spans};
+use rules::{Boxed, Crossing, Rule, cross_ports};
 use std::alloc::{AllocError, Global};
 
 // What a rule makes of a box.
@@ -20,6 +21,9 @@ pub(crate) enum Cut {
     Apart(Area),
     // The packets that it matches are in the first, each other in one of those after it.
     Parts(Area, Vec<Area>),
+    // The rule is to be asked again of the first boxes, which differ by the ports of one field: the packets that it matches
+    // are in one of these, each other there or in one of those after them.
+    ByPorts(Vec<Area>, Vec<Area>),
 }
 
 // Adds the part of a box that leaves another one at a place, if it has packets.
@@ -59,25 +63,41 @@ fn outside(alloc: Global, own: &[Spans], other: &[Spans]) -> Result<Vec<Area>, A
     Ok(parts)
 }
 
-// Adds a box of packets that a rule's box has, where some of them may fail the rule nevertheless.
-fn put_failing(
-    alloc: Global,
-    rule: &Rule,
-    inside: &Area,
-    parts: &mut Vec<Area>,
-) -> Result<(), AllocError>
-    ensures kept { OnOk result ((numbers : List ℕ) → IsInSome parts.old.items numbers → IsInSome parts.new.items numbers) }
-    ensures added { OnOk result ((numbers : List ℕ) → IsPoint numbers → Has inside.now numbers
-        → cross numbers rule.now ≡ false → IsInSome parts.new.items numbers) }
+// The two parts of a box: the packets whose number on a field is in a set, and the others.
+fn halves(alloc: Global, area: Area, field: Field, wanted: &Spans) -> Result<Vec<Area>, AllocError>
+    requires { wanted.now.top ≡ top field }
+    ensures { IfOk result (λ parts. (numbers : List ℕ) → IsPoint numbers → Has area numbers → IsInSome parts.items numbers) }
 {
-    if rule.asks_both() {
-        parts.push(inside.copy(alloc)?)?;
-    }
-    Ok(())
+    let others = wanted.except(alloc)?;
+    let with = area.copy(alloc)?.narrow(alloc, field, wanted)?;
+    let without = area.narrow(alloc, field, &others)?;
+    let mut parts = Vec::new(alloc);
+    parts.push(with)?;
+    parts.push(without)?;
+    Ok(parts)
+}
+
+// Cuts a box of which a rule's box has the packets inside, where the ports of one field have to be parted first.
+fn cut_apart(
+    alloc: Global,
+    boxed: &Boxed,
+    area: &Area,
+    inside: Area,
+    field: Field,
+    listed: &Spans,
+) -> Result<Cut, AllocError>
+    requires inside { IsBoth area.now boxed.now inside }
+    requires top { listed.now.top ≡ top field }
+    ensures { (rule : Rule) → IsBoxOf rule boxed.now → IfOk result (IsCutBy rule area.now) }
+{
+    let parts = halves(alloc, inside, field, listed)?;
+    let others = outside(alloc, area.sets(), boxed.spans())?;
+    Ok(Cut::ByPorts(parts, others))
 }
 
 // Cuts a box by a rule. Where the rule's box has packets in common with it, that costs one meeting of two sets a field, and
-// for each field on which the rule leaves numbers out a copy of the box; else no memory.
+// for each field on which the rule leaves numbers out a copy of the box; else no memory. Of a rule that asks both ports, the
+// packets that its box has are first parted by ports that it lists, until it matches all of them or none.
 pub(crate) fn cut_by(
     alloc: Global,
     rule: &Rule,
@@ -91,7 +111,14 @@ pub(crate) fn cut_by(
         return Ok(Cut::Apart(area));
     }
     let inside = area.within(alloc, boxed.spans())?;
-    let mut parts = outside(alloc, area.sets(), boxed.spans())?;
-    put_failing(alloc, rule, &inside, &mut parts)?;
-    Ok(Cut::Parts(inside, parts))
+    let (from, to) = (Field::SourcePort, Field::DestinationPort);
+    match cross_ports(alloc, rule, inside.on(from), inside.on(to))? {
+        Crossing::Fails => Ok(Cut::Apart(area)),
+        Crossing::Holds => {
+            let others = outside(alloc, area.sets(), boxed.spans())?;
+            Ok(Cut::Parts(inside, others))
+        }
+        Crossing::BySource(listed) => cut_apart(alloc, boxed, &area, inside, from, &listed),
+        Crossing::ByDestination(listed) => cut_apart(alloc, boxed, &area, inside, to, &listed),
+    }
 }

@@ -150,7 +150,7 @@ fn pass_over(
 }
 
 // The next rule of a chain is asked of the packets of a box: those that it matches follow its target, the others go on
-// behind it.
+// behind it. Where that hangs on both ports, the box is parted by ports first, and the rule is asked again of its parts.
 pub(crate) fn ask(
     subject: &BoxedTable,
     front: &mut Front,
@@ -188,6 +188,10 @@ pub(crate) fn ask(
                 trail,
             };
             follow(table, front, task, behind, rule)
+        }
+        Cut::ByPorts(again, outside) => {
+            pass_over(front, outside, behind, rests.as_slice(), trail.as_slice())?;
+            pass_over(front, again, at, rests.as_slice(), trail.as_slice())
         }
     }
 }

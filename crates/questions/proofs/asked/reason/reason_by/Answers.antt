@@ -1,5 +1,4 @@
 use Rattle.std.proofs.Common.{◌<◌, length, arith}
-use Rattle.std.proofs.lemmas.Bool.{eqb-false}
 use Rattle.questions.proofs.laws.AreaLaws.{is_nil}
 use Rattle.questions.proofs.laws.TakerLaws.{no_packet, packet_of_policy, packet_of_rule}
 use Rattle.questions.proofs.asked.reason.reason_by.Goals as goal

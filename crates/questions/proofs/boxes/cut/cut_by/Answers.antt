@@ -1,12 +1,26 @@
-use Rattle.std.proofs.Common.{refl}
-use Rattle.questions.proofs.laws.AreaLaws.{apart_of, cut_of}
+use Rattle.std.proofs.Common.{refl, subst, ℕ, List}
+use Rattle.rules.specs.declared.rule.port_sets.Crossing.{Crossing}
+use Rattle.rules.specs.rule.Crossing.{SaysOf, cross}
+use Rattle.questions.proofs.laws.AreaLaws.{apart_of, cut_of, fails_all, in_ports}
 use Rattle.questions.proofs.boxes.cut.cut_by.Goals as goal
 
 pub returns-then-not-meet : goal.returns-then-not-meet
 returns-then-not-meet c =
     (refl, apart_of c.args.rule.now c.args.area c.args.boxed.now c.requires (rw (c.sets.ensures.value, c.spans.ensures.value) at (c.meet.ensures c.if-not-meet.true)))
 
-pub returns : goal.returns
-returns c =
-    cut_of c.args.rule.now c.args.area c.args.boxed.now c.in_ok-inside.inside c.in_ok-parts.parts.items c.put_failing.new.parts.items c.requires (rw c.spans-2.ensures.value at c.in_ok-inside.ensures)
-    (rw (c.sets-2.ensures.value, c.spans-3.ensures.value) at c.in_ok-parts.ensures) c.in_ok-put_failing.ensures.kept c.in_ok-put_failing.ensures.added
+pub returns-in-Fails : goal.returns-in-Fails
+returns-in-Fails c =
+    let P : Crossing → Type 0 = λ said. SaysOf (λ (numbers : List ℕ). cross numbers c.args.rule.now) c.on.result.now c.on-2.result.now said in
+    let fails = subst P c.in-Fails.is c.in_ok-cross_ports.ensures in (
+      refl,
+      fails_all c.args.rule.now c.args.area c.args.boxed.now c.in_ok-inside.inside c.requires (rw c.spans-2.ensures.value at c.in_ok-inside.ensures)
+          (λ numbers point h. fails numbers (in_ports c.in_ok-inside.inside c.on.result.now c.on-2.result.now numbers c.on.ensures.top c.on.ensures.set c.on-2.ensures.top c.on-2.ensures.set point h)),
+    )
+
+pub returns-in_ok-others-in-Holds : goal.returns-in_ok-others-in-Holds
+returns-in_ok-others-in-Holds c =
+    let P : Crossing → Type 0 = λ said. SaysOf (λ (numbers : List ℕ). cross numbers c.args.rule.now) c.on.result.now c.on-2.result.now said in
+    let holds = subst P c.in-Holds.is c.in_ok-cross_ports.ensures in
+    cut_of c.args.rule.now c.args.area c.args.boxed.now c.in_ok-inside.inside c.requires (rw c.spans-2.ensures.value at c.in_ok-inside.ensures) c.in_ok-others-in-Holds.others.items
+    (rw (c.sets-in-Holds.ensures.value, c.spans-in-Holds.ensures.value) at c.in_ok-others-in-Holds.ensures)
+    (λ numbers point h. holds numbers (in_ports c.in_ok-inside.inside c.on.result.now c.on-2.result.now numbers c.on.ensures.top c.on.ensures.set c.on-2.ensures.top c.on-2.ensures.set point h))

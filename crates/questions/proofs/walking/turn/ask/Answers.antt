@@ -5,7 +5,7 @@ use Rattle.table.specs.chains.Table.{chain_at}
 use Rattle.questions.specs.Leaves.{entry_of, entries_of}
 use Rattle.questions.specs.steps.Waiting.{rests_of}
 use Rattle.questions.proofs.laws.BoxesLaws.{own_box}
-use Rattle.questions.proofs.laws.WaitLaws.{apart_moves, cut_moves}
+use Rattle.questions.proofs.laws.WaitLaws.{apart_moves, cut_moves, parted_moves}
 use Rattle.questions.proofs.walking.turn.ask.Goals as goal
 
 pub cut_by-requires : goal.cut_by-requires
@@ -27,3 +27,12 @@ returns-in_ok-pass_over-in-Parts c =
     on_ok_weaker c.follow.result (λ h policy. cut_moves t c.stands.ensures.sound policy c.args.at c.requires.there c.rule-rule.result.now c.requires.passed c.rule-rule.ensures (rests_of t.chains c.args.task.rests.items) (entries_of t.chains c.args.task.trail.items)
     c.args.task.area c.in-Parts.inside c.in-Parts.outside.items c.args.front.now c.pass_over.new.front c.follow.new.front cut room
     (rw (c.as_slice.ensures.value, c.as_slice-in-Parts.ensures.value) at (c.in_ok-pass_over-in-Parts.ensures t policy c.requires.there (rw c.as_slice.ensures.value c.requires.rests))) (h policy c.requires.there c.requires.rests)) c.follow.ensures
+
+pub returns-in_ok-pass_over-in-ByPorts : goal.returns-in_ok-pass_over-in-ByPorts
+returns-in_ok-pass_over-in-ByPorts c =
+    let t = c.args.subject.now.table.table in
+    let parted = rw c.in-ByPorts.is at c.in_ok-area.ensures in
+    on_ok_weaker c.pass_over-in-ByPorts-2.result (λ h policy. parted_moves t c.stands.ensures.sound policy c.args.at c.requires.there c.rule-rule.result.now c.requires.passed c.rule-rule.ensures (rests_of t.chains c.args.task.rests.items) (entries_of t.chains c.args.task.trail.items)
+    c.args.task.area c.in-ByPorts.again.items c.in-ByPorts.outside.items c.args.front.now c.pass_over-in-ByPorts.new.front c.pass_over-in-ByPorts-2.new.front parted
+    (rw (c.as_slice-in-ByPorts.ensures.value, c.as_slice-in-ByPorts-2.ensures.value) at (c.in_ok-pass_over-in-ByPorts.ensures t policy c.requires.there (rw c.as_slice-in-ByPorts.ensures.value c.requires.rests)))
+    (rw (c.as_slice-in-ByPorts-3.ensures.value, c.as_slice-in-ByPorts-4.ensures.value) at (h t policy c.requires.there (rw c.as_slice-in-ByPorts-3.ensures.value c.requires.rests)))) c.pass_over-in-ByPorts-2.ensures

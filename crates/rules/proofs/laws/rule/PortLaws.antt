@@ -1,0 +1,57 @@
+-- Sets of ports: what a list has of one, and what is said of all packets whose ports are in two.
+use Rattle.std.proofs.Common.{◌≡◌, ℕ, ◌+◌, ◌<◌, ◌≤◌, Bool, true, false, ◌&&◌, ◌==◌, List, [], ◌∷◌, length, take, get_or, refl, sym, ◌∙◌, ap, arith, subst}
+use Rattle.std.specs.List.{list_all}
+use Rattle.std.proofs.Math.Dec.{leb}
+use Rattle.std.proofs.lemmas.Bool.{and_from, and_parts, le-leb, or_left, true≢false}
+use Rattle.std.proofs.lemmas.List.Folds.{list_all_at, list_all_more}
+use Rattle.fields.specs.declared.numbers.spans.Interval.{Interval}
+use Rattle.fields.specs.numbers.Spans.{AreSpansFrom, SpanSet, has}
+use Rattle.rules.specs.rule.Crossing.{HasMember, HavePorts, SaysOf}
+use Rattle.rules.specs.declared.rule.port_sets.Crossing.{Crossing}
+use Rattle.rules.specs.declared.rule.port_sets.Crossing.TheVariants.{Holds, Fails, BySource, ByDestination}
+
+-- ---- numbers of a set
+
+first_of : (top low : ℕ) (ss : List Interval) → AreSpansFrom top low ss → (ss ≡ [] → ⊥) → (x : ℕ) × (x ≤ top) × (has ss x ≡ true)
+first_of top low [] h ne = absurd (ne refl)
+first_of top low (s ∷ ss) h ne =
+    (s.first, omega (arith, h.1, h.2), or_left (leb s.first s.first && leb s.first s.last) _ (and_from (leb s.first s.first) (leb s.first s.last) (le-leb s.first s.first (omega arith)) (le-leb s.first s.last h.1)))
+
+-- a set with an interval has a number
+pub first_number : (s : SpanSet) (b : Bool) → AreSpansFrom s.top 0 s.intervals → b ≡ (length s.intervals == 0) → b ≡ false → (x : ℕ) × HasMember s x
+first_number s b h e f =
+    let m = first_of s.top 0 s.intervals h (λ none. true≢false (sym (ap (λ (ss : List Interval). length ss == 0) none) ∙ sym e ∙ f)) in
+    (m.0, (m.1, m.2))
+
+-- a number that a set and another one have
+pub shared_number : (own other shared : SpanSet) → shared.top ≡ own.top → ((x : ℕ) → has shared.intervals x ≡ (has own.intervals x && has other.intervals x)) → (x : ℕ) × HasMember shared x
+    → (x : ℕ) × HasMember own x × (has other.intervals x ≡ true)
+shared_number own other shared top members m =
+    let both = and_parts (has own.intervals m.0) (has other.intervals m.0) (sym (members m.0) ∙ m.1.1) in
+    (m.0, (omega (arith, m.1.0, top), both.0), both.1)
+
+-- ---- what is said
+
+-- of a test that passes the same numbers
+pub says_alike : (p q : List ℕ → Bool) (source destination : SpanSet) (said : Crossing) → ((numbers : List ℕ) → p numbers ≡ q numbers) → SaysOf p source destination said → SaysOf q source destination said
+says_alike p q source destination Holds same h = λ numbers ports. sym (same numbers) ∙ h numbers ports
+says_alike p q source destination Fails same h = λ numbers ports. sym (same numbers) ∙ h numbers ports
+says_alike p q source destination (BySource listed) same h = h
+says_alike p q source destination (ByDestination listed) same h = h
+
+-- of several tests at once, where it is said of one that they don't all hold
+pub says_of_all : {A : Type 0} (test : List ℕ → A → Bool) (xs : List A) (k : ℕ) (d : A) (source destination : SpanSet) (said : Crossing) → k < length xs → (said ≡ Holds → ⊥)
+    → SaysOf (λ numbers. test numbers (get_or xs k d)) source destination said → SaysOf (λ numbers. list_all (test numbers) xs) source destination said
+says_of_all test xs k d source destination Holds lt ne h = absurd (ne refl)
+says_of_all test xs k d source destination Fails lt ne h = λ numbers ports. list_all_at (test numbers) xs k d lt (h numbers ports)
+says_of_all test xs k d source destination (BySource listed) lt ne h = h
+says_of_all test xs k d source destination (ByDestination listed) lt ne h = h
+
+-- one test more that holds
+pub says_more : {A : Type 0} (test : List ℕ → A → Bool) (xs : List A) (k : ℕ) (d : A) (source destination : SpanSet) (said : Crossing) → k < length xs → said ≡ Holds
+    → ((numbers : List ℕ) → HavePorts source destination numbers → list_all (test numbers) (take k xs) ≡ true) → SaysOf (λ numbers. test numbers (get_or xs k d)) source destination said
+    → (numbers : List ℕ) → HavePorts source destination numbers → list_all (test numbers) (take (k + 1) xs) ≡ true
+says_more {A} test xs k d source destination said lt is before h numbers ports =
+    let P : Crossing → Type 0 = λ c. SaysOf (λ ns. test ns (get_or xs k d)) source destination c in
+    let here : test numbers (get_or xs k d) ≡ true = subst P is h numbers ports in
+    list_all_more (test numbers) xs k d lt ∙ (λ i. before numbers ports i && here i)
