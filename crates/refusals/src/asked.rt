@@ -136,7 +136,12 @@ pub fn lives(alloc: Global, refusals: &mut Refusals, subject: &BoxedTable) -> Re
     }
     let (life, reason) = known_of(alloc, refusals, subject, DEAD)?;
     expect(matches!(&life, Life::Dead))?;
-    expect(matches!(&reason, Some(Reason::Taken(_))))
+    match reason {
+        Some(Reason::Taken(takers)) => {
+            expect(takers.rules.as_slice() == [FIRST].as_slice() && !takers.policy)
+        }
+        _ => Err(Trouble::OtherAnswer),
+    }
 }
 
 /// Whether the table and another give the packets of INPUT the same verdicts; a refusal leaves both.

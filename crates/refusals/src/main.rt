@@ -19,6 +19,7 @@ mod commands;
 mod conversations;
 mod listings;
 mod planted;
+mod port_sets;
 mod restores;
 mod rulings;
 mod sections;
@@ -108,6 +109,7 @@ fn run_of_rules<R: Print + AllocGlobal>(rt: &R, refusals: &mut Refusals) {
     );
     tell(rt, "rules refused", rulings::refuse_all(alloc, refusals));
     tell(rt, "boxes", boxes::of(alloc, refusals));
+    tell(rt, "both ports", port_sets::crossed(alloc, refusals));
     tell(rt, "bits", bit_rows::insert(alloc, refusals));
     tell(rt, "commands read", commands::read(alloc, refusals));
     tell(

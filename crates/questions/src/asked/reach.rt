@@ -28,7 +28,7 @@ fn met(alloc: Global, given: &Given) -> Result<Given, AllocError>
 
 /// What becomes of some packets: for each verdict and the rule or the policy that decides, the numbers that the packets with this
 /// end have on a field. Each number is that of such a packet, and each packet's number is there. Nothing is known where there
-/// are more steps to take than `budget` (`leaves`), or where rules that ask both ports leave open which packets they match.
+/// are more steps to take than `budget` (`leaves`).
 ///
 /// The packets walk the table as boxes, and each box that came to an end walks it again, with `budget` steps each time.
 ///
