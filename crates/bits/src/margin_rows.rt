@@ -272,9 +272,9 @@ impl MarginRows {
         self.rows.room()
     }
 
-    /// Takes the memory that one more bit in each row needs, at a place or after it. None is needed where there is room.
-    /// But for a place after the first more is taken, where it is there, if all room there is would come of bits that move:
-    /// that of fewer blank places than two words have.
+    /// Takes the memory that one more bit in each row needs at a place: none where there is room after the rows, or two words
+    /// of blank places before them. Where there are fewer of these, and the bit isn't to be the first, more memory is taken
+    /// if it is there, so that no bit has to move.
     ///
     /// # Errors
     ///
