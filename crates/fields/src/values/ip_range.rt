@@ -9,10 +9,13 @@ use crate::numbers::field::ADDRESS_TOP;
 use crate::numbers::spans::Spans;
 use crate::text::cut::cut_at;
 use crate::text::tap::{Tap, WriteFailed};
-use crate::values::prefix::{put_address, read_address};
+use crate::values::prefix::{read_address, write_address};
 use std::alloc::{AllocError, Global};
 use std::io::Write;
 use std::marker::Model;
+
+// Room for the text of a range: two addresses and a dash.
+const ROOM: usize = 31;
 
 /// The addresses from one to another, both among them: the range of `--src-range` and `--dst-range` in
 /// iptables-extensions(8). Where the first is above the second it has no address.
@@ -83,9 +86,11 @@ impl IpRange {
         ensures text { Puts W.contents output.old output.new result (ip_range_text self) }
         ensures reads_back { ip_range_of (ip_range_text self) ≡ Some self }
     {
-        put_address(self.first(), output)?;
-        output.put(b"-")?;
-        put_address(self.last(), output)
+        let mut text = [0; ROOM];
+        let dash = write_address(self.last(), &mut text, ROOM) - 1;
+        text[dash] = b'-';
+        let start = write_address(self.first(), &mut text, dash);
+        output.put(&text[start..])
     }
 
     /// The addresses of the range: one interval, or none where the first is above the last. It answers `AllocError`

@@ -1,5 +1,5 @@
 //! Ranges of ports.
-ghost use Rattle.std.specs.Prelude.{◌≡◌, ◌≤◌, ◌↔◌, ℕ, IsTrue, Option, Some, None, IfSome, false, IfOk};
+ghost use Rattle.std.specs.Prelude.{◌≡◌, ◌≤◌, ◌↔◌, ℕ, drop, IsTrue, Option, Some, None, IfSome, false, IfOk};
 ghost use Rattle.fields.specs.numbers.Field.{port_top};
 ghost use Rattle.fields.specs.numbers.Spans.{has};
 ghost use Rattle.fields.specs.values.PortRange.{port_or};
@@ -9,10 +9,13 @@ use crate::numbers::spans::Spans;
 use crate::text::cut::cut_at;
 use crate::text::number::read_number_to;
 use crate::text::tap::{Tap, WriteFailed};
-use itoa::Buffer;
+use itoa::write_digits;
 use std::alloc::{AllocError, Global};
 use std::io::Write;
 use std::marker::Model;
+
+// Room for the text of a range: two ports and a colon.
+const ROOM: usize = 11;
 
 /// The ports from one to another, both included.
 #[derive(Clone, Copy, Debug, PartialEq, Eq)]
@@ -105,16 +108,22 @@ impl PortRange {
         ensures word { IsBareWord (ports_text self) }
         ensures reads_back { port_range_of (ports_text self) ≡ Some self }
     {
-        let mut from = Buffer::new();
+        let mut text = [0; ROOM];
+        let start = self.write(&mut text);
+        output.put(&text[start..])
+    }
+
+    // Writes the same at the end of `text`. It answers where it starts.
+    fn write(self, text: &mut [u8; ROOM]) -> usize
+        ensures written { drop result text.new ≡ ports_text self }
+        ensures inside { result ≤ 11 }
+    {
+        let last = write_digits(u64::from(self.to), text, ROOM);
         if self.from == self.to {
-            return output.put(from.format(self.from).as_bytes());
+            return last;
         }
-        let mut to = Buffer::new();
-        output.put_all(&[
-            from.format(self.from).as_bytes(),
-            b":",
-            to.format(self.to).as_bytes(),
-        ])
+        text[last - 1] = b':';
+        write_digits(u64::from(self.from), text, last - 1)
     }
 
     /// The ports of the range: one interval. It answers `AllocError` only where memory was refused.

@@ -1,5 +1,5 @@
 //! IPv4 addresses with a prefix length.
-ghost use Rattle.std.specs.Prelude.{◌≡◌, ℕ, ◌<◌, ◌≤◌, ◌^◌, ◌∷◌, [], Option, Some, None, IfSome, option_map, IfOk};
+ghost use Rattle.std.specs.Prelude.{◌≡◌, ℕ, ◌<◌, ◌≤◌, ◌+◌, ◌^◌, ◌∷◌, ◌++◌, [], drop, length, decimal, Option, Some, None, IfSome, option_map, IfOk};
 ghost use Rattle.fields.specs.numbers.Field.{address_top};
 ghost use Rattle.fields.specs.numbers.Spans.{has};
 ghost use Rattle.std.specs.Prelude.{false};
@@ -11,10 +11,13 @@ use crate::numbers::spans::Spans;
 use crate::text::cut::cut_at;
 use crate::text::number::read_number_to;
 use crate::text::tap::{Tap, WriteFailed};
-use itoa::Buffer;
+use itoa::write_digits;
 use std::alloc::{AllocError, Global};
 use std::io::Write;
 use std::marker::Model;
+
+// Room for the text of a prefix: an address, a slash, and a number up to 255.
+const ROOM: usize = 19;
 
 /// An IPv4 address and the number of its leading bits that count, 0 to 32: the `address[/mask]` of
 /// `--source` and `--destination` in iptables(8). The bits past the length are 0.
@@ -200,23 +203,32 @@ impl Prefix {
     }
 }
 
-// Writes the dotted text of an address.
-pub(crate) fn put_address<W: Write>(address: u32, output: &mut Tap<W>) -> Result<(), WriteFailed>
-    ensures { Puts W.contents output.old output.new result (address_text address) }
+// Writes a number so that its digits end at `end`, and a mark before them. It answers where the mark stands.
+#[inline]
+fn write_marked(mark: u8, number: u8, text: &mut [u8], end: usize) -> usize
+    requires room { 4 ≤ end }
+    requires within { end ≤ length text.old }
+    ensures written { drop result text.new ≡ mark ∷ (decimal number ++ drop end text.old) }
+    ensures near { end ≤ result + 4 }
+    ensures inside { result ≤ end }
 {
-    let mut first = Buffer::new();
-    let mut second = Buffer::new();
-    let mut third = Buffer::new();
-    let mut fourth = Buffer::new();
-    output.put_all(&[
-        first.format(address / 16_777_216).as_bytes(),
-        b".",
-        second.format(address / 65_536 % 256).as_bytes(),
-        b".",
-        third.format(address / 256 % 256).as_bytes(),
-        b".",
-        fourth.format(address % 256).as_bytes(),
-    ])
+    let start = write_digits(u64::from(number), text, end) - 1;
+    text[start] = mark;
+    start
+}
+
+// Writes the dotted text of an address so that it ends at `end`. It answers where it starts.
+pub(crate) fn write_address(address: u32, text: &mut [u8], end: usize) -> usize
+    requires room { 15 ≤ end }
+    requires within { end ≤ length text.old }
+    ensures written { drop result text.new ≡ address_text address ++ drop end text.old }
+    ensures near { end ≤ result + 15 }
+    ensures inside { result ≤ end }
+{
+    let fourth = write_marked(b'.', (address % 256) as u8, text, end);
+    let third = write_marked(b'.', (address / 256 % 256) as u8, text, fourth);
+    let second = write_marked(b'.', (address / 65_536 % 256) as u8, text, third);
+    write_digits(u64::from(address / 16_777_216), text, second)
 }
 
 impl Prefix {
@@ -224,9 +236,9 @@ impl Prefix {
     pub fn put<W: Write>(&self, output: &mut Tap<W>) -> Result<(), WriteFailed>
         ensures { Puts W.contents output.old output.new result (prefix_text self.now) }
     {
-        let mut length = Buffer::new();
-        put_address(self.address(), output)?;
-        output.put(b"/")?;
-        output.put(length.format(self.length()).as_bytes())
+        let mut text = [0; ROOM];
+        let end = write_marked(b'/', self.length(), &mut text, ROOM);
+        let start = write_address(self.address(), &mut text, end);
+        output.put(&text[start..])
     }
 }
