@@ -12,10 +12,12 @@ ghost use Rattle.rules.specs.steps.Writing.{has_words, value_text, option_value_
 ghost use Rattle.rules.specs.steps.Views.{view_match, view_spec};
 
 pub(crate) mod listed_line;
+mod spaced;
 
 use crate::options::match_kind::MatchKind;
 use crate::options::option_value::OptionValue;
 use crate::options::value::Value;
+use crate::printing::spaced::{spaced_option, spaced_start};
 use crate::rule::Rule;
 use crate::rule::action::Action;
 use crate::rule::spec::{Match, RuleSpec};
@@ -52,50 +54,15 @@ fn put_words<W: Write>(output: &mut Tap<W>, value: &Value) -> Result<(), WriteFa
     }
 }
 
-// Whether the value has words.
-fn has_words(value: &Value) -> bool
-    ensures { result ≡ has_words value.now }
-{
-    value.option().row().values > 0
-}
-
-// Writes the words of a value, each after a blank.
-fn put_value<W: Write>(output: &mut Tap<W>, value: &Value) -> Result<(), WriteFailed>
-    requires { has_failed output.old ≡ false }
-    ensures { Puts W.contents output.old output.new result (spaced_all (shown_value value.now)) }
-{
-    if has_words(value) {
-        output.put(b" ")?;
-        return put_words(output, value);
-    }
-    Ok(())
-}
-
-// Writes a word after a blank.
-fn put_bare<W: Write>(output: &mut Tap<W>, word: &[u8]) -> Result<(), WriteFailed>
-    requires { has_failed output.old ≡ false }
-    ensures { Puts W.contents output.old output.new result (spaced (bare word.now)) }
-{
-    output.put_all(&[b" ", word])
-}
-
 // Writes `!` before an option that is inverted.
 fn put_bang<W: Write>(output: &mut Tap<W>, inverted: bool) -> Result<(), WriteFailed>
     requires { has_failed output.old ≡ false }
     ensures { Puts W.contents output.old output.new result (spaced_all (shown_bang inverted)) }
 {
     if inverted {
-        return put_bare(output, b"!");
+        return output.put(b" !");
     }
     Ok(())
-}
-
-// Writes the name of a value's option.
-fn put_name<W: Write>(output: &mut Tap<W>, value: &Value) -> Result<(), WriteFailed>
-    requires { has_failed output.old ≡ false }
-    ensures { Puts W.contents output.old output.new result (spaced (bare (name_of (option_of_value value.now)))) }
-{
-    put_bare(output, value.option().name())
 }
 
 // Writes an option with its value.
@@ -107,8 +74,8 @@ fn put_option_value<W: Write>(
     ensures { Puts W.contents output.old output.new result (option_value_text option_value.now) }
 {
     put_bang(output, option_value.inverted)?;
-    put_name(output, &option_value.value)?;
-    put_value(output, &option_value.value)
+    output.put(spaced_option(&option_value.value))?;
+    put_words(output, &option_value.value)
 }
 
 // Writes options, one after another.
@@ -125,21 +92,12 @@ fn put_option_values<W: Write>(
     Ok(())
 }
 
-// Writes an option and a name.
-fn put_named<W: Write>(output: &mut Tap<W>, option: &[u8], name: &[u8]) -> Result<(), WriteFailed>
-    requires { has_failed output.old ≡ false }
-    ensures { Puts W.contents output.old output.new result (spaced (bare option.now) ++ spaced (bare name.now)) }
-{
-    output.put_all(&[b" ", option, b" ", name])
-}
-
 // Writes what starts a match.
-#[tactic(auto, unfolding(crate::specs::steps::Writing::start_text))]
 fn put_start<W: Write>(output: &mut Tap<W>, kind: MatchKind) -> Result<(), WriteFailed>
     requires { has_failed output.old ≡ false }
     ensures { Puts W.contents output.old output.new result (start_text kind) }
 {
-    put_named(output, b"-m", kind.row().name)
+    output.put(spaced_start(kind))
 }
 
 // Writes a match with its options.
@@ -169,13 +127,13 @@ fn put_action<W: Write>(output: &mut Tap<W>, action: &Option<Action>) -> Result<
 {
     match action {
         None => Ok(()),
-        Some(Action::Accept) => put_named(output, b"-j", b"ACCEPT"),
-        Some(Action::Drop) => put_named(output, b"-j", b"DROP"),
-        Some(Action::Return) => put_named(output, b"-j", b"RETURN"),
-        Some(Action::Reject) => put_named(output, b"-j", b"REJECT"),
-        Some(Action::Log) => put_named(output, b"-j", b"LOG"),
-        Some(Action::Jump(name)) => put_named(output, b"-j", name.bytes()),
-        Some(Action::Goto(name)) => put_named(output, b"-g", name.bytes()),
+        Some(Action::Accept) => output.put(b" -j ACCEPT"),
+        Some(Action::Drop) => output.put(b" -j DROP"),
+        Some(Action::Return) => output.put(b" -j RETURN"),
+        Some(Action::Reject) => output.put(b" -j REJECT"),
+        Some(Action::Log) => output.put(b" -j LOG"),
+        Some(Action::Jump(name)) => output.put_all(&[b" -j ", name.bytes()]),
+        Some(Action::Goto(name)) => output.put_all(&[b" -g ", name.bytes()]),
     }
 }
 

@@ -1,6 +1,6 @@
 -- Laws of rule texts: the parts that are written are the text.
-use Rattle.std.proofs.Common.{◌≡◌, true, List, [], ◌∷◌, ◌++◌, flat_map, refl, sym, ap, ◌∙◌, append_assoc, append-nil}
-use Rattle.std.specs.Prelude.{codes}
+use Rattle.std.proofs.Common.{◌≡◌, ℕ, List, [], ◌∷◌, ◌++◌, flat_map, refl, sym, ap, ◌∙◌, append_assoc, append-nil}
+use Rattle.std.specs.Prelude.{codes, if◌then◌else◌}
 use Rattle.std.proofs.lemmas.Grind.{flat_map-append}
 use Rattle.fields.specs.text.Printed.{Shown, bare, spaced, spaced_all}
 use Rattle.fields.specs.values.TcpFlags.{tcp_flags_text}
@@ -19,18 +19,27 @@ use Rattle.rules.specs.declared.options.value.Value.TheVariants as value
 pub spaced_all-append : (xs ys : List Shown) → spaced_all (xs ++ ys) ≡ spaced_all xs ++ spaced_all ys
 spaced_all-append xs ys = flat_map-append spaced xs ys
 
--- a value after its blank
-pub value-written : (v : Value) → has_words v ≡ true → spaced_all (shown_value v) ≡ 32 ∷ value_text v
-value-written (value.TcpFlags x) h = ap (λ l. 32 ∷ (tcp_flags_text x.mask ++ l)) (append-nil (32 ∷ tcp_flags_text x.comp))
-value-written value.Fragment h = absurd (cc)
-value-written value.LogTcpSequence h = absurd (cc)
-value-written value.LogTcpOptions h = absurd (cc)
-value-written value.LogIpOptions h = absurd (cc)
-value-written value.LogUid h = absurd (cc)
-value-written v h = append-nil (32 ∷ value_text v)
+-- what stands between an option's name and the words of its value
+abbrev pub blank_before : Value → List ℕ
+blank_before v = if has_words v then codes " " else []
 
-pub option_value-parts : (s : OptionValue) → option_value_text s ≡ spaced_all (shown_bang s.inverted) ++ (spaced (bare (name_of (option_of_value s.value))) ++ spaced_all (shown_value s.value))
-option_value-parts s = spaced_all-append (shown_bang s.inverted) (bare (name_of (option_of_value s.value)) ∷ shown_value s.value)
+-- a value after its blank
+value-parts : (v : Value) → spaced_all (shown_value v) ≡ blank_before v ++ value_text v
+value-parts (value.TcpFlags x) = ap (λ l. 32 ∷ (tcp_flags_text x.mask ++ l)) (append-nil (32 ∷ tcp_flags_text x.comp))
+value-parts value.Fragment = refl
+value-parts value.LogTcpSequence = refl
+value-parts value.LogTcpOptions = refl
+value-parts value.LogIpOptions = refl
+value-parts value.LogUid = refl
+value-parts v = append-nil (32 ∷ value_text v)
+
+-- an option with its value: `!`, the name with its blanks, and the words
+pub option_value-parts : (s : OptionValue) → option_value_text s ≡ spaced_all (shown_bang s.inverted) ++ ((spaced (bare (name_of (option_of_value s.value))) ++ blank_before s.value) ++ value_text s.value)
+option_value-parts s =
+    let name = spaced (bare (name_of (option_of_value s.value))) in
+    spaced_all-append (shown_bang s.inverted) (bare (name_of (option_of_value s.value)) ∷ shown_value s.value)
+    ∙ ap (λ l. spaced_all (shown_bang s.inverted) ++ (name ++ l)) (value-parts s.value)
+    ∙ ap (λ l. spaced_all (shown_bang s.inverted) ++ l) (sym (append_assoc name (blank_before s.value) (value_text s.value)))
 
 option_values-text : (ss : List OptionValue) → spaced_all (shown_option_values ss) ≡ flat_map option_value_text ss
 option_values-text [] = refl
