@@ -1,14 +1,12 @@
 //! How a rule is written.
-ghost use Rattle.std.specs.Prelude.{◌≡◌, ◌∷◌, [], ◌++◌, false, nat_lt, flat_map};
-ghost use Rattle.fields.specs.text.Printed.{spaced, bare, spaced_all};
+ghost use Rattle.std.specs.Prelude.{◌≡◌, false, flat_map};
+ghost use Rattle.fields.specs.text.Printed.{spaced_all};
 ghost use Rattle.fields.specs.text.OneLine.{IsOneLine};
 ghost use Rattle.fields.specs.text.Tap.{has_failed, Puts};
-ghost use Rattle.rules.specs.options.Options.{name_of};
-ghost use Rattle.rules.specs.options.OptionValues.{option_of_value};
-ghost use Rattle.rules.specs.printing.Printing.{shown_value, shown_bang, shown_option_value, shown_action, rule_text};
+ghost use Rattle.rules.specs.printing.Printing.{shown_bang, rule_text};
 ghost use Rattle.rules.specs.printing.RoundTrip.{TextReadsBack, IsOnlyOne, HasShortLine};
 ghost use Rattle.rules.specs.rule.Readable.{IsInOrder, IsReadable};
-ghost use Rattle.rules.specs.steps.Writing.{has_words, value_text, option_value_text, start_text, match_text, action_text};
+ghost use Rattle.rules.specs.steps.Writing.{value_text, option_value_text, start_text, match_text, action_text};
 ghost use Rattle.rules.specs.steps.Views.{view_match, view_spec};
 
 pub(crate) mod listed_line;
