@@ -3,6 +3,7 @@ pub mod GivenNumbers
 pub mod IcmpTable
 pub mod LineSteps
 pub mod NamedFlags
+pub mod Octets
 pub mod PacketStateTable
 pub mod PortItems
 pub mod ProtocolTable

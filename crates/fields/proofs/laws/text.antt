@@ -7,6 +7,7 @@ pub mod OneLineLaws
 pub mod PartLaws
 pub mod PrintedLaws
 pub mod PutLaws
+pub mod RunLaws
 pub mod SplitLaws
 mod WordExamples
 pub mod WordEndsLaws

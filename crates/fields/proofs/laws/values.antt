@@ -7,6 +7,7 @@ pub mod IpRangeLaws
 pub mod JoinLaws
 pub mod LogLevelLaws
 pub mod NameListLaws
+pub mod OctetLaws
 pub mod PortListLaws
 pub mod PortRangeLaws
 pub mod PrefixLaws

@@ -1,6 +1,6 @@
 //! The numbers that the words of a packet line give the fields.
-ghost use Rattle.std.specs.Prelude.{◌≡◌, ◌≤◌, [], find, length, drop, IfOk};
-ghost use Rattle.fields.specs.packet.Packet.{has_key, field_of, part_of, leftmost_fault};
+ghost use Rattle.std.specs.Prelude.{◌≡◌, ◌≤◌, [], length, drop, IfOk};
+ghost use Rattle.fields.specs.packet.Packet.{field_of, part_of, leftmost_fault};
 ghost use Rattle.fields.specs.steps.GivenNumbers.{number_in, IsGiven, fault_in, with_part, fault_of};
 
 use crate::numbers::field::{FIELDS, Field};
@@ -9,23 +9,25 @@ use crate::packet::keys::KeyRow;
 use crate::text::cut::cut_at;
 use crate::text::words::Words;
 
-fn has_key(field: Field, key: &[u8]) -> bool
-    ensures { result ≡ has_key key.now field }
-{
-    field.name() == key
-}
-
-fn field_among(fields: &[Field], key: &[u8]) -> Option<Field>
-    ensures { result ≡ find (has_key key.now) fields.now }
-{
-    fields.iter().copied().find(|field| has_key(*field, key))
-}
-
 // The field of a key: the one whose name is the key.
 fn field_of(key: &[u8]) -> Option<Field>
     ensures { result ≡ field_of key.now }
 {
-    field_among(&Field::ALL, key)
+    match key {
+        b"src" => Some(Field::Source),
+        b"dst" => Some(Field::Destination),
+        b"in" => Some(Field::InIface),
+        b"out" => Some(Field::OutIface),
+        b"proto" => Some(Field::Protocol),
+        b"frag" => Some(Field::Fragment),
+        b"sport" => Some(Field::SourcePort),
+        b"dport" => Some(Field::DestinationPort),
+        b"flags" => Some(Field::TcpFlags),
+        b"icmp" => Some(Field::IcmpType),
+        b"ct" => Some(Field::ConnectionState),
+        b"ttl" => Some(Field::TimeToLive),
+        _ => None,
+    }
 }
 
 // The number that the words give a field, if one does. It stands at the field's index.

@@ -1,10 +1,13 @@
 // How a line is cut into words: byte after byte, and an unquoted run of bytes at once.
-ghost use Rattle.std.specs.Prelude.{◌≡◌, ◌≤◌, true, length, take, All};
+ghost use Rattle.std.specs.Prelude.{◌≡◌, ◌≤◌, ◌+◌, true, not, nat_lt, length, take, All};
+ghost use Rattle.std.specs.List.{prefix_len};
+ghost use Rattle.std.specs.Simd.Lanes.{chunk};
 ghost use Rattle.fields.specs.text.Words.{is_bare};
 ghost use Rattle.fields.specs.text.WordEnds.{do_rise};
 
 use crate::text::words::WordFault;
 use std::alloc::Global;
+use std::simd::prelude::*;
 
 // Where a byte of a line stands: between two words, in an unquoted word, between the quotes of a
 // word, after a backslash there, or after the closing quote.
@@ -55,6 +58,40 @@ fn bare_len(bytes: &[u8]) -> usize
     bytes.len()
 }
 
+// How many of the 16 bytes from a place on stand before the first up to `"`. Each byte that an unquoted word can't have is one
+// of those.
+#[inline(always)]
+fn len_in_16(bytes: &[u8], at: usize) -> usize
+    requires { at + 16 ≤ length bytes.now }
+    ensures { result ≡ prefix_len (λ byte. not (nat_lt byte 35)) (chunk at 16 bytes.now) }
+{
+    let stops = u8x16::from_slice(&bytes[at..])
+        .simd_lt(u8x16::splat(35))
+        .to_bitmask();
+    if stops == 0 {
+        16
+    } else {
+        stops.trailing_zeros() as usize
+    }
+}
+
+// The same as `bare_len`, 16 bytes at a time while there are so many. A byte that an unquoted word can have ends it too, where
+// it stands before `"` in ASCII.
+fn run_len(bytes: &[u8]) -> usize
+    ensures within { result ≤ length bytes.now }
+    ensures run { All (λ byte. is_bare byte ≡ true) (take result bytes.now) }
+{
+    let mut at = 0;
+    'runs: while bytes.len() - at >= 16 {
+        let run = len_in_16(bytes, at);
+        at += run;
+        if run < 16 {
+            return at;
+        }
+    }
+    at + bare_len(&bytes[at..])
+}
+
 impl State {
     ghost use Rattle.std.specs.Prelude.{◌≡◌, ◌<◌, ◌≤◌, true, length, take};
     ghost use Rattle.fields.specs.text.Words.{transition_of};
@@ -84,7 +121,7 @@ impl State {
         ensures unquoted { 0 < result → is_unquoted (view_state self) ≡ true }
     {
         match self {
-            State::Between | State::Bare => bare_len(bytes),
+            State::Between | State::Bare => run_len(bytes),
             State::Quoted | State::Escaped | State::Closed => 0,
         }
     }

@@ -2,7 +2,9 @@
 ghost use Rattle.std.specs.Prelude.{◌≡◌, ℕ, ◌<◌, ◌≤◌, ◌+◌, ◌^◌, ◌∷◌, ◌++◌, [], drop, length, decimal, Option, Some, None, IfSome, option_map, IfOk};
 ghost use Rattle.fields.specs.numbers.Field.{address_top};
 ghost use Rattle.fields.specs.numbers.Spans.{has};
-ghost use Rattle.std.specs.Prelude.{false};
+ghost use Rattle.std.specs.Prelude.{◌-◌, true, false};
+ghost use Rattle.std.specs.Char.{is_ascii_digit};
+ghost use Rattle.fields.specs.steps.Octets.{address_by_octets, octet_at_front};
 ghost use Rattle.fields.specs.text.Tap.{has_failed, Puts};
 ghost use Rattle.fields.specs.values.Prefix.{Network, IsNetwork, IsAddressText, IsPrefixText, block_size, netmask, mask_length, network, address_of, length_of, prefix_of, address_text, prefix_text, octets, holds};
 
@@ -68,23 +70,92 @@ fn mask_length(mask: u32) -> Option<u8>
     }
 }
 
-// Four numbers up to 255 with dots.
-#[tactic(auto, unfolding(crate::specs::values::Prefix::address_of))]
-fn dotted_value(text: &[u8]) -> Option<u32>
-    ensures { result ≡ address_of text.now }
+// The number of a digit.
+fn digit(byte: u8) -> u32
+    requires { is_ascii_digit byte ≡ true }
+    ensures value { result ≡ byte - 48 }
+    ensures small { result ≤ 9 }
 {
-    let (a, rest) = cut_at(text, b'.')?;
-    let (b, rest) = cut_at(rest, b'.')?;
-    let (c, d) = cut_at(rest, b'.')?;
-    let a = read_number_to(a, 255)?;
-    let b = read_number_to(b, 255)?;
-    let c = read_number_to(c, 255)?;
+    u32::from(byte - b'0')
+}
+
+// Of a digit alone before a dot, its number and what follows the dot.
+fn one_digit_at_front(text: &[u8]) -> Option<(u32, &[u8])>
+    ensures value { IfSome result (λ p. octet_at_front text.now ≡ Some (p.0, p.1.now)) }
+    ensures small { IfSome result (λ p. p.0 ≤ 255) }
+{
+    if text.len() < 2 || text[1] != b'.' || !text[0].is_ascii_digit() {
+        return None;
+    }
+    Some((digit(text[0]), &text[2..]))
+}
+
+// The same of two digits, of which the first isn't `0`.
+fn two_digits_at_front(text: &[u8]) -> Option<(u32, &[u8])>
+    ensures value { IfSome result (λ p. octet_at_front text.now ≡ Some (p.0, p.1.now)) }
+    ensures small { IfSome result (λ p. p.0 ≤ 255) }
+{
+    if text.len() < 3 || text[2] != b'.' || text[0] == b'0' {
+        return None;
+    }
+    if !text[0].is_ascii_digit() || !text[1].is_ascii_digit() {
+        return None;
+    }
+    Some((digit(text[0]) * 10 + digit(text[1]), &text[3..]))
+}
+
+// The same of three digits up to 255.
+fn three_digits_at_front(text: &[u8]) -> Option<(u32, &[u8])>
+    ensures value { IfSome result (λ p. octet_at_front text.now ≡ Some (p.0, p.1.now)) }
+    ensures small { IfSome result (λ p. p.0 ≤ 255) }
+{
+    if text.len() < 4 || text[3] != b'.' || text[0] == b'0' {
+        return None;
+    }
+    if !text[0].is_ascii_digit() || !text[1].is_ascii_digit() || !text[2].is_ascii_digit() {
+        return None;
+    }
+    let octet = (digit(text[0]) * 10 + digit(text[1])) * 10 + digit(text[2]);
+    if octet > 255 {
+        return None;
+    }
+    Some((octet, &text[4..]))
+}
+
+// The number up to 255 before the first dot, and what follows the dot.
+#[tactic(auto, unfolding(crate::specs::steps::Octets::octet_at_front))]
+fn octet_at_front(text: &[u8]) -> Option<(u32, &[u8])>
+    ensures value { option_map (λ p. (p.0, p.1.now)) result ≡ octet_at_front text.now }
+    ensures small { IfSome result (λ p. p.0 ≤ 255) }
+{
+    if let Some(found) = three_digits_at_front(text) {
+        return Some(found);
+    }
+    if let Some(found) = two_digits_at_front(text) {
+        return Some(found);
+    }
+    if let Some(found) = one_digit_at_front(text) {
+        return Some(found);
+    }
+    let (octet, rest) = cut_at(text, b'.')?;
+    let octet = read_number_to(octet, 255)?;
+    Some((octet, rest))
+}
+
+// Four numbers up to 255 with dots.
+#[tactic(auto, unfolding(crate::specs::steps::Octets::address_by_octets))]
+fn dotted_value(text: &[u8]) -> Option<u32>
+    ensures { result ≡ address_by_octets text.now }
+{
+    let (a, rest) = octet_at_front(text)?;
+    let (b, rest) = octet_at_front(rest)?;
+    let (c, d) = octet_at_front(rest)?;
     let d = read_number_to(d, 255)?;
     Some(((a * 256 + b) * 256 + c) * 256 + d)
 }
 
 /// The number of a dotted address `a.b.c.d`, of which `a` is the most significant byte.
-#[tactic(auto, using(crate::proofs::laws::values::PrefixLaws::address_of_only, crate::proofs::laws::values::PrefixLaws::address_of_complete))]
+#[tactic(auto, using(crate::proofs::laws::values::PrefixLaws::address_of_only, crate::proofs::laws::values::PrefixLaws::address_of_complete, crate::proofs::laws::values::OctetLaws::address_of_octets))]
 pub fn read_address(text: &[u8]) -> Option<u32>
     ensures value { result ≡ address_of text.now }
     ensures sound { IfSome result (λ a. IsAddressText text.now a) }

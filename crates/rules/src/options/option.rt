@@ -286,9 +286,31 @@ impl Opt {
         is_among(self.row().names, word)
     }
 
-    // The option that a word spells.
+    // The option that a word spells. The spellings that stand in most rules are known at once.
     #[tactic(auto, unfolding(crate::specs::options::Options::option_of))]
     pub(crate) fn read(word: &[u8]) -> Option<Opt>
+        ensures { result ≡ option_of word.now }
+    {
+        match word {
+            b"-s" => Some(Opt::Source),
+            b"-d" => Some(Opt::Destination),
+            b"-p" => Some(Opt::Protocol),
+            b"-m" => Some(Opt::Match),
+            b"-j" => Some(Opt::Jump),
+            b"-i" => Some(Opt::InInterface),
+            b"--dport" => Some(Opt::DestinationPort),
+            b"--sport" => Some(Opt::SourcePort),
+            b"--state" => Some(Opt::State),
+            b"--dports" => Some(Opt::DestinationPorts),
+            b"--ctstate" => Some(Opt::Ctstate),
+            b"--comment" => Some(Opt::Comment),
+            _ => Opt::among_all(word),
+        }
+    }
+
+    // The same, by a search of the table.
+    #[tactic(auto, unfolding(crate::specs::options::Options::option_of))]
+    fn among_all(word: &[u8]) -> Option<Opt>
         ensures { result ≡ option_of word.now }
     {
         Opt::ALL

@@ -9,7 +9,7 @@ use Rattle.fields.proofs.laws.ListLaws.{all-weaker}
 use Rattle.fields.proofs.laws.text.NumberLaws.{numeral}
 
 -- what is no digit doesn't stand among digits
-digits-differ : (b : ℕ) → is_ascii_digit b ≡ false → (xs : List ℕ) → all_ascii_digits xs ≡ true → list_all (λ x. not (x == b)) xs ≡ true
+pub digits-differ : (b : ℕ) → is_ascii_digit b ≡ false → (xs : List ℕ) → all_ascii_digits xs ≡ true → list_all (λ x. not (x == b)) xs ≡ true
 digits-differ b off xs all = all-weaker is_ascii_digit (λ x. not (x == b)) xs (λ x is. ap not (ne_eqb x b (λ e. let on = subst (λ n. is_ascii_digit n ≡ true) e is in cc))) all
 
 -- a number's text has digits alone

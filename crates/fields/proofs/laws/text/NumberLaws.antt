@@ -21,7 +21,7 @@ pub more_digits : (i v d : ℕ) → i ≤ 8 → v < 10 ^ i → d < 10 → (v * 1
 more_digits i v d h small digit = let bound = power_up i h in (omega (arith, bound), omega (arith, bound))
 
 -- the number of digits behind another
-abbrev folded : ℕ → List ℕ → ℕ
+abbrev pub folded : ℕ → List ℕ → ℕ
 folded n [] = n
 folded n (b ∷ bs) = folded (n * 10 + (b - 48)) bs
 
@@ -34,6 +34,10 @@ number_from_some k [] all = refl
 number_from_some k (b ∷ bs) all =
     let (first, others) = and_parts (is_ascii_digit b) (all_ascii_digits bs) all in
     ap (λ t. cond t (number_from (k * 10 + (b - 48)) bs) None) first ∙ number_from_some (k * 10 + (b - 48)) bs others
+
+pub number_of-digits : (bs : List ℕ) → all_ascii_digits bs ≡ true → has_number_form bs ≡ true → number_of bs ≡ Some (folded 0 bs)
+unfolding number_of
+number_of-digits bs all form = ap (λ t. cond t (number_from 0 bs) None) form ∙ number_from_some 0 bs all
 
 -- and nothing else
 number_from_only : (k n : ℕ) (bs : List ℕ) → number_from k bs ≡ Some n → (all_ascii_digits bs ≡ true) × (folded k bs ≡ n)
