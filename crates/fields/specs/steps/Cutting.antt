@@ -1,5 +1,5 @@
 -- How the code cuts a line: byte after byte, with the words so far and the word at hand.
-use Rattle.std.specs.Prelude.{◌≡◌, ℕ, ◌<◌, Bool, true, false, All, List, [], ◌∷◌, ◌++◌, length, drop, MatchResult, Option, Some, None, Result, option_and_then}
+use Rattle.std.specs.Prelude.{◌≡◌, ℕ, ◌<◌, ◌≤◌, Bool, true, false, All, List, [], ◌∷◌, ◌++◌, length, drop, MatchResult, Option, Some, None, Result, option_and_then}
 use Rattle.std.specs.Borrow.{Bor}
 use Rattle.fields.specs.text.WordEnds.{words_to}
 use Rattle.fields.specs.text.Words.{Transition, transition_of, is_bare, OnQuoting}
@@ -108,6 +108,11 @@ abbrev pub Advances : Cut → List ℕ → Cut → Result (Bor (List ℕ)) WordF
 Advances old bytes new result =
     MatchResult result (λ left. (length left.now < length bytes) × (cut_from old bytes ≡ cut_from new left.now))
     (λ fault. OnQuoting fault (cut_from old bytes ≡ None))
+
+-- no more bytes are left, and the words to come are the same, unless memory ran out
+abbrev pub Continues : Cut → List ℕ → Cut → Result (Bor (List ℕ)) WordFault → Type 0
+Continues old bytes new result =
+    MatchResult result (λ left. (length left.now ≤ length bytes) × (cut_from old bytes ≡ cut_from new left.now)) (λ fault. fault ≡ faults.NoMemory)
 
 -- an unquoted word begins or goes on there
 abbrev pub is_unquoted : line.State → Bool

@@ -128,9 +128,9 @@ impl State {
 }
 
 impl Cutting {
-    ghost use Rattle.std.specs.Prelude.{◌≡◌, ◌<◌, ◌≤◌, [], ◌∷◌, length, take, All, IsTrue, IfOk, IsErr};
-    ghost use Rattle.fields.specs.text.Words.{is_bare, words_of};
-    ghost use Rattle.fields.specs.steps.Cutting.{view_cutting, view_state, after, at_line_end, start, joined, ended, Gives, UnlessNoMemory, Advances};
+    ghost use Rattle.std.specs.Prelude.{◌≡◌, ◌<◌, ◌≤◌, [], ◌∷◌, true, length, take, All, IsTrue, IfOk, IsErr};
+    ghost use Rattle.fields.specs.text.Words.{is_bare, words_of, Bare};
+    ghost use Rattle.fields.specs.steps.Cutting.{view_cutting, view_state, after, at_line_end, start, joined, ended, Gives, UnlessNoMemory, Advances, Continues, IsRun, is_unquoted};
 
     // Before the first byte, with room for the bytes of a line and as many words as it may have.
     fn new(alloc: Global, len: usize) -> Result<Cutting, WordFault>
@@ -199,7 +199,35 @@ impl Cutting {
         Ok(())
     }
 
-    // Takes a run of bytes of an unquoted word, or else the next byte. Gives the bytes after it.
+    // Ends an unquoted word at a blank, if one comes next. Gives the bytes after that.
+    #[tactic(auto, unfolding(crate::specs::steps::Cutting::after))]
+    fn end_at_blank<'a>(&mut self, bytes: &'a [u8]) -> Result<&'a [u8], WordFault>
+        requires { view_state self.old.state ≡ Bare }
+        ensures { Continues (view_cutting self.old) bytes.now (view_cutting self.new) result }
+    {
+        if bytes.is_empty() || bytes[0] != b' ' {
+            return Ok(bytes);
+        }
+        self.end_word()?;
+        self.state = State::Between;
+        Ok(&bytes[1..])
+    }
+
+    // Takes a run of bytes of an unquoted word. Gives the bytes after it.
+    fn take_run<'a>(&mut self, bytes: &'a [u8], run: usize) -> Result<&'a [u8], WordFault>
+        requires some { 0 < run }
+        requires within { run ≤ length bytes.now }
+        requires run { IsRun (take run bytes.now) }
+        requires unquoted { is_unquoted (view_state self.old.state) ≡ true }
+        ensures state { IfOk result (λ _. view_state self.new.state ≡ Bare) }
+        ensures advances { Advances (view_cutting self.old) bytes.now (view_cutting self.new) result }
+    {
+        self.join_all(&bytes[..run])?;
+        self.state = State::Bare;
+        Ok(&bytes[run..])
+    }
+
+    // Takes a run of bytes of an unquoted word with the blank after it, or else the next byte. Gives the bytes after that.
     fn advance<'a>(&mut self, bytes: &'a [u8]) -> Result<&'a [u8], WordFault>
         requires { 0 < length bytes.now }
         ensures { Advances (view_cutting self.old) bytes.now (view_cutting self.new) result }
@@ -209,9 +237,8 @@ impl Cutting {
             self.take(bytes[0])?;
             return Ok(&bytes[1..]);
         }
-        self.join_all(&bytes[..run])?;
-        self.state = State::Bare;
-        Ok(&bytes[run..])
+        let rest = self.take_run(bytes, run)?;
+        self.end_at_blank(rest)
     }
 
     // Ends the last word at the line's end.

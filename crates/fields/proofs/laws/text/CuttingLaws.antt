@@ -1,10 +1,10 @@
 -- The code cuts a line into the words of the line.
-use Rattle.std.proofs.Common.{◌≡◌, ◌≢◌, ℕ, ◌<◌, ◌≤◌, length, take, drop, arith, length-drop, ap₂, true, List, [], ◌∷◌, ◌++◌, Option, Some, None, option_and_then, refl, sym, ap, ◌∙◌, append_assoc, append-nil}
+use Rattle.std.proofs.Common.{◌≡◌, ◌≢◌, ℕ, ◌<◌, ◌≤◌, length, take, drop, get_or, drop-cons, arith, length-drop, ap₂, true, List, [], ◌∷◌, ◌++◌, Option, Some, None, option_and_then, refl, sym, ap, ◌∙◌, append_assoc, append-nil}
 use Rattle.std.specs.Option.{option_map}
 use Rattle.fields.specs.text.Words.{State, Between, Bare, Quoted, Escaped, Closed, Transition, Skips, Joins, Ends, Breaks, transition_of, is_bare, in_front, acted, words_from, words_of}
 use Rattle.std.proofs.lemmas.List.{take-append-drop, length-take-le}
 use Rattle.std.proofs.lemmas.List.Elements.{All-head, All-tail}
-use Rattle.fields.specs.steps.Cutting.{Cut, cut_by, after, at_line_end, cut_from, start, placed, joined, is_unquoted, IsRun}
+use Rattle.fields.specs.steps.Cutting.{Cut, cut_by, after, at_line_end, cut_from, start, placed, joined, ended, is_unquoted, IsRun}
 use Rattle.fields.proofs.laws.text.WordLaws.{bare-joins, first-joins}
 
 abbrev at : List (List ℕ) → List ℕ → State → Cut
@@ -94,5 +94,16 @@ advanced n bytes left old new some within unquoted bare next rest = (
   omega (arith, some, within, ap length rest, length-drop n bytes),
   ap (cut_from old) (sym (take-append-drop n bytes))
       ∙ cut_from-run (take n bytes) (drop n bytes) old.words old.word old.state unquoted (λ none. let none' = ap length none in omega (arith, some, within, none', length-take-le n bytes within)) bare
+      ∙ ap₂ cut_from (sym next) (sym rest),
+)
+
+-- a blank at the front of the bytes ends an unquoted word
+pub ended_at_blank : (bytes left : List ℕ) (old new : Cut) → 0 < length bytes → get_or bytes 0 0 ≡ 32 → old.state ≡ Bare → new ≡ placed Between (ended old)
+    → left ≡ drop 1 bytes → (length left ≤ length bytes) × (cut_from old bytes ≡ cut_from new left)
+unfolding after
+ended_at_blank bytes left old new some first bare next rest = (
+  omega (arith, some, ap length rest, length-drop 1 bytes),
+  ap (cut_from old) (drop-cons bytes 0 0 (omega arith) ∙ (λ k. first k ∷ drop 1 bytes))
+      ∙ ap (λ state. option_and_then (λ further. cut_from further (drop 1 bytes)) (cut_by (transition_of state 32) 32 old)) bare
       ∙ ap₂ cut_from (sym next) (sym rest),
 )
