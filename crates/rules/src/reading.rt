@@ -48,7 +48,7 @@ fn read_options(alloc: Global, end: usize, words: WordSlice) -> Result<RuleSpec,
     let mut rest = words;
     while !rest.is_empty() {
         let (given, after) = option_words_at(end, rest)?;
-        spec = step(alloc, spec, &given)?;
+        step(alloc, &mut spec, &given)?;
         rest = after;
     }
     Ok(spec)
@@ -114,13 +114,13 @@ fn unmet(spec: &RuleSpec) -> Option<Refusal>
     }
 }
 
-// The rule in its normal form, where its needs hold.
-fn with_needs_met(spec: RuleSpec) -> Result<RuleSpec, RuleFault>
-    ensures { Gives view_spec result (with_needs_met (view_spec spec)) }
+// Brings the rule to its normal form, where its needs hold.
+fn with_needs_met(spec: &mut RuleSpec) -> Result<(), RuleFault>
+    ensures { Gives (λ _. view_spec spec.new) result (with_needs_met (view_spec spec.old)) }
 {
-    let spec = normalized(spec)?;
-    match unmet(&spec) {
-        None => Ok(spec),
+    normalized(spec)?;
+    match unmet(spec) {
+        None => Ok(()),
         Some(refusal) => Err(RuleFault::Refused(refusal)),
     }
 }
@@ -131,8 +131,9 @@ fn rule_of(alloc: Global, end: usize, words: WordSlice) -> Result<RuleSpec, Rule
     requires { length (words_in words) ≤ end }
     ensures { Gives view_spec result (rule_of end (words_in words.entry)) }
 {
-    let spec = read_options(alloc, end, words)?;
-    with_needs_met(spec)
+    let mut spec = read_options(alloc, end, words)?;
+    with_needs_met(&mut spec)?;
+    Ok(spec)
 }
 
 /// The rule that the words from a place on read as (iptables(8), iptables-extensions(8)). From beyond the last word on

@@ -96,12 +96,12 @@ fn normalize(spec: &mut RuleSpec) -> Result<(), AllocError>
     normalize_options(&mut spec.target_options, default)
 }
 
-// The rule in that form.
-pub(crate) fn normalized(mut spec: RuleSpec) -> Result<RuleSpec, RuleFault>
-    ensures { Gives view_spec result (Ok (normal_form (view_spec spec))) }
+// The same, as a step of reading.
+pub(crate) fn normalized(spec: &mut RuleSpec) -> Result<(), RuleFault>
+    ensures { Gives (λ _. view_spec spec.new) result (Ok (normal_form (view_spec spec.old))) }
 {
-    match normalize(&mut spec) {
-        Ok(()) => return Ok(spec),
+    match normalize(spec) {
+        Ok(()) => return Ok(()),
         Err(_) => return Err(RuleFault::NoMemory),
     }
 }

@@ -82,10 +82,10 @@ fn add(
 
 // The rule with one more match, where it has fewer than 16.
 #[tactic(auto, unfolding(crate::specs::reading::Steps::with_match))]
-fn start(alloc: Global, mut spec: RuleSpec, kind: MatchKind) -> Result<RuleSpec, RuleFault>
-    ensures gives { Gives view_spec result (with_match (view_spec spec) kind) }
-    ensures refuses { RefusesFirst result (with_match (view_spec spec) kind) }
-    ensures longer { IfOk result (λ d. vec_len d.matches ≡ vec_len spec.matches + 1) }
+fn start(alloc: Global, spec: &mut RuleSpec, kind: MatchKind) -> Result<(), RuleFault>
+    ensures gives { Gives (λ _. view_spec spec.new) result (with_match (view_spec spec.old) kind) }
+    ensures refuses { RefusesFirst result (with_match (view_spec spec.old) kind) }
+    ensures longer { IfOk result (λ _. vec_len spec.new.matches ≡ vec_len spec.old.matches + 1) }
 {
     if spec.matches.len() >= 16 {
         return Err(RuleFault::Refused(Refusal::TooManyMatches));
@@ -95,7 +95,7 @@ fn start(alloc: Global, mut spec: RuleSpec, kind: MatchKind) -> Result<RuleSpec,
         kind,
         option_values,
     }) {
-        Ok(()) => Ok(spec),
+        Ok(()) => Ok(()),
         Err(_) => Err(RuleFault::NoMemory),
     }
 }
@@ -152,22 +152,18 @@ fn is_implied_option(option: Opt) -> bool
 
 // The rule with the match that an option belongs to, and that match's place.
 #[tactic(auto, unfolding(crate::specs::reading::Steps::match_for))]
-fn match_for(
-    alloc: Global,
-    spec: RuleSpec,
-    given: &OptionWords,
-) -> Result<(RuleSpec, usize), RuleFault>
-    ensures gives { Gives (λ r. (view_spec r.0, r.1)) result (match_for (view_spec spec) (view_option_words given.now)) }
-    ensures within { IfOk result (λ r. r.1 < vec_len r.0.matches) }
+fn match_for(alloc: Global, spec: &mut RuleSpec, given: &OptionWords) -> Result<usize, RuleFault>
+    ensures gives { Gives (λ i. (view_spec spec.new, i)) result (match_for (view_spec spec.old) (view_option_words given.now)) }
+    ensures within { IfOk result (λ i. i < vec_len spec.new.matches) }
 {
     if let Some(i) = last_with(spec.matches.as_slice(), given.option) {
-        return Ok((spec, i));
+        return Ok(i);
     }
     match implied_match(spec.option_values.as_slice(), given.option) {
         Some(kind) => {
             let i = spec.matches.len();
-            let spec = start(alloc, spec, kind)?;
-            Ok((spec, i))
+            start(alloc, spec, kind)?;
+            Ok(i)
         }
         None => {
             if is_implied_option(given.option) {
@@ -214,8 +210,8 @@ fn has_jump(action: &Option<Action>) -> bool
 
 // The rule with the target that `-j` names, where none was given.
 #[tactic(auto, unfolding(crate::specs::reading::Steps::with_jump))]
-fn with_jump(mut spec: RuleSpec, text: &[u8]) -> Result<RuleSpec, RuleFault>
-    ensures { Gives view_spec result (with_jump (view_spec spec) text.now) }
+fn with_jump(spec: &mut RuleSpec, text: &[u8]) -> Result<(), RuleFault>
+    ensures { Gives (λ _. view_spec spec.new) result (with_jump (view_spec spec.old) text.now) }
 {
     if has_goto(&spec.action) {
         return Err(RuleFault::Refused(Refusal::JumpAndGoto));
@@ -225,13 +221,13 @@ fn with_jump(mut spec: RuleSpec, text: &[u8]) -> Result<RuleSpec, RuleFault>
     }
     let action = or_bad_value(Action::read(text))?;
     spec.action = Some(action);
-    Ok(spec)
+    Ok(())
 }
 
 // The rule with the chain that `-g` names, where no target was given.
 #[tactic(auto, unfolding(crate::specs::reading::Steps::with_goto))]
-fn with_goto(mut spec: RuleSpec, text: &[u8]) -> Result<RuleSpec, RuleFault>
-    ensures { Gives view_spec result (with_goto (view_spec spec) text.now) }
+fn with_goto(spec: &mut RuleSpec, text: &[u8]) -> Result<(), RuleFault>
+    ensures { Gives (λ _. view_spec spec.new) result (with_goto (view_spec spec.old) text.now) }
 {
     if has_jump(&spec.action) {
         return Err(RuleFault::Refused(Refusal::JumpAndGoto));
@@ -241,7 +237,7 @@ fn with_goto(mut spec: RuleSpec, text: &[u8]) -> Result<RuleSpec, RuleFault>
     }
     let name = or_bad_value(Name::read(text))?;
     spec.action = Some(Action::Goto(name));
-    Ok(spec)
+    Ok(())
 }
 
 // The match that a name starts.
@@ -255,27 +251,23 @@ fn named_match(name: &[u8]) -> Result<MatchKind, RuleFault>
 }
 
 // An option of a match.
-fn add_to_match(alloc: Global, spec: RuleSpec, given: &OptionWords) -> Result<RuleSpec, RuleFault>
-    ensures { Gives view_spec result (match_step (view_spec spec) (view_option_words given.now)) }
+fn add_to_match(alloc: Global, spec: &mut RuleSpec, given: &OptionWords) -> Result<(), RuleFault>
+    ensures { Gives (λ _. view_spec spec.new) result (match_step (view_spec spec.old) (view_option_words given.now)) }
 {
-    let (mut spec, i) = match_for(alloc, spec, given)?;
+    let i = match_for(alloc, spec, given)?;
     add_at(alloc, &mut spec.matches, i, given)?;
-    Ok(spec)
+    Ok(())
 }
 
 // The rule so far with one more option.
 #[tactic(auto, unfolding(crate::specs::reading::Steps::step))]
-pub(crate) fn step(
-    alloc: Global,
-    mut spec: RuleSpec,
-    given: &OptionWords,
-) -> Result<RuleSpec, RuleFault>
-    ensures { Gives view_spec result (step (view_spec spec) (view_option_words given.now)) }
+pub(crate) fn step(alloc: Global, spec: &mut RuleSpec, given: &OptionWords) -> Result<(), RuleFault>
+    ensures { Gives (λ _. view_spec spec.new) result (step (view_spec spec.old) (view_option_words given.now)) }
 {
     match given.option.row().owner {
         Owner::Rule => {
             add(alloc, &mut spec.option_values, given)?;
-            Ok(spec)
+            Ok(())
         }
         Owner::Start => {
             let kind = named_match(first_of(given.values))?;
@@ -289,7 +281,7 @@ pub(crate) fn step(
                 return Err(RuleFault::Refused(Refusal::OtherTarget));
             }
             add(alloc, &mut spec.target_options, given)?;
-            Ok(spec)
+            Ok(())
         }
     }
 }

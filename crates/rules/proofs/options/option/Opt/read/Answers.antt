@@ -35,4 +35,3 @@ pub returns-in-45-12 : goal.returns-in-45-12
 returns-in-45-12 c =
     let same = text_from_reads c.args.word.now (name_of opt.Comment) (omega arith) (search rules) in
     sym (ap option_of same ∙ option_of-name_of opt.Comment)
-
