@@ -123,6 +123,7 @@ fn three_digits_at_front(text: &[u8]) -> Option<(u32, &[u8])>
 }
 
 // The number up to 255 before the first dot, and what follows the dot.
+#[inline(always)]
 #[tactic(auto, unfolding(crate::specs::steps::Octets::octet_at_front))]
 fn octet_at_front(text: &[u8]) -> Option<(u32, &[u8])>
     ensures value { option_map (λ p. (p.0, p.1.now)) result ≡ octet_at_front text.now }
