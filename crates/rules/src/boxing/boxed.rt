@@ -73,6 +73,7 @@ fn met(alloc: Global, before: &Spans, asked: Spans) -> Result<Spans, AllocError>
 }
 
 // Leaves on the condition's field the numbers that the condition has too.
+#[inline(always)]
 fn keep(alloc: Global, spans: &mut [Spans], asked: Condition) -> Result<(), AllocError>
     requires boxed { IsBox spans.old }
     requires top { asked.set.top ≡ top asked.field }
