@@ -8,5 +8,6 @@ pub mod PacketLaws
 pub mod ReachLaws
 pub mod TakerLaws
 pub mod TrailLaws
+pub mod TransportLaws
 pub mod WaitLaws
 pub mod WithoutLaws

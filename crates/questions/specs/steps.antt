@@ -3,4 +3,5 @@ pub mod Groups
 pub mod Leading
 pub mod Sides
 pub mod Takers
+pub mod Transports
 pub mod Waiting

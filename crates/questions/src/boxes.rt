@@ -3,3 +3,4 @@ pub(crate) mod area;
 pub(crate) mod boxed_table;
 pub(crate) mod cut;
 pub(crate) mod meeting;
+pub(crate) mod transport;

@@ -81,6 +81,14 @@ shape_of hook words = record {
   fragment = value_on words fields.Fragment;
 }
 
+-- the shape of a packet by its values
+abbrev pub packet_shape : PacketView → Shape
+packet_shape p = record { hook = p.hook; protocol = Some (point p fields.Protocol); fragment = point p fields.Fragment }
+
+-- whether a packet carries the key of a field
+abbrev pub carries_key : PacketView → Field → Bool
+carries_key p field = carries (packet_shape p) (key_of field).carrier
+
 -- whether the key of a field is given, of a packet that doesn't carry it
 abbrev pub strays : Shape → List (List ℕ) → Field → Bool
 strays shape words field = is_some (text_of field words) && not (carries shape (key_of field).carrier)

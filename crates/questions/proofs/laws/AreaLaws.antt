@@ -1,5 +1,5 @@
 -- Boxes of packets, place by place.
-use Rattle.std.proofs.Common.{◌≡◌, ◌≢◌, inl, inr, ℕ, zero, suc, ◌+◌, ◌<◌, ◌≤◌, Bool, true, false, cond, ◌&&◌, not, ◌==◌, List, [], ◌∷◌, ◌++◌, length, get_or, map, refl, sym, ◌∙◌, ap, arith, subst, ◌⊎◌, below_more}
+use Rattle.std.proofs.Common.{◌≡◌, ◌≢◌, inl, inr, ℕ, zero, suc, ◌+◌, ◌<◌, ◌≤◌, Bool, true, false, cond, ◌&&◌, not, ◌==◌, ◌||◌, List, [], ◌∷◌, ◌++◌, length, get_or, map, refl, sym, ◌∙◌, ap, arith, subst, ◌⊎◌, below_more}
 use Rattle.std.specs.Prelude.{slice_index}
 use Rattle.std.specs.List.{list_all}
 use Rattle.std.proofs.Math.Dec.{eqb, leb}
@@ -12,9 +12,9 @@ use Rattle.fields.specs.declared.numbers.field.Field.{Field}
 use Rattle.fields.specs.declared.numbers.field.Field.TheVariants as field
 use Rattle.fields.specs.declared.numbers.spans.Interval.{Interval}
 use Rattle.fields.specs.declared.packet.hook.Hook.{Hook}
-use Rattle.fields.specs.declared.packet.hook.Hook.TheVariants.{Input, Forward, Output}
 use Rattle.fields.specs.numbers.Field.{all_fields, index, number_on, top}
 use Rattle.fields.specs.numbers.Spans.{AreSpansFrom, SpanSet, has}
+use Rattle.fields.specs.packet.Keys.{comes_in, goes_out}
 use Rattle.fields.specs.packet.Packet.{PacketView, IsPacket, point}
 use Rattle.rules.specs.boxing.Boxed.{IsBox, IsBoxOf, set_on}
 use Rattle.rules.specs.rule.Allows.{allows, allows_each, matches}
@@ -24,7 +24,7 @@ use Rattle.rules.proofs.laws.boxing.BoxLaws.{index-lt, here_is, box_long, top_on
 use Rattle.rules.proofs.laws.rule.PortLaws as ports
 use Rattle.classify.specs.classifier.Classifier.{IsPoint, box_allows, box_matches}
 use Rattle.classify.proofs.laws.classifier.ClassifierLaws.{field_at}
-use Rattle.questions.specs.boxes.Area.{Has, HasNumbers, IsAtHook, IsBoth, IsIn, IsNarrowed, may_have, is_without}
+use Rattle.questions.specs.boxes.Area.{Has, HasNumbers, HasOwnInterfaces, IsAtHook, IsBoth, IsIn, IsNarrowed, may_have, is_without}
 use Rattle.questions.specs.boxes.Cut.{IsInSome, IsApart, IsCut, IsPartedFor}
 use Rattle.questions.specs.steps.Sides.{no_set, has_at, takes, HasOne, IsSide, IsPart, IsBeginning, LeavesAt}
 
@@ -187,12 +187,33 @@ module _ (box : List SpanSet) (f : Field) (v wanted : SpanSet) (is : IsBox box) 
   pub narrowed_to : (k : ℕ) → k ≡ index f → IsNarrowed f wanted box (set box k v)
   narrowed_to k at = let P : ℕ → Type 0 = λ j. IsNarrowed f wanted box (set box j v) in subst P (sym at) narrow_at
 
--- 0 alone is from 0 to 0
-pub only_zero : (x : ℕ) → (leb 0 x && leb x 0) ≡ (x == 0)
-only_zero x = same_truth (leb 0 x && leb x 0) (x == 0) (λ t. eq-eqb x 0 (omega (arith, leb-true x 0 (and_parts (leb 0 x) (leb x 0) t).1)))
-    (λ t. and_from (leb 0 x) (leb x 0) (le-leb 0 x (omega arith)) (le-leb x 0 (omega (arith, eqb-true x 0 t))))
+-- one number alone is from it to it
+pub only_one : (n x : ℕ) → (leb n x && leb x n) ≡ (x == n)
+only_one n x = same_truth (leb n x && leb x n) (x == n) (λ t. (let both = and_parts (leb n x) (leb x n) t in eq-eqb x n (omega (arith, leb-true n x both.0, leb-true x n both.1))))
+    (λ t. and_from (leb n x) (leb x n) (le-leb n x (omega (arith, eqb-true x n t))) (le-leb x n (omega (arith, eqb-true x n t))))
+
+-- all numbers up to a top, or 0 alone
+pub all_or_zero_of : (all : Bool) (last top x : ℕ) → x ≤ top → last ≡ cond all top 0 → (leb 0 x && leb x last) ≡ (all || (x == 0))
+all_or_zero_of true last top x le e = and_from (leb 0 x) (leb x last) (le-leb 0 x (omega arith)) (le-leb x last (omega (arith, le, e)))
+all_or_zero_of false last top x le e = ap (λ n. leb 0 x && leb x n) e ∙ only_one 0 x
 
 -- ---- the packets at a hook
+
+zero_is : (x : ℕ) → x ≡ 0 → (x == 0) ≡ true
+zero_is x e = ap (λ y. y == 0) e
+
+-- what a packet at a hook has on a field it may have
+pub may_be : (p : PacketView) (hook : Hook) (f : Field) → IsAtHook p → p.hook ≡ hook → may_have hook f (point p f) ≡ true
+may_be p hook f at e = by_field f
+  where
+    by_test : (b : Bool) (x : ℕ) → (b ≡ false → x ≡ 0) → (not (not b) || (x == 0)) ≡ true
+    by_test true x h = refl
+    by_test false x h = zero_is x (h refl)
+
+    by_field : (g : Field) → may_have hook g (point p g) ≡ true
+    by_field field.InIface = by_test (comes_in hook) (point p field.InIface) (λ n. at.carried field.InIface (ap comes_in e ∙ n))
+    by_field field.OutIface = by_test (goes_out hook) (point p field.OutIface) (λ n. at.carried field.OutIface (ap goes_out e ∙ n))
+    by_field _ = refl
 
 module _ (hook : Hook) (sets : List SpanSet) (h : (k : ℕ) (f : Field) (d : SpanSet) → k < FIELDS → IsBeginning hook (get_or all_fields k f) (get_or sets k d)) where
   on_its_field : (f : Field) (d : SpanSet) → IsBeginning hook f (get_or sets (index f) d)
@@ -208,41 +229,23 @@ module _ (hook : Hook) (sets : List SpanSet) (h : (k : ℕ) (f : Field) (d : Spa
       let one : IsBeginning hook (get_or all_fields k field.Source) (get_or sets k no_set) = h k field.Source no_set under in
       get_or-map (λ (s : SpanSet). s.top) sets k no_set d within ∙ one.greatest ∙ sym (get_or-map top all_fields k field.Source d under)))
 
-  may_be : (p : PacketView) (f : Field) → IsAtHook p → p.hook ≡ hook → may_have hook f (point p f) ≡ true
-  may_be p f at e =
-      elim (cases_Bool (is_without hook f)) [
-        | inl t ↦ ap (λ b. cond b (point p f == 0) true) t ∙ zero f hook e t
-        | inr n ↦ ap (λ b. cond b (point p f == 0) true) n
-      ]
-    where
-      is_zero : (x : ℕ) → x ≡ 0 → (x == 0) ≡ true
-      is_zero x e = ap (λ y. y == 0) e
-
-      zero : (f : Field) (own : Hook) → p.hook ≡ own → is_without own f ≡ true → (point p f == 0) ≡ true
-      zero field.OutIface Input e t = is_zero (point p field.OutIface) (at.input e)
-      zero field.InIface Output e t = is_zero (point p field.InIface) (at.output e)
-      zero f Input e t = absurd (true≢false (sym t))
-      zero f Forward e t = absurd (true≢false (sym t))
-      zero f Output e t = absurd (true≢false (sym t))
-
   pub all_at_hook : (p : PacketView) → IsAtHook p → p.hook ≡ hook → IsIn sets p
   all_at_hook p at e = record {
     each =
         all_true (λ g. box_allows sets g (number_on p.values g)) all_fields
-        (λ g. (on_its_field g no_set).members (point p g) (at.packet.within g) ∙ may_be p g at e);
+        (λ g. (on_its_field g no_set).members (point p g) (at.packet.within g) ∙ may_be p hook g at e);
   }
 
-  pub only_at_hook : (p : PacketView) → IsPacket p → p.hook ≡ hook → IsIn sets p → IsAtHook p
+  pub only_at_hook : (p : PacketView) → IsPacket p → p.hook ≡ hook → IsIn sets p → HasOwnInterfaces p
   only_at_hook p is e inside = record {
-    packet = is;
-    input = λ i. missing field.OutIface (ap (λ h. is_without h field.OutIface) (sym e ∙ i));
-    output = λ o. missing field.InIface (ap (λ h. is_without h field.InIface) (sym e ∙ o));
+    came = λ out. missing field.InIface (ap not (ap comes_in (sym e) ∙ out));
+    goes = λ for_here. missing field.OutIface (ap not (ap goes_out (sym e) ∙ for_here));
   }
     where
       missing : (f : Field) → is_without hook f ≡ true → point p f ≡ 0
       missing f t =
           let has_it : has_at sets p.values (index f) ≡ true = at_place sets p.values (index f) (index-lt f) inside.each in
-          let is_zero : may_have hook f (point p f) ≡ (point p f == 0) = ap (λ b. cond b (point p f == 0) true) t in
+          let is_zero : may_have hook f (point p f) ≡ (point p f == 0) = ap (λ b. not b || (point p f == 0)) t in
           eqb-true (point p f) 0 (sym is_zero ∙ sym ((on_its_field f no_set).members (point p f) (is.within f)) ∙ has_it)
 
 -- ---- rules

@@ -1,6 +1,8 @@
 -- Boxes of which all packets have one walk.
-use Rattle.std.proofs.Common.{◌≡◌, ℕ, zero, suc, ◌+◌, ◌<◌, List, [], ◌∷◌, ◌++◌, length, get_or, refl, sym, ◌∙◌, ap, arith, subst, Option, Some, None, Vec, Global, All}
+use Rattle.std.proofs.Common.{◌≡◌, ℕ, zero, suc, ◌+◌, ◌<◌, ◌≤◌, List, [], ◌∷◌, ◌++◌, length, get_or, refl, inl, inr, sym, ◌∙◌, ap, arith, subst, Option, Some, None, Vec, Global, All}
 use Rattle.std.specs.Prelude.{Any, IfSome}
+use Rattle.std.proofs.lemmas.Bool.{cases_eq}
+use Rattle.std.proofs.lemmas.List.Elements.{All-contains}
 use Rattle.std.proofs.lemmas.List.Quantifiers.{Any-push}
 use Rattle.fields.specs.declared.packet.hook.Hook.{Hook}
 use Rattle.fields.specs.numbers.Spans.{SpanSet}
@@ -9,20 +11,25 @@ use Rattle.classify.specs.classifier.Classifier.{IsPoint}
 use Rattle.table.specs.chains.Table.{Table}
 use Rattle.table.specs.walk.Walk.{walk}
 use Rattle.questions.specs.Leaves.{AreLeavesOf, EndsIn, walked_of}
-use Rattle.questions.specs.boxes.Area.{Has, HasNumbers, IsAtHook, IsBoth, IsIn}
+use Rattle.questions.specs.boxes.Area.{Has, HasNumbers, HasOwnInterfaces, IsAtHook, IsBoth, IsIn}
 use Rattle.questions.specs.declared.asked.reach.Given.{Given}
 use Rattle.questions.specs.declared.walking.task.Leaf.{Leaf}
-use Rattle.questions.specs.steps.Exact.{AnyHas, AreExact, AreExactWalks, HasShared, IsExact, IsMet, IsWalkOf}
+use Rattle.questions.specs.declared.boxes.transport.Transport.{Transport}
+use Rattle.questions.specs.declared.boxes.transport.Transport.TheVariants.{Tcp}
+use Rattle.questions.specs.steps.Exact.{AddsExact, AnyHas, AreExact, AreExactWalks, HasShared, IsCovered, IsExact, IsMet, IsWalkOf}
+use Rattle.questions.specs.steps.Transports.{HasTransport, IsWithTransport, all_transports}
 use Rattle.questions.proofs.laws.GroupLaws.{any_left}
 use Rattle.questions.proofs.laws.TrailLaws.{items_next}
+use Rattle.questions.proofs.laws.TransportLaws.{at_hook_of, fits_of, some_transport}
 
 -- the packets of a box that can be at a hook
-pub met_of : (given : Given) (there area : List SpanSet) → ((p : Packet) → IsAtHook p → p.hook ≡ given.hook → IsIn there p) → ((p : Packet) → IsPacket p → p.hook ≡ given.hook → IsIn there p → IsAtHook p) → IsBoth there given.area area
+pub met_of : (given : Given) (there area : List SpanSet) → ((p : Packet) → IsAtHook p → p.hook ≡ given.hook → IsIn there p) → ((p : Packet) → IsPacket p → p.hook ≡ given.hook → IsIn there p → HasOwnInterfaces p) → IsBoth there given.area area
     → IsMet given (record { hook = given.hook; area = area })
 met_of given there area all only both = record {
   there = refl;
   all = λ p meant. both.all p.values meant.can.packet.within (all p meant.can meant.there) meant.inside;
-  only = λ p is e inside. record { can = only p is e (both.first p.values is.within inside); there = e; inside = both.second p.values is.within inside };
+  own = λ p is e inside. only p is e (both.first p.values is.within inside);
+  only = λ p is inside. both.second p.values is.within inside;
 }
 
 -- where there is one leaf, all packets have its walk
@@ -37,38 +44,67 @@ only_walk t hook box start leaves rest only e none copy cover p can at inside =
     one (zero, x, lt, is, h) = subst (EndsIn t p) (sym is) h
     one (suc k, x, lt, is, h) = absurd (omega (arith, lt))
 
--- what a leaf shares with a box, where it has packets and one walk
-pub exact_part : (t : Table) (given : Given) (leaf : Leaf) (part : List SpanSet) (exact : Leaf) → IsBoth leaf.area given.area part → HasNumbers part → IsWalkOf t given.hook part exact → IsExact t given exact × HasShared given.area leaf.area exact.area
-exact_part t given leaf part exact both some own =
-    let Q : List SpanSet → Type 0 = λ (box : List SpanSet). (numbers : List ℕ) → IsPoint numbers → Has box numbers → Has given.area numbers in
-    let R : List SpanSet → Type 0 = λ (box : List SpanSet). (p : Packet) → IsAtHook p → p.hook ≡ given.hook → IsIn box p → walk t p ≡ walked_of t.chains exact in
-    let S : List SpanSet → Type 0 = λ (box : List SpanSet). HasShared given.area leaf.area box in
-    (record { inside = subst Q (sym own.same) both.second; some = subst HasNumbers (sym own.same) some; walked = subst R (sym own.same) own.walked }, subst S (sym own.same) (λ numbers point a b. both.all numbers point b a))
+-- what a leaf shares with a box, of packets with a transport header
+module _ (t : Table) (given : Given) (leaf : Leaf) (transport : Transport) (shared part : List SpanSet) (both : IsBoth leaf.area given.area shared) (with : IsWithTransport transport shared part) where
+  in_part : (p : Packet) → IsAtHook p → HasTransport transport p → IsIn given.area p → IsIn leaf.area p → IsIn part p
+  in_part p can h own there = with.all p.values can.packet.within (both.all p.values can.packet.within there own) (fits_of transport p can h)
+
+  -- nothing
+  pub nobody_part : ((numbers : List ℕ) → Has part numbers → ⊥) → (p : Packet) → IsAtHook p → HasTransport transport p → IsIn given.area p → IsIn leaf.area p → ⊥
+  nobody_part none p can h own there = none p.values (in_part p can h own there)
+
+  -- packets with one walk
+  pub exact_part : (exact : Leaf) → HasNumbers part → IsWalkOf t given.hook part exact → IsExact t given exact × HasShared transport given.area leaf.area exact.area
+  exact_part exact some own =
+      let inside : (numbers : List ℕ) → IsPoint numbers → Has part numbers → Has given.area numbers = λ numbers point h. both.second numbers point (with.own numbers point h) in
+      let can : (p : Packet) → IsPacket p → HasOwnInterfaces p → IsIn part p → IsAtHook p = λ p is mine h. at_hook_of transport p is mine (with.with p.values is.within h) in
+      let Q : List SpanSet → Type 0 = λ (box : List SpanSet). (numbers : List ℕ) → IsPoint numbers → Has box numbers → Has given.area numbers in
+      let C : List SpanSet → Type 0 = λ (box : List SpanSet). (p : Packet) → IsPacket p → HasOwnInterfaces p → IsIn box p → IsAtHook p in
+      let R : List SpanSet → Type 0 = λ (box : List SpanSet). (p : Packet) → IsAtHook p → p.hook ≡ given.hook → IsIn box p → walk t p ≡ walked_of t.chains exact in
+      let S : List SpanSet → Type 0 = λ (box : List SpanSet). HasShared transport given.area leaf.area box in (
+        record { inside = subst Q (sym own.same) inside; can = subst C (sym own.same) can; some = subst HasNumbers (sym own.same) some; walked = subst R (sym own.same) own.walked },
+        subst S (sym own.same) in_part,
+      )
+
+-- ---- transport header after transport header
+
+module _ (t : Table) (given : Given) (leaf : Leaf) where
+  -- of the first so many transport headers
+  abbrev pub AreSharedBelow : List Leaf → ℕ → Type 0
+  AreSharedBelow exact count = (k : ℕ) (d : Transport) → k < count → (p : Packet) → IsAtHook p → HasTransport (get_or all_transports k d) p → IsIn given.area p → IsIn leaf.area p → AnyHas p.values exact
+
+  pub shared_begins : (exact : List Leaf) → AreSharedBelow exact 0
+  shared_begins exact k d lt = absurd (omega (arith, lt))
+
+  module _ (i : ℕ) (transport : Transport) (at : (d : Transport) → get_or all_transports i d ≡ transport) where
+    next : (exact : List Leaf) → AreSharedBelow exact i → ((p : Packet) → IsAtHook p → HasTransport transport p → IsIn given.area p → IsIn leaf.area p → AnyHas p.values exact) → AreSharedBelow exact (i + 1)
+    next exact below here k d lt p can h =
+        let P : Transport → Type 0 = λ x. HasTransport x p in
+        let Q : ℕ → Type 0 = λ j. HasTransport (get_or all_transports j d) p in
+        elim (cases_eq k i) [
+          | inl e ↦ here p can (subst P (at d) (subst Q e h))
+          | inr ne ↦ below k d (omega (arith, ne, lt)) p can h
+        ]
+
+    pub shared_nobody : (exact : List Leaf) → AreSharedBelow exact i → ((p : Packet) → IsAtHook p → HasTransport transport p → IsIn given.area p → IsIn leaf.area p → ⊥) → AreSharedBelow exact (i + 1)
+    shared_nobody exact below none = next exact below (λ p can h own there. absurd (none p can h own there))
+
+    pub shared_one : (exact : List Leaf) (own : Leaf) → AreSharedBelow exact i → HasShared transport given.area leaf.area own.area → AreSharedBelow (exact ++ own ∷ []) (i + 1)
+    shared_one exact own below shared =
+        next (exact ++ own ∷ []) (λ k d lt p can h a b. any_left (λ (l : Leaf). Has l.area p.values) exact (own ∷ []) (below k d lt p can h a b))
+        (λ p can h a b. Any-push (λ (l : Leaf). Has l.area p.values) exact own (shared p can h a b))
+
+  -- of all of them
+  pub shared_all : (exact : List Leaf) (i : ℕ) → 5 ≤ i → AreSharedBelow exact i → IsCovered given exact leaf
+  shared_all exact i le below p can own there =
+      let w = some_transport p can.packet in
+      below w.0 Tcp (omega (arith, w.1, le)) p can w.2 own there
 
 -- ---- leaf after leaf
 
-module _ (given : Given) (found : List Leaf) (i : ℕ) (leaf : Leaf) (lt : i < length found) (is : leaf ≡ get_or found i leaf) where
-  abbrev pub IsCovered : List Leaf → Leaf → Type 0
-  IsCovered exact l = (numbers : List ℕ) → IsPoint numbers → Has given.area numbers → Has l.area numbers → AnyHas numbers exact
-
-  pub nobody_next : (exact : List Leaf) → ((k : ℕ) (d : Leaf) → k < i → IsCovered exact (get_or found k d)) → ((numbers : List ℕ) → IsPoint numbers → Has given.area numbers → Has leaf.area numbers → ⊥) → (k : ℕ) (d : Leaf) → k < i + 1 → IsCovered exact (get_or found k d)
-  nobody_next exact below none = items_next (IsCovered exact) found i leaf lt is below (λ numbers point a b. absurd (none numbers point a b))
-
-  pub one_next : (exact : List Leaf) (own : Leaf) → ((k : ℕ) (d : Leaf) → k < i → IsCovered exact (get_or found k d)) → HasShared given.area leaf.area own.area → (k : ℕ) (d : Leaf) → k < i + 1 → IsCovered (exact ++ own ∷ []) (get_or found k d)
-  one_next exact own below shared =
-      items_next (IsCovered (exact ++ own ∷ [])) found i leaf lt is
-      (λ k d less numbers point a b. any_left (λ (l : Leaf). Has l.area numbers) exact (own ∷ []) (below k d less numbers point a b))
-      (λ numbers point a b. Any-push (λ (l : Leaf). Has l.area numbers) exact own (shared numbers point a b))
-
--- each leaf was looked at
-pub exact_end : (t : Table) (given : Given) (found exact : List Leaf) (i : ℕ) → (length found ≡ i) → All (IsExact t given) exact → ((k : ℕ) (d : Leaf) → k < i → (numbers : List ℕ) → IsPoint numbers → Has given.area numbers → Has (get_or found k d).area numbers → AnyHas numbers exact)
-    → AreExact t given found exact
-exact_end t given found exact i e each below = record {
-  each = each;
-  all = λ numbers point own any. (
-      let P : Leaf → Type 0 = λ (l : Leaf). Has l.area numbers in
-      below any.0 any.1 (omega (arith, any.2, e)) numbers point own (subst P (sym any.3) any.4));
-}
+module _ (t : Table) (given : Given) (found : List Leaf) (i : ℕ) (leaf : Leaf) (lt : i < length found) (is : leaf ≡ get_or found i leaf) where
+  pub covered_next : (old new : List Leaf) → AddsExact t given leaf old new → ((k : ℕ) (d : Leaf) → k < i → IsCovered given old (get_or found k d)) → (k : ℕ) (d : Leaf) → k < i + 1 → IsCovered given new (get_or found k d)
+  covered_next old new adds below = items_next (IsCovered given new) found i leaf lt is (λ k d less p can own there. adds.kept p.values (below k d less p can own there)) adds.covered
 
 -- the exact leaves of all leaves
 pub exact_walks_of : (t : Table) (given : Given) (start : List SpanSet) (found exact : List Leaf) → IsBoth given.area given.area start → AreLeavesOf t given.hook start found → AreExact t given found exact → AreExactWalks t given exact
@@ -77,7 +113,8 @@ exact_walks_of t given start found exact copy leaves is = record {
   all = λ p can there inside. (
       let point : IsPoint p.values = can.packet.within in
       let w = leaves p can there (copy.all p.values point inside inside) in
-      is.all p.values point inside (w.0, w.1, w.2, w.3, w.4.inside));
+      let own : IsCovered given exact w.1 = All-contains (IsCovered given exact) found w.1 is.all (w.0, w.2, w.3) in
+      own p can inside w.4.inside);
 }
 
 -- the same where they are known

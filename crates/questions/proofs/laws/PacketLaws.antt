@@ -1,5 +1,5 @@
 -- A packet that a line writes can be at its hook.
-use Rattle.std.proofs.Common.{◌≡◌, ◌≤◌, ◌<◌, ℕ, Bool, true, false, cond, ◌&&◌, not, List, [], ◌∷◌, length, get_or, map, refl, sym, ◌∙◌, ap, subst, Option, Some, None, is_some, unwrap_or, lit≤}
+use Rattle.std.proofs.Common.{◌≡◌, ◌≤◌, ◌<◌, ℕ, Bool, true, false, cond, ◌&&◌, not, ◌==◌, List, [], ◌∷◌, length, get_or, map, refl, sym, ◌∙◌, ap, subst, Option, Some, None, is_some, unwrap_or, lit≤}
 use Rattle.std.specs.Prelude.{Result, Ok, Err, slice_index}
 use Rattle.std.proofs.lemmas.Bool.{true≢false}
 use Rattle.std.proofs.lemmas.List.Folds.{list_any_at}
@@ -9,12 +9,13 @@ use Rattle.fields.specs.declared.numbers.field.Field.TheVariants as field
 use Rattle.fields.specs.declared.packet.PacketFault.{PacketFault}
 use Rattle.fields.specs.declared.packet.PacketFault.TheVariants.{NotCarried, KeyMissing}
 use Rattle.fields.specs.declared.packet.hook.Hook.{Hook}
-use Rattle.fields.specs.declared.packet.hook.Hook.TheVariants.{Input, Output}
 use Rattle.fields.specs.numbers.Field.{all_fields, index, top}
 use Rattle.fields.specs.packet.Hook.{hook_of}
-use Rattle.fields.specs.packet.Keys.{carries, key_of}
-use Rattle.fields.specs.packet.Packet.{PacketView as Packet, checked, lacks_key, leftmost_fault, number_of_text, packet_at, shape_of, strays, strays_key, text_of, value_on}
+use Rattle.fields.specs.packet.Keys.{carries, is_first_of, key_of}
+use Rattle.fields.specs.packet.Packet.{PacketView as Packet, carries_key, checked, lacks_key, leftmost_fault, number_of_text, packet_at, shape_of, strays, strays_key, text_of, value_on}
+use Rattle.fields.specs.values.Protocol.{carries_ports}
 use Rattle.fields.proofs.laws.packet.PacketLaws.{number_on_fits}
+use Rattle.rules.proofs.laws.boxing.BoxLaws.{here_is, index-lt}
 use Rattle.questions.specs.asked.Laws.{LinesWritePacketsAtHooks}
 use Rattle.questions.specs.boxes.Area.{IsAtHook}
 
@@ -42,30 +43,42 @@ at_index f _ = refl
 abbrev numbers : Hook → List (List ℕ) → Packet
 numbers hook words = record { hook = hook; values = map (value_on words) all_fields }
 
+-- where no protocol is given it is 0, whose packets carry no more than those of which none is known
+by_protocol : (has : ℕ → Bool) (frag : ℕ) → has 0 ≡ false → (o : Option ℕ) → is_first_of has frag (Some (unwrap_or o 0)) ≡ is_first_of has frag o
+by_protocol has frag none None = ap (λ b. b && (frag == 0)) none
+by_protocol has frag none (Some n) = refl
+
+-- the numbers that words write carry what the words carry
+carries_alike : (hook : Hook) (words : List (List ℕ)) (f : Field) → carries_key (numbers hook words) f ≡ carries (shape_of hook words) (key_of f).carrier
+carries_alike hook words field.SourcePort = by_protocol carries_ports (value_on words field.Fragment) refl (text_of field.Protocol words >>= λ text. number_of_text field.Protocol text)
+carries_alike hook words field.DestinationPort = by_protocol carries_ports (value_on words field.Fragment) refl (text_of field.Protocol words >>= λ text. number_of_text field.Protocol text)
+carries_alike hook words field.TcpFlags = by_protocol (λ n. n == 6) (value_on words field.Fragment) refl (text_of field.Protocol words >>= λ text. number_of_text field.Protocol text)
+carries_alike hook words field.IcmpType = by_protocol (λ n. n == 1) (value_on words field.Fragment) refl (text_of field.Protocol words >>= λ text. number_of_text field.Protocol text)
+carries_alike hook words _ = refl
+
 -- a field that isn't carried, and of which no key strays, is what it is where no word gives it
-not_given : (hook : Hook) (words : List (List ℕ)) (f : Field) (k : ℕ) → k < length all_fields → get_or all_fields k f ≡ f → strays_key (shape_of hook words) words ≡ false → carries (shape_of hook words) (key_of f).carrier ≡ false
-    → value_on words f ≡ (key_of f).absent
-not_given hook words f k lt at none un =
+not_given : (hook : Hook) (words : List (List ℕ)) (f : Field) → strays_key (shape_of hook words) words ≡ false → carries (shape_of hook words) (key_of f).carrier ≡ false → value_on words f ≡ (key_of f).absent
+not_given hook words f none un =
     by_text (text_of f words) refl
   where
     by_text : (o : Option (List ℕ)) → text_of f words ≡ o → unwrap_or (o >>= λ text. number_of_text f text) (key_of f).absent ≡ (key_of f).absent
     by_text None e = refl
     by_text (Some text) e =
         let one : strays (shape_of hook words) words f ≡ true = ap (λ (o : Option (List ℕ)). is_some o && not (carries (shape_of hook words) (key_of f).carrier)) e ∙ ap not un in
-        absurd (true≢false (sym (list_any_at (strays (shape_of hook words) words) all_fields k f lt (ap (strays (shape_of hook words) words) at ∙ one)) ∙ none))
+        absurd (true≢false (sym (list_any_at (strays (shape_of hook words) words) all_fields (index f) f (index-lt f) (ap (strays (shape_of hook words) words) (here_is f f) ∙ one)) ∙ none))
+
+-- what each packet carries is never missing; all else that is missing is 0
+absent_is : (hook : Hook) (words : List (List ℕ)) (f : Field) → carries (shape_of hook words) (key_of f).carrier ≡ false → (key_of f).absent ≡ 0
+absent_is hook words field.TimeToLive un = absurd (true≢false un)
+absent_is hook words _ un = refl
 
 at_hook : (hook : Hook) (words : List (List ℕ)) → strays_key (shape_of hook words) words ≡ false → IsAtHook (numbers hook words)
 at_hook hook words none = record {
   packet = record { whole = refl; within = λ f. (let P : ℕ → Type 0 = λ n. n ≤ top f in subst P (sym (at_index (value_on words) f)) (value_fits words f)) };
-  input = λ e. not_given hook words field.OutIface 3 (lit≤ tt) refl none (goes e);
-  output = λ e. not_given hook words field.InIface 2 (lit≤ tt) refl none (comes e);
+  carried = λ f un. (
+      let not_there : carries (shape_of hook words) (key_of f).carrier ≡ false = sym (carries_alike hook words f) ∙ un in
+      at_index (value_on words) f ∙ not_given hook words f none not_there ∙ absent_is hook words f not_there);
 }
-  where
-    goes : hook ≡ Input → carries (shape_of hook words) (key_of field.OutIface).carrier ≡ false
-    goes e = ap (λ h. carries (shape_of h words) (key_of field.OutIface).carrier) e
-
-    comes : hook ≡ Output → carries (shape_of hook words) (key_of field.InIface).carrier ≡ false
-    comes e = ap (λ h. carries (shape_of h words) (key_of field.InIface).carrier) e
 
 -- by what was found of the words
 by_checks : (hook : Hook) (words : List (List ℕ)) (p : Packet) (stray lack : Bool) → strays_key (shape_of hook words) words ≡ stray

@@ -79,7 +79,8 @@ module _ (t : Table) (s : IsSound t) (given met : Given) (f : Field) (exact : Li
       let p : Packet = packet_with given.hook leaf.area ex.some f x le on in
       let is : IsPacket p = with_packet given.hook leaf.area ex.some f x le on in
       let inside : IsIn leaf.area p = with_inside given.hook leaf.area ex.some f x le on in
-      let meant : IsMeant given p = m.only p is refl (ex.inside p.values is.within inside) in
+      let met_in : IsIn met.area p = ex.inside p.values is.within inside in
+      let meant : IsMeant given p = record { can = ex.can p is (m.own p is refl met_in) inside; there = refl; inside = m.only p is met_in } in
       let walked : walk t p ≡ walked_of t.chains leaf = ex.walked p meant.can (sym m.there) inside in
       (p, record { meant = meant; number = with_number given.hook leaf.area ex.some f x le on; ends = ends_as p leaf entry.verdict entry.by walked end.0 end.1 }, walked)
 

@@ -24,7 +24,7 @@ use Rattle.questions.specs.Ends.{IsRule, decider_of, rule_at, step_of}
 use Rattle.questions.specs.Leaves.{AreLeavesOf, entry_of, walked_of}
 use Rattle.questions.specs.asked.Reason.{HasPacket, IsDecidedAmong, IsDecidedBy, IsImpossible, IsLed, IsTaken}
 use Rattle.questions.specs.asked.Rule.{IsDead}
-use Rattle.questions.specs.boxes.Area.{Has, IsAtHook, IsBoth, IsIn}
+use Rattle.questions.specs.boxes.Area.{Has, HasOwnInterfaces, IsAtHook, IsBoth, IsIn}
 use Rattle.questions.specs.declared.asked.reach.Given.{Given}
 use Rattle.questions.specs.declared.asked.takers.Takers.{Takers}
 use Rattle.questions.specs.declared.walking.task.Leaf.{Leaf}
@@ -48,7 +48,7 @@ dead_of t step box f s is boxed none p can on =
 
 -- ---- the packets that a rule matches
 
-pub box_at : (t : Table) (step : Step) (hook : Hook) (there box area : List SpanSet) → IsBoxOf (rule_at t step) box → ((p : Packet) → IsAtHook p → p.hook ≡ hook → IsIn there p) → ((p : Packet) → IsPacket p → p.hook ≡ hook → IsIn there p → IsAtHook p)
+pub box_at : (t : Table) (step : Step) (hook : Hook) (there box area : List SpanSet) → IsBoxOf (rule_at t step) box → ((p : Packet) → IsAtHook p → p.hook ≡ hook → IsIn there p) → ((p : Packet) → IsPacket p → p.hook ≡ hook → IsIn there p → HasOwnInterfaces p)
     → IsBoth there box area → IsBoxAt t step hook (record { hook = hook; area = area })
 box_at t step hook there box area boxed all only both = record {
   there = refl;
@@ -69,7 +69,8 @@ module _ (t : Table) (step : Step) (hook : Hook) (given : Given) (s : IsSound t)
       let packet : IsPacket p = with_packet given.hook leaf.area ex.some field.Source n.0 n.1 n.2 in
       let inside : IsIn leaf.area p = with_inside given.hook leaf.area ex.some field.Source n.0 n.1 n.2 in
       let own = box.only p packet box.there (ex.inside p.values packet.within inside) in
-      (p, record { can = own.0; there = box.there; matched = and_from (allows_each p.values (rule_at t step)) (cross p.values (rule_at t step)) own.1 (alone p.values) }, ex.walked p own.0 refl inside)
+      let can : IsAtHook p = ex.can p packet own.0 inside in
+      (p, record { can = can; there = box.there; matched = and_from (allows_each p.values (rule_at t step)) (cross p.values (rule_at t step)) own.1 (alone p.values) }, ex.walked p can refl inside)
 
   pub before_of : (exact : List Leaf) → AreExactWalks t given exact → All (λ leaf. Contains leaf.trail.items step → ⊥) exact → All IsDecided exact → AreBefore t step hook exact
   before_of exact walks none decided =

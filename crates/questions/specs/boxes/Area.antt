@@ -1,20 +1,23 @@
 -- Boxes of packets: on each field a set of numbers.
-use Rattle.std.specs.Prelude.{◌≡◌, ℕ, ◌≤◌, ◌==◌, Bool, true, false, IsTrue, List, if◌then◌else◌}
+use Rattle.std.specs.Prelude.{◌≡◌, ℕ, ◌≤◌, ◌==◌, ◌||◌, not, Bool, true, false, IsTrue, List}
 use Rattle.fields.specs.declared.numbers.field.Field.{Field}
 use Rattle.fields.specs.declared.numbers.field.Field.TheVariants as field
 use Rattle.fields.specs.declared.packet.hook.Hook.{Hook}
-use Rattle.fields.specs.declared.packet.hook.Hook.TheVariants.{Input, Output}
 use Rattle.fields.specs.numbers.Field.{number_on, top}
 use Rattle.fields.specs.numbers.Spans.{SpanSet, has}
-use Rattle.fields.specs.packet.Packet.{PacketView as Packet, IsPacket, point}
+use Rattle.fields.specs.packet.Keys.{comes_in, goes_out}
+use Rattle.fields.specs.packet.Packet.{PacketView as Packet, IsPacket, carries_key, point}
 use Rattle.classify.specs.classifier.Classifier.{IsPoint, box_allows, box_matches}
 
--- What a packet can be where it meets the table: its numbers are within their tops, one for here has no interface that it goes out by, and
--- one from here none that it came in by.
+-- What a packet can be where it meets the table: its numbers are within their tops, and what it doesn't carry, as packet lines have it, is 0.
 pub record IsAtHook (p : Packet) : Type 0 where
   pub packet : IsPacket p
-  pub input : p.hook ≡ Input → point p field.OutIface ≡ 0
-  pub output : p.hook ≡ Output → point p field.InIface ≡ 0
+  pub carried : (f : Field) → carries_key p f ≡ false → point p f ≡ 0
+
+-- a packet for here has no interface that it goes out by, and one from here none that it came in by
+pub record HasOwnInterfaces (p : Packet) : Type 0 where
+  pub came : comes_in p.hook ≡ false → point p field.InIface ≡ 0
+  pub goes : goes_out p.hook ≡ false → point p field.OutIface ≡ 0
 
 -- a box has some numbers, one a field in the order of the fields: each is in the set of its field
 pub record Has (box : List SpanSet) (numbers : List ℕ) : Type 0 where
@@ -42,10 +45,19 @@ pub record IsNarrowed (field : Field) (wanted : SpanSet) (before after : List Sp
 
 -- packets at the hook have no such interface
 abbrev pub is_without : Hook → Field → Bool
-is_without Input field.OutIface = true
-is_without Output field.InIface = true
-is_without hook f = false
+is_without hook field.InIface = not (comes_in hook)
+is_without hook field.OutIface = not (goes_out hook)
+is_without hook field.Source = false
+is_without hook field.Destination = false
+is_without hook field.Protocol = false
+is_without hook field.Fragment = false
+is_without hook field.SourcePort = false
+is_without hook field.DestinationPort = false
+is_without hook field.TcpFlags = false
+is_without hook field.IcmpType = false
+is_without hook field.ConnectionState = false
+is_without hook field.TimeToLive = false
 
 -- a packet at the hook may have the number on the field
 abbrev pub may_have : Hook → Field → ℕ → Bool
-may_have hook f x = if is_without hook f then x == 0 else true
+may_have hook f x = not (is_without hook f) || x == 0

@@ -10,7 +10,7 @@ use Rattle.questions.specs.Ends.{IsRule, rule_at, step_of}
 use Rattle.questions.specs.Leaves.{EndsIn, entry_of, walked_of}
 use Rattle.questions.specs.asked.Reason.{IsDecidedAmong, IsDecidedBy, IsLed, IsMeantFor}
 use Rattle.questions.specs.asked.Rule.{IsDeadAt}
-use Rattle.questions.specs.boxes.Area.{IsAtHook, IsIn}
+use Rattle.questions.specs.boxes.Area.{HasOwnInterfaces, IsAtHook, IsIn}
 use Rattle.questions.specs.declared.asked.reach.Given.{Given}
 use Rattle.questions.specs.declared.asked.takers.Takers.{Takers}
 use Rattle.questions.specs.declared.walking.task.Leaf.{Leaf}
@@ -21,11 +21,12 @@ pub record IsMatchedAt (t : Table) (step : Step) (hook : Hook) (p : Packet) : Ty
   pub there : p.hook ≡ hook
   pub matched : matches p.values (rule_at t step) ≡ true
 
--- of the packets at the hook a box has those that the rule matches, and none that can't be there or has a number that the rule doesn't allow
+-- of the packets at the hook a box has those that the rule matches, and none with an interface that isn't theirs or a number that the rule
+-- doesn't allow
 pub record IsBoxAt (t : Table) (step : Step) (hook : Hook) (given : Given) : Type 0 where
   pub there : given.hook ≡ hook
   pub all : (p : Packet) → IsMatchedAt t step hook p → IsIn given.area p
-  pub only : (p : Packet) → IsPacket p → p.hook ≡ hook → IsIn given.area p → IsAtHook p × (allows_each p.values (rule_at t step) ≡ true)
+  pub only : (p : Packet) → IsPacket p → p.hook ≡ hook → IsIn given.area p → HasOwnInterfaces p × (allows_each p.values (rule_at t step) ≡ true)
 
 -- each packet at the hook that the rule matches is in some leaf, and has its walk
 abbrev pub AreWalksOf : Table → Step → Hook → List Leaf → Type 0

@@ -1,10 +1,11 @@
 // Boxes of which all packets have one walk.
-ghost use Rattle.std.specs.Prelude.{◌≡◌, IfOk, IfSome};
-ghost use Rattle.questions.specs.steps.Exact.{AreExact, AreExactWalks, IsSharedOf, IsWalkOf};
+ghost use Rattle.std.specs.Prelude.{◌≡◌, IfOk, IfSome, IsTrue};
+ghost use Rattle.questions.specs.steps.Exact.{AddsExact, AreExact, AreExactWalks, IsSharedOf, IsWalkOf};
 
 use crate::asked::reach::Given;
 use crate::boxes::area::Area;
 use crate::boxes::boxed_table::BoxedTable;
+use crate::boxes::transport::{Transport, with_transport};
 use crate::walking::engine::leaves;
 use crate::walking::task::Leaf;
 use fields::Hook;
@@ -55,17 +56,19 @@ fn walk_of(
     }))
 }
 
-// The packets that a leaf shares with a box, with their walk.
+// The packets with a transport header that a leaf shares with a box, with their walk.
 fn part_of(
     alloc: Global,
     subject: &BoxedTable,
     given: &Given,
     leaf: &Leaf,
+    transport: Transport,
     budget: usize,
 ) -> Result<Shared, AllocError>
-    ensures { IfOk result (IsSharedOf subject.now.table.table given.now leaf.now) }
+    ensures { IfOk result (IsSharedOf subject.now.table.table given.now leaf.now transport) }
 {
-    let part = leaf.area.within(alloc, given.area.sets())?;
+    let shared = leaf.area.within(alloc, given.area.sets())?;
+    let part = with_transport(alloc, shared, transport)?;
     if part.is_empty() {
         return Ok(Shared::Nobody);
     }
@@ -73,6 +76,28 @@ fn part_of(
         Some(leaf) => Ok(Shared::One(leaf)),
         None => Ok(Shared::Several),
     }
+}
+
+// Adds the packets that a leaf shares with a box, as boxes of which all packets have one walk. Whether it could: it can't where
+// those with one transport header may have several walks.
+fn add_parts(
+    alloc: Global,
+    subject: &BoxedTable,
+    given: &Given,
+    leaf: &Leaf,
+    budget: usize,
+    exact: &mut Vec<Leaf>,
+) -> Result<bool, AllocError>
+    ensures { IfOk result (λ could. IsTrue could → AddsExact subject.now.table.table given.now leaf.now exact.old.items exact.new.items) }
+{
+    for transport in Transport::ALL {
+        match part_of(alloc, subject, given, leaf, transport, budget)? {
+            Shared::Nobody => {}
+            Shared::One(part) => exact.push(part)?,
+            Shared::Several => return Ok(false),
+        }
+    }
+    Ok(true)
 }
 
 // The packets that some leaves share with a box, as boxes of which all packets have one walk; none where some box may have
@@ -88,10 +113,8 @@ fn exact_of(
 {
     let mut exact = Vec::new(alloc);
     for leaf in found {
-        match part_of(alloc, subject, given, leaf, budget)? {
-            Shared::Nobody => {}
-            Shared::One(leaf) => exact.push(leaf)?,
-            Shared::Several => return Ok(None),
+        if !add_parts(alloc, subject, given, leaf, budget, &mut exact)? {
+            return Ok(None);
         }
     }
     Ok(Some(exact))

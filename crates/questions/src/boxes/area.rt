@@ -1,11 +1,11 @@
 //! Boxes of packets.
-ghost use Rattle.std.specs.Prelude.{◌≡◌, ◌<◌, ◌≤◌, ◌&&◌, ℕ, [], false, List, All, Any, not, length, slice_index_or, IfOk, IsTrue, OnOk};
+ghost use Rattle.std.specs.Prelude.{◌≡◌, ◌<◌, ◌≤◌, ◌&&◌, ◌||◌, ◌==◌, ℕ, [], false, List, All, Any, not, length, slice_index_or, IfOk, IsTrue, OnOk};
 ghost use Rattle.fields.specs.declared.numbers.field.Field.{Field};
 ghost use Rattle.fields.specs.numbers.Field.{all_fields, top};
 ghost use Rattle.fields.specs.numbers.Spans.{SpanSet, has};
 ghost use Rattle.fields.specs.packet.Packet.{PacketView, IsPacket};
 ghost use Rattle.rules.specs.boxing.Boxed.{IsBox, set_on};
-ghost use Rattle.questions.specs.boxes.Area.{Has, HasNumbers, IsAtHook, IsBoth, IsIn, IsNarrowed, is_without};
+ghost use Rattle.questions.specs.boxes.Area.{Has, HasNumbers, HasOwnInterfaces, IsAtHook, IsBoth, IsIn, IsNarrowed, is_without};
 ghost use Rattle.questions.specs.steps.Sides.{HasOne, IsBeginning, IsPart, IsSide};
 
 use fields::{FIELDS, Field, Hook, Spans};
@@ -107,21 +107,35 @@ fn some_bare(sets: &[Spans]) -> bool
 fn is_without(hook: Hook, field: Field) -> bool
     ensures { result ≡ is_without hook field }
 {
-    match hook {
-        Hook::Input => matches!(field, Field::OutIface),
-        Hook::Forward => false,
-        Hook::Output => matches!(field, Field::InIface),
+    match field {
+        Field::InIface => matches!(hook, Hook::Output),
+        Field::OutIface => matches!(hook, Hook::Input),
+        Field::Source
+        | Field::Destination
+        | Field::Protocol
+        | Field::Fragment
+        | Field::SourcePort
+        | Field::DestinationPort
+        | Field::TcpFlags
+        | Field::IcmpType
+        | Field::ConnectionState
+        | Field::TimeToLive => false,
     }
+}
+
+// All numbers of a field, or 0 alone.
+pub(crate) fn all_or_zero(alloc: Global, field: Field, all: bool) -> Result<Spans, AllocError>
+    ensures top { IfOk result (λ set. set.top ≡ top field) }
+    ensures members { IfOk result (λ set. (x : ℕ) → x ≤ top field → has set.intervals x ≡ (all || x == 0)) }
+{
+    Spans::one(alloc, field.top(), 0, if all { field.top() } else { 0 })
 }
 
 // The numbers that packets at a hook may have on a field.
 fn beginning(alloc: Global, hook: Hook, field: Field) -> Result<Spans, AllocError>
     ensures { IfOk result (IsBeginning hook field) }
 {
-    if is_without(hook, field) {
-        return Spans::one(alloc, field.top(), 0, 0);
-    }
-    Spans::one(alloc, field.top(), 0, field.top())
+    all_or_zero(alloc, field, !is_without(hook, field))
 }
 
 // Puts them on each field.
@@ -137,15 +151,15 @@ fn open(alloc: Global, hook: Hook, sets: &mut [Spans]) -> Result<(), AllocError>
 }
 
 impl Area {
-    /// All packets that can be at a hook. One for here has no interface that it goes out by, one from here none that it
-    /// came in by.
+    /// A box that has all packets that can be at a hook. One for here has no interface that it goes out by, one from here none
+    /// that it came in by; that a packet has no number on a field that it doesn't carry, no box can say of all protocols at once.
     ///
     /// # Errors
     ///
     /// `AllocError` where memory was refused.
     pub fn at_hook(alloc: Global, hook: Hook) -> Result<Area, AllocError>
         ensures all { IfOk result (λ area. (p : PacketView) → IsAtHook p → p.hook ≡ hook → IsIn area p) }
-        ensures only { IfOk result (λ area. (p : PacketView) → IsPacket p → p.hook ≡ hook → IsIn area p → IsAtHook p) }
+        ensures only { IfOk result (λ area. (p : PacketView) → IsPacket p → p.hook ≡ hook → IsIn area p → HasOwnInterfaces p) }
     {
         let mut sets: [Spans; FIELDS] = array::from_fn(|_| Spans::none(alloc, 0));
         open(alloc, hook, &mut sets)?;

@@ -1,0 +1,94 @@
+-- What stands behind the header of IP, and the numbers of packets with it.
+use Rattle.std.specs.Prelude.{◌≡◌, ℕ, ◌≤◌, ◌==◌, ◌||◌, not, Bool, true, false, List, [], ◌∷◌}
+use Rattle.fields.specs.declared.numbers.field.Field.{Field}
+use Rattle.fields.specs.declared.numbers.field.Field.TheVariants as field
+use Rattle.fields.specs.numbers.Field.{number_on, top}
+use Rattle.fields.specs.numbers.Spans.{SpanSet, has}
+use Rattle.fields.specs.packet.Packet.{PacketView as Packet, point}
+use Rattle.classify.specs.classifier.Classifier.{IsPoint}
+use Rattle.questions.specs.boxes.Area.{Has}
+use Rattle.questions.specs.declared.boxes.transport.Transport.{Transport}
+use Rattle.questions.specs.declared.boxes.transport.Transport.TheVariants.{Tcp, Ports, Icmp, Other, Missing}
+
+-- each of them
+abbrev pub all_transports : List Transport
+all_transports = Tcp ∷ Ports ∷ Icmp ∷ Other ∷ Missing ∷ []
+
+-- its packets have ports
+abbrev pub with_ports : Transport → Bool
+with_ports Tcp = true
+with_ports Ports = true
+with_ports Icmp = false
+with_ports Other = false
+with_ports Missing = false
+
+-- its packets have flags
+abbrev pub with_flags : Transport → Bool
+with_flags Tcp = true
+with_flags Ports = false
+with_flags Icmp = false
+with_flags Other = false
+with_flags Missing = false
+
+-- its packets have an ICMP type
+abbrev pub with_type : Transport → Bool
+with_type Tcp = false
+with_type Ports = false
+with_type Icmp = true
+with_type Other = false
+with_type Missing = false
+
+-- udp, dccp, sctp and udplite
+abbrev pub is_ported : ℕ → Bool
+is_ported x = x == 17 || x == 33 || x == 132 || x == 136
+
+-- the protocols of its packets
+abbrev pub of_protocol : Transport → ℕ → Bool
+of_protocol Tcp x = x == 6
+of_protocol Ports x = is_ported x
+of_protocol Icmp x = x == 1
+of_protocol Other x = not (is_ported x || x == 6 || x == 1)
+of_protocol Missing x = true
+
+-- 1 for further fragments, in which it is missing
+abbrev pub fragment_of : Transport → ℕ
+fragment_of Tcp = 0
+fragment_of Ports = 0
+fragment_of Icmp = 0
+fragment_of Other = 0
+fragment_of Missing = 1
+
+-- a packet with it may have the number on the field
+abbrev pub fits : Transport → Field → ℕ → Bool
+fits t field.Source x = true
+fits t field.Destination x = true
+fits t field.InIface x = true
+fits t field.OutIface x = true
+fits t field.Protocol x = of_protocol t x
+fits t field.Fragment x = x == fragment_of t
+fits t field.SourcePort x = with_ports t || x == 0
+fits t field.DestinationPort x = with_ports t || x == 0
+fits t field.TcpFlags x = with_flags t || x == 0
+fits t field.IcmpType x = with_type t || x == 0
+fits t field.ConnectionState x = true
+fits t field.TimeToLive x = true
+
+-- numbers that a packet with it may have
+abbrev pub Fits : Transport → List ℕ → Type 0
+Fits t numbers = (f : Field) → fits t f (number_on numbers f) ≡ true
+
+-- the packet has it
+pub record HasTransport (t : Transport) (p : Packet) : Type 0 where
+  pub protocol : of_protocol t (point p field.Protocol) ≡ true
+  pub fragment : point p field.Fragment ≡ fragment_of t
+
+-- the numbers on a field of packets with it
+pub record AreNumbersWith (t : Transport) (f : Field) (set : SpanSet) : Type 0 where
+  pub greatest : set.top ≡ top f
+  pub members : (x : ℕ) → x ≤ top f → has set.intervals x ≡ fits t f x
+
+-- of the packets of a box another has just those with it
+pub record IsWithTransport (t : Transport) (before after : List SpanSet) : Type 0 where
+  pub all : (numbers : List ℕ) → IsPoint numbers → Has before numbers → Fits t numbers → Has after numbers
+  pub own : (numbers : List ℕ) → IsPoint numbers → Has after numbers → Has before numbers
+  pub with : (numbers : List ℕ) → IsPoint numbers → Has after numbers → Fits t numbers

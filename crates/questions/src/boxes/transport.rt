@@ -1,0 +1,151 @@
+//! Packets by what stands behind the header of IP.
+ghost use Rattle.std.specs.Prelude.{◌≡◌, ◌≤◌, ◌==◌, ◌||◌, ◌&&◌, ℕ, not, IfOk};
+ghost use Rattle.fields.specs.numbers.Field.{protocol_top, top};
+ghost use Rattle.fields.specs.numbers.Spans.{has};
+ghost use Rattle.questions.specs.steps.Transports.{AreNumbersWith, IsWithTransport, is_ported};
+
+use crate::boxes::area::{Area, all_or_zero};
+use fields::{FIELDS, Field, Spans};
+use std::alloc::{AllocError, Global};
+
+// What a packet carries behind the header of IP, as far as rules ask for it.
+#[derive(Clone, Copy, PartialEq, Eq)]
+pub(crate) enum Transport {
+    // The header of TCP: ports and flags.
+    Tcp,
+    // That of UDP, DCCP, SCTP or UDP-Lite: ports.
+    Ports,
+    // That of ICMP: a type.
+    Icmp,
+    // That of another protocol.
+    Other,
+    // None: the packet is a further fragment.
+    Missing,
+}
+
+const PROTOCOL_TOP: u128 = 255;
+
+// A set of protocols with one more.
+fn with_protocol(alloc: Global, own: &Spans, number: u128) -> Result<Spans, AllocError>
+    requires own { own.now.top ≡ protocol_top }
+    requires number { number ≤ protocol_top }
+    ensures top { IfOk result (λ set. set.top ≡ protocol_top) }
+    ensures members { IfOk result (λ set. (x : ℕ) → x ≤ protocol_top → has set.intervals x ≡ (has own.now.intervals x || x == number)) }
+{
+    let one = Spans::one(alloc, PROTOCOL_TOP, number, number)?;
+    own.join(alloc, &one)
+}
+
+// UDP, DCCP, SCTP and UDP-Lite.
+fn ported(alloc: Global) -> Result<Spans, AllocError>
+    ensures top { IfOk result (λ set. set.top ≡ protocol_top) }
+    ensures members { IfOk result (λ set. (x : ℕ) → x ≤ protocol_top → has set.intervals x ≡ is_ported x) }
+{
+    let udp = Spans::one(alloc, PROTOCOL_TOP, 17, 17)?;
+    let with_dccp = with_protocol(alloc, &udp, 33)?;
+    let with_sctp = with_protocol(alloc, &with_dccp, 132)?;
+    with_protocol(alloc, &with_sctp, 136)
+}
+
+// All protocols but those that have another transport header.
+fn other(alloc: Global) -> Result<Spans, AllocError>
+    ensures top { IfOk result (λ set. set.top ≡ protocol_top) }
+    ensures members { IfOk result (λ set. (x : ℕ) → x ≤ protocol_top → has set.intervals x ≡ not (is_ported x || x == 6 || x == 1)) }
+{
+    let ported = ported(alloc)?;
+    let with_tcp = with_protocol(alloc, &ported, 6)?;
+    let with_icmp = with_protocol(alloc, &with_tcp, 1)?;
+    with_icmp.except(alloc)
+}
+
+impl Transport {
+    ghost use Rattle.questions.specs.steps.Transports.{all_transports, fragment_of, with_flags, with_ports, with_type};
+
+    // Each of them; every packet has one.
+    pub(crate) const ALL: [Transport; 5] = [
+        Transport::Tcp,
+        Transport::Ports,
+        Transport::Icmp,
+        Transport::Other,
+        Transport::Missing,
+    ];
+
+    fn has_ports(self) -> bool
+        ensures { result ≡ with_ports self }
+    {
+        matches!(self, Transport::Tcp | Transport::Ports)
+    }
+
+    fn has_flags(self) -> bool
+        ensures { result ≡ with_flags self }
+    {
+        matches!(self, Transport::Tcp)
+    }
+
+    fn has_type(self) -> bool
+        ensures { result ≡ with_type self }
+    {
+        matches!(self, Transport::Icmp)
+    }
+
+    fn fragment(self) -> u128
+        ensures { result ≡ fragment_of self }
+    {
+        match self {
+            Transport::Tcp | Transport::Ports | Transport::Icmp | Transport::Other => 0,
+            Transport::Missing => 1,
+        }
+    }
+}
+
+// The protocols of packets with it.
+fn protocols(alloc: Global, transport: Transport) -> Result<Spans, AllocError>
+    ensures { IfOk result (AreNumbersWith transport Field.Protocol) }
+{
+    match transport {
+        Transport::Tcp => Spans::one(alloc, PROTOCOL_TOP, 6, 6),
+        Transport::Ports => ported(alloc),
+        Transport::Icmp => Spans::one(alloc, PROTOCOL_TOP, 1, 1),
+        Transport::Other => other(alloc),
+        Transport::Missing => Spans::whole(alloc, PROTOCOL_TOP),
+    }
+}
+
+// The numbers on a field of packets with it.
+fn numbers_with(alloc: Global, transport: Transport, field: Field) -> Result<Spans, AllocError>
+    ensures { IfOk result (AreNumbersWith transport field) }
+{
+    match field {
+        Field::Protocol => protocols(alloc, transport),
+        Field::Fragment => {
+            let number = transport.fragment();
+            Spans::one(alloc, Field::Fragment.top(), number, number)
+        }
+        Field::SourcePort => all_or_zero(alloc, field, transport.has_ports()),
+        Field::DestinationPort => all_or_zero(alloc, field, transport.has_ports()),
+        Field::TcpFlags => all_or_zero(alloc, field, transport.has_flags()),
+        Field::IcmpType => all_or_zero(alloc, field, transport.has_type()),
+        Field::Source
+        | Field::Destination
+        | Field::InIface
+        | Field::OutIface
+        | Field::ConnectionState
+        | Field::TimeToLive => all_or_zero(alloc, field, true),
+    }
+}
+
+// The packets of a box with it.
+pub(crate) fn with_transport(
+    alloc: Global,
+    mut area: Area,
+    transport: Transport,
+) -> Result<Area, AllocError>
+    ensures { IfOk result (IsWithTransport transport area) }
+{
+    for place in 0..FIELDS {
+        let field = Field::ALL[place];
+        let wanted = numbers_with(alloc, transport, field)?;
+        area = area.narrow(alloc, field, &wanted)?;
+    }
+    Ok(area)
+}
