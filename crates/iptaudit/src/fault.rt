@@ -20,6 +20,9 @@ pub(crate) enum Fault<'a> {
     /// A word that is no `key=value` of packets and no `by=FIELD`, or one too many.
     #[error("bad word: {0}")]
     BadWord(&'a str),
+    /// A word `key=value` or `by=FIELD` whose key none of the packets carries that the other words allow.
+    #[error("no such packet carries it: {0}")]
+    NotCarried(&'a str),
     #[error("by=FIELD is missing")]
     NoField,
     /// A file was refused, and its fault was written.

@@ -39,6 +39,15 @@ fn times(text: &[u8]) -> Option<(u128, u128)> {
     }
 }
 
+// The interfaces of `eth0`, or of `eth+`, as rules have it.
+fn interfaces(alloc: Global, text: &[u8]) -> Result<Option<(u128, u128)>, AllocError> {
+    let Some(pattern) = IfPattern::read(text) else {
+        return Ok(None);
+    };
+    let set = pattern.allowed(alloc)?;
+    Ok(set.intervals().first().map(|span| (span.first, span.last)))
+}
+
 // The number of a value as a packet line has it, where the other keys of that line are these.
 fn on_line(
     alloc: Global,
@@ -62,7 +71,7 @@ fn on_line(
 }
 
 /// The first and the last number that a value allows on a field: a value of a packet line, a range `a:b` of ports or of times
-/// to live, or a prefix `a.b.c.d/n` of addresses.
+/// to live, a prefix `a.b.c.d/n` of addresses, or a beginning `eth+` of interfaces' names, as rules have it.
 ///
 /// # Errors
 ///
@@ -74,10 +83,7 @@ pub(crate) fn range_of(
 ) -> Result<Option<(u128, u128)>, AllocError> {
     match field {
         Field::Source | Field::Destination => Ok(addresses(text)),
-        Field::InIface | Field::OutIface => Ok(match IfPattern::read(text) {
-            Some(name) => one(name.value()),
-            None => None,
-        }),
+        Field::InIface | Field::OutIface => interfaces(alloc, text),
         Field::Protocol => Ok(match Protocol::read_one(text) {
             Some(protocol) => one(u128::from(protocol.number())),
             None => None,

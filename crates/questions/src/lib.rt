@@ -16,5 +16,6 @@ pub use asked::takers::Takers;
 pub use asked::verdicts::{Likeness, compare, compare_at};
 pub use boxes::area::Area;
 pub use boxes::boxed_table::BoxedTable;
+pub use boxes::transport::carrying;
 pub use walking::engine::leaves;
 pub use walking::task::Leaf;

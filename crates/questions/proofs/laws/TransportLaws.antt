@@ -2,20 +2,21 @@
 use Rattle.std.proofs.Common.{◌≡◌, ◌⊎◌, ℕ, ◌+◌, ◌<◌, ◌≤◌, Bool, true, false, ◌&&◌, ◌||◌, not, ◌==◌, List, length, get_or, refl, sym, ◌∙◌, ap, arith, subst, inl, inr, Some}
 use Rattle.std.specs.Prelude.{slice_index}
 use Rattle.std.proofs.Math.Dec.{eqb}
-use Rattle.std.proofs.lemmas.Bool.{cases_Bool, cases_eq, eq-eqb, eqb-true, true≢false}
+use Rattle.std.proofs.lemmas.Bool.{and_from, and_parts, cases_Bool, cases_eq, eq-eqb, eqb-true, true≢false}
 use Rattle.fields.specs.declared.numbers.field.TheConstants.{FIELDS}
 use Rattle.fields.specs.declared.numbers.field.Field.{Field}
 use Rattle.fields.specs.declared.numbers.field.Field.TheVariants as field
+use Rattle.fields.specs.declared.packet.hook.Hook.{Hook}
 use Rattle.fields.specs.numbers.Field.{all_fields, index, number_on, top}
 use Rattle.fields.specs.numbers.Spans.{SpanSet, has}
 use Rattle.fields.specs.packet.Packet.{PacketView as Packet, IsPacket, carries_key, point}
 use Rattle.fields.specs.values.Protocol.{carries_ports}
 use Rattle.rules.proofs.laws.boxing.BoxLaws.{here_is, index-lt}
 use Rattle.classify.specs.classifier.Classifier.{IsPoint}
-use Rattle.questions.specs.boxes.Area.{Has, HasOwnInterfaces, IsAtHook, IsNarrowed}
+use Rattle.questions.specs.boxes.Area.{Has, HasOwnInterfaces, IsAtHook, IsCarrying, IsIn, IsNarrowed}
 use Rattle.questions.specs.declared.boxes.transport.Transport.{Transport}
 use Rattle.questions.specs.declared.boxes.transport.Transport.TheVariants.{Tcp, Ports, Icmp, Other, Missing}
-use Rattle.questions.specs.steps.Transports.{AreNumbersWith, Fits, HasTransport, IsWithTransport, all_transports, fits, fragment_of, is_ported, of_protocol, with_flags, with_ports, with_type}
+use Rattle.questions.specs.steps.Transports.{AreNumbersWith, Fits, HasTransport, IsFirstWith, IsKept, IsWithTransport, all_transports, fits, fragment_of, is_ported, of_protocol, with_flags, with_ports, with_type}
 
 -- ---- what is carried
 
@@ -205,3 +206,41 @@ with_end t before after i le h = record {
       let Q : Field → Type 0 = λ g. fits t g (number_on numbers g) ≡ true in
       subst Q (here_is f f) (h.with numbers point own (index f) f (omega (arith, index-lt f, le))));
 }
+
+-- ---- the packets that carry a key
+
+-- the first fragments with a protocol that passes a test
+pub first_of_narrowed : (protocols first : SpanSet) (test : ℕ → Bool) (before alike after : List SpanSet) → ((x : ℕ) → x ≤ top field.Protocol → has protocols.intervals x ≡ test x) → ((x : ℕ) → x ≤ top field.Fragment → has first.intervals x ≡ (x == 0))
+    → IsNarrowed field.Protocol protocols before alike → IsNarrowed field.Fragment first alike after → IsFirstWith test before after
+first_of_narrowed protocols first test before alike after same zero one two = record {
+  all = λ numbers point h on f. two.all numbers point (one.all numbers point h (same (number_on numbers field.Protocol) (point field.Protocol) ∙ on)) (zero (number_on numbers field.Fragment) (point field.Fragment) ∙ eq-eqb (number_on numbers field.Fragment) 0 f);
+  own = λ numbers point h. one.own numbers point (two.own numbers point h);
+  protocol = λ numbers point h. sym (same (number_on numbers field.Protocol) (point field.Protocol)) ∙ one.members numbers point (two.own numbers point h);
+  first = λ numbers point h. eqb-true (number_on numbers field.Fragment) 0 (sym (zero (number_on numbers field.Fragment) (point field.Fragment)) ∙ two.members numbers point h);
+}
+
+pub kept_all : (box : List SpanSet) (wanted : Bool) → wanted ≡ true → IsKept wanted box box
+kept_all box wanted e = record { all = λ w numbers point h. h; own = λ numbers point h. h; wished = λ numbers point h. e }
+
+pub kept_none : (f : Field) (none : SpanSet) (before after : List SpanSet) (wanted : Bool) → wanted ≡ false → ((x : ℕ) → has none.intervals x ≡ false) → IsNarrowed f none before after → IsKept wanted before after
+kept_none f none before after wanted e bare is = record {
+  all = λ w numbers point h. absurd (true≢false (sym w ∙ e));
+  own = λ numbers point h. is.own numbers point h;
+  wished = λ numbers point h. absurd (true≢false (sym (is.members numbers point h) ∙ bare (number_on numbers f)));
+}
+
+-- a protocol with ports is tcp or one of the others
+pub ported_is : (x : ℕ) → (is_ported x || x == 6) ≡ carries_ports x
+ported_is x = turned (x == 17) (x == 33) (x == 132) (x == 136) (x == 6)
+  where
+    turned : (a b c d f : Bool) → (a || b || c || d || f) ≡ (f || a || b || c || d)
+    turned true b c d true = refl
+    turned true b c d false = refl
+    turned false true c d true = refl
+    turned false true c d false = refl
+    turned false false true d true = refl
+    turned false false true d false = refl
+    turned false false false true true = refl
+    turned false false false true false = refl
+    turned false false false false true = refl
+    turned false false false false false = refl

@@ -43,6 +43,12 @@ pub record IsNarrowed (field : Field) (wanted : SpanSet) (before after : List Sp
   pub own : (numbers : List ℕ) → IsPoint numbers → Has after numbers → Has before numbers
   pub members : (numbers : List ℕ) → IsPoint numbers → Has after numbers → has wanted.intervals (number_on numbers field) ≡ true
 
+-- of the packets of a box that are at the hook another has just those that carry the field's key
+pub record IsCarrying (hook : Hook) (f : Field) (before after : List SpanSet) : Type 0 where
+  pub all : (p : Packet) → IsPacket p → p.hook ≡ hook → IsIn before p → carries_key p f ≡ true → IsIn after p
+  pub own : (p : Packet) → IsPacket p → IsIn after p → IsIn before p
+  pub carried : (p : Packet) → IsPacket p → p.hook ≡ hook → IsIn after p → carries_key p f ≡ true
+
 -- packets at the hook have no such interface
 abbrev pub is_without : Hook → Field → Bool
 is_without hook field.InIface = not (comes_in hook)

@@ -92,3 +92,17 @@ pub record IsWithTransport (t : Transport) (before after : List SpanSet) : Type 
   pub all : (numbers : List ℕ) → IsPoint numbers → Has before numbers → Fits t numbers → Has after numbers
   pub own : (numbers : List ℕ) → IsPoint numbers → Has after numbers → Has before numbers
   pub with : (numbers : List ℕ) → IsPoint numbers → Has after numbers → Fits t numbers
+
+-- of the packets of a box another has just the first fragments with a protocol that passes a test
+pub record IsFirstWith (test : ℕ → Bool) (before after : List SpanSet) : Type 0 where
+  pub all : (numbers : List ℕ) → IsPoint numbers → Has before numbers → test (number_on numbers field.Protocol) ≡ true → number_on numbers field.Fragment ≡ 0
+      → Has after numbers
+  pub own : (numbers : List ℕ) → IsPoint numbers → Has after numbers → Has before numbers
+  pub protocol : (numbers : List ℕ) → IsPoint numbers → Has after numbers → test (number_on numbers field.Protocol) ≡ true
+  pub first : (numbers : List ℕ) → IsPoint numbers → Has after numbers → number_on numbers field.Fragment ≡ 0
+
+-- a box has the packets of another if they are wanted, else none
+pub record IsKept (wanted : Bool) (before after : List SpanSet) : Type 0 where
+  pub all : wanted ≡ true → (numbers : List ℕ) → IsPoint numbers → Has before numbers → Has after numbers
+  pub own : (numbers : List ℕ) → IsPoint numbers → Has after numbers → Has before numbers
+  pub wished : (numbers : List ℕ) → IsPoint numbers → Has after numbers → wanted ≡ true

@@ -198,15 +198,19 @@ impl Area {
         Area::part(alloc, self.sets(), other, FIELDS)
     }
 
-    // The box again.
-    pub(crate) fn copy(&self, alloc: Global) -> Result<Area, AllocError>
+    /// The box again.
+    ///
+    /// # Errors
+    ///
+    /// `AllocError` where memory was refused.
+    pub fn copy(&self, alloc: Global) -> Result<Area, AllocError>
         ensures { IfOk result (IsBoth self.now self.now) }
     {
         self.within(alloc, self.sets())
     }
 
-    // Whether some field has no number, so that no packet is in the box.
-    pub(crate) fn is_empty(&self) -> bool
+    /// Whether some field has no number, so that no packet is in the box.
+    pub fn is_empty(&self) -> bool
         ensures none { IsTrue result → (numbers : List ℕ) → Has self.now numbers → ⊥ }
         ensures some { result ≡ false → HasNumbers self.now }
     {

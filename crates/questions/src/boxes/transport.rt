@@ -1,11 +1,13 @@
 //! Packets by what stands behind the header of IP.
-ghost use Rattle.std.specs.Prelude.{◌≡◌, ◌≤◌, ◌==◌, ◌||◌, ◌&&◌, ℕ, not, IfOk};
+ghost use Rattle.std.specs.Prelude.{◌≡◌, ◌≤◌, ◌==◌, ◌||◌, ℕ, Bool, not, IfOk};
 ghost use Rattle.fields.specs.numbers.Field.{protocol_top, top};
 ghost use Rattle.fields.specs.numbers.Spans.{has};
-ghost use Rattle.questions.specs.steps.Transports.{AreNumbersWith, IsWithTransport, is_ported};
+ghost use Rattle.questions.specs.boxes.Area.{IsCarrying};
+ghost use Rattle.questions.specs.steps.Transports.{AreNumbersWith, IsFirstWith, IsKept, IsWithTransport, is_ported};
+ghost use Rattle.fields.specs.values.Protocol.{carries_ports};
 
 use crate::boxes::area::{Area, all_or_zero};
-use fields::{FIELDS, Field, Spans};
+use fields::{FIELDS, Field, Hook, Spans};
 use std::alloc::{AllocError, Global};
 
 // What a packet carries behind the header of IP, as far as rules ask for it.
@@ -24,6 +26,10 @@ pub(crate) enum Transport {
 }
 
 const PROTOCOL_TOP: u128 = 255;
+
+const ICMP: u128 = 1;
+
+const TCP: u128 = 6;
 
 // A set of protocols with one more.
 fn with_protocol(alloc: Global, own: &Spans, number: u128) -> Result<Spans, AllocError>
@@ -53,8 +59,8 @@ fn other(alloc: Global) -> Result<Spans, AllocError>
     ensures members { IfOk result (λ set. (x : ℕ) → x ≤ protocol_top → has set.intervals x ≡ not (is_ported x || x == 6 || x == 1)) }
 {
     let ported = ported(alloc)?;
-    let with_tcp = with_protocol(alloc, &ported, 6)?;
-    let with_icmp = with_protocol(alloc, &with_tcp, 1)?;
+    let with_tcp = with_protocol(alloc, &ported, TCP)?;
+    let with_icmp = with_protocol(alloc, &with_tcp, ICMP)?;
     with_icmp.except(alloc)
 }
 
@@ -103,9 +109,9 @@ fn protocols(alloc: Global, transport: Transport) -> Result<Spans, AllocError>
     ensures { IfOk result (AreNumbersWith transport Field.Protocol) }
 {
     match transport {
-        Transport::Tcp => Spans::one(alloc, PROTOCOL_TOP, 6, 6),
+        Transport::Tcp => Spans::one(alloc, PROTOCOL_TOP, TCP, TCP),
         Transport::Ports => ported(alloc),
-        Transport::Icmp => Spans::one(alloc, PROTOCOL_TOP, 1, 1),
+        Transport::Icmp => Spans::one(alloc, PROTOCOL_TOP, ICMP, ICMP),
         Transport::Other => other(alloc),
         Transport::Missing => Spans::whole(alloc, PROTOCOL_TOP),
     }
@@ -148,4 +154,67 @@ pub(crate) fn with_transport(
         area = area.narrow(alloc, field, &wanted)?;
     }
     Ok(area)
+}
+
+// The first fragments among the packets of a box that have one of some protocols.
+fn first_of(alloc: Global, area: Area, protocols: &Spans) -> Result<Area, AllocError>
+    requires { protocols.now.top ≡ protocol_top }
+    ensures { (test : ℕ → Bool) → ((x : ℕ) → x ≤ protocol_top → has protocols.now.intervals x ≡ test x) → IfOk result (IsFirstWith test area) }
+{
+    let first = all_or_zero(alloc, Field::Fragment, false)?;
+    let alike = area.narrow(alloc, Field::Protocol, protocols)?;
+    alike.narrow(alloc, Field::Fragment, &first)
+}
+
+// Those of protocols with ports.
+fn first_ported(alloc: Global, area: Area) -> Result<Area, AllocError>
+    ensures { IfOk result (IsFirstWith carries_ports area) }
+{
+    let ported = ported(alloc)?;
+    let with_tcp = with_protocol(alloc, &ported, TCP)?;
+    first_of(alloc, area, &with_tcp)
+}
+
+// Those of one protocol.
+fn first_with(alloc: Global, area: Area, protocol: u128) -> Result<Area, AllocError>
+    requires { protocol ≤ protocol_top }
+    ensures { IfOk result (IsFirstWith (λ x. x == protocol) area) }
+{
+    let one = Spans::one(alloc, PROTOCOL_TOP, protocol, protocol)?;
+    first_of(alloc, area, &one)
+}
+
+// Those of a box if they are wanted, else none.
+fn kept(alloc: Global, area: Area, field: Field, wanted: bool) -> Result<Area, AllocError>
+    ensures { IfOk result (IsKept wanted area) }
+{
+    if wanted {
+        return Ok(area);
+    }
+    let none = Spans::none(alloc, field.top());
+    area.narrow(alloc, field, &none)
+}
+
+/// The packets of a box that carry the key of a field, of those at a hook.
+///
+/// # Errors
+///
+/// `AllocError` where memory was refused.
+pub fn carrying(alloc: Global, area: Area, hook: Hook, field: Field) -> Result<Area, AllocError>
+    ensures { IfOk result (IsCarrying hook field area) }
+{
+    match field {
+        Field::InIface => kept(alloc, area, field, !matches!(hook, Hook::Output)),
+        Field::OutIface => kept(alloc, area, field, !matches!(hook, Hook::Input)),
+        Field::SourcePort => first_ported(alloc, area),
+        Field::DestinationPort => first_ported(alloc, area),
+        Field::TcpFlags => first_with(alloc, area, TCP),
+        Field::IcmpType => first_with(alloc, area, ICMP),
+        Field::Source
+        | Field::Destination
+        | Field::Protocol
+        | Field::Fragment
+        | Field::ConnectionState
+        | Field::TimeToLive => Ok(area),
+    }
 }
