@@ -10,4 +10,5 @@ pub mod TakerLaws
 pub mod TrailLaws
 pub mod TransportLaws
 pub mod WaitLaws
+pub mod WayLaws
 pub mod WithoutLaws

@@ -5,3 +5,4 @@ pub mod Sides
 pub mod Takers
 pub mod Transports
 pub mod Waiting
+pub mod Ways

@@ -9,3 +9,4 @@ pub(crate) mod reason;
 pub(crate) mod rule;
 pub(crate) mod takers;
 pub(crate) mod verdicts;
+pub(crate) mod ways;

@@ -1,5 +1,5 @@
 -- Why a rule is dead.
-use Rattle.std.specs.Prelude.{◌≡◌, ◌⊎◌, true, Some, All, AllPairs, Any, IsFalse, IsTrue}
+use Rattle.std.specs.Prelude.{◌≡◌, ◌≢◌, ◌⊎◌, true, List, Some, All, AllPairs, Any, Contains, IsFalse, IsTrue}
 use Rattle.fields.specs.declared.numbers.field.Field.{Field}
 use Rattle.fields.specs.declared.packet.hook.Hook.{Hook}
 use Rattle.fields.specs.packet.Hook.{name as hook_name}
@@ -7,7 +7,7 @@ use Rattle.fields.specs.packet.Packet.{PacketView as Packet, point}
 use Rattle.rules.specs.rule.Allows.{allows, matches}
 use Rattle.rules.specs.rule.Rules.{Rule}
 use Rattle.table.specs.chains.Sound.{Leads}
-use Rattle.table.specs.chains.Table.{Table, chain_at}
+use Rattle.table.specs.chains.Table.{Table, chain_at, chain_named_by}
 use Rattle.table.specs.declared.walk.trail.Step.{Step}
 use Rattle.table.specs.walk.Walk.{walk}
 use Rattle.questions.specs.Ends.{IsRule, decider_of, rule_at}
@@ -15,7 +15,7 @@ use Rattle.questions.specs.Leaves.{entry_of}
 use Rattle.questions.specs.asked.Rule.{IsDead}
 use Rattle.questions.specs.boxes.Area.{IsAtHook}
 use Rattle.questions.specs.declared.asked.reason.Reason.{Reason}
-use Rattle.questions.specs.declared.asked.reason.Reason.TheVariants.{Impossible, Unreached, NoPacket, Taken}
+use Rattle.questions.specs.declared.asked.reason.Reason.TheVariants.{Impossible, Unreached, NoPacket, Excluded, Taken}
 use Rattle.questions.specs.declared.asked.takers.Takers.{Takers}
 
 -- jumps and gotos lead from the hook's chain to the rule's chain
@@ -57,11 +57,25 @@ pub record IsTaken (t : Table) (step : Step) (takers : Takers) : Type 0 where
   pub rules : All (IsRule t) takers.rules.items
   pub once : AllPairs (λ a b. a ≡ b → ⊥) takers.rules.items
 
+-- a rule jumps or goes to the chain of the rule of a step
+pub record LeadsTo (t : Table) (step by : Step) : Type 0 where
+  pub rule : IsRule t by
+  pub names : chain_named_by (rule_at t by) ≡ Some (chain_at t step.chain).name
+
+-- no walk begins in the rule's chain, and no packet that can be at its hook is matched both by a rule that leads there and by the rule; just those
+-- rules are named that lead there
+pub record IsExcluded (t : Table) (step : Step) (ways : List Step) : Type 0 where
+  pub inner : (hook : Hook) → hook_name hook ≢ (chain_at t step.chain).name
+  pub all : (by : Step) → LeadsTo t step by → Contains ways by
+  pub each : All (LeadsTo t step) ways
+  pub none : (p : Packet) → IsAtHook p → (by : Step) → LeadsTo t step by → IsTrue (matches p.values (rule_at t by)) → IsFalse (matches p.values (rule_at t step))
+
 -- what a reason says of the rule of a step
 abbrev pub IsReason : Table → Step → Reason → Type 0
 IsReason t step (Impossible field) = IsImpossible (rule_at t step) field
 IsReason t step Unreached = IsUnreached t step
 IsReason t step NoPacket = HasPacket t step → ⊥
+IsReason t step (Excluded ways) = HasPacket t step × IsExcluded t step ways.items
 IsReason t step (Taken takers) = HasPacket t step × IsTaken t step takers
 
 -- the rule is dead, for this reason

@@ -5,10 +5,12 @@ ghost use Rattle.rules.specs.boxing.Boxed.{set_on};
 ghost use Rattle.table.specs.chains.Table.{Table as Filter, chain_at};
 ghost use Rattle.table.specs.declared.walk.trail.Step.{Step as Place};
 ghost use Rattle.table.specs.steps.Kept.{hook_index};
-ghost use Rattle.questions.specs.asked.Reason.{Explains, IsReason, IsTaken};
+ghost use Rattle.questions.specs.Ends.{IsRule};
+ghost use Rattle.questions.specs.asked.Reason.{Explains, HasPacket, IsReason, IsTaken};
 
 use crate::asked::leading::{is_led, leading_to};
 use crate::asked::takers::{Takers, takers_of};
+use crate::asked::ways::ways_into;
 use crate::boxes::boxed_table::BoxedTable;
 use fields::{Field, Hook};
 use rules::Boxed;
@@ -24,6 +26,8 @@ pub enum Reason {
     Unreached,
     /// The rule matches no packet that can be at a hook from whose chain jumps and gotos lead to the rule's chain.
     NoPacket,
+    /// No packet that a rule matches which leads to its chain is one that it matches; these are the rules that lead there.
+    Excluded(Vec<Step>),
     /// It matches some of those, and just these rules and policies decide them; none of the packets comes to the rule.
     Taken(Takers),
 }
@@ -47,21 +51,39 @@ fn none_led(marks: &[bool]) -> bool
     !is_led(marks, Hook::Input) && !is_led(marks, Hook::Forward) && !is_led(marks, Hook::Output)
 }
 
-// The reason that they are, if they decide anything.
-fn reason_by(takers: Takers) -> Reason
-    ensures { (t : Filter) (step : Place) → IsTaken t step takers → IsReason t step result }
+// Whether they decide no packet.
+fn decide_nothing(takers: &Takers) -> bool
+    ensures none { IsTrue result → (t : Filter) (step : Place) → IsTaken t step takers.now → HasPacket t step → ⊥ }
+    ensures some { result ≡ false → (t : Filter) (step : Place) → IsTaken t step takers.now → HasPacket t step }
 {
     if takers.policy {
-        return Reason::Taken(takers);
+        return false;
     }
-    if takers.rules.as_slice().is_empty() {
-        return Reason::NoPacket;
+    takers.rules.as_slice().is_empty()
+}
+
+// The reason that they are, if they decide anything and the rules that lead to the rule's chain let some of its packets through.
+fn reason_by(
+    alloc: Global,
+    subject: &BoxedTable,
+    step: Step,
+    takers: Takers,
+) -> Result<Reason, AllocError>
+    requires { IsRule subject.now.table.table step }
+    ensures { IfOk result (λ reason. IsTaken subject.now.table.table step takers → IsReason subject.now.table.table step reason) }
+{
+    if decide_nothing(&takers) {
+        return Ok(Reason::NoPacket);
     }
-    Reason::Taken(takers)
+    match ways_into(alloc, subject, step)? {
+        Some(ways) => Ok(Reason::Excluded(ways)),
+        None => Ok(Reason::Taken(takers)),
+    }
 }
 
 /// Why rule `number` of the chain at a place, from 1, is dead: it allows no number on a field; no jumps and gotos lead to its chain;
-/// it matches no packet at the hooks from where they do; or others decide all packets there that it matches. The packets that its box has
+/// it matches no packet at the hooks from where they do; the rules that lead to its chain match none that it matches; or others decide all
+/// packets there that it matches. The packets that its box has
 /// walk from each of these hooks as boxes, with `budget` steps, and each box that came to an end walks again, with `budget` steps
 /// each time (`leaves`).
 ///
@@ -100,6 +122,6 @@ pub fn why_dead(
     }
     match takers_of(alloc, subject, step, marks.as_slice(), budget)? {
         None => Ok(None),
-        Some(takers) => Ok(Some(reason_by(takers))),
+        Some(takers) => Ok(Some(reason_by(alloc, subject, step, takers)?)),
     }
 }

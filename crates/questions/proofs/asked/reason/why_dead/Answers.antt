@@ -37,7 +37,5 @@ returns-then-none_led c =
 
 pub returns : goal.returns
 returns c =
-    let t = c.args.subject.now.table.table in
-    let step : Step = record { chain = c.args.place; number = c.args.number } in
     let both = rw c.in-Some-3.is at c.in_ok-takers_of.ensures in
-    record { dead = both.0; why = c.reason_by.ensures t step both.1 }
+    record { dead = both.0; why = c.in_ok-reason_by-in-Some-3.ensures both.1 }
