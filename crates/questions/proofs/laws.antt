@@ -4,6 +4,7 @@ pub mod EndLaws
 pub mod ExactLaws
 pub mod GroupLaws
 pub mod LeadLaws
+pub mod MeetingLaws
 pub mod PacketLaws
 pub mod ReachLaws
 pub mod TakerLaws
