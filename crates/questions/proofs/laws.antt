@@ -1,6 +1,7 @@
 pub mod AreaLaws
 pub mod BoxesLaws
 pub mod EndLaws
+pub mod EqualLaws
 pub mod ExactLaws
 pub mod GroupLaws
 pub mod LeadLaws
@@ -9,5 +10,6 @@ pub mod PacketLaws
 pub mod ReachLaws
 pub mod TakerLaws
 pub mod TrailLaws
+pub mod VerdictLaws
 pub mod WaitLaws
 pub mod WithoutLaws
