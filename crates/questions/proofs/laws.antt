@@ -1,14 +1,17 @@
 pub mod AreaLaws
 pub mod BoxesLaws
 pub mod EndLaws
+pub mod EqualLaws
 pub mod ExactLaws
 pub mod GroupLaws
 pub mod LeadLaws
+pub mod MeetingLaws
 pub mod PacketLaws
 pub mod ReachLaws
 pub mod TakerLaws
 pub mod TrailLaws
 pub mod TransportLaws
+pub mod VerdictLaws
 pub mod WaitLaws
 pub mod WayLaws
 pub mod WithoutLaws

@@ -1,3 +1,4 @@
 pub mod Area
 pub mod Cut
 pub mod Boxes
+pub mod Meeting

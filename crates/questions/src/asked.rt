@@ -1,4 +1,5 @@
 //! What is asked of all packets.
+pub(crate) mod equal;
 pub(crate) mod exact;
 pub(crate) mod laws;
 pub(crate) mod leading;

@@ -1,12 +1,13 @@
 -- The boxes of all rules of a table.
-use Rattle.std.proofs.Common.{◌≡◌, inl, inr, ℕ, ◌+◌, ◌-◌, ◌<◌, ◌≤◌, List, [], ◌∷◌, ◌++◌, length, get_or, map, sym, ◌∙◌, ap, arith, subst, Vec, vec_len, Global}
+use Rattle.std.proofs.Common.{◌≡◌, inl, inr, ℕ, zero, suc, ◌+◌, ◌-◌, ◌<◌, ◌≤◌, List, [], ◌∷◌, ◌++◌, length, get_or, take, map, sym, ◌∙◌, ap, arith, subst, Vec, vec_len, Global}
+use Rattle.std.proofs.Math.Numerals.{add-one}
 use Rattle.std.proofs.lemmas.Bool.{cases_lt}
 use Rattle.std.proofs.lemmas.List.{get_or_append_left, get_or_default, get_or_push, get_or-map, length-append, length-map}
 use Rattle.fields.specs.numbers.Spans.{SpanSet}
 use Rattle.rules.specs.boxing.Boxed.{IsBoxOf}
 use Rattle.rules.specs.rule.Rules.{Rule, empty_rule}
 use Rattle.table.specs.chains.Table.{Chain, Table, chain_at, empty_chain}
-use Rattle.questions.specs.boxes.Boxes.{AreBoxesOf, AreBoxesOfRules}
+use Rattle.questions.specs.boxes.Boxes.{AreBoxesOf, AreBoxesOfRules, rules_in}
 
 -- ---- made one after another
 
@@ -78,6 +79,19 @@ all_chains chains boxes n all pairs = record {
 
     empty : (k : ℕ) → k < length boxes → Vec (List SpanSet) Global
     empty k lt = some boxes k lt
+
+-- ---- counted
+
+-- the first so many chains have so many rules
+rules_next : (cs : List Chain) (k : ℕ) → k < length cs → rules_in (take (suc k) cs) ≡ rules_in (take k cs) + length (get_or cs k (empty_chain [])).rules
+rules_next [] k lt = absurd (omega (arith, lt))
+rules_next (c ∷ cs) zero lt = omega arith
+rules_next (c ∷ cs) (suc k) lt =
+    let more : rules_in (take (suc k) cs) ≡ rules_in (take k cs) + length (get_or cs k (empty_chain [])).rules = rules_next cs k (omega (arith, lt)) in
+    ap (λ n. length c.rules + n) more ∙ omega arith
+
+pub rules_more : (cs : List Chain) (k : ℕ) → k < length cs → rules_in (take (k + 1) cs) ≡ rules_in (take k cs) + length (get_or cs k (empty_chain [])).rules
+rules_more cs k lt = ap (λ j. rules_in (take j cs)) (add-one k) ∙ rules_next cs k lt
 
 -- ---- asked for
 

@@ -25,7 +25,7 @@ use Rattle.table.proofs.laws.chains.KeepLaws.{rules_by_name}
 use Rattle.table.proofs.laws.chains.PlaceLaws.{IsPlaced, placed_at, any_none, has_at}
 use Rattle.table.proofs.laws.walk.CaseLaws.{walks_by_cases}
 use Rattle.questions.specs.Leaves.{name_at}
-use Rattle.questions.specs.steps.Leading.{AllLead, AreClosed, AreLeading, IsMarked, IsMarkedName, LeadsOn, NamesMarked, Spreads}
+use Rattle.questions.specs.steps.Leading.{AllLead, AreClosed, AreLeading, IsMarked, IsMarkedName, LeadsOn, NamesMarked, Spreads, unmarked}
 use Rattle.questions.proofs.laws.EndLaws.{none_some, rules_there}
 use Rattle.questions.proofs.laws.TrailLaws.{one_place}
 use Rattle.questions.proofs.laws.WaitLaws.{named_first}
@@ -170,6 +170,14 @@ spread_by t marks place s long lt on = record {
   where
     marked_here : (k : ℕ) → k ≡ place → IsMarked (set marks place true) k
     marked_here k e = let P : ℕ → Type 0 = λ j. IsMarked (set marks place true) j in subst P (sym e) (get_or-set_same marks place true false (omega (arith, lt, long)))
+
+-- then fewer are not marked
+pub unmarked_less : (marks : List Bool) (place : ℕ) → place < length marks → get_or marks place false ≡ false → unmarked (set marks place true) < unmarked marks
+unmarked_less [] place lt off = absurd (omega (arith, lt))
+unmarked_less (true ∷ ms) zero lt off = absurd (true≢false off)
+unmarked_less (false ∷ ms) zero lt off = omega arith
+unmarked_less (true ∷ ms) (suc k) lt off = unmarked_less ms k (omega (arith, lt)) off
+unmarked_less (false ∷ ms) (suc k) lt off = let h = unmarked_less ms k (omega (arith, lt)) off in omega (arith, h)
 
 pub spread_same : (t : Table) (marks : List Bool) → Spreads t marks marks
 spread_same t marks = record { long = refl; kept = λ k h. h; each = λ name h. h }

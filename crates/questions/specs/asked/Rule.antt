@@ -20,10 +20,14 @@ IsDead t entry = (p : Packet) → IsAtHook p → Contains (walk t p).trail entry
 abbrev pub IsLive : Table → Entry → List (List ℕ) → Type 0
 IsLive t entry words = (p : Packet) × (packet_of words ≡ Ok p) × Contains (walk t p).trail entry
 
+-- the rule is on the walk of a packet at the hook, and a line writes that packet
+abbrev pub IsLiveAt : Table → Entry → Hook → List (List ℕ) → Type 0
+IsLiveAt t entry hook words = (p : Packet) × (packet_of words ≡ Ok p) × (p.hook ≡ hook) × Contains (walk t p).trail entry
+
 -- what is said of a rule, for the packets at one hook
 abbrev pub SaysAt : Table → Entry → Hook → Life → Type 0
 SaysAt t entry hook Dead = IsDeadAt t entry hook
-SaysAt t entry hook (Live words) = IsLive t entry words
+SaysAt t entry hook (Live words) = IsLiveAt t entry hook words
 SaysAt t entry hook Unclear = Unit {0}
 
 -- what is said of a rule

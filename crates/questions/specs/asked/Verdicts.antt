@@ -30,12 +30,19 @@ IsSameIn old new hook leaf = (p : Packet) → IsAtHook p → p.hook ≡ hook →
 abbrev pub IsOther : Table → Table → List (List ℕ) → Type 0
 IsOther old new words = (p : Packet) × (packet_of words ≡ Ok p) × ((walk old p).verdict ≢ (walk new p).verdict)
 
--- what is said of two tables, if this is meant by their being alike
-abbrev pub SaysIf : Type 0 → Table → Table → Likeness → Type 0
-SaysIf same old new Same = same
-SaysIf same old new (Differ words) = IsOther old new words
-SaysIf same old new Unclear = Unit {0}
+-- they give a packet at the hook two verdicts, and a line writes that packet
+abbrev pub IsOtherAt : Table → Table → Hook → List (List ℕ) → Type 0
+IsOtherAt old new hook words =
+    (p : Packet) × (packet_of words ≡ Ok p) × (p.hook ≡ hook) × ((walk old p).verdict ≢ (walk new p).verdict)
+
+-- what is said of two tables for the packets at a hook, if this is meant by their being alike
+abbrev pub SaysIf : Type 0 → Table → Table → Hook → Likeness → Type 0
+SaysIf same old new hook Same = same
+SaysIf same old new hook (Differ words) = IsOtherAt old new hook words
+SaysIf same old new hook Unclear = Unit {0}
 
 -- what is said of two tables
 abbrev pub Says : Table → Table → Likeness → Type 0
-Says old new likeness = SaysIf (IsSame old new) old new likeness
+Says old new Same = IsSame old new
+Says old new (Differ words) = IsOther old new words
+Says old new Unclear = Unit {0}

@@ -1,9 +1,14 @@
 -- The boxes of all rules of a table.
-use Rattle.std.specs.Prelude.{◌≡◌, ℕ, ◌<◌, List, length, slice_index_or}
+use Rattle.std.specs.Prelude.{◌≡◌, ℕ, ◌+◌, ◌<◌, List, [], ◌∷◌, length, slice_index_or}
 use Rattle.fields.specs.numbers.Spans.{SpanSet}
 use Rattle.rules.specs.boxing.Boxed.{IsBoxOf}
 use Rattle.rules.specs.rule.Rules.{Rule}
 use Rattle.table.specs.chains.Table.{Chain}
+
+-- how many rules the chains have
+abbrev pub rules_in : List Chain → ℕ
+rules_in [] = 0
+rules_in (chain ∷ chains) = length chain.rules + rules_in chains
 
 -- a box for each rule, in their order
 pub record AreBoxesOfRules (rules : List Rule) (boxes : List (List SpanSet)) : Type 0 where

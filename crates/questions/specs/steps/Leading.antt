@@ -1,5 +1,5 @@
 -- Chains from which jumps and gotos lead to a chain, by marks.
-use Rattle.std.specs.Prelude.{◌≡◌, ℕ, ◌<◌, Bool, true, false, List, Some, length, slice_index_or, Contains}
+use Rattle.std.specs.Prelude.{◌≡◌, ℕ, zero, suc, ◌<◌, Bool, true, false, List, [], ◌∷◌, Some, length, slice_index_or, Contains}
 use Rattle.rules.specs.rule.Rules.{Rule}
 use Rattle.table.specs.chains.Sound.{Leads}
 use Rattle.table.specs.chains.Table.{Chain, Table, chain_at, chain_named_by}
@@ -8,6 +8,12 @@ use Rattle.questions.specs.Leaves.{name_at}
 -- the chain at a place is marked
 abbrev pub IsMarked : List Bool → ℕ → Type 0
 IsMarked marks place = slice_index_or marks place false ≡ true
+
+-- how many chains are not marked
+abbrev pub unmarked : List Bool → ℕ
+unmarked [] = zero
+unmarked (true ∷ marks) = unmarked marks
+unmarked (false ∷ marks) = suc (unmarked marks)
 
 -- the name is that of a marked chain
 abbrev pub IsMarkedName : List Chain → List Bool → List ℕ → Type 0

@@ -1,8 +1,8 @@
 // The chains from which jumps and gotos lead to a chain.
-ghost use Rattle.std.specs.Prelude.{◌≡◌, ◌<◌, ◌↔◌, false, true, length, slice_index_or, IfOk, IfSome, IsTrue};
+ghost use Rattle.std.specs.Prelude.{◌≡◌, ◌<◌, ◌↔◌, false, true, length, slice_index_or, IfOk, IsTrue};
 ghost use Rattle.table.specs.chains.Table.{chain_at};
 ghost use Rattle.table.specs.steps.Kept.{hook_index};
-ghost use Rattle.questions.specs.steps.Leading.{AreClosed, AreLeading, IsMarkedName, LeadsOn, NamesMarked, Spreads};
+ghost use Rattle.questions.specs.steps.Leading.{AreClosed, AreLeading, IsMarkedName, LeadsOn, NamesMarked, Spreads, unmarked};
 
 use crate::walking::engine::hook_index;
 use fields::Hook;
@@ -54,6 +54,7 @@ fn mark(table: &Table, marks: &mut Vec<bool>, place: usize) -> bool
     requires long { length marks.old.items ≡ length table.now.table.chains }
     requires place { place < length table.now.table.chains }
     ensures more { Spreads table.now.table marks.old.items marks.new.items }
+    ensures fewer { IsTrue result → unmarked marks.new.items < unmarked marks.old.items }
     ensures same { result ≡ false → marks.new.items ≡ marks.old.items }
     ensures closed { result ≡ false → LeadsOn table.now.table marks.old.items place → slice_index_or marks.old.items place false ≡ true }
 {
@@ -72,6 +73,7 @@ fn mark(table: &Table, marks: &mut Vec<bool>, place: usize) -> bool
 fn spread(table: &Table, marks: &mut Vec<bool>) -> bool
     requires { length marks.old.items ≡ length table.now.table.chains }
     ensures more { Spreads table.now.table marks.old.items marks.new.items }
+    ensures fewer { IsTrue result → unmarked marks.new.items < unmarked marks.old.items }
     ensures closed { result ≡ false → AreClosed table.now.table marks.new.items (length table.now.table.chains) }
 {
     let mut is_more = false;
@@ -84,25 +86,22 @@ fn spread(table: &Table, marks: &mut Vec<bool>) -> bool
 }
 
 // A mark for each chain from which jumps and gotos lead to the one at a place, also in no step. The marks spread until each chain
-// that names a marked one is marked.
+// that names a marked one is marked:
+// each time but the last there are more.
 pub(crate) fn leading_to(
     alloc: Global,
     table: &Table,
     place: usize,
-) -> Result<Option<Vec<bool>>, AllocError>
+) -> Result<Vec<bool>, AllocError>
     requires { place < length table.now.table.chains }
-    ensures { IfOk result (λ found. IfSome found (λ marks. AreLeading table.now.table (chain_at table.now.table place).name marks.items)) }
+    ensures { IfOk result (λ marks. AreLeading table.now.table (chain_at table.now.table place).name marks.items) }
 {
     table.stands();
     let count = table.chain_count();
     let mut marks = vec![in alloc; false; count]?;
     marks[place] = true;
-    for _ in 0..count {
-        if !spread(table, &mut marks) {
-            return Ok(Some(marks));
-        }
-    }
-    Ok(None)
+    while spread(table, &mut marks) {}
+    Ok(marks)
 }
 
 // Whether the chain of a hook is marked.

@@ -114,9 +114,7 @@ pub fn why_dead(
     if let Some(field) = bare_field(boxed) {
         return Ok(Some(Reason::Impossible(field)));
     }
-    let Some(marks) = leading_to(alloc, &subject.table, place)? else {
-        return Ok(None);
-    };
+    let marks = leading_to(alloc, &subject.table, place)?;
     if none_led(marks.as_slice()) {
         return Ok(Some(Reason::Unreached));
     }

@@ -3,7 +3,7 @@ ghost use Rattle.std.specs.Prelude.{◌≡◌, ◌<◌, ◌≤◌, ◌↔◌, Al
 ghost use Rattle.table.specs.chains.Table.{chain_at};
 ghost use Rattle.questions.specs.Ends.{IsRule};
 ghost use Rattle.questions.specs.Leaves.{entry_of};
-ghost use Rattle.questions.specs.asked.Rule.{IsLive, Says, SaysAt};
+ghost use Rattle.questions.specs.asked.Rule.{IsLiveAt, Says, SaysAt};
 
 use crate::asked::matching::packets_of;
 use crate::asked::reach::Given;
@@ -42,7 +42,7 @@ fn witness(
     area: &Area,
     step: Step,
 ) -> Result<Option<Words>, AllocError>
-    ensures { IfOk result (λ found. IfSome found (IsLive table.now.table (entry_of table.now.table.chains step))) }
+    ensures { IfOk result (λ found. IfSome found (IsLiveAt table.now.table (entry_of table.now.table.chains step) hook)) }
 {
     let Some(sample) = sample_of(alloc, hook, area)? else {
         return Ok(None);
@@ -63,7 +63,7 @@ fn witness_among(
     found: &[Leaf],
     step: Step,
 ) -> Result<Option<Words>, AllocError>
-    ensures { IfOk result (λ found. IfSome found (IsLive table.now.table (entry_of table.now.table.chains step))) }
+    ensures { IfOk result (λ found. IfSome found (IsLiveAt table.now.table (entry_of table.now.table.chains step) hook)) }
 {
     for leaf in found {
         if !is_on(leaf.trail.as_slice(), step) {

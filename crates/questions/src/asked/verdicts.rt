@@ -1,8 +1,10 @@
 //! Whether two tables give each packet the same verdict.
 ghost use Rattle.std.specs.Prelude.{◌≡◌, All, IfOk, IfSome, IsTrue};
 ghost use Rattle.table.specs.declared.verdict.Verdict.{Verdict};
-ghost use Rattle.questions.specs.asked.Verdicts.{IsOther, IsSameAt, IsSameIn, Says, SaysIf};
+ghost use Rattle.questions.specs.asked.Verdicts.{IsOtherAt, IsSameAt, IsSameIn, Says, SaysIf};
+ghost use Rattle.questions.specs.declared.asked.verdicts.Likeness.TheVariants.{Same};
 
+use crate::asked::equal::are_equal;
 use crate::boxes::area::Area;
 use crate::boxes::boxed_table::BoxedTable;
 use crate::sampling::sample::{Sample, sample_of};
@@ -43,7 +45,7 @@ fn witness(
     hook: Hook,
     area: &Area,
 ) -> Result<Option<Words>, AllocError>
-    ensures { IfOk result (λ found. IfSome found (IsOther old.now.table new.now.table)) }
+    ensures { IfOk result (λ found. IfSome found (IsOtherAt old.now.table new.now.table hook)) }
 {
     let Some(sample) = sample_of(alloc, hook, area)? else {
         return Ok(None);
@@ -63,7 +65,7 @@ fn witness_among(
     found: &[Leaf],
     verdict: Verdict,
 ) -> Result<Option<Words>, AllocError>
-    ensures { IfOk result (λ found. IfSome found (IsOther old.now.table new.now.table)) }
+    ensures { IfOk result (λ found. IfSome found (IsOtherAt old.now.table new.now.table hook)) }
 {
     for leaf in found {
         if leaf.verdict == verdict {
@@ -85,7 +87,7 @@ fn likeness_in(
     leaf: &Leaf,
     budget: usize,
 ) -> Result<Likeness, AllocError>
-    ensures { IfOk result (SaysIf (IsSameIn old.now.table new.now.table.table hook leaf.now) old.now.table new.now.table.table) }
+    ensures { IfOk result (SaysIf (IsSameIn old.now.table new.now.table.table hook leaf.now) old.now.table new.now.table.table hook) }
 {
     let alloc = *leaf.trail.allocator();
     let start = leaf.area.copy(alloc)?;
@@ -111,7 +113,7 @@ fn likeness_among(
     found: &[Leaf],
     budget: usize,
 ) -> Result<Likeness, AllocError>
-    ensures { IfOk result (SaysIf (All (IsSameIn old.now.table new.now.table.table hook) found.now) old.now.table new.now.table.table) }
+    ensures { IfOk result (SaysIf (All (IsSameIn old.now.table new.now.table.table hook) found.now) old.now.table new.now.table.table hook) }
 {
     let mut clear = true;
     for leaf in found {
@@ -127,20 +129,15 @@ fn likeness_among(
     Ok(Likeness::Unclear)
 }
 
-/// Whether two tables give each packet at one hook the same verdict, as `compare` says it of all hooks: the packets of the
-/// hook walk the first table as boxes, and each box with one walk then walks the second one.
-///
-/// # Errors
-///
-/// `AllocError` where memory was refused.
-pub fn compare_at(
+// What is said of the packets at one hook: they walk the first table, and those of each leaf the second one.
+fn likeness_at(
     alloc: Global,
     old: &BoxedTable,
     new: &BoxedTable,
     hook: Hook,
     budget: usize,
 ) -> Result<Likeness, AllocError>
-    ensures { IfOk result (SaysIf (IsSameAt old.now.table.table new.now.table.table hook) old.now.table.table new.now.table.table) }
+    ensures { IfOk result (SaysIf (IsSameAt old.now.table.table new.now.table.table hook) old.now.table.table new.now.table.table hook) }
 {
     let start = Area::at_hook(alloc, hook)?;
     let Some(found) = leaves(alloc, old, hook, start, budget)? else {
@@ -153,9 +150,32 @@ pub fn compare_at(
     }
 }
 
+/// Whether two tables give each packet at one hook the same verdict, as `compare` says it of all hooks: the packets of the
+/// hook walk the first table as boxes, and each box with one walk then walks the second one. Where the tables are equal
+/// it takes no step.
+///
+/// # Errors
+///
+/// `AllocError` where memory was refused.
+pub fn compare_at(
+    alloc: Global,
+    old: &BoxedTable,
+    new: &BoxedTable,
+    hook: Hook,
+    budget: usize,
+) -> Result<Likeness, AllocError>
+    ensures says { IfOk result (SaysIf (IsSameAt old.now.table.table new.now.table.table hook) old.now.table.table new.now.table.table hook) }
+    ensures equal { old.now.table.table ≡ new.now.table.table → IfOk result (λ likeness. likeness ≡ Same) }
+{
+    if are_equal(&old.table, &new.table) {
+        return Ok(Likeness::Same);
+    }
+    likeness_at(alloc, old, new, hook, budget)
+}
+
 /// Whether two tables give each packet the same verdict, whichever rule gives it. Of each hook all packets walk the first
 /// table as boxes, and each box with one walk then walks the second one: each of these walks has `budget` steps
-/// (`leaves`).
+/// (`leaves`). Where the tables are equal it takes no step.
 ///
 /// # Errors
 ///
@@ -166,11 +186,15 @@ pub fn compare(
     new: &BoxedTable,
     budget: usize,
 ) -> Result<Likeness, AllocError>
-    ensures { IfOk result (Says old.now.table.table new.now.table.table) }
+    ensures says { IfOk result (Says old.now.table.table new.now.table.table) }
+    ensures equal { old.now.table.table ≡ new.now.table.table → IfOk result (λ likeness. likeness ≡ Same) }
 {
+    if are_equal(&old.table, &new.table) {
+        return Ok(Likeness::Same);
+    }
     let mut clear = true;
     for hook in Hook::ALL {
-        match compare_at(alloc, old, new, hook, budget)? {
+        match likeness_at(alloc, old, new, hook, budget)? {
             Likeness::Same => {}
             Likeness::Differ(words) => return Ok(Likeness::Differ(words)),
             Likeness::Unclear => clear = false,

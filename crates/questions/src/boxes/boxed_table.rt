@@ -1,9 +1,9 @@
 //! A table with the boxes of its rules.
-ghost use Rattle.std.specs.Prelude.{◌≡◌, ◌<◌, ◌≤◌, ◌-◌, [], length, map, slice_index_or, IfOk};
+ghost use Rattle.std.specs.Prelude.{◌≡◌, ◌+◌, ◌-◌, ◌^◌, ◌<◌, ◌≤◌, [], length, map, min, slice_index_or, IfOk};
 ghost use Rattle.rules.specs.boxing.Boxed.{IsBoxOf};
 ghost use Rattle.rules.specs.rule.Rules.{empty_rule};
 ghost use Rattle.table.specs.chains.Table.{chain_at};
-ghost use Rattle.questions.specs.boxes.Boxes.{AreBoxesOf, AreBoxesOfRules};
+ghost use Rattle.questions.specs.boxes.Boxes.{AreBoxesOf, AreBoxesOfRules, rules_in};
 
 use rules::{Boxed, Work};
 use std::alloc::{AllocError, Global};
@@ -27,8 +27,10 @@ fn boxes_of_chain(
     work: &mut Work,
 ) -> Result<Vec<Boxed>, AllocError>
     requires { place < length table.now.table.chains }
-    ensures { IfOk result (λ boxes. AreBoxesOfRules (chain_at table.now.table place).rules boxes.items) }
+    ensures counted { IfOk result (λ boxes. work.new ≡ min (work.old + length (chain_at table.now.table place).rules) (2 ^ 64 - 1)) }
+    ensures boxes { IfOk result (λ boxes. AreBoxesOfRules (chain_at table.now.table place).rules boxes.items) }
 {
+    let _made = work.boxes();
     let mut boxes = Vec::new(alloc);
     for before in 0..table.rule_count(place) {
         boxes.push(Boxed::of(alloc, table.rule(place, before + 1), work)?)?;
@@ -43,8 +45,10 @@ impl BoxedTable {
     ///
     /// `AllocError` where memory was refused.
     pub fn of(alloc: Global, table: Table, work: &mut Work) -> Result<BoxedTable, AllocError>
-        ensures { IfOk result (λ made. made.table ≡ table) }
+        ensures table { IfOk result (λ made. made.table ≡ table) }
+        ensures counted { IfOk result (λ made. work.new ≡ min (work.old + rules_in table.table.chains) (2 ^ 64 - 1)) }
     {
+        let _made = work.boxes();
         let mut chains = Vec::new(alloc);
         for place in 0..table.chain_count() {
             chains.push(boxes_of_chain(alloc, &table, place, work)?)?;

@@ -1,16 +1,18 @@
 //! Whether boxes have packets in common.
-ghost use Rattle.std.specs.Prelude.{◌≡◌, ◌&&◌, ℕ, List, false};
+ghost use Rattle.std.specs.Prelude.{◌≡◌, ◌&&◌, ℕ, List, false, IsTrue};
 ghost use Rattle.fields.specs.numbers.Spans.{has};
 ghost use Rattle.rules.specs.boxing.Boxed.{IsBox};
 ghost use Rattle.classify.specs.classifier.Classifier.{IsPoint};
 ghost use Rattle.questions.specs.boxes.Area.{Has};
+ghost use Rattle.questions.specs.boxes.Meeting.{AreMet, HaveCommon};
 
 use fields::{FIELDS, Spans};
 
 // Whether two sets with one top have a number in common. It takes no memory, and time linear in their intervals.
 fn share(own: &Spans, other: &Spans) -> bool
     requires { own.now.top ≡ other.now.top }
-    ensures { result ≡ false → (x : ℕ) → (has own.now.intervals x && has other.now.intervals x) ≡ false }
+    ensures some { IsTrue result → HaveCommon own.now other.now }
+    ensures none { result ≡ false → (x : ℕ) → (has own.now.intervals x && has other.now.intervals x) ≡ false }
 {
     let mut left = own.intervals();
     let mut right = other.intervals();
@@ -34,7 +36,8 @@ fn share(own: &Spans, other: &Spans) -> bool
 pub(crate) fn meet(own: &[Spans], other: &[Spans]) -> bool
     requires own { IsBox own.now }
     requires other { IsBox other.now }
-    ensures { result ≡ false → (numbers : List ℕ) → Has own.now numbers → Has other.now numbers → ⊥ }
+    ensures some { IsTrue result → AreMet own.now other.now }
+    ensures none { result ≡ false → (numbers : List ℕ) → Has own.now numbers → Has other.now numbers → ⊥ }
 {
     for place in 0..FIELDS {
         if !share(&own[place], &other[place]) {

@@ -29,13 +29,14 @@ fn read(alloc: Global, line: &[u8]) -> Result<Option<Sample>, AllocError>
     }
 }
 
-// A packet that is meant to be one of the box. Whoever asks sees what it does in the table.
+// A packet at the hook that is meant to be one of the box. Whoever asks sees what it does in the table.
 pub(crate) fn sample_of(
     alloc: Global,
     hook: Hook,
     area: &Area,
 ) -> Result<Option<Sample>, AllocError>
-    ensures { IfOk result (λ found. IfSome found (λ sample. packet_of sample.words ≡ Ok sample.packet)) }
+    ensures written { IfOk result (λ found. IfSome found (λ sample. packet_of sample.words ≡ Ok sample.packet)) }
+    ensures there { IfOk result (λ found. IfSome found (λ sample. sample.packet.hook ≡ hook)) }
 {
     let Some(kind) = kind_in(area, hook) else {
         return Ok(None);
@@ -44,5 +45,11 @@ pub(crate) fn sample_of(
         return Ok(None);
     };
     let line = line_of(alloc, kind, &numbers)?;
-    read(alloc, line.as_slice())
+    let Some(sample) = read(alloc, line.as_slice())? else {
+        return Ok(None);
+    };
+    if sample.packet.hook() == hook {
+        return Ok(Some(sample));
+    }
+    Ok(None)
 }

@@ -29,13 +29,20 @@ returns-then-none_led c =
     let t = c.args.subject.now.table.table in
     let step : Step = record { chain = c.args.place; number = c.args.number } in
     let name = (chain_at t c.args.place).name in
-    let marks = c.in-Some-2.marks.items in
-    let leading : AreLeading t name marks = rw c.in-Some-2.is at c.in_ok-marks.ensures in
+    let marks = c.in_ok-marks.marks.items in
+    let leading : AreLeading t name marks = c.in_ok-marks.ensures in
     let unmarked : (hook : Hook) → slice_index_or marks (hook_index hook) false ≡ false = rw c.as_slice.ensures.value at (c.none_led.ensures c.if-none_led.true) in
     let unreached : IsUnreached t step = λ hook led. true≢false (sym (hook_led t name marks hook c.stands.ensures.sound leading led) ∙ unmarked hook) in
     record { dead = λ p can on. unreached p.hook (entry_led t p (entry_of t.chains step) on); why = unreached }
 
 pub returns : goal.returns
 returns c =
+<<<<<<< HEAD
     let both = rw c.in-Some-3.is at c.in_ok-takers_of.ensures in
     record { dead = both.0; why = c.in_ok-reason_by-in-Some-3.ensures both.1 }
+=======
+    let t = c.args.subject.now.table.table in
+    let step : Step = record { chain = c.args.place; number = c.args.number } in
+    let both = rw c.in-Some-2.is at c.in_ok-takers_of.ensures in
+    record { dead = both.0; why = c.reason_by.ensures t step both.1 }
+>>>>>>> f58a013c872204984679ef6e9949d3a3e0b2f49b

@@ -6,7 +6,7 @@ use Rattle.questions.proofs.boxes.cut.cut_by.Goals as goal
 
 pub returns-then-not-meet : goal.returns-then-not-meet
 returns-then-not-meet c =
-    (refl, apart_of c.args.rule.now c.args.area c.args.boxed.now c.requires (rw (c.sets.ensures.value, c.spans.ensures.value) at (c.meet.ensures c.if-not-meet.true)))
+    (refl, apart_of c.args.rule.now c.args.area c.args.boxed.now c.requires (rw (c.sets.ensures.value, c.spans.ensures.value) at (c.meet.ensures.none c.if-not-meet.true)))
 
 pub returns-in-Fails : goal.returns-in-Fails
 returns-in-Fails c =
