@@ -37,12 +37,5 @@ returns-then-none_led c =
 
 pub returns : goal.returns
 returns c =
-<<<<<<< HEAD
-    let both = rw c.in-Some-3.is at c.in_ok-takers_of.ensures in
-    record { dead = both.0; why = c.in_ok-reason_by-in-Some-3.ensures both.1 }
-=======
-    let t = c.args.subject.now.table.table in
-    let step : Step = record { chain = c.args.place; number = c.args.number } in
     let both = rw c.in-Some-2.is at c.in_ok-takers_of.ensures in
-    record { dead = both.0; why = c.reason_by.ensures t step both.1 }
->>>>>>> f58a013c872204984679ef6e9949d3a3e0b2f49b
+    record { dead = both.0; why = c.in_ok-reason_by-in-Some-2.ensures both.1 }

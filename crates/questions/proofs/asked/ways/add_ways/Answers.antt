@@ -29,7 +29,7 @@ loop-passed-preserved c =
       rule = record { chain = c.requires.place; first = omega arith; last = omega (arith, within) };
       names = subst P is (c.leads_to.ensures.0 c.if-not-leads_to.false ∙ ap Some c.chain_name-chain.ensures);
     } in
-    let apart = rw (c.spans.ensures.value, c.spans-in-loop-passed.ensures.value) at (c.meet.ensures c.if-meet.false) in
+    let apart = rw (c.spans.ensures.value, c.spans-in-loop-passed.ensures.value) at (c.meet.ensures.none c.if-meet.false) in
     let closed : IsClosedWay t step by = closed_of t step by c.at-own.result.now c.at.result.now c.at.ensures c.at-own.ensures leads apart in
     rw c.in_ok-push.ensures.items (record {
       each = λ h. All-push (IsClosedWay t step) old by (c.loop-passed.invariant.each h) closed;
