@@ -29,9 +29,9 @@ use Rattle.questions.specs.declared.asked.reach.Given.{Given}
 use Rattle.questions.specs.declared.asked.takers.Takers.{Takers}
 use Rattle.questions.specs.declared.walking.task.Leaf.{Leaf}
 use Rattle.questions.specs.steps.Exact.{AreExactWalks, IsExact}
-use Rattle.questions.specs.steps.Takers.{AllTake, AreBefore, AreWalksOf, Grows, IsAmong, IsBoxAt, IsDecided, IsMatchedAt, IsTakenAt, IsWalked, Takes, TakesAll}
+use Rattle.questions.specs.steps.Takers.{AllTake, AreBefore, AreWalksOf, Grows, IsAmong, IsBoxAt, IsByThis, IsDecided, IsMatchedAt, IsTakenAt, IsWalked, Takes, TakesAll, TakesOne}
 use Rattle.questions.proofs.laws.AreaLaws.{box_of_rule, has_of_rule, on_field}
-use Rattle.questions.proofs.laws.EndLaws.{decider_is_rule, decider_shown}
+use Rattle.questions.proofs.laws.EndLaws.{decider_is_rule, decider_shown, none_some}
 use Rattle.questions.proofs.laws.LeadLaws.{entry_led}
 use Rattle.questions.proofs.laws.ReachLaws.{packet_with, with_inside, with_packet}
 use Rattle.questions.proofs.laws.TrailLaws.{items_next, never_on, rule_matches}
@@ -89,80 +89,111 @@ module _ (t : Table) (step : Step) (hook : Hook) (given : Given) (s : IsSound t)
 -- ---- who decides them
 
 pub grows_same : (takers : Takers) → Grows takers takers
-grows_same takers = record { kept = λ by h. h; once = λ h. h }
+grows_same takers = record { kept = λ hook by h. h; once = λ h. h; apart = λ h. h }
 
 pub grows_on : (a b c : Takers) → Grows a b → Grows b c → Grows a c
-grows_on a b c first then = record { kept = λ by h. then.kept by (first.kept by h); once = λ h. then.once (first.once h) }
+grows_on a b c first then = record { kept = λ hook by h. then.kept hook by (first.kept hook by h); once = λ h. then.once (first.once h); apart = λ h. then.apart (first.apart h) }
 
-module _ (leaf : Leaf) (old new : Takers) where
-  pub takes_policy : step_of leaf ≡ None → new.rules.items ≡ old.rules.items → new.policy ≡ true → Takes leaf old new
-  takes_policy e same now = record {
-    grows = record { kept = kept; once = λ h. subst O (sym same) h };
-    added = subst (IsAmong new) (sym e) now;
+-- one more item, which wasn't there
+module _ {X : Type 0} (old new : List X) (x : X) (is : new ≡ old ++ x ∷ []) where
+  pub kept_on : (y : X) → Contains old y → Contains new y
+  kept_on y h = let P : List X → Type 0 = λ xs. Contains xs y in subst P (sym is) (Contains-append_left old (x ∷ []) y h)
+
+  pub added_on : Contains new x
+  added_on = let P : List X → Type 0 = λ xs. Contains xs x in subst P (sym is) (Contains-push old x)
+
+  pub only_on : (y : X) → Contains new y → Contains old y ⊎ (x ≡ y)
+  only_on y h = let P : List X → Type 0 = λ xs. Contains xs y in Contains-push_cases old x y (subst P is h)
+
+  pub once_on : (Contains old x → ⊥) → AllPairs (λ (a b : X). a ≡ b → ⊥) old → AllPairs (λ (a b : X). a ≡ b → ⊥) new
+  once_on none h =
+      let P : List X → Type 0 = λ xs. AllPairs (λ (a b : X). a ≡ b → ⊥) xs in
+      subst P (sym is) (all_pairs_push (λ (a b : X). a ≡ b → ⊥) old x h (λ k d lt at. none (k, lt, get_or_default old k x d lt ∙ at)))
+
+module _ (own : Hook) (leaf : Leaf) (old new : Takers) where
+  -- the policy of a hook that is named
+  pub takes_old_policy : step_of leaf ≡ None → new ≡ old → Contains old.policies.items own → Takes own leaf old new
+  takes_old_policy e same c =
+      let P : Takers → Type 0 = λ n. Takes own leaf old n in
+      let Q : Option Step → Type 0 = λ by. IsAmong old own by in
+      subst P (sym same) (record { grows = grows_same old; added = subst Q (sym e) c; only = λ hook by h. inl h })
+
+  -- and one that isn't
+  pub takes_policy : step_of leaf ≡ None → (Contains old.policies.items own → ⊥) → new.policies.items ≡ old.policies.items ++ own ∷ [] → new.rules.items ≡ old.rules.items → Takes own leaf old new
+  takes_policy e none is rules = record {
+    grows = record { kept = kept; once = λ h. subst O (sym rules) h; apart = once_on old.policies.items new.policies.items own is none };
+    added = (let Q : Option Step → Type 0 = λ by. IsAmong new own by in subst Q (sym e) (added_on old.policies.items new.policies.items own is));
     only = only;
   }
     where
       O : List Step → Type 0
       O items = AllPairs (λ (a b : Step). a ≡ b → ⊥) items
 
-      kept : (by : Option Step) → IsAmong old by → IsAmong new by
-      kept None h = now
-      kept (Some x) h = let P : List Step → Type 0 = λ xs. Contains xs x in subst P (sym same) h
+      kept : (hook : Hook) (by : Option Step) → IsAmong old hook by → IsAmong new hook by
+      kept hook None h = kept_on old.policies.items new.policies.items own is hook h
+      kept hook (Some x) h = let P : List Step → Type 0 = λ xs. Contains xs x in subst P (sym rules) h
 
-      only : (by : Option Step) → IsAmong new by → IsAmong old by ⊎ (step_of leaf ≡ by)
-      only None h = inr e
-      only (Some x) h = let P : List Step → Type 0 = λ xs. Contains xs x in inl (subst P same h)
+      only : (hook : Hook) (by : Option Step) → IsAmong new hook by → IsAmong old hook by ⊎ IsByThis own leaf hook by
+      only hook None h = elim (only_on old.policies.items new.policies.items own is hook h) [
+        | inl c ↦ inl c
+        | inr same ↦ inr (record { decides = e; there = λ _. sym same })
+      ]
+      only hook (Some x) h = let P : List Step → Type 0 = λ xs. Contains xs x in inl (subst P rules h)
 
   module _ (step : Step) (e : step_of leaf ≡ Some step) where
-    pub takes_known : new ≡ old → Contains old.rules.items step → Takes leaf old new
-    takes_known same c = let P : Takers → Type 0 = λ n. Takes leaf old n in subst P (sym same) (record { grows = grows_same old; added = subst (IsAmong old) (sym e) c; only = λ by h. inl h })
+    not_none : (x : Step) → Some x ≡ None → ⊥
+    not_none x h = none_some (sym h)
 
-    pub takes_new : (Contains old.rules.items step → ⊥) → new.rules.items ≡ old.rules.items ++ step ∷ [] → new.policy ≡ old.policy → Takes leaf old new
-    takes_new none is policy = record {
-      grows = record { kept = kept; once = λ h. subst O (sym is) (all_pairs_push (λ (a b : Step). a ≡ b → ⊥) old.rules.items step h not_there) };
-      added = subst (IsAmong new) (sym e) (let P : List Step → Type 0 = λ xs. Contains xs step in subst P (sym is) (Contains-push old.rules.items step));
+    -- a rule that is named
+    pub takes_known : new ≡ old → Contains old.rules.items step → Takes own leaf old new
+    takes_known same c =
+        let P : Takers → Type 0 = λ n. Takes own leaf old n in
+        let Q : Option Step → Type 0 = λ by. IsAmong old own by in
+        subst P (sym same) (record { grows = grows_same old; added = subst Q (sym e) c; only = λ hook by h. inl h })
+
+    -- and one that isn't
+    pub takes_new : (Contains old.rules.items step → ⊥) → new.rules.items ≡ old.rules.items ++ step ∷ [] → new.policies.items ≡ old.policies.items → Takes own leaf old new
+    takes_new none is policies = record {
+      grows = record { kept = kept; once = once_on old.rules.items new.rules.items step is none; apart = λ h. subst O (sym policies) h };
+      added = (let Q : Option Step → Type 0 = λ by. IsAmong new own by in subst Q (sym e) (added_on old.rules.items new.rules.items step is));
       only = only;
     }
       where
-        O : List Step → Type 0
-        O items = AllPairs (λ (a b : Step). a ≡ b → ⊥) items
+        O : List Hook → Type 0
+        O items = AllPairs (λ (a b : Hook). a ≡ b → ⊥) items
 
-        not_there : (k : ℕ) (d : Step) → k < length old.rules.items → get_or old.rules.items k d ≡ step → ⊥
-        not_there k d lt at = none (k, lt, get_or_default old.rules.items k step d lt ∙ at)
+        kept : (hook : Hook) (by : Option Step) → IsAmong old hook by → IsAmong new hook by
+        kept hook None h = let P : List Hook → Type 0 = λ xs. Contains xs hook in subst P (sym policies) h
+        kept hook (Some x) h = kept_on old.rules.items new.rules.items step is x h
 
-        kept : (by : Option Step) → IsAmong old by → IsAmong new by
-        kept None h = policy ∙ h
-        kept (Some x) h = let P : List Step → Type 0 = λ xs. Contains xs x in subst P (sym is) (Contains-append_left old.rules.items (step ∷ []) x h)
-
-        only : (by : Option Step) → IsAmong new by → IsAmong old by ⊎ (step_of leaf ≡ by)
-        only None h = inl (sym policy ∙ h)
-        only (Some x) h =
-            let P : List Step → Type 0 = λ xs. Contains xs x in
-            elim (Contains-push_cases old.rules.items step x (subst P is h)) [
-              | inl c ↦ inl c
-              | inr same ↦ inr (e ∙ ap Some same)
-            ]
+        only : (hook : Hook) (by : Option Step) → IsAmong new hook by → IsAmong old hook by ⊎ IsByThis own leaf hook by
+        only hook None h = let P : List Hook → Type 0 = λ xs. Contains xs hook in inl (subst P policies h)
+        only hook (Some x) h = elim (only_on old.rules.items new.rules.items step is x h) [
+          | inl c ↦ inl c
+          | inr same ↦ inr (record { decides = e ∙ ap Some same; there = λ n. absurd (not_none x n) })
+        ]
 
 -- leaf after leaf
-module _ (leaves : List Leaf) (i : ℕ) (leaf : Leaf) (lt : i < length leaves) (is : leaf ≡ get_or leaves i leaf) (first old new : Takers) (takes : Takes leaf old new) where
+module _ (own : Hook) (leaves : List Leaf) (i : ℕ) (leaf : Leaf) (lt : i < length leaves) (is : leaf ≡ get_or leaves i leaf) (first old new : Takers) (takes : Takes own leaf old new) where
   abbrev Own : Takers → Leaf → Type 0
-  Own takers l = IsAmong takers (step_of l)
+  Own takers l = IsAmong takers own (step_of l)
 
-  pub added_next : ((k : ℕ) (d : Leaf) → k < i → IsAmong old (step_of (get_or leaves k d))) → (k : ℕ) (d : Leaf) → k < i + 1 → IsAmong new (step_of (get_or leaves k d))
-  added_next below = items_next (Own new) leaves i leaf lt is (λ k d less. takes.grows.kept (step_of (get_or leaves k d)) (below k d less)) takes.added
+  pub added_next : ((k : ℕ) (d : Leaf) → k < i → IsAmong old own (step_of (get_or leaves k d))) → (k : ℕ) (d : Leaf) → k < i + 1 → IsAmong new own (step_of (get_or leaves k d))
+  added_next below = items_next (Own new) leaves i leaf lt is (λ k d less. takes.grows.kept own (step_of (get_or leaves k d)) (below k d less)) takes.added
 
-  pub only_next : ((by : Option Step) → IsAmong old by → IsAmong first by ⊎ Any (λ (l : Leaf). step_of l ≡ by) leaves) → (by : Option Step) → IsAmong new by → IsAmong first by ⊎ Any (λ (l : Leaf). step_of l ≡ by) leaves
-  only_next below by h = elim (takes.only by h) [
-    | inl before ↦ below by before
+  pub only_next : ((hook : Hook) (by : Option Step) → IsAmong old hook by → IsAmong first hook by ⊎ Any (λ (l : Leaf). IsByThis own l hook by) leaves) → (hook : Hook) (by : Option Step) → IsAmong new hook by
+      → IsAmong first hook by ⊎ Any (λ (l : Leaf). IsByThis own l hook by) leaves
+  only_next below hook by h = elim (takes.only hook by h) [
+    | inl before ↦ below hook by before
     | inr e ↦ inr (i, leaf, lt, sym is, e)
   ]
 
 -- ---- hook after hook
 
 module _ (t : Table) (step : Step) where
-  pub nobody_takes : (takers : Takers) → takers.rules.items ≡ [] → takers.policy ≡ false → AllTake t step takers
-  nobody_takes takers none off None h = absurd (true≢false (sym h ∙ off))
-  nobody_takes takers none off (Some x) h = absurd (omega (arith, h.1, ap (λ (xs : List Step). length xs) none))
+  pub nobody_takes : (takers : Takers) → takers.rules.items ≡ [] → takers.policies.items ≡ [] → AllTake t step takers
+  nobody_takes takers none off hook None h = absurd (omega (arith, h.1, ap (λ (xs : List Hook). length xs) off))
+  nobody_takes takers none off hook (Some x) h = absurd (omega (arith, h.1, ap (λ (xs : List Step). length xs) none))
 
   -- a hook from which nothing leads to the rule's chain
   pub unled_at : (takers : Takers) (hook : Hook) → (IsLed t step hook → ⊥) → IsTakenAt t step takers hook
@@ -175,8 +206,8 @@ module _ (t : Table) (step : Step) where
   taken_on hook a b g at = record {
     dead = at.dead;
     decided = λ led p m. elim (at.decided led p m) [
-      | inl policy ↦ inl (g.kept None policy.0, policy.1)
-      | inr w ↦ (let c = g.kept (Some w.1) (w.0, w.2, w.3) in inr (c.0, w.1, c.1, c.2, w.4))
+      | inl policy ↦ inl (g.kept p.hook None policy.0, policy.1)
+      | inr w ↦ (let c = g.kept p.hook (Some w.1) (w.0, w.2, w.3) in inr (c.0, w.1, c.1, c.2, w.4))
     ];
   }
 
@@ -188,41 +219,51 @@ module _ (t : Table) (step : Step) where
         let P : Option Step → Type 0 = λ o. IfSome o (IsRule t) in
         (subst P e (decider_is_rule t p leaf s walked), ap decider_of walked ∙ decider_shown t.chains leaf ∙ ap (option_map (entry_of t.chains)) e)
 
-    among_of : (p : Packet) (takers : Takers) (by : Option Step) → MatchOption by (IsTrue (walk t p).by_policy) (λ taker. IsRule t taker × IsDecidedBy t p taker) → IsAmong takers by → IsDecidedAmong t takers p
+    among_of : (p : Packet) (takers : Takers) (by : Option Step) → MatchOption by (IsTrue (walk t p).by_policy) (λ taker. IsRule t taker × IsDecidedBy t p taker) → IsAmong takers p.hook by → IsDecidedAmong t takers p
     among_of p takers None shown h = inl (h, shown)
     among_of p takers (Some x) shown h = inr (h.0, x, h.1, h.2, shown.1)
 
-    module _ (hook : Hook) (leaves : List Leaf) (old new : Takers) (before : AreBefore t step hook leaves) (takes : TakesAll leaves old new) where
+    module _ (hook : Hook) (leaves : List Leaf) (old new : Takers) (before : AreBefore t step hook leaves) (takes : TakesAll hook leaves old new) where
       pub taken_at : IsTakenAt t step new hook
       taken_at = record {
         dead = before.dead;
         decided = λ led p m. (
             let w = before.all p m in
             let own : IsDecided w.1 = All-contains IsDecided leaves w.1 before.decided (w.0, w.2, w.3) in
-            among_of p new (step_of w.1) (shown_by p w.1 (step_of w.1) w.4.walked own refl) (All-contains (λ (l : Leaf). IsAmong new (step_of l)) leaves w.1 takes.added (w.0, w.2, w.3)));
+            let there : IsAmong new hook (step_of w.1) = All-contains (λ (l : Leaf). IsAmong new hook (step_of l)) leaves w.1 takes.added (w.0, w.2, w.3) in
+            let P : Hook → Type 0 = λ h. IsAmong new h (step_of w.1) in
+            among_of p new (step_of w.1) (shown_by p w.1 (step_of w.1) w.4.walked own refl) (subst P (sym m.there) there));
       }
 
+      -- a packet of a leaf that this decides
+      taken_by : (at : Hook) (by : Option Step) (leaf : Leaf) → IsLed t step hook → IsByThis hook leaf at by → IsWalked t step hook leaf → IsDecided leaf → TakesOne t step at by
+      taken_by at None leaf led is one own =
+          let m : IsMatchedAt t step hook one.0 = one.1 in
+          let P : Hook → Type 0 = λ k. IsLed t step k in
+          (one.0, record { can = m.can; led = subst P (sym m.there) led; matched = m.matched }, (m.there ∙ sym (is.there refl), shown_by one.0 leaf None one.2 own is.decides))
+      taken_by at (Some x) leaf led is one own =
+          let m : IsMatchedAt t step hook one.0 = one.1 in
+          let P : Hook → Type 0 = λ k. IsLed t step k in
+          (one.0, record { can = m.can; led = subst P (sym m.there) led; matched = m.matched }, shown_by one.0 leaf (Some x) one.2 own is.decides)
+
       pub all_take : IsLed t step hook → AllTake t step old → AllTake t step new
-      all_take led below by h = elim (takes.only by h) [
-        | inl there ↦ below by there
-        | inr w ↦ (
-            let one = All-contains (IsWalked t step hook) leaves w.1 before.each (w.0, w.2, w.3) in
-            let m : IsMatchedAt t step hook one.0 = one.1 in
-            let own : IsDecided w.1 = All-contains IsDecided leaves w.1 before.decided (w.0, w.2, w.3) in
-            let P : Hook → Type 0 = λ k. IsLed t step k in
-            (one.0, record { can = m.can; led = subst P (sym m.there) led; matched = m.matched }, shown_by one.0 w.1 by one.2 own w.4))
+      all_take led below at by h = elim (takes.only at by h) [
+        | inl there ↦ below at by there
+        | inr w ↦ taken_by at by w.1 led w.4 (All-contains (IsWalked t step hook) leaves w.1 before.each (w.0, w.2, w.3)) (All-contains IsDecided leaves w.1 before.decided (w.0, w.2, w.3))
       ]
 
     -- of all hooks
-    pub taken_of : (takers : Takers) → ((hook : Hook) → IsTakenAt t step takers hook) → AllTake t step takers → AllPairs (λ (a b : Step). a ≡ b → ⊥) takers.rules.items → IsDead t (entry_of t.chains step) × IsTaken t step takers
-    taken_of takers at each once = (
+    pub taken_of : (takers : Takers) → ((hook : Hook) → IsTakenAt t step takers hook) → AllTake t step takers → AllPairs (λ (a b : Step). a ≡ b → ⊥) takers.rules.items
+        → AllPairs (λ (a b : Hook). a ≡ b → ⊥) takers.policies.items → IsDead t (entry_of t.chains step) × IsTaken t step takers
+    taken_of takers at each once apart = (
       λ p can on. (at p.hook).dead p can refl on,
       record {
         all = λ p m. (at p.hook).decided m.led p (record { can = m.can; there = refl; matched = m.matched });
-        each = λ k d lt. (let own = each (Some (get_or takers.rules.items k d)) (Contains-get_or takers.rules.items k d lt) in (own.0, own.1, own.2.1));
-        policy = each None;
-        rules = λ k d lt. (each (Some (get_or takers.rules.items k d)) (Contains-get_or takers.rules.items k d lt)).2.0;
+        each = λ k d lt. (let own = each Input (Some (get_or takers.rules.items k d)) (Contains-get_or takers.rules.items k d lt) in (own.0, own.1, own.2.1));
+        policies = λ k d lt. (let own = each (get_or takers.policies.items k d) None (Contains-get_or takers.policies.items k d lt) in (own.0, own.1, own.2.0, own.2.1));
+        rules = λ k d lt. (each Input (Some (get_or takers.rules.items k d)) (Contains-get_or takers.rules.items k d lt)).2.0;
         once = once;
+        apart = apart;
       },
     )
 
@@ -240,16 +281,16 @@ hooks_all P all Output = all 2 Input (omega arith)
 -- ---- what is said
 
 -- takers that decide something have a packet
-pub packet_of_policy : (t : Table) (step : Step) (takers : Takers) → IsTaken t step takers → takers.policy ≡ true → HasPacket t step
-packet_of_policy t step takers is h = let own = is.policy h in (own.0, own.1)
+pub packet_of_policy : (t : Table) (step : Step) (takers : Takers) → IsTaken t step takers → 0 < length takers.policies.items → HasPacket t step
+packet_of_policy t step takers is h = let own = is.policies 0 Input h in (own.0, own.1)
 
 pub packet_of_rule : (t : Table) (step : Step) (takers : Takers) → IsTaken t step takers → 0 < length takers.rules.items → HasPacket t step
 packet_of_rule t step takers is h =
     let d : Step = step in
     let own = is.each 0 d h in (own.0, own.1)
 
-pub no_packet : (t : Table) (step : Step) (takers : Takers) → IsTaken t step takers → takers.rules.items ≡ [] → takers.policy ≡ false → HasPacket t step → ⊥
+pub no_packet : (t : Table) (step : Step) (takers : Takers) → IsTaken t step takers → takers.rules.items ≡ [] → takers.policies.items ≡ [] → HasPacket t step → ⊥
 no_packet t step takers is none off w = elim (is.all w.0 w.1) [
-  | inl policy ↦ true≢false (sym policy.0 ∙ off)
+  | inl policy ↦ absurd (omega (arith, policy.0.1, ap (λ (xs : List Hook). length xs) off))
   | inr own ↦ absurd (omega (arith, own.2, ap (λ (xs : List Step). length xs) none))
 ]

@@ -44,18 +44,23 @@ IsUnreached t step = (hook : Hook) → IsLed t step hook → ⊥
 abbrev pub IsDecidedBy : Table → Packet → Step → Type 0
 IsDecidedBy t p by = decider_of (walk t p) ≡ Some (entry_of t.chains by)
 
--- one of the rules decides the packet's walk, or the policy, if it is named
+-- one of the rules decides the packet's walk, or the policy of its hook, if that is named
 abbrev pub IsDecidedAmong : Table → Takers → Packet → Type 0
-IsDecidedAmong t takers p = (IsTrue takers.policy × IsTrue (walk t p).by_policy) ⊎ Any (IsDecidedBy t p) takers.rules.items
+IsDecidedAmong t takers p = (Contains takers.policies.items p.hook × IsTrue (walk t p).by_policy) ⊎ Any (IsDecidedBy t p) takers.rules.items
+
+-- a policy of a hook decides a packet that might come to the rule and would match it
+abbrev pub IsTakenByPolicy : Table → Step → Hook → Type 0
+IsTakenByPolicy t step hook = (p : Packet) × IsMeantFor t step p × (p.hook ≡ hook) × IsTrue (walk t p).by_policy
 
 -- just these decide the packets that might come to the rule and would match it: each of the packets is decided by one of them, and each of them
 -- decides some packet; they are rules of the table, each named once
 pub record IsTaken (t : Table) (step : Step) (takers : Takers) : Type 0 where
   pub all : (p : Packet) → IsMeantFor t step p → IsDecidedAmong t takers p
   pub each : All (λ by. (p : Packet) × IsMeantFor t step p × IsDecidedBy t p by) takers.rules.items
-  pub policy : IsTrue takers.policy → (p : Packet) × IsMeantFor t step p × IsTrue (walk t p).by_policy
+  pub policies : All (IsTakenByPolicy t step) takers.policies.items
   pub rules : All (IsRule t) takers.rules.items
   pub once : AllPairs (λ a b. a ≡ b → ⊥) takers.rules.items
+  pub apart : AllPairs (λ a b. a ≡ b → ⊥) takers.policies.items
 
 -- a rule jumps or goes to the chain of the rule of a step
 pub record LeadsTo (t : Table) (step by : Step) : Type 0 where

@@ -47,35 +47,41 @@ pub record AreBefore (t : Table) (step : Step) (hook : Hook) (leaves : List Leaf
   pub each : All (IsWalked t step hook) leaves
   pub decided : All IsDecided leaves
 
--- who decides a leaf is among them
-abbrev pub IsAmong : Takers → Option Step → Type 0
-IsAmong takers by = MatchOption by (IsTrue takers.policy) (Contains takers.rules.items)
+-- who decides a leaf of packets at a hook is among them
+abbrev pub IsAmong : Takers → Hook → Option Step → Type 0
+IsAmong takers hook by = MatchOption by (Contains takers.policies.items hook) (Contains takers.rules.items)
+
+-- the leaf of packets at one hook is decided by this, at another: by the rule, or by the policy of the same hook
+pub record IsByThis (own : Hook) (leaf : Leaf) (hook : Hook) (by : Option Step) : Type 0 where
+  pub decides : step_of leaf ≡ by
+  pub there : by ≡ None → hook ≡ own
 
 -- more of them
 pub record Grows (old new : Takers) : Type 0 where
-  pub kept : (by : Option Step) → IsAmong old by → IsAmong new by
+  pub kept : (hook : Hook) (by : Option Step) → IsAmong old hook by → IsAmong new hook by
   pub once : AllPairs (λ a b. a ≡ b → ⊥) old.rules.items → AllPairs (λ a b. a ≡ b → ⊥) new.rules.items
+  pub apart : AllPairs (λ a b. a ≡ b → ⊥) old.policies.items → AllPairs (λ a b. a ≡ b → ⊥) new.policies.items
 
--- with who decides a leaf, and nobody else
-pub record Takes (leaf : Leaf) (old new : Takers) : Type 0 where
+-- with who decides a leaf of packets at a hook, and nobody else
+pub record Takes (own : Hook) (leaf : Leaf) (old new : Takers) : Type 0 where
   pub grows : Grows old new
-  pub added : IsAmong new (step_of leaf)
-  pub only : (by : Option Step) → IsAmong new by → IsAmong old by ⊎ (step_of leaf ≡ by)
+  pub added : IsAmong new own (step_of leaf)
+  pub only : (hook : Hook) (by : Option Step) → IsAmong new hook by → IsAmong old hook by ⊎ IsByThis own leaf hook by
 
 -- with those who decide all leaves, and nobody else
-pub record TakesAll (leaves : List Leaf) (old new : Takers) : Type 0 where
+pub record TakesAll (own : Hook) (leaves : List Leaf) (old new : Takers) : Type 0 where
   pub grows : Grows old new
-  pub added : All (λ leaf. IsAmong new (step_of leaf)) leaves
-  pub only : (by : Option Step) → IsAmong new by → IsAmong old by ⊎ Any (λ leaf. step_of leaf ≡ by) leaves
+  pub added : All (λ leaf. IsAmong new own (step_of leaf)) leaves
+  pub only : (hook : Hook) (by : Option Step) → IsAmong new hook by → IsAmong old hook by ⊎ Any (λ leaf. IsByThis own leaf hook by) leaves
 
--- the packet might come to the rule and would match it, and this rule, or the policy, decides it
-abbrev pub TakesOne : Table → Step → Option Step → Type 0
-TakesOne t step by =
-    (p : Packet) × IsMeantFor t step p × MatchOption by (IsTrue (walk t p).by_policy) (λ taker. IsRule t taker × IsDecidedBy t p taker)
+-- the packet might come to the rule and would match it, and this rule, or the policy of this hook, decides it
+abbrev pub TakesOne : Table → Step → Hook → Option Step → Type 0
+TakesOne t step hook by =
+    (p : Packet) × IsMeantFor t step p × MatchOption by ((p.hook ≡ hook) × IsTrue (walk t p).by_policy) (λ taker. IsRule t taker × IsDecidedBy t p taker)
 
 -- each of them decides such a packet
 abbrev pub AllTake : Table → Step → Takers → Type 0
-AllTake t step takers = (by : Option Step) → IsAmong takers by → TakesOne t step by
+AllTake t step takers = (hook : Hook) (by : Option Step) → IsAmong takers hook by → TakesOne t step hook by
 
 -- the rule is dead at the hook, and if this leads to the rule's chain, they decide the packets there that it matches
 pub record IsTakenAt (t : Table) (step : Step) (takers : Takers) (hook : Hook) : Type 0 where

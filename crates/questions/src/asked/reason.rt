@@ -56,7 +56,7 @@ fn decide_nothing(takers: &Takers) -> bool
     ensures none { IsTrue result → (t : Filter) (step : Place) → IsTaken t step takers.now → HasPacket t step → ⊥ }
     ensures some { result ≡ false → (t : Filter) (step : Place) → IsTaken t step takers.now → HasPacket t step }
 {
-    if takers.policy {
+    if !takers.policies.as_slice().is_empty() {
         return false;
     }
     takers.rules.as_slice().is_empty()

@@ -18,24 +18,27 @@ use fields::Hook;
 use std::alloc::{AllocError, Global};
 use table::Step;
 
-/// Who decides some packets: rules, each named once, and policies or none.
+/// Who decides some packets: rules and policies, each named once.
 #[derive(Drop)]
 pub struct Takers {
     /// The rules.
     pub rules: Vec<Step>,
-    /// Whether a policy decides some of the packets.
-    pub policy: bool,
+    /// The hooks whose policies decide some of the packets there.
+    pub policies: Vec<Hook>,
 }
 
 impl Takers {
     ghost use Rattle.questions.specs.steps.Takers.{Takes, TakesAll};
 
-    // Adds who decides a leaf.
-    fn add(&mut self, leaf: &Leaf) -> Result<(), AllocError>
-        ensures { OnOk result (Takes leaf.now self.old self.new) }
+    // Adds who decides a leaf of packets at a hook.
+    fn add(&mut self, hook: Hook, leaf: &Leaf) -> Result<(), AllocError>
+        ensures { OnOk result (Takes hook leaf.now self.old self.new) }
     {
         let Some(step) = leaf.decider() else {
-            self.policy = true;
+            if self.policies.contains(&hook) {
+                return Ok(());
+            }
+            self.policies.push(hook)?;
             return Ok(());
         };
         if self.rules.contains(&step) {
@@ -45,12 +48,12 @@ impl Takers {
         Ok(())
     }
 
-    // Adds who decides any of the leaves.
-    fn add_all(&mut self, found: &[Leaf]) -> Result<(), AllocError>
-        ensures { OnOk result (TakesAll found.now self.old self.new) }
+    // Adds who decides any of the leaves of packets at a hook.
+    fn add_all(&mut self, hook: Hook, found: &[Leaf]) -> Result<(), AllocError>
+        ensures { OnOk result (TakesAll hook found.now self.old self.new) }
     {
         for leaf in found {
-            self.add(leaf)?;
+            self.add(hook, leaf)?;
         }
         Ok(())
     }
@@ -120,7 +123,7 @@ pub(crate) fn takers_of(
     subject.table.stands();
     let mut takers = Takers {
         rules: Vec::new(alloc),
-        policy: false,
+        policies: Vec::new(alloc),
     };
     for hook in Hook::ALL {
         if !is_led(marks, hook) {
@@ -128,7 +131,7 @@ pub(crate) fn takers_of(
         }
         match walks_before(alloc, subject, hook, step, budget)? {
             None => return Ok(None),
-            Some(found) => takers.add_all(found.as_slice())?,
+            Some(found) => takers.add_all(hook, found.as_slice())?,
         }
     }
     Ok(Some(takers))

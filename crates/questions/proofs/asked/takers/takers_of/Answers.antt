@@ -13,8 +13,9 @@ use Rattle.questions.proofs.asked.takers.takers_of.Goals as goal
 pub loop-hook-init : goal.loop-hook-init
 loop-hook-init c = record {
   hooks = λ k h lt. absurd (omega (arith, lt));
-  each = nobody_takes c.args.subject.now.table.table c.args.step (record { rules = c.new.result; policy = false }) c.new.ensures.items refl;
+  each = nobody_takes c.args.subject.now.table.table c.args.step (record { rules = c.new.result; policies = c.new-2.result }) c.new.ensures.items c.new-2.ensures.items;
   once = λ i j d lt within. absurd (omega (arith, within, c.new.ensures.len));
+  apart = λ i j d lt within. absurd (omega (arith, within, c.new-2.ensures.len));
 }
 
 -- a hook from which nothing leads to the rule's chain
@@ -32,6 +33,7 @@ loop-hook-preserved-then-not-is_led c =
       hooks = hooks_next t step takers takers i Input lt (grows_same takers) (unled_at t step takers hook none) c.loop-hook.invariant.hooks;
       each = c.loop-hook.invariant.each;
       once = c.loop-hook.invariant.once;
+      apart = c.loop-hook.invariant.apart;
     }
 
 pub loop-hook-preserved : goal.loop-hook-preserved
@@ -46,16 +48,17 @@ loop-hook-preserved c =
     let new = c.add_all.new.self in
     let lt : i < 3 = omega (arith, c.loop-hook-test.true) in
     let before : AreBefore t step hook c.in-Some.found.items = rw c.in-Some.is at c.in_ok-walks_before.ensures in
-    let takes : TakesAll c.in-Some.found.items old new = rw c.as_slice.ensures.value at c.in_ok-add_all-in-Some.ensures in
+    let takes : TakesAll hook c.in-Some.found.items old new = rw c.as_slice.ensures.value at c.in_ok-add_all-in-Some.ensures in
     let led : IsLed t step hook = hook_leads t name c.args.marks.now hook s c.requires.marks (sym c.is_led.ensures ∙ c.if-not-is_led.false) in
     record {
       hooks = hooks_next t step old new i Input lt takes.grows (taken_at t step s hook c.in-Some.found.items old new before takes) c.loop-hook.invariant.hooks;
       each = all_take t step s hook c.in-Some.found.items old new before takes led c.loop-hook.invariant.each;
       once = takes.grows.once c.loop-hook.invariant.once;
+      apart = takes.grows.apart c.loop-hook.invariant.apart;
     }
 
 pub returns : goal.returns
 returns c =
     let t = c.args.subject.now.table.table in
     let takers = c.loop-hook.takers in
-    taken_of t c.args.step c.stands.ensures.sound takers (hooks_all (IsTakenAt t c.args.step takers) (λ k h lt. c.loop-hook.invariant.hooks k h (omega (arith, lt)))) c.loop-hook.invariant.each c.loop-hook.invariant.once
+    taken_of t c.args.step c.stands.ensures.sound takers (hooks_all (IsTakenAt t c.args.step takers) (λ k h lt. c.loop-hook.invariant.hooks k h (omega (arith, lt)))) c.loop-hook.invariant.each c.loop-hook.invariant.once c.loop-hook.invariant.apart

@@ -11,4 +11,5 @@ invariant-loop-hook l = record {
   hooks : (k : ℕ) (h : Hook) → k < l.hook-index → IsTakenAt l.subject.table.table l.fn.step l.takers (get_or all_hooks k h);
   each : AllTake l.subject.table.table l.fn.step l.takers;
   once : AllPairs (λ (a b : Step). a ≡ b → ⊥) l.takers.rules.items;
+  apart : AllPairs (λ (a b : Hook). a ≡ b → ⊥) l.takers.policies.items;
 }

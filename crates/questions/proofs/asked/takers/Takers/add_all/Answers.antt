@@ -3,7 +3,7 @@ use Rattle.questions.proofs.laws.TakerLaws.{added_next, grows_on, grows_same, on
 use Rattle.questions.proofs.asked.takers.Takers.add_all.Goals as goal
 
 pub loop-leaf-init : goal.loop-leaf-init
-loop-leaf-init c = record { grows = grows_same c.args.self.now; added = λ k d lt. absurd (omega (arith, lt)); only = λ by h. inl h }
+loop-leaf-init c = record { grows = grows_same c.args.self.now; added = λ k d lt. absurd (omega (arith, lt)); only = λ hook by h. inl h }
 
 pub loop-leaf-preserved : goal.loop-leaf-preserved
 loop-leaf-preserved c =
@@ -12,6 +12,6 @@ loop-leaf-preserved c =
     let new = c.add.new.self in
     record {
       grows = grows_on first old new c.loop-leaf.invariant.grows c.in_ok-add.ensures.grows;
-      added = added_next c.args.found.now c.loop-leaf.leaf-index c.leaf-item.result (omega arith) c.leaf-item.is first old new c.in_ok-add.ensures c.loop-leaf.invariant.added;
-      only = only_next c.args.found.now c.loop-leaf.leaf-index c.leaf-item.result (omega arith) c.leaf-item.is first old new c.in_ok-add.ensures c.loop-leaf.invariant.only;
+      added = added_next c.args.hook c.args.found.now c.loop-leaf.leaf-index c.leaf-item.result (omega arith) c.leaf-item.is first old new c.in_ok-add.ensures c.loop-leaf.invariant.added;
+      only = only_next c.args.hook c.args.found.now c.loop-leaf.leaf-index c.leaf-item.result (omega arith) c.leaf-item.is first old new c.in_ok-add.ensures c.loop-leaf.invariant.only;
     }
