@@ -3,6 +3,7 @@ ghost use Rattle.std.specs.Prelude.{◌<◌, ◌≤◌, length};
 ghost use Rattle.table.specs.chains.Table.{chain_at};
 
 use crate::asking::Asking;
+use crate::deciding::standing_of;
 use crate::fault::Fault;
 use crate::marks::Marks;
 use crate::packet_line::put_packet;
@@ -10,7 +11,7 @@ use crate::reason_line::put_reason;
 use crate::rule_line::put_rule;
 use crate::tally::Tally;
 use fields::{Tap, WriteFailed};
-use questions::{BoxedTable, Life};
+use questions::{BoxedTable, Life, Reason};
 use std::io::{IsTerminal, Write};
 use std::rt::Clock;
 use table::{Step, Table};
@@ -91,12 +92,22 @@ impl<'a> Form<'a> {
     }
 }
 
+// Counts what a dead rule is beside those who decide its packets.
+fn note_standing(table: &Table, at: Step, reason: &Reason, tally: &mut Tally) {
+    if let Reason::Taken(takers) = reason {
+        if let Some(standing) = standing_of(table, at, takers) {
+            tally.note_standing(standing);
+        }
+    }
+}
+
 // Writes why a rule that is dead is so, if that is known and asked for.
 fn write_reason<'a, R: Clock, E: Print + IsTerminal, W: Write>(
     asking: &Asking<'_, R, E>,
     subject: &BoxedTable,
     form: Form<'_>,
     at: Step,
+    tally: &mut Tally,
     output: &mut Tap<W>,
 ) -> Result<(), Fault<'a>>
     requires place { at.chain < length subject.now.table.table.chains }
@@ -105,6 +116,7 @@ fn write_reason<'a, R: Clock, E: Print + IsTerminal, W: Write>(
 {
     if form.has_reasons() {
         if let Some(reason) = asking.reason(subject, at)? {
+            note_standing(&subject.table, at, &reason, tally);
             put_reason(&subject.table, at.chain, &reason, output)?;
         }
     }
@@ -133,7 +145,7 @@ fn write_rule<'a, R: Clock, E: Print + IsTerminal, W: Write>(
     tally.note(&life);
     form.put(&subject.table, at, &life, output)?;
     match life {
-        Life::Dead => write_reason(asking, subject, form, at, output),
+        Life::Dead => write_reason(asking, subject, form, at, tally, output),
         Life::Live(_) | Life::Unclear => Ok(()),
     }
 }

@@ -3,6 +3,7 @@
 
 mod asked_packets;
 mod asking;
+mod deciding;
 mod difference;
 mod each_rule;
 mod fault;

@@ -11,7 +11,11 @@ use std::io::{IsTerminal, Write};
 use std::rt::Clock;
 use table::{Step, Table, Verdict};
 
-fn put_verdict<W: Write>(verdict: Verdict, output: &mut Tap<W>) -> Result<(), WriteFailed> {
+/// Writes a verdict: `ACCEPT`, or `REJECT icmp-port-unreachable`.
+pub(crate) fn put_verdict<W: Write>(
+    verdict: Verdict,
+    output: &mut Tap<W>,
+) -> Result<(), WriteFailed> {
     match verdict {
         Verdict::Accept => output.put(b"ACCEPT"),
         Verdict::Drop => output.put(b"DROP"),

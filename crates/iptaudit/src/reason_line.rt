@@ -1,12 +1,14 @@
 //! The line that says why a rule is dead.
 ghost use Rattle.std.specs.Prelude.{◌<◌, length};
 
+use crate::deciding::{policy_of, verdict_of};
+use crate::outcomes::put_verdict;
 use crate::rule_line::put_rule_name;
-use fields::{Tap, WriteFailed};
+use fields::{Hook, Tap, WriteFailed};
 use itoa::Buffer;
 use questions::{Reason, Takers};
 use std::io::Write;
-use table::{Step, Table};
+use table::{Step, Table, Verdict};
 
 // How many rules are named at most.
 const NAMED: usize = 5;
@@ -35,11 +37,37 @@ fn next_after(place: usize, rules: &[Step], last: Option<Step>) -> Option<Step> 
     next
 }
 
+// Writes what is done: ` (DROP)`.
+fn put_what<W: Write>(verdict: Verdict, output: &mut Tap<W>) -> Result<(), WriteFailed> {
+    output.put(b" (")?;
+    put_verdict(verdict, output)?;
+    output.put(b")")
+}
+
+// Writes a rule, and what it does where it decides: `INPUT 1 (DROP)`.
+fn put_taker<W: Write>(table: &Table, rule: Step, output: &mut Tap<W>) -> Result<(), WriteFailed> {
+    put_rule_name(table, rule, output)?;
+    match verdict_of(table, rule) {
+        Some(verdict) => put_what(verdict, output),
+        None => Ok(()),
+    }
+}
+
+// How some rules are written.
+#[derive(Clone, Copy, PartialEq, Eq)]
+enum Naming {
+    // By their names.
+    Bare,
+    // With what they do.
+    Deciding,
+}
+
 // Writes the first of some rules, and how many more there are.
 fn put_rules<W: Write>(
     table: &Table,
     place: usize,
     rules: &[Step],
+    naming: Naming,
     output: &mut Tap<W>,
 ) -> Result<(), WriteFailed> {
     let mut last = None;
@@ -50,13 +78,51 @@ fn put_rules<W: Write>(
         if written > 0 {
             output.put(b", ")?;
         }
-        put_rule_name(table, rule, output)?;
+        match naming {
+            Naming::Bare => put_rule_name(table, rule, output)?,
+            Naming::Deciding => put_taker(table, rule, output)?,
+        }
         last = Some(rule);
     }
     if rules.len() > NAMED {
         let mut digits = Buffer::new();
         let more = digits.format(rules.len() - NAMED);
         output.put_all(&[b" and ", more.as_bytes(), b" more"])?;
+    }
+    Ok(())
+}
+
+// Whether the policies of all these hooks do this.
+fn all_do(table: &Table, hooks: &[Hook], verdict: Verdict) -> bool {
+    for hook in hooks {
+        if policy_of(table, *hook) != verdict {
+            return false;
+        }
+    }
+    true
+}
+
+// Writes the policies that decide: `the policy (DROP)`, or `the policies of INPUT (DROP) and OUTPUT (ACCEPT)` where they differ.
+fn put_policies<W: Write>(
+    table: &Table,
+    hooks: &[Hook],
+    output: &mut Tap<W>,
+) -> Result<(), WriteFailed> {
+    let Some(first) = hooks.first() else {
+        return Ok(());
+    };
+    let verdict = policy_of(table, *first);
+    if all_do(table, hooks, verdict) {
+        output.put(b"the policy")?;
+        return put_what(verdict, output);
+    }
+    output.put(b"the policies of ")?;
+    for (place, hook) in hooks.iter().enumerate() {
+        if place > 0 {
+            output.put(b" and ")?;
+        }
+        output.put(hook.name())?;
+        put_what(policy_of(table, *hook), output)?;
     }
     Ok(())
 }
@@ -69,18 +135,16 @@ fn put_takers<W: Write>(
     output: &mut Tap<W>,
 ) -> Result<(), WriteFailed> {
     let rules = takers.rules.as_slice();
-    put_rules(table, place, rules, output)?;
-    if takers.policy && !rules.is_empty() {
+    let hooks = takers.policies.as_slice();
+    put_rules(table, place, rules, Naming::Deciding, output)?;
+    if !hooks.is_empty() && !rules.is_empty() {
         output.put(b" and ")?;
     }
-    if takers.policy {
-        output.put(b"the policy")?;
-    }
-    Ok(())
+    put_policies(table, hooks, output)
 }
 
-/// Writes why a rule of the chain at a place is dead: `  taken by INPUT 1 and the policy`. Of many rules five are named, those of its
-/// chain first.
+/// Writes why a rule of the chain at a place is dead: `  taken by INPUT 1 (ACCEPT) and the policy (DROP)`. Of many rules five are
+/// named, those of its chain first.
 pub(crate) fn put_reason<W: Write>(
     table: &Table,
     place: usize,
@@ -95,6 +159,11 @@ pub(crate) fn put_reason<W: Write>(
         Reason::Unreached => output.put_all(&[b"  no rule leads to ", chain])?,
         Reason::NoPacket => {
             output.put_all(&[b"  no packet fits at the hooks that lead to ", chain])?
+        }
+        Reason::Excluded(ways) => {
+            output.put(b"  no packet that comes from ")?;
+            put_rules(table, place, ways.as_slice(), Naming::Bare, output)?;
+            output.put(b" fits")?
         }
         Reason::Taken(takers) => {
             output.put(b"  taken by ")?;

@@ -1,17 +1,20 @@
 //! How many rules there are of each kind.
+use crate::deciding::Standing;
 use fields::{Tap, WriteFailed};
 use itoa::Buffer;
 use questions::Life;
 use std::io::Write;
 
 /// How many rules match a packet that was given, how many of the others can match, how many can't, and of how many it isn't
-/// known.
+/// known; and of those that can't, how many are redundant and how many shadowed.
 #[derive(Drop)]
 pub(crate) struct Tally {
     covered: usize,
     live: usize,
     dead: usize,
     unclear: usize,
+    redundant: usize,
+    shadowed: usize,
 }
 
 impl Tally {
@@ -22,6 +25,8 @@ impl Tally {
             live: 0,
             dead: 0,
             unclear: 0,
+            redundant: 0,
+            shadowed: 0,
         }
     }
 
@@ -39,6 +44,14 @@ impl Tally {
         }
     }
 
+    /// Counts what a rule that can't match is beside those who decide its packets.
+    pub(crate) fn note_standing(&mut self, standing: Standing) {
+        match standing {
+            Standing::Redundant => self.redundant = self.redundant.saturating_add(1),
+            Standing::Shadowed => self.shadowed = self.shadowed.saturating_add(1),
+        }
+    }
+
     // How many rules there are.
     fn rules(&self) -> usize {
         self.covered
@@ -47,13 +60,24 @@ impl Tally {
             .saturating_add(self.unclear)
     }
 
-    /// Writes the line of the counts, without those of packets that were given: `23 rules, 1 dead, 0 unclear`.
+    /// Writes the line of the counts, without those of packets that were given: `23 rules, 1 dead, 0 unclear`; and, where a rule is
+    /// dead, another one: `1 redundant, 0 shadowed`.
     pub(crate) fn put<W: Write>(&self, output: &mut Tap<W>) -> Result<(), WriteFailed> {
         put_counts(
             &[
                 (self.rules(), b" rules, ".as_slice()),
                 (self.dead, b" dead, ".as_slice()),
                 (self.unclear, b" unclear\n".as_slice()),
+            ],
+            output,
+        )?;
+        if self.dead == 0 {
+            return Ok(());
+        }
+        put_counts(
+            &[
+                (self.redundant, b" redundant, ".as_slice()),
+                (self.shadowed, b" shadowed\n".as_slice()),
             ],
             output,
         )

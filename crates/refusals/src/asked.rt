@@ -138,7 +138,10 @@ pub fn lives(alloc: Global, refusals: &mut Refusals, subject: &BoxedTable) -> Re
     expect(matches!(&life, Life::Dead))?;
     match reason {
         Some(Reason::Taken(takers)) => {
-            expect(takers.rules.as_slice() == [FIRST].as_slice() && !takers.policy)
+            expect(
+                takers.rules.as_slice() == [FIRST].as_slice()
+                    && takers.policies.as_slice().is_empty(),
+            )
         }
         _ => Err(Trouble::OtherAnswer),
     }
