@@ -53,10 +53,12 @@ Takes (Rule ∷ os) A = rules.Rule → Takes os A
 -- the words are the operands, one for each, and a rule has all that are left; else a word is missing, or one is left over
 abbrev pub takes : {A : Type 0} → (os : List Operand) → Takes os A → Reader A
 takes [] made end [] = Ok made
+takes [] made end (w ∷ ws) = Err WordCount
+takes (Word ∷ os) make end [] = Err WordCount
 takes (Word ∷ os) make end (w ∷ ws) = takes os (make w) end ws
+takes (Number ∷ os) make end [] = Err WordCount
 takes (Number ∷ os) make end (w ∷ ws) = or_refused (refused refusal.BadValue) (number_of w) >>= λ n. takes os (make n) end ws
 takes (Rule ∷ os) make end words = refused_as refused (rule_of end words) >>= λ r. takes os (make r) end []
-takes os make end words = Err WordCount
 
 -- one or more digits
 abbrev pub is_digits : List ℕ → Bool
@@ -65,10 +67,11 @@ is_digits text = nat_lt 0 (length text) && list_all is_ascii_digit text
 -- the words fit the operands: none is missing, and a number is made of digits alone; a rule may have no words
 abbrev pub fits : List Operand → List (List ℕ) → Bool
 fits [] words = true
+fits (Word ∷ os) [] = false
 fits (Word ∷ os) (w ∷ ws) = fits os ws
+fits (Number ∷ os) [] = false
 fits (Number ∷ os) (w ∷ ws) = is_digits w && fits os ws
 fits (Rule ∷ os) words = true
-fits os words = false
 
 infix 5 if_fits◌then◌else◌
 -- these operands where the words fit them, or else others

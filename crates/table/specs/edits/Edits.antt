@@ -186,7 +186,8 @@ moved name chains = placed (record { name = name; rules = rules_of chains name }
 -- the policies with that of a built-in chain set, if the word names one
 abbrev pub policies_with : Option ℕ → Option Policy → List Policy → List Policy
 policies_with (Some k) (Some p) policies = slice_set policies k p
-policies_with k p policies = policies
+policies_with (Some k) None policies = policies
+policies_with None p policies = policies
 
 -- the table after the plain edit of its lists
 abbrev pub edited : Edit → Table → Table
