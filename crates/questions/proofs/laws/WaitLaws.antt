@@ -2,6 +2,7 @@
 use Rattle.std.proofs.Common.{◌≡◌, inl, inr, ◌⊎◌, ℕ, zero, suc, ◌+◌, ◌-◌, ◌<◌, ◌≤◌, true, false, List, [], ◌∷◌, ◌++◌, length, get_or, take, map, refl, sym, ◌∙◌, ap, arith, subst, Option, Some, None, All, Contains}
 use Rattle.std.specs.Prelude.{Any, slice_get}
 use Rattle.std.specs.List.{list_any, position}
+use Rattle.std.proofs.Math.Numerals.{add-one}
 use Rattle.std.proofs.lemmas.Bool.{cases_Bool, cond-false, or_parts, true≢false}
 use Rattle.std.proofs.lemmas.List.{reverse-append, map-append}
 use Rattle.std.proofs.lemmas.List.Elements.{All-nil, All-cons, All-pop, All-push, Contains-append_left, Contains-push, Contains-push_cases, Contains-get_or}
@@ -29,6 +30,7 @@ use Rattle.table.proofs.laws.walk.CaseLaws.{walk_is}
 use Rattle.questions.specs.Leaves.{name_at, entry_of, entries_of, walked_of, EndsIn, AreLeavesOf}
 use Rattle.questions.specs.boxes.Area.{Has, IsAtHook}
 use Rattle.questions.specs.boxes.Cut.{IsInSome, IsCut, IsPartedFor, IsApart}
+use Rattle.questions.specs.steps.Taken.{GetsTo, IsStep, Takes}
 use Rattle.questions.specs.steps.Waiting.{rest_of, rests_of, behind, Reaches, stage_of, WaitsIn, IsAccounted, IsThere, AreThere, IsAsked, Keeps, Moves, PassesOver, Begins, entry_before}
 use Rattle.questions.specs.declared.walking.front.Front.{Front}
 use Rattle.questions.specs.declared.walking.task.Leaf.{Leaf}
@@ -63,16 +65,15 @@ any_same {X} P xs zs e a = let Q : List X → Type 0 = λ l. Any P l in subst Q 
 
 -- ---- a task more, a leaf more
 
-module _ (t : Table) (policy : Verdict) (old new : Front) (long : new.is_long ≡ old.is_long) where
+module _ (t : Table) (policy : Verdict) (old new : Front) where
   module _ (task : Task) (tasks : new.tasks.items ≡ old.tasks.items ++ task ∷ []) (leaves : new.leaves.items ≡ old.leaves.items) where
     kept_task : (p : Packet) → IsAccounted t p old → IsAccounted t p new
-    kept_task p (inl l) = inl (long ∙ l)
-    kept_task p (inr (inl a)) = inr (inl (any_kept (WaitsIn t p) old.tasks.items (task ∷ []) new.tasks.items tasks a))
-    kept_task p (inr (inr a)) = inr (inr (any_same (EndsIn t p) old.leaves.items new.leaves.items leaves a))
+    kept_task p (inl a) = inl (any_kept (WaitsIn t p) old.tasks.items (task ∷ []) new.tasks.items tasks a)
+    kept_task p (inr a) = inr (any_same (EndsIn t p) old.leaves.items new.leaves.items leaves a)
 
     pub task_moves : AreThere t.chains task → Moves t policy task.area (stage_of t.chains task) old new
     task_moves there = record {
-      moved = λ p asked stands. inr (inl (any_last (WaitsIn t p) old.tasks.items task new.tasks.items tasks stands));
+      moved = λ p asked stands. inl (any_last (WaitsIn t p) old.tasks.items task new.tasks.items tasks stands);
       keeps = record {
         kept = kept_task;
         there = λ all. (let Q : List Task → Type 0 = λ ts. All (AreThere t.chains) ts in subst Q (sym tasks) (All-push (AreThere t.chains) old.tasks.items task all there));
@@ -81,13 +82,12 @@ module _ (t : Table) (policy : Verdict) (old new : Front) (long : new.is_long �
 
   module _ (leaf : Leaf) (tasks : new.tasks.items ≡ old.tasks.items) (leaves : new.leaves.items ≡ old.leaves.items ++ leaf ∷ []) where
     kept_leaf : (p : Packet) → IsAccounted t p old → IsAccounted t p new
-    kept_leaf p (inl l) = inl (long ∙ l)
-    kept_leaf p (inr (inl a)) = inr (inl (any_same (WaitsIn t p) old.tasks.items new.tasks.items tasks a))
-    kept_leaf p (inr (inr a)) = inr (inr (any_kept (EndsIn t p) old.leaves.items (leaf ∷ []) new.leaves.items leaves a))
+    kept_leaf p (inl a) = inl (any_same (WaitsIn t p) old.tasks.items new.tasks.items tasks a)
+    kept_leaf p (inr a) = inr (any_kept (EndsIn t p) old.leaves.items (leaf ∷ []) new.leaves.items leaves a)
 
     pub leaf_moves : Moves t policy leaf.area (Over (walked_of t.chains leaf)) old new
     leaf_moves = record {
-      moved = λ p asked stands. inr (inr (any_last (EndsIn t p) old.leaves.items leaf new.leaves.items leaves (record { inside = stands.inside; walked = walk_is t p (walked_of t.chains leaf) stands.reaches })));
+      moved = λ p asked stands. inr (any_last (EndsIn t p) old.leaves.items leaf new.leaves.items leaves (record { inside = stands.inside; walked = walk_is t p (walked_of t.chains leaf) stands.reaches }));
       keeps = record {
         kept = kept_leaf;
         there = λ all. (let Q : List Task → Type 0 = λ ts. All (AreThere t.chains) ts in subst Q (sym tasks) all);
@@ -270,15 +270,6 @@ module _ (t : Table) (policy : Verdict) (box : List SpanSet) (old new : Front) w
         keeps = h.keeps;
       }
 
-  pub too_long : (stage : Stage) → new.is_long ≡ true → new.tasks.items ≡ old.tasks.items → Moves t policy box stage old new
-  too_long stage long tasks = record {
-    moved = λ p asked stands. inl long;
-    keeps = record {
-      kept = λ p a. inl long;
-      there = λ all. (let Q : List Task → Type 0 = λ ts. All (AreThere t.chains) ts in subst Q (sym tasks) all);
-    };
-  }
-
   -- the newest rest
   pub at_rest : (rests left : List Pending) (at : Pending) (es : List Entry) → rests ≡ left ++ at ∷ [] → Moves t policy box (Under (rest_of t.chains at ∷ rests_of t.chains left) es) old new → Moves t policy box (Under (rests_of t.chains rests) es) old new
   at_rest rests left at es e h =
@@ -321,8 +312,8 @@ begun t hook box rests empty trail k old new sound at is none bare no_task h =
 
 -- one step of the loop
 pub begun_next : (t : Table) (hook : Hook) (policy : Verdict) (box : List SpanSet) (left : List Task) (task : Task) (old popped new : Front) → ((p : Packet) → p.hook ≡ hook → end_verdict t p ≡ policy) → old.tasks.items ≡ left ++ task ∷ []
-    → popped.tasks.items ≡ left → popped.leaves.items ≡ old.leaves.items → popped.is_long ≡ old.is_long → Begins t hook box old → Moves t policy task.area (stage_of t.chains task) popped new → Begins t hook box new
-begun_next t hook policy box left task old popped new ends tasks same leaves long begins h = record {
+    → popped.tasks.items ≡ left → popped.leaves.items ≡ old.leaves.items → Begins t hook box old → Moves t policy task.area (stage_of t.chains task) popped new → Begins t hook box new
+begun_next t hook policy box left task old popped new ends tasks same leaves begins h = record {
   all = λ p can e inside. by_case p can e (begins.all p can e inside);
   there = h.keeps.there (subst Q (sym same) (All-pop (AreThere t.chains) old.tasks.items left (Some task) tasks begins.there).0);
 }
@@ -331,23 +322,27 @@ begun_next t hook policy box left task old popped new ends tasks same leaves lon
     Q ts = All (AreThere t.chains) ts
 
     by_case : (p : Packet) → IsAtHook p → p.hook ≡ hook → IsAccounted t p old → IsAccounted t p new
-    by_case p can e (inl l) = h.keeps.kept p (inl (long ∙ l))
-    by_case p can e (inr (inr a)) = h.keeps.kept p (inr (inr (any_same (EndsIn t p) old.leaves.items popped.leaves.items leaves a)))
-    by_case p can e (inr (inl a)) =
+    by_case p can e (inr a) = h.keeps.kept p (inr (any_same (EndsIn t p) old.leaves.items popped.leaves.items leaves a))
+    by_case p can e (inl a) =
         let R : List Task → Type 0 = λ ts. Contains ts a.1 in
         let S : Task → Type 0 = λ x. WaitsIn t p x in
         elim (Contains-push_cases left task a.1 (subst R tasks (a.0, a.2, a.3))) [
-          | inl c ↦ h.keeps.kept p (inr (inl (any_same (WaitsIn t p) left popped.tasks.items same (c.0, a.1, c.1, c.2, a.4))))
+          | inl c ↦ h.keeps.kept p (inl (any_same (WaitsIn t p) left popped.tasks.items same (c.0, a.1, c.1, c.2, a.4)))
           | inr is ↦ h.moved p (record { at_hook = can; ends = ends p e }) (subst S (sym is) a.4)
         ]
 
 -- no task is left
-pub all_leaves : (t : Table) (hook : Hook) (box : List SpanSet) (front : Front) → Begins t hook box front → front.is_long ≡ false → length front.tasks.items ≡ 0 → AreLeavesOf t hook box front.leaves.items
-all_leaves t hook box front begins short none = λ p can e inside.
+pub all_leaves : (t : Table) (hook : Hook) (box : List SpanSet) (front : Front) → Begins t hook box front → length front.tasks.items ≡ 0 → AreLeavesOf t hook box front.leaves.items
+all_leaves t hook box front begins none = λ p can e inside.
     elim (begins.all p can e inside) [
-      | inl l ↦ absurd (true≢false (sym l ∙ short))
-      | inr rest ↦ elim rest [
-        | inl a ↦ absurd (omega (arith, none, a.2))
-        | inr a ↦ a
-      ]
+      | inl a ↦ absurd (omega (arith, none, a.2))
+      | inr a ↦ a
     ]
+
+-- ---- steps
+
+-- one step more
+pub gets_on : (t : Table) (hook : Hook) (box : List SpanSet) (n : ℕ) (old new : Front) → GetsTo t hook box n old → IsStep t hook old new → GetsTo t hook box (n + 1) new
+gets_on t hook box n old new gets step =
+    let P : ℕ → Type 0 = λ k. Takes k t hook gets.first new in
+    record { first = gets.first; begins = gets.begins; takes = subst P (sym (add-one n)) (old, gets.takes, step) }

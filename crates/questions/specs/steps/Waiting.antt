@@ -45,9 +45,9 @@ stage_of chains task = Under (rests_of chains task.rests.items) (entries_of chai
 abbrev pub WaitsIn : Table → Packet → Task → Type 0
 WaitsIn t p task = Stands t p task.area (stage_of t.chains task)
 
--- the packet is in some task, or in some leaf; where a walk is too long, nothing is said
+-- the packet is in some task, or in some leaf
 abbrev pub IsAccounted : Table → Packet → Front → Type 0
-IsAccounted t p front = IsTrue front.is_long ⊎ (Any (WaitsIn t p) front.tasks.items ⊎ Any (EndsIn t p) front.leaves.items)
+IsAccounted t p front = Any (WaitsIn t p) front.tasks.items ⊎ Any (EndsIn t p) front.leaves.items
 
 -- the chain is there
 abbrev pub IsThere : List Chain → Pending → Type 0

@@ -11,6 +11,9 @@ const TCP: u128 = 6;
 // The protocols that are tried first.
 const COMMON: [u128; 3] = [TCP, 17, ICMP];
 
+// The names of interfaces that are tried first.
+const NAMES: [&[u8]; 2] = [b"eth0", b"eth1"];
+
 // What decides which parts a packet carries.
 #[derive(Clone, Copy)]
 pub(crate) struct Kind {
@@ -92,43 +95,87 @@ fn pick(set: &Spans, wanted: u128) -> Option<u128> {
     }
 }
 
-// The number of an interface's name, if the set has it.
-fn named(set: &Spans, name: &[u8]) -> Option<u128> {
-    let value = IfPattern::read(name)?.value();
-    if set.has(value) { Some(value) } else { None }
+// The number of an interface's name.
+fn number_of(name: &[u8]) -> Option<u128> {
+    Some(IfPattern::read(name)?.value())
 }
 
-// How many bytes stand before the first zero byte, or how many there are.
+// Whether a name can have the byte.
+fn is_name_byte(byte: u8) -> bool {
+    IfPattern::read(&[byte]).is_some()
+}
+
+// The least byte above another that a name can have.
+fn byte_above(byte: u8) -> Option<u8> {
+    for next in byte..255 {
+        if is_name_byte(next + 1) {
+            return Some(next + 1);
+        }
+    }
+    None
+}
+
+// How many bytes stand before the first that no name has, or how many there are.
 fn name_len(bytes: &[u8]) -> usize
     ensures { result ≤ length bytes.now }
 {
     for (place, byte) in bytes.iter().enumerate() {
-        if *byte == 0 {
+        if !is_name_byte(*byte) {
             return place;
         }
     }
     bytes.len()
 }
 
-// The number of an interface at or just after a number: that of the bytes before the first zero byte or, where these are more
-// than the set has, of these and a further byte.
-fn named_from(set: &Spans, first: u128) -> Option<u128> {
-    let mut bytes = first.to_be_bytes();
-    let len = name_len(&bytes[..14]);
-    if let Some(value) = named(set, &bytes[..len]) {
-        return Some(value);
+// The least number of an interface above another number: as many of its first bytes as can stay do, the byte behind them is
+// raised as little as can be, and zeros follow. The last of the 16 bytes is 0.
+fn named_above(bytes: [u8; 16], len: usize) -> Option<u128>
+    requires { len ≤ 15 }
+{
+    let most = len.min(14);
+    for passed in 0..most + 1 {
+        let stay = most - passed;
+        if let Some(byte) = byte_above(bytes[stay]) {
+            let mut name = bytes;
+            name[stay] = byte;
+            return number_of(&name[..stay + 1]);
+        }
     }
-    bytes[len] = b'0';
-    named(set, &bytes[..len + 1])
+    None
 }
 
-// The number of an interface of the set: `eth0`, or one by the set's intervals, or 0, that of a missing one.
+// The least number of an interface that isn't below a number: this one, if its bytes are a name and zeros, or else the next.
+fn named_from(first: u128) -> Option<u128> {
+    let bytes = first.to_be_bytes();
+    let len = name_len(&bytes[..15]);
+    if number_of(&bytes[..len]) == Some(first) {
+        return Some(first);
+    }
+    named_above(bytes, len)
+}
+
+// The number of the first of those interfaces that the set has.
+fn common_in(set: &Spans) -> Option<u128> {
+    for name in NAMES {
+        if let Some(value) = number_of(name)
+            && set.has(value)
+        {
+            return Some(value);
+        }
+    }
+    None
+}
+
+// The number of an interface of the set, if it has one: a common one, else the least of the first interval that has any; or 0,
+// that of a missing one.
 fn interface_in(set: &Spans) -> Option<u128> {
-    if let Some(value) = named(set, b"eth0") {
+    if let Some(value) = common_in(set) {
         return Some(value);
     }
     for span in set.intervals() {
-        if let Some(value) = named_from(set, span.first) {
+        if let Some(value) = named_from(span.first)
+            && value <= span.last
+        {
             return Some(value);
         }
     }

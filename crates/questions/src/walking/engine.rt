@@ -1,10 +1,11 @@
 // The walk of a box through a table.
-ghost use Rattle.std.specs.Prelude.{◌≡◌, IfOk, IfSome, OnOk};
+ghost use Rattle.std.specs.Prelude.{◌≡◌, ◌<◌, length, IfOk, IfSome, MatchOption, OnOk};
 ghost use Rattle.fields.specs.packet.Packet.{PacketView};
 ghost use Rattle.table.specs.declared.verdict.Verdict.{Verdict};
 ghost use Rattle.table.specs.steps.Kept.{hook_index};
 ghost use Rattle.table.specs.walk.Walk.{end_verdict};
 ghost use Rattle.questions.specs.Leaves.{AreLeavesOf};
+ghost use Rattle.questions.specs.steps.Taken.{IsFinished, IsFirst, IsUnfinished};
 ghost use Rattle.questions.specs.steps.Waiting.{AreThere, Begins, Moves, stage_of};
 
 use crate::boxes::area::Area;
@@ -19,15 +20,15 @@ use table::{Policy, Table, Verdict};
 // The most rules that match in a walk.
 const LIMIT: usize = 65536;
 
-// One step of the walks of a task: the policy decides them, a chain comes back, or a rule is asked. Where the trail is full
-// they are too long.
+// One step of the walks of a task: the policy decides them, a chain comes back, or a rule is asked.
 fn step(
     subject: &BoxedTable,
     policy: Verdict,
     front: &mut Front,
     task: Task,
 ) -> Result<(), AllocError>
-    requires { AreThere subject.now.table.table.chains task }
+    requires there { AreThere subject.now.table.table.chains task }
+    requires room { length task.trail.items < 65536 }
     ensures { OnOk result (Moves subject.now.table.table policy task.area (stage_of subject.now.table.table.chains task) front.old front.new) }
 {
     let Task {
@@ -35,10 +36,6 @@ fn step(
         mut rests,
         trail,
     } = task;
-    if trail.len() >= LIMIT {
-        front.is_long = true;
-        return Ok(());
-    }
     match rests.pop() {
         None => front.add_leaf(Task { area, rests, trail }, policy, true),
         Some(at) => {
@@ -75,21 +72,21 @@ fn policy_at(table: &Table, hook: Hook) -> Verdict
 
 // A box at the first rule of a hook's chain.
 fn begin(alloc: Global, table: &Table, hook: Hook, start: Area) -> Result<Front, AllocError>
-    ensures { IfOk result (Begins table.now.table hook start) }
+    ensures begins { IfOk result (Begins table.now.table hook start) }
+    ensures first { IfOk result (IsFirst hook start) }
 {
     table.stands();
     let mut front = Front {
         alloc,
         tasks: Vec::new(alloc),
         leaves: Vec::new(alloc),
-        is_long: false,
     };
     let mut rests = Vec::new(alloc);
     rests.push(Pending {
         chain: hook_index(hook),
         passed: 0,
     })?;
-    front.add_task(Task {
+    front.tasks.push(Task {
         area: start,
         rests,
         trail: Vec::new(alloc),
@@ -114,18 +111,25 @@ pub fn leaves(
     start: Area,
     budget: usize,
 ) -> Result<Option<Vec<Leaf>>, AllocError>
-    ensures { IfOk result (λ found. IfSome found (λ leaves. AreLeavesOf subject.now.table.table hook start leaves.items)) }
+    ensures leaves { IfOk result (λ found. IfSome found (λ leaves. AreLeavesOf subject.now.table.table hook start leaves.items)) }
+    ensures steps { IfOk result (λ found. MatchOption found
+        (IsUnfinished subject.now.table.table hook start budget) (λ leaves. IsFinished subject.now.table.table hook start budget leaves.items)) }
 {
     let policy = policy_at(&subject.table, hook);
     let mut front = begin(alloc, &subject.table, hook, start)?;
-    for _ in 0..budget {
-        if front.is_long {
-            return Ok(None);
-        }
+    for taken in 0..budget {
         match front.tasks.pop() {
             None => return Ok(Some(front.leaves)),
-            Some(task) => step(subject, policy, &mut front, task)?,
+            Some(task) => {
+                if task.trail.len() >= LIMIT {
+                    return Ok(None);
+                }
+                step(subject, policy, &mut front, task)?;
+            }
         }
+    }
+    if front.tasks.is_empty() {
+        return Ok(Some(front.leaves));
     }
     Ok(None)
 }

@@ -9,13 +9,12 @@ use crate::walking::task::{Leaf, Task};
 use std::alloc::{AllocError, Global};
 use table::Verdict;
 
-// The tasks that are left, the leaves so far, and whether some walk is too long.
+// The tasks that are left, and the leaves so far.
 #[derive(Drop)]
 pub(crate) struct Front {
     pub alloc: Global,
     pub tasks: Vec<Task>,
     pub leaves: Vec<Leaf>,
-    pub is_long: bool,
 }
 
 impl Front {

@@ -7,5 +7,5 @@ pub returns : goal.returns
 returns c = record {
   same = refl;
   walked = only_walk c.args.subject.now.table.table c.args.hook c.args.area c.in_ok-start.start c.in-Some.found.items c.pop.new.self.items c.in-Some-pop.only c.in-Some-pop.ensures.items
-      (is_nil c.pop.new.self.items c.is_empty.result (rw c.as_slice.ensures.value at c.is_empty.ensures) c.if-not-is_empty.false) c.in_ok-start.ensures (rw c.in-Some.is at c.in_ok-found.ensures);
+      (is_nil c.pop.new.self.items c.is_empty.result (rw c.as_slice.ensures.value at c.is_empty.ensures) c.if-not-is_empty.false) c.in_ok-start.ensures (rw c.in-Some.is at c.in_ok-found.ensures.leaves);
 }

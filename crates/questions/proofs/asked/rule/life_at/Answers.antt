@@ -6,4 +6,4 @@ pub returns-then-none_on : goal.returns-then-none_on
 returns-then-none_on c =
     let t = c.args.subject.now.table.table in
     λ p can e on. never_on t p c.args.step c.args.hook c.in-Some.found.items c.stands.ensures.sound c.requires
-    (walks_of t c.args.step c.args.hook _ c.in-Some.found.items c.in_ok-area.ensures (rw c.in-Some.is at c.in_ok-leaves.ensures)) (rw c.as_slice.ensures.value at (c.none_on.ensures c.if-none_on.true)) can e on
+    (walks_of t c.args.step c.args.hook _ c.in-Some.found.items c.in_ok-area.ensures (rw c.in-Some.is at c.in_ok-leaves.ensures.leaves)) (rw c.as_slice.ensures.value at (c.none_on.ensures c.if-none_on.true)) can e on

@@ -1,5 +1,9 @@
+use Rattle.questions.specs.steps.Taken.{GetsTo}
 use Rattle.questions.specs.steps.Waiting.{Begins}
 use Rattle.questions.proofs.walking.engine.leaves.Given as goal
 
-abbrev pub invariant-loop : goal.invariant-loop
-invariant-loop l = Begins l.subject.table.table l.fn.hook l.fn.start l.front
+abbrev pub invariant-loop-taken : goal.invariant-loop-taken
+invariant-loop-taken l = record {
+  begins : Begins l.subject.table.table l.fn.hook l.fn.start l.front;
+  gets : GetsTo l.subject.table.table l.fn.hook l.fn.start l.taken l.front;
+}

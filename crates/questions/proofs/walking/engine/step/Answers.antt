@@ -11,7 +11,7 @@ pub returns-then-at-rule_count : goal.returns-then-at-rule_count
 returns-then-at-rule_count c =
     let t = c.args.subject.now.table.table in
     let es = entries_of t.chains c.args.task.trail.items in
-    let all = All-pop (IsThere t.chains) c.args.task.rests.items c.pop.new.self.items c.pop.result c.pop.ensures.items c.requires in
+    let all = All-pop (IsThere t.chains) c.args.task.rests.items c.pop.new.self.items c.pop.result c.pop.ensures.items c.requires.there in
     let there = rw c.in-Some.is at all.1 in
     on_ok_weaker c.add_task.result (λ h. at_rest t c.args.policy c.args.task.area c.args.front.now c.add_task.new.self c.args.task.rests.items c.pop.new.self.items c.in-Some.at es c.in-Some.ensures.items
     (comes_back t c.stands.ensures.sound c.args.policy c.in-Some.at there c.args.task.area (rests_of t.chains c.pop.new.self.items) es c.args.front.now c.add_task.new.self (omega (arith, c.rule_count.ensures, c.if-at-rule_count.true)) (h t c.args.policy all.0))) c.add_task.ensures

@@ -1,0 +1,61 @@
+-- The steps that the walk of a box takes.
+use Rattle.std.specs.Prelude.{◌≡◌, ◌⊎◌, ℕ, zero, suc, ◌≤◌, ◌<◌, List, [], ◌∷◌, ◌++◌, length}
+use Rattle.fields.specs.declared.packet.hook.Hook.{Hook}
+use Rattle.fields.specs.numbers.Spans.{SpanSet}
+use Rattle.fields.specs.packet.Packet.{PacketView as Packet}
+use Rattle.table.specs.chains.Table.{Table}
+use Rattle.table.specs.declared.verdict.Verdict.{Verdict}
+use Rattle.table.specs.steps.Kept.{hook_index}
+use Rattle.table.specs.walk.Walk.{end_verdict}
+use Rattle.questions.specs.steps.Waiting.{Moves, stage_of}
+use Rattle.questions.specs.declared.walking.front.Front.{Front}
+use Rattle.questions.specs.declared.walking.task.Leaf.{Leaf}
+use Rattle.questions.specs.declared.walking.task.Task.{Task}
+
+-- a box is at the first rule of a hook's chain, and nothing else is there
+pub record IsFirst (hook : Hook) (box : List SpanSet) (front : Front) : Type 0 where
+  pub task : Task
+  pub tasks : front.tasks.items ≡ task ∷ []
+  pub leaves : front.leaves.items ≡ []
+  pub area : task.area ≡ box
+  pub rests : task.rests.items ≡ record { chain = hook_index hook; passed = 0 } ∷ []
+  pub trail : task.trail.items ≡ []
+
+-- one step: the newest task is taken, its trail has room, and its packets go on
+pub record IsStep (t : Table) (hook : Hook) (old new : Front) : Type 0 where
+  pub left : Front
+  pub task : Task
+  pub policy : Verdict
+  pub ends : (p : Packet) → p.hook ≡ hook → end_verdict t p ≡ policy
+  pub tasks : old.tasks.items ≡ left.tasks.items ++ task ∷ []
+  pub leaves : left.leaves.items ≡ old.leaves.items
+  pub room : length task.trail.items < 65536
+  pub moves : Moves t policy task.area (stage_of t.chains task) left new
+
+-- so many steps
+abbrev pub Takes : ℕ → Table → Hook → Front → Front → Type 0
+Takes zero t hook old new = old ≡ new
+Takes (suc n) t hook old new = (mid : Front) × Takes n t hook old mid × IsStep t hook mid new
+
+-- the walk of a box gets there in so many steps
+pub record GetsTo (t : Table) (hook : Hook) (box : List SpanSet) (n : ℕ) (front : Front) : Type 0 where
+  pub first : Front
+  pub begins : IsFirst hook box first
+  pub takes : Takes n t hook first front
+
+-- the newest task has a full trail
+pub record IsFull (front : Front) : Type 0 where
+  pub left : List Task
+  pub task : Task
+  pub tasks : front.tasks.items ≡ left ++ task ∷ []
+  pub full : 65536 ≤ length task.trail.items
+
+-- after just as many steps as the budget has there is a task left, or after fewer a trail is full
+abbrev pub IsUnfinished : Table → Hook → List SpanSet → ℕ → Type 0
+IsUnfinished t hook box budget =
+    (n : ℕ) × (front : Front) × GetsTo t hook box n front × (((n ≡ budget) × (0 < length front.tasks.items)) ⊎ ((n < budget) × IsFull front))
+
+-- after as many steps as the budget has, or fewer, no task is left, and these are the leaves
+abbrev pub IsFinished : Table → Hook → List SpanSet → ℕ → List Leaf → Type 0
+IsFinished t hook box budget leaves =
+    (n : ℕ) × (front : Front) × GetsTo t hook box n front × (n ≤ budget) × (length front.tasks.items ≡ 0) × (front.leaves.items ≡ leaves)
