@@ -7,7 +7,7 @@
     packets    packet lines
     commands   commands, steered by the table that the model has come to
     sections   the lines of restores
-    inputs     whole sessions and restores, each line with the model's reply
+    inputs     whole sessions and restores, each line with the model's reply, and files that are loaded before them
 
 What a draw is weighted by is in tables. None of it decides what a line means.
 """

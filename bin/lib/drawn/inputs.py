@@ -1,10 +1,11 @@
-"""Whole sessions and restores, drawn line by line, each line with the model's reply."""
+"""Whole sessions and restores, drawn line by line, each line with the model's reply; and files that are loaded before them."""
 
 import collections
 import re
 
-from plain.restore import Restore
-from plain.session import Session, restore, whole
+from plain.restore import FILTER, OUTSIDE, Restore
+from plain.session import Session, answer, loaded, whole
+from plain.words import lines_of
 
 from . import values
 from .aims import aimed
@@ -17,6 +18,10 @@ FAULT = re.compile(rb"line [0-9]+: ([A-Z][0-9]+) .*")
 # What is drawn, by its weight: how often each kind of line comes in a session, how often something is made bad, and whether rules
 # have few conditions, so that many match.
 Theme = collections.namedtuple("Theme", "weight kinds wrong light lines")
+# The program's words but for the file, the file, if one is loaded, the input, what is due, and how often each kind of answer came.
+Input = collections.namedtuple("Input", "words file data due counts")
+# How often a file is loaded.
+LOADED = 0.2
 THEMES = {
     "edits": Theme(30, {"command": 80, "save": 4, "lines": 3, "packet": 8, "restore": 1, "other": 3}, 0.15, False, 100),
     "walks": Theme(25, {"command": 20, "lines": 1, "packet": 75, "restore": 0.5}, 0.03, True, 110),
@@ -35,8 +40,8 @@ BAD_RESTORES = ((b"-n", b"-n"), (b"-x",), (b"--noflush", b"-n"), (b"-t", b"-t"),
 class Talk:
     """An input while it is drawn: its lines, the model's replies, and how often each kind of answer came."""
 
-    def __init__(self, dice, theme):
-        self.dice, self.theme, self.run = dice, THEMES[theme], Session()
+    def __init__(self, dice, theme, table=None):
+        self.dice, self.theme, self.run = dice, THEMES[theme], Session(table)
         self.wrong = dice.one((self.theme.wrong, self.theme.wrong / 5))
         self.lines, self.replies, self.counts, self.walks = [], [], collections.Counter(), 0
 
@@ -145,18 +150,17 @@ class Talk:
         if dice.chance(0.25):
             self.restore(has_end=False)
         self.take(self.run.finish())
-        return self.data(), whole(self.replies), self.run.status
+        return self.data(), (whole(self.replies), b"", self.run.status)
 
-    def whole_restore(self, words):
+    def whole_restore(self, words, file):
         """An input that is one restore."""
-        noflush, test = "--noflush" in words, "--test" in words
-        self.run.restore = Restore(self.run.table, noflush, test)
+        self.run.restore = Restore(self.run.table, "--noflush" in words, "--test" in words)
         self.section_lines(self.dice.within(1, 60))
         data = self.data()
-        output, status = restore(data, noflush, test)
+        due = answer(words, data, file)
         if not any(FAULT.fullmatch(reply) for reply in self.replies):
-            self.take(output.splitlines())
-        return data, output, status
+            self.take(due[0].splitlines())
+        return data, due
 
     def data(self):
         """The input's bytes. The last line may lack its newline."""
@@ -164,12 +168,44 @@ class Talk:
         return b"\n".join(self.lines) + last
 
 
+def sections_in(file):
+    """How many filter sections of a file are put in place, where it has no fault."""
+    run, count = Restore(Session().table, False, False), 0
+    for line in lines_of(file):
+        was = run.where
+        run.line(line)
+        count += was == FILTER and run.where == OUTSIDE
+    return count
+
+
+def drawn_file(dice):
+    """A file that is loaded: a restore without options, and mostly without a fault."""
+    talk = Talk(dice, "whole")
+    talk.wrong = dice.one((0, 0, talk.wrong))
+    talk.run.restore = Restore(talk.run.table, False, False)
+    talk.section_lines(dice.within(5, 60))
+    return talk.data()
+
+
 def drawn_input(seed):
-    """(words of the program, input, output, status, counts) for a seed."""
+    """The input of a seed."""
     dice = Dice(seed)
     theme = dice.weighted({name: each.weight for name, each in THEMES.items()})
-    talk = Talk(dice, theme)
+    words = ["session"]
     if theme == "whole":
         words = ["restore", *(word for word in ("--noflush", "--test") if dice.chance(0.3))]
-        return words, *talk.whole_restore(words), talk.counts
-    return ["session"], *talk.session(), talk.counts
+    file, table, counts = None, None, collections.Counter()
+    if dice.chance(LOADED):
+        # A file with a fault is mostly drawn again.
+        for _ in range(dice.within(1, 4)):
+            file = drawn_file(dice)
+            table, said, status = loaded(file)
+            if not said:
+                break
+        if said:
+            return Input(words, file, b"iptables-save\n", (b"", said, status), {"a fault in a file": 1})
+        counts["a file"] += 1
+        counts["a file of two sections"] += sections_in(file) > 1
+    talk = Talk(dice, theme, table)
+    data, due = talk.whole_restore(words, file) if theme == "whole" else talk.session()
+    return Input(words, file, data, due, counts + talk.counts)

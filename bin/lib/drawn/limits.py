@@ -3,7 +3,7 @@
 from plain.session import whole
 
 from .dice import Dice
-from .inputs import Talk
+from .inputs import Input, Talk
 
 
 def filled_chain(talk):
@@ -49,4 +49,4 @@ def limit_inputs(seed):
         name = f"{seed} {draw.__name__}"
         talk = Talk(Dice(name), "edits")
         draw(talk)
-        yield name, (["session"], talk.data(), whole(talk.replies), talk.run.status, talk.counts)
+        yield name, Input(["session"], None, talk.data(), (whole(talk.replies), b"", talk.run.status), talk.counts)

@@ -10,7 +10,7 @@
     table      chains, their edits and refusals; the walk of a packet
     commands   the words of a command, and what it does to a table
     restore    the lines of a restore
-    session    the lines of a session; a whole session, and a whole restore
+    session    the lines of a session; a whole session, a whole restore, and a file that is loaded before
 
 It is written from iptables(8), iptables-extensions(8), iptables-save(8) and iptables-restore(8) and from docs/iptsim.1, and from
 nothing of the program: a chain is a list of rules, a rule is a list of conditions, and each is asked in turn.

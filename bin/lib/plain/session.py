@@ -1,4 +1,4 @@
-"""The lines of a session, each with its reply; a whole session, and a whole restore."""
+"""The lines of a session, each with its reply; a whole session, a whole restore, and a file that is loaded before."""
 
 from . import printing
 from .commands import apply, command_of
@@ -23,10 +23,10 @@ def opening_of(words):
 
 class Session:
     """A session between two lines: its table, how many lines were read, and the restore that is open, if one is. `walks` are those
-    that packets were answered with."""
+    that packets were answered with. It begins with the table that a file left, if one was loaded."""
 
-    def __init__(self):
-        self.table, self.count, self.status, self.walks = Table(), 0, 0, []
+    def __init__(self, table=None):
+        self.table, self.count, self.status, self.walks = table or Table(), 0, 0, []
         self.restore, self.end, self.has_failed = None, None, False
 
     def line(self, line):
@@ -79,6 +79,17 @@ class Session:
         self.walks.append((trail, verdict))
         return [b"%s %d" % step for step in trail] + [b"verdict " + verdict]
 
+    def whole_restore(self, data, noflush=False, test=False):
+        """What is said of the fault of an input that is one restore, if it has one."""
+        self.restore = Restore(self.table, noflush, test)
+        try:
+            for self.count, line in enumerate(lines_of(data), 1):
+                self.restore.line(line)
+            self.restore.finish()
+        except Fault as fault:
+            return self.fault(fault)
+        return []
+
     def finish(self):
         """What is said at the end of the input."""
         if not self.restore or self.has_failed:
@@ -90,25 +101,38 @@ def whole(replies):
     return b"".join(line + b"\n" for line in replies)
 
 
-def session(data):
+def session(data, table=None):
     """The output and the status of a session."""
-    run = Session()
+    run = Session(table)
     replies = [reply for line in lines_of(data) for reply in run.line(line)]
     replies += run.finish()
     return whole(replies), run.status
 
 
-def restore(data, noflush=False, test=False):
+def restore(data, noflush=False, test=False, table=None):
     """The output and the status of an input that is one restore."""
-    run, lines = Session(), lines_of(data)
-    run.restore = Restore(run.table, noflush, test)
-    replies = []
-    try:
-        for run.count, line in enumerate(lines, 1):
-            run.restore.line(line)
-        run.restore.finish()
-    except Fault as fault:
-        replies = run.fault(fault)
+    run = Session(table)
+    replies = run.whole_restore(data, noflush, test)
     if not replies and not test:
         replies = printing.listing(run.table)
     return whole(replies), run.status
+
+
+def loaded(file):
+    """The table that a file leaves which is restored first, what is said of its fault, if it has one, and the status of that. The
+    options of the restore on standard input don't count for it."""
+    run = Session()
+    return run.table, whole(run.whole_restore(file)), run.status
+
+
+def answer(words, data, file=None):
+    """What the program writes to standard output and to standard error, and its status: of a subcommand with its options, on an
+    input, where the file was loaded, if there is one. A fault of the file ends the program before the input is read."""
+    table, said, status = loaded(file) if file is not None else (None, b"", 0)
+    if said:
+        return b"", said, status
+    if words[0] == "session":
+        output, status = session(data, table)
+    else:
+        output, status = restore(data, "--noflush" in words, "--test" in words, table)
+    return output, b"", status

@@ -21,13 +21,14 @@ pub fn restores_leave_what_they_accept()
 }
 
 /// The law of every list of calls that edit a table, in any order and refused ones among them: editing calls of `Table` and
-/// `apply`; transactions that are begun, given lines, committed or given up; lines and ends of restores, several after one
-/// another, with edits between their sections. The chains are those of the accepted changes, as plain list edits; the
-/// listing restores them, with the same classifiers; every packet's walk ends with one thing; and a refused call changes
-/// nothing.
+/// `apply`, and calls that only read it; transactions that are begun or refused for want of memory, given lines, committed or
+/// given up; lines and ends of restores; several of both at once, with any other calls in between. The chains are those of
+/// the accepted changes, as plain list edits; the listing restores them, with the same classifiers; every packet's walk ends
+/// with one thing; and a refused call changes nothing.
 ///
-/// It has one condition on callers: from the call that begins a transaction to its end, and from the line that opens a
-/// section of a restore to its `COMMIT`, no other call changes the table.
+/// A section that is committed puts in place what its lines made of the table that it began from, whatever has become of
+/// that table since. What is asked of callers is that the lines and the commit of a section go to the table from which it
+/// was begun.
 ///
 /// With `Table::stands`, `Table::verdict` and `Table::trail` it says what a table shows after any list of calls.
 pub fn all_calls_leave_what_they_accept()

@@ -3,4 +3,5 @@ pub mod Run
 pub mod Accepted
 pub mod Headline
 pub mod Several
+pub mod Console
 pub mod Views

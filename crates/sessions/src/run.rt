@@ -1,4 +1,5 @@
 // All lines of an input, to its end.
 
+pub(crate) mod console;
 pub(crate) mod headline;
 pub(crate) mod session;

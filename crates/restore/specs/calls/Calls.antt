@@ -1,5 +1,7 @@
--- Calls that edit a table, in any order: commands, transactions, and restores that are handed its lines.
-use Rattle.std.specs.Prelude.{◌≡◌, ℕ, Bool, true, false, List, [], ◌∷◌, ◌++◌, Option, Some, None, option_map, Result, Ok, Err, if◌then◌else◌}
+-- Calls that edit a table, in any order: commands, transactions, and restores that are handed its lines. A caller may have several
+-- transactions and restores at once, each in a place of its own, a number.
+use Rattle.std.specs.Prelude.{◌≡◌, ℕ, ◌==◌, Bool, true, false, List, [], ◌∷◌, ◌++◌, Option, Some, None, option_map, Result, Ok, Err, IfOk, if◌then◌else◌}
+use Rattle.std.specs.declared.alloc.AllocError.{AllocError}
 use Rattle.table.specs.chains.Table.{Table, TableView}
 use Rattle.table.specs.declared.fault.TableFault.{TableFault}
 use Rattle.table.specs.edits.Edits.{Edit, IsStepOf}
@@ -10,104 +12,120 @@ use Rattle.restore.specs.sections.Lines.{IsLine, puts_table}
 use Rattle.restore.specs.sections.Restore.{SectionState, Between, Skipping, Building, Restore, ended_at}
 use Rattle.restore.specs.sections.Section.{RestoreFault, Section, asked, begun, is_out_of_memory, line_in}
 
--- a call, with its answer where it can be refused: an edit of the table; of a transaction, that it begins, with noflush or
--- without, is given a line, is committed or given up; and of a restore, that it is given a line, or its end
+-- a call, with its answer where it can be refused: an edit of the table, or a question, which only reads it; of the transaction in
+-- a place, that it begins, with noflush or without, is given a line, is committed or given up; and of the restore in a place, that
+-- it is given a line, or its end
 pub data Call : Type 0 where
   Edits : Edit → Result (Unit {0}) TableFault → Call
-  Begins : Bool → Call
-  Takes : List ℕ → Result Section RestoreFault → Call
-  Commits : Call
-  GivesUp : Call
-  Reads : Restore → List ℕ → Result Restore RestoreFault → Call
-  Ends : Restore → Result (Unit {0}) RestoreFault → Call
+  Asks : Call
+  Begins : ℕ → Bool → Result Section AllocError → Call
+  Takes : ℕ → List ℕ → Result Section RestoreFault → Call
+  Commits : ℕ → Call
+  GivesUp : ℕ → Call
+  Reads : ℕ → Restore → List ℕ → Result Restore RestoreFault → Call
+  Ends : ℕ → Restore → Result (Unit {0}) RestoreFault → Call
 
--- the section of a transaction or a restore that is neither committed nor given up: how it began, what it is so far, and the
--- edits that its lines asked for
+-- the section of a transaction or a restore that is neither committed nor given up: the table that it began as, what it is so far,
+-- and the edits that its lines asked for
 pub record Pending : Type 0 where
-  pub noflush : Bool
+  pub from : Table
   pub section : Section
   pub edits : List Edit
 
 -- a section without a line so far
-abbrev pub opened : Bool → Section → Pending
-opened noflush section = record { noflush = noflush; section = section; edits = [] }
+abbrev pub opened : Table → Section → Pending
+opened from section = record { from = from; section = section; edits = [] }
 
 -- a section with one line more
 abbrev pub with_line : List ℕ → Section → Pending → Pending
-with_line line section o = record { noflush = o.noflush; section = section; edits = o.edits ++ edit_asked (asked o.section line) }
+with_line line section o = record { from = o.from; section = section; edits = o.edits ++ edit_asked (asked o.section line) }
 
--- how a table stands: its lists, and the section that is pending, if one is
+-- the section in each place, if one is pending there
+abbrev pub Places : Type 0
+Places = ℕ → Option Pending
+
+-- the same, but for one place
+abbrev pub put : ℕ → Option Pending → Places → Places
+put place pending places other = if other == place then pending else places other
+
+-- how a table stands: its lists, and the sections that are pending
 pub record Standing : Type 0 where
   pub table : Table
-  pub pending : Option Pending
+  pub places : Places
 
 -- no section is pending
 abbrev pub standing : Table → Standing
-standing t = record { table = t; pending = None }
+standing t = record { table = t; places = λ place. None }
 
 -- the change that a committed section makes
 abbrev pub section_change : Option Pending → List Change
 section_change None = []
-section_change (Some o) = change.Section o.noflush o.edits ∷ []
+section_change (Some o) = change.SectionOf o.from o.edits ∷ []
 
 -- the change that a call makes, if it makes one: an edit that isn't refused, a transaction that is committed, or the `COMMIT` of a
 -- restore that is no test
 abbrev pub accepted_of : Standing → Call → List Change
 accepted_of s (Edits edit (Ok done)) = change.Command edit ∷ []
 accepted_of s (Edits edit (Err fault)) = []
-accepted_of s (Begins noflush) = []
-accepted_of s (Takes line answer) = []
-accepted_of s Commits = section_change s.pending
-accepted_of s GivesUp = []
-accepted_of s (Reads r line (Ok next)) = if puts_table r line then section_change s.pending else []
-accepted_of s (Reads r line (Err fault)) = []
-accepted_of s (Ends r answer) = []
+accepted_of s Asks = []
+accepted_of s (Begins place noflush answer) = []
+accepted_of s (Takes place line answer) = []
+accepted_of s (Commits place) = section_change (s.places place)
+accepted_of s (GivesUp place) = []
+accepted_of s (Reads place r line (Ok next)) = if puts_table r line then section_change (s.places place) else []
+accepted_of s (Reads place r line (Err fault)) = []
+accepted_of s (Ends place r answer) = []
 
--- the section that is pending after a restore's line, by where its next line stands
-abbrev pub pending_at : SectionState → Bool → List ℕ → Option Pending → Option Pending
-pending_at Between noflush line pending = None
-pending_at Skipping noflush line pending = None
-pending_at (Building next) noflush line None = Some (opened noflush next)
-pending_at (Building next) noflush line (Some o) = Some (with_line line next o)
+-- the section that is pending after a restore's line, by where its next line stands and where this one stood; it begins as this
+-- table
+abbrev pub pending_at : SectionState → SectionState → Table → List ℕ → Option Pending → Option Pending
+pending_at Between before from line pending = None
+pending_at Skipping before from line pending = None
+pending_at (Building next) (Building section) from line pending = option_map (with_line line next) pending
+pending_at (Building next) Between from line pending = Some (opened from next)
+pending_at (Building next) Skipping from line pending = Some (opened from next)
 
--- the section that is pending after a call; a refusal gives it up
-abbrev pub pending_after : Standing → Call → Option Pending
-pending_after s (Edits edit answer) = s.pending
-pending_after s (Begins noflush) = Some (opened noflush (begun noflush s.table))
-pending_after s (Takes line (Ok next)) = option_map (with_line line next) s.pending
-pending_after s (Takes line (Err fault)) = None
-pending_after s Commits = None
-pending_after s GivesUp = None
-pending_after s (Reads r line (Ok next)) = pending_at next.state r.noflush line s.pending
-pending_after s (Reads r line (Err fault)) = None
-pending_after s (Ends r answer) = None
+-- the sections that are pending after a call; a refusal gives a section up, and one that can't begin is none
+abbrev pub places_after : Standing → Call → Places
+places_after s (Edits edit answer) = s.places
+places_after s Asks = s.places
+places_after s (Begins place noflush (Ok section)) = put place (Some (opened (begun noflush s.table).table section)) s.places
+places_after s (Begins place noflush (Err fault)) = s.places
+places_after s (Takes place line (Ok next)) = put place (option_map (with_line line next) (s.places place)) s.places
+places_after s (Takes place line (Err fault)) = put place None s.places
+places_after s (Commits place) = put place None s.places
+places_after s (GivesUp place) = put place None s.places
+places_after s (Reads place r line (Ok next)) = put place (pending_at next.state r.state (begun r.noflush s.table).table line (s.places place)) s.places
+places_after s (Reads place r line (Err fault)) = put place None s.places
+places_after s (Ends place r answer) = put place None s.places
 
 -- how the table stands after a call, by plain list edits
 abbrev pub after : Standing → Call → Standing
-after s call = record { table = changed_by s.table (accepted_of s call); pending = pending_after s call }
+after s call = record { table = changed_by s.table (accepted_of s call); places = places_after s call }
 
 -- the changes that calls made, in order
 abbrev pub accepted : Standing → List Call → List Change
 accepted s [] = []
 accepted s (call ∷ calls) = accepted_of s call ++ accepted (after s call) calls
 
--- the condition on callers: from the line that opens a section to its end no other call changes the table
-abbrev pub IsPendingIn : SectionState → Bool → Option Pending → Type 0
-IsPendingIn Between noflush pending = pending ≡ None
-IsPendingIn Skipping noflush pending = pending ≡ None
-IsPendingIn (Building section) noflush pending = (edits : List Edit) × (pending ≡ Some (record { noflush = noflush; section = section; edits = edits }))
+-- a restore that is building a section builds the one that is pending
+abbrev pub IsPendingIn : SectionState → Option Pending → Type 0
+IsPendingIn Between pending = Unit {0}
+IsPendingIn Skipping pending = Unit {0}
+IsPendingIn (Building section) pending = (o : Pending) × (pending ≡ Some o) × (o.section ≡ section)
 
--- what a call answers and leaves of the table, by its contract; an edit and the begin of a transaction need that no section is
--- pending, the line of a section and its end that it is the pending one
+-- what a call answers and leaves of the table, by its contract; a line of a section, and its commit, are of one that these calls
+-- began
 abbrev pub IsCall : Standing → TableView → Call → TableView → Type 0
-IsCall s old (Edits edit answer) new = (s.pending ≡ None) × IsStepOf edit old new answer
-IsCall s old (Begins noflush) new = (s.pending ≡ None) × (new ≡ old)
-IsCall s old (Takes line answer) new =
-    (o : Pending) × (s.pending ≡ Some o) × Gives is_out_of_memory (λ (next : Section). next) answer (line_in o.section line) × (new ≡ old)
-IsCall s old Commits new = (o : Pending) × (s.pending ≡ Some o) × (new.table ≡ o.section.table)
-IsCall s old GivesUp new = new ≡ old
-IsCall s old (Reads r line answer) new = IsPendingIn r.state r.noflush s.pending × IsLine r line old new answer
-IsCall s old (Ends r answer) new = IsPendingIn r.state r.noflush s.pending × (answer ≡ ended_at r.state) × (new ≡ old)
+IsCall s old (Edits edit answer) new = IsStepOf edit old new answer
+IsCall s old Asks new = new ≡ old
+IsCall s old (Begins place noflush answer) new = IfOk answer (λ section. section ≡ begun noflush old.table) × (new ≡ old)
+IsCall s old (Takes place line answer) new =
+    (o : Pending) × (s.places place ≡ Some o) × Gives is_out_of_memory (λ (next : Section). next) answer (line_in o.section line) × (new ≡ old)
+IsCall s old (Commits place) new = (o : Pending) × (s.places place ≡ Some o) × (new.table ≡ o.section.table)
+IsCall s old (GivesUp place) new = new ≡ old
+IsCall s old (Reads place r line answer) new = IsPendingIn r.state (s.places place) × IsLine r line old new answer
+IsCall s old (Ends place r answer) new = (answer ≡ ended_at r.state) × (new ≡ old)
 
 -- calls, made one after another, lead from one table to another
 abbrev pub Lead : Standing → TableView → List Call → TableView → Type 0
@@ -118,12 +136,14 @@ Lead s old (call ∷ calls) new = (next : TableView) × IsCall s old call next �
 abbrev pub is_refused : Call → Bool
 is_refused (Edits edit (Ok done)) = false
 is_refused (Edits edit (Err fault)) = true
-is_refused (Begins noflush) = false
-is_refused (Takes line (Ok next)) = false
-is_refused (Takes line (Err fault)) = true
-is_refused Commits = false
-is_refused GivesUp = false
-is_refused (Reads r line (Ok next)) = false
-is_refused (Reads r line (Err fault)) = true
-is_refused (Ends r (Ok done)) = false
-is_refused (Ends r (Err fault)) = true
+is_refused Asks = false
+is_refused (Begins place noflush (Ok section)) = false
+is_refused (Begins place noflush (Err fault)) = true
+is_refused (Takes place line (Ok next)) = false
+is_refused (Takes place line (Err fault)) = true
+is_refused (Commits place) = false
+is_refused (GivesUp place) = false
+is_refused (Reads place r line (Ok next)) = false
+is_refused (Reads place r line (Err fault)) = true
+is_refused (Ends place r (Ok done)) = false
+is_refused (Ends place r (Err fault)) = true

@@ -6,16 +6,18 @@ use Rattle.table.specs.edits.Edits.{Edit, edited}
 use Rattle.table.specs.edits.Headline.{edited_by}
 use Rattle.restore.specs.sections.Section.{Asked, RestoreFault, begun}
 
--- an accepted change: an edit by a command, or a section that was committed, with noflush or without, and the edits of its
--- lines in order
+-- an accepted change: an edit by a command; a section that was committed, with noflush or without, and the edits of its lines in
+-- order; or a section that began as this table, whatever has become of the one in place since then, and the edits of its lines
 pub data Change : Type 0 where
   Command : Edit → Change
   Section : Bool → List Edit → Change
+  SectionOf : Table → List Edit → Change
 
 -- the table after a change, by plain list edits; a section begins from the table, or from its policies alone
 abbrev pub changed : Table → Change → Table
 changed t (Command edit) = edited edit t
 changed t (Section noflush edits) = edited_by (begun noflush t).table edits
+changed t (SectionOf from edits) = edited_by from edits
 
 -- the table after some changes, one after another
 abbrev pub changed_by : Table → List Change → Table

@@ -2,19 +2,21 @@
 ghost use Rattle.std.specs.Prelude.{◌≡◌, ◌⊎◌, ◌+◌, ◌^◌, ◌<◌, ◌≤◌, ◌↔◌, ℕ, Option, List, [], false, true, IfOk, OnOk, MatchResult, is_err, length, vec_len, vec_capacity};
 ghost use Rattle.std.specs.Io.KnownBytes.{Appends};
 ghost use Rattle.fields.specs.text.Tap.{has_failed, is_unflushed, known, shown_left, turns_left, Puts};
-ghost use Rattle.fields.specs.text.Line.{IsHeld, EndsAt, ReadsLine, ReadsOn, ReadsPart};
+ghost use Rattle.fields.specs.text.Line.{IsHeld, EndsAt, ReadsLine};
 ghost use Rattle.table.specs.chains.Table.{Table as TableOf};
 ghost use Rattle.table.specs.edits.Boxes.{MakesOneBoxAtMost};
 ghost use Rattle.table.specs.edits.Headline.{ChainsHaveOneListOfClassifiers};
 ghost use Rattle.sessions.specs.line.Outcome.{Reply, has_ended, reply_text, status_after};
 ghost use Rattle.sessions.specs.line.Executed.{HasChain, IsReply};
+ghost use Rattle.sessions.specs.run.Console.{HasSameTaps, has_held_back, reader, writer};
 
 use crate::line::fault::Fault;
 use crate::line::mode::Mode;
 use crate::line::outcome::{Outcome, take_line};
 use crate::reply::answer::{Answer, write_reply};
 use crate::reply::end::{last_reply, restore_reply};
-use fields::{LineEnd, LineRead, ReadFailed, Tap, WriteFailed};
+use crate::run::console::Console;
+use fields::{LineEnd, LineRead, Tap, WriteFailed};
 use restore::{Restore, listings_restore, restores_leave_what_they_accept};
 use rules::Work;
 use std::alloc::{AllocError, Global};
@@ -49,70 +51,54 @@ fn hand_on<W: Write>(output: &mut Tap<W>) -> Result<(), WriteFailed>
 }
 
 // Has the writer hand on what it holds back, unless the reader shows bytes still: those are read before any others.
-fn hand_on_in_time<R: BufRead, W: Write>(
-    input: &Tap<R>,
-    output: &mut Tap<W>,
-) -> Result<(), RunFault>
-    requires { has_failed output.old ≡ false }
-    ensures handed { OnOk result ((0 < shown_left input.now) ⊎ (is_unflushed output.new ≡ false)) }
-    ensures given { Appends (known W.contents output.old) (known W.contents output.new) [] }
-    ensures fault { MatchResult result (λ _. has_failed output.new ≡ false)
-        (λ fault. (fault ≡ RunFault.WriteFailed) × (has_failed output.new ≡ true)) }
+fn hand_on_in_time<R: BufRead, W: Write>(console: &mut Console<'_, R, W>) -> Result<(), RunFault>
+    requires { has_failed (writer console.old) ≡ false }
+    ensures same { HasSameTaps console.old console.new }
+    ensures reader { reader console.new ≡ reader console.old }
+    ensures prompt { has_held_back console.new ≡ has_held_back console.old }
+    ensures still { 0 < shown_left (reader console.old) → writer console.new ≡ writer console.old }
+    ensures handed { OnOk result ((0 < shown_left (reader console.new)) ⊎ (is_unflushed (writer console.new) ≡ false)) }
+    ensures given { Appends (known W.contents (writer console.old)) (known W.contents (writer console.new)) [] }
+    ensures fault { MatchResult result (λ _. has_failed (writer console.new) ≡ false)
+        (λ fault. (fault ≡ RunFault.WriteFailed) × (has_failed (writer console.new) ≡ true)) }
 {
-    if input.has_more() {
+    if console.shows() {
         return Ok(());
     }
-    match hand_on(output) {
+    match hand_on(console.output) {
         Ok(()) => Ok(()),
         Err(_) => Err(RunFault::WriteFailed),
     }
 }
 
-// Reads on in a line. No byte of a reply is held back where the reader is asked for more.
-fn read_on<R: BufRead, W: Write>(
-    input: &mut Tap<R>,
-    output: &Tap<W>,
-    line: &mut Vec<u8>,
-    too_long: &mut bool,
-) -> Result<Option<LineRead>, ReadFailed>
-    requires handed { (0 < shown_left input.old) ⊎ (is_unflushed output.now ≡ false) }
-    requires room { 10240 ≤ vec_capacity line.old }
-    requires within { vec_len line.old ≤ 10240 }
-    ensures reads { (first : Option (List ℕ)) (turns : ℕ)
-        → ReadsPart first (known R.remaining input.old) turns (turns_left input.old) 10240 line.old.items too_long.old
-        → ReadsOn first (known R.remaining input.new) turns (turns_left input.new) 10240 line.new.items too_long.new result }
-    ensures failed { has_failed input.new ≡ is_err result }
-    ensures turns { OnOk result (turns_left input.old ≡ turns_left input.new + 1) }
-    ensures within { vec_len line.new ≤ 10240 }
-    ensures capacity { vec_capacity line.old ≤ vec_capacity line.new }
-{
-    input.read_part(LINE_MAX, line, too_long)
-}
-
-// Reads the next line. Before the reader is asked for more of it, the replies so far are handed on.
+// Reads the next line. Before the reader is asked for more of it than it shows, the replies so far are handed on; where
+// it shows bytes and the line takes one step of reading, they are left where they are.
 fn next_line<R: BufRead, W: Write>(
-    input: &mut Tap<R>,
-    output: &mut Tap<W>,
+    console: &mut Console<'_, R, W>,
     line: &mut Vec<u8>,
 ) -> Result<LineRead, RunFault>
-    requires input { has_failed input.old ≡ false }
-    requires output { has_failed output.old ≡ false }
+    requires input { has_failed (reader console.old) ≡ false }
+    requires output { has_failed (writer console.old) ≡ false }
     requires room { 10240 ≤ vec_capacity line.old }
-    ensures reads { ReadsLine (known R.remaining input.old) (known R.remaining input.new)
-        (turns_left input.old) (turns_left input.new) 10240 line.new.items result }
-    ensures given { Appends (known W.contents output.old) (known W.contents output.new) [] }
-    ensures fresh { OnOk result ((has_failed input.new ≡ false) × (has_failed output.new ≡ false)) }
-    ensures read_failed { result ≡ Err RunFault.ReadFailed ↔ has_failed input.new ≡ true }
-    ensures write_failed { result ≡ Err RunFault.WriteFailed ↔ has_failed output.new ≡ true }
-    ensures turns { OnOk result (turns_left input.new < turns_left input.old) }
+    ensures same { HasSameTaps console.old console.new }
+    ensures prompt { has_held_back console.new ≡ has_held_back console.old }
+    ensures reads { ReadsLine (known R.remaining (reader console.old)) (known R.remaining (reader console.new))
+        (turns_left (reader console.old)) (turns_left (reader console.new)) 10240 line.new.items result }
+    ensures given { Appends (known W.contents (writer console.old)) (known W.contents (writer console.new)) [] }
+    ensures still { 0 < shown_left (reader console.old) → OnOk result
+        (turns_left (reader console.old) ≡ turns_left (reader console.new) + 1 → writer console.new ≡ writer console.old) }
+    ensures fresh { OnOk result ((has_failed (reader console.new) ≡ false) × (has_failed (writer console.new) ≡ false)) }
+    ensures read_failed { result ≡ Err RunFault.ReadFailed ↔ has_failed (reader console.new) ≡ true }
+    ensures write_failed { result ≡ Err RunFault.WriteFailed ↔ has_failed (writer console.new) ≡ true }
+    ensures turns { OnOk result (turns_left (reader console.new) < turns_left (reader console.old)) }
     ensures within { vec_len line.new ≤ 10240 }
     ensures capacity { vec_capacity line.old ≤ vec_capacity line.new }
 {
     line.clear();
     let mut too_long = false;
     'parts: loop {
-        hand_on_in_time(input, output)?;
-        match read_on(input, output, line, &mut too_long) {
+        hand_on_in_time(console)?;
+        match console.read_part(LINE_MAX, line, &mut too_long) {
             Ok(None) => {}
             Ok(Some(read)) => return Ok(read),
             Err(_) => return Err(RunFault::ReadFailed),
@@ -255,7 +241,7 @@ impl Session {
     ghost use Rattle.sessions.specs.run.Session.{OfRestore, OfSession};
     ghost use Rattle.sessions.specs.run.Headline.{RunsTo, Stands};
     ghost use Rattle.sessions.specs.steps.Lines.{ExecutesLine, ExecutesLines, state_of};
-    ghost use Rattle.sessions.specs.run.Views.{boxes_of, moment, table_of};
+    ghost use Rattle.sessions.specs.run.Views.{boxes_of, moment, moment_on, table_of};
 
     /// A session over a table of the built-in chains without rules. It takes the memory of the table and of the longest
     /// line, 10,240 bytes.
@@ -350,28 +336,29 @@ impl Session {
     fn execute_lines<R: BufRead, W: Write>(
         &mut self,
         progress: &mut Progress,
-        input: &mut Tap<R>,
-        output: &mut Tap<W>,
+        console: &mut Console<'_, R, W>,
     ) -> Result<(), RunFault>
-        requires input { has_failed input.old ≡ false }
-        requires output { has_failed output.old ≡ false }
+        requires input { has_failed (reader console.old) ≡ false }
+        requires output { has_failed (writer console.old) ≡ false }
         requires number { progress.old.number ≡ 0 }
         requires going { has_ended progress.old.mode ≡ false }
-        ensures executes { ExecutesLines (state_of (table_of self.old).table progress.old []) (moment R.remaining W.contents self.old input.old output.old) result
-            (moment R.remaining W.contents self.new input.new output.new) progress.new }
-        ensures ready { OnOk result (has_failed output.new ≡ false) }
-        ensures read_failed { result ≡ Err RunFault.ReadFailed ↔ has_failed input.new ≡ true }
-        ensures write_failed { result ≡ Err RunFault.WriteFailed ↔ has_failed output.new ≡ true }
+        ensures executes { ExecutesLines (state_of (table_of self.old).table progress.old []) (moment_on R.remaining W.contents self.old console.old) result
+            (moment_on R.remaining W.contents self.new console.new) progress.new }
+        ensures same { HasSameTaps console.old console.new }
+        ensures prompt { has_held_back console.new ≡ has_held_back console.old }
+        ensures ready { OnOk result (has_failed (writer console.new) ≡ false) }
+        ensures read_failed { result ≡ Err RunFault.ReadFailed ↔ has_failed (reader console.new) ≡ true }
+        ensures write_failed { result ≡ Err RunFault.WriteFailed ↔ has_failed (writer console.new) ≡ true }
     {
-        let _limit = input.turns();
+        let _limit = console.turns();
         'lines: loop {
-            let read = match next_line(input, output, &mut self.line) {
+            let read = match next_line(console, &mut self.line) {
                 Ok(read) => read,
                 Err(fault) => return Err(fault),
             };
             match read.end {
                 LineEnd::Nothing => return Ok(()),
-                LineEnd::Newline => match self.execute(progress, read.too_long, output) {
+                LineEnd::Newline => match self.execute(progress, read.too_long, console.output) {
                     Ok(()) => {
                         if progress.mode.has_ended() {
                             return Ok(());
@@ -380,7 +367,7 @@ impl Session {
                     Err(_) => return Err(RunFault::WriteFailed),
                 },
                 LineEnd::Input => {
-                    return match self.execute(progress, read.too_long, output) {
+                    return match self.execute(progress, read.too_long, console.output) {
                         Ok(()) => Ok(()),
                         Err(_) => Err(RunFault::WriteFailed),
                     };
@@ -393,22 +380,23 @@ impl Session {
     fn execute_all<R: BufRead, W: Write>(
         &mut self,
         progress: &mut Progress,
-        input: &mut Tap<R>,
-        output: &mut Tap<W>,
+        console: &mut Console<'_, R, W>,
     ) -> Result<(), RunFault>
-        requires input { has_failed input.old ≡ false }
-        requires output { has_failed output.old ≡ false }
+        requires input { has_failed (reader console.old) ≡ false }
+        requires output { has_failed (writer console.old) ≡ false }
         requires number { progress.old.number ≡ 0 }
         requires going { has_ended progress.old.mode ≡ false }
-        ensures executes { ExecutesLines (state_of (table_of self.old).table progress.old []) (moment R.remaining W.contents self.old input.old output.old) result
-            (moment R.remaining W.contents self.new input.new output.new) progress.new }
-        ensures ready { OnOk result (has_failed output.new ≡ false) }
-        ensures read_failed { result ≡ Err RunFault.ReadFailed ↔ has_failed input.new ≡ true }
-        ensures write_failed { result ≡ Err RunFault.WriteFailed ↔ has_failed output.new ≡ true }
+        ensures executes { ExecutesLines (state_of (table_of self.old).table progress.old []) (moment_on R.remaining W.contents self.old console.old) result
+            (moment_on R.remaining W.contents self.new console.new) progress.new }
+        ensures same { HasSameTaps console.old console.new }
+        ensures prompt { has_held_back console.new ≡ has_held_back console.old }
+        ensures ready { OnOk result (has_failed (writer console.new) ≡ false) }
+        ensures read_failed { result ≡ Err RunFault.ReadFailed ↔ has_failed (reader console.new) ≡ true }
+        ensures write_failed { result ≡ Err RunFault.WriteFailed ↔ has_failed (writer console.new) ≡ true }
         ensures stands { Stands (table_of self.new) }
         ensures one { ChainsHaveOneListOfClassifiers }
     {
-        let executed = self.execute_lines(progress, input, output);
+        let executed = self.execute_lines(progress, console);
         self.stands();
         executed
     }
@@ -416,7 +404,7 @@ impl Session {
     /// Runs the lines of the input from the table as it is, and answers the status: that of the first fault, 0 without
     /// one. Each line is executed before the next is read. The replies are handed on, by a flush of the writer, before the
     /// reader's device is asked for more bytes, and at the end of the run. So whoever waits for a reply before the next
-    /// line gets it, and the replies to lines that come at once are handed on at once.
+    /// line gets it, and the replies to lines that come at once are handed on at once. It is `run_on` of both taps.
     ///
     /// After a `RunFault` it may be called again, with new taps; a restore that was open is given up.
     ///
@@ -439,9 +427,34 @@ impl Session {
         ensures read_failed { result ≡ Err RunFault.ReadFailed ↔ has_failed input.new ≡ true }
         ensures write_failed { result ≡ Err RunFault.WriteFailed ↔ has_failed output.new ≡ true }
     {
+        let mut console = Console::new(input, output);
+        self.run_on(&mut console)
+    }
+
+    /// Runs the lines of a console's reader, and writes their replies to its writer, as `run` does. Never is the reader
+    /// asked for more than it shows while the writer holds back a byte of a reply.
+    ///
+    /// # Errors
+    ///
+    /// Those of `run`.
+    pub fn run_on<R: BufRead, W: Write>(
+        &mut self,
+        console: &mut Console<'_, R, W>,
+    ) -> Result<u8, RunFault>
+        requires input { has_failed (reader console.old) ≡ false }
+        requires output { has_failed (writer console.old) ≡ false }
+        ensures runs { RunsTo OfSession (moment_on R.remaining W.contents self.old console.old) result
+            (moment_on R.remaining W.contents self.new console.new) }
+        ensures same { HasSameTaps console.old console.new }
+        ensures prompt { has_held_back console.new ≡ has_held_back console.old }
+        ensures ended { OnOk result (EndsAt (known R.remaining (reader console.old)) (known R.remaining (reader console.new))) }
+        ensures handed { OnOk result (is_unflushed (writer console.new) ≡ false) }
+        ensures read_failed { result ≡ Err RunFault.ReadFailed ↔ has_failed (reader console.new) ≡ true }
+        ensures write_failed { result ≡ Err RunFault.WriteFailed ↔ has_failed (writer console.new) ≡ true }
+    {
         let mut progress = Progress::begin(Mode::Outside);
-        match self.execute_all(&mut progress, input, output) {
-            Ok(()) => progress.finish_session(&self.table, output),
+        match self.execute_all(&mut progress, console) {
+            Ok(()) => progress.finish_session(&self.table, console.output),
             Err(fault) => Err(fault),
         }
     }
@@ -471,10 +484,37 @@ impl Session {
         ensures read_failed { result ≡ Err RunFault.ReadFailed ↔ has_failed input.new ≡ true }
         ensures write_failed { result ≡ Err RunFault.WriteFailed ↔ has_failed output.new ≡ true }
     {
+        let mut console = Console::new(input, output);
+        self.restore_on(noflush, test, list, &mut console)
+    }
+
+    /// Reads a console's whole input as one restore, as `restore` does. Never is the reader asked for more than it shows
+    /// while the writer holds back a byte that was written.
+    ///
+    /// # Errors
+    ///
+    /// Those of `run`.
+    pub fn restore_on<R: BufRead, W: Write>(
+        &mut self,
+        noflush: bool,
+        test: bool,
+        list: bool,
+        console: &mut Console<'_, R, W>,
+    ) -> Result<u8, RunFault>
+        requires input { has_failed (reader console.old) ≡ false }
+        requires output { has_failed (writer console.old) ≡ false }
+        ensures runs { RunsTo (OfRestore noflush test list) (moment_on R.remaining W.contents self.old console.old) result
+            (moment_on R.remaining W.contents self.new console.new) }
+        ensures same { HasSameTaps console.old console.new }
+        ensures prompt { has_held_back console.new ≡ has_held_back console.old }
+        ensures handed { OnOk result (is_unflushed (writer console.new) ≡ false) }
+        ensures read_failed { result ≡ Err RunFault.ReadFailed ↔ has_failed (reader console.new) ≡ true }
+        ensures write_failed { result ≡ Err RunFault.WriteFailed ↔ has_failed (writer console.new) ≡ true }
+    {
         let restore = Restore::new(self.alloc, noflush, test);
         let mut progress = Progress::begin(Mode::InRestore(None, restore));
-        match self.execute_all(&mut progress, input, output) {
-            Ok(()) => progress.finish_restore(list, &self.table, output),
+        match self.execute_all(&mut progress, console) {
+            Ok(()) => progress.finish_restore(list, &self.table, console.output),
             Err(fault) => Err(fault),
         }
     }

@@ -1,25 +1,42 @@
-use Rattle.std.proofs.Common.{rules, arith, []}
+use Rattle.std.proofs.Common.{◌∙◌, rules, arith, [], sym, subst, ap}
 use Rattle.std.proofs.KnownBytes.{Appends-trans}
 use Rattle.fields.specs.text.Tap.{known, turns_left}
+use Rattle.fields.specs.text.Line.{ReadsPart}
+use Rattle.sessions.specs.run.Console.{reader, writer}
 use Rattle.sessions.proofs.run.session.next_line.Goals as goal
 
 pub parts-preserved : goal.parts-preserved
 parts-preserved g c =
     let given = known g.W.Write.contents in
+    let remaining = known g.R.Read.remaining in
+    let first = c.args.console.now in
+    let handed = c.hand_on_in_time.new.console in
+    let fewer = ap turns_left c.hand_on_in_time.ensures.reader in
     record {
-      reads = rw c.in-Ok-None.field-0-is at c.in-Ok-None.ensures.reads (known g.R.Read.remaining c.args.input.now) (turns_left c.args.input.now) c.parts.invariant.reads;
-      given = Appends-trans (given c.args.output.now) (given c.parts.output) (given c.hand_on_in_time.new.output) [] [] c.parts.invariant.given c.hand_on_in_time.ensures.given;
+      same = search rules;
+      prompt = c.read_part.ensures.prompt c.in_ok-hand_on_in_time.ensures.handed ∙ c.hand_on_in_time.ensures.prompt ∙ c.parts.invariant.prompt;
+      reads = rw c.in-Ok-None.field-0-is at c.in-Ok-None.ensures.reads (remaining (reader first)) (turns_left (reader first))
+          (subst (λ t. ReadsPart (remaining (reader first)) (remaining t) (turns_left (reader first)) (turns_left t) 10240 c.parts.line.items c.parts.too_long) (sym c.hand_on_in_time.ensures.reader) c.parts.invariant.reads);
+      given = rw c.read_part.ensures.writer (Appends-trans (given (writer first)) (given (writer c.parts.console)) (given (writer handed)) [] [] c.parts.invariant.given c.hand_on_in_time.ensures.given);
+      still = λ as_before. absurd (omega (arith, fewer, as_before, c.in-Ok-None.ensures.turns));
       fresh = search rules;
-      open_out = c.in_ok-hand_on_in_time.ensures.fault;
+      open_out = search rules;
       within = search rules;
       room = omega arith;
       capacity = omega arith;
-      turns = omega (arith, c.in-Ok-None.ensures.turns);
+      turns = omega (arith, fewer, c.in-Ok-None.ensures.turns);
     }
 
 pub returns-in-Ok-Some-clause-reads : goal.returns-in-Ok-Some-clause-reads
 returns-in-Ok-Some-clause-reads g c =
-    rw c.in-Ok-Some.field-0-is at c.in-Ok-Some.ensures.reads (known g.R.Read.remaining c.args.input.now) (turns_left c.args.input.now) c.parts.invariant.reads
+    let remaining = known g.R.Read.remaining in
+    let first = reader c.args.console.now in
+    rw c.in-Ok-Some.field-0-is at c.in-Ok-Some.ensures.reads (remaining first) (turns_left first)
+    (subst (λ t. ReadsPart (remaining first) (remaining t) (turns_left first) (turns_left t) 10240 c.parts.line.items c.parts.too_long) (sym c.hand_on_in_time.ensures.reader) c.parts.invariant.reads)
 
 pub returns-in-Err-clause-reads : goal.returns-in-Err-clause-reads
-returns-in-Err-clause-reads g c = c.in-Err.ensures.reads (known g.R.Read.remaining c.args.input.now) (turns_left c.args.input.now) c.parts.invariant.reads
+returns-in-Err-clause-reads g c =
+    let remaining = known g.R.Read.remaining in
+    let first = reader c.args.console.now in
+    c.in-Err.ensures.reads (remaining first) (turns_left first)
+    (subst (λ t. ReadsPart (remaining first) (remaining t) (turns_left first) (turns_left t) 10240 c.parts.line.items c.parts.too_long) (sym c.hand_on_in_time.ensures.reader) c.parts.invariant.reads)

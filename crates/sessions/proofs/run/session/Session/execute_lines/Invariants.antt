@@ -1,20 +1,23 @@
 use Rattle.std.proofs.Common.{◌≡◌, ◌+◌, ◌≤◌, [], false}
 use Rattle.fields.specs.text.Tap.{has_failed, turns_left}
 use Rattle.sessions.specs.line.Outcome.{has_ended}
-use Rattle.sessions.specs.run.Views.{moment}
+use Rattle.sessions.specs.run.Console.{HasSameTaps, has_held_back, reader, writer}
+use Rattle.sessions.specs.run.Views.{moment_on}
 use Rattle.sessions.specs.steps.Lines.{state_of}
 use Rattle.sessions.proofs.laws.run.ReachedLaws.{Reached}
 use Rattle.sessions.proofs.run.session.Session.execute_lines.Given as goal
 
 abbrev pub invariant-lines : goal.invariant-lines
 invariant-lines g l = record {
-  reached : Reached (state_of l.initial.self.table.table l.initial.progress []) (moment g.R.Read.remaining g.W.Write.contents l.initial.self l.initial.input l.initial.output)
-      (moment g.R.Read.remaining g.W.Write.contents l.self l.input l.output) l.progress;
-  fresh : has_failed l.input ≡ false;
-  open_out : has_failed l.output ≡ false;
+  reached : Reached (state_of l.initial.self.table.table l.initial.progress []) (moment_on g.R.Read.remaining g.W.Write.contents l.initial.self l.initial.console)
+      (moment_on g.R.Read.remaining g.W.Write.contents l.self l.console) l.progress;
+  same : HasSameTaps l.initial.console l.console;
+  prompt : has_held_back l.console ≡ has_held_back l.initial.console;
+  fresh : has_failed (reader l.console) ≡ false;
+  open_out : has_failed (writer l.console) ≡ false;
   going : has_ended l.progress.mode ≡ false;
-  counted : l.progress.number + turns_left l.input ≤ l._limit;
+  counted : l.progress.number + turns_left (reader l.console) ≤ l._limit;
 }
 
 abbrev pub decreases-lines : goal.decreases-lines
-decreases-lines g l = turns_left l.input
+decreases-lines g l = turns_left (reader l.console)
