@@ -288,6 +288,9 @@ impl MarginRows {
         ensures whole { self.new.room.places % 64 ≡ self.old.room.places % 64 }
         ensures ok { OnOk result (0 < self.new.room.places) }
         ensures there { 0 < self.old.room.places → IsOk result }
+        ensures kept { self.old.room.before < self.old.room.places → self.new.room ≡ self.old.room }
+        ensures blank { two_words ≤ self.old.room.before → self.new.room ≡ self.old.room }
+        ensures first { at ≡ 0 → 0 < self.old.room.before → self.new.room ≡ self.old.room }
     {
         if self.margin == 0 {
             return self.rows.reserve();
