@@ -8,7 +8,7 @@ ghost use Rattle.classify.specs.steps.Fields.{Rises, HasCuts, HasOnlyCuts, Stand
 ghost use Rattle.classify.specs.steps.Fields.{ReplacesSet, UsesRoom, FreesAll};
 ghost use Rattle.classify.specs.steps.Fields.{IsCutFor, HasRoom, TakesIn, TakesOver, HasPlace, LosesBox};
 ghost use Rattle.classify.specs.steps.Fields.{HasRoomAfter, IsOpenedUp, IsClosedUp, HaveOneMargin};
-ghost use Rattle.classify.specs.steps.Fields.{IsKeptWithCuts, HasSameRoom, IsRoomier, KeepsRoom};
+ghost use Rattle.classify.specs.steps.Fields.{IsKeptWithCuts, HasSameRoom, IsRoomier, KeepsRoom, TakesNoneBeside};
 
 use crate::line::edit;
 use crate::line::owned::OwnedLine;
@@ -38,6 +38,7 @@ fn reserve_lines(lines: &mut [OwnedLine], at: usize) -> Result<(), AllocError>
     ensures more { EachEdit IsRoomier lines.old lines.new }
     ensures room { OnOk result (EachEdit (λ _ m. 0 < m.room.places) lines.old lines.new) }
     ensures there { EachLine (λ l. 0 < l.room.places) lines.old → IsOk result }
+    ensures kept { EachEdit (TakesNoneBeside at) lines.old lines.new }
 {
     for k in 0..lines.len() {
         let line = &mut lines[k];

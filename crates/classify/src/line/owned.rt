@@ -9,7 +9,7 @@ ghost use Rattle.classify.specs.line.Line.{starts};
 ghost use Rattle.classify.specs.steps.Kept.{IsLine, line_prop};
 ghost use Rattle.classify.specs.steps.Pieces.{row_bits, row_in};
 ghost use Rattle.classify.specs.steps.Edits.{row_of};
-ghost use Rattle.classify.specs.steps.Fields.{HasRoomAfter, TakesPlace, LeavesPlace, IsOpenedUp, IsClosedUp, IsRoomier, FreesRoom, FreesAll};
+ghost use Rattle.classify.specs.steps.Fields.{HasRoomAfter, TakesPlace, LeavesPlace, IsOpenedUp, IsClosedUp, IsRoomier, TakesNoneBeside, FreesRoom, FreesAll};
 ghost use Rattle.bits.specs.steps.Summaries.{IsSummaryOf};
 ghost use Rattle.std.specs.List.{zip};
 
@@ -301,6 +301,7 @@ impl OwnedLine {
         ensures more { IsRoomier self.old self.new }
         ensures ok { OnOk result (0 < self.new.room.places) }
         ensures there { 0 < self.old.room.places → IsOk result }
+        ensures kept { TakesNoneBeside at self.old self.new }
     {
         self.rows.reserve(at)
     }

@@ -1,6 +1,7 @@
 //! A box's answers put into a line that is cut wherever they change.
 
-ghost use Rattle.std.specs.Prelude.{◌≡◌, ◌<◌, ◌≤◌, ◌+◌, ℕ, length, map, false, slice_index_or};
+ghost use Rattle.std.specs.Prelude.{◌≡◌, ◌<◌, ◌≤◌, ◌+◌, ◌&&◌, ℕ, length, map, false, slice_index_or};
+ghost use Rattle.fields.specs.numbers.Spans.{has};
 ghost use Rattle.classify.specs.steps.Cuts.{CutsStart};
 ghost use Rattle.classify.specs.steps.Fields.{HasRoomAfter, TakesPlace};
 ghost use Rattle.classify.specs.steps.Edits.{row_of, with_answer, with_written};
@@ -92,7 +93,9 @@ fn put_most(line: &mut OwnedLine, at: usize, spans: &Spans)
 }
 
 // Whether a box allows more than half of a line's pieces; of a single interval, whether it is the whole line.
-fn allows_most(line: &OwnedLine, spans: &Spans) -> bool {
+fn allows_most(line: &OwnedLine, spans: &Spans) -> bool
+    ensures { length spans.now.intervals < 2 → result ≡ (has spans.now.intervals 0 && has spans.now.intervals spans.now.top) }
+{
     let intervals = spans.intervals();
     if intervals.len() < 2 {
         return spans.has(0) && spans.has(spans.top());
