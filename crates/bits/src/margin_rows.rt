@@ -1,6 +1,6 @@
 //! Rows with a margin: blank places before their first bits, so that a bit goes in there, or out, while no other moves.
 
-ghost use Rattle.std.specs.Prelude.{◌≡◌, ◌<◌, ◌≤◌, ◌+◌, ◌-◌, ◌^◌, ℕ, [], ◌∷◌, length, map, insert, remove, slice_set, slice_index_or};
+ghost use Rattle.std.specs.Prelude.{◌≡◌, ◌≢◌, ◌<◌, ◌≤◌, ◌+◌, ◌-◌, ◌^◌, ℕ, [], ◌∷◌, length, map, insert, remove, slice_set, slice_index_or};
 ghost use Rattle.std.specs.Prelude.{false, take, All, IfOk, OnOk, OnErr, IsOk, IsTrue, ◌↔◌, ◌%◌};
 ghost use Rattle.bits.specs.MarginRows.{after_margin, closed_up};
 ghost use Rattle.bits.specs.Rows.{two_words};
@@ -147,6 +147,8 @@ impl MarginRows {
         ensures within { result ≤ row }
         ensures alike { (k : ℕ) → result ≤ k → k ≤ row
             → slice_index_or (slice_index_or self.now.rows k []) at false ≡ slice_index_or (slice_index_or self.now.rows row []) at false }
+        ensures first { 0 < result → slice_index_or (slice_index_or self.now.rows (result - 1) []) at false
+            ≢ slice_index_or (slice_index_or self.now.rows row []) at false }
     {
         let _bits = self.rows.bits(row);
         self.rows.run_start(row, self.margin + at)
@@ -286,6 +288,9 @@ impl MarginRows {
         ensures whole { self.new.room.places % 64 ≡ self.old.room.places % 64 }
         ensures ok { OnOk result (0 < self.new.room.places) }
         ensures there { 0 < self.old.room.places → IsOk result }
+        ensures kept { self.old.room.before < self.old.room.places → self.new.room ≡ self.old.room }
+        ensures blank { two_words ≤ self.old.room.before → self.new.room ≡ self.old.room }
+        ensures first { at ≡ 0 → 0 < self.old.room.before → self.new.room ≡ self.old.room }
     {
         if self.margin == 0 {
             return self.rows.reserve();

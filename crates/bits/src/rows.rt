@@ -483,6 +483,7 @@ impl Rows {
         ensures whole { self.new.room % 64 ≡ self.old.room % 64 }
         ensures ok { OnOk result (0 < self.new.room) }
         ensures there { 0 < self.old.room → IsOk result }
+        ensures kept { 0 < self.old.room → self.new.room ≡ self.old.room }
     {
         if self.room() > 0 {
             return Ok(());

@@ -1,11 +1,11 @@
 //! Bits moved within the words that a summary has: words without a bit are passed over.
 
-ghost use Rattle.std.specs.Prelude.{◌≡◌, ◌≢◌, ◌<◌, ◌≤◌, ◌*◌, ◌/◌, ◌%◌, ◌^◌, length, true, slice_index};
+ghost use Rattle.std.specs.Prelude.{◌≡◌, ◌≢◌, ◌<◌, ◌≤◌, ◌*◌, ◌/◌, ◌%◌, ◌^◌, ◌↔◌, length, true, slice_index, IsTrue};
 ghost use Rattle.bits.specs.steps.First.{Nowhere};
 ghost use Rattle.bits.specs.steps.Held.{TakesIn, GivesUp};
 ghost use Rattle.bits.specs.steps.Packing.{all_bits};
 ghost use Rattle.bits.specs.steps.Shifts.{Shifts};
-ghost use Rattle.bits.specs.steps.Summaries.{IsMarked, IsSummaryOf, HidesNoWord, StayBlank};
+ghost use Rattle.bits.specs.steps.Summaries.{AreMostMarked, IsMarked, IsSummaryOf, HidesNoWord, StayBlank};
 
 use crate::summary::{kept, marked, next_marked};
 use crate::words::{insert_bit, remove_bit, shift_down, shift_in, shift_out, shift_up, word_at};
@@ -183,8 +183,10 @@ fn give_up_pairs(words: &mut [u64], summary: &mut u64, at: usize)
     *summary = new;
 }
 
-// Whether a summary has so many words that to pass over the others isn't worth it: three quarters of them or more.
-fn is_dense(summary: u64, words: usize) -> bool {
+// Whether a summary has so many pairs of words that to pass over the others isn't worth it: three quarters of them or more.
+fn is_dense(summary: u64, words: usize) -> bool
+    ensures { IsTrue result ↔ AreMostMarked summary words }
+{
     summary.count_ones() as usize >= words.div_ceil(8) * 3
 }
 

@@ -6,4 +6,5 @@ pub mod Fields
 pub mod Kept
 pub mod Pieces
 pub mod Runs
+pub mod Starts
 pub mod Summaries

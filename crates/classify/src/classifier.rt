@@ -127,6 +127,7 @@ impl Classifier {
         ensures err { OnErr result (self.new.shown ≡ self.old.shown) }
         ensures kept { OnErr result (self.old.room ≤ self.new.room) }
         ensures there { 0 < self.old.room → HasNoNewCut boxed self.old.shown → IsOk result }
+        ensures part { self.old.shown.len % 64 ≢ 0 → HasNoNewCut boxed self.old.shown → IsOk result }
         ensures room { OnOk result (HasNoNewCut boxed self.old.shown → self.old.room ≤ self.new.room + 1) }
     {
         if self.len >= MOST_BITS {

@@ -70,6 +70,10 @@ still-after m rows wide e = e ∙ ap (map (after_margin m)) (sym (shown-after m 
 pub at-after : (m k : ℕ) (rows wide : List Row) → AreAfter m rows wide → k < length rows → get_or wide k [] ≡ after_margin m (get_or rows k [])
 at-after m k rows wide e lt = ap (λ (rs : List Row). get_or rs k []) e ∙ get_or-map (after_margin m) rows k [] [] lt
 
+-- a bit of a row, which stands behind its margin
+pub bit-after : (m at k : ℕ) (rows wide : List Row) → AreAfter m rows wide → k < length rows → get_or (get_or wide k []) (m + at) false ≡ get_or (get_or rows k []) at false
+bit-after m at k rows wide e lt = ap (λ (row : Row). get_or row (m + at) false) (at-after m k rows wide e lt) ∙ get-after m at (get_or rows k []) false
+
 pub long-after : (m : ℕ) (rows wide : List Row) → AreAfter m rows wide → length wide ≡ length rows
 long-after m rows wide e = ap length e ∙ length-map rows (after_margin m)
 

@@ -1,5 +1,5 @@
 -- Summaries of rows: which of a row's words a search may pass over.
-use Rattle.std.specs.Prelude.{◌≡◌, ℕ, ◌+◌, ◌/◌, ◌%◌, ◌<◌, ◌≤◌, Bool, false, true, List, length, slice_index, slice_index_or, All}
+use Rattle.std.specs.Prelude.{◌≡◌, ℕ, ◌+◌, ◌*◌, count_ones, ◌/◌, ◌%◌, ◌<◌, ◌≤◌, Bool, false, true, List, length, slice_index, slice_index_or, All}
 use Rattle.std.specs.Int.{bit_at}
 use Rattle.bits.specs.steps.Packing.{all_bits, word_bits, low_bit}
 use Rattle.bits.specs.steps.Held.{words_in}
@@ -15,6 +15,10 @@ IsMarked summary word = HasPair summary (word / 2)
 -- a summary has the bit of each word in which the row has one: it hides none
 abbrev pub IsSummaryOf : ℕ → List Bool → Type 0
 IsSummaryOf summary row = (p : ℕ) → slice_index_or row p false ≡ true → IsMarked summary (p / 64)
+
+-- a summary has three of each four pairs of so many words, which are taken as whole eights
+abbrev pub AreMostMarked : ℕ → ℕ → Type 0
+AreMostMarked summary words = 3 * ((words + 7) / 8) ≤ count_ones summary
 
 -- a word without a bit
 abbrev pub IsBlank : ℕ → Type 0

@@ -123,6 +123,13 @@ pub record FreesAll (l m : PiecesAndRoom) : Type 0 where
 abbrev pub HasRoomAfter : ℕ → PiecesAndRoom → Type 0
 HasRoomAfter bits l = bits ≤ l.room.places - l.room.before
 
+-- for a bit at a place no memory is taken where there is room after the rows, or where blank places before them have two words,
+-- or where the bit goes in first and there is one
+pub record TakesNoneBeside (at : ℕ) (l m : PiecesAndRoom) : Type 0 where
+  pub after : HasRoomAfter 1 l → m.room ≡ l.room
+  pub blank : two_words ≤ l.room.before → m.room ≡ l.room
+  pub first : at ≡ 0 → 0 < l.room.before → m.room ≡ l.room
+
 -- the same line, with blank places more before each row, which two words have
 pub record IsOpenedUp (l m : PiecesAndRoom) : Type 0 where
   pub same : m.pieces ≡ l.pieces

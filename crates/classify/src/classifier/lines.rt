@@ -1,6 +1,6 @@
 //! The lines of all fields: each step on every line in turn.
 
-ghost use Rattle.std.specs.Prelude.{◌≡◌, ◌<◌, ◌≤◌, ◌+◌, ◌%◌, ℕ, length, OnOk, OnErr, IsOk, IsTrue};
+ghost use Rattle.std.specs.Prelude.{◌≡◌, ◌<◌, ◌≤◌, ◌+◌, ◌%◌, ◌↔◌, ℕ, length, OnOk, OnErr, IsOk, IsTrue};
 ghost use Rattle.bits.specs.Rows.{two_words};
 ghost use Rattle.classify.specs.steps.Pieces.{row_bits};
 ghost use Rattle.classify.specs.steps.Fields.{EachLine, EachEdit, ShowTheSame, AreEmpty, EachField, OnEach};
@@ -8,7 +8,7 @@ ghost use Rattle.classify.specs.steps.Fields.{Rises, HasCuts, HasOnlyCuts, Stand
 ghost use Rattle.classify.specs.steps.Fields.{ReplacesSet, UsesRoom, FreesAll};
 ghost use Rattle.classify.specs.steps.Fields.{IsCutFor, HasRoom, TakesIn, TakesOver, HasPlace, LosesBox};
 ghost use Rattle.classify.specs.steps.Fields.{HasRoomAfter, IsOpenedUp, IsClosedUp, HaveOneMargin};
-ghost use Rattle.classify.specs.steps.Fields.{IsKeptWithCuts, HasSameRoom, IsRoomier, KeepsRoom};
+ghost use Rattle.classify.specs.steps.Fields.{IsKeptWithCuts, HasSameRoom, IsRoomier, KeepsRoom, TakesNoneBeside};
 
 use crate::line::edit;
 use crate::line::owned::OwnedLine;
@@ -38,6 +38,7 @@ fn reserve_lines(lines: &mut [OwnedLine], at: usize) -> Result<(), AllocError>
     ensures more { EachEdit IsRoomier lines.old lines.new }
     ensures room { OnOk result (EachEdit (λ _ m. 0 < m.room.places) lines.old lines.new) }
     ensures there { EachLine (λ l. 0 < l.room.places) lines.old → IsOk result }
+    ensures kept { EachEdit (TakesNoneBeside at) lines.old lines.new }
 {
     for k in 0..lines.len() {
         let line = &mut lines[k];
@@ -91,7 +92,7 @@ fn insert_prepared_lines(lines: &mut [OwnedLine], at: usize, spans: &[Spans])
 
 // Whether so many bits go in after the last of each row of every line before memory is needed.
 fn have_room_after(lines: &[OwnedLine], bits: usize) -> bool
-    ensures { IsTrue result → EachLine (HasRoomAfter bits) lines.now }
+    ensures { IsTrue result ↔ EachLine (HasRoomAfter bits) lines.now }
 {
     for k in 0..lines.len() {
         let line = &lines[k];
@@ -130,6 +131,12 @@ fn make_way(lines: &mut [OwnedLine], at: usize)
     ensures same { EachEdit (λ l m. (m.pieces ≡ l.pieces) × (m.room.places ≡ l.room.places)) lines.old lines.new }
     ensures after { 0 < at → EachLine (HasRoomAfter 1) lines.new }
     ensures margin { HaveOneMargin lines.old → HaveOneMargin lines.new }
+    ensures opened { at ≡ 0 → EachLine (λ l. l.room.before ≡ 0) lines.old → EachLine (HasRoomAfter two_words) lines.old
+        → EachEdit IsOpenedUp lines.old lines.new }
+    ensures blank { at ≡ 0 → EachLine (λ l. 0 < l.room.before) lines.old → lines.new ≡ lines.old }
+    ensures full { at ≡ 0 → (EachLine (HasRoomAfter two_words) lines.old → ⊥) → lines.new ≡ lines.old }
+    ensures closed { 0 < at → (EachLine (HasRoomAfter 1) lines.old → ⊥) → EachEdit IsClosedUp lines.old lines.new }
+    ensures fits { 0 < at → EachLine (HasRoomAfter 1) lines.old → lines.new ≡ lines.old }
 {
     if at > 0 {
         if !have_room_after(lines, 1) {

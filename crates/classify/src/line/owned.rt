@@ -1,7 +1,7 @@
 //! A line as the classifier keeps it: where its pieces start, and their rows.
 
 ghost use Rattle.std.specs.Prelude.{ℕ, ◌≡◌, ◌<◌, ◌≤◌, ◌+◌, ◌-◌, ◌%◌, length, map, insert, remove, slice_set, slice_index, slice_index_or, take};
-ghost use Rattle.std.specs.Prelude.{false, true, IfOk, IsOk, OnOk, OnErr, IsTrue, ◌↔◌, [], ◌∷◌};
+ghost use Rattle.std.specs.Prelude.{◌≢◌, false, true, IfOk, IsOk, OnOk, OnErr, IsTrue, ◌↔◌, [], ◌∷◌};
 ghost use Rattle.bits.specs.MarginRows.{after_margin};
 ghost use Rattle.bits.specs.Rows.{two_words};
 ghost use Rattle.bits.specs.steps.Packing.{all_bits, IsPacked};
@@ -9,7 +9,7 @@ ghost use Rattle.classify.specs.line.Line.{starts};
 ghost use Rattle.classify.specs.steps.Kept.{IsLine, line_prop};
 ghost use Rattle.classify.specs.steps.Pieces.{row_bits, row_in};
 ghost use Rattle.classify.specs.steps.Edits.{row_of};
-ghost use Rattle.classify.specs.steps.Fields.{HasRoomAfter, TakesPlace, LeavesPlace, IsOpenedUp, IsClosedUp, IsRoomier, FreesRoom, FreesAll};
+ghost use Rattle.classify.specs.steps.Fields.{HasRoomAfter, TakesPlace, LeavesPlace, IsOpenedUp, IsClosedUp, IsRoomier, TakesNoneBeside, FreesRoom, FreesAll};
 ghost use Rattle.bits.specs.steps.Summaries.{IsSummaryOf};
 ghost use Rattle.std.specs.List.{zip};
 
@@ -232,6 +232,8 @@ impl OwnedLine {
         ensures within { result ≤ k }
         ensures alike { (j : ℕ) → result ≤ j → j ≤ k
             → slice_index_or (row_of self.now.pieces j) at false ≡ slice_index_or (row_of self.now.pieces k) at false }
+        ensures first { 0 < result
+            → slice_index_or (row_of self.now.pieces (result - 1)) at false ≢ slice_index_or (row_of self.now.pieces k) at false }
     {
         let _pieces = self.rows.count();
         self.rows.run_start(k, at)
@@ -299,6 +301,7 @@ impl OwnedLine {
         ensures more { IsRoomier self.old self.new }
         ensures ok { OnOk result (0 < self.new.room.places) }
         ensures there { 0 < self.old.room.places → IsOk result }
+        ensures kept { TakesNoneBeside at self.old self.new }
     {
         self.rows.reserve(at)
     }

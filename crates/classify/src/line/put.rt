@@ -1,6 +1,7 @@
 //! A box's answers put into a line that is cut wherever they change.
 
-ghost use Rattle.std.specs.Prelude.{◌≡◌, ◌<◌, ◌≤◌, ◌+◌, ℕ, length, map, false, slice_index_or};
+ghost use Rattle.std.specs.Prelude.{◌≡◌, ◌<◌, ◌≤◌, ◌+◌, ◌/◌, ◌&&◌, ◌↔◌, ℕ, length, map, false, slice_index_or, count_by, IsTrue};
+ghost use Rattle.fields.specs.numbers.Spans.{has};
 ghost use Rattle.classify.specs.steps.Cuts.{CutsStart};
 ghost use Rattle.classify.specs.steps.Fields.{HasRoomAfter, TakesPlace};
 ghost use Rattle.classify.specs.steps.Edits.{row_of, with_answer, with_written};
@@ -92,20 +93,24 @@ fn put_most(line: &mut OwnedLine, at: usize, spans: &Spans)
 }
 
 // Whether a box allows more than half of a line's pieces; of a single interval, whether it is the whole line.
-fn allows_most(line: &OwnedLine, spans: &Spans) -> bool {
+fn allows_most(line: &OwnedLine, spans: &Spans) -> bool
+    requires { CutsStart spans.now.top spans.now.intervals line.now.pieces }
+    ensures single { length spans.now.intervals < 2
+        → result ≡ (has spans.now.intervals 0 && has spans.now.intervals spans.now.top) }
+    ensures several { 2 ≤ length spans.now.intervals
+        → IsTrue result ↔ (length line.now.pieces / 2 < count_by (λ p. has spans.now.intervals p.0) line.now.pieces) }
+{
     let intervals = spans.intervals();
     if intervals.len() < 2 {
         return spans.has(0) && spans.has(spans.top());
     }
-    let mut allowed: usize = 0;
+    let pieces = line.len();
+    let mut allowed = 0;
     for interval in intervals {
-        let last = line.place_of(interval.last);
-        let before = line.place_of(interval.first);
-        allowed = allowed
-            .saturating_add(last.saturating_sub(before))
-            .saturating_add(1);
+        let Run { from, to } = run_in(line, *interval);
+        allowed += to - from;
     }
-    allowed > line.len() / 2
+    allowed > pieces / 2
 }
 
 // Puts a box's answers into the rows of a line that is cut wherever they change. Beside the place that is opened in each

@@ -1,6 +1,6 @@
 //! Where the pieces of a line start.
 
-ghost use Rattle.std.specs.Prelude.{ℕ, ◌≡◌, ◌<◌, ◌≤◌, ◌+◌, ◌^◌, ◌∷◌, [], length, insert, remove, take, slice_index, IfOk, OnOk, OnErr};
+ghost use Rattle.std.specs.Prelude.{ℕ, ◌≡◌, ◌<◌, ◌≤◌, ◌+◌, ◌-◌, ◌^◌, ◌∷◌, [], length, insert, remove, take, slice_index, IfOk, OnOk, OnErr};
 ghost use Rattle.std.specs.List.Sorted.{IsNonDecreasingBy};
 
 use crate::line::places;
@@ -8,8 +8,8 @@ use bits::{insert_at, insert_pair_at};
 use std::alloc::{AllocError, Global};
 use std::marker::Model;
 
-/// Rising numbers. The first of them are kept as numbers of 32 bits, and the others, where there are any, as numbers of
-/// 128: so a start needs 4 bytes on the fields whose numbers have no more than 32 bits.
+/// Rising numbers. Those that fit 32 bits are kept so, and those after them, where there are any, as numbers of 128: so a
+/// start needs 4 bytes on the fields whose numbers have no more than 32 bits.
 #[derive(Drop)]
 pub(crate) struct Starts {
     narrow: Vec<u32>,
@@ -17,13 +17,14 @@ pub(crate) struct Starts {
 }
 
 impl Model for Starts {
-    ghost use Rattle.std.specs.Prelude.{List, ℕ, ◌≤◌, ◌+◌, ◌^◌, ◌++◌, length};
+    ghost use Rattle.std.specs.Prelude.{List, ℕ, ◌++◌};
+    ghost use Rattle.classify.specs.steps.Starts.{AreParted};
 
     ghost Value = { List ℕ };
 
     ghost view = { λ s. s.narrow.items ++ s.wide.items };
 
-    ghost invariant = { λ s. length s.narrow.items + length s.wide.items ≤ 2 ^ 32 };
+    ghost invariant = { λ s. AreParted s.narrow.items s.wide.items };
 }
 
 impl Starts {
@@ -63,9 +64,10 @@ impl Starts {
         narrow + wide
     }
 
-    // Puts a number in at a place, before a greater one or at the end.
+    // Puts a number in at a place, after a lesser one, and before a greater one or at the end.
     pub(crate) fn insert(&mut self, k: usize, x: u128) -> Result<(), AllocError>
         requires place { k ≤ length self.old }
+        requires above { 0 < k → slice_index self.old (k - 1) < x }
         requires below { k < length self.old → x < slice_index self.old k }
         requires few { length self.old < 2 ^ 32 }
         ensures ok { OnOk result (self.new ≡ insert self.old k x) }
@@ -85,9 +87,10 @@ impl Starts {
         Ok(())
     }
 
-    // Puts two rising numbers in at a place, before a greater one or at the end: where both are narrow, by one move.
+    // Puts two rising numbers in at a place, after a lesser one, and before a greater one or at the end: where both are narrow, by one move.
     pub(crate) fn insert_pair(&mut self, k: usize, x: u128, y: u128) -> Result<(), AllocError>
         requires place { k ≤ length self.old }
+        requires above { 0 < k → slice_index self.old (k - 1) < x }
         requires rising { x < y }
         requires below { k < length self.old → y < slice_index self.old k }
         requires few { length self.old + 1 < 2 ^ 32 }
@@ -110,6 +113,7 @@ impl Starts {
     // Puts two rising numbers in at a place, one by one.
     fn insert_each(&mut self, k: usize, x: u128, y: u128) -> Result<(), AllocError>
         requires place { k ≤ length self.old }
+        requires above { 0 < k → slice_index self.old (k - 1) < x }
         requires rising { x < y }
         requires below { k < length self.old → y < slice_index self.old k }
         requires few { length self.old + 1 < 2 ^ 32 }

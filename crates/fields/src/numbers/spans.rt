@@ -1,6 +1,6 @@
 //! Sets of numbers up to a top value.
 
-ghost use Rattle.std.specs.Prelude.{◌≡◌, ◌≤◌, ◌<◌, ◌&&◌, ◌||◌, ℕ, nat_le, not, [], IfOk};
+ghost use Rattle.std.specs.Prelude.{◌≡◌, ◌≤◌, ◌<◌, ◌&&◌, ◌||◌, ℕ, nat_le, not, [], IfOk, IsOk};
 ghost use Rattle.fields.specs.numbers.Spans.{has, AreSpansFrom, CanonicalIsUnique};
 
 use smallvec::SmallVec;
@@ -17,8 +17,8 @@ pub struct Interval {
 /// A set of numbers from 0 to a top value, kept as its intervals: they rise, and between two of them
 /// there is a number that is in neither, so each set has one such list (`canonical_is_unique`).
 ///
-/// An interval takes 32 bytes. One lies in the set itself, so a set takes memory only for several, and a call that makes a
-/// set answers `AllocError` only where memory was refused.
+/// An interval takes 32 bytes. One lies in the set itself, so a set takes memory only for several. `whole` and `one`
+/// always succeed; any other call that makes a set answers `AllocError` only where memory was refused.
 #[derive(Drop)]
 pub struct Spans {
     top: u128,
@@ -48,6 +48,7 @@ impl Spans {
 
     /// All numbers from 0 to `top`.
     pub fn whole(alloc: Global, top: u128) -> Result<Spans, AllocError>
+        ensures succeeds { IsOk result }
         ensures top { IfOk result (λ set. set.top ≡ top) }
         ensures members { IfOk result (λ set. (x : ℕ) → has set.intervals x ≡ nat_le x top) }
     {
@@ -58,6 +59,7 @@ impl Spans {
     pub fn one(alloc: Global, top: u128, first: u128, last: u128) -> Result<Spans, AllocError>
         requires first_within { first ≤ top }
         requires last_within { last ≤ top }
+        ensures succeeds { IsOk result }
         ensures top { IfOk result (λ set. set.top ≡ top) }
         ensures members { IfOk result (λ set. (x : ℕ) → has set.intervals x ≡ (nat_le first x && nat_le x last)) }
     {

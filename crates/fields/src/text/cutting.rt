@@ -128,13 +128,15 @@ impl State {
 }
 
 impl Cutting {
-    ghost use Rattle.std.specs.Prelude.{◌≡◌, ◌<◌, ◌≤◌, [], ◌∷◌, true, length, take, All, IsTrue, IfOk, IsErr};
+    ghost use Rattle.std.specs.Prelude.{◌≡◌, ◌+◌, ◌/◌, ◌<◌, ◌≤◌, [], ◌∷◌, true, length, take, vec_capacity, All, IsTrue, IsOk, IfOk, IsErr};
     ghost use Rattle.fields.specs.text.Words.{is_bare, words_of, Bare};
     ghost use Rattle.fields.specs.steps.Cutting.{view_cutting, view_state, after, at_line_end, start, joined, ended, Gives, UnlessNoMemory, Advances, Continues, IsRun, is_unquoted};
 
     // Before the first byte, with room for the bytes of a line and as many words as it may have.
     fn new(alloc: Global, len: usize) -> Result<Cutting, WordFault>
-        ensures { UnlessNoMemory result (IfOk result (λ cutting. view_cutting cutting ≡ start)) }
+        ensures start { UnlessNoMemory result (IfOk result (λ cutting. view_cutting cutting ≡ start)) }
+        ensures bytes_room { IfOk result (λ cutting. vec_capacity cutting.bytes ≡ len) }
+        ensures ends_room { IfOk result (λ cutting. vec_capacity cutting.ends ≡ (len + 1) / 2) }
     {
         let bytes = match Vec::with_capacity(alloc, len) {
             Ok(bytes) => bytes,
@@ -153,7 +155,9 @@ impl Cutting {
 
     // Joins a byte to the word at hand.
     fn join(&mut self, byte: u8) -> Result<(), WordFault>
-        ensures { UnlessNoMemory result (view_cutting self.new ≡ joined (byte ∷ []) (view_cutting self.old)) }
+        ensures joined { UnlessNoMemory result (view_cutting self.new ≡ joined (byte ∷ []) (view_cutting self.old)) }
+        ensures there { length self.old.bytes.items < vec_capacity self.old.bytes → IsOk result }
+        ensures room { vec_capacity self.old.bytes ≤ vec_capacity self.new.bytes }
     {
         self.bytes.push(byte).map_err(|_| WordFault::NoMemory)?;
         Ok(())
@@ -161,7 +165,9 @@ impl Cutting {
 
     // Joins some bytes to it.
     fn join_all(&mut self, run: &[u8]) -> Result<(), WordFault>
-        ensures { UnlessNoMemory result (view_cutting self.new ≡ joined run.now (view_cutting self.old)) }
+        ensures joined { UnlessNoMemory result (view_cutting self.new ≡ joined run.now (view_cutting self.old)) }
+        ensures there { length self.old.bytes.items + length run.now ≤ vec_capacity self.old.bytes → IsOk result }
+        ensures room { vec_capacity self.old.bytes ≤ vec_capacity self.new.bytes }
     {
         self.bytes
             .extend_from_slice(run)
@@ -171,7 +177,9 @@ impl Cutting {
 
     // Ends the word at hand.
     fn end_word(&mut self) -> Result<(), WordFault>
-        ensures { UnlessNoMemory result (view_cutting self.new ≡ ended (view_cutting self.old)) }
+        ensures ended { UnlessNoMemory result (view_cutting self.new ≡ ended (view_cutting self.old)) }
+        ensures there { length self.old.ends.items < vec_capacity self.old.ends → IsOk result }
+        ensures room { vec_capacity self.old.ends ≤ vec_capacity self.new.ends }
     {
         self.ends
             .push(self.bytes.len())

@@ -1,10 +1,11 @@
 //! What a rule asks of several fields at once, asked of all packets whose ports are in two sets.
-ghost use Rattle.std.specs.Prelude.{◌≡◌, ℕ, List, Bool, true, false, not, IfOk, IsTrue};
+ghost use Rattle.std.specs.Prelude.{◌≡◌, ℕ, List, Bool, true, false, not, Any, IfOk, IfSome, IsTrue};
 ghost use Rattle.std.specs.List.{list_all};
 ghost use Rattle.fields.specs.numbers.Field.{top};
 ghost use Rattle.fields.specs.numbers.Spans.{SpanSet, has};
 ghost use Rattle.fields.specs.declared.numbers.field.Field.TheVariants.{SourcePort, DestinationPort};
-ghost use Rattle.rules.specs.rule.Crossing.{HasMember, SaysOf, cross, has_either_port, match_crosses, option_value_crosses};
+ghost use Rattle.rules.specs.rule.Crossing.{HasMember, HasPortsOf, IsListedBy, IsListedByRule, IsListedIn, SaysOf, asks_both, cross, has_either_port};
+ghost use Rattle.rules.specs.rule.Crossing.{match_crosses, option_value_crosses, parted_by};
 ghost use Rattle.rules.specs.declared.rule.port_sets.Crossing.TheVariants.{Holds};
 ghost use Rattle.rules.specs.steps.Shares.{IsShareOf};
 ghost use Rattle.rules.specs.steps.Views.{view_match};
@@ -39,8 +40,9 @@ impl Crossing {
 
     // What the opposite of the conditions says.
     fn turned(self) -> Crossing
-        ensures { (test : List ℕ → Bool) (source destination : SpanSet) → SaysOf test source destination self
+        ensures says { (test : List ℕ → Bool) (source destination : SpanSet) → SaysOf test source destination self
             → SaysOf (λ numbers. not (test numbers)) source destination result }
+        ensures listed { parted_by result ≡ parted_by self }
     {
         match self {
             Crossing::Holds => Crossing::Fails,
@@ -91,16 +93,17 @@ fn list_says(
 ) -> Result<Crossing, AllocError>
     requires source { source.now.top ≡ top SourcePort }
     requires destination { destination.now.top ≡ top DestinationPort }
-    ensures { IfOk result (SaysOf (has_either_port list.now) source.now destination.now) }
+    ensures says { IfOk result (SaysOf (has_either_port list.now) source.now destination.now) }
+    ensures listed { IfOk result (λ said. IfSome (parted_by said) (λ set. HasPortsOf set (Some list.now))) }
 {
     let listed = list.allowed(alloc)?;
     let sources = share_of(alloc, source, &listed)?;
     let destinations = share_of(alloc, destination, &listed)?;
     match (sources, destinations) {
         (Share::All, _) | (_, Share::All) => Ok(Crossing::Holds),
-        (Share::Part, _) => Ok(Crossing::BySource(listed)),
-        (_, Share::Part) => Ok(Crossing::ByDestination(listed)),
         (Share::Nothing, Share::Nothing) => Ok(Crossing::Fails),
+        (Share::Part, Share::Nothing | Share::Part) => Ok(Crossing::BySource(listed)),
+        (Share::Nothing, Share::Part) => Ok(Crossing::ByDestination(listed)),
     }
 }
 
@@ -113,7 +116,8 @@ impl OptionValue {
     ) -> Result<Crossing, AllocError>
         requires source { source.now.top ≡ top SourcePort }
         requires destination { destination.now.top ≡ top DestinationPort }
-        ensures { IfOk result (SaysOf (λ numbers. option_value_crosses numbers self.now) source.now destination.now) }
+        ensures says { IfOk result (SaysOf (λ numbers. option_value_crosses numbers self.now) source.now destination.now) }
+        ensures listed { IfOk result (λ said. IfSome (parted_by said) (λ set. IsListedBy set self.now)) }
     {
         let Value::Ports(list) = &self.value else {
             return Ok(Crossing::Holds);
@@ -134,7 +138,8 @@ fn match_says(
 ) -> Result<Crossing, AllocError>
     requires source { source.now.top ≡ top SourcePort }
     requires destination { destination.now.top ≡ top DestinationPort }
-    ensures { IfOk result (SaysOf (λ numbers. match_crosses numbers (view_match one.now)) source.now destination.now) }
+    ensures says { IfOk result (SaysOf (λ numbers. match_crosses numbers (view_match one.now)) source.now destination.now) }
+    ensures listed { IfOk result (λ said. IfSome (parted_by said) (λ set. IsListedIn set (view_match one.now))) }
 {
     for option_value in one.option_values.as_slice() {
         let said = option_value.says(alloc, source, destination)?;
@@ -153,7 +158,8 @@ fn matches_say(
 ) -> Result<Crossing, AllocError>
     requires source { source.now.top ≡ top SourcePort }
     requires destination { destination.now.top ≡ top DestinationPort }
-    ensures { IfOk result (SaysOf (λ numbers. list_all (λ m. match_crosses numbers (view_match m)) matches.now) source.now destination.now) }
+    ensures says { IfOk result (SaysOf (λ numbers. list_all (λ m. match_crosses numbers (view_match m)) matches.now) source.now destination.now) }
+    ensures listed { IfOk result (λ said. IfSome (parted_by said) (λ set. Any (λ m. IsListedIn set (view_match m)) matches.now)) }
 {
     for one in matches {
         let said = match_says(alloc, one, source, destination)?;
@@ -180,7 +186,11 @@ pub fn cross_ports(
 ) -> Result<Crossing, AllocError>
     requires source { source.now.top ≡ top SourcePort }
     requires destination { destination.now.top ≡ top DestinationPort }
-    ensures { IfOk result (SaysOf (λ numbers. cross numbers rule.now) source.now destination.now) }
+    ensures says { IfOk result (SaysOf (λ numbers. cross numbers rule.now) source.now destination.now) }
+
+    // The ports by which packets are parted are those that one of the rule's conditions lists.
+    ensures listed { IfOk result (λ said. IfSome (parted_by said) (λ set. IsListedByRule set rule.now)) }
+    ensures without { asks_both rule.now ≡ false → result ≡ Ok Holds }
 {
     if !rule.asks_both() {
         return Ok(Crossing::Holds);

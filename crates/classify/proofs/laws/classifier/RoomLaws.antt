@@ -1,7 +1,8 @@
 -- The room of a classifier is the least of all its lines.
-use Rattle.std.proofs.Common.{◌≡◌, ◌≢◌, ℕ, zero, suc, ◌+◌, ◌-◌, ◌<◌, ◌≤◌, ◌%◌, List, [], ◌∷◌, length, get_or, refl, sym, ◌∙◌, ap, arith}
+use Rattle.std.proofs.Common.{◌≡◌, ◌≢◌, ℕ, zero, suc, ◌+◌, ◌-◌, ◌<◌, ◌≤◌, ◌%◌, List, [], ◌∷◌, length, get_or, refl, sym, ◌∙◌, ap, arith, subst}
 use Rattle.std.proofs.lemmas.List.Elements.{All-nil, All-cons, All-head, All-tail}
-use Rattle.classify.specs.steps.Fields.{most_boxes, room_of_lines, room_beside, IsKept, HaveOneMargin, EachLine, EachEdit, HasSameRoom, KeepsRoom, UsesRoom, FreesRoom, FreesAll, TakesPlace, LeavesPlace}
+use Rattle.classify.specs.classifier.Classifier.{ClassifiedAndRoom}
+use Rattle.classify.specs.steps.Fields.{shown_by, most_boxes, room_of_lines, room_beside, IsKept, HaveOneMargin, EachLine, EachEdit, HasSameRoom, KeepsRoom, UsesRoom, FreesRoom, FreesAll, TakesPlace, LeavesPlace}
 use Rattle.bits.specs.MarginRows.{Room}
 use Rattle.classify.specs.steps.Kept.{PiecesAndRoom}
 
@@ -68,6 +69,13 @@ last_words_room lines len kept part =
     let few : len ≤ most_boxes = kept.few in
     let one : 1 ≤ room_beside len lines = least_line 1 (most_boxes - len) lines (omega arith) (λ k l lt. omega (arith, (get_or lines k l).stands.whole, (kept.sound k l lt).bits)) in
     omega arith
+
+-- the same of what they show
+pub room_in_word : (lines : List PiecesAndRoom) (len : ℕ) (seen : ClassifiedAndRoom) → IsKept len lines → record { shown = shown_by len lines; room = room_beside len lines } ≡ seen
+    → seen.shown.len % 64 ≢ 0 → 0 < seen.room
+room_in_word lines len seen kept view part =
+    let P : ClassifiedAndRoom → Type 0 = λ k. 0 < k.room in
+    subst P view (last_words_room lines len kept (λ full. part (ap (λ (k : ClassifiedAndRoom). k.shown.len % 64) (sym view) ∙ full)))
 
 -- ---- one margin of all lines
 

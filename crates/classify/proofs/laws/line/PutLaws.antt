@@ -1,8 +1,9 @@
 -- A box's answers written into the rows of a line, interval by interval.
 use Rattle.fields.specs.declared.numbers.spans.Interval.{Interval}
 use Rattle.classify.proofs.laws.line.LineLaws.{and_first_true, and_second_true}
-use Rattle.std.proofs.Common.{◌≡◌, inl, inr, ℕ, zero, suc, ◌+◌, ◌<◌, ◌≤◌, ◌||◌, ◌&&◌, Bool, true, false, List, [], ◌∷◌, take, length, get_or, refl, sym, ◌∙◌, ap, arith, subst, map}
-use Rattle.std.specs.List.{insert, list_all}
+use Rattle.std.proofs.Common.{◌≡◌, inl, inr, ℕ, zero, suc, ◌+◌, ◌-◌, ◌<◌, ◌≤◌, ◌⊎◌, min, max, cond, ◌||◌, ◌&&◌, Bool, true, false, List, [], ◌∷◌, take, length, get_or, refl, sym, ◌∙◌, ap, arith, subst, map}
+use Rattle.std.specs.List.{count_by, insert, list_all}
+use Rattle.std.proofs.lemmas.List.Sums.{count_by_more_no, count_by_more_yes, sum_by-cons}
 use Rattle.std.specs.Prelude.{slice_index}
 use Rattle.std.proofs.Math.ListN.{set}
 use Rattle.std.proofs.Math.Dec.{leb}
@@ -18,7 +19,7 @@ use Rattle.classify.specs.steps.Pieces.{IsRising, StartsAt, row_bits}
 use Rattle.classify.specs.steps.Kept.{PiecesAndRoom, most_start}
 use Rattle.classify.specs.steps.Edits.{with_answer, with_bit, with_test, with_written, row_of}
 use Rattle.classify.specs.steps.Runs.{IsRunIn, IsRunWritten}
-use Rattle.classify.proofs.laws.line.ShownLaws.{Cut}
+use Rattle.classify.proofs.laws.line.ShownLaws.{Cut, start_in}
 use Rattle.classify.proofs.laws.line.KeptLaws.{row_long}
 use Rattle.classify.proofs.laws.line.EndLaws.{ends_from_cuts, starts_zero}
 use Rattle.classify.proofs.laws.line.RunLaws.{bits_as_long, bits_start, bits_written, start_was}
@@ -250,3 +251,71 @@ written_again at test (p ∷ ps) place =
 pub opened_written : (at : ℕ) (spans : List Interval) (l : PiecesAndRoom) (now new : List Cut) → IsOpened at l.pieces now → at ≤ row_bits l.pieces → new ≡ map (with_written at spans) now → new ≡ map (with_answer at spans) l.pieces
 opened_written at spans l now new is le made =
     made ∙ ap (λ (line : List Cut). map (with_written at spans) line) is ∙ written_again at (has spans) l.pieces (λ j lt. omega (arith, row_long l j lt))
+
+-- ---- how many pieces are allowed
+
+pub begins_there : (top i : ℕ) (spans own : List Interval) (d : Interval) (l : PiecesAndRoom) → spans ≡ own → AreSpansFrom top 0 own → CutsStart top own l.pieces → i < length spans
+    → StartsAt (get_or spans i d).first l.pieces
+begins_there top i spans own d l same canonical cuts lt =
+    let all = ends_from_cuts top 0 l.pieces own canonical (λ x _ le ne. cuts x le ne) (λ _. starts_zero most_start l.pieces l.stands.rising) in
+    let Q : Interval → Type 0 = λ s. StartsAt s.first l.pieces in
+    subst Q (ap (λ (ss : List Interval). get_or ss i d) (sym same)) (all i d (omega (arith, ap length same))).0
+
+past_later : (spans : List Interval) (y x : ℕ) → y ≤ x → is_past spans y ≡ true → is_past spans x ≡ true
+past_later [] y x le e = refl
+past_later (s ∷ ss) y x le e =
+    both (leb (s.last + 1) x) (is_past ss x) (le-leb (s.last + 1) x (omega (arith, le, leb-true (s.last + 1) y (and_first_true (leb (s.last + 1) y) (is_past ss y) e))))
+    ∙ past_later ss y x le (and_second_true (leb (s.last + 1) y) (is_past ss y) e)
+
+-- a piece more, which two tests answer alike
+same_counted : (p q : Cut → Bool) (line : List Cut) (k : ℕ) (b : Bool) → k < length line → p (get_or line k none) ≡ b → q (get_or line k none) ≡ b
+    → count_by q (take (k + 1) line) + count_by p (take k line) ≡ count_by p (take (k + 1) line) + count_by q (take k line)
+same_counted p q line k true lt e f = omega (arith, count_by_more_yes q line k none lt f, count_by_more_yes p line k none lt e)
+same_counted p q line k false lt e f = omega (arith, count_by_more_no q line k none lt f, count_by_more_no p line k none lt e)
+
+-- a test that passes the pieces from one place up to another beside those that a second one passes
+counted_upto : (p q : Cut → Bool) (from to : ℕ) (line : List Cut)
+    → ((j : ℕ) → from ≤ j → j < to → j < length line → (p (get_or line j none) ≡ false) × (q (get_or line j none) ≡ true))
+    → ((j : ℕ) → j < length line → (j < from) ⊎ (to ≤ j) → q (get_or line j none) ≡ p (get_or line j none)) → from ≤ to → (k : ℕ) → k ≤ length line
+    → count_by q (take k line) + from ≡ count_by p (take k line) + max from (min k to)
+counted_upto p q from to line inside outside order zero le = let a : max from (min 0 to) ≡ from = omega arith in omega (arith, a)
+counted_upto p q from to line inside outside order (suc k) le =
+    let next : suc k ≡ k + 1 = omega arith in
+    let lt : k < length line = omega (arith, le) in
+    let before = counted_upto p q from to line inside outside order k (omega (arith, le)) in
+    let qs = ap (λ n. count_by q (take n line)) next in
+    let ps = ap (λ n. count_by p (take n line)) next in
+    elim (cases_lt k from) [
+      | inl less ↦ omega (arith, order, less, before, qs, ps, same_counted p q line k (p (get_or line k none)) lt refl (outside k lt (inl less)))
+      | inr ge ↦ elim (cases_lt k to) [
+        | inl below ↦ (
+            let here = inside k ge below lt in
+            omega (arith, order, ge, below, before, qs, ps, count_by_more_yes q line k none lt here.1, count_by_more_no p line k none lt here.0))
+        | inr past ↦ omega (arith, order, ge, past, before, qs, ps, same_counted p q line k (p (get_or line k none)) lt refl (outside k lt (inr past)))
+      ]
+    ]
+
+pub none_counted : (line : List Cut) → count_by (λ p. has [] p.0) line ≡ 0
+none_counted [] = refl
+none_counted (p ∷ ps) = omega (arith, none_counted ps, sum_by-cons (λ (c : Cut). cond (has [] c.0) 1 0) p ps)
+
+-- the pieces of one interval more
+pub counted_more : (top i : ℕ) (spans : List Interval) (d : Interval) (from to : ℕ) (line : List Cut) → AreSpansFrom top 0 spans → i < length spans → IsRunIn (get_or spans i d) from to line
+    → count_by (λ p. has (take (i + 1) spans) p.0) line ≡ count_by (λ p. has (take i spans) p.0) line + (to - from)
+counted_more top i spans d from to line canonical lt run =
+    let s : Interval = get_or spans i d in
+    let f : ℕ → Bool = has (take i spans) in
+    let past = past_first top 0 spans i d canonical lt in
+    let all = counted_upto (λ p. f p.0) (λ p. has (take (i + 1) spans) p.0) from to line
+    (λ j ge below in'. (let x : ℕ = (get_or line j none).0 in
+    let low : s.first ≤ x = omega (arith, start_in line j none in', run.low j ge in') in
+    let high : x ≤ s.last = omega (arith, start_in line j none in', run.high j below) in
+    (past_none (take i spans) x (past_later (take i spans) s.first x low past), has_more spans i x d lt ∙ or_right (f x) (in_span x s) (in_it s x low high))))
+    (λ j in' out. (let x : ℕ = (get_or line j none).0 in
+    has_more spans i x d lt ∙ or_false (f x) (in_span x s) (elim out [
+      | inl less ↦ out_below s x (omega (arith, start_in line j none in', run.below j less))
+      | inr above ↦ out_above s x (omega (arith, start_in line j none in', run.above j above in'))
+    ])))
+    (omega (arith, run.some)) (length line) (omega arith) in
+    let whole = take_all (length line) line (omega arith) in
+    omega (arith, run.some, run.ends, all, ap (λ (l : List Cut). count_by (λ p. has (take (i + 1) spans) p.0) l) whole, ap (λ (l : List Cut). count_by (λ p. f p.0) l) whole)

@@ -1,6 +1,7 @@
 -- Numbers in two parts, one after the other.
-use Rattle.std.proofs.Common.{◌≡◌, inl, inr, ℕ, ap, true, false, ◌+◌, ◌-◌, ◌<◌, ◌≤◌, List, ◌++◌, length, get_or, refl, ◌∙◌, arith, subst}
-use Rattle.std.specs.Prelude.{slice_index}
+use Rattle.std.proofs.Common.{◌≡◌, inl, inr, ℕ, ap, true, false, ◌+◌, ◌^◌, ◌∷◌, take, drop, ◌-◌, ◌<◌, ◌≤◌, List, ◌++◌, length, get_or, refl, ◌∙◌, arith, subst}
+use Rattle.std.specs.Prelude.{slice_index, insert, All}
+use Rattle.std.proofs.lemmas.List.Elements.{All-append, All-cons, All-drop, All-get_or, All-take}
 use Rattle.std.proofs.lemmas.List.{get_or_append_left, get_or-append_right, length-append}
 use Rattle.std.proofs.lemmas.Bool.{cases_lt}
 use Rattle.std.proofs.Math.Dec.{leb}
@@ -72,3 +73,22 @@ counted_out low high x a b h k ge lt =
         | inr past ↦ omega (arith, in_high low high k right, h.high_out (k - length low) past (omega arith))
       ]
     ]
+
+-- ---- edits
+
+-- the number before a place, by the starts that are shown
+pub above_at : (kept shown : List ℕ) (k x : ℕ) → shown ≡ kept → slice_index shown k < x → slice_index kept (k + 1 - 1) < x
+above_at kept shown k x is low =
+    let here : k + 1 - 1 ≡ k = omega arith in
+    omega (arith, low, ap (λ (ss : List ℕ). slice_index ss k) is, ap (slice_index kept) here)
+
+-- a number after a wide one, or which is wide itself where there is none before it, goes in among the wide ones
+pub wide_inserted : (narrow wide : List ℕ) (k x : ℕ) → length narrow ≤ k → k ≤ length narrow + length wide → (k ≡ length narrow → 2 ^ 32 ≤ x)
+    → (0 < k → slice_index (narrow ++ wide) (k - 1) < x) → All (λ y. 2 ^ 32 ≤ y) wide → All (λ y. 2 ^ 32 ≤ y) (insert wide (k - length narrow) x)
+wide_inserted narrow wide k x past within first above all =
+    let P : ℕ → Type 0 = λ y. 2 ^ 32 ≤ y in
+    let here : 2 ^ 32 ≤ x = elim (cases_lt (length narrow) k) [
+      | inl later ↦ omega (arith, above (omega (arith, later)), in_high narrow wide (k - 1) (omega (arith, later)), All-get_or P wide (k - 1 - length narrow) 0 (omega (arith, later, within)) all)
+      | inr same ↦ first (omega (arith, past, same))
+    ] in
+    All-append P (take (k - length narrow) wide) (x ∷ drop (k - length narrow) wide) (All-take P (k - length narrow) wide all) (All-cons P x (drop (k - length narrow) wide) here (All-drop P (k - length narrow) wide all))

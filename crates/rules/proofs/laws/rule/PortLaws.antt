@@ -1,8 +1,10 @@
 -- Sets of ports: what a list has of one, and what is said of all packets whose ports are in two.
-use Rattle.std.proofs.Common.{◌≡◌, ℕ, ◌+◌, ◌<◌, ◌≤◌, Bool, true, false, ◌&&◌, ◌==◌, List, [], ◌∷◌, length, take, get_or, refl, sym, ◌∙◌, ap, arith, subst}
-use Rattle.std.specs.List.{list_all}
+use Rattle.std.proofs.Common.{◌≡◌, ℕ, Option, Some, None, map, ◌+◌, ◌<◌, ◌≤◌, Bool, true, false, ◌&&◌, ◌==◌, List, [], ◌∷◌, length, take, get_or, refl, sym, ◌∙◌, ap, arith, subst}
+use Rattle.std.specs.List.{Any, list_all}
+use Rattle.std.specs.Option.{IfSome}
 use Rattle.std.proofs.Math.Dec.{leb}
 use Rattle.std.proofs.lemmas.Bool.{and_from, and_parts, le-leb, or_left, true≢false}
+use Rattle.std.proofs.lemmas.List.{get_or-map, length-map}
 use Rattle.std.proofs.lemmas.List.Folds.{list_all_at, list_all_more}
 use Rattle.fields.specs.declared.numbers.spans.Interval.{Interval}
 use Rattle.fields.specs.numbers.Spans.{AreSpansFrom, SpanSet, has}
@@ -55,3 +57,15 @@ says_more {A} test xs k d source destination said lt is before h numbers ports =
     let P : Crossing → Type 0 = λ c. SaysOf (λ ns. test ns (get_or xs k d)) source destination c in
     let here : test numbers (get_or xs k d) ≡ true = subst P is h numbers ports in
     list_all_more (test numbers) xs k d lt ∙ (λ i. before numbers ports i && here i)
+
+-- what holds of the ports by which packets are parted, and of one element, holds of them and some element
+pub any_there : {A : Type 0} (P : SpanSet → A → Type 0) (xs : List A) (k : ℕ) (x : A) (ports : Option SpanSet) → k < length xs → x ≡ get_or xs k x
+    → IfSome ports (λ set. P set x) → IfSome ports (λ set. Any (P set) xs)
+any_there P xs k x None within is h = h
+any_there P xs k x (Some set) within is h = (k, x, within, sym is, h)
+
+-- the same of the elements, and of what they are made into
+pub any_made : {A B : Type 0} (P : SpanSet → B → Type 0) (f : A → B) (xs : List A) (ports : Option SpanSet) → IfSome ports (λ set. Any (λ x. P set (f x)) xs) → IfSome ports (λ set. Any (P set) (map f xs))
+any_made P f xs None h = h
+any_made P f xs (Some set) h =
+    (h.0, f h.1, omega (arith, h.2, length-map xs f), get_or-map f xs h.0 h.1 (f h.1) h.2 ∙ ap f h.3, h.4)

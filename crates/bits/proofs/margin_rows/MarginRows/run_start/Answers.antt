@@ -1,5 +1,5 @@
-use Rattle.std.proofs.Common.{◌+◌, ◌≡◌, ◌∙◌, sym, ap, arith, get_or, false, [], List, Bool}
-use Rattle.bits.proofs.laws.MarginLaws.{shown_rows, at-after, get-after, long-after, reach-after}
+use Rattle.std.proofs.Common.{◌-◌, ◌∙◌, sym, arith, []}
+use Rattle.bits.proofs.laws.MarginLaws.{shown_rows, bit-after, long-after, reach-after}
 use Rattle.bits.proofs.margin_rows.MarginRows.run_start.Goals as goal
 
 pub overflow_add-self-inside : goal.overflow_add-self-inside
@@ -13,9 +13,16 @@ run_start-requires-clause-place c = reach-after c.self.inside.margin c.args.at c
 pub returns-clause-alike : goal.returns-clause-alike
 returns-clause-alike c k low high =
     let e = shown_rows _ _ _ _ c.self.invariant c.self.view_is in
-    let bit : List Bool → Bool = λ row. get_or row (c.self.inside.margin + c.args.at) false in
-    let here : get_or (get_or c.self.inside.rows.rows k []) (c.self.inside.margin + c.args.at) false ≡ get_or (get_or c.args.self.now.rows k []) c.args.at false =
-    ap bit (at-after c.self.inside.margin k c.args.self.now.rows c.self.inside.rows.rows e (omega (arith, c.requires.row))) ∙ get-after c.self.inside.margin c.args.at (get_or c.args.self.now.rows k []) false in
-    let last : get_or (get_or c.self.inside.rows.rows c.args.row []) (c.self.inside.margin + c.args.at) false ≡ get_or (get_or c.args.self.now.rows c.args.row []) c.args.at false =
-    ap bit (at-after c.self.inside.margin c.args.row c.args.self.now.rows c.self.inside.rows.rows e c.requires.row) ∙ get-after c.self.inside.margin c.args.at (get_or c.args.self.now.rows c.args.row []) false in
-    sym here ∙ c.run_start.ensures.alike k low high ∙ last
+    let m = c.self.inside.margin in
+    sym (bit-after m c.args.at k c.args.self.now.rows c.self.inside.rows.rows e (omega (arith, c.requires.row)))
+    ∙ c.run_start.ensures.alike k (omega (arith, low, c.run_start.ensures.within)) high
+    ∙ bit-after m c.args.at c.args.row c.args.self.now.rows c.self.inside.rows.rows e c.requires.row
+
+pub returns-clause-first : goal.returns-clause-first
+returns-clause-first c more same =
+    let e = shown_rows _ _ _ _ c.self.invariant c.self.view_is in
+    let m = c.self.inside.margin in
+    c.run_start.ensures.first more
+    (bit-after m c.args.at (c.run_start.result - 1) c.args.self.now.rows c.self.inside.rows.rows e (omega (arith, c.requires.row, c.run_start.ensures.within))
+    ∙ same
+    ∙ sym (bit-after m c.args.at c.args.row c.args.self.now.rows c.self.inside.rows.rows e c.requires.row))

@@ -4,7 +4,7 @@ use Rattle.fields.specs.declared.numbers.field.TheConstants.{FIELDS}
 use Rattle.classify.specs.classifier.Classifier.{Classified, ClassifiedAndRoom, IsClassifierOf, HasNoNewCut}
 use Rattle.classify.specs.steps.Fields.{most_boxes, room_beside}
 use Rattle.classify.proofs.laws.classifier.ClassifierLaws.{classifier_with, sound_lines, still_sound, kept_shown, same_shown, no_new_cuts, on_err_anyway}
-use Rattle.classify.proofs.laws.classifier.RoomLaws.{each_line, used_room, kept_room}
+use Rattle.classify.proofs.laws.classifier.RoomLaws.{each_line, used_room, kept_room, room_in_word}
 use Rattle.classify.proofs.laws.classifier.RuleLaws.{rules_inserted}
 use Rattle.classify.proofs.classifier.Classifier.insert.Goals as goal
 
@@ -52,6 +52,12 @@ returns-in_err-insert_lines-clause-there c room none =
     let P : Classified → Type 0 = λ k. HasNoNewCut c.args.boxed k in
     let cuts = no_new_cuts c.self.inside.lines c.spans.result.now c.args.boxed c.self.inside.len n c.spans.ensures.value c.spans.ensures.whole (subst P (sym (ap (λ (k : ClassifiedAndRoom). k.shown) c.self.view_is)) none) in
     absurd (false≢true (c.in_err-insert_lines.ensures.there (λ k s l lt. record { cuts = cuts k s l lt; room = each.1 k l lt })))
+
+pub returns-then-self-ge-MOST_BITS-clause-part : goal.returns-then-self-ge-MOST_BITS-clause-part
+returns-then-self-ge-MOST_BITS-clause-part c part none = returns-then-self-ge-MOST_BITS-clause-there c (room_in_word c.self.inside.lines c.self.inside.len c.args.self.now c.self.invariant c.self.view_is part) none
+
+pub returns-in_err-insert_lines-clause-part : goal.returns-in_err-insert_lines-clause-part
+returns-in_err-insert_lines-clause-part c part none = returns-in_err-insert_lines-clause-there c (room_in_word c.self.inside.lines c.self.inside.len c.args.self.now c.self.invariant c.self.view_is part) none
 
 pub returns-clause-room : goal.returns-clause-room
 returns-clause-room c none =

@@ -1,6 +1,9 @@
 use Rattle.classify.proofs.laws.line.PutLaws.{opened_cuts, opened_place, opened_none, opened_written}
 use Rattle.classify.proofs.line.put.put_answers.Goals as goal
 
+pub allows_most-requires : goal.allows_most-requires
+allows_most-requires c = opened_cuts _ c.args.at _ _ _ c.insert_column.ensures.pieces c.requires.cuts
+
 pub put_most-requires-clause-cuts : goal.put_most-requires-clause-cuts
 put_most-requires-clause-cuts c = opened_cuts _ c.args.at _ _ _ c.insert_column.ensures.pieces c.requires.cuts
 

@@ -11,7 +11,7 @@ returns-then-not-meet c =
 pub returns-in-Fails : goal.returns-in-Fails
 returns-in-Fails c =
     let P : Crossing → Type 0 = λ said. SaysOf (λ (numbers : List ℕ). cross numbers c.args.rule.now) c.on.result.now c.on-2.result.now said in
-    let fails = subst P c.in-Fails.is c.in_ok-cross_ports.ensures in (
+    let fails = subst P c.in-Fails.is c.in_ok-cross_ports.ensures.says in (
       refl,
       fails_all c.args.rule.now c.args.area c.args.boxed.now c.in_ok-inside.inside c.requires (rw c.spans-2.ensures.value at c.in_ok-inside.ensures)
           (λ numbers point h. fails numbers (in_ports c.in_ok-inside.inside c.on.result.now c.on-2.result.now numbers c.on.ensures.top c.on.ensures.set c.on-2.ensures.top c.on-2.ensures.set point h)),
@@ -20,7 +20,7 @@ returns-in-Fails c =
 pub returns-in_ok-others-in-Holds : goal.returns-in_ok-others-in-Holds
 returns-in_ok-others-in-Holds c =
     let P : Crossing → Type 0 = λ said. SaysOf (λ (numbers : List ℕ). cross numbers c.args.rule.now) c.on.result.now c.on-2.result.now said in
-    let holds = subst P c.in-Holds.is c.in_ok-cross_ports.ensures in
+    let holds = subst P c.in-Holds.is c.in_ok-cross_ports.ensures.says in
     cut_of c.args.rule.now c.args.area c.args.boxed.now c.in_ok-inside.inside c.requires (rw c.spans-2.ensures.value at c.in_ok-inside.ensures) c.in_ok-others-in-Holds.others.items
     (rw (c.sets-in-Holds.ensures.value, c.spans-in-Holds.ensures.value) at c.in_ok-others-in-Holds.ensures)
     (λ numbers point h. holds numbers (in_ports c.in_ok-inside.inside c.on.result.now c.on-2.result.now numbers c.on.ensures.top c.on.ensures.set c.on-2.ensures.top c.on-2.ensures.set point h))

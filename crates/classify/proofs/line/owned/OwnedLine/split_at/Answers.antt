@@ -2,6 +2,8 @@ use Rattle.std.proofs.Common.{◌≡◌, ◌<◌, ◌+◌, ◌∙◌, sym, ap, a
 use Rattle.std.specs.List.{zip}
 use Rattle.std.specs.Prelude.{slice_index}
 use Rattle.std.proofs.lemmas.List.Edits.{length-insert}
+use Rattle.classify.specs.line.Line.{starts}
+use Rattle.classify.proofs.laws.line.StartLaws.{above_at}
 use Rattle.classify.proofs.laws.line.PieceLaws.{kept_long, kept_row, kept_pieces, kept_starts, pieces_inserted, remove-insert}
 use Rattle.classify.proofs.laws.line.KeptLaws.{split_kept, same_kept}
 use Rattle.bits.specs.MarginRows.{Room}
@@ -22,6 +24,9 @@ insert-requires-clause-place c = omega (arith, kept_long _ _ _ _ _ c.self.invari
 pub insert-requires-clause-below : goal.insert-requires-clause-below
 insert-requires-clause-below c lt =
     omega (arith, c.requires.below (omega (arith, kept_long _ _ _ _ _ c.self.invariant c.self.view_is)), ap (λ (ss : List ℕ). slice_index ss (c.args.k + 1)) (kept_starts _ _ _ _ _ c.self.invariant c.self.view_is))
+
+pub insert-requires-clause-above : goal.insert-requires-clause-above
+insert-requires-clause-above c later = above_at c.self.inside.starts (starts c.args.self.now.pieces) c.args.k c.args.x (kept_starts _ _ _ _ _ c.self.invariant c.self.view_is) c.requires.above
 
 pub insert-requires-clause-few : goal.insert-requires-clause-few
 insert-requires-clause-few c =

@@ -2,6 +2,8 @@ use Rattle.std.proofs.Common.{◌≡◌, ◌<◌, ◌+◌, ◌∙◌, sym, ap, a
 use Rattle.std.specs.List.{zip}
 use Rattle.std.specs.Prelude.{slice_index}
 use Rattle.std.proofs.lemmas.List.Edits.{length-remove}
+use Rattle.classify.specs.line.Line.{starts}
+use Rattle.classify.proofs.laws.line.StartLaws.{above_at}
 use Rattle.classify.proofs.laws.line.PieceLaws.{kept_long, kept_row, kept_pieces, kept_starts}
 use Rattle.classify.proofs.laws.line.KeptLaws.{same_kept}
 use Rattle.classify.proofs.laws.line.TwiceLaws.{cut_twice_kept, long_twice, pieces_cut_twice, taken_back}
@@ -23,6 +25,9 @@ insert_pair-requires-clause-place c = omega (arith, kept_long _ _ _ _ _ c.self.i
 pub insert_pair-requires-clause-below : goal.insert_pair-requires-clause-below
 insert_pair-requires-clause-below c lt =
     omega (arith, c.requires.below (omega (arith, kept_long _ _ _ _ _ c.self.invariant c.self.view_is)), ap (λ (ss : List ℕ). slice_index ss (c.args.k + 1)) (kept_starts _ _ _ _ _ c.self.invariant c.self.view_is))
+
+pub insert_pair-requires-clause-above : goal.insert_pair-requires-clause-above
+insert_pair-requires-clause-above c later = above_at c.self.inside.starts (starts c.args.self.now.pieces) c.args.k c.args.x (kept_starts _ _ _ _ _ c.self.invariant c.self.view_is) c.requires.above
 
 pub insert_pair-requires-clause-few : goal.insert_pair-requires-clause-few
 insert_pair-requires-clause-few c =

@@ -9,4 +9,4 @@ pub returns : goal.returns
 returns c =
     let bytes = c.args.bytes.now in
     ended_at_blank bytes _ (view_cutting c.args.self.now) _ (search rules) (omega arith) c.requires
-    (ap (placed Between) (c.in_ok-end_word.ensures)) (take_rest bytes 1)
+    (ap (placed Between) (c.in_ok-end_word.ensures.ended)) (take_rest bytes 1)

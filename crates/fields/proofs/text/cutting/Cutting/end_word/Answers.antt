@@ -10,8 +10,8 @@ invariant_of-self c =
     let pushed = c.push.ensures.items ∙ ap (λ end. cond (is_ok c.push.result) (ends ++ end ∷ []) ends) all in
     record { rise = rise-ended ends c.args.self.now.bytes.items c.push.new.self.items _ pushed c.args.self.now.rise }
 
-pub returns : goal.returns
-returns c =
+pub returns-clause-ended : goal.returns-clause-ended
+returns-clause-ended c =
     let ends = c.args.self.now.ends.items in
     let all : c.len.result ≡ length c.args.self.now.bytes.items = search rules in
     let pushed = c.push.ensures.items ∙ ap (λ end. cond (is_ok c.push.result) (ends ++ end ∷ []) ends) all in

@@ -6,7 +6,7 @@ use Rattle.fields.proofs.text.cutting.Cutting.join.Goals as goal
 pub invariant_of-self : goal.invariant_of-self
 invariant_of-self c = record { rise = rise-pushed c.args.self.now.ends.items c.args.self.now.bytes.items (c.args.byte ∷ []) c.push.new.self.items _ c.push.ensures.items c.args.self.now.rise }
 
-pub returns : goal.returns
-returns c =
+pub returns-clause-joined : goal.returns-clause-joined
+returns-clause-joined c =
     let done : is_ok c.push.result ≡ true = search rules in
     cut-joined c.args.self.now.ends.items c.args.self.now.bytes.items (c.args.byte ∷ []) c.push.new.self.items (view_state c.args.self.now.state) _ c.push.ensures.items done c.args.self.now.rise

@@ -10,4 +10,4 @@ returns-clause-advances c =
     let bytes = c.args.bytes.now in
     let n = c.args.run in
     advanced n bytes _ (view_cutting c.args.self.now) _ c.requires.some c.requires.within c.requires.unquoted c.requires.run
-    (ap (placed Bare) (c.in_ok-join_all.ensures)) (take_rest bytes n)
+    (ap (placed Bare) (c.in_ok-join_all.ensures.joined)) (take_rest bytes n)
