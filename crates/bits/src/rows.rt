@@ -484,6 +484,7 @@ impl Rows {
         ensures ok { OnOk result (0 < self.new.room) }
         ensures there { 0 < self.old.room → IsOk result }
         ensures kept { 0 < self.old.room → self.new.room ≡ self.old.room }
+        ensures doubled { self.old.room ≡ 0 → OnOk result (All (λ row. length row ≤ self.new.room) self.old.rows) }
     {
         if self.room() > 0 {
             return Ok(());

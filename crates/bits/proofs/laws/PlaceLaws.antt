@@ -171,3 +171,8 @@ cleared_room len w slots ws shown h is some =
 pub wider : (width twice : ℕ) → (width ≡ 0 → twice ≡ 1) → (0 < width → twice ≡ 2 * width) → width < twice
 wider zero twice none some = omega (arith, none refl)
 wider (suc width) twice none some = omega (arith, some (omega arith))
+
+-- and so at least as many bits go in as there are
+pub doubled_room : (len width twice : ℕ) → (width ≡ 0 → twice ≡ 1) → (0 < width → twice ≡ 2 * width) → len ≤ 64 * width → len ≤ 64 * twice - len
+doubled_room len zero twice none some full = omega (arith, full)
+doubled_room len (suc width) twice none some full = omega (arith, full, some (omega arith))
