@@ -1,20 +1,18 @@
 -- What commands leave that delete rules by number.
-use Rattle.std.proofs.Common.{◌≡◌, inl, inr, ℕ, zero, suc, ◌+◌, ◌-◌, ◌≤◌, Bool, true, false, cond, List, [], ◌∷◌, ◌++◌, length, map, refl, sym, ◌∙◌, ap, arith, subst}
+use Rattle.std.proofs.Common.{◌≡◌, inl, inr, ℕ, ◌+◌, ◌-◌, Bool, true, false, cond, List, [], ◌∷◌, ◌++◌, length, map, refl, sym, ◌∙◌, ap, arith, subst}
 use Rattle.std.specs.Prelude.{remove}
 use Rattle.std.proofs.lemmas.Bool.{cases_Bool, cond-true, cond-false, false_from_ne_true}
 use Rattle.std.proofs.lemmas.List.{append_assoc, length-append}
 use Rattle.std.proofs.lemmas.List.Edits.{remove-append_right}
 use Rattle.std.proofs.lemmas.Slice.Eq.{bytes_eq-Decides}
 use Rattle.rules.specs.rule.Rules.{Rule}
-use Rattle.table.specs.chains.Sound.{IsSound}
 use Rattle.table.specs.chains.Table.{Chain, Table, is_named, names_of}
-use Rattle.table.specs.declared.policy.Policy.{Policy}
 use Rattle.table.specs.edits.Edits.{Edit, DeleteAt, changed, changed_chain}
 use Rattle.table.specs.walk.Walk.{Entry}
 use Rattle.table.proofs.laws.chains.KeepLaws.{listed_differ}
 use Rattle.table.proofs.laws.chains.PathLaws.{Mem, Differing}
 use Rattle.questions.specs.asked.Laws.{DeletionsLeaveTheRest}
-use Rattle.questions.specs.asked.Without.{after, chain_without, deletions, deletions_in, going, goes_of, staying, without}
+use Rattle.questions.specs.asked.Without.{after, chain_without, deletions, deletions_in, going, goes_of, staying}
 
 -- ---- rules
 

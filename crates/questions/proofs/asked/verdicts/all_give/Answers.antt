@@ -1,4 +1,4 @@
-use Rattle.std.proofs.Common.{◌≡◌, ◌≢◌, rules, sym, arith}
+use Rattle.std.proofs.Common.{◌≢◌, rules, sym, arith}
 use Rattle.questions.proofs.asked.verdicts.all_give.Goals as goal
 
 pub returns-then-ne-clause-some : goal.returns-then-ne-clause-some

@@ -1,4 +1,4 @@
-use Rattle.std.proofs.Common.{inl, inr}
+use Rattle.std.proofs.Common.{inr}
 use Rattle.questions.proofs.asked.verdicts.likeness_at.Goals as goal
 
 pub returns-clause-unclear : goal.returns-clause-unclear
