@@ -1,5 +1,6 @@
 pub mod AreaLaws
 pub mod BoxesLaws
+pub mod DeleteLaws
 pub mod EndLaws
 pub mod EqualLaws
 pub mod ExactLaws

@@ -2,5 +2,6 @@ pub mod Laws
 pub mod Reach
 pub mod Reason
 pub mod Rule
+pub mod Unclear
 pub mod Verdicts
 pub mod Without

@@ -1,11 +1,10 @@
 -- What two boxes have in common, by their sets.
-use Rattle.std.proofs.Common.{◌≡◌, inl, inr, ℕ, ◌+◌, ◌<◌, ◌≤◌, ◌||◌, true, List, [], ◌∷◌, get_or, length, refl, sym, ◌∙◌, ap, arith, subst, max, min}
+use Rattle.std.proofs.Common.{◌≡◌, inl, inr, ℕ, ◌+◌, ◌<◌, ◌≤◌, true, List, ◌∷◌, get_or, refl, sym, ◌∙◌, arith, subst, max, min}
 use Rattle.std.proofs.lemmas.Bool.{cases_lt, or_right}
 use Rattle.std.proofs.lemmas.List.{get_or_default}
 use Rattle.fields.specs.declared.numbers.field.TheConstants.{FIELDS}
-use Rattle.fields.specs.declared.numbers.field.Field.{Field}
 use Rattle.fields.specs.declared.numbers.spans.Interval.{Interval}
-use Rattle.fields.specs.numbers.Field.{index, top}
+use Rattle.fields.specs.numbers.Field.{index}
 use Rattle.fields.specs.numbers.Spans.{AreSpansFrom, SpanSet, has, in_span}
 use Rattle.fields.proofs.laws.numbers.SpanLaws.{has_first}
 use Rattle.rules.specs.boxing.Boxed.{IsBox}

@@ -1,12 +1,13 @@
 -- That no two answers hold at once.
 use Rattle.std.specs.Prelude.{◌≡◌, ◌≢◌, ℕ, Bool, List, Ok}
 use Rattle.fields.specs.packet.Packet.{PacketView as Packet, packet_of}
+use Rattle.table.specs.chains.Sound.{IsSound}
 use Rattle.table.specs.chains.Table.{Table}
 use Rattle.table.specs.declared.verdict.Verdict.TheVariants.{TooLong}
 use Rattle.table.specs.walk.Walk.{Entry, walk}
 use Rattle.questions.specs.asked.Rule.{IsDead, IsLive}
 use Rattle.questions.specs.asked.Verdicts.{IsAlike, IsOther, IsSame}
-use Rattle.questions.specs.asked.Without.{AreDead, without}
+use Rattle.questions.specs.asked.Without.{AreDead, after, deletions, without}
 use Rattle.questions.specs.boxes.Area.{IsAtHook}
 
 -- a line writes only packets that can be at their hooks
@@ -25,3 +26,7 @@ SameIsNotOther = (old new : Table) (words : List (List ℕ)) → IsSame old new 
 abbrev pub DeadRulesCanGo : Type 0
 DeadRulesCanGo =
     (t : Table) (goes : Entry → Bool) → AreDead t goes → (p : Packet) → IsAtHook p → (walk t p).verdict ≢ TooLong → IsAlike t (without goes t) p
+
+-- the table without its rules that go is the one that is left after the commands that delete them
+abbrev pub DeletionsLeaveTheRest : Type 0
+DeletionsLeaveTheRest = (t : Table) (goes : Entry → Bool) → IsSound t → after (deletions goes t.chains) t ≡ without goes t

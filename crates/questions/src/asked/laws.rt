@@ -1,5 +1,5 @@
 //! That no two answers hold at once, and that dead rules can go.
-ghost use Rattle.questions.specs.asked.Laws.{DeadIsNotLive, DeadRulesCanGo, LinesWritePacketsAtHooks, SameIsNotOther};
+ghost use Rattle.questions.specs.asked.Laws.{DeadIsNotLive, DeadRulesCanGo, DeletionsLeaveTheRest, LinesWritePacketsAtHooks, SameIsNotOther};
 
 /// The law that a packet line writes only packets that can be at their hooks; so a dead rule isn't live, and tables that
 /// give each packet the same verdict give none two verdicts. It does nothing.
@@ -10,7 +10,9 @@ pub fn answers_exclude_each_other()
 {}
 
 /// The law that a ruleset can do without its dead rules, some of them or all at once: each packet that can be at its hook gets the verdict
-/// that it got, unless its walk was too long. It does nothing.
+/// that it got, unless its walk was too long. That table is what the commands leave
+/// that delete the rules by number, in each chain the last first. It does nothing.
 pub fn dead_rules_can_go()
-    ensures { DeadRulesCanGo }
+    ensures verdicts { DeadRulesCanGo }
+    ensures commands { DeletionsLeaveTheRest }
 {}

@@ -1,9 +1,10 @@
 //! Whether a rule can match at all.
-ghost use Rattle.std.specs.Prelude.{◌≡◌, ◌<◌, ◌≤◌, ◌↔◌, All, Contains, length, IfOk, IfSome, IsTrue};
+ghost use Rattle.std.specs.Prelude.{◌≡◌, ◌<◌, ◌≤◌, ◌↔◌, false, All, Any, Contains, length, IfOk, IfSome, IsTrue};
 ghost use Rattle.table.specs.chains.Table.{chain_at};
 ghost use Rattle.questions.specs.Ends.{IsRule};
 ghost use Rattle.questions.specs.Leaves.{entry_of};
 ghost use Rattle.questions.specs.asked.Rule.{IsLiveAt, Says, SaysAt};
+ghost use Rattle.questions.specs.asked.Unclear.{IsUnclear, IsUnclearAt};
 
 use crate::asked::matching::packets_of;
 use crate::asked::reach::Given;
@@ -79,7 +80,8 @@ fn witness_among(
 
 // Whether no leaf has the rule on its trail.
 pub(crate) fn none_on(found: &[Leaf], step: Step) -> bool
-    ensures { IsTrue result → All (λ leaf. Contains leaf.trail.items step → ⊥) found.now }
+    ensures none { IsTrue result → All (λ leaf. Contains leaf.trail.items step → ⊥) found.now }
+    ensures some { result ≡ false → Any (λ leaf. Contains leaf.trail.items step) found.now }
 {
     for leaf in found {
         if is_on(leaf.trail.as_slice(), step) {
@@ -98,7 +100,8 @@ fn life_at(
     budget: usize,
 ) -> Result<Life, AllocError>
     requires { IsRule subject.now.table.table step }
-    ensures { IfOk result (SaysAt subject.now.table.table (entry_of subject.now.table.table.chains step) hook) }
+    ensures says { IfOk result (SaysAt subject.now.table.table (entry_of subject.now.table.table.chains step) hook) }
+    ensures unclear { IfOk result (IsUnclearAt subject.now.table.table step hook budget) }
 {
     subject.table.stands();
     let Given { hook: _, area } = packets_of(alloc, subject, hook, step)?;
@@ -132,7 +135,8 @@ pub fn dead(
     requires place { place < length subject.now.table.table.chains }
     requires first { 0 < number }
     requires last { number ≤ length (chain_at subject.now.table.table place).rules }
-    ensures { IfOk result (Says subject.now.table.table (record { chain = (chain_at subject.now.table.table place).name; number = number })) }
+    ensures says { IfOk result (Says subject.now.table.table (record { chain = (chain_at subject.now.table.table place).name; number = number })) }
+    ensures unclear { IfOk result (IsUnclear subject.now.table.table (record { chain = place; number = number }) budget) }
 {
     let step = Step {
         chain: place,

@@ -1,6 +1,7 @@
 //! Whether two tables give each packet the same verdict.
-ghost use Rattle.std.specs.Prelude.{◌≡◌, All, IfOk, IfSome, IsTrue};
+ghost use Rattle.std.specs.Prelude.{◌≡◌, ◌≢◌, false, All, Any, IfOk, IfSome, IsTrue};
 ghost use Rattle.table.specs.declared.verdict.Verdict.{Verdict};
+ghost use Rattle.questions.specs.asked.Unclear.{IsUnclearIf, MayDiffer, MayDifferIn, MayDifferSomewhere};
 ghost use Rattle.questions.specs.asked.Verdicts.{IsOtherAt, IsSameAt, IsSameIn, Says, SaysIf};
 ghost use Rattle.questions.specs.declared.asked.verdicts.Likeness.TheVariants.{Same};
 
@@ -27,7 +28,8 @@ pub enum Likeness {
 
 // Whether all leaves have this verdict.
 fn all_give(found: &[Leaf], verdict: Verdict) -> bool
-    ensures { IsTrue result → All (λ leaf. leaf.verdict ≡ verdict) found.now }
+    ensures all { IsTrue result → All (λ leaf. leaf.verdict ≡ verdict) found.now }
+    ensures some { result ≡ false → Any (λ leaf. leaf.verdict ≢ verdict) found.now }
 {
     for leaf in found {
         if leaf.verdict != verdict {
@@ -87,7 +89,8 @@ fn likeness_in(
     leaf: &Leaf,
     budget: usize,
 ) -> Result<Likeness, AllocError>
-    ensures { IfOk result (SaysIf (IsSameIn old.now.table new.now.table.table hook leaf.now) old.now.table new.now.table.table hook) }
+    ensures says { IfOk result (SaysIf (IsSameIn old.now.table new.now.table.table hook leaf.now) old.now.table new.now.table.table hook) }
+    ensures unclear { IfOk result (IsUnclearIf (MayDifferIn old.now.table new.now.table.table hook budget leaf.now)) }
 {
     let alloc = *leaf.trail.allocator();
     let start = leaf.area.copy(alloc)?;
@@ -113,7 +116,8 @@ fn likeness_among(
     found: &[Leaf],
     budget: usize,
 ) -> Result<Likeness, AllocError>
-    ensures { IfOk result (SaysIf (All (IsSameIn old.now.table new.now.table.table hook) found.now) old.now.table new.now.table.table hook) }
+    ensures says { IfOk result (SaysIf (All (IsSameIn old.now.table new.now.table.table hook) found.now) old.now.table new.now.table.table hook) }
+    ensures unclear { IfOk result (IsUnclearIf (Any (MayDifferIn old.now.table new.now.table.table hook budget) found.now)) }
 {
     let mut clear = true;
     for leaf in found {
@@ -137,7 +141,8 @@ fn likeness_at(
     hook: Hook,
     budget: usize,
 ) -> Result<Likeness, AllocError>
-    ensures { IfOk result (SaysIf (IsSameAt old.now.table.table new.now.table.table hook) old.now.table.table new.now.table.table hook) }
+    ensures says { IfOk result (SaysIf (IsSameAt old.now.table.table new.now.table.table hook) old.now.table.table new.now.table.table hook) }
+    ensures unclear { IfOk result (IsUnclearIf (MayDiffer old.now.table.table new.now.table.table hook budget)) }
 {
     let start = Area::at_hook(alloc, hook)?;
     let Some(found) = leaves(alloc, old, hook, start, budget)? else {
@@ -166,6 +171,7 @@ pub fn compare_at(
 ) -> Result<Likeness, AllocError>
     ensures says { IfOk result (SaysIf (IsSameAt old.now.table.table new.now.table.table hook) old.now.table.table new.now.table.table hook) }
     ensures equal { old.now.table.table ≡ new.now.table.table → IfOk result (λ likeness. likeness ≡ Same) }
+    ensures unclear { IfOk result (IsUnclearIf (MayDiffer old.now.table.table new.now.table.table hook budget)) }
 {
     if are_equal(&old.table, &new.table) {
         return Ok(Likeness::Same);
@@ -188,6 +194,7 @@ pub fn compare(
 ) -> Result<Likeness, AllocError>
     ensures says { IfOk result (Says old.now.table.table new.now.table.table) }
     ensures equal { old.now.table.table ≡ new.now.table.table → IfOk result (λ likeness. likeness ≡ Same) }
+    ensures unclear { IfOk result (IsUnclearIf (MayDifferSomewhere old.now.table.table new.now.table.table budget)) }
 {
     if are_equal(&old.table, &new.table) {
         return Ok(Likeness::Same);

@@ -1,5 +1,9 @@
+use Rattle.questions.proofs.laws.DeleteLaws.{deletions_leave}
 use Rattle.questions.proofs.laws.WithoutLaws.{dead_can_go}
 use Rattle.questions.proofs.asked.laws.dead_rules_can_go.Goals as goal
 
-pub returns : goal.returns
-returns c = dead_can_go
+pub returns-clause-verdicts : goal.returns-clause-verdicts
+returns-clause-verdicts c = dead_can_go
+
+pub returns-clause-commands : goal.returns-clause-commands
+returns-clause-commands c = deletions_leave

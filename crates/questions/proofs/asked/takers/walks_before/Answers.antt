@@ -15,5 +15,5 @@ returns c =
     let P : Rule → Type 0 = λ r. (numbers : List ℕ) → cross numbers r ≡ true in
     let is : own ≡ rule_at t step = c.rule-rule.ensures ∙ get_or_default (chain_at t step.chain).rules (step.number - 1) own empty_rule (omega (arith, c.requires.first, c.requires.last)) in
     before_of t step c.args.hook c.in_ok-given.given c.stands.ensures.sound c.requires c.in_ok-given.ensures (subst P is (c.asks_both.ensures.alone c.if-asks_both.false))
-    c.in-Some.found.items (rw c.in-Some.is at c.in_ok-found.ensures) (rw c.as_slice.ensures.value at (c.none_on.ensures c.if-not-none_on.false))
+    c.in-Some.found.items (rw c.in-Some.is at c.in_ok-found.ensures) (rw c.as_slice.ensures.value at (c.none_on.ensures.none c.if-not-none_on.false))
     (rw c.as_slice-2.ensures.value at (c.are_decided.ensures c.if-not-are_decided.false))

@@ -8,6 +8,12 @@ use Rattle.questions.proofs.asked.verdicts.likeness_among.Goals.{in-Same, in-Unc
 pub loop-leaf-preserved : goal.loop-leaf-preserved
 loop-leaf-preserved c =
     elim c.match-branch-2.branch [
-      | in-Same w ↦ λ clear. items_next (IsSameIn c.args.old.now.table c.args.new.now.table.table c.args.hook) c.args.found.now c.loop-leaf.leaf-index c.leaf-item.result (omega arith) c.leaf-item.is (c.loop-leaf.invariant (sym w.clear-is ∙ clear)) (rw w.in-Same.is at c.in_ok-likeness_in.ensures)
-      | in-Unclear w ↦ λ clear. absurd (true≢false (sym clear ∙ w.clear-is))
+      | in-Same w ↦ record {
+        same = λ clear. items_next (IsSameIn c.args.old.now.table c.args.new.now.table.table c.args.hook) c.args.found.now c.loop-leaf.leaf-index c.leaf-item.result (omega arith) c.leaf-item.is (c.loop-leaf.invariant.same (sym w.clear-is ∙ clear)) (rw w.in-Same.is at c.in_ok-likeness_in.ensures.says);
+        some = λ off. c.loop-leaf.invariant.some (sym w.clear-is ∙ off);
+      }
+      | in-Unclear w ↦ record {
+        same = λ clear. absurd (true≢false (sym clear ∙ w.clear-is));
+        some = λ _. (c.loop-leaf.leaf-index, c.leaf-item.result, omega arith, sym c.leaf-item.is, rw w.in-Unclear.is at c.in_ok-likeness_in.ensures.unclear);
+      }
     ]

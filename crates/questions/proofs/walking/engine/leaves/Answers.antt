@@ -1,8 +1,8 @@
 use Rattle.std.proofs.Common.{◌≡◌, ◌<◌, length, refl, arith, inl, inr, Some}
 use Rattle.std.proofs.lemmas.List.Elements.{All-pop}
-use Rattle.questions.specs.steps.Taken.{GetsTo, IsFull, IsStep}
+use Rattle.questions.specs.steps.Taken.{IsFull, IsStep}
 use Rattle.questions.specs.steps.Waiting.{AreThere}
-use Rattle.questions.proofs.laws.WaitLaws.{all_leaves, begun_next, gets_on}
+use Rattle.questions.proofs.laws.WaitLaws.{begun_next, gets_on}
 use Rattle.questions.proofs.walking.engine.leaves.Goals as goal
 
 pub loop-taken-init : goal.loop-taken-init

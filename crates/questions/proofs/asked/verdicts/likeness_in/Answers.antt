@@ -1,0 +1,9 @@
+use Rattle.std.proofs.Common.{inl, inr}
+use Rattle.questions.proofs.asked.verdicts.likeness_in.Goals as goal
+
+pub returns-in-None-clause-unclear : goal.returns-in-None-clause-unclear
+returns-in-None-clause-unclear c = (c.in_ok-start.start, c.in_ok-start.ensures, inl (rw c.in-None.is at c.in_ok-leaves.ensures.steps))
+
+pub returns-clause-unclear : goal.returns-clause-unclear
+returns-clause-unclear c =
+    (c.in_ok-start.start, c.in_ok-start.ensures, inr (c.in-Some.found.items, rw c.in-Some.is at c.in_ok-leaves.ensures.leaves, rw c.as_slice.ensures.value at (c.all_give.ensures.some c.if-all_give.false)))
