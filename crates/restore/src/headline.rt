@@ -26,9 +26,9 @@ pub fn restores_leave_what_they_accept()
 /// the accepted changes, as plain list edits; the listing restores them, with the same classifiers; every packet's walk ends
 /// with one thing; and a refused call changes nothing.
 ///
-/// A section that is committed puts in place what its lines made of the table that it began from, whatever has become of
-/// that table since. What is asked of callers is that the lines and the commit of a section go to the table from which it
-/// was begun.
+/// A section that is committed puts in place what its lines made of the table as it was when the section began, whatever
+/// has become of that table since. What is asked of callers is that a transaction is committed to the table from which it
+/// was begun, and that a restore is handed that table with each line of a section.
 ///
 /// With `Table::stands`, `Table::verdict` and `Table::trail` it says what a table shows after any list of calls.
 pub fn all_calls_leave_what_they_accept()

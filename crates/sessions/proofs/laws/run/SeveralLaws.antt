@@ -1,5 +1,5 @@
 -- What several runs leave.
-use Rattle.std.proofs.Common.{◌≡◌, List, [], ◌∷◌, ◌++◌, sym, ap, subst, ◌∙◌}
+use Rattle.std.proofs.Common.{◌≡◌, List, [], ◌∷◌, sym, ap, subst, ◌∙◌}
 use Rattle.restore.proofs.laws.calls.CallLaws.{changed_then}
 use Rattle.table.specs.chains.Table.{Table, TableView}
 use Rattle.restore.specs.calls.Changes.{changed_by}
