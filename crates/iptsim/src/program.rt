@@ -2,7 +2,7 @@
 use crate::fault::Fault;
 use jobs::{Job, LineFault, Task};
 use programs::{buffered_input, buffered_output, let_go, load, texts_after_name, words_given};
-use sessions::Session;
+use sessions::{Console, Session};
 use std::alloc::Global;
 use std::io::{self, Read, Write};
 use std::rt::{Env, Files};
@@ -80,11 +80,10 @@ fn serve<'a, R: Read + Drop, W: Write + Drop>(
 ) -> Result<u8, Fault<'a>> {
     let mut input = buffered_input(alloc, reader)?;
     let mut output = buffered_output(alloc, writer)?;
+    let mut console = Console::new(&mut input, &mut output);
     let served = match task {
-        Task::Session => session.run(&mut input, &mut output),
-        Task::Restore { noflush, test } => {
-            session.restore(noflush, test, !test, &mut input, &mut output)
-        }
+        Task::Session => session.run_on(&mut console),
+        Task::Restore { noflush, test } => session.restore_on(noflush, test, !test, &mut console),
     };
     let_go(output);
     Ok(served?)
