@@ -43,9 +43,26 @@ def many_chains(talk):
         say(line)
 
 
+def long_walks(talk):
+    """Walks with as many rules as one has at most, which are 65,536, and with some more or less."""
+    say, dice = talk.say, talk.dice
+    say(b"iptables-restore <<E")
+    for line in (b"*filter", b":a -", *[b"-A a"] * 256, *[b"-A INPUT -j a"] * 255, b"COMMIT", b"E"):
+        say(line)
+    # Each of the 255 jumps matches, and the 256 rules behind it: 65,535 rules.
+    packet = b"packet INPUT src=1.2.3.4 dst=1.2.3.4 proto=47"
+    for edit in (b"# 65,535", b"iptables -A INPUT -j ACCEPT", b"iptables -I INPUT 1", b"iptables -D INPUT 1", b"iptables -R INPUT 256", b"iptables -A INPUT -j DROP"):
+        say(edit)
+        say(packet)
+    edits = (b"-A a", b"-D a 1", b"-I INPUT 1", b"-D INPUT 1", b"-A INPUT -j ACCEPT", b"-A INPUT -j RETURN", b"-P INPUT DROP")
+    for _ in range(4):
+        say(b"iptables " + dice.one(edits))
+        say(packet)
+
+
 def limit_inputs(seed):
     """(name, input) of each, as `drawn_input` gives them."""
-    for draw in (filled_chain, many_chains):
+    for draw in (filled_chain, many_chains, long_walks):
         name = f"{seed} {draw.__name__}"
         talk = Talk(Dice(name), "edits")
         draw(talk)
