@@ -1,5 +1,5 @@
 -- Boxes of which all packets have one walk.
-use Rattle.std.proofs.Common.{◌≡◌, ℕ, zero, suc, ◌+◌, ◌<◌, ◌≤◌, List, [], ◌∷◌, ◌++◌, length, get_or, refl, inl, inr, sym, ◌∙◌, ap, arith, subst, Option, Some, None, Vec, Global, All}
+use Rattle.std.proofs.Common.{◌≡◌, ℕ, zero, suc, ◌+◌, ◌<◌, ◌≤◌, List, [], ◌∷◌, ◌++◌, length, get_or, refl, inl, inr, sym, ◌∙◌, ap, arith, subst, Option, Some, None, Vec, Global}
 use Rattle.std.specs.Prelude.{Any, IfSome}
 use Rattle.std.proofs.lemmas.Bool.{cases_eq}
 use Rattle.std.proofs.lemmas.List.Elements.{All-contains}

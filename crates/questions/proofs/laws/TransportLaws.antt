@@ -1,22 +1,19 @@
 -- What a packet carries behind the header of IP.
-use Rattle.std.proofs.Common.{◌≡◌, ◌⊎◌, ℕ, ◌+◌, ◌<◌, ◌≤◌, Bool, true, false, ◌&&◌, ◌||◌, not, ◌==◌, List, length, get_or, refl, sym, ◌∙◌, ap, arith, subst, inl, inr, Some}
-use Rattle.std.specs.Prelude.{slice_index}
-use Rattle.std.proofs.Math.Dec.{eqb}
-use Rattle.std.proofs.lemmas.Bool.{and_from, and_parts, cases_Bool, cases_eq, eq-eqb, eqb-true, true≢false}
+use Rattle.std.proofs.Common.{◌≡◌, ◌⊎◌, ℕ, ◌+◌, ◌<◌, ◌≤◌, Bool, true, false, ◌&&◌, ◌||◌, not, ◌==◌, List, get_or, refl, sym, ◌∙◌, ap, arith, subst, inl, inr}
+use Rattle.std.proofs.lemmas.Bool.{cases_Bool, cases_eq, eq-eqb, eqb-true, true≢false}
 use Rattle.fields.specs.declared.numbers.field.TheConstants.{FIELDS}
 use Rattle.fields.specs.declared.numbers.field.Field.{Field}
 use Rattle.fields.specs.declared.numbers.field.Field.TheVariants as field
-use Rattle.fields.specs.declared.packet.hook.Hook.{Hook}
 use Rattle.fields.specs.numbers.Field.{all_fields, index, number_on, top}
 use Rattle.fields.specs.numbers.Spans.{SpanSet, has}
 use Rattle.fields.specs.packet.Packet.{PacketView as Packet, IsPacket, carries_key, point}
 use Rattle.fields.specs.values.Protocol.{carries_ports}
 use Rattle.rules.proofs.laws.boxing.BoxLaws.{here_is, index-lt}
 use Rattle.classify.specs.classifier.Classifier.{IsPoint}
-use Rattle.questions.specs.boxes.Area.{Has, HasOwnInterfaces, IsAtHook, IsCarrying, IsIn, IsNarrowed}
+use Rattle.questions.specs.boxes.Area.{Has, HasOwnInterfaces, IsAtHook, IsNarrowed}
 use Rattle.questions.specs.declared.boxes.transport.Transport.{Transport}
 use Rattle.questions.specs.declared.boxes.transport.Transport.TheVariants.{Tcp, Ports, Icmp, Other, Missing}
-use Rattle.questions.specs.steps.Transports.{AreNumbersWith, Fits, HasTransport, IsFirstWith, IsKept, IsWithTransport, all_transports, fits, fragment_of, is_ported, of_protocol, with_flags, with_ports, with_type}
+use Rattle.questions.specs.steps.Transports.{AreNumbersWith, Fits, HasTransport, IsFirstWith, IsKept, IsWithTransport, all_transports, fits, fragment_of, is_ported, with_flags, with_ports, with_type}
 
 -- ---- what is carried
 

@@ -1,18 +1,16 @@
 -- The rules that lead to the chain of a rule, one after another.
-use Rattle.std.proofs.Common.{◌≡◌, ◌≢◌, inl, inr, ℕ, ◌+◌, ◌-◌, ◌<◌, ◌≤◌, Bool, true, false, List, [], ◌∷◌, ◌++◌, length, get_or, refl, sym, ◌∙◌, ap, arith, subst, Some, All, Contains}
-use Rattle.std.proofs.lemmas.Bool.{cases_Bool, cases_eq, true≢false}
-use Rattle.std.proofs.lemmas.List.Elements.{All-contains, All-push, Contains-append_left, Contains-push}
+use Rattle.std.proofs.Common.{◌≡◌, inl, inr, ℕ, ◌+◌, ◌<◌, ◌≤◌, List, [], ◌∷◌, ◌++◌, length, sym, ◌∙◌, ap, arith, subst, All, Contains}
+use Rattle.std.proofs.lemmas.Bool.{cases_Bool, cases_eq}
+use Rattle.std.proofs.lemmas.List.Elements.{All-contains, Contains-append_left, Contains-push}
 use Rattle.fields.specs.declared.packet.hook.Hook.{Hook}
 use Rattle.fields.specs.declared.packet.hook.Hook.TheVariants.{Input, Forward, Output}
 use Rattle.fields.specs.numbers.Spans.{SpanSet}
-use Rattle.fields.specs.packet.Hook.{name as hook_name}
 use Rattle.rules.specs.boxing.Boxed.{IsBoxOf}
 use Rattle.rules.specs.rule.Allows.{matches}
 use Rattle.table.specs.chains.Sound.{IsSound}
 use Rattle.table.specs.chains.Table.{Table, chain_at}
 use Rattle.table.specs.declared.walk.trail.Step.{Step}
 use Rattle.table.specs.steps.Kept.{hook_index}
-use Rattle.classify.specs.classifier.Classifier.{IsPoint}
 use Rattle.questions.specs.Ends.{IsRule, rule_at}
 use Rattle.questions.specs.asked.Reason.{IsExcluded, LeadsTo}
 use Rattle.questions.specs.boxes.Area.{Has}

@@ -1,5 +1,5 @@
 -- The rules that lead to the chain of a rule, and have no packet in common with it.
-use Rattle.std.specs.Prelude.{◌≡◌, ℕ, ◌<◌, true, List, All, Contains}
+use Rattle.std.specs.Prelude.{◌≡◌, ℕ, true, List, All, Contains}
 use Rattle.classify.specs.classifier.Classifier.{IsPoint}
 use Rattle.rules.specs.rule.Allows.{matches}
 use Rattle.table.specs.chains.Table.{Table}

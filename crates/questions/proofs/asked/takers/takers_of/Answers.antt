@@ -1,4 +1,4 @@
-use Rattle.std.proofs.Common.{◌<◌, false, refl, sym, ◌∙◌, arith, get_or}
+use Rattle.std.proofs.Common.{◌<◌, sym, ◌∙◌, arith, get_or}
 use Rattle.std.proofs.lemmas.Bool.{true≢false}
 use Rattle.fields.specs.declared.packet.hook.Hook.{Hook}
 use Rattle.fields.specs.declared.packet.hook.Hook.TheVariants.{Input}

@@ -1,4 +1,4 @@
-use Rattle.std.proofs.Common.{refl, ap}
+use Rattle.std.proofs.Common.{ap}
 use Rattle.std.proofs.lemmas.Result.{IfOk-weaker}
 use Rattle.fields.specs.numbers.Spans.{SpanSet, has}
 use Rattle.questions.specs.boxes.Area.{IsNarrowed}
