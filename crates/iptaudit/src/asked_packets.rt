@@ -2,8 +2,8 @@
 ghost use Rattle.std.specs.Prelude.{◌≡◌};
 
 use crate::fault::Fault;
-use crate::value_range::range_of;
 use fields::{FIELDS, Field, Hook, Spans, cut_at};
+use notation::read_range;
 use questions::{Area, Given, carrying};
 use std::alloc::Global;
 
@@ -75,7 +75,7 @@ fn narrowed<'a>(
         return Err(Fault::BadWord(word));
     }
     seen[field.index()] = true;
-    let Some((first, last)) = range_of(alloc, field, text)? else {
+    let Some((first, last)) = read_range(field, text) else {
         return Err(Fault::BadWord(word));
     };
     if first > last || last > field.top() {

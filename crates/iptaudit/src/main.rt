@@ -8,7 +8,6 @@ mod difference;
 mod each_rule;
 mod fault;
 mod marks;
-mod notation;
 mod outcomes;
 mod packet_input;
 mod packet_line;
@@ -17,7 +16,6 @@ mod progress;
 mod reason_line;
 mod rule_line;
 mod tally;
-mod value_range;
 
 use crate::program::run;
 use std::process::ExitCode;

@@ -2,9 +2,9 @@
 use crate::asked_packets::Asked;
 use crate::asking::Asking;
 use crate::fault::Fault;
-use crate::notation::put_set;
 use crate::rule_line::put_rule_name;
 use fields::{Field, Tap, WriteFailed};
+use notation::set_text;
 use questions::{BoxedTable, Reached};
 use std::alloc::Global;
 use std::io::{IsTerminal, Write};
@@ -47,12 +47,11 @@ fn put_reached<'a, W: Write>(
     reached: &Reached,
     output: &mut Tap<W>,
 ) -> Result<(), Fault<'a>> {
+    let numbers = set_text(alloc, field, &reached.numbers)?;
     put_verdict(reached.verdict, output)?;
     output.put(b" by ")?;
     put_decider(table, reached.by, output)?;
-    output.put(b": ")?;
-    put_set(alloc, field, &reached.numbers, output)?;
-    Ok(output.put(b"\n")?)
+    Ok(output.put_all(&[b": ", numbers.as_slice(), b"\n"])?)
 }
 
 /// Writes what becomes of some packets, each verdict with what decides, and the numbers of its packets on the field; and

@@ -1,0 +1,7 @@
+use Rattle.std.proofs.Common.{◌≡◌, ℕ, take}
+use Rattle.fields.specs.numbers.Spans.{has}
+use Rattle.notation.proofs.sets.parts_of.Given as goal
+
+-- the numbers of the intervals so far
+abbrev pub invariant-loop-span : goal.invariant-loop-span
+invariant-loop-span l = (x : ℕ) → has l.parts.items x ≡ has (take l.span-index l.span-items) x

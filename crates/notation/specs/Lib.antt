@@ -1,0 +1,3 @@
+pub mod Range
+pub mod SetText
+pub mod StateTable
