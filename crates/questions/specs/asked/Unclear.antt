@@ -19,7 +19,7 @@ use Rattle.questions.specs.steps.Taken.{IsUnfinished}
 use Rattle.questions.specs.steps.Takers.{IsBoxAt}
 
 -- the packets at the hook that a rule's box has don't come to the ends of their walks within the budget, or a leaf of theirs has the rule on its
--- trail, and no packet of it was found on whose walk the rule is
+-- trail
 abbrev pub MayLive : Table → Step → Hook → ℕ → Type 0
 MayLive t step hook budget =
     (given : Given) × IsBoxAt t step hook given
@@ -39,8 +39,7 @@ IsUnclear t step budget (life.Live words) = Unit {0}
 IsUnclear t step budget life.Unclear =
     ((hook : Hook) → IsDeadAt t (entry_of t.chains step) hook ⊎ MayLive t step hook budget) × ((hook : Hook) × MayLive t step hook budget)
 
--- the packets of a leaf of the first table don't come to the ends of their walks in the second one, or a leaf there has another verdict, and no packet
--- of it was found that gets two
+-- the packets of a leaf of the first table don't come to the ends of their walks in the second one, or a leaf there has another verdict
 abbrev pub MayDifferIn : Table → Table → Hook → ℕ → Leaf → Type 0
 MayDifferIn old new hook budget leaf =
     (box : List SpanSet) × IsBoth leaf.area leaf.area box
