@@ -1,5 +1,6 @@
 pub mod Ends
 pub mod Leaves
+pub mod Written
 pub mod asked
 pub mod boxes
 pub mod steps
