@@ -6,12 +6,15 @@ pub mod EqualLaws
 pub mod ExactLaws
 pub mod GroupLaws
 pub mod LeadLaws
+pub mod LineLaws
+pub mod LineStepLaws
 pub mod MeetingLaws
 pub mod PacketLaws
 pub mod ReachLaws
 pub mod TakerLaws
 pub mod TrailLaws
 pub mod TransportLaws
+pub mod ValueTextLaws
 pub mod VerdictLaws
 pub mod WaitLaws
 pub mod WayLaws

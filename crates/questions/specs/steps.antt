@@ -1,6 +1,7 @@
 pub mod Exact
 pub mod Groups
 pub mod Leading
+pub mod Lines
 pub mod Sampled
 pub mod Sides
 pub mod Taken

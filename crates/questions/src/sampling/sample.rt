@@ -44,7 +44,7 @@ pub(crate) fn sample_of(
     let Some(numbers) = numbers_in(area, kind) else {
         return Ok(None);
     };
-    let line = line_of(alloc, kind, &numbers)?;
+    let line = line_of(alloc, hook, &numbers)?;
     let Some(sample) = read(alloc, line.as_slice())? else {
         return Ok(None);
     };
