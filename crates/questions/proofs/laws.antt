@@ -1,11 +1,13 @@
 pub mod AreaLaws
 pub mod BoxesLaws
+pub mod ChoiceLaws
 pub mod DeleteLaws
 pub mod EndLaws
 pub mod EqualLaws
 pub mod ExactLaws
 pub mod GroupLaws
 pub mod LeadLaws
+pub mod LeastNameLaws
 pub mod MeetingLaws
 pub mod PacketLaws
 pub mod ReachLaws

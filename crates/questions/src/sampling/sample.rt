@@ -3,9 +3,9 @@ ghost use Rattle.std.specs.Prelude.{◌≡◌, Ok, IfOk, IfSome};
 ghost use Rattle.fields.specs.packet.Packet.{packet_of};
 
 use crate::boxes::area::Area;
-use crate::sampling::choice::{kind_in, numbers_in};
+use crate::sampling::choice::{Kind, numbers_in};
 use crate::sampling::line::line_of;
-use fields::{Hook, Packet, WordFault, Words};
+use fields::{Field, Hook, Packet, WordFault, Words};
 use std::alloc::{AllocError, Global};
 
 // A packet, and the words that write it.
@@ -38,11 +38,13 @@ pub(crate) fn sample_of(
     ensures written { IfOk result (λ found. IfSome found (λ sample. packet_of sample.words ≡ Ok sample.packet)) }
     ensures there { IfOk result (λ found. IfSome found (λ sample. sample.packet.hook ≡ hook)) }
 {
-    let Some(kind) = kind_in(area, hook) else {
+    let Some(numbers) = numbers_in(area, hook) else {
         return Ok(None);
     };
-    let Some(numbers) = numbers_in(area, kind) else {
-        return Ok(None);
+    let kind = Kind {
+        hook,
+        protocol: numbers[Field::Protocol.index()],
+        fragment: numbers[Field::Fragment.index()],
     };
     let line = line_of(alloc, kind, &numbers)?;
     let Some(sample) = read(alloc, line.as_slice())? else {
