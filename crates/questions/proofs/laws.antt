@@ -18,3 +18,4 @@ pub mod VerdictLaws
 pub mod WaitLaws
 pub mod WayLaws
 pub mod WithoutLaws
+pub mod WrittenLaws
