@@ -1,11 +1,14 @@
 pub mod AreaLaws
 pub mod BoxesLaws
+pub mod ChoiceLaws
+pub mod CountLaws
 pub mod DeleteLaws
 pub mod EndLaws
 pub mod EqualLaws
 pub mod ExactLaws
 pub mod GroupLaws
 pub mod LeadLaws
+pub mod LeastNameLaws
 pub mod LineLaws
 pub mod LineStepLaws
 pub mod MeetingLaws
@@ -19,3 +22,4 @@ pub mod VerdictLaws
 pub mod WaitLaws
 pub mod WayLaws
 pub mod WithoutLaws
+pub mod WrittenLaws

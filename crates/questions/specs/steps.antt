@@ -1,3 +1,4 @@
+pub mod Chosen
 pub mod Exact
 pub mod Groups
 pub mod Leading

@@ -1,6 +1,6 @@
 -- Boxes of which all packets have one walk.
 use Rattle.std.proofs.Common.{◌≡◌, ℕ, zero, suc, ◌+◌, ◌<◌, ◌≤◌, List, [], ◌∷◌, ◌++◌, length, get_or, refl, inl, inr, sym, ◌∙◌, ap, arith, subst, Option, Some, None, Vec, Global}
-use Rattle.std.specs.Prelude.{Any, IfSome}
+use Rattle.std.specs.Prelude.{Any, MatchOption}
 use Rattle.std.proofs.lemmas.Bool.{cases_eq}
 use Rattle.std.proofs.lemmas.List.Elements.{All-contains}
 use Rattle.std.proofs.lemmas.List.Quantifiers.{Any-push}
@@ -16,7 +16,9 @@ use Rattle.questions.specs.declared.asked.reach.Given.{Given}
 use Rattle.questions.specs.declared.walking.task.Leaf.{Leaf}
 use Rattle.questions.specs.declared.boxes.transport.Transport.{Transport}
 use Rattle.questions.specs.declared.boxes.transport.Transport.TheVariants.{Tcp}
-use Rattle.questions.specs.steps.Exact.{AddsExact, AnyHas, AreExact, AreExactWalks, HasShared, IsCovered, IsExact, IsMet, IsWalkOf}
+use Rattle.questions.specs.asked.Unknown.{MayBeSeveral}
+use Rattle.questions.specs.steps.Exact.{AddsExact, AnyHas, AreExact, AreExactWalks, HasShared, HasSplitCopy, HasSplitPart, IsCovered, IsExact, IsMet, IsSplitIn, IsWalkOf}
+use Rattle.questions.specs.steps.Taken.{IsFinished}
 use Rattle.questions.specs.steps.Transports.{HasTransport, IsWithTransport, all_transports}
 use Rattle.questions.proofs.laws.GroupLaws.{any_left}
 use Rattle.questions.proofs.laws.TrailLaws.{items_next}
@@ -65,6 +67,16 @@ module _ (t : Table) (given : Given) (leaf : Leaf) (transport : Transport) (shar
         record { inside = subst Q (sym own.same) inside; can = subst C (sym own.same) can; some = subst HasNumbers (sym own.same) some; walked = subst R (sym own.same) own.walked },
         subst S (sym own.same) in_part,
       )
+
+  -- packets that may have several walks
+  pub split_part : (budget : ℕ) → HasNumbers part → HasSplitCopy t given.hook budget part → HasSplitPart t given.hook budget transport given.area leaf.area
+  split_part budget some split = record {
+    part = part;
+    all = in_part;
+    only = λ numbers point h. (let own = with.own numbers point h in (both.second numbers point own, both.first numbers point own));
+    some = some;
+    split = split;
+  }
 
 -- ---- transport header after transport header
 
@@ -117,8 +129,9 @@ exact_walks_of t given start found exact copy leaves is = record {
       own p can inside w.4.inside);
 }
 
--- the same where they are known
-pub exact_walks_if : (t : Table) (given : Given) (start : List SpanSet) (found : List Leaf) (o : Option (Vec Leaf Global)) → IsBoth given.area given.area start → AreLeavesOf t given.hook start found → IfSome o (λ (v : Vec Leaf Global). AreExact t given found v.items)
-    → IfSome o (λ (v : Vec Leaf Global). AreExactWalks t given v.items)
-exact_walks_if t given start found None copy leaves h = h
-exact_walks_if t given start found (Some v) copy leaves h = exact_walks_of t given start found v.items copy leaves h
+-- the same where they are known, and where not
+pub exact_walks_if : (t : Table) (given : Given) (budget : ℕ) (start : List SpanSet) (found : List Leaf) (o : Option (Vec Leaf Global)) → IsBoth given.area given.area start → AreLeavesOf t given.hook start found → IsFinished t given.hook start budget found
+    → MatchOption o (Any (IsSplitIn t given budget) found) (λ (v : Vec Leaf Global). AreExact t given found v.items)
+    → MatchOption o (MayBeSeveral t given budget) (λ (v : Vec Leaf Global). AreExactWalks t given v.items)
+exact_walks_if t given budget start found None copy leaves finished h = (start, copy, inr (found, finished, h))
+exact_walks_if t given budget start found (Some v) copy leaves finished h = exact_walks_of t given start found v.items copy leaves h

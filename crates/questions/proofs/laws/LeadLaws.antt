@@ -25,7 +25,7 @@ use Rattle.table.proofs.laws.chains.KeepLaws.{rules_by_name}
 use Rattle.table.proofs.laws.chains.PlaceLaws.{IsPlaced, placed_at, any_none, has_at}
 use Rattle.table.proofs.laws.walk.CaseLaws.{walks_by_cases}
 use Rattle.questions.specs.Leaves.{name_at}
-use Rattle.questions.specs.steps.Leading.{AllLead, AreClosed, AreLeading, IsMarked, IsMarkedName, LeadsOn, NamesMarked, Spreads, unmarked}
+use Rattle.questions.specs.steps.Leading.{AllLead, AreClosed, AreLeading, AreSpread, Counts, IsMarked, IsMarkedName, LeadsOn, NamesMarked, PathBy, Spreads, unmarked}
 use Rattle.questions.proofs.laws.EndLaws.{none_some, rules_there}
 use Rattle.questions.proofs.laws.TrailLaws.{one_place}
 use Rattle.questions.proofs.laws.WaitLaws.{named_first}
@@ -132,25 +132,29 @@ naming cs marks rule name b e iff = (λ h. (name, e, iff.0 h), λ w. (let P : Li
 pub not_naming : (cs : List Chain) (marks : List Bool) (rule : Rule) → chain_named_by rule ≡ None → NamesMarked cs marks rule → ⊥
 not_naming cs marks rule e w = none_some (sym e ∙ w.1)
 
+-- a rule counts and names a marked chain
+abbrev pub Goes : Table → Option Rule → List Bool → Rule → Type 0
+Goes t own marks rule = NamesMarked t.chains marks rule × Counts own rule
+
 -- rule after rule
 pub at_passed : (rules : List Rule) (k : ℕ) (rule : Rule) → k < length rules → rule ≡ get_or rules (k + 1 - 1) rule → rule ≡ get_or rules k rule
 at_passed rules k rule lt is = is ∙ ap (λ j. get_or rules j rule) (omega arith)
 
-pub none_on_of : (t : Table) (marks : List Bool) (place i : ℕ) → length (chain_at t place).rules ≡ i → ((k : ℕ) (d : Rule) → k < i → NamesMarked t.chains marks (get_or (chain_at t place).rules k d) → ⊥) → LeadsOn t marks place → ⊥
-none_on_of t marks place i e none w =
-    let P : Rule → Type 0 = λ r. NamesMarked t.chains marks r in
-    none w.1.0 w.0 (omega (arith, w.1.1, e)) (subst P (sym w.1.2) w.2)
+pub none_on_of : (t : Table) (own : Option Rule) (marks : List Bool) (place i : ℕ) → length (chain_at t place).rules ≡ i → ((k : ℕ) (d : Rule) → k < i → Goes t own marks (get_or (chain_at t place).rules k d) → ⊥) → LeadsOn t own marks place → ⊥
+none_on_of t own marks place i e none w =
+    let P : Rule → Type 0 = λ r. Goes t own marks r in
+    none w.1.0 w.0 (omega (arith, w.1.1, e)) (subst P (sym w.1.2) (w.2, w.3))
 
 -- a rule of the chain at a place is one of those that its name has
-names_from : (t : Table) (place : ℕ) (rule : Rule) (name : List ℕ) → IsSound t → place < length t.chains → Contains (chain_at t place).rules rule → chain_named_by rule ≡ Some name → Names t.chains (name_at t.chains place) name
-names_from t place rule name s lt there e =
+rule_of_name : (t : Table) (place : ℕ) (rule : Rule) → IsSound t → place < length t.chains → Contains (chain_at t place).rules rule → Contains (rules_of t.chains (name_at t.chains place)) rule
+rule_of_name t place rule s lt there =
     let own : rules_of t.chains (name_at t.chains place) ≡ (chain_at t place).rules = rules_by_name t (chain_at t place) s (Contains-get_or t.chains place (empty_chain []) lt) in
     let P : List Rule → Type 0 = λ rs. Contains rs rule in
-    (rule, subst P (sym own) there, e)
+    subst P (sym own) there
 
--- one mark more, for a chain with a rule that names a marked one
-pub spread_by : (t : Table) (marks : List Bool) (place : ℕ) → IsSound t → length marks ≡ length t.chains → place < length t.chains → LeadsOn t marks place → Spreads t marks (set marks place true)
-spread_by t marks place s long lt on = record {
+-- one mark more, for a chain with a rule that counts and names a marked one
+pub spread_by : (t : Table) (own : Option Rule) (marks : List Bool) (place : ℕ) → IsSound t → length marks ≡ length t.chains → place < length t.chains → LeadsOn t own marks place → Spreads t own marks (set marks place true)
+spread_by t own marks place s long lt on = record {
   long = length-set marks place true;
   kept = λ k h. elim (cases_eq k place) [
     | inl e ↦ marked_here k e
@@ -158,12 +162,11 @@ spread_by t marks place s long lt on = record {
   ];
   each = λ name all k within h. elim (cases_eq k place) [
     | inl e ↦ (
-        let P : ℕ → Type 0 = λ j. Leads t.chains (name_at t.chains j) name in
+        let P : ℕ → Type 0 = λ j. (n : ℕ) × PathBy t own n (name_at t.chains j) name in
         let next = on.2.2 in
-        let led : Leads t.chains (name_at t.chains next.0) name = all next.0 next.1 next.2 in
-        let first = names_from t place on.0 on.2.0 s lt on.1 on.2.1 in
-        let Q : List ℕ → Type 0 = λ n. Names t.chains (name_at t.chains place) n in
-        subst P (sym e) (suc led.0, (name_at t.chains next.0, subst Q (sym next.3) first, led.1)))
+        let led : (n : ℕ) × PathBy t own n (name_at t.chains next.0) name = all next.0 next.1 next.2 in
+        let names : chain_named_by on.0 ≡ Some (name_at t.chains next.0) = on.2.1 ∙ ap Some (sym next.3) in
+        subst P (sym e) (suc led.0, (name_at t.chains next.0, (on.0, rule_of_name t place on.0 s lt on.1, names, on.3), led.1)))
     | inr ne ↦ all k within (sym (get_or-set_other marks place k true false ne) ∙ h)
   ];
 }
@@ -179,24 +182,24 @@ unmarked_less (false ∷ ms) zero lt off = omega arith
 unmarked_less (true ∷ ms) (suc k) lt off = unmarked_less ms k (omega (arith, lt)) off
 unmarked_less (false ∷ ms) (suc k) lt off = let h = unmarked_less ms k (omega (arith, lt)) off in omega (arith, h)
 
-pub spread_same : (t : Table) (marks : List Bool) → Spreads t marks marks
-spread_same t marks = record { long = refl; kept = λ k h. h; each = λ name h. h }
+pub spread_same : (t : Table) (own : Option Rule) (marks : List Bool) → Spreads t own marks marks
+spread_same t own marks = record { long = refl; kept = λ k h. h; each = λ name h. h }
 
-pub spread_on : (t : Table) (a b c : List Bool) → Spreads t a b → Spreads t b c → Spreads t a c
-spread_on t a b c one two = record { long = two.long ∙ one.long; kept = λ k h. two.kept k (one.kept k h); each = λ name h. two.each name (one.each name h) }
+pub spread_on : (t : Table) (own : Option Rule) (a b c : List Bool) → Spreads t own a b → Spreads t own b c → Spreads t own a c
+spread_on t own a b c one two = record { long = two.long ∙ one.long; kept = λ k h. two.kept k (one.kept k h); each = λ name h. two.each name (one.each name h) }
 
 -- one chain more was looked at
-pub closed_next : (t : Table) (old new : List Bool) (place : ℕ) → new ≡ old → AreClosed t old place → (LeadsOn t old place → IsMarked old place) → AreClosed t new (place + 1)
-closed_next t old new place same below here = subst P (sym same) (λ k lt h. elim (cases_eq k place) [
-  | inl e ↦ (let Q : ℕ → Type 0 = λ j. LeadsOn t old j → IsMarked old j in subst Q (sym e) here h)
+pub closed_next : (t : Table) (own : Option Rule) (old new : List Bool) (place : ℕ) → new ≡ old → AreClosed t own old place → (LeadsOn t own old place → IsMarked old place) → AreClosed t own new (place + 1)
+closed_next t own old new place same below here = subst P (sym same) (λ k lt h. elim (cases_eq k place) [
+  | inl e ↦ (let Q : ℕ → Type 0 = λ j. LeadsOn t own old j → IsMarked old j in subst Q (sym e) here h)
   | inr ne ↦ below k (omega (arith, lt, ne)) h
 ])
   where
     P : List Bool → Type 0
-    P marks = AreClosed t marks (place + 1)
+    P marks = AreClosed t own marks (place + 1)
 
 -- where the marks are closed, each chain is marked from which a path leads to one that is marked
-module _ (t : Table) (s : IsSound t) (marks : List Bool) (place : ℕ) (lt : place < length t.chains) (own : IsMarked marks place) (closed : AreClosed t marks (length t.chains)) where
+module _ (t : Table) (s : IsSound t) (marks : List Bool) (place : ℕ) (lt : place < length t.chains) (own : IsMarked marks place) (closed : AreClosed t None marks (length t.chains)) where
   chain_of : (n : ℕ) (name : List ℕ) → Path t.chains n name (name_at t.chains place) → (j : ℕ) × (j < length t.chains) × (name_at t.chains j ≡ name)
   chain_of zero name e = (place, lt, sym e)
   chain_of (suc n) name path =
@@ -212,14 +215,24 @@ module _ (t : Table) (s : IsSound t) (marks : List Bool) (place : ℕ) (lt : pla
       let there : IsMarked marks next.0 = is_marked n next.0 next.1 (subst P (sym next.2) path.2) in
       let rules : rules_of t.chains (name_at t.chains k) ≡ (chain_at t k).rules = rules_by_name t (chain_at t k) s (Contains-get_or t.chains k (empty_chain []) within) in
       let Q : List Rule → Type 0 = λ rs. Contains rs rule in
-      closed k within (rule, subst Q rules path.1.1, (path.0, path.1.2, (next.0, next.1, there, next.2)))
+      closed k within (rule, subst Q rules path.1.1, (path.0, path.1.2, (next.0, next.1, there, next.2)), tt)
 
-  pub leading_of : length marks ≡ length t.chains → AllLead t (name_at t.chains place) marks → AreLeading t (name_at t.chains place) marks
-  leading_of long all = record { long = long; each = all; all = λ k within led. is_marked led.0 k within led.1 }
+-- a path of rules that count is one
+path_of : (t : Table) (own : Option Rule) (n : ℕ) (a b : List ℕ) → PathBy t own n a b → Path t.chains n a b
+path_of t own zero a b path = path
+path_of t own (suc n) a b path = (path.0, (path.1.0, path.1.1, path.1.2), path_of t own n path.0 b path.2)
+
+-- where each rule counts, the marks are those of all chains that lead to the first one
+pub leading_of : (t : Table) (marks : List Bool) (place : ℕ) → IsSound t → place < length t.chains → AreSpread t None place marks → AreLeading t (name_at t.chains place) marks
+leading_of t marks place s lt spread = record {
+  long = spread.long;
+  each = λ k within h. (let led = spread.each k within h in (led.0, path_of t None led.0 (name_at t.chains k) (name_at t.chains place) led.1));
+  all = λ k within led. is_marked t s marks place lt spread.there spread.closed led.0 k within led.1;
+}
 
 -- at first the chain itself is marked, and no other
-pub first_leads : (t : Table) (marks : List Bool) (place : ℕ) → ((k : ℕ) → get_or marks k false ≡ false) → AllLead t (name_at t.chains place) (set marks place true)
-first_leads t marks place none k within h = elim (cases_eq k place) [
+pub first_leads : (t : Table) (own : Option Rule) (marks : List Bool) (place : ℕ) → ((k : ℕ) → get_or marks k false ≡ false) → AllLead t own (name_at t.chains place) (set marks place true)
+first_leads t own marks place none k within h = elim (cases_eq k place) [
   | inl e ↦ (0, ap (name_at t.chains) e)
   | inr ne ↦ absurd (true≢false (sym h ∙ get_or-set_other marks place k true false ne ∙ none k))
 ]

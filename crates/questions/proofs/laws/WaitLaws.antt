@@ -30,7 +30,7 @@ use Rattle.table.proofs.laws.walk.CaseLaws.{walk_is}
 use Rattle.questions.specs.Leaves.{name_at, entry_of, entries_of, walked_of, EndsIn, AreLeavesOf}
 use Rattle.questions.specs.boxes.Area.{Has, IsAtHook}
 use Rattle.questions.specs.boxes.Cut.{IsInSome, IsCut, IsPartedFor, IsApart}
-use Rattle.questions.specs.steps.Taken.{GetsTo, IsStep, Takes}
+use Rattle.questions.specs.steps.Taken.{GetsTo, IsStep, AreSteps}
 use Rattle.questions.specs.steps.Waiting.{rest_of, rests_of, behind, Reaches, stage_of, WaitsIn, IsAccounted, IsThere, AreThere, IsAsked, Keeps, Moves, PassesOver, Begins, entry_before}
 use Rattle.questions.specs.declared.walking.front.Front.{Front}
 use Rattle.questions.specs.declared.walking.task.Leaf.{Leaf}
@@ -344,5 +344,5 @@ all_leaves t hook box front begins none = λ p can e inside.
 -- one step more
 pub gets_on : (t : Table) (hook : Hook) (box : List SpanSet) (n : ℕ) (old new : Front) → GetsTo t hook box n old → IsStep t hook old new → GetsTo t hook box (n + 1) new
 gets_on t hook box n old new gets step =
-    let P : ℕ → Type 0 = λ k. Takes k t hook gets.first new in
+    let P : ℕ → Type 0 = λ k. AreSteps k t hook gets.first new in
     record { first = gets.first; begins = gets.begins; takes = subst P (sym (add-one n)) (old, gets.takes, step) }

@@ -1,5 +1,5 @@
 -- Why a rule is dead.
-use Rattle.std.specs.Prelude.{◌≡◌, ◌≢◌, ◌⊎◌, true, List, Some, All, AllPairs, Any, Contains, IsFalse, IsTrue}
+use Rattle.std.specs.Prelude.{◌≡◌, ◌⊎◌, ℕ, true, List, Some, All, AllPairs, Any, Contains, IsFalse, IsTrue}
 use Rattle.fields.specs.declared.numbers.field.Field.{Field}
 use Rattle.fields.specs.declared.packet.hook.Hook.{Hook}
 use Rattle.fields.specs.packet.Hook.{name as hook_name}
@@ -62,18 +62,21 @@ pub record IsTaken (t : Table) (step : Step) (takers : Takers) : Type 0 where
   pub once : AllPairs (λ a b. a ≡ b → ⊥) takers.rules.items
   pub apart : AllPairs (λ a b. a ≡ b → ⊥) takers.policies.items
 
--- a rule jumps or goes to the chain of the rule of a step
-pub record LeadsTo (t : Table) (step by : Step) : Type 0 where
+-- a rule of another chain jumps or goes to one of the named chains
+pub record Enters (t : Table) (within : List (List ℕ)) (by : Step) : Type 0 where
   pub rule : IsRule t by
-  pub names : chain_named_by (rule_at t by) ≡ Some (chain_at t step.chain).name
+  pub outside : Contains within (chain_at t by.chain).name → ⊥
+  pub names : (name : List ℕ) × (chain_named_by (rule_at t by) ≡ Some name) × Contains within name
 
--- no walk begins in the rule's chain, and no packet that can be at its hook is matched both by a rule that leads there and by the rule; just those
--- rules are named that lead there
+-- The rule's chain is one of some chains in which no walk begins. Just the named rules enter these, and no packet that can be at its hook is
+-- matched both by one of them and by the rule.
 pub record IsExcluded (t : Table) (step : Step) (ways : List Step) : Type 0 where
-  pub inner : (hook : Hook) → hook_name hook ≢ (chain_at t step.chain).name
-  pub all : (by : Step) → LeadsTo t step by → Contains ways by
-  pub each : All (LeadsTo t step) ways
-  pub none : (p : Packet) → IsAtHook p → (by : Step) → LeadsTo t step by → IsTrue (matches p.values (rule_at t by)) → IsFalse (matches p.values (rule_at t step))
+  pub within : List (List ℕ)
+  pub own : Contains within (chain_at t step.chain).name
+  pub inner : (hook : Hook) → Contains within (hook_name hook) → ⊥
+  pub all : (by : Step) → Enters t within by → Contains ways by
+  pub each : All (Enters t within) ways
+  pub none : (p : Packet) → IsAtHook p → (by : Step) → Enters t within by → IsTrue (matches p.values (rule_at t by)) → IsFalse (matches p.values (rule_at t step))
 
 -- what a reason says of the rule of a step
 abbrev pub IsReason : Table → Step → Reason → Type 0

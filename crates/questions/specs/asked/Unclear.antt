@@ -1,13 +1,16 @@
 -- Where an answer may be unclear.
-use Rattle.std.specs.Prelude.{◌≡◌, ◌≢◌, ◌⊎◌, ℕ, List, Any, Contains}
+use Rattle.std.specs.Prelude.{◌≡◌, ◌≢◌, ◌⊎◌, ℕ, List, All, Any, Contains}
 use Rattle.fields.specs.declared.packet.hook.Hook.{Hook}
 use Rattle.fields.specs.numbers.Spans.{SpanSet}
 use Rattle.fields.specs.packet.Packet.{PacketView as Packet}
 use Rattle.table.specs.chains.Table.{Table}
+use Rattle.table.specs.declared.verdict.Verdict.{Verdict}
 use Rattle.table.specs.declared.walk.trail.Step.{Step}
+use Rattle.table.specs.walk.Walk.{walk}
 use Rattle.questions.specs.Leaves.{AreLeavesOf, entry_of}
+use Rattle.questions.specs.Written.{HasNoneWritten, IsSampleOf}
 use Rattle.questions.specs.asked.Rule.{IsDeadAt}
-use Rattle.questions.specs.asked.Verdicts.{IsSameAt}
+use Rattle.questions.specs.asked.Verdicts.{IsAlike, IsSameAt}
 use Rattle.questions.specs.boxes.Area.{IsAtHook, IsBoth, IsIn}
 use Rattle.questions.specs.declared.asked.reach.Given.{Given}
 use Rattle.questions.specs.declared.asked.rule.Life.{Life}
@@ -18,13 +21,23 @@ use Rattle.questions.specs.declared.walking.task.Leaf.{Leaf}
 use Rattle.questions.specs.steps.Taken.{IsUnfinished}
 use Rattle.questions.specs.steps.Takers.{IsBoxAt}
 
--- the packets at the hook that a rule's box has don't come to the ends of their walks within the budget, or a leaf of theirs has the rule on its
--- trail
+-- no packet of the box shows that the rule can match: no line writes one, or the rule isn't on the walk of one that a line writes
+abbrev pub IsUnseen : Table → Step → Hook → List SpanSet → Type 0
+IsUnseen t step hook box =
+    HasNoneWritten hook box ⊎ ((words : List (List ℕ)) × (p : Packet) × IsSampleOf hook box words p × (Contains (walk t p).trail (entry_of t.chains step) → ⊥))
+
+-- nor does one of the leaf, if the rule is on its trail
+abbrev pub IsUnseenIn : Table → Step → Hook → Leaf → Type 0
+IsUnseenIn t step hook leaf = Contains leaf.trail.items step → IsUnseen t step hook leaf.area
+
+-- The packets at the hook that a rule's box has don't come to the ends of their walks within the budget; or some of their leaves have the rule on
+-- their trail, and no packet of those shows it.
 abbrev pub MayLive : Table → Step → Hook → ℕ → Type 0
 MayLive t step hook budget =
     (given : Given) × IsBoxAt t step hook given
     × (IsUnfinished t hook given.area budget
-    ⊎ ((leaves : List Leaf) × AreLeavesOf t hook given.area leaves × Any (λ (leaf : Leaf). Contains leaf.trail.items step) leaves))
+    ⊎ ((leaves : List Leaf) × AreLeavesOf t hook given.area leaves × Any (λ (leaf : Leaf). Contains leaf.trail.items step) leaves
+    × All (IsUnseenIn t step hook) leaves))
 
 -- an answer about a rule is unclear only there
 abbrev pub IsUnclearAt : Table → Step → Hook → ℕ → Life → Type 0
@@ -39,12 +52,22 @@ IsUnclear t step budget (life.Live words) = Unit {0}
 IsUnclear t step budget life.Unclear =
     ((hook : Hook) → IsDeadAt t (entry_of t.chains step) hook ⊎ MayLive t step hook budget) × ((hook : Hook) × MayLive t step hook budget)
 
--- the packets of a leaf of the first table don't come to the ends of their walks in the second one, or a leaf there has another verdict
+-- no packet of the box shows that the tables differ: no line writes one, or they give one verdict to one that a line writes
+abbrev pub IsAlikeAsSeen : Table → Table → Hook → List SpanSet → Type 0
+IsAlikeAsSeen old new hook box = HasNoneWritten hook box ⊎ ((words : List (List ℕ)) × (p : Packet) × IsSampleOf hook box words p × IsAlike old new p)
+
+-- nor does one of the leaf, if it has another verdict
+abbrev pub IsAlikeIn : Table → Table → Hook → Verdict → Leaf → Type 0
+IsAlikeIn old new hook verdict leaf = leaf.verdict ≢ verdict → IsAlikeAsSeen old new hook leaf.area
+
+-- The packets of a leaf of the first table don't come to the ends of their walks in the second one; or some leaves there have another verdict, and
+-- no packet of those shows it.
 abbrev pub MayDifferIn : Table → Table → Hook → ℕ → Leaf → Type 0
 MayDifferIn old new hook budget leaf =
     (box : List SpanSet) × IsBoth leaf.area leaf.area box
     × (IsUnfinished new hook box budget
-    ⊎ ((leaves : List Leaf) × AreLeavesOf new hook box leaves × Any (λ (other : Leaf). other.verdict ≢ leaf.verdict) leaves))
+    ⊎ ((leaves : List Leaf) × AreLeavesOf new hook box leaves × Any (λ (other : Leaf). other.verdict ≢ leaf.verdict) leaves
+    × All (IsAlikeIn old new hook leaf.verdict) leaves))
 
 -- the packets at the hook don't come to the ends of their walks in the first table, or those of a leaf may get two verdicts
 abbrev pub MayDiffer : Table → Table → Hook → ℕ → Type 0

@@ -1,5 +1,5 @@
 -- Boxes of which all packets have one walk.
-use Rattle.std.specs.Prelude.{◌≡◌, List, ℕ, All, Any}
+use Rattle.std.specs.Prelude.{◌≡◌, ◌≢◌, ◌⊎◌, List, ℕ, length, All, Any}
 use Rattle.fields.specs.declared.packet.hook.Hook.{Hook}
 use Rattle.fields.specs.numbers.Spans.{SpanSet}
 use Rattle.fields.specs.packet.Packet.{PacketView as Packet, IsPacket}
@@ -8,12 +8,13 @@ use Rattle.table.specs.walk.Walk.{walk}
 use Rattle.classify.specs.classifier.Classifier.{IsPoint}
 use Rattle.questions.specs.Leaves.{walked_of}
 use Rattle.questions.specs.asked.Reach.{IsMeant}
-use Rattle.questions.specs.boxes.Area.{Has, HasNumbers, HasOwnInterfaces, IsAtHook, IsIn}
+use Rattle.questions.specs.boxes.Area.{Has, HasNumbers, HasOwnInterfaces, IsAtHook, IsBoth, IsIn}
 use Rattle.questions.specs.declared.asked.exact.Shared.{Shared}
 use Rattle.questions.specs.declared.asked.exact.Shared.TheVariants.{Nobody, One, Several}
 use Rattle.questions.specs.declared.asked.reach.Given.{Given}
 use Rattle.questions.specs.declared.boxes.transport.Transport.{Transport}
 use Rattle.questions.specs.declared.walking.task.Leaf.{Leaf}
+use Rattle.questions.specs.steps.Taken.{IsFinished, IsUnfinished}
 use Rattle.questions.specs.steps.Transports.{HasTransport}
 
 -- of the packets that can be at the hook, one box has those of another, and none with an interface that isn't theirs
@@ -40,11 +41,31 @@ pub record IsExact (t : Table) (given : Given) (leaf : Leaf) : Type 0 where
 abbrev pub HasShared : Transport → List SpanSet → List SpanSet → List SpanSet → Type 0
 HasShared transport own other both = (p : Packet) → IsAtHook p → HasTransport transport p → IsIn own p → IsIn other p → IsIn both p
 
+-- the walk of a box doesn't come to its end within the budget, or not in one leaf
+abbrev pub IsSplit : Table → Hook → ℕ → List SpanSet → Type 0
+IsSplit t hook budget box = IsUnfinished t hook box budget ⊎ ((leaves : List Leaf) × IsFinished t hook box budget leaves × (length leaves ≢ 1))
+
+-- so does that of a box with the packets of another
+abbrev pub HasSplitCopy : Table → Hook → ℕ → List SpanSet → Type 0
+HasSplitCopy t hook budget own = (box : List SpanSet) × IsBoth own own box × IsSplit t hook budget box
+
+-- so does that of a box which has some of the packets that two others share, all with the transport header among them
+pub record HasSplitPart (t : Table) (hook : Hook) (budget : ℕ) (transport : Transport) (own other : List SpanSet) : Type 0 where
+  pub part : List SpanSet
+  pub all : HasShared transport own other part
+  pub only : (numbers : List ℕ) → IsPoint numbers → Has part numbers → Has own numbers × Has other numbers
+  pub some : HasNumbers part
+  pub split : HasSplitCopy t hook budget part
+
+-- so does that of the packets that a leaf shares with a box, with some transport header
+abbrev pub IsSplitIn : Table → Given → ℕ → Leaf → Type 0
+IsSplitIn t given budget leaf = (transport : Transport) × HasSplitPart t given.hook budget transport given.area leaf.area
+
 -- by what a leaf shares with the box, of packets with a transport header
-abbrev pub IsSharedOf : Table → Given → Leaf → Transport → Shared → Type 0
-IsSharedOf t given leaf transport Nobody = (p : Packet) → IsAtHook p → HasTransport transport p → IsIn given.area p → IsIn leaf.area p → ⊥
-IsSharedOf t given leaf transport (One exact) = IsExact t given exact × HasShared transport given.area leaf.area exact.area
-IsSharedOf t given leaf transport Several = Unit {0}
+abbrev pub IsSharedOf : Table → Given → Leaf → Transport → ℕ → Shared → Type 0
+IsSharedOf t given leaf transport budget Nobody = (p : Packet) → IsAtHook p → HasTransport transport p → IsIn given.area p → IsIn leaf.area p → ⊥
+IsSharedOf t given leaf transport budget (One exact) = IsExact t given exact × HasShared transport given.area leaf.area exact.area
+IsSharedOf t given leaf transport budget Several = HasSplitPart t given.hook budget transport given.area leaf.area
 
 -- some of the leaves have the numbers
 abbrev pub AnyHas : List ℕ → List Leaf → Type 0

@@ -1,8 +1,10 @@
 -- Chains from which jumps and gotos lead to a chain, by marks.
-use Rattle.std.specs.Prelude.{◌≡◌, ℕ, zero, suc, ◌<◌, Bool, true, false, List, [], ◌∷◌, Some, length, slice_index_or, Contains}
+use Rattle.std.specs.Prelude.{◌≡◌, ℕ, zero, suc, ◌<◌, Bool, true, false, List, [], ◌∷◌, Option, Some, None, length, slice_index_or, Contains}
+use Rattle.classify.specs.classifier.Classifier.{IsPoint}
+use Rattle.rules.specs.rule.Allows.{allows_each}
 use Rattle.rules.specs.rule.Rules.{Rule}
 use Rattle.table.specs.chains.Sound.{Leads}
-use Rattle.table.specs.chains.Table.{Chain, Table, chain_at, chain_named_by}
+use Rattle.table.specs.chains.Table.{Chain, Table, chain_at, chain_named_by, rules_of}
 use Rattle.questions.specs.Leaves.{name_at}
 
 -- the chain at a place is marked
@@ -23,26 +25,48 @@ IsMarkedName chains marks name = (j : ℕ) × (j < length chains) × IsMarked ma
 abbrev pub NamesMarked : List Chain → List Bool → Rule → Type 0
 NamesMarked chains marks rule = (name : List ℕ) × (chain_named_by rule ≡ Some name) × IsMarkedName chains marks name
 
--- some rule of the chain at a place names a marked chain
-abbrev pub LeadsOn : Table → List Bool → ℕ → Type 0
-LeadsOn t marks place = (rule : Rule) × Contains (chain_at t place).rules rule × NamesMarked t.chains marks rule
+-- two rules allow some numbers both, field by field
+abbrev pub ShareNumbers : Rule → Rule → Type 0
+ShareNumbers a b = (numbers : List ℕ) × IsPoint numbers × (allows_each numbers a ≡ true) × (allows_each numbers b ≡ true)
 
--- of the first so many chains each with a rule that names a marked chain is marked
-abbrev pub AreClosed : Table → List Bool → ℕ → Type 0
-AreClosed t marks count = (k : ℕ) → k < count → LeadsOn t marks k → IsMarked marks k
+-- beside another rule, if one is given, a rule counts only where both allow some numbers
+abbrev pub Counts : Option Rule → Rule → Type 0
+Counts None rule = Unit {0}
+Counts (Some own) rule = ShareNumbers own rule
+
+-- so many jumps and gotos of rules that count lead from one chain to another
+abbrev pub PathBy : Table → Option Rule → ℕ → List ℕ → List ℕ → Type 0
+PathBy t own zero a b = a ≡ b
+PathBy t own (suc n) a b = (c : List ℕ) × ((rule : Rule) × Contains (rules_of t.chains a) rule × (chain_named_by rule ≡ Some c) × Counts own rule) × PathBy t own n c b
+
+-- some rule of the chain at a place counts and names a marked chain
+abbrev pub LeadsOn : Table → Option Rule → List Bool → ℕ → Type 0
+LeadsOn t own marks place = (rule : Rule) × Contains (chain_at t place).rules rule × NamesMarked t.chains marks rule × Counts own rule
+
+-- of the first so many chains each with such a rule is marked
+abbrev pub AreClosed : Table → Option Rule → List Bool → ℕ → Type 0
+AreClosed t own marks count = (k : ℕ) → k < count → LeadsOn t own marks k → IsMarked marks k
 
 -- a path leads from each marked chain to the named one
-abbrev pub AllLead : Table → List ℕ → List Bool → Type 0
-AllLead t name marks = (k : ℕ) → k < length t.chains → IsMarked marks k → Leads t.chains (name_at t.chains k) name
+abbrev pub AllLead : Table → Option Rule → List ℕ → List Bool → Type 0
+AllLead t own name marks = (k : ℕ) → k < length t.chains → IsMarked marks k → (n : ℕ) × PathBy t own n (name_at t.chains k) name
+
+-- the chain at a place is marked, each other marked chain leads to it by rules that count, and each with a rule that counts and names a marked
+-- chain is marked
+pub record AreSpread (t : Table) (own : Option Rule) (place : ℕ) (marks : List Bool) : Type 0 where
+  pub long : length marks ≡ length t.chains
+  pub there : IsMarked marks place
+  pub each : AllLead t own (name_at t.chains place) marks
+  pub closed : AreClosed t own marks (length t.chains)
 
 -- just the chains are marked from which a path leads to the named one
 pub record AreLeading (t : Table) (name : List ℕ) (marks : List Bool) : Type 0 where
   pub long : length marks ≡ length t.chains
-  pub each : AllLead t name marks
+  pub each : (k : ℕ) → k < length t.chains → IsMarked marks k → Leads t.chains (name_at t.chains k) name
   pub all : (k : ℕ) → k < length t.chains → Leads t.chains (name_at t.chains k) name → IsMarked marks k
 
 -- marks with more of them, and for each one a path, where there was one for each before
-pub record Spreads (t : Table) (old new : List Bool) : Type 0 where
+pub record Spreads (t : Table) (own : Option Rule) (old new : List Bool) : Type 0 where
   pub long : length new ≡ length old
   pub kept : (k : ℕ) → IsMarked old k → IsMarked new k
-  pub each : (name : List ℕ) → AllLead t name old → AllLead t name new
+  pub each : (name : List ℕ) → AllLead t own name old → AllLead t own name new

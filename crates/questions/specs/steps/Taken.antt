@@ -33,15 +33,15 @@ pub record IsStep (t : Table) (hook : Hook) (old new : Front) : Type 0 where
   pub moves : Moves t policy task.area (stage_of t.chains task) left new
 
 -- so many steps
-abbrev pub Takes : ℕ → Table → Hook → Front → Front → Type 0
-Takes zero t hook old new = old ≡ new
-Takes (suc n) t hook old new = (mid : Front) × Takes n t hook old mid × IsStep t hook mid new
+abbrev pub AreSteps : ℕ → Table → Hook → Front → Front → Type 0
+AreSteps zero t hook old new = old ≡ new
+AreSteps (suc n) t hook old new = (mid : Front) × AreSteps n t hook old mid × IsStep t hook mid new
 
 -- the walk of a box gets there in so many steps
 pub record GetsTo (t : Table) (hook : Hook) (box : List SpanSet) (n : ℕ) (front : Front) : Type 0 where
   pub first : Front
   pub begins : IsFirst hook box first
-  pub takes : Takes n t hook first front
+  pub takes : AreSteps n t hook first front
 
 -- the newest task has a full trail
 pub record IsFull (front : Front) : Type 0 where

@@ -1,19 +1,30 @@
--- The rules that lead to the chain of a rule, and have no packet in common with it.
-use Rattle.std.specs.Prelude.{◌≡◌, ℕ, true, List, All, Contains}
-use Rattle.classify.specs.classifier.Classifier.{IsPoint}
-use Rattle.rules.specs.rule.Allows.{matches}
-use Rattle.table.specs.chains.Table.{Table}
+-- The rules by which packets come into some chains.
+use Rattle.std.specs.Prelude.{◌≡◌, ◌⊎◌, ℕ, Bool, true, false, List, [], ◌∷◌, Some, Contains}
+use Rattle.fields.specs.declared.packet.hook.Hook.{Hook}
+use Rattle.fields.specs.packet.Hook.{name as hook_name}
+use Rattle.table.specs.chains.Table.{Chain, Table, chain_at}
 use Rattle.table.specs.declared.walk.trail.Step.{Step}
-use Rattle.questions.specs.Ends.{rule_at}
-use Rattle.questions.specs.asked.Reason.{LeadsTo}
+use Rattle.questions.specs.Ends.{IsRule, rule_at}
+use Rattle.questions.specs.steps.Leading.{NamesMarked, PathBy}
 
--- a rule leads to the rule's chain, and has no packet in common with it
-pub record IsClosedWay (t : Table) (step by : Step) : Type 0 where
-  pub leads : LeadsTo t step by
-  pub apart : (numbers : List ℕ) → IsPoint numbers → matches numbers (rule_at t by) ≡ true → matches numbers (rule_at t step) ≡ true → ⊥
+-- the names of the marked chains
+abbrev pub marked_names : List Chain → List Bool → List (List ℕ)
+marked_names [] marks = []
+marked_names (chain ∷ chains) [] = []
+marked_names (chain ∷ chains) (true ∷ marks) = chain.name ∷ marked_names chains marks
+marked_names (chain ∷ chains) (false ∷ marks) = marked_names chains marks
 
--- some rules, and those of a chain that lead to the rule's chain: these have no packet in common with it
-pub record AddsWays (t : Table) (step : Step) (place : ℕ) (old new : List Step) : Type 0 where
-  pub each : All (IsClosedWay t step) old → All (IsClosedWay t step) new
+-- a rule names a marked chain
+pub record IsWay (t : Table) (marks : List Bool) (by : Step) : Type 0 where
+  pub rule : IsRule t by
+  pub names : NamesMarked t.chains marks (rule_at t by)
+
+-- some rules, and just those of the chain at a place that name a marked chain
+pub record AddsWays (t : Table) (marks : List Bool) (place : ℕ) (old new : List Step) : Type 0 where
   pub kept : (by : Step) → Contains old by → Contains new by
-  pub added : (by : Step) → by.chain ≡ place → LeadsTo t step by → Contains new by
+  pub added : (by : Step) → by.chain ≡ place → IsWay t marks by → Contains new by
+  pub only : (by : Step) → Contains new by → Contains old by ⊎ ((by.chain ≡ place) × IsWay t marks by)
+
+-- rules that allow some numbers that the rule allows too lead from a built-in chain to the rule's chain
+abbrev pub IsOpen : Table → Step → Type 0
+IsOpen t step = (hook : Hook) × (n : ℕ) × PathBy t (Some (rule_at t step)) n (hook_name hook) (chain_at t step.chain).name

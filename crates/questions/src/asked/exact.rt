@@ -1,6 +1,7 @@
 // Boxes of which all packets have one walk.
-ghost use Rattle.std.specs.Prelude.{◌≡◌, IfOk, IfSome, IsTrue};
-ghost use Rattle.questions.specs.steps.Exact.{AddsExact, AreExact, AreExactWalks, IsSharedOf, IsWalkOf};
+ghost use Rattle.std.specs.Prelude.{◌≡◌, false, Any, IfOk, IsTrue, MatchOption};
+ghost use Rattle.questions.specs.asked.Unknown.{MayBeSeveral};
+ghost use Rattle.questions.specs.steps.Exact.{AddsExact, AreExact, AreExactWalks, HasSplitCopy, IsSharedOf, IsSplitIn, IsWalkOf};
 
 use crate::asked::reach::Given;
 use crate::boxes::area::Area;
@@ -18,7 +19,7 @@ enum Shared {
     Nobody,
     // They have one walk.
     One(Leaf),
-    // They may have several.
+    // They may have several, or walks that don't end within the budget.
     Several,
 }
 
@@ -30,7 +31,8 @@ fn walk_of(
     area: Area,
     budget: usize,
 ) -> Result<Option<Leaf>, AllocError>
-    ensures { IfOk result (λ found. IfSome found (IsWalkOf subject.now.table.table hook area)) }
+    ensures { IfOk result (λ found. MatchOption found
+        (HasSplitCopy subject.now.table.table hook budget area) (IsWalkOf subject.now.table.table hook area)) }
 {
     let start = area.copy(alloc)?;
     let Some(mut found) = leaves(alloc, subject, hook, start, budget)? else {
@@ -65,7 +67,7 @@ fn part_of(
     transport: Transport,
     budget: usize,
 ) -> Result<Shared, AllocError>
-    ensures { IfOk result (IsSharedOf subject.now.table.table given.now leaf.now transport) }
+    ensures { IfOk result (IsSharedOf subject.now.table.table given.now leaf.now transport budget) }
 {
     let shared = leaf.area.within(alloc, given.area.sets())?;
     let part = with_transport(alloc, shared, transport)?;
@@ -88,7 +90,8 @@ fn add_parts(
     budget: usize,
     exact: &mut Vec<Leaf>,
 ) -> Result<bool, AllocError>
-    ensures { IfOk result (λ could. IsTrue could → AddsExact subject.now.table.table given.now leaf.now exact.old.items exact.new.items) }
+    ensures adds { IfOk result (λ could. IsTrue could → AddsExact subject.now.table.table given.now leaf.now exact.old.items exact.new.items) }
+    ensures split { IfOk result (λ could. could ≡ false → IsSplitIn subject.now.table.table given.now budget leaf.now) }
 {
     for transport in Transport::ALL {
         match part_of(alloc, subject, given, leaf, transport, budget)? {
@@ -109,7 +112,8 @@ fn exact_of(
     found: &[Leaf],
     budget: usize,
 ) -> Result<Option<Vec<Leaf>>, AllocError>
-    ensures { IfOk result (λ exact. IfSome exact (λ leaves. AreExact subject.now.table.table given.now found.now leaves.items)) }
+    ensures { IfOk result (λ exact. MatchOption exact
+        (Any (IsSplitIn subject.now.table.table given.now budget) found.now) (λ leaves. AreExact subject.now.table.table given.now found.now leaves.items)) }
 {
     let mut exact = Vec::new(alloc);
     for leaf in found {
@@ -127,7 +131,8 @@ pub(crate) fn exact_walks(
     given: &Given,
     budget: usize,
 ) -> Result<Option<Vec<Leaf>>, AllocError>
-    ensures { IfOk result (λ found. IfSome found (λ exact. AreExactWalks subject.now.table.table given.now exact.items)) }
+    ensures { IfOk result (λ found. MatchOption found
+        (MayBeSeveral subject.now.table.table given.now budget) (λ exact. AreExactWalks subject.now.table.table given.now exact.items)) }
 {
     let start = given.area.copy(alloc)?;
     let Some(found) = leaves(alloc, subject, given.hook, start, budget)? else {

@@ -1,14 +1,18 @@
 // The chains from which jumps and gotos lead to a chain.
-ghost use Rattle.std.specs.Prelude.{◌≡◌, ◌<◌, ◌↔◌, false, true, length, slice_index_or, IfOk, IsTrue};
+ghost use Rattle.std.specs.Prelude.{◌≡◌, ◌<◌, ◌↔◌, false, true, length, option_map, slice_index_or, IfOk, IfSome, IsTrue};
+ghost use Rattle.fields.specs.declared.packet.hook.Hook.{Hook as HookView};
 ghost use Rattle.table.specs.chains.Table.{chain_at};
 ghost use Rattle.table.specs.steps.Kept.{hook_index};
-ghost use Rattle.questions.specs.steps.Leading.{AreClosed, AreLeading, IsMarkedName, LeadsOn, NamesMarked, Spreads, unmarked};
+ghost use Rattle.questions.specs.Ends.{IsRule, rule_at};
+ghost use Rattle.questions.specs.steps.Leading.{AreClosed, AreLeading, AreSpread, Counts, IsMarkedName, LeadsOn, NamesMarked, Spreads, unmarked};
 
+use crate::boxes::boxed_table::BoxedTable;
+use crate::boxes::meeting::meet;
 use crate::walking::engine::hook_index;
 use fields::Hook;
 use rules::{Rule, Target};
 use std::alloc::{AllocError, Global};
-use table::Table;
+use table::{Step, Table};
 
 // Whether a name is that of a marked chain.
 fn is_marked(table: &Table, marks: &[bool], name: &[u8]) -> bool
@@ -23,7 +27,7 @@ fn is_marked(table: &Table, marks: &[bool], name: &[u8]) -> bool
 }
 
 // Whether a rule names a marked chain.
-fn names_marked(table: &Table, marks: &[bool], rule: &Rule) -> bool
+pub(crate) fn names_marked(table: &Table, marks: &[bool], rule: &Rule) -> bool
     requires { length marks.now ≡ length table.now.table.chains }
     ensures { IsTrue result ↔ NamesMarked table.now.table.chains marks.now rule.now }
 {
@@ -35,72 +39,111 @@ fn names_marked(table: &Table, marks: &[bool], rule: &Rule) -> bool
     }
 }
 
-// Whether some rule of the chain at a place names a marked chain.
-fn leads_on(table: &Table, marks: &[bool], place: usize) -> bool
-    requires long { length marks.now ≡ length table.now.table.chains }
-    requires place { place < length table.now.table.chains }
-    ensures { IsTrue result ↔ LeadsOn table.now.table marks.now place }
+// Whether a rule counts: beside another one, if it is given, only where both allow some numbers.
+fn counts(subject: &BoxedTable, own: Option<Step>, by: Step) -> bool
+    requires own { IfSome own (IsRule subject.now.table.table) }
+    requires by { IsRule subject.now.table.table by }
+    ensures { IsTrue result ↔ Counts (option_map (rule_at subject.now.table.table) own) (rule_at subject.now.table.table by) }
 {
+    match own {
+        None => true,
+        Some(step) => meet(
+            subject.at(step.chain, step.number).spans(),
+            subject.at(by.chain, by.number).spans(),
+        ),
+    }
+}
+
+// Whether some rule of the chain at a place counts and names a marked chain.
+fn leads_on(subject: &BoxedTable, own: Option<Step>, marks: &[bool], place: usize) -> bool
+    requires own { IfSome own (IsRule subject.now.table.table) }
+    requires long { length marks.now ≡ length subject.now.table.table.chains }
+    requires place { place < length subject.now.table.table.chains }
+    ensures { IsTrue result ↔ LeadsOn subject.now.table.table (option_map (rule_at subject.now.table.table) own) marks.now place }
+{
+    let table = &subject.table;
     for passed in 0..table.rule_count(place) {
-        if names_marked(table, marks, table.rule(place, passed + 1)) {
+        let by = Step {
+            chain: place,
+            number: passed + 1,
+        };
+        if names_marked(table, marks, table.rule(place, passed + 1)) && counts(subject, own, by) {
             return true;
         }
     }
     false
 }
 
-// Marks the chain at a place, if a rule of it names a marked chain. Whether it wasn't marked before.
-fn mark(table: &Table, marks: &mut Vec<bool>, place: usize) -> bool
-    requires long { length marks.old.items ≡ length table.now.table.chains }
-    requires place { place < length table.now.table.chains }
-    ensures more { Spreads table.now.table marks.old.items marks.new.items }
+// Marks the chain at a place, if such a rule stands there. Whether it wasn't marked before.
+fn mark(subject: &BoxedTable, own: Option<Step>, marks: &mut Vec<bool>, place: usize) -> bool
+    requires own { IfSome own (IsRule subject.now.table.table) }
+    requires long { length marks.old.items ≡ length subject.now.table.table.chains }
+    requires place { place < length subject.now.table.table.chains }
+    ensures more { Spreads subject.now.table.table (option_map (rule_at subject.now.table.table) own) marks.old.items marks.new.items }
     ensures fewer { IsTrue result → unmarked marks.new.items < unmarked marks.old.items }
     ensures same { result ≡ false → marks.new.items ≡ marks.old.items }
-    ensures closed { result ≡ false → LeadsOn table.now.table marks.old.items place → slice_index_or marks.old.items place false ≡ true }
+    ensures closed { result ≡ false → LeadsOn subject.now.table.table (option_map (rule_at subject.now.table.table) own) marks.old.items place
+        → slice_index_or marks.old.items place false ≡ true }
 {
     if marks[place] {
         return false;
     }
-    if !leads_on(table, marks.as_slice(), place) {
+    if !leads_on(subject, own, marks.as_slice(), place) {
         return false;
     }
-    table.stands();
+    subject.table.stands();
     marks[place] = true;
     true
 }
 
-// Marks each chain with a rule that names a marked chain. Whether one is marked that wasn't before.
-fn spread(table: &Table, marks: &mut Vec<bool>) -> bool
-    requires { length marks.old.items ≡ length table.now.table.chains }
-    ensures more { Spreads table.now.table marks.old.items marks.new.items }
+// Marks each chain with such a rule. Whether one is marked that wasn't before.
+fn spread(subject: &BoxedTable, own: Option<Step>, marks: &mut Vec<bool>) -> bool
+    requires own { IfSome own (IsRule subject.now.table.table) }
+    requires long { length marks.old.items ≡ length subject.now.table.table.chains }
+    ensures more { Spreads subject.now.table.table (option_map (rule_at subject.now.table.table) own) marks.old.items marks.new.items }
     ensures fewer { IsTrue result → unmarked marks.new.items < unmarked marks.old.items }
-    ensures closed { result ≡ false → AreClosed table.now.table marks.new.items (length table.now.table.chains) }
+    ensures closed { result ≡ false
+        → AreClosed subject.now.table.table (option_map (rule_at subject.now.table.table) own) marks.new.items (length subject.now.table.table.chains) }
 {
     let mut is_more = false;
-    for place in 0..table.chain_count() {
-        if mark(table, marks, place) {
+    for place in 0..subject.table.chain_count() {
+        if mark(subject, own, marks, place) {
             is_more = true;
         }
     }
     is_more
 }
 
-// A mark for each chain from which jumps and gotos lead to the one at a place, also in no step. The marks spread until each chain
-// that names a marked one is marked:
-// each time but the last there are more.
-pub(crate) fn leading_to(
+// A mark for each chain from which rules that count lead to the one at a place, also in no step. The marks spread until each
+// chain with such a rule that names a marked one is marked: each time but the last there are more.
+pub(crate) fn spread_from(
     alloc: Global,
-    table: &Table,
+    subject: &BoxedTable,
+    own: Option<Step>,
     place: usize,
 ) -> Result<Vec<bool>, AllocError>
-    requires { place < length table.now.table.chains }
-    ensures { IfOk result (λ marks. AreLeading table.now.table (chain_at table.now.table place).name marks.items) }
+    requires own { IfSome own (IsRule subject.now.table.table) }
+    requires place { place < length subject.now.table.table.chains }
+    ensures { IfOk result (λ marks. AreSpread subject.now.table.table (option_map (rule_at subject.now.table.table) own) place marks.items) }
 {
-    table.stands();
-    let count = table.chain_count();
+    let count = subject.table.chain_count();
     let mut marks = vec![in alloc; false; count]?;
     marks[place] = true;
-    while spread(table, &mut marks) {}
+    while spread(subject, own, &mut marks) {}
+    Ok(marks)
+}
+
+// A mark for each chain from which jumps and gotos lead to the one at a place, also in no step.
+pub(crate) fn leading_to(
+    alloc: Global,
+    subject: &BoxedTable,
+    place: usize,
+) -> Result<Vec<bool>, AllocError>
+    requires { place < length subject.now.table.table.chains }
+    ensures { IfOk result (λ marks. AreLeading subject.now.table.table (chain_at subject.now.table.table place).name marks.items) }
+{
+    subject.table.stands();
+    let marks = spread_from(alloc, subject, None, place)?;
     Ok(marks)
 }
 
@@ -110,4 +153,12 @@ pub(crate) fn is_led(marks: &[bool], hook: Hook) -> bool
 {
     let place = hook_index(hook);
     place < marks.len() && marks[place]
+}
+
+// Whether the chain of no hook is marked.
+pub(crate) fn none_led(marks: &[bool]) -> bool
+    ensures none { IsTrue result → (hook : HookView) → slice_index_or marks.now (hook_index hook) false ≡ false }
+    ensures some { result ≡ false → (hook : HookView) × (slice_index_or marks.now (hook_index hook) false ≡ true) }
+{
+    !is_led(marks, Hook::Input) && !is_led(marks, Hook::Forward) && !is_led(marks, Hook::Output)
 }

@@ -1,6 +1,7 @@
 //! What becomes of packets that are given in part.
-ghost use Rattle.std.specs.Prelude.{IfOk, IfSome};
+ghost use Rattle.std.specs.Prelude.{IfOk, MatchOption};
 ghost use Rattle.questions.specs.asked.Reach.{IsReach};
+ghost use Rattle.questions.specs.asked.Unknown.{MayBeSeveralMet};
 ghost use Rattle.questions.specs.steps.Exact.{IsMet};
 
 use crate::asked::exact::exact_walks;
@@ -42,7 +43,8 @@ pub fn reach(
     field: Field,
     budget: usize,
 ) -> Result<Option<Vec<Reached>>, AllocError>
-    ensures { IfOk result (λ found. IfSome found (λ reached. IsReach subject.now.table.table given.now field reached.items)) }
+    ensures { IfOk result (λ found. MatchOption found
+        (MayBeSeveralMet subject.now.table.table given.now budget) (λ reached. IsReach subject.now.table.table given.now field reached.items)) }
 {
     subject.table.stands();
     let asked = met(alloc, given)?;

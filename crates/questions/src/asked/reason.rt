@@ -1,18 +1,18 @@
 //! Why a rule is dead.
-ghost use Rattle.std.specs.Prelude.{◌≡◌, ◌<◌, ◌≤◌, [], false, length, slice_index_or, IfOk, IfSome, IsTrue};
-ghost use Rattle.fields.specs.declared.packet.hook.Hook.{Hook as HookView};
+ghost use Rattle.std.specs.Prelude.{◌≡◌, ◌≢◌, ◌<◌, ◌≤◌, [], false, length, IfOk, IsTrue, MatchOption};
+ghost use Rattle.fields.specs.declared.numbers.field.Field.{Field as FieldView};
 ghost use Rattle.rules.specs.boxing.Boxed.{set_on};
 ghost use Rattle.table.specs.chains.Table.{Table as Filter, chain_at};
 ghost use Rattle.table.specs.declared.walk.trail.Step.{Step as Place};
-ghost use Rattle.table.specs.steps.Kept.{hook_index};
 ghost use Rattle.questions.specs.Ends.{IsRule};
 ghost use Rattle.questions.specs.asked.Reason.{Explains, HasPacket, IsReason, IsTaken};
+ghost use Rattle.questions.specs.asked.Unknown.{IsUndecided};
 
-use crate::asked::leading::{is_led, leading_to};
+use crate::asked::leading::{leading_to, none_led};
 use crate::asked::takers::{Takers, takers_of};
 use crate::asked::ways::ways_into;
 use crate::boxes::boxed_table::BoxedTable;
-use fields::{Field, Hook};
+use fields::Field;
 use rules::Boxed;
 use std::alloc::{AllocError, Global};
 use table::Step;
@@ -26,7 +26,7 @@ pub enum Reason {
     Unreached,
     /// The rule matches no packet that can be at a hook from whose chain jumps and gotos lead to the rule's chain.
     NoPacket,
-    /// No packet that a rule matches which leads to its chain is one that it matches; these are the rules that lead there.
+    /// Packets come to its chain by these rules alone, and no packet that one of them matches is one that it matches.
     Excluded(Vec<Step>),
     /// It matches some of those, and just these rules and policies decide them; none of the packets comes to the rule.
     Taken(Takers),
@@ -34,7 +34,8 @@ pub enum Reason {
 
 // A field on which a rule allows no number.
 fn bare_field(boxed: &Boxed) -> Option<Field>
-    ensures { IfSome result (λ field. set_on field boxed.now ≡ []) }
+    ensures { MatchOption result
+        ((field : FieldView) → set_on field boxed.now ≢ []) (λ field. set_on field boxed.now ≡ []) }
 {
     for field in Field::ALL {
         if boxed.on(field).intervals().is_empty() {
@@ -42,13 +43,6 @@ fn bare_field(boxed: &Boxed) -> Option<Field>
         }
     }
     None
-}
-
-// Whether the chain of no hook is marked.
-fn none_led(marks: &[bool]) -> bool
-    ensures { IsTrue result → (hook : HookView) → slice_index_or marks.now (hook_index hook) false ≡ false }
-{
-    !is_led(marks, Hook::Input) && !is_led(marks, Hook::Forward) && !is_led(marks, Hook::Output)
 }
 
 // Whether they decide no packet.
@@ -87,8 +81,8 @@ fn reason_by(
 /// walk from each of these hooks as boxes, with `budget` steps, and each box that came to an end walks again, with `budget` steps
 /// each time (`leaves`).
 ///
-/// There is no answer where the rule isn't known to be dead, or where it isn't known who decides each of its packets, as of a rule
-/// that asks both ports (`Rule::asks_both`).
+/// There is no answer only where, at a hook that leads to the rule's chain, the rule asks both ports (`Rule::asks_both`), the steps
+/// don't suffice, a box that was walked again has no one walk, or a walk comes to the rule or is too long.
 ///
 /// # Errors
 ///
@@ -103,7 +97,9 @@ pub fn why_dead(
     requires place { place < length subject.now.table.table.chains }
     requires first { 0 < number }
     requires last { number ≤ length (chain_at subject.now.table.table place).rules }
-    ensures { IfOk result (λ found. IfSome found (Explains subject.now.table.table (record { chain = place; number = number }))) }
+    ensures { IfOk result (λ found. MatchOption found
+        (IsUndecided subject.now.table.table (record { chain = place; number = number }) budget)
+        (Explains subject.now.table.table (record { chain = place; number = number }))) }
 {
     subject.table.stands();
     let step = Step {
@@ -114,7 +110,7 @@ pub fn why_dead(
     if let Some(field) = bare_field(boxed) {
         return Ok(Some(Reason::Impossible(field)));
     }
-    let marks = leading_to(alloc, &subject.table, place)?;
+    let marks = leading_to(alloc, subject, place)?;
     if none_led(marks.as_slice()) {
         return Ok(Some(Reason::Unreached));
     }

@@ -1,10 +1,10 @@
 //! Whether a rule can match at all.
-ghost use Rattle.std.specs.Prelude.{◌≡◌, ◌<◌, ◌≤◌, ◌↔◌, false, All, Any, Contains, length, IfOk, IfSome, IsTrue};
+ghost use Rattle.std.specs.Prelude.{◌≡◌, ◌<◌, ◌≤◌, ◌↔◌, false, All, Any, Contains, length, IfOk, IsTrue, MatchOption};
 ghost use Rattle.table.specs.chains.Table.{chain_at};
 ghost use Rattle.questions.specs.Ends.{IsRule};
 ghost use Rattle.questions.specs.Leaves.{entry_of};
 ghost use Rattle.questions.specs.asked.Rule.{IsLiveAt, Says, SaysAt};
-ghost use Rattle.questions.specs.asked.Unclear.{IsUnclear, IsUnclearAt};
+ghost use Rattle.questions.specs.asked.Unclear.{IsUnclear, IsUnclearAt, IsUnseen, IsUnseenIn};
 
 use crate::asked::matching::packets_of;
 use crate::asked::reach::Given;
@@ -24,7 +24,8 @@ pub enum Life {
     Dead,
     /// It is on the walk of a packet, which these words write.
     Live(Words),
-    /// Neither is known: there were too many boxes, or no packet was found in those with the rule on their trail.
+    /// Neither is known: there were too many boxes, or of each with the rule on its trail no line writes a packet, or the one that
+    /// was taken has another walk.
     Unclear,
 }
 
@@ -35,7 +36,7 @@ fn is_on(trail: &[Step], step: Step) -> bool
     trail.contains(&step)
 }
 
-// A packet that is meant to be one of a box, if the rule is on its trail.
+// A packet of a box, if the rule is on its trail.
 fn witness(
     alloc: Global,
     table: &Table,
@@ -43,12 +44,15 @@ fn witness(
     area: &Area,
     step: Step,
 ) -> Result<Option<Words>, AllocError>
-    ensures { IfOk result (λ found. IfSome found (IsLiveAt table.now.table (entry_of table.now.table.chains step) hook)) }
+    requires { IsRule table.now.table step }
+    ensures { IfOk result (λ found. MatchOption found
+        (IsUnseen table.now.table step hook area.now) (IsLiveAt table.now.table (entry_of table.now.table.chains step) hook)) }
 {
     let Some(sample) = sample_of(alloc, hook, area)? else {
         return Ok(None);
     };
     let Sample { words, packet } = sample;
+    table.stands();
     let trail = table.trail(&packet)?;
     if is_on(trail.steps(), step) {
         return Ok(Some(words));
@@ -61,12 +65,14 @@ fn witness_among(
     alloc: Global,
     table: &Table,
     hook: Hook,
-    found: &[Leaf],
+    leaves: &[Leaf],
     step: Step,
 ) -> Result<Option<Words>, AllocError>
-    ensures { IfOk result (λ found. IfSome found (IsLiveAt table.now.table (entry_of table.now.table.chains step) hook)) }
+    requires { IsRule table.now.table step }
+    ensures { IfOk result (λ found. MatchOption found
+        (All (IsUnseenIn table.now.table step hook) leaves.now) (IsLiveAt table.now.table (entry_of table.now.table.chains step) hook)) }
 {
-    for leaf in found {
+    for leaf in leaves {
         if !is_on(leaf.trail.as_slice(), step) {
             continue;
         }

@@ -1,10 +1,11 @@
 //! Who decides the packets that a rule would match.
-ghost use Rattle.std.specs.Prelude.{◌≡◌, All, IfOk, IfSome, IsTrue, OnOk};
+ghost use Rattle.std.specs.Prelude.{◌≡◌, false, All, Any, IfOk, IsTrue, MatchOption, OnOk};
 ghost use Rattle.table.specs.chains.Table.{chain_at};
 ghost use Rattle.questions.specs.Ends.{IsRule};
 ghost use Rattle.questions.specs.Leaves.{entry_of};
 ghost use Rattle.questions.specs.asked.Reason.{IsTaken};
 ghost use Rattle.questions.specs.asked.Rule.{IsDead};
+ghost use Rattle.questions.specs.asked.Unknown.{IsTooLong, IsUndecided, IsUndecidedAt};
 ghost use Rattle.questions.specs.steps.Leading.{AreLeading};
 ghost use Rattle.questions.specs.steps.Takers.{AreBefore, IsDecided};
 
@@ -61,14 +62,16 @@ impl Takers {
 
 // Whether the policy or a rule decides the walk of a leaf, and not its length.
 fn is_decided(leaf: &Leaf) -> bool
-    ensures { IsTrue result → IsDecided leaf.now }
+    ensures decided { IsTrue result → IsDecided leaf.now }
+    ensures long { result ≡ false → IsTooLong leaf.now }
 {
     leaf.by_policy || leaf.decider().is_some()
 }
 
 // Whether that holds of all leaves.
 fn are_decided(found: &[Leaf]) -> bool
-    ensures { IsTrue result → All IsDecided found.now }
+    ensures decided { IsTrue result → All IsDecided found.now }
+    ensures long { result ≡ false → Any IsTooLong found.now }
 {
     for leaf in found {
         if !is_decided(leaf) {
@@ -88,7 +91,8 @@ fn walks_before(
     budget: usize,
 ) -> Result<Option<Vec<Leaf>>, AllocError>
     requires { IsRule subject.now.table.table step }
-    ensures { IfOk result (λ found. IfSome found (λ leaves. AreBefore subject.now.table.table step hook leaves.items)) }
+    ensures { IfOk result (λ found. MatchOption found
+        (IsUndecidedAt subject.now.table.table step budget hook) (λ leaves. AreBefore subject.now.table.table step hook leaves.items)) }
 {
     subject.table.stands();
     let rule = subject.table.rule(step.chain, step.number);
@@ -118,7 +122,9 @@ pub(crate) fn takers_of(
 ) -> Result<Option<Takers>, AllocError>
     requires step { IsRule subject.now.table.table step }
     requires marks { AreLeading subject.now.table.table (chain_at subject.now.table.table step.chain).name marks.now }
-    ensures { IfOk result (λ found. IfSome found (λ takers. IsDead subject.now.table.table (entry_of subject.now.table.table.chains step) × IsTaken subject.now.table.table step takers)) }
+    ensures { IfOk result (λ found. MatchOption found
+        (IsUndecided subject.now.table.table step budget)
+        (λ takers. IsDead subject.now.table.table (entry_of subject.now.table.table.chains step) × IsTaken subject.now.table.table step takers)) }
 {
     subject.table.stands();
     let mut takers = Takers {

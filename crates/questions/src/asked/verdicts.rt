@@ -1,7 +1,7 @@
 //! Whether two tables give each packet the same verdict.
-ghost use Rattle.std.specs.Prelude.{◌≡◌, ◌≢◌, false, All, Any, IfOk, IfSome, IsTrue};
+ghost use Rattle.std.specs.Prelude.{◌≡◌, ◌≢◌, false, All, Any, IfOk, IsTrue, MatchOption};
 ghost use Rattle.table.specs.declared.verdict.Verdict.{Verdict};
-ghost use Rattle.questions.specs.asked.Unclear.{IsUnclearIf, MayDiffer, MayDifferIn, MayDifferSomewhere};
+ghost use Rattle.questions.specs.asked.Unclear.{IsAlikeAsSeen, IsAlikeIn, IsUnclearIf, MayDiffer, MayDifferIn, MayDifferSomewhere};
 ghost use Rattle.questions.specs.asked.Verdicts.{IsOtherAt, IsSameAt, IsSameIn, Says, SaysIf};
 ghost use Rattle.questions.specs.declared.asked.verdicts.Likeness.TheVariants.{Same};
 
@@ -22,7 +22,8 @@ pub enum Likeness {
     Same,
     /// They give the packet that these words write two verdicts.
     Differ(Words),
-    /// Neither is known: there were too many boxes, or no packet was found in those with two verdicts.
+    /// Neither is known: there were too many boxes, or of each with two verdicts no line writes a packet, or the one that was taken
+    /// gets one verdict from both.
     Unclear,
 }
 
@@ -39,7 +40,7 @@ fn all_give(found: &[Leaf], verdict: Verdict) -> bool
     true
 }
 
-// A packet that is meant to be one of a box, if the tables give it two verdicts.
+// A packet of a box, if the tables give it two verdicts.
 fn witness(
     alloc: Global,
     old: &Table,
@@ -47,7 +48,8 @@ fn witness(
     hook: Hook,
     area: &Area,
 ) -> Result<Option<Words>, AllocError>
-    ensures { IfOk result (λ found. IfSome found (IsOtherAt old.now.table new.now.table hook)) }
+    ensures { IfOk result (λ found. MatchOption found
+        (IsAlikeAsSeen old.now.table new.now.table hook area.now) (IsOtherAt old.now.table new.now.table hook)) }
 {
     let Some(sample) = sample_of(alloc, hook, area)? else {
         return Ok(None);
@@ -64,12 +66,13 @@ fn witness_among(
     old: &Table,
     new: &Table,
     hook: Hook,
-    found: &[Leaf],
+    leaves: &[Leaf],
     verdict: Verdict,
 ) -> Result<Option<Words>, AllocError>
-    ensures { IfOk result (λ found. IfSome found (IsOtherAt old.now.table new.now.table hook)) }
+    ensures { IfOk result (λ found. MatchOption found
+        (All (IsAlikeIn old.now.table new.now.table hook verdict) leaves.now) (IsOtherAt old.now.table new.now.table hook)) }
 {
-    for leaf in found {
+    for leaf in leaves {
         if leaf.verdict == verdict {
             continue;
         }

@@ -1,76 +1,57 @@
-// The rules that lead to a rule's chain, where they leave no packet to it.
-ghost use Rattle.std.specs.Prelude.{◌≡◌, ◌<◌, ◌↔◌, Some, length, IfOk, IfSome, IsTrue};
-ghost use Rattle.table.specs.chains.Table.{chain_named_by};
+// The rules by which packets come to a rule's chain, where they leave none to the rule.
+ghost use Rattle.std.specs.Prelude.{◌≡◌, ◌<◌, length, IfOk, MatchOption, OnOk};
 ghost use Rattle.questions.specs.Ends.{IsRule};
 ghost use Rattle.questions.specs.asked.Reason.{IsExcluded};
-ghost use Rattle.questions.specs.steps.Ways.{AddsWays};
+ghost use Rattle.questions.specs.steps.Ways.{AddsWays, IsOpen};
 
+use crate::asked::leading::{names_marked, none_led, spread_from};
 use crate::boxes::boxed_table::BoxedTable;
-use crate::boxes::meeting::meet;
-use rules::{Rule, Target};
 use std::alloc::{AllocError, Global};
-use table::Step;
+use table::{Step, Table};
 
-// Whether a rule jumps or goes to the chain of a name.
-fn leads_to(rule: &Rule, chain: &[u8]) -> bool
-    ensures { IsTrue result ↔ (chain_named_by rule.now ≡ Some chain.now) }
-{
-    match rule.target() {
-        Some(Target::Jump(name)) => name.bytes() == chain,
-        Some(Target::Goto(name)) => name.bytes() == chain,
-        Some(Target::Accept | Target::Drop | Target::Reject(_) | Target::Log | Target::Return)
-        | None => false,
-    }
-}
-
-// Adds the rules of the chain at a place that lead to a rule's chain. Whether their boxes have no packet in common with that of
-// the rule; where one has, the others aren't added.
+// Adds the rules of the chain at a place that name a marked chain.
 fn add_ways(
-    subject: &BoxedTable,
-    step: Step,
+    table: &Table,
+    marks: &[bool],
     place: usize,
     ways: &mut Vec<Step>,
-) -> Result<bool, AllocError>
-    requires step { IsRule subject.now.table.table step }
-    requires place { place < length subject.now.table.table.chains }
-    ensures { IfOk result (λ apart. IsTrue apart → AddsWays subject.now.table.table step place ways.old.items ways.new.items) }
+) -> Result<(), AllocError>
+    requires long { length marks.now ≡ length table.now.table.chains }
+    requires place { place < length table.now.table.chains }
+    ensures { OnOk result (AddsWays table.now.table marks.now place ways.old.items ways.new.items) }
 {
-    subject.table.stands();
-    let own = subject.at(step.chain, step.number);
-    let chain = subject.table.chain_name(step.chain);
-    for passed in 0..subject.table.rule_count(place) {
+    for passed in 0..table.rule_count(place) {
         let number = passed + 1;
-        if !leads_to(subject.table.rule(place, number), chain) {
-            continue;
+        if names_marked(table, marks, table.rule(place, number)) {
+            ways.push(Step {
+                chain: place,
+                number,
+            })?;
         }
-        if meet(subject.at(place, number).spans(), own.spans()) {
-            return Ok(false);
-        }
-        ways.push(Step {
-            chain: place,
-            number,
-        })?;
     }
-    Ok(true)
+    Ok(())
 }
 
-// The rules that lead to a rule's chain, if no walk begins there, and no packet that one of them matches is one of the rule's box.
+// The rules by which packets come into some chains, of which one is the rule's and none is built in, if no packet that one of them
+// matches is one of the rule's box. There are none only where rules whose boxes all have packets of it lead to the rule's chain.
 pub(crate) fn ways_into(
     alloc: Global,
     subject: &BoxedTable,
     step: Step,
 ) -> Result<Option<Vec<Step>>, AllocError>
     requires { IsRule subject.now.table.table step }
-    ensures { IfOk result (λ found. IfSome found (λ ways. IsExcluded subject.now.table.table step ways.items)) }
+    ensures { IfOk result (λ found. MatchOption found
+        (IsOpen subject.now.table.table step) (λ ways. IsExcluded subject.now.table.table step ways.items)) }
 {
     subject.table.stands();
-    if step.chain < 3 {
+    let marks = spread_from(alloc, subject, Some(step), step.chain)?;
+    if !none_led(marks.as_slice()) {
         return Ok(None);
     }
     let mut ways = Vec::new(alloc);
     for place in 0..subject.table.chain_count() {
-        if !add_ways(subject, step, place, &mut ways)? {
-            return Ok(None);
+        if !marks[place] {
+            add_ways(&subject.table, marks.as_slice(), place, &mut ways)?;
         }
     }
     Ok(Some(ways))

@@ -1,9 +1,11 @@
-// A packet of a box, if one is found, with the words that write it.
-ghost use Rattle.std.specs.Prelude.{◌≡◌, Ok, IfOk, IfSome};
-ghost use Rattle.fields.specs.packet.Packet.{packet_of};
+// A packet of a box, with the words that write it.
+ghost use Rattle.std.specs.Prelude.{◌≡◌, Ok, IfOk, MatchOption};
+ghost use Rattle.fields.specs.packet.Packet.{PacketView, packet_of};
+ghost use Rattle.questions.specs.Written.{HasNoneWritten, IsSampleOf};
+ghost use Rattle.questions.specs.steps.Sampled.{Writes};
 
 use crate::boxes::area::Area;
-use crate::sampling::choice::{kind_in, numbers_in};
+use crate::sampling::choice::numbers_in;
 use crate::sampling::line::line_of;
 use fields::{Hook, Packet, WordFault, Words};
 use std::alloc::{AllocError, Global};
@@ -15,41 +17,37 @@ pub(crate) struct Sample {
     pub packet: Packet,
 }
 
-// The packet that a line writes, if it writes one.
-fn read(alloc: Global, line: &[u8]) -> Result<Option<Sample>, AllocError>
-    ensures { IfOk result (λ found. IfSome found (λ sample. packet_of sample.words ≡ Ok sample.packet)) }
+// The packet that a line writes.
+fn read(alloc: Global, line: &[u8]) -> Result<Sample, AllocError>
+    requires { (p : PacketView) × Writes line.now p }
+    ensures written { IfOk result (λ sample. packet_of sample.words ≡ Ok sample.packet) }
+    ensures same { (p : PacketView) → Writes line.now p → IfOk result (λ sample. sample.packet ≡ p) }
 {
-    match Words::split(alloc, line) {
-        Ok(words) => match Packet::read(&words, 0) {
-            Ok(packet) => Ok(Some(Sample { words, packet })),
-            Err(_) => Ok(None),
-        },
-        Err(WordFault::Quoting) => Ok(None),
-        Err(WordFault::NoMemory) => Err(AllocError),
-    }
+    let words = match Words::split(alloc, line) {
+        Ok(words) => words,
+        Err(WordFault::NoMemory) => return Err(AllocError),
+        Err(WordFault::Quoting) => unreachable!(),
+    };
+    let packet = match Packet::read(&words, 0) {
+        Ok(packet) => packet,
+        Err(_) => unreachable!(),
+    };
+    Ok(Sample { words, packet })
 }
 
-// A packet at the hook that is meant to be one of the box. Whoever asks sees what it does in the table.
+// A packet at the hook that is one of the box; there is none only where no line writes such a packet.
 pub(crate) fn sample_of(
     alloc: Global,
     hook: Hook,
     area: &Area,
 ) -> Result<Option<Sample>, AllocError>
-    ensures written { IfOk result (λ found. IfSome found (λ sample. packet_of sample.words ≡ Ok sample.packet)) }
-    ensures there { IfOk result (λ found. IfSome found (λ sample. sample.packet.hook ≡ hook)) }
+    ensures { IfOk result (λ found. MatchOption found
+        (HasNoneWritten hook area.now) (λ sample. IsSampleOf hook area.now sample.words sample.packet)) }
 {
-    let Some(kind) = kind_in(area, hook) else {
-        return Ok(None);
-    };
-    let Some(numbers) = numbers_in(area, kind) else {
+    let Some(numbers) = numbers_in(area, hook) else {
         return Ok(None);
     };
     let line = line_of(alloc, hook, &numbers)?;
-    let Some(sample) = read(alloc, line.as_slice())? else {
-        return Ok(None);
-    };
-    if sample.packet.hook() == hook {
-        return Ok(Some(sample));
-    }
-    Ok(None)
+    let sample = read(alloc, line.as_slice())?;
+    Ok(Some(sample))
 }

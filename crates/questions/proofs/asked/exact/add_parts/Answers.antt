@@ -39,9 +39,12 @@ loop-transport-preserved c =
           }))
     ]
 
-pub returns : goal.returns
-returns c = λ could. record {
+pub returns-clause-adds : goal.returns-clause-adds
+returns-clause-adds c = λ could. record {
   each = c.loop-transport.invariant.each;
   kept = c.loop-transport.invariant.kept;
   covered = shared_all c.args.subject.now.table.table c.args.given.now c.args.leaf.now c.loop-transport.exact.items c.loop-transport.transport-index c.loop-transport-test.false c.loop-transport.invariant.shared;
 }
+
+pub returns-in-Several-clause-split : goal.returns-in-Several-clause-split
+returns-in-Several-clause-split c = λ _. (get_or all_transports c.loop-transport.transport-index Tcp, rw c.in-Several.is at c.in_ok-part_of.ensures)

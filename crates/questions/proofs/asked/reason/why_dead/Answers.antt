@@ -31,7 +31,7 @@ returns-then-none_led c =
     let name = (chain_at t c.args.place).name in
     let marks = c.in_ok-marks.marks.items in
     let leading : AreLeading t name marks = c.in_ok-marks.ensures in
-    let unmarked : (hook : Hook) → slice_index_or marks (hook_index hook) false ≡ false = rw c.as_slice.ensures.value at (c.none_led.ensures c.if-none_led.true) in
+    let unmarked : (hook : Hook) → slice_index_or marks (hook_index hook) false ≡ false = rw c.as_slice.ensures.value at (c.none_led.ensures.none c.if-none_led.true) in
     let unreached : IsUnreached t step = λ hook led. true≢false (sym (hook_led t name marks hook c.stands.ensures.sound leading led) ∙ unmarked hook) in
     record { dead = λ p can on. unreached p.hook (entry_led t p (entry_of t.chains step) on); why = unreached }
 
@@ -39,3 +39,6 @@ pub returns : goal.returns
 returns c =
     let both = rw c.in-Some-2.is at c.in_ok-takers_of.ensures in
     record { dead = both.0; why = c.in_ok-reason_by-in-Some-2.ensures both.1 }
+
+pub returns-in-None : goal.returns-in-None
+returns-in-None c = rw c.in-None.is at c.in_ok-takers_of.ensures

@@ -14,4 +14,4 @@ returns-in-None-clause-unclear c = (c.in_ok-area.field-0, c.in_ok-area.ensures, 
 
 pub returns-clause-unclear : goal.returns-clause-unclear
 returns-clause-unclear c =
-    (c.in_ok-area.field-0, c.in_ok-area.ensures, inr (c.in-Some.found.items, rw c.in-Some.is at c.in_ok-leaves.ensures.leaves, rw c.as_slice.ensures.value at (c.none_on.ensures.some c.if-none_on.false)))
+    (c.in_ok-area.field-0, c.in_ok-area.ensures, inr (c.in-Some.found.items, rw c.in-Some.is at c.in_ok-leaves.ensures.leaves, rw c.as_slice.ensures.value at (c.none_on.ensures.some c.if-none_on.false), rw (c.in-None-2.is, c.as_slice-in-Some.ensures.value) at c.in_ok-words-in-Some.ensures))

@@ -62,3 +62,11 @@ returns c =
     let t = c.args.subject.now.table.table in
     let takers = c.loop-hook.takers in
     taken_of t c.args.step c.stands.ensures.sound takers (hooks_all (IsTakenAt t c.args.step takers) (λ k h lt. c.loop-hook.invariant.hooks k h (omega (arith, lt)))) c.loop-hook.invariant.each c.loop-hook.invariant.once c.loop-hook.invariant.apart
+
+-- a hook that leads there, of whose packets it isn't known who decides them
+pub returns-in-None : goal.returns-in-None
+returns-in-None c =
+    let t = c.args.subject.now.table.table in
+    let hook : Hook = get_or all_hooks c.loop-hook.hook-index Input in
+    let led : IsLed t c.args.step hook = hook_leads t (chain_at t c.args.step.chain).name c.args.marks.now hook c.stands.ensures.sound c.requires.marks (sym c.is_led.ensures ∙ c.if-not-is_led.false) in
+    (hook, led, rw c.in-None.is at c.in_ok-walks_before.ensures)

@@ -6,4 +6,4 @@ returns-in-None-clause-unclear c = (c.in_ok-start.start, c.in_ok-start.ensures, 
 
 pub returns-clause-unclear : goal.returns-clause-unclear
 returns-clause-unclear c =
-    (c.in_ok-start.start, c.in_ok-start.ensures, inr (c.in-Some.found.items, rw c.in-Some.is at c.in_ok-leaves.ensures.leaves, rw c.as_slice.ensures.value at (c.all_give.ensures.some c.if-all_give.false)))
+    (c.in_ok-start.start, c.in_ok-start.ensures, inr (c.in-Some.found.items, rw c.in-Some.is at c.in_ok-leaves.ensures.leaves, rw c.as_slice.ensures.value at (c.all_give.ensures.some c.if-all_give.false), rw (c.in-None-2.is, c.as_slice-in-Some.ensures.value) at c.in_ok-words-in-Some.ensures))

@@ -1,14 +1,37 @@
-use Rattle.std.proofs.Common.{arith}
+use Rattle.std.proofs.Common.{◌≡◌, ◌<◌, false, length, get_or, sym, ◌∙◌, arith}
+use Rattle.std.proofs.lemmas.List.{get_or_default}
 use Rattle.questions.specs.steps.Ways.{AddsWays}
-use Rattle.questions.proofs.laws.WayLaws.{before_next, excluded_of}
+use Rattle.questions.proofs.laws.WayLaws.{all_next, before_marked, before_next, excluded_of, open_of}
 use Rattle.questions.proofs.asked.ways.ways_into.Goals as goal
+use Rattle.questions.proofs.asked.ways.ways_into.Goals.{then-not-index+in_ok-add_ways, else-not-index}
+
+pub returns-then-not-none_led : goal.returns-then-not-none_led
+returns-then-not-none_led c =
+    let led = rw c.as_slice.ensures.value at (c.none_led.ensures.some c.if-not-none_led.true) in
+    open_of c.args.subject.now.table.table c.args.step c.in_ok-marks.marks.items c.stands.ensures.sound c.requires c.in_ok-marks.ensures led.0 led.1
 
 pub loop-place-preserved : goal.loop-place-preserved
 loop-place-preserved c =
     let t = c.args.subject.now.table.table in
-    let adds : AddsWays t c.args.step c.loop-place.place c.loop-place.ways.items c.add_ways.new.ways.items = c.in_ok-add_ways.ensures c.if-not-branch.false in
-    record { each = adds.each c.loop-place.invariant.each; before = before_next t c.args.step c.loop-place.place c.loop-place.ways.items c.add_ways.new.ways.items adds c.loop-place.invariant.before }
+    let marks = c.in_ok-marks.marks.items in
+    let place = c.loop-place.place in
+    let old = c.loop-place.ways.items in
+    let within : place < length marks = omega (arith, c.in_ok-marks.ensures.long, c.loop-place-test.true, c.chain_count-place-end.ensures) in
+    let at : get_or marks place false ≡ c.index.result.now = get_or_default marks place false c.index.result.now within ∙ sym c.index.ensures in
+    elim c.if-not-index.branch [
+      | then-not-index+in_ok-add_ways w ↦ (
+          let adds : AddsWays t marks place old w.add_ways.new.ways.items = rw w.as_slice-then-not-index.ensures.value at w.in_ok-add_ways.ensures in
+          rw w.ways-is (record {
+            before = before_next t marks place old w.add_ways.new.ways.items adds c.loop-place.invariant.before;
+            only = all_next t marks place old w.add_ways.new.ways.items adds (at ∙ w.if-not-index.true) c.loop-place.invariant.only;
+          }))
+      | else-not-index w ↦ rw w.ways-is (record {
+        before = before_marked t marks place old (at ∙ w.if-not-index.false) c.loop-place.invariant.before;
+        only = c.loop-place.invariant.only;
+      })
+    ]
 
 pub returns : goal.returns
 returns c =
-    excluded_of c.args.subject.now.table.table c.args.step c.loop-place.ways.items c.loop-place.place c.stands.ensures.sound c.requires c.if-step-lt3.false (omega (arith, c.chain_count-place-end.ensures, c.loop-place-test.false)) c.loop-place.invariant.each c.loop-place.invariant.before
+    excluded_of c.args.subject.now.table.table c.args.step c.in_ok-marks.marks.items c.stands.ensures.sound c.requires c.in_ok-marks.ensures c.loop-place.ways.items c.loop-place.place
+    (rw c.as_slice.ensures.value at (c.none_led.ensures.none c.if-not-none_led.false)) (omega (arith, c.chain_count-place-end.ensures, c.loop-place-test.false)) c.loop-place.invariant.before c.loop-place.invariant.only
