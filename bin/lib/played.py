@@ -42,16 +42,15 @@ def joined_lines(runs):
     return lines
 
 
-def plays_in(cases, words=(), most=None):
-    """The cases as inputs: of those whose file or name has one of the words, if there are words, and which have so many bytes at most."""
-    for case in cases:
-        name, size = f"{case.file}: {case.name}", sum(len(run.input) for run in case.runs)
-        if (not words or any(word in name for word in words)) and (most is None or size <= most):
-            yield from plays_of(case, name)
+def is_taken(case, words, most):
+    """Whether a case has one of the words in its file or its name, if there are words, and so many bytes at most, if there is a number."""
+    size = sum(len(run.input) for run in case.runs)
+    return (not words or any(word in f"{case.file}: {case.name}" for word in words)) and (most is None or size <= most)
 
 
-def plays_of(case, name):
+def plays_of(case):
     """A case as a session; and where its runs are a restore, or one and a run after it, as these calls of the program."""
+    name = f"{case.file}: {case.name}"
     yield Play(name, ("session",), b"".join(line + b"\n" for line in joined_lines(case.runs)), None)
     *loaded, last = case.runs
     words = (last.kind, *(option for option in last.options if option != "--list"))
@@ -59,6 +58,23 @@ def plays_of(case, name):
         yield Play(f"{name}, by itself", words, last.input, None)
     elif len(loaded) == 1 and loaded[0].kind == "restore" and set(loaded[0].options) <= {"--list"}:
         yield Play(f"{name}, with a file", words, last.input, loaded[0].input)
+
+
+def model_differs(case):
+    """The first run of a case whose output and status the model gives otherwise, or None."""
+    table = None
+    for run in case.runs:
+        model = Session(table)
+        if run.kind == "session":
+            replies = [reply for line in lines_of(run.input) for reply in model.line(line)] + model.finish()
+        else:
+            replies = model.whole_restore(run.input, "--noflush" in run.options, "--test" in run.options)
+            if not replies and "--list" in run.options:
+                replies = printing.listing(model.table)
+        if (whole(replies), model.status) != (run.output, run.status):
+            return run
+        table = model.table
+    return None
 
 
 def statements(lines):
@@ -98,9 +114,14 @@ class Told:
             self.say([self.model.end])
 
     def show(self):
-        """Shows the table: what -S lists, and the lines of each chain."""
+        """Shows the table: what -S lists, and the lines of each chain. Then it is emptied chain by chain, and the user chains go: so how
+        often each is named shows too."""
+        names = [quoted(name) for name in self.model.table.in_order()]
         self.say([b"iptables -S"])
-        self.say([b"lines " + quoted(name) for name in self.model.table.in_order()])
+        self.say([b"lines " + name for name in names])
+        self.say([b"iptables -F " + name for name in names])
+        self.say([b"iptables -X " + name for name in names])
+        self.say([b"iptables -S"])
 
     def data(self):
         return b"".join(line + b"\n" for line in self.lines)
