@@ -75,17 +75,30 @@ def expanded(lines, numbers=None):
         at += 1
 
 
-def cases_in(path):
-    """The cases of a file, each once its last line is read."""
-    with open(path, encoding="utf-8", newline="") as file:
-        lines = file.read().removesuffix("\n").split("\n")
-    case, sides, call, has_newline = None, None, None, True
-    for line, numbers in expanded(lines):
-        if line.startswith("case "):
-            if case:
-                yield case
-            case = Case(os.path.basename(path), line[5:], [])
-        elif line == "session" or line.split(" ")[0] == "restore":
+def blocks(lines):
+    """The lines of each case, from its first on."""
+    begins = [at for at, line in enumerate(lines) if line.startswith("case ")]
+    return [lines[begin:end] for begin, end in zip(begins, [*begins[1:], len(lines)])]
+
+
+def lines_of_input(block):
+    """How many lines of input a case stands for."""
+    count, times = 0, [1]
+    for line in block:
+        if line.startswith("repeat "):
+            times.append(times[-1] * len(rounds(line)))
+        elif line == "end":
+            times.pop()
+        elif line.startswith(">"):
+            count += times[-1]
+    return count
+
+
+def case_of(file, block):
+    """A case from its lines."""
+    case, sides, call, has_newline = Case(file, block[0][5:], []), None, None, True
+    for line, numbers in expanded(block[1:]):
+        if line == "session" or line.split(" ")[0] == "restore":
             call, sides, has_newline = line.split(" "), {">": [], "<": []}, True
         elif line[:1] in (">", "<"):
             sides[line[0]].append(text_of(line, numbers) + b"\n")
@@ -94,11 +107,17 @@ def cases_in(path):
         elif line.startswith("status "):
             given = b"".join(sides[">"])
             case.runs.append(Run(call[0], tuple(call[1:]), given if has_newline else given[:-1], b"".join(sides["<"]), int(line[7:])))
-    yield case
+    return case
 
 
-def all_cases():
-    """The cases of all files, by the names of the files."""
+def all_cases(words=(), most=None):
+    """The cases of all files, by the names of the files: those that have one of the words in their file or their name, if there are
+    words, and so many lines of input at most, if there is a number."""
     for name in sorted(os.listdir(DATA)):
         if name.endswith(".cases"):
-            yield from cases_in(os.path.join(DATA, name))
+            with open(os.path.join(DATA, name), encoding="utf-8", newline="") as file:
+                lines = file.read().removesuffix("\n").split("\n")
+            for block in blocks(lines):
+                named = not words or any(word in f"{name}: {block[0][5:]}" for word in words)
+                if named and (most is None or lines_of_input(block) <= most):
+                    yield case_of(name, block)

@@ -42,10 +42,9 @@ def joined_lines(runs):
     return lines
 
 
-def is_taken(case, words, most):
-    """Whether a case has one of the words in its file or its name, if there are words, and so many bytes at most, if there is a number."""
-    size = sum(len(run.input) for run in case.runs)
-    return (not words or any(word in f"{case.file}: {case.name}" for word in words)) and (most is None or size <= most)
+def size_of(case):
+    """How many bytes of input a case has."""
+    return sum(len(run.input) for run in case.runs)
 
 
 def plays_of(case):
@@ -176,7 +175,7 @@ def kinds_in_restore(model, line):
 def kinds_of_line(model, line):
     """What a line is, in a session before it."""
     if is_too_long(line) or is_passed_over(line):
-        yield "passed over or too long" + (" in a restore" if model.restore else "")
+        yield ("long" if is_too_long(line) else "passed over") + (" in a restore" if model.restore else "")
         return
     try:
         if model.restore:
