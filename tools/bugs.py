@@ -46,7 +46,7 @@ KEPT = [
     Bug("keeps-one-row-of-two", "of two rows one stays where the starts of their pieces are refused memory", "classify/src/line/owned.rt",
         """                self.rows.remove(k + 1);
                 self.rows.remove(k + 1);""",
-        """                self.rows.remove(k + 1);""", "faults", "classifiers.cases: two rules"),
+        """                self.rows.remove(k + 1);""", "faults", "a table with all kinds"),
     Bug("keeps-words-of-a-row", "the words of the first of two rows stay where those of the second are refused", "bits/src/rows.rt",
         """            words.truncate(before);
             Err(refused)""",
@@ -56,7 +56,7 @@ KEPT = [
                 self.remove(k);
                 Err(refused)
             }""",
-        """            Err(refused) => Err(refused),""", "faults", "the lines of -i eth+"),
+        """            Err(refused) => Err(refused),""", "faults", "a table with all kinds"),
     Bug("box-before-room", "a box is put in before there is room for its rule", "table/src/chain.rt",
         """        self.entries.reserve(1)?;
         let boxed = Boxed::of(alloc, &entry.rule, work)?;
