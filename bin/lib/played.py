@@ -206,9 +206,15 @@ def kinds_of(play):
     return kinds
 
 
+def coarse(kind):
+    """The kind, but for which option, match or target it is, where a command stands, how a section is begun, and the number of a fault."""
+    if kind.startswith(("line ", "end ")):
+        return kind.replace(" kept", "").replace(" tested", "")
+    return re.sub(r"^([A-Z])[0-9]+$", r"\1", kind.split()[0])
+
+
 def coarse_kinds_of(play):
-    """The same, but for what options, matches and targets there are, where commands stand, and the numbers of faults."""
-    return {re.sub(r"^([A-Z])[0-9]+$", r"\1", kind.split()[0]) for kind in kinds_of(play)}
+    return {coarse(kind) for kind in kinds_of(play)}
 
 
 def chosen(plays, least, kinds_of_one=kinds_of):
