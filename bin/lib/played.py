@@ -8,7 +8,7 @@ import re
 from plain import options, printing, values
 from plain.commands import BY_NAME as COMMANDS
 from plain.faults import Fault
-from plain.restore import COUNTERS, FILTER
+from plain.restore import COUNTERS, FILTER, Restore
 from plain.session import Session, whole
 from plain.words import is_passed_over, is_too_long, lines_of, words_of
 
@@ -192,12 +192,16 @@ def kinds_of_line(model, line):
         yield "bad quoting"
 
 
-def kinds_of(play):
-    """All kinds of lines of an input, and of faults and verdicts in its replies."""
-    kinds, model = set(), Session()
-    lines = lines_of(play.data) if play.words == ("session",) and play.file is None else []
-    if not lines:
-        return {" ".join(play.words) + (" with a file" if play.file is not None else "")}
+def coarse(kind):
+    """The kind, but for which option, match or target it is, where a command stands, how a section is begun, and the number of a fault."""
+    if kind.startswith(("line ", "end ", "alone ")):
+        return kind.replace(" kept", "").replace(" tested", "")
+    return re.sub(r"^([A-Z])[0-9]+$", r"\1", kind.split()[0])
+
+
+def kinds_by_line(model, lines):
+    """All kinds of some lines, and of faults and verdicts in their replies."""
+    kinds = set()
     for line in lines:
         kinds.update(kinds_of_line(model, line))
         for reply in model.line(line):
@@ -206,11 +210,15 @@ def kinds_of(play):
     return kinds
 
 
-def coarse(kind):
-    """The kind, but for which option, match or target it is, where a command stands, how a section is begun, and the number of a fault."""
-    if kind.startswith(("line ", "end ")):
-        return kind.replace(" kept", "").replace(" tested", "")
-    return re.sub(r"^([A-Z])[0-9]+$", r"\1", kind.split()[0])
+def kinds_of(play):
+    """All kinds of an input; of a restore by itself and of what is done with a file no more than the coarse ones, under names of their own."""
+    model, lines = Session(), lines_of(play.data)
+    if play.file is not None:
+        return {f"{' '.join(play.words)} with a file"}
+    if play.words == ("session",):
+        return kinds_by_line(model, lines)
+    model.restore = Restore(model.table, "--noflush" in play.words, "--test" in play.words)
+    return {" ".join(play.words)} | {f"alone {coarse(kind)}" for kind in kinds_by_line(model, lines)}
 
 
 def coarse_kinds_of(play):
