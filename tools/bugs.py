@@ -222,29 +222,26 @@ AFTER = [
         "        matches!(self, Mode::AfterFault(None))", "        false", "cut"),
 ]
 
-# Lines that promise to take no memory, or that of their words alone.
+# Lines that promise to take no memory, or that of their words alone: they take more, and go on where it is refused, so that no contract
+# sees it.
 TAKING = [
     Bug("quiet-line-takes", "a blank line or a comment takes memory", "sessions/src/line/outcome.rt",
         """    if is_quiet(line) {
         return Outcome::answers(Mode::Outside, Answer::Nothing);""",
         """    if is_quiet(line) {
-        if line.to_vec(alloc).is_err() {
-            return Outcome::fails(Mode::Outside, Fault::NoMemory);
-        }
+        let _copy = line.to_vec(alloc);
         return Outcome::answers(Mode::Outside, Answer::Nothing);""", "faults", "blank lines, comments and a listing"),
     Bug("long-line-takes", "a line that is too long takes memory", "sessions/src/line/outcome.rt",
         """    if too_long {
         return Outcome::fails(Mode::Outside, Fault::Line(RestoreFault::LineTooLong));""",
         """    if too_long {
-        if line.to_vec(alloc).is_err() {
-            return Outcome::fails(Mode::Outside, Fault::NoMemory);
-        }
+        let _copy = line.to_vec(alloc);
         return Outcome::fails(Mode::Outside, Fault::Line(RestoreFault::LineTooLong));""", "faults", "long_lines.cases: # and x, 10,241 bytes"),
     Bug("commit-takes", "COMMIT takes memory", "restore/src/restore.rt",
         """                if is_commit(line) {
                     commit(section, test, table);""",
         """                if is_commit(line) {
-                    split(alloc, line)?;
+                    let _words = split(alloc, line);
                     commit(section, test, table);""", "faults", "blanks and tabs around COMMIT"),
     Bug("quiet-line-of-a-section-takes", "a comment in a section takes memory", "restore/src/section.rt",
         """        if is_quiet(line) {
@@ -253,82 +250,57 @@ TAKING = [
         let words = split(self.alloc, line)?;""",
         """        let words = split(self.alloc, line);
         if is_quiet(line) {
-            return match words {
-                Err(RestoreFault::NoMemory) => Err(RestoreFault::NoMemory),
-                _ => Ok(()),
-            };
+            return Ok(());
         }
         let words = words?;""", "faults", "restores.cases: blank lines and comments"),
     Bug("skipped-line-takes", "a line of a skipped section takes memory", "restore/src/restore.rt",
         "            SectionState::Skipping => skipped(line),",
         """            SectionState::Skipping => {
-                if line.to_vec(alloc).is_err() {
-                    return Err(RestoreFault::NoMemory);
-                }
+                let _copy = line.to_vec(alloc);
                 skipped(line)
             }""", "faults", "in a skipped section nothing is read"),
     Bug("delete-takes", "a delete by number takes memory", "table/src/table.rt",
         "        self.parts.remove_rule(place, number - 1);",
-        """        let Ok(_order) = self.parts.order.clone() else {
-            return Err(TableFault::NoMemory);
-        };
+        """        let _order = self.parts.order.clone();
         self.parts.remove_rule(place, number - 1);""", "faults"),
     Bug("delete-of-a-rule-takes", "a delete by rule takes memory", "table/src/table.rt",
         "        self.parts.remove_rule(place, at);",
-        """        let Ok(_order) = self.parts.order.clone() else {
-            return Err(TableFault::NoMemory);
-        };
+        """        let _order = self.parts.order.clone();
         self.parts.remove_rule(place, at);""", "faults"),
     Bug("flush-takes", "-F of a chain takes memory", "table/src/table.rt",
         "        self.parts.empty(place);",
-        """        let Ok(_order) = self.parts.order.clone() else {
-            return Err(TableFault::NoMemory);
-        };
+        """        let _order = self.parts.order.clone();
         self.parts.empty(place);""", "faults"),
     Bug("flush-of-all-takes", "-F takes memory", "table/src/table.rt",
         "        self.parts.empty_all();",
-        """        let Ok(_order) = self.parts.order.clone() else {
-            return Err(TableFault::NoMemory);
-        };
+        """        let _order = self.parts.order.clone();
         self.parts.empty_all();""", "faults"),
     Bug("policy-takes", "-P takes memory", "table/src/table.rt",
         "        self.parts.policies[place] = policy;",
-        """        let Ok(_order) = self.parts.order.clone() else {
-            return Err(TableFault::NoMemory);
-        };
+        """        let _order = self.parts.order.clone();
         self.parts.policies[place] = policy;""", "faults"),
     Bug("rename-takes", "-E takes memory", "table/src/table.rt",
         "        self.parts.rename(place, to, name);",
-        """        let Ok(_order) = self.parts.order.clone() else {
-            return Err(TableFault::NoMemory);
-        };
+        """        let _order = self.parts.order.clone();
         self.parts.rename(place, to, name);""", "faults"),
     Bug("chain-gone-takes", "-X of a chain takes memory", "table/src/table.rt",
         "        self.parts.remove_chain(place);",
-        """        let Ok(_order) = self.parts.order.clone() else {
-            return Err(TableFault::NoMemory);
-        };
+        """        let _order = self.parts.order.clone();
         self.parts.remove_chain(place);""", "faults"),
     Bug("chains-gone-take", "-X takes memory", "table/src/table.rt",
         "        self.parts.remove_user_chains();",
-        """        let Ok(_order) = self.parts.order.clone() else {
-            return Err(TableFault::NoMemory);
-        };
+        """        let _order = self.parts.order.clone();
         self.parts.remove_user_chains();""", "faults"),
     Bug("check-takes", "-C takes memory", "table/src/table.rt",
         """        match self.parts.rule_index(place, rule) {
             Some(_) => Ok(()),""",
-        """        let Ok(_order) = self.parts.order.clone() else {
-            return Err(TableFault::NoMemory);
-        };
+        """        let _order = self.parts.order.clone();
         match self.parts.rule_index(place, rule) {
             Some(_) => Ok(()),""", "faults"),
     Bug("listing-takes", "-S takes memory", "sessions/src/line/outcome.rt",
         """    match command {
         Command::ListRules(name) => list_rules(table, name),""",
-        """    if table.emptied().is_err() {
-        return Outcome::fails(Mode::Outside, Fault::NoMemory);
-    }
+        """    let _copy = table.emptied();
     match command {
         Command::ListRules(name) => list_rules(table, name),""", "faults"),
     Bug("room-taken-twice", "the room of a rule is taken twice over: a rule that needs none takes memory", "table/src/chain.rt",
@@ -347,9 +319,7 @@ TAKING = [
         """    if is_end(&word, line, too_long) {
         return match restore.finish() {""",
         """    if is_end(&word, line, too_long) {
-        if table.copy().is_err() {
-            return Outcome::fails(Mode::Outside, Fault::NoMemory);
-        }
+        let _copy = table.copy();
         return match restore.finish() {""", "faults", "sessions.cases: two restores"),
 ]
 
@@ -358,24 +328,24 @@ DEVICES = [
     Bug("flush-after-each-line", "replies are handed on after each line, though the reader shows more", "sessions/src/run/session.rt",
         """    if console.shows() {
         return Ok(());
-    }""", "", "cut", "return in a built in chain is its policy"),
+    }""", "", "cut", "times_to_live.cases: times to live"),
     Bug("no-flush-before-more", "replies aren't handed on before the reader is asked for more", "sessions/src/run/session.rt",
         """    match hand_on(console.output) {
         Ok(()) => Ok(()),
         Err(_) => Err(RunFault::WriteFailed),
     }""",
-        """    Ok(())""", "cut", "return in a built in chain is its policy"),
+        """    Ok(())""", "cut", "times_to_live.cases: times to live"),
     Bug("no-flush-at-the-end", "replies aren't handed on at the end", "sessions/src/run/session.rt",
         """        self.report(table, reply, output)?;
         hand_on(output)""",
-        """        self.report(table, reply, output)""", "cut", "return in a built in chain is its policy"),
+        """        self.report(table, reply, output)""", "cut", "times_to_live.cases: times to live"),
     Bug("failed-write-is-no-fault", "a write that fails at the end is no fault", "sessions/src/run/session.rt",
         """        match self.report_last(table, reply, output) {
             Ok(()) => Ok(self.status),
             Err(_) => Err(RunFault::WriteFailed),""",
         """        match self.report_last(table, reply, output) {
             Ok(()) => Ok(self.status),
-            Err(_) => Ok(self.status),""", "cut", "return in a built in chain is its policy"),
+            Err(_) => Ok(self.status),""", "cut", "times_to_live.cases: times to live"),
     Bug("reads-on-after-a-failed-write", "lines are read after a write that failed", "sessions/src/run/session.rt",
         """        Ok(()) => Ok(()),
         Err(_) => Err(RunFault::WriteFailed),
@@ -388,13 +358,13 @@ DEVICES = [
     }
 }
 
-// Reads the next line.""", "cut", "return in a built in chain is its policy"),
+// Reads the next line.""", "cut", "times_to_live.cases: times to live"),
     Bug("failed-read-is-the-end", "a read that fails is the end of the input", "fields/src/text/tap.rt",
         """        Err(_) => {
             seen.failed = true;
             Err(ReadFailed)
         }""",
-        """        Err(_) => Ok(b""),""", "cut", "return in a built in chain is its policy"),
+        """        Err(_) => Ok(b""),""", "cut", "times_to_live.cases: times to live"),
     Bug("failed-read-ends-a-line", "a line without its newline is served where a read fails", "sessions/src/run/session.rt",
         "            Err(_) => return Err(RunFault::ReadFailed),",
         """            Err(_) if !line.is_empty() => {
@@ -403,12 +373,12 @@ DEVICES = [
                     too_long,
                 });
             }
-            Err(_) => return Err(RunFault::ReadFailed),""", "cut", "return in a built in chain is its policy"),
+            Err(_) => return Err(RunFault::ReadFailed),""", "cut", "times_to_live.cases: times to live"),
     Bug("last-line-unserved", "a last line without a newline isn't served", "fields/src/text/line.rt",
         """    let end = if too_long || !line.is_empty() {
         LineEnd::Input""",
         """    let end = if too_long {
-        LineEnd::Input""", "cut", "return in a built in chain is its policy"),
+        LineEnd::Input""", "cut", "times_to_live.cases: times to live"),
     Bug("long-last-line-unserved", "a last line that is too long isn't served", "fields/src/text/line.rt",
         "    let end = if too_long || !line.is_empty() {",
         "    let end = if !line.is_empty() && !too_long {", "cases"),
@@ -416,7 +386,7 @@ DEVICES = [
         """    tap.eat(n);
     Ok(LineStep::More)""",
         """    tap.eat(n);
-    Ok(LineStep::Newline)""", "cut", "return in a built in chain is its policy"),
+    Ok(LineStep::Newline)""", "cut", "times_to_live.cases: times to live"),
     Bug("end-word-unasked", "S3 isn't told", "sessions/src/reply/end.rt",
         "        Mode::InRestore(_word, _restore) => Err(Fault::EndWordMissing),",
         "        Mode::InRestore(_word, _restore) => Ok(Answer::Nothing),", "cases"),
@@ -427,7 +397,7 @@ DEVICES = [
         Mode::AfterFault(_word) => Err(Fault::EndWordMissing),""", "cases"),
     Bug("input-for-output", "a failed write is told as a failed read", "programs/src/fault.rt",
         "            RunFault::WriteFailed => ProgramFault::OutputFailed,",
-        "            RunFault::WriteFailed => ProgramFault::InputFailed,", "cut", "return in a built in chain is its policy"),
+        "            RunFault::WriteFailed => ProgramFault::InputFailed,", "cut", "times_to_live.cases: times to live"),
     Bug("left-is-written-again", "what a failed write left is written as the buffer goes", "programs/src/buffers.rt",
         "    let (_writer, _unwritten) = output.into_device().into_parts();",
         "    let _device = output.into_device();", "bin/stalled"),
