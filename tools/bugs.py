@@ -128,7 +128,8 @@ UNTOLD = [
         };""", "faults", "restores.cases: without a flush the rules stay"),
     Bug("option-untold", "a copy of a rule lacks an option", "rules/src/rule/copy.rt",
         "        copies.push(copy)?;\n    }\n    Ok(copies)\n}\n\n// A match again.",
-        "        let _ = copies.push(copy);\n    }\n    Ok(copies)\n}\n\n// A match again.", "faults", "restores.cases: without a flush the rules stay"),
+        "        let _ = copies.push(copy);\n    }\n    Ok(copies)\n}\n\n// A match again.", "faults",
+        "restores.cases: without a flush the rules stay"),
     Bug("rule-untold", "a copy of a chain lacks a rule", "table/src/chain/copy.rt",
         "        let rule = entry.rule.copy(alloc)?;",
         """        let Ok(rule) = entry.rule.copy(alloc) else {
@@ -206,7 +207,8 @@ UNTOLD = [
         "Fault::Program(ProgramFault::NoMemory) | Fault::Line(LineFault::NoMemory) => 4,",
         "Fault::Program(ProgramFault::NoMemory) | Fault::Line(LineFault::NoMemory) => 1,", "faults", "a jump comes back"),
     Bug("open-in-place-of-memory", "a file that is refused memory as it is opened can't be opened", "programs/src/files.rt",
-        "        Err(error) if error.kind() == ErrorKind::OutOfMemory => return Err(ProgramFault::NoMemory),\n", "", "faults", "a session after a restore"),
+        "        Err(error) if error.kind() == ErrorKind::OutOfMemory => return Err(ProgramFault::NoMemory),\n", "", "faults",
+        "a session after a restore"),
 ]
 
 # Where a refusal leads to.
@@ -217,7 +219,8 @@ AFTER = [
     Bug("status-of-the-last-fault", "the status is that of the last fault", "sessions/src/run/session.rt",
         "            if self.status == 0 {", "            if self.status < 9 {", "cases"),
     Bug("status-of-memory-wins", "M0 gives the status though another fault came first", "sessions/src/run/session.rt",
-        "            if self.status == 0 {", "            if self.status == 0 || fault.status() == 4 {", "faults", "the status is that of the first fault: three faults"),
+        "            if self.status == 0 {", "            if self.status == 0 || fault.status() == 4 {", "faults",
+        "the status is that of the first fault: three faults"),
     Bug("restore-goes-on", "the program's own restore goes on after its fault", "sessions/src/line/mode.rt",
         "        matches!(self, Mode::AfterFault(None))", "        false", "cut"),
 ]
@@ -427,7 +430,8 @@ TEXTS = [
 
 # What no session shows.
 HIDDEN = [
-    Bug("section-copied-twice", "a section begins with two copies of the table: memory is taken twice, and each refusal is told", "restore/src/section.rt",
+    Bug("section-copied-twice", "a section begins with two copies of the table: memory is taken twice, and each refusal is told",
+        "restore/src/section.rt",
         "            table.copy()?\n", "            let _first = table.copy()?;\n            table.copy()?\n", "bin/costs"),
     Bug("verdict-takes", "Table::verdict takes memory, which no session calls", "table/src/table.rt",
         "        self.parts.decide(hook, policy, packet)",
