@@ -47,6 +47,8 @@ TEXTS = {
     "S2": "bad restore line",
     "S3": "end word missing",
 }
+# No line is refused so for what it says: only where memory is.
+NO_MEMORY = ("M0", "no memory")
 
 
 class Fault(Exception):
@@ -63,6 +65,10 @@ def need(holds, code):
         raise Fault(code)
 
 
+def text_of(code):
+    return NO_MEMORY[1] if code == NO_MEMORY[0] else TEXTS[code]
+
+
 def status_of(code):
-    """1 for the table and the lines of a restore, else 2."""
-    return 1 if code[0] in "TR" else 2
+    """1 for the table and the lines of a restore, 4 for memory, else 2."""
+    return {"T": 1, "R": 1, "M": 4}.get(code[0], 2)

@@ -27,6 +27,9 @@ class Restore:
         elif self.where != SKIPPED:
             self.words(words_of(line))
 
+    def takes_no_memory(self, line):
+        return is_too_long(line) or is_passed_over(line) or self.where == SKIPPED or line.strip(BLANKS) == b"COMMIT"
+
     def words(self, words):
         begins_section = words[0].startswith(b"*")
         need(begins_section == (self.where == OUTSIDE), "R1")

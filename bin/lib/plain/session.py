@@ -2,7 +2,7 @@
 
 from . import printing
 from .commands import apply, command_of
-from .faults import TEXTS, Fault, need, status_of
+from .faults import Fault, need, status_of, text_of
 from .matching import lines_of_chain
 from .packets import packet_of
 from .restore import Restore
@@ -23,16 +23,18 @@ def opening_of(words):
 
 class Session:
     """A session between two lines: its table, how many lines were read, and the restore that is open, if one is. `walks` are those
-    that packets were answered with. It begins with the table that a file left, if one was loaded."""
+    that packets were answered with. It begins with the table that a file left, if one was loaded. `marks` are the numbers of the lines
+    in which memory is refused."""
 
-    def __init__(self, table=None):
-        self.table, self.count, self.status, self.walks = table or Table(), 0, 0, []
+    def __init__(self, table=None, marks=()):
+        self.table, self.count, self.status, self.walks, self.marks = table or Table(), 0, 0, [], marks
         self.restore, self.end, self.has_failed = None, None, False
 
     def line(self, line):
         """The reply to the next line, as lines."""
         self.count += 1
         try:
+            self.ask_memory(line)
             if self.restore:
                 self.restore_line(line)
                 return []
@@ -40,10 +42,19 @@ class Session:
         except Fault as fault:
             return self.fault(fault)
 
+    def ask_memory(self, line):
+        """What is asked first of a line: it is refused where it is marked, unless it takes no memory."""
+        need(self.count not in self.marks or self.takes_no_memory(line), "M0")
+
+    def takes_no_memory(self, line):
+        if not self.restore:
+            return is_too_long(line) or is_passed_over(line)
+        return self.has_failed or line == self.end or self.restore.takes_no_memory(line)
+
     def fault(self, fault):
         self.has_failed = self.restore is not None
         self.status = self.status or status_of(fault.code)
-        return [b"line %d: %s %s" % (self.count, fault.code.encode(), TEXTS[fault.code].encode())]
+        return [b"line %d: %s %s" % (self.count, fault.code.encode(), text_of(fault.code).encode())]
 
     def restore_line(self, line):
         """A line of a restore. After its fault only the end line counts."""
@@ -84,6 +95,7 @@ class Session:
         self.restore = Restore(self.table, noflush, test)
         try:
             for self.count, line in enumerate(lines_of(data), 1):
+                self.ask_memory(line)
                 self.restore.line(line)
             self.restore.finish()
         except Fault as fault:
@@ -101,38 +113,39 @@ def whole(replies):
     return b"".join(line + b"\n" for line in replies)
 
 
-def session(data, table=None):
+def session(data, table=None, marks=()):
     """The output and the status of a session."""
-    run = Session(table)
+    run = Session(table, marks)
     replies = [reply for line in lines_of(data) for reply in run.line(line)]
     replies += run.finish()
     return whole(replies), run.status
 
 
-def restore(data, noflush=False, test=False, table=None):
+def restore(data, noflush=False, test=False, table=None, marks=()):
     """The output and the status of an input that is one restore."""
-    run = Session(table)
+    run = Session(table, marks)
     replies = run.whole_restore(data, noflush, test)
     if not replies and not test:
         replies = printing.listing(run.table)
     return whole(replies), run.status
 
 
-def loaded(file):
+def loaded(file, marks=()):
     """The table that a file leaves which is restored first, what is said of its fault, if it has one, and the status of that. The
     options of the restore on standard input don't count for it."""
-    run = Session()
+    run = Session(marks=marks)
     return run.table, whole(run.whole_restore(file)), run.status
 
 
-def answer(words, data, file=None):
+def answer(words, data, file=None, marks=(), file_marks=()):
     """What the program writes to standard output and to standard error, and its status: of a subcommand with its options, on an
-    input, where the file was loaded, if there is one. A fault of the file ends the program before the input is read."""
-    table, said, status = loaded(file) if file is not None else (None, b"", 0)
+    input, where the file was loaded, if there is one. A fault of the file ends the program before the input is read. `marks` and
+    `file_marks` are the numbers of lines of the input and of the file in which memory is refused."""
+    table, said, status = loaded(file, file_marks) if file is not None else (None, b"", 0)
     if said:
         return b"", said, status
     if words[0] == "session":
-        output, status = session(data, table)
+        output, status = session(data, table, marks)
     else:
-        output, status = restore(data, "--noflush" in words, "--test" in words, table)
+        output, status = restore(data, "--noflush" in words, "--test" in words, table, marks)
     return output, b"", status
