@@ -425,7 +425,7 @@ TEXTS = [
         | RestoreFault::BadChainLine
         | RestoreFault::EndBeforeCommit""", "cases"),
     Bug("text-of-an-error-type", "the error type of T10 prints another text", "table/src/fault.rt",
-        """#[error("loop")]""", """#[error("a loop")]""", "fault_texts"),
+        """#[error("loop")]""", """#[error("a loop")]""", "calls"),
 ]
 
 # What no session shows.
@@ -438,7 +438,7 @@ HIDDEN = [
         """        match self.parts.trace(hook, policy, packet) {
             Ok(trail) => trail.verdict(),
             Err(_) => policy,
-        }""", "memory"),
+        }""", "calls"),
     Bug("chain-before-its-place", "a chain is made before there is room for its key, and stays without one", "table/src/edit.rt",
         """        self.order.reserve(1)?;
         let chain = Chain::new(self.alloc, name)?;

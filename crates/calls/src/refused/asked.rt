@@ -1,0 +1,259 @@
+//! Questions about all packets. Each is asked of one table, which stays as it was.
+ghost use Rattle.std.specs.Prelude.{◌<◌, ◌≤◌, length};
+
+use crate::again::{Refusals, again, expect_kept};
+use crate::trouble::{Trouble, expect};
+use crate::written::{Placed, are_words, has_listing, table_of};
+use fields::{Field, Hook, Interval, Spans};
+use questions::{
+    Area, BoxedTable, Given, Leaf, Life, Likeness, Reached, Reason, compare_at, dead, leaves,
+    reach, why_dead,
+};
+use rules::Work;
+use std::alloc::{AllocError, Global};
+use table::{Step, Table, Verdict};
+
+/// The rules of the table, each after its chain. None comes to the first of `a`, since the first of INPUT takes its packets.
+const RULES: &[Placed] = &[
+    (b"INPUT", b"-p tcp --dport 22 -j ACCEPT"),
+    (b"INPUT", b"-p tcp -j a"),
+    (b"a", b"-p tcp --dport 22 -j DROP"),
+    (b"a", b"-p tcp --dport 23 -j DROP"),
+];
+
+/// The rest of the table's listing.
+const REST: &[u8] = b":a - [0:0]\n\
+    -A INPUT -p tcp -m tcp --dport 22 -j ACCEPT\n-A INPUT -p tcp -j a\n\
+    -A a -p tcp -m tcp --dport 22 -j DROP\n-A a -p tcp -m tcp --dport 23 -j DROP\nCOMMIT\n";
+
+/// The rules by their numbers.
+const FIRST: Step = Step {
+    chain: 0,
+    number: 1,
+};
+
+const DEAD: Step = Step {
+    chain: 3,
+    number: 1,
+};
+
+const LAST: Step = Step {
+    chain: 3,
+    number: 2,
+};
+
+/// More steps than any question takes.
+const BUDGET: usize = 1000;
+
+/// The words of a packet to the port of the last rule.
+const DROPPED: &[&[u8]] = &[
+    b"INPUT",
+    b"src=192.0.2.1",
+    b"dst=198.51.100.1",
+    b"in=eth0",
+    b"proto=6",
+    b"sport=40000",
+    b"dport=23",
+    b"flags=SYN",
+    b"ct=NEW",
+    b"ttl=64",
+];
+
+/// A table with the boxes of its rules.
+fn boxed(alloc: Global, table: &Table) -> Result<BoxedTable, AllocError> {
+    BoxedTable::of(alloc, table.copy()?, &mut Work::new())
+}
+
+/// `BoxedTable::of`, of the table of the cases.
+pub fn boxes(alloc: Global, refusals: &mut Refusals) -> Result<BoxedTable, Trouble> {
+    let table = again!(refusals, table_of(alloc, &[b"a"], RULES), true);
+    let subject = again!(
+        refusals,
+        boxed(alloc, &table),
+        has_listing(alloc, &table, REST)?
+    );
+    let is_listed = again!(refusals, has_listing(alloc, &subject.table, REST), true);
+    expect(is_listed)?;
+    Ok(subject)
+}
+
+/// Whether a rule of the table can match, and why not; a refusal leaves the table.
+fn known_of(
+    alloc: Global,
+    refusals: &mut Refusals,
+    subject: &BoxedTable,
+    at: Step,
+) -> Result<(Life, Option<Reason>), Trouble> {
+    let table = &subject.table;
+    if at.chain < table.chain_count() && 0 < at.number && at.number <= table.rule_count(at.chain) {
+        let life = again!(
+            refusals,
+            dead(alloc, subject, at.chain, at.number, BUDGET),
+            has_listing(alloc, table, REST)?
+        );
+        let reason = again!(
+            refusals,
+            why_dead(alloc, subject, at.chain, at.number, BUDGET),
+            has_listing(alloc, table, REST)?
+        );
+        return Ok((life, reason));
+    }
+    Err(Trouble::OtherAnswer)
+}
+
+/// `dead` and `why_dead`.
+pub fn lives(alloc: Global, refusals: &mut Refusals, subject: &BoxedTable) -> Result<(), Trouble> {
+    let (life, reason) = known_of(alloc, refusals, subject, LAST)?;
+    expect(reason.is_none())?;
+    match life {
+        Life::Live(words) => expect(are_words(&words, DROPPED))?,
+        Life::Dead | Life::Unclear => return Err(Trouble::OtherAnswer),
+    }
+    let (life, reason) = known_of(alloc, refusals, subject, DEAD)?;
+    expect(matches!(&life, Life::Dead))?;
+    match reason {
+        Some(Reason::Taken(takers)) => {
+            expect(
+                takers.rules.as_slice() == [FIRST].as_slice()
+                    && takers.policies.as_slice().is_empty(),
+            )
+        }
+        _ => Err(Trouble::OtherAnswer),
+    }
+}
+
+/// Whether the table and another give the packets of INPUT the same verdicts; a refusal leaves both.
+fn likeness_to(
+    alloc: Global,
+    refusals: &mut Refusals,
+    subject: &BoxedTable,
+    other: &BoxedTable,
+) -> Result<Likeness, Trouble> {
+    Ok(again!(
+        refusals,
+        compare_at(alloc, subject, other, Hook::Input, BUDGET),
+        has_listing(alloc, &subject.table, REST)?
+    ))
+}
+
+/// `compare_at`, of the table beside itself and beside one without rules.
+pub fn compared(
+    alloc: Global,
+    refusals: &mut Refusals,
+    subject: &BoxedTable,
+) -> Result<(), Trouble> {
+    let empty = again!(refusals, Table::new(alloc), true);
+    let other = again!(refusals, boxed(alloc, &empty), true);
+    let itself = likeness_to(alloc, refusals, subject, subject)?;
+    expect(matches!(itself, Likeness::Same))?;
+    match likeness_to(alloc, refusals, subject, &other)? {
+        Likeness::Differ(words) => expect(are_words(&words, DROPPED)),
+        Likeness::Same | Likeness::Unclear => Err(Trouble::OtherAnswer),
+    }
+}
+
+/// The whole TCP packets at INPUT.
+fn tcp(alloc: Global) -> Result<Area, AllocError> {
+    let whole = Spans::one(alloc, Field::Fragment.top(), 0, 0)?;
+    let six = Spans::one(alloc, Field::Protocol.top(), 6, 6)?;
+    Area::at_hook(alloc, Hook::Input)?
+        .narrow(alloc, Field::Fragment, &whole)?
+        .narrow(alloc, Field::Protocol, &six)
+}
+
+/// `Area::at_hook` and `narrow`.
+fn areas(alloc: Global, refusals: &mut Refusals) -> Result<Area, Trouble> {
+    let area = again!(refusals, tcp(alloc), true);
+    expect(area.on(Field::Protocol).intervals() == [Interval { first: 6, last: 6 }].as_slice())?;
+    Ok(area)
+}
+
+/// Whether an entry is of this end, and of these ports alone or of all others.
+fn is_entry(reached: &Reached, verdict: Verdict, by: Option<Step>, ports: &[Interval]) -> bool {
+    reached.verdict == verdict && reached.by == by && reached.numbers.intervals() == ports
+}
+
+/// What becomes of packets, by their ports.
+const PORTS: &[(Verdict, Option<Step>, &[Interval])] = &[
+    (
+        Verdict::Accept,
+        Some(FIRST),
+        &[Interval {
+            first: 22,
+            last: 22,
+        }],
+    ),
+    (
+        Verdict::Drop,
+        Some(LAST),
+        &[Interval {
+            first: 23,
+            last: 23,
+        }],
+    ),
+    (
+        Verdict::Accept,
+        None,
+        &[
+            Interval { first: 0, last: 21 },
+            Interval {
+                first: 24,
+                last: 65535,
+            },
+        ],
+    ),
+];
+
+/// Whether each of these ends is there, and no other.
+fn are_ends(found: &[Reached]) -> bool {
+    let are_there = PORTS.iter().all(|(verdict, by, ports)| {
+        found
+            .iter()
+            .any(|reached| is_entry(reached, *verdict, *by, ports))
+    });
+    are_there && found.len() == PORTS.len()
+}
+
+/// `reach`.
+pub fn reached(
+    alloc: Global,
+    refusals: &mut Refusals,
+    subject: &BoxedTable,
+) -> Result<(), Trouble> {
+    let given = Given {
+        hook: Hook::Input,
+        area: areas(alloc, refusals)?,
+    };
+    let found = again!(
+        refusals,
+        reach(alloc, subject, &given, Field::DestinationPort, BUDGET),
+        has_listing(alloc, &subject.table, REST)?
+    );
+    match found {
+        Some(found) => expect(are_ends(found.as_slice())),
+        None => Err(Trouble::OtherAnswer),
+    }
+}
+
+/// The walks of the whole TCP packets at INPUT.
+fn walks(alloc: Global, subject: &BoxedTable) -> Result<Option<Vec<Leaf>>, AllocError> {
+    leaves(alloc, subject, Hook::Input, tcp(alloc)?, BUDGET)
+}
+
+/// `leaves`: one walk ends at the first rule, one at the last, and one comes to the policy.
+pub fn walked(alloc: Global, refusals: &mut Refusals, subject: &BoxedTable) -> Result<(), Trouble> {
+    let found = again!(
+        refusals,
+        walks(alloc, subject),
+        has_listing(alloc, &subject.table, REST)?
+    );
+    match found {
+        Some(found) => expect(
+            found.len() == 3
+                && [Some(FIRST), Some(LAST), None]
+                    .iter()
+                    .all(|by| { found.iter().any(|leaf| leaf.decider() == *by) }),
+        ),
+        None => Err(Trouble::OtherAnswer),
+    }
+}
