@@ -234,14 +234,14 @@ plain-reads f s is = go f is.ordered is.within is.alone
     go field.TcpFlags ordered within one =
         let small : s.first < 64 = omega (arith, ordered, within) in
         record {
-          reads_back = alone_read (tcp_flags_of (tcp_flags_text s.first)) s (reads_back field.TcpFlags s.first small) (one refl);
+          reads_back = alone_read (tcp_flags_of (tcp_flags_text s.first)) s (reads_back field.TcpFlags s.first (omega (arith, small))) (one refl);
           plain = all_below-at (λ n. is_plain (tcp_flags_text n)) 64 s.first each_flags small;
         }
     go field.IcmpType ordered within one = record { reads_back = types_read s.first s.last ordered within; plain = types_plain s.first s.last ordered within }
     go field.ConnectionState ordered within one =
         let small : s.first < 14 = omega (arith, ordered, within) in
         record {
-          reads_back = alone_read (packet_state_of (state_name s.first)) s (reads_back field.ConnectionState s.first small) (one refl);
+          reads_back = alone_read (packet_state_of (state_name s.first)) s (reads_back field.ConnectionState s.first (omega (arith, small))) (one refl);
           plain = all_below-at (λ n. is_plain (state_name n)) 14 s.first each_state small;
         }
     go field.TimeToLive ordered within one =

@@ -143,18 +143,18 @@ interface_reads n (name, reads, is) =
     ∙ ap (λ o. o >>= λ found. Some (interface_value found)) reads ∙ ap (λ m. Some m) (sym is)
 
 pub reads_back : (f : Field) (n : ℕ) → HasText f n → number_of_text f (value_text f n) ≡ Some n
-reads_back field.Source n has = address_of-address_text n has
-reads_back field.Destination n has = address_of-address_text n has
+reads_back field.Source n has = address_of-address_text n (omega (arith, has))
+reads_back field.Destination n has = address_of-address_text n (omega (arith, has))
 reads_back field.InIface n has = interface_reads n has
 reads_back field.OutIface n has = interface_reads n has
-reads_back field.Protocol n has = protocol_reads n has
-reads_back field.Fragment n has = number_to-decimal 1 n has (omega arith)
-reads_back field.SourcePort n has = number_to-decimal 65535 n has (omega arith)
-reads_back field.DestinationPort n has = number_to-decimal 65535 n has (omega arith)
-reads_back field.TcpFlags n has = is_just-same _ n (flags_are n has).0
+reads_back field.Protocol n has = protocol_reads n (omega (arith, has))
+reads_back field.Fragment n has = number_to-decimal 1 n has (omega (arith, has))
+reads_back field.SourcePort n has = number_to-decimal 65535 n has (omega (arith, has))
+reads_back field.DestinationPort n has = number_to-decimal 65535 n has (omega (arith, has))
+reads_back field.TcpFlags n has = is_just-same _ n (flags_are n (omega (arith, has))).0
 reads_back field.IcmpType n has = icmp_reads n has
-reads_back field.ConnectionState n has = is_just-same _ n (state_is n has).0
-reads_back field.TimeToLive n has = ttl_reads_back n has
+reads_back field.ConnectionState n has = is_just-same _ n (state_is n (omega (arith, has))).0
+reads_back field.TimeToLive n has = ttl_reads_back n (omega (arith, has))
 
 bare_if : (text : List ℕ) → is_bare_word text ≡ true → IsBareWord text
 bare_if text is =
@@ -171,18 +171,18 @@ name_is_bare n (name, reads, is) =
     subst (λ (text : List ℕ). IsBareWord text) (sym same) (interface_is_bare name reads)
 
 pub text_is_bare : (f : Field) (n : ℕ) → HasText f n → IsBareWord (value_text f n)
-text_is_bare field.Source n has = address_is_bare n has
-text_is_bare field.Destination n has = address_is_bare n has
+text_is_bare field.Source n has = address_is_bare n (omega (arith, has))
+text_is_bare field.Destination n has = address_is_bare n (omega (arith, has))
 text_is_bare field.InIface n has = name_is_bare n has
 text_is_bare field.OutIface n has = name_is_bare n has
-text_is_bare field.Protocol n has = decimal-bare n (omega arith)
-text_is_bare field.Fragment n has = decimal-bare n (omega arith)
-text_is_bare field.SourcePort n has = decimal-bare n (omega arith)
-text_is_bare field.DestinationPort n has = decimal-bare n (omega arith)
-text_is_bare field.TcpFlags n has = bare_if _ (flags_are n has).1
-text_is_bare field.IcmpType n has = joined 47 _ _ refl (decimal-bare (n / 256) (omega arith)) (decimal-bare (n % 256) (omega arith))
-text_is_bare field.ConnectionState n has = bare_if _ (state_is n has).1
-text_is_bare field.TimeToLive n has = decimal-bare n (omega arith)
+text_is_bare field.Protocol n has = decimal-bare n (omega (arith, has))
+text_is_bare field.Fragment n has = decimal-bare n (omega (arith, has))
+text_is_bare field.SourcePort n has = decimal-bare n (omega (arith, has))
+text_is_bare field.DestinationPort n has = decimal-bare n (omega (arith, has))
+text_is_bare field.TcpFlags n has = bare_if _ (flags_are n (omega (arith, has))).1
+text_is_bare field.IcmpType n has = joined 47 _ _ refl (decimal-bare (n / 256) (omega (arith, has))) (decimal-bare (n % 256) (omega arith))
+text_is_bare field.ConnectionState n has = bare_if _ (state_is n (omega (arith, has))).1
+text_is_bare field.TimeToLive n has = decimal-bare n (omega (arith, has))
 
 pub is_value_text : (f : Field) (n : ℕ) → HasText f n → IsValueText f (value_text f n) n
 is_value_text f n has = record { reads_back = reads_back f n has; bare = text_is_bare f n has }

@@ -1,9 +1,10 @@
 -- The text of one number on a field, as a packet line has it.
-use Rattle.std.specs.Prelude.{◌≡◌, ℕ, ◌/◌, ◌%◌, ◌^◌, ◌<◌, ◌≤◌, ◌==◌, Bool, not, List, [], ◌∷◌, ◌++◌, map, filter, slice_index_or, Some, decimal}
+use Rattle.std.specs.Prelude.{◌≡◌, ℕ, ◌/◌, ◌%◌, ◌≤◌, ◌==◌, Bool, not, List, [], ◌∷◌, ◌++◌, map, filter, slice_index_or, Some, decimal}
 use Rattle.std.specs.Int.{w128, to_be_bytes}
 use Rattle.fields.specs.declared.numbers.field.Field.{Field}
 use Rattle.fields.specs.declared.numbers.field.Field.TheVariants.{Source, Destination, InIface, OutIface, Protocol, Fragment, SourcePort}
 use Rattle.fields.specs.declared.numbers.field.Field.TheVariants.{DestinationPort, TcpFlags, IcmpType, ConnectionState, TimeToLive}
+use Rattle.fields.specs.numbers.Field.{top}
 use Rattle.fields.specs.packet.Packet.{number_of_text}
 use Rattle.fields.specs.text.Printed.{IsBareWord}
 use Rattle.fields.specs.values.ConnectionState.{packet_states}
@@ -46,20 +47,11 @@ value_text TimeToLive number = decimal number
 abbrev pub HasName : ℕ → Type 0
 HasName number = (name : List ℕ) × (interface_of name ≡ Some name) × (number ≡ interface_value name)
 
--- the number has a text on the field: it is within the top, and of interfaces it is that of a name
+-- the number has a text on the field: of interfaces that of a name, of others each up to the top
 abbrev pub HasText : Field → ℕ → Type 0
-HasText Source number = number < 2 ^ 32
-HasText Destination number = number < 2 ^ 32
 HasText InIface number = HasName number
 HasText OutIface number = HasName number
-HasText Protocol number = number < 256
-HasText Fragment number = number ≤ 1
-HasText SourcePort number = number ≤ 65535
-HasText DestinationPort number = number ≤ 65535
-HasText TcpFlags number = number < 64
-HasText IcmpType number = number ≤ 65535
-HasText ConnectionState number = number < 14
-HasText TimeToLive number = number < 256
+HasText field number = number ≤ top field
 
 -- the text is read as the number in a packet line, where it stands without quotes
 pub record IsValueText (field : Field) (text : List ℕ) (number : ℕ) : Type 0 where
