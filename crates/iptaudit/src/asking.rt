@@ -1,5 +1,6 @@
 //! The questions that are asked of tables, what they may take, and how far they are.
-ghost use Rattle.std.specs.Prelude.{◌<◌, ◌≤◌, length};
+ghost use Rattle.std.specs.Prelude.{◌≡◌, ◌<◌, ◌≤◌, All, IfOk, IfSome, length};
+ghost use Rattle.fields.specs.numbers.Field.{top};
 ghost use Rattle.table.specs.chains.Table.{chain_at};
 
 use crate::progress::Progress;
@@ -108,7 +109,9 @@ impl<'a, R: Clock, E: Print + IsTerminal> Asking<'a, R, E> {
         subject: &BoxedTable,
         given: &Given,
         field: Field,
-    ) -> Result<Option<Vec<Reached>>, AllocError> {
+    ) -> Result<Option<Vec<Reached>>, AllocError>
+        ensures { IfOk result (λ found. IfSome found (λ reached. All (λ entry. entry.numbers.top ≡ top field) reached.items)) }
+    {
         reach(self.alloc, subject, given, field, self.steps)
     }
 }

@@ -1,7 +1,6 @@
 //! Why the program ends without an answer.
 use audits::LineFault;
 use fields::WriteFailed;
-use notation::TextFault;
 use programs::ProgramFault;
 use std::alloc::AllocError;
 use thiserror::Error;
@@ -24,9 +23,6 @@ pub(crate) enum Fault<'a> {
     /// A word `key=value` or `by=FIELD` whose key none of the packets carries that the other words allow.
     #[error("no such packet carries it: {0}")]
     NotCarried(&'a str),
-    /// Some numbers on the field have no text that reads back as them.
-    #[error("cannot write the numbers")]
-    Unreadable,
     #[error("by=FIELD is missing")]
     NoField,
     /// A file was refused, and its fault was written.
@@ -47,15 +43,6 @@ impl Fault<'_> {
 impl From<AllocError> for Fault<'_> {
     fn from(_error: AllocError) -> Self {
         Fault::Program(ProgramFault::NoMemory)
-    }
-}
-
-impl From<TextFault> for Fault<'_> {
-    fn from(fault: TextFault) -> Self {
-        match fault {
-            TextFault::NoMemory => Fault::Program(ProgramFault::NoMemory),
-            TextFault::Unreadable => Fault::Unreadable,
-        }
     }
 }
 

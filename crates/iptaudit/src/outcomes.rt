@@ -1,4 +1,7 @@
 //! What becomes of some packets, by their numbers on a field.
+ghost use Rattle.std.specs.Prelude.{◌≡◌};
+ghost use Rattle.fields.specs.numbers.Field.{top};
+
 use crate::asked_packets::Asked;
 use crate::asking::Asking;
 use crate::fault::Fault;
@@ -46,7 +49,9 @@ fn put_reached<'a, W: Write>(
     field: Field,
     reached: &Reached,
     output: &mut Tap<W>,
-) -> Result<(), Fault<'a>> {
+) -> Result<(), Fault<'a>>
+    requires { reached.now.numbers.top ≡ top field }
+{
     let numbers = set_text(alloc, field, &reached.numbers)?;
     put_verdict(reached.verdict, output)?;
     output.put(b" by ")?;

@@ -1,1 +1,6 @@
+pub mod HexadecimalLaws
+pub mod NameLaws
+pub mod PartLaws
+pub mod PlainLaws
 pub mod SetTextLaws
+pub mod ValueTextLaws

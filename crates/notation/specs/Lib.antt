@@ -1,3 +1,5 @@
+pub mod Plain
 pub mod Range
+pub mod Rows
 pub mod SetText
-pub mod StateTable
+pub mod ValueText

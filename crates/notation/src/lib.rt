@@ -3,10 +3,13 @@
 
 mod interfaces;
 mod numbers;
+mod plain;
 mod range;
 mod sets;
 mod states;
-mod writing;
+mod usual;
+mod values;
 
 pub use range::read_range;
-pub use sets::{TextFault, set_text};
+pub use sets::set_text;
+pub use values::put_value;

@@ -1,29 +1,17 @@
 //! Sets of numbers on a field.
-ghost use Rattle.std.specs.Prelude.{◌≡◌, ◌≢◌, ◌==◌, ◌++◌, ◌∷◌, [], ◌||◌, not, codes, ℕ, List, true, IfOk};
+ghost use Rattle.std.specs.Prelude.{◌≡◌, ◌≢◌, ◌≤◌, ◌==◌, ◌++◌, ◌∷◌, [], ◌||◌, not, codes, ℕ, List, All, true, IfOk};
 ghost use Rattle.std.specs.List.{list_all};
 ghost use Rattle.std.specs.Str.{bytes_eq};
+ghost use Rattle.fields.specs.numbers.Field.{top};
 ghost use Rattle.fields.specs.numbers.Spans.{has, in_span};
+ghost use Rattle.notation.specs.Plain.{IsPart};
 ghost use Rattle.notation.specs.SetText.{is_plain, IsRangeText, IsListText, IsSetText};
 
+use crate::plain::{has_ranges, plain_text};
 use crate::range::read_range;
-use crate::writing::{hexadecimal_text, usual_text};
+use crate::usual::usual_text;
 use fields::{Field, Interval, Spans};
 use std::alloc::{AllocError, Global};
-
-/// Why a set has no text.
-#[derive(Clone, Copy, Debug, PartialEq, Eq)]
-pub enum TextFault {
-    /// Memory was refused.
-    NoMemory,
-    /// No text of some of its numbers reads back as them.
-    Unreadable,
-}
-
-impl From<AllocError> for TextFault {
-    fn from(_error: AllocError) -> Self {
-        TextFault::NoMemory
-    }
-}
 
 fn has_no_blank(text: &[u8]) -> bool
     ensures { result ≡ list_all (λ byte. not (byte == 32)) text.now }
@@ -50,19 +38,16 @@ fn is_range_text(field: Field, text: &[u8], span: &Interval) -> bool
     is_plain(text) && read_range(field, text) == Some((span.first, span.last))
 }
 
-// A text that reads back as the numbers of an interval.
-fn range_text(alloc: Global, field: Field, span: &Interval) -> Result<Vec<u8>, TextFault>
+// A text that reads back as the numbers of an interval: the usual one, where that does, else the plain one.
+fn range_text(alloc: Global, field: Field, span: &Interval) -> Result<Vec<u8>, AllocError>
+    requires { IsPart field span.now }
     ensures { IfOk result (λ text. IsRangeText field text.items span.now) }
 {
     let usual = usual_text(alloc, field, span)?;
     if is_range_text(field, usual.as_slice(), span) {
         return Ok(usual);
     }
-    let numbers = hexadecimal_text(alloc, span)?;
-    if is_range_text(field, numbers.as_slice(), span) {
-        return Ok(numbers);
-    }
-    Err(TextFault::Unreadable)
+    plain_text(alloc, field, span)
 }
 
 // Adds the text of an interval to a list of others.
@@ -71,7 +56,8 @@ fn add_range(
     field: Field,
     span: &Interval,
     list: &mut Vec<u8>,
-) -> Result<(), TextFault>
+) -> Result<(), AllocError>
+    requires { IsPart field span.now }
     ensures { IfOk result (λ done. (before : List Interval) → before ≢ [] → IsListText field before list.old.items
         → IsListText field (before ++ span.now ∷ []) list.new.items) }
 {
@@ -87,7 +73,8 @@ fn add_ranges(
     field: Field,
     spans: &[Interval],
     list: &mut Vec<u8>,
-) -> Result<(), TextFault>
+) -> Result<(), AllocError>
+    requires { All (IsPart field) spans.now }
     ensures { IfOk result (λ done. (before : List Interval) → before ≢ [] → IsListText field before list.old.items
         → IsListText field (before ++ spans.now) list.new.items) }
 {
@@ -98,7 +85,8 @@ fn add_ranges(
 }
 
 // The texts of some intervals, with a comma and a blank between two.
-fn list_text(alloc: Global, field: Field, spans: &[Interval]) -> Result<Vec<u8>, TextFault>
+fn list_text(alloc: Global, field: Field, spans: &[Interval]) -> Result<Vec<u8>, AllocError>
+    requires { All (IsPart field) spans.now }
     ensures { IfOk result (λ text. IsListText field spans.now text.items) }
 {
     let Some((first, rest)) = spans.split_first() else {
@@ -110,12 +98,12 @@ fn list_text(alloc: Global, field: Field, spans: &[Interval]) -> Result<Vec<u8>,
 }
 
 // The numbers of an interval, one by one.
-fn add_each(span: &Interval, parts: &mut Vec<Interval>) -> Result<(), AllocError>
-    ensures { IfOk result (λ done. (x : ℕ) → has parts.new.items x ≡ (has parts.old.items x || in_span x span.now)) }
+fn add_each(field: Field, span: &Interval, parts: &mut Vec<Interval>) -> Result<(), AllocError>
+    requires ordered { span.now.first ≤ span.now.last }
+    requires within { span.now.last ≤ top field }
+    ensures members { IfOk result (λ done. (x : ℕ) → has parts.new.items x ≡ (has parts.old.items x || in_span x span.now)) }
+    ensures parts { IfOk result (λ done. All (IsPart field) parts.old.items → All (IsPart field) parts.new.items) }
 {
-    if span.first > span.last {
-        return Ok(());
-    }
     for number in span.first..span.last {
         parts.push(Interval {
             first: number,
@@ -131,15 +119,18 @@ fn add_each(span: &Interval, parts: &mut Vec<Interval>) -> Result<(), AllocError
 
 // The intervals that a set's list is made of: single numbers on a field where no range has a text.
 fn parts_of(alloc: Global, field: Field, set: &Spans) -> Result<Vec<Interval>, AllocError>
-    ensures { IfOk result (λ parts. (x : ℕ) → has parts.items x ≡ has set.now.intervals x) }
+    requires { set.now.top ≡ top field }
+    ensures members { IfOk result (λ parts. (x : ℕ) → has parts.items x ≡ has set.now.intervals x) }
+    ensures parts { IfOk result (λ parts. All (IsPart field) parts.items) }
 {
     let mut parts = Vec::new(alloc);
-    if !matches!(field, Field::TcpFlags | Field::ConnectionState) {
-        parts.extend_from_slice(set.intervals())?;
+    let spans = set.intervals();
+    if has_ranges(field) {
+        parts.extend_from_slice(spans)?;
         return Ok(parts);
     }
-    for span in set.intervals() {
-        add_each(span, &mut parts)?;
+    for span in spans {
+        add_each(field, span, &mut parts)?;
     }
     Ok(parts)
 }
@@ -148,8 +139,9 @@ fn parts_of(alloc: Global, field: Field, set: &Spans) -> Result<Vec<Interval>, A
 ///
 /// # Errors
 ///
-/// Where memory was refused, or the texts of some numbers don't read back as them.
-pub fn set_text(alloc: Global, field: Field, set: &Spans) -> Result<Vec<u8>, TextFault>
+/// `AllocError` where memory was refused.
+pub fn set_text(alloc: Global, field: Field, set: &Spans) -> Result<Vec<u8>, AllocError>
+    requires { set.now.top ≡ top field }
     ensures { IfOk result (λ text. IsSetText field set.now text.items) }
 {
     let others = set.except(alloc)?;

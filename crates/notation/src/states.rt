@@ -3,7 +3,7 @@ ghost use Rattle.std.specs.Prelude.{◌≡◌};
 ghost use Rattle.std.specs.Str.{str_eq_ignore_ascii_case};
 ghost use Rattle.fields.specs.values.ConnectionState.{packet_states, packet_state_of};
 ghost use Rattle.fields.specs.values.NameList.{number_named};
-ghost use Rattle.notation.specs.StateTable.{rows_of};
+ghost use Rattle.notation.specs.Rows.{rows_of};
 
 // The states with their numbers.
 static STATES: [(&[u8], u8); 14] = [

@@ -17,7 +17,6 @@ pub mod ReachLaws
 pub mod TakerLaws
 pub mod TrailLaws
 pub mod TransportLaws
-pub mod ValueTextLaws
 pub mod VerdictLaws
 pub mod WaitLaws
 pub mod WayLaws

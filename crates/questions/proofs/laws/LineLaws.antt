@@ -27,9 +27,10 @@ use Rattle.fields.proofs.laws.packet.GivenLaws.{same_field}
 use Rattle.fields.proofs.laws.text.CutLaws.{same_some}
 use Rattle.fields.proofs.laws.text.PrintedLaws.{lines_read_back}
 use Rattle.fields.proofs.laws.values.BareLaws.{joined}
-use Rattle.questions.specs.steps.Lines.{is_written, packet_line, value_text, word_of, written_among}
+use Rattle.notation.specs.ValueText.{HasName, HasText, value_text}
+use Rattle.notation.proofs.ValueTextLaws.{reads_back, text_is_bare}
+use Rattle.questions.specs.steps.Lines.{is_written, packet_line, word_of, written_among}
 use Rattle.questions.specs.steps.Sampled.{CanBeWritten, IsInterfaceNumber, Writes}
-use Rattle.questions.proofs.laws.ValueTextLaws.{HasName, HasText, reads_back, text_is_bare}
 
 -- what the word of a field is, with any text
 cut_word : (f : Field) (text : List ℕ) → cut_at 61 (name f ++ 61 ∷ text) ≡ Some (name f, text)
@@ -157,18 +158,9 @@ module _ (p : Packet) (can : CanBeWritten p) where
   required_written _ wanted is = is
 
   has_text : (f : Field) → is_written p f ≡ true → HasText f (point p f)
-  has_text field.Source is = let h = within field.Source in omega arith
-  has_text field.Destination is = let h = within field.Destination in omega arith
   has_text field.InIface is = interface_has_text (point p field.InIface) can.came (some_number (point p field.InIface) is)
   has_text field.OutIface is = interface_has_text (point p field.OutIface) can.goes (some_number (point p field.OutIface) is)
-  has_text field.Protocol is = let h = within field.Protocol in omega arith
-  has_text field.Fragment is = within field.Fragment
-  has_text field.SourcePort is = within field.SourcePort
-  has_text field.DestinationPort is = within field.DestinationPort
-  has_text field.TcpFlags is = (let some = some_number (point p field.TcpFlags) is in omega arith, let h = within field.TcpFlags in omega arith)
-  has_text field.IcmpType is = within field.IcmpType
-  has_text field.ConnectionState is = let h = within field.ConnectionState in omega arith
-  has_text field.TimeToLive is = let h = within field.TimeToLive in omega arith
+  has_text f is = within f
 
   abbrev text : Field → List ℕ
   text f = value_text f (point p f)

@@ -1,5 +1,12 @@
+use Rattle.notation.proofs.PartLaws.{first-part, rest-parts}
 use Rattle.notation.proofs.SetTextLaws.{one-text, no-text}
 use Rattle.notation.proofs.sets.list_text.Goals as goal
+
+pub range_text-requires : goal.range_text-requires
+range_text-requires c = first-part c.args.field c.args.spans.now c.in-Some.first.now c.in-Some.rest.now c.in-Some.ensures.cases.0 c.requires
+
+pub add_ranges-requires : goal.add_ranges-requires
+add_ranges-requires c = rest-parts c.args.field c.args.spans.now c.in-Some.first.now c.in-Some.rest.now c.in-Some.ensures.cases.0 c.requires
 
 pub returns : goal.returns
 returns c =

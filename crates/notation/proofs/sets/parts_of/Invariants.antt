@@ -1,7 +1,12 @@
 use Rattle.std.proofs.Common.{◌≡◌, ℕ, take}
+use Rattle.std.specs.Prelude.{All}
 use Rattle.fields.specs.numbers.Spans.{has}
+use Rattle.notation.specs.Plain.{IsPart}
 use Rattle.notation.proofs.sets.parts_of.Given as goal
 
 -- the numbers of the intervals so far
 abbrev pub invariant-loop-span : goal.invariant-loop-span
-invariant-loop-span l = (x : ℕ) → has l.parts.items x ≡ has (take l.span-index l.span-items) x
+invariant-loop-span l = record {
+  members : (x : ℕ) → has l.parts.items x ≡ has (take l.span-index l.spans) x;
+  parts : All (IsPart l.field) l.parts.items;
+}

@@ -9,9 +9,9 @@ returns-then-is_empty c =
 
 pub returns-then-len : goal.returns-then-len
 returns-then-len c =
-    own-text c.args.field c.args.set.now c.in_ok-within.within.items c.in_ok-list.list.items (search rules) c.in_ok-within.ensures
+    own-text c.args.field c.args.set.now c.in_ok-within.within.items c.in_ok-list.list.items (search rules) c.in_ok-within.ensures.members
 
 pub returns : goal.returns
 returns c =
     others-text c.args.field c.args.set.now c.in_ok-others.others.intervals c.in_ok-out.out.items c.in_ok-list-2.list.items c.extend_from_slice-3.new.self.items
-    (search rules) c.in_ok-others.ensures.members c.in_ok-out.ensures (search rules)
+    (search rules) c.in_ok-others.ensures.members c.in_ok-out.ensures.members (search rules)

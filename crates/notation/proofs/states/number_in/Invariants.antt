@@ -1,6 +1,6 @@
 use Rattle.std.proofs.Common.{◌≡◌, drop}
 use Rattle.fields.specs.values.NameList.{number_named}
-use Rattle.notation.specs.StateTable.{rows_of}
+use Rattle.notation.specs.Rows.{rows_of}
 use Rattle.notation.proofs.states.number_in.Given as goal
 
 -- the answer is among the rows that are left

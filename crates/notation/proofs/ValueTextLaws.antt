@@ -1,5 +1,5 @@
 -- The text of a number on a field is read as the number, and stands without quotes.
-use Rattle.std.proofs.Common.{◌≡◌, ◌==◌, ℕ, zero, suc, ◌+◌, ◌-◌, ◌*◌, ◌/◌, ◌%◌, ◌^◌, ◌<◌, ◌≤◌, Bool, true, false, cond, not, ◌&&◌, ◌||◌, leb, List, [], ◌∷◌, ◌++◌, length, take, Option, Some, refl, ap, sym, subst, ◌∙◌, arith, append-nil}
+use Rattle.std.proofs.Common.{◌≡◌, ◌==◌, ℕ, zero, suc, ◌+◌, ◌-◌, ◌*◌, ◌/◌, ◌%◌, ◌^◌, ◌<◌, ◌≤◌, Bool, true, false, cond, not, ◌&&◌, leb, List, [], ◌∷◌, ◌++◌, length, take, Option, Some, refl, ap, sym, subst, ◌∙◌, arith, append-nil}
 use Rattle.std.specs.Prelude.{decimal, filter, nat_eq, nat_lt, replicate, option_map}
 use Rattle.std.specs.Int.{bytes_high_first, w128, to_be_bytes}
 use Rattle.std.specs.List.{list_all, starts_with}
@@ -25,7 +25,7 @@ use Rattle.fields.specs.values.NameList.{is_just, set_listed, names_listed}
 use Rattle.fields.specs.values.PacketIcmp.{packet_icmp_of}
 use Rattle.fields.specs.values.Prefix.{address_text}
 use Rattle.fields.specs.values.Protocol.{protocols, protocol_number, one_protocol_of}
-use Rattle.fields.specs.values.TcpFlags.{flags, tcp_flags_of}
+use Rattle.fields.specs.values.TcpFlags.{tcp_flags_of, tcp_flags_text}
 use Rattle.fields.proofs.laws.ListLaws.{find-none, all-weaker}
 use Rattle.fields.proofs.laws.numbers.BelowLaws.{all_below, all_below-at, is_just-same}
 use Rattle.fields.proofs.laws.text.CutLaws.{cut_at-at}
@@ -36,26 +36,7 @@ use Rattle.fields.proofs.laws.values.InterfaceLaws.{bound, bound-is, bound-fits,
 use Rattle.fields.proofs.laws.values.PrefixLaws.{address_of-address_text}
 use Rattle.fields.proofs.laws.values.ProtocolLaws.{names-are-words}
 use Rattle.fields.proofs.laws.values.TtlLaws.{reads_back as ttl_reads_back}
-use Rattle.questions.specs.steps.Lines.{interface_name, is_some_byte, state_name, value_text}
-
--- the number is that of an interface with a name
-abbrev pub HasName : ℕ → Type 0
-HasName n = (name : List ℕ) × (interface_of name ≡ Some name) × (n ≡ interface_value name)
-
--- the number has a text on the field
-abbrev pub HasText : Field → ℕ → Type 0
-HasText field.Source n = n < 2 ^ 32
-HasText field.Destination n = n < 2 ^ 32
-HasText field.InIface n = HasName n
-HasText field.OutIface n = HasName n
-HasText field.Protocol n = n < 256
-HasText field.Fragment n = n ≤ 1
-HasText field.SourcePort n = n ≤ 65535
-HasText field.DestinationPort n = n ≤ 65535
-HasText field.TcpFlags n = (0 < n) × (n < 64)
-HasText field.IcmpType n = n ≤ 65535
-HasText field.ConnectionState n = n < 14
-HasText field.TimeToLive n = n < 256
+use Rattle.notation.specs.ValueText.{HasName, HasText, IsValueText, icmp_text, interface_name, is_some_byte, state_name, value_text}
 
 -- a text of digits is no name of a protocol
 no-digits : (text : List ℕ) → all_ascii_digits text ≡ true → (name : List ℕ) → not (all_ascii_digits name) ≡ true → not (bytes_eq name text) ≡ true
@@ -74,7 +55,7 @@ protocol_reads n small =
     ap (λ (o : Option (List ℕ × ℕ)). option_or (option_map (λ entry. entry.1) o) (number_to 255 (decimal n))) none ∙ number_to-decimal 255 n (omega arith) (omega arith)
 
 -- the 16 bytes of an interface's number are its name and zeros
-length-bytes : (k n : ℕ) → length (bytes_high_first k n) ≡ k
+pub length-bytes : (k n : ℕ) → length (bytes_high_first k n) ≡ k
 length-bytes zero n = refl
 length-bytes (suc k) n = let more = length-bytes k n in omega arith
 
@@ -126,10 +107,10 @@ name_is name reads =
 
 -- of the texts of all flags and states each is read as its number, and stands without quotes
 abbrev flags_read : ℕ → Bool
-flags_read n = n == 0 || (is_just (tcp_flags_of (names_listed flags n)) n && is_bare_word (names_listed flags n))
+flags_read n = is_just (tcp_flags_of (tcp_flags_text n)) n && is_bare_word (tcp_flags_text n)
 
 each_flags : all_below flags_read 64 ≡ true
-unfolding set_listed names_listed
+unfolding set_listed names_listed tcp_flags_text
 each_flags = refl
 
 abbrev state_reads : ℕ → Bool
@@ -138,18 +119,13 @@ state_reads n = is_just (packet_state_of (state_name n)) n && is_bare_word (stat
 each_state : all_below state_reads 14 ≡ true
 each_state = refl
 
-flags_are : (n : ℕ) → 0 < n → n < 64 → (is_just (tcp_flags_of (names_listed flags n)) n ≡ true) × (is_bare_word (names_listed flags n) ≡ true)
-flags_are n some small = go (n == 0) refl (all_below-at flags_read 64 n each_flags small)
-  where
-    go : (t : Bool) → (n == 0) ≡ t → (t || (is_just (tcp_flags_of (names_listed flags n)) n && is_bare_word (names_listed flags n))) ≡ true
-        → (is_just (tcp_flags_of (names_listed flags n)) n ≡ true) × (is_bare_word (names_listed flags n) ≡ true)
-    go true is e = absurd (let h = eqb-true n 0 is in omega arith)
-    go false is e = and_parts _ _ e
+flags_are : (n : ℕ) → n < 64 → (is_just (tcp_flags_of (tcp_flags_text n)) n ≡ true) × (is_bare_word (tcp_flags_text n) ≡ true)
+flags_are n small = and_parts _ _ (all_below-at flags_read 64 n each_flags small)
 
 state_is : (n : ℕ) → n < 14 → (is_just (packet_state_of (state_name n)) n ≡ true) × (is_bare_word (state_name n) ≡ true)
 state_is n small = and_parts _ _ (all_below-at state_reads 14 n each_state small)
 
-icmp_reads : (n : ℕ) → n ≤ 65535 → packet_icmp_of (decimal (n / 256) ++ 47 ∷ decimal (n % 256)) ≡ Some n
+pub icmp_reads : (n : ℕ) → n ≤ 65535 → packet_icmp_of (icmp_text n) ≡ Some n
 unfolding packet_icmp_of
 icmp_reads n small =
     let t = n / 256 in
@@ -167,18 +143,18 @@ interface_reads n (name, reads, is) =
     ∙ ap (λ o. o >>= λ found. Some (interface_value found)) reads ∙ ap (λ m. Some m) (sym is)
 
 pub reads_back : (f : Field) (n : ℕ) → HasText f n → number_of_text f (value_text f n) ≡ Some n
-reads_back field.Source n has = address_of-address_text n has
-reads_back field.Destination n has = address_of-address_text n has
+reads_back field.Source n has = address_of-address_text n (omega (arith, has))
+reads_back field.Destination n has = address_of-address_text n (omega (arith, has))
 reads_back field.InIface n has = interface_reads n has
 reads_back field.OutIface n has = interface_reads n has
-reads_back field.Protocol n has = protocol_reads n has
-reads_back field.Fragment n has = number_to-decimal 1 n has (omega arith)
-reads_back field.SourcePort n has = number_to-decimal 65535 n has (omega arith)
-reads_back field.DestinationPort n has = number_to-decimal 65535 n has (omega arith)
-reads_back field.TcpFlags n (some, small) = is_just-same _ n (flags_are n some small).0
+reads_back field.Protocol n has = protocol_reads n (omega (arith, has))
+reads_back field.Fragment n has = number_to-decimal 1 n has (omega (arith, has))
+reads_back field.SourcePort n has = number_to-decimal 65535 n has (omega (arith, has))
+reads_back field.DestinationPort n has = number_to-decimal 65535 n has (omega (arith, has))
+reads_back field.TcpFlags n has = is_just-same _ n (flags_are n (omega (arith, has))).0
 reads_back field.IcmpType n has = icmp_reads n has
-reads_back field.ConnectionState n has = is_just-same _ n (state_is n has).0
-reads_back field.TimeToLive n has = ttl_reads_back n has
+reads_back field.ConnectionState n has = is_just-same _ n (state_is n (omega (arith, has))).0
+reads_back field.TimeToLive n has = ttl_reads_back n (omega (arith, has))
 
 bare_if : (text : List ℕ) → is_bare_word text ≡ true → IsBareWord text
 bare_if text is =
@@ -195,15 +171,18 @@ name_is_bare n (name, reads, is) =
     subst (λ (text : List ℕ). IsBareWord text) (sym same) (interface_is_bare name reads)
 
 pub text_is_bare : (f : Field) (n : ℕ) → HasText f n → IsBareWord (value_text f n)
-text_is_bare field.Source n has = address_is_bare n has
-text_is_bare field.Destination n has = address_is_bare n has
+text_is_bare field.Source n has = address_is_bare n (omega (arith, has))
+text_is_bare field.Destination n has = address_is_bare n (omega (arith, has))
 text_is_bare field.InIface n has = name_is_bare n has
 text_is_bare field.OutIface n has = name_is_bare n has
-text_is_bare field.Protocol n has = decimal-bare n (omega arith)
-text_is_bare field.Fragment n has = decimal-bare n (omega arith)
-text_is_bare field.SourcePort n has = decimal-bare n (omega arith)
-text_is_bare field.DestinationPort n has = decimal-bare n (omega arith)
-text_is_bare field.TcpFlags n (some, small) = bare_if _ (flags_are n some small).1
-text_is_bare field.IcmpType n has = joined 47 _ _ refl (decimal-bare (n / 256) (omega arith)) (decimal-bare (n % 256) (omega arith))
-text_is_bare field.ConnectionState n has = bare_if _ (state_is n has).1
-text_is_bare field.TimeToLive n has = decimal-bare n (omega arith)
+text_is_bare field.Protocol n has = decimal-bare n (omega (arith, has))
+text_is_bare field.Fragment n has = decimal-bare n (omega (arith, has))
+text_is_bare field.SourcePort n has = decimal-bare n (omega (arith, has))
+text_is_bare field.DestinationPort n has = decimal-bare n (omega (arith, has))
+text_is_bare field.TcpFlags n has = bare_if _ (flags_are n (omega (arith, has))).1
+text_is_bare field.IcmpType n has = joined 47 _ _ refl (decimal-bare (n / 256) (omega (arith, has))) (decimal-bare (n % 256) (omega arith))
+text_is_bare field.ConnectionState n has = bare_if _ (state_is n (omega (arith, has))).1
+text_is_bare field.TimeToLive n has = decimal-bare n (omega (arith, has))
+
+pub is_value_text : (f : Field) (n : ℕ) → HasText f n → IsValueText f (value_text f n) n
+is_value_text f n has = record { reads_back = reads_back f n has; bare = text_is_bare f n has }

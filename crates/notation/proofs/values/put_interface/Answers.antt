@@ -1,7 +1,7 @@
 use Rattle.std.proofs.Common.{◌≡◌, ◌++◌, List, ℕ, subst, OnOk}
 use Rattle.std.specs.Prelude.{filter}
-use Rattle.questions.specs.steps.Lines.{interface_name, is_some_byte}
-use Rattle.questions.proofs.sampling.line.put_interface.Goals as goal
+use Rattle.notation.specs.ValueText.{interface_name, is_some_byte}
+use Rattle.notation.proofs.values.put_interface.Goals as goal
 
 pub returns : goal.returns
 unfolding interface_name

@@ -1,7 +1,7 @@
 use Rattle.std.proofs.Common.{◌≡◌, ◌++◌, take}
 use Rattle.std.specs.Prelude.{filter}
-use Rattle.questions.specs.steps.Lines.{is_some_byte}
-use Rattle.questions.proofs.sampling.line.put_name.Given as goal
+use Rattle.notation.specs.ValueText.{is_some_byte}
+use Rattle.notation.proofs.values.put_name.Given as goal
 
 -- the bytes so far but 0 are written
 abbrev pub invariant-loop-byte : goal.invariant-loop-byte

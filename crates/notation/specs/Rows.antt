@@ -1,4 +1,4 @@
--- The table of a packet's states as the code has it.
+-- A table of names and numbers as the code has it.
 use Rattle.std.specs.Prelude.{ℕ, List, map}
 use Rattle.std.specs.Borrow.{Bor}
 

@@ -3,10 +3,10 @@ use Rattle.std.specs.List.{join_with_byte}
 use Rattle.std.proofs.lemmas.List.{take_all}
 use Rattle.fields.specs.values.NameList.{names_in, names_listed}
 use Rattle.fields.proofs.laws.values.JoinLaws.{comma_after}
-use Rattle.questions.specs.steps.Lines.{entries_of}
-use Rattle.questions.proofs.laws.LineStepLaws.{names-no, names-yes, comma-yes}
-use Rattle.questions.proofs.sampling.line.put_names.Goals as goal
-use Rattle.questions.proofs.sampling.line.put_names.Goals.{then-set-bit+in_ok-extend_from_slice+in_ok-extend_from_slice-2, else-set-bit}
+use Rattle.notation.specs.Rows.{rows_of}
+use Rattle.notation.proofs.NameLaws.{names-no, names-yes, comma-yes}
+use Rattle.notation.proofs.values.put_names.Goals as goal
+use Rattle.notation.proofs.values.put_names.Goals.{then-set-bit+in_ok-extend_from_slice+in_ok-extend_from_slice-2, else-set-bit}
 
 -- a name after what is written, behind a comma or first
 with_name : (line written mark name : List ℕ) (xs ys zs : List ℕ) → zs ≡ ys ++ name → ys ≡ xs ++ mark → xs ≡ line ++ written → zs ≡ line ++ (written ++ (mark ++ name))
@@ -19,7 +19,7 @@ loop-name-preserved c =
     let i = c.loop-name.name-index in
     let none : Bor (List ℕ) × ℕ = (record { ref_ptr = (0, 0); now = [] }, 0) in
     let row = get_or rows i none in
-    let names = names_in (entries_of (take i rows)) c.args.set in
+    let names = names_in (rows_of (take i rows)) c.args.set in
     let within : i < length rows = omega arith in
     elim c.if-set-bit.branch [
       | then-set-bit+in_ok-extend_from_slice+in_ok-extend_from_slice-2 w ↦

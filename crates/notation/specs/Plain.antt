@@ -1,0 +1,52 @@
+-- The plain text of an interval, which always reads back as its numbers.
+use Rattle.std.specs.Prelude.{◌≡◌, ℕ, ◌+◌, ◌/◌, ◌%◌, ◌≤◌, nat_lt, Bool, true, false, List, [], ◌∷◌, ◌++◌, flat_map, if◌then◌else◌}
+use Rattle.std.specs.Int.{w128, to_be_bytes}
+use Rattle.fields.specs.declared.numbers.field.Field.{Field}
+use Rattle.fields.specs.declared.numbers.field.Field.TheVariants.{Source, Destination, InIface, OutIface}
+use Rattle.fields.specs.declared.numbers.field.Field.TheVariants.{TcpFlags, IcmpType, ConnectionState}
+use Rattle.fields.specs.declared.numbers.spans.Interval.{Interval}
+use Rattle.fields.specs.numbers.Field.{top}
+use Rattle.notation.specs.ValueText.{value_text}
+
+-- the digit of base 16 of a number below 16: `0` (48) to `9`, `a` (97) to `f`
+abbrev pub digit_byte : ℕ → ℕ
+digit_byte d = if nat_lt d 10 then 48 + d else 87 + d
+
+-- the two digits of a byte
+abbrev pub digits_of : ℕ → List ℕ
+digits_of byte = digit_byte (byte / 16) ∷ digit_byte (byte % 16) ∷ []
+
+-- a number of 128 bits by its 32 digits
+unfoldable pub hexadecimal_text : ℕ → List ℕ
+hexadecimal_text number = flat_map digits_of (to_be_bytes w128 number)
+
+-- an end of an interval; an interface may have no name
+abbrev pub end_text : Field → ℕ → List ℕ
+end_text InIface number = hexadecimal_text number
+end_text OutIface number = hexadecimal_text number
+end_text field number = value_text field number
+
+-- what stands between the two ends, `-` (45) or `:` (58)
+abbrev pub mark_of : Field → ℕ
+mark_of Source = 45
+mark_of Destination = 45
+mark_of InIface = 45
+mark_of OutIface = 45
+mark_of IcmpType = 45
+mark_of field = 58
+
+-- whether a text may stand for several numbers
+abbrev pub has_ranges : Field → Bool
+has_ranges TcpFlags = false
+has_ranges ConnectionState = false
+has_ranges field = true
+
+-- both ends, or the one number
+abbrev pub plain_text : Field → Interval → List ℕ
+plain_text field s = if has_ranges field then end_text field s.first ++ mark_of field ∷ end_text field s.last else end_text field s.first
+
+-- numbers that a text can stand for: those of an interval within the top, or one number
+pub record IsPart (field : Field) (s : Interval) : Type 0 where
+  pub ordered : s.first ≤ s.last
+  pub within : s.last ≤ top field
+  pub alone : has_ranges field ≡ false → s.first ≡ s.last
