@@ -73,14 +73,14 @@ KEPT = [
         """        self.chains[key].replace(self.alloc, at, entry, work)?;
         count_in(&mut self.chains, link);""",
         """        count_in(&mut self.chains, link);
-        self.chains[key].replace(self.alloc, at, entry, work)?;""", "faults", "commands.cases: replaced rules"),
+        self.chains[key].replace(self.alloc, at, entry, work)?;""", "faults", "a table with all kinds"),
     Bug("uncounts-before-a-replacement", "the rule that stays counts no more for the chain that it names", "table/src/edit.rt",
         """        self.chains[key].replace(self.alloc, at, entry, work)?;
         count_in(&mut self.chains, link);
         count_out(&mut self.chains, before);""",
         """        count_out(&mut self.chains, before);
         self.chains[key].replace(self.alloc, at, entry, work)?;
-        count_in(&mut self.chains, link);""", "faults", "commands.cases: replaced rules"),
+        count_in(&mut self.chains, link);""", "faults", "a table with all kinds"),
     Bug("slot-before-words", "a row has a slot before its words are there", "bits/src/rows.rt",
         """        self.words.extend_from_within(start..start + self.width)?;
         let _ = insert_at(&mut self.slots, row + 1, slot);""",
@@ -98,7 +98,7 @@ KEPT = [
         Err(_) => Err(RestoreFault::NoMemory),""",
         """    match Transaction::begin(alloc, table, noflush) {
         Ok(section) => Ok(SectionState::Building(section)),
-        Err(_) => Ok(SectionState::Skipping),""", "faults", "restores.cases: without a flush the rules stay"),
+        Err(_) => Ok(SectionState::Skipping),""", "faults", "a table with all kinds"),
 ]
 
 # Memory that is refused isn't told, or is told as something else.
@@ -107,7 +107,7 @@ UNTOLD = [
         """        let Ok(()) = search::reserve_mark(&mut self.seen, key) else {
             return Err(TableFault::NoMemory);
         };""",
-        """        let _ = search::reserve_mark(&mut self.seen, key);""", "faults", "a loop through three chains"),
+        """        let _ = search::reserve_mark(&mut self.seen, key);""", "faults", "names that a chain may have"),
     Bug("step-untold", "a step of a walk is left out", "table/src/walk/trail.rt",
         "            steps.push(self.step_before(at))?;",
         "            let _ = steps.push(self.step_before(at));", "faults", "a jump comes back"),
@@ -125,16 +125,16 @@ UNTOLD = [
         "        let copy = copy_match(alloc, one)?;",
         """        let Ok(copy) = copy_match(alloc, one) else {
             continue;
-        };""", "faults", "restores.cases: without a flush the rules stay"),
+        };""", "faults", "a table with all kinds"),
     Bug("option-untold", "a copy of a rule lacks an option", "rules/src/rule/copy.rt",
         "        copies.push(copy)?;\n    }\n    Ok(copies)\n}\n\n// A match again.",
         "        let _ = copies.push(copy);\n    }\n    Ok(copies)\n}\n\n// A match again.", "faults",
-        "restores.cases: without a flush the rules stay"),
+        "a table with all kinds"),
     Bug("rule-untold", "a copy of a chain lacks a rule", "table/src/chain/copy.rt",
         "        let rule = entry.rule.copy(alloc)?;",
         """        let Ok(rule) = entry.rule.copy(alloc) else {
             continue;
-        };""", "faults", "restores.cases: without a flush the rules stay"),
+        };""", "faults", "a table with all kinds"),
     Bug("name-untold", "the name of a chain line isn't kept, so that it may come again", "restore/src/section.rt",
         """            Ok(()) => Ok(()),
             Err(_) => Err(RestoreFault::NoMemory),
@@ -187,7 +187,7 @@ UNTOLD = [
         "        Err(WordFault::NoMemory) => Outcome::fails(Mode::Outside, Fault::Line(RestoreFault::Quoting)),", "faults", "a jump comes back"),
     Bug("quoting-in-a-section", "the same in a section", "restore/src/section.rt",
         "        Err(WordFault::NoMemory) => Err(RestoreFault::NoMemory),",
-        "        Err(WordFault::NoMemory) => Err(RestoreFault::Quoting),", "faults", "restores.cases: without a flush the rules stay"),
+        "        Err(WordFault::NoMemory) => Err(RestoreFault::Quoting),", "faults", "a table with all kinds"),
     Bug("unknown-in-place-of-memory", "S1 in place of M0 of a packet", "sessions/src/line/outcome.rt",
         "        Err(_) => Outcome::fails(Mode::Outside, Fault::NoMemory),",
         "        Err(_) => Outcome::fails(Mode::Outside, Fault::UnknownLine),", "faults", "a jump comes back"),
@@ -264,40 +264,40 @@ TAKING = [
             }""", "faults", "in a skipped section nothing is read"),
     Bug("delete-takes", "a delete by number takes memory", "table/src/table.rt",
         "        self.parts.remove_rule(place, number - 1);",
-        """        let _order = self.parts.order.clone();
+        """        let _order: Result<_, _> = self.parts.order.clone();
         self.parts.remove_rule(place, number - 1);""", "faults"),
     Bug("delete-of-a-rule-takes", "a delete by rule takes memory", "table/src/table.rt",
         "        self.parts.remove_rule(place, at);",
-        """        let _order = self.parts.order.clone();
+        """        let _order: Result<_, _> = self.parts.order.clone();
         self.parts.remove_rule(place, at);""", "faults"),
     Bug("flush-takes", "-F of a chain takes memory", "table/src/table.rt",
         "        self.parts.empty(place);",
-        """        let _order = self.parts.order.clone();
+        """        let _order: Result<_, _> = self.parts.order.clone();
         self.parts.empty(place);""", "faults"),
     Bug("flush-of-all-takes", "-F takes memory", "table/src/table.rt",
         "        self.parts.empty_all();",
-        """        let _order = self.parts.order.clone();
+        """        let _order: Result<_, _> = self.parts.order.clone();
         self.parts.empty_all();""", "faults"),
     Bug("policy-takes", "-P takes memory", "table/src/table.rt",
         "        self.parts.policies[place] = policy;",
-        """        let _order = self.parts.order.clone();
+        """        let _order: Result<_, _> = self.parts.order.clone();
         self.parts.policies[place] = policy;""", "faults"),
     Bug("rename-takes", "-E takes memory", "table/src/table.rt",
         "        self.parts.rename(place, to, name);",
-        """        let _order = self.parts.order.clone();
+        """        let _order: Result<_, _> = self.parts.order.clone();
         self.parts.rename(place, to, name);""", "faults"),
     Bug("chain-gone-takes", "-X of a chain takes memory", "table/src/table.rt",
         "        self.parts.remove_chain(place);",
-        """        let _order = self.parts.order.clone();
+        """        let _order: Result<_, _> = self.parts.order.clone();
         self.parts.remove_chain(place);""", "faults"),
     Bug("chains-gone-take", "-X takes memory", "table/src/table.rt",
         "        self.parts.remove_user_chains();",
-        """        let _order = self.parts.order.clone();
+        """        let _order: Result<_, _> = self.parts.order.clone();
         self.parts.remove_user_chains();""", "faults"),
     Bug("check-takes", "-C takes memory", "table/src/table.rt",
         """        match self.parts.rule_index(place, rule) {
             Some(_) => Ok(()),""",
-        """        let _order = self.parts.order.clone();
+        """        let _order: Result<_, _> = self.parts.order.clone();
         match self.parts.rule_index(place, rule) {
             Some(_) => Ok(()),""", "faults"),
     Bug("listing-takes", "-S takes memory", "sessions/src/line/outcome.rt",

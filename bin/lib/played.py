@@ -112,10 +112,10 @@ class Told:
         if self.model.restore:
             self.say([self.model.end])
 
-    def show(self):
-        """Shows the table: what -S lists, and the lines of each chain. Then it is emptied chain by chain, and the user chains go: so how
-        often each is named shows too."""
-        names = [quoted(name) for name in self.model.table.in_order()]
+    def show(self, is_large=False):
+        """Shows the table: what -S lists, and unless it is large the lines of each chain. Then it is emptied chain by chain, and the user
+        chains go: so how often each is named shows too."""
+        names = [] if is_large else [quoted(name) for name in self.model.table.in_order()]
         self.say([b"iptables -S"])
         self.say([b"lines " + name for name in names])
         self.say([b"iptables -F " + name for name in names])
