@@ -2,8 +2,8 @@
 use Rattle.std.specs.Prelude.{◌≡◌, ℕ, ◌+◌, ◌/◌, ◌%◌, ◌≤◌, nat_lt, Bool, true, false, List, [], ◌∷◌, ◌++◌, flat_map, if◌then◌else◌}
 use Rattle.std.specs.Int.{w128, to_be_bytes}
 use Rattle.fields.specs.declared.numbers.field.Field.{Field}
-use Rattle.fields.specs.declared.numbers.field.Field.TheVariants.{Source, Destination, InIface, OutIface}
-use Rattle.fields.specs.declared.numbers.field.Field.TheVariants.{TcpFlags, IcmpType, ConnectionState}
+use Rattle.fields.specs.declared.numbers.field.Field.TheVariants.{Source, Destination, InIface, OutIface, Protocol, Fragment, SourcePort}
+use Rattle.fields.specs.declared.numbers.field.Field.TheVariants.{DestinationPort, TcpFlags, IcmpType, ConnectionState, TimeToLive}
 use Rattle.fields.specs.declared.numbers.spans.Interval.{Interval}
 use Rattle.fields.specs.numbers.Field.{top}
 use Rattle.notation.specs.ValueText.{value_text}
@@ -22,9 +22,18 @@ hexadecimal_text number = flat_map digits_of (to_be_bytes w128 number)
 
 -- an end of an interval; an interface may have no name
 abbrev pub end_text : Field → ℕ → List ℕ
+end_text Source number = value_text Source number
+end_text Destination number = value_text Destination number
 end_text InIface number = hexadecimal_text number
 end_text OutIface number = hexadecimal_text number
-end_text field number = value_text field number
+end_text Protocol number = value_text Protocol number
+end_text Fragment number = value_text Fragment number
+end_text SourcePort number = value_text SourcePort number
+end_text DestinationPort number = value_text DestinationPort number
+end_text TcpFlags number = value_text TcpFlags number
+end_text IcmpType number = value_text IcmpType number
+end_text ConnectionState number = value_text ConnectionState number
+end_text TimeToLive number = value_text TimeToLive number
 
 -- what stands between the two ends, `-` (45) or `:` (58)
 abbrev pub mark_of : Field → ℕ
@@ -32,14 +41,29 @@ mark_of Source = 45
 mark_of Destination = 45
 mark_of InIface = 45
 mark_of OutIface = 45
+mark_of Protocol = 58
+mark_of Fragment = 58
+mark_of SourcePort = 58
+mark_of DestinationPort = 58
+mark_of TcpFlags = 58
 mark_of IcmpType = 45
-mark_of field = 58
+mark_of ConnectionState = 58
+mark_of TimeToLive = 58
 
 -- whether a text may stand for several numbers
 abbrev pub has_ranges : Field → Bool
+has_ranges Source = true
+has_ranges Destination = true
+has_ranges InIface = true
+has_ranges OutIface = true
+has_ranges Protocol = true
+has_ranges Fragment = true
+has_ranges SourcePort = true
+has_ranges DestinationPort = true
 has_ranges TcpFlags = false
+has_ranges IcmpType = true
 has_ranges ConnectionState = false
-has_ranges field = true
+has_ranges TimeToLive = true
 
 -- both ends, or the one number
 abbrev pub plain_text : Field → Interval → List ℕ

@@ -49,9 +49,18 @@ HasName number = (name : List ℕ) × (interface_of name ≡ Some name) × (numb
 
 -- the number has a text on the field: of interfaces that of a name, of others each up to the top
 abbrev pub HasText : Field → ℕ → Type 0
+HasText Source number = number ≤ top Source
+HasText Destination number = number ≤ top Destination
 HasText InIface number = HasName number
 HasText OutIface number = HasName number
-HasText field number = number ≤ top field
+HasText Protocol number = number ≤ top Protocol
+HasText Fragment number = number ≤ top Fragment
+HasText SourcePort number = number ≤ top SourcePort
+HasText DestinationPort number = number ≤ top DestinationPort
+HasText TcpFlags number = number ≤ top TcpFlags
+HasText IcmpType number = number ≤ top IcmpType
+HasText ConnectionState number = number ≤ top ConnectionState
+HasText TimeToLive number = number ≤ top TimeToLive
 
 -- the text is read as the number in a packet line, where it stands without quotes
 pub record IsValueText (field : Field) (text : List ℕ) (number : ℕ) : Type 0 where
