@@ -12,21 +12,10 @@ use table::{Table, TableFault};
 enum Reply {
     /// It is done.
     Done,
-    /// It lists the rules of a chain `x`.
-    ListsX,
+    /// It lists rules: whether of a chain `x`.
+    Lists(bool),
     /// It is refused.
     Refused(RestoreFault),
-}
-
-/// What a command comes to.
-fn done(table: &mut Table, command: Command, work: &mut Work) -> Reply {
-    if let Command::ListRules(Some(b"x")) = &command {
-        return Reply::ListsX;
-    }
-    match apply(table, command, work) {
-        Ok(()) => Reply::Done,
-        Err(fault) => Reply::Refused(RestoreFault::Table(fault)),
-    }
 }
 
 /// What the words come to from a place on.
@@ -38,7 +27,11 @@ fn reply_of(
     from: usize,
 ) -> Reply {
     match Command::read(alloc, words, from) {
-        Ok(command) => done(table, command, work),
+        Ok(Command::ListRules(name)) => Reply::Lists(name == Some(b"x".as_slice())),
+        Ok(command) => match apply(table, command, work) {
+            Ok(()) => Reply::Done,
+            Err(fault) => Reply::Refused(RestoreFault::Table(fault)),
+        },
         Err(fault) => Reply::Refused(RestoreFault::Command(fault)),
     }
 }
@@ -52,7 +45,7 @@ const ROWS: &[(&[u8], usize, Reply)] = &[
         2,
         Reply::Refused(RestoreFault::Table(TableFault::NoSuchChain)),
     ),
-    (b"-N -S x", 1, Reply::ListsX),
+    (b"-N -S x", 1, Reply::Lists(true)),
     (
         b"-N x -A INPUT 1 -j DROP",
         2,
