@@ -1,0 +1,19 @@
+"""All that is packed: the programs, asked whether they are what they should be, and the files of an installation."""
+
+import collections
+
+from packing.layout import installation
+from packing.programs import PROGRAMS, numbers, packed
+from packing.version import find_version
+
+# `library` is the version of the C library that the programs need, and `are_built` whether both were built from these sources.
+Contents = collections.namedtuple("Contents", "version library are_built entries")
+
+
+def gather(root):
+    """Has the programs built where they have to be, and reads all files."""
+    version = find_version(root)
+    programs = {name: packed(root, name, version.commit) for name in PROGRAMS}
+    library = max((program.library for program in programs.values()), key=numbers)
+    are_built = all(program.is_built for program in programs.values())
+    return Contents(version, library, are_built, installation(root, {name: program.data for name, program in programs.items()}))
