@@ -10,6 +10,9 @@ typeset -A opt_args
 
 """
 
+# Options beside which nothing else stands.
+ALONE = ("--help", "--version")
+
 
 def quoted(text):
     return "'" + text.replace("'", "'\\''") + "'"
@@ -33,7 +36,7 @@ def option_specs(option, values):
     """One option for _arguments, once for each of its names."""
     value = f":{described(option.value)}:{action(option.value, values)}" if option.value else ""
     names = ([f"-{option.short}"] if option.short else []) + [option.name]
-    before = "*" if option.repeats else "(- *)" if option.short else ""
+    before = "*" if option.repeats else "(- *)" if option.name in ALONE else f"({' '.join(names)})" if option.short else ""
     return [quoted(f"{before}{name}{'=' if value and name == option.name else ''}[{described(option.text)}]{value}") for name in names]
 
 
