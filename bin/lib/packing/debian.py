@@ -62,14 +62,13 @@ def package(root, contents):
     """The bytes of the package, or None where dpkg-deb isn't there."""
     if shutil.which("dpkg-deb") is None:
         return None
-    seconds = contents.version.seconds
     with tempfile.TemporaryDirectory() as work:
         folder, made = os.path.join(work, "package"), os.path.join(work, "made.deb")
         os.mkdir(folder)
         os.chmod(folder, 0o755)
-        write(folder, files(root, contents), seconds)
-        # With another number of threads xz writes other bytes.
-        fixed = dict(os.environ, SOURCE_DATE_EPOCH=str(seconds), DPKG_DEB_THREADS_MAX="1")
+        write(folder, files(root, contents))
+        # No file of the package is newer than the commit. With another number of threads xz writes other bytes.
+        fixed = dict(os.environ, SOURCE_DATE_EPOCH=str(contents.version.seconds), DPKG_DEB_THREADS_MAX="1")
         ended = subprocess.run(["dpkg-deb", "--build", "--root-owner-group", "-Zxz", folder, made], stdout=subprocess.DEVNULL, check=False,
                                env=fixed)
         if ended.returncode:

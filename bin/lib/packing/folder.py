@@ -14,10 +14,9 @@ def folders(entries):
     return sorted(found)
 
 
-def write(folder, entries, seconds):
-    """Writes files into a folder, each with its mode and this time."""
-    places = folders(entries)
-    for place in places:
+def write(folder, entries):
+    """Writes files into a folder, each with its mode."""
+    for place in folders(entries):
         os.mkdir(os.path.join(folder, place))
         os.chmod(os.path.join(folder, place), 0o755)
     for each in entries:
@@ -28,5 +27,3 @@ def write(folder, entries, seconds):
             with open(path, "wb") as file:
                 file.write(each.data)
             os.chmod(path, each.mode)
-    for place in [*(each.place for each in entries), *reversed(places), "."]:
-        os.utime(os.path.join(folder, place), (seconds, seconds), follow_symlinks=False)
