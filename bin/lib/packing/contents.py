@@ -13,7 +13,7 @@ Contents = collections.namedtuple("Contents", "version library are_built entries
 def gather(root):
     """Has the programs built where they have to be, and reads all files."""
     version = find_version(root)
-    programs = {name: packed(root, name, version.commit) for name in PROGRAMS}
+    programs = {name: packed(root, name, version) for name in PROGRAMS}
     library = max((program.library for program in programs.values()), key=numbers)
     are_built = all(program.is_built for program in programs.values())
     return Contents(version, library, are_built, installation(root, {name: program.data for name, program in programs.items()}))

@@ -5,11 +5,12 @@ import os
 import re
 import subprocess
 import sys
+import tempfile
 
 from packing import Failure
 
-# What stands in a program for the commit's hash: bin/release writes its first digits over it.
-PLACEHOLDER = b"commit-000000"
+# What the programs' sources have beside the version, and bin/release writes the first digits of the commit's hash over.
+UNRELEASED = "not released"
 # ldd names the loader, and what the kernel gives, beside the libraries.
 LIBRARIES = {"linux-vdso.so.1", "libc.so.6", "/lib64/ld-linux-x86-64.so.2"}
 GLIBC = re.compile(r"^\t\tlibc\.so\.6 \(GLIBC_([0-9.]+)\) ", re.MULTILINE)
@@ -83,35 +84,49 @@ def numbers(version):
     return [int(part) for part in version.split(".")]
 
 
+def answer(name, path, words, given):
+    """The status and the output of a program."""
+    try:
+        ended = subprocess.run([path, *words], input=given.encode(), stdout=subprocess.PIPE, check=False, timeout=60)
+    except (OSError, subprocess.TimeoutExpired) as error:
+        raise Failure(f"the program {name} can't be asked: {path}: {error}") from error
+    return ended.returncode, ended.stdout.decode(errors="replace")
+
+
 def ask(name, path):
     """Ends with a failure unless the program answers its question as it must."""
     known = PROGRAMS[name]
-    try:
-        ended = subprocess.run([path, *known.words], input=known.given.encode(), stdout=subprocess.PIPE, check=False, timeout=60)
-    except (OSError, subprocess.TimeoutExpired) as error:
-        raise Failure(f"the program {name} can't be asked: {path}: {error}") from error
-    if (ended.returncode, ended.stdout) != (known.status, known.output.encode()):
-        raise Failure(f"this isn't {name}, or it is broken: {path} ends with status {ended.returncode}, where {known.status} is due, and"
-                      f" answers\n{ended.stdout.decode(errors='replace')}where this is due:\n{known.output.rstrip()}")
+    status, output = answer(name, path, known.words, known.given)
+    if (status, output) != (known.status, known.output):
+        raise Failure(f"this isn't {name}, or it is broken: {path} ends with status {status}, where {known.status} is due, and"
+                      f" answers\n{output}where this is due:\n{known.output.rstrip()}")
 
 
-def with_commit(name, data, commit):
-    """The program's bytes with the commit in its place. A program that has none is taken as it is."""
-    places = data.count(PLACEHOLDER)
-    if places > 1:
-        raise Failure(f"the program {name} has {places} places for the commit, and not one")
-    if not places:
-        note(f"the program {name} has no place for the commit, and doesn't name it")
-    return data.replace(PLACEHOLDER, commit[:len(PLACEHOLDER)].encode())
+def with_commit(name, data, version):
+    """The program's bytes with the commit in its place, after it was asked for its version."""
+    place = f"{version.number} ({UNRELEASED})".encode()
+    if data.count(place) != 1:
+        raise Failure(f"the program {name} has the text '{place.decode()}' in {data.count(place)} places, and not in one")
+    told = f"{version.number} ({version.commit[:len(UNRELEASED)]})"
+    data = data.replace(place, told.encode())
+    with tempfile.TemporaryDirectory() as work:
+        path = os.path.join(work, name)
+        with open(path, "wb") as file:
+            file.write(data)
+        os.chmod(path, 0o755)
+        said = answer(name, path, ["--version"], "")
+    if said != (0, f"{name} {told}\n"):
+        raise Failure(f"the program {name} doesn't print '{name} {told}' as its version: {said[1].rstrip()}")
+    return data
 
 
-def packed(root, name, commit):
+def packed(root, name, version):
     """A program that is ready to be packed. One that was built elsewhere is taken as it is."""
     path, is_built = find_program(root, name)
     library = find_library(path)
     ask(name, path)
     with open(path, "rb") as file:
         data = file.read()
-    if is_built and commit:
-        data = with_commit(name, data, commit)
+    if is_built and version.commit:
+        data = with_commit(name, data, version)
     return Program(data, is_built, library)

@@ -2,6 +2,7 @@
 
 complete -c iptaudit -f
 complete -c iptaudit -n __fish_use_subcommand -s h -l help -d 'Print help'
+complete -c iptaudit -n __fish_use_subcommand -s V -l version -d 'Print version'
 complete -c iptaudit -n __fish_use_subcommand -a dead -d 'Print the rules that no packet can match'
 complete -c iptaudit -n '__fish_seen_subcommand_from dead' -s h -l help -d 'Print help'
 complete -c iptaudit -n '__fish_seen_subcommand_from dead' -l steps -r -f -d 'Take N steps at most for each question'

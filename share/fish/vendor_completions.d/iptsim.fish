@@ -2,6 +2,7 @@
 
 complete -c iptsim -f
 complete -c iptsim -n __fish_use_subcommand -s h -l help -d 'Print help'
+complete -c iptsim -n __fish_use_subcommand -s V -l version -d 'Print version'
 complete -c iptsim -n __fish_use_subcommand -a session -d 'Run a session from standard input to standard output'
 complete -c iptsim -n '__fish_seen_subcommand_from session' -s h -l help -d 'Print help'
 complete -c iptsim -n '__fish_seen_subcommand_from session' -l load -r -F -d 'Restore FILE first'
