@@ -20,10 +20,25 @@ def compressed(place, data):
     return Entry(place + ".gz", 0o644, gzip.compress(data, 9, mtime=0))
 
 
+def stripped(data):
+    """A program without its symbols, where strip is there."""
+    if shutil.which("strip") is None:
+        return data
+    with tempfile.TemporaryDirectory() as work:
+        path = os.path.join(work, "program")
+        with open(path, "wb") as file:
+            file.write(data)
+        if subprocess.run(["strip", "--strip-unneeded", path], check=False).returncode:
+            raise Failure("strip takes no program's symbols away")
+        return entry(path, path, 0o755).data
+
+
 def placed(each):
     """A file of an installation as Debian wants it. Links to manual pages aren't made, so only files are compressed."""
     if isinstance(each, Link):
         return each
+    if each.data.startswith(b"\x7fELF"):
+        return each._replace(data=stripped(each.data))
     if each.place.startswith("share/man/") or each.place == f"{DOCUMENTS}/CHANGELOG.md":
         return compressed(each.place, each.data)
     if each.place == f"{DOCUMENTS}/LICENSE":
