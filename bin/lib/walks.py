@@ -35,9 +35,10 @@ def complaints_of(trouble):
     return (trouble.args[0], 1) if isinstance(trouble, Unfit) else ([Complaint(str(trouble))], 2)
 
 
-def called(name):
-    """The name of another command, in the form in which this one was called."""
-    return ("iptsim-" if os.path.basename(sys.argv[0]).startswith("iptsim-") else "bin/") + name
+def command(name):
+    """How a user calls another script: where it is installed, or in a checkout."""
+    scripts = os.path.dirname(os.path.dirname(os.path.realpath(__file__)))
+    return ("iptsim-" if scripts.endswith(os.path.join("lib", "iptsim")) else "bin/") + name
 
 
 def read_input(name):
@@ -111,7 +112,7 @@ class Answers:
             text = f"{name} doesn't load: line {number}: {session.fault(restore).text.decode()}"
             raise Unfit([Complaint(text, name, number)])
         if not has_filter(lines):
-            raise Unfit([Complaint(f"{name} has no section *filter that is read: {called('check')} says more", name)])
+            raise Unfit([Complaint(f"{name} has no section *filter that is read: {command('check')} says more", name)])
         self.read_listing(written)
         faults = [(place, session.fault(places)) for place, places in enumerate(asked)]
         complaints = [blamed(place, self.reason(packets[place], fault)) for place, fault in faults if fault]
