@@ -122,7 +122,7 @@ class Answers:
 
     def reason(self, packet, fault):
         """Why a packet line is refused: with the word at fault, where that is found out."""
-        return explained(packet, fault.text, list(self.chains)) if explained else fault.text.decode()
+        return os.fsdecode(explained(packet, fault.text, self.chains) if explained else fault.text)
 
     def read_listing(self, lines):
         self.chains, self.rules = [], {}
