@@ -1,0 +1,30 @@
+"""What bin/check --json writes: one document for all files, as docs/schemas/check.json says."""
+
+import json
+import os
+
+from findings import visible
+
+
+def text(data):
+    """Bytes as the text that they are in UTF-8; other bytes as \\\\x and two digits."""
+    return data.decode("utf-8", "backslashreplace")
+
+
+def fault(finding):
+    return {"line": finding.line or None, "code": finding.code or None,
+            "text": text(finding.text if finding.code else visible(finding.text)), "word": text(finding.word) or None,
+            "meant": text(finding.meant) or None}
+
+
+def file(name, findings=(), advice=(), passed=(), error=None):
+    """One file: its faults, what to do about the commonest, the lines that are passed over, or why it can't be read."""
+    return {"file": text(os.fsencode(name)), "loads": not findings and error is None, "error": error,
+            "faults": [fault(each) for each in findings],
+            "advice": [{"words": [text(word) for word in words], "text": text(sentence)} for words, sentence in advice],
+            "passed_over": list(passed)}
+
+
+def document(files):
+    counts = {"files": len(files), "loading": sum(each["loads"] for each in files), "faults": sum(len(each["faults"]) for each in files)}
+    return json.dumps({"files": files, "counts": counts}, indent=2) + "\n"
