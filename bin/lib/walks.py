@@ -3,14 +3,10 @@
 import collections
 import os
 import re
-import sys
 
+from at_fault import explained
+from places import command
 from program import Session, lines_of, read, words_of
-
-try:
-    from at_fault import explained
-except ImportError:
-    explained = None
 
 REPLY = re.compile(rb"verdict (\S+)(?: (\S+))??(?: by (rule|policy))?")
 STEP = re.compile(rb"(\S+) ([0-9]+)")
@@ -33,17 +29,6 @@ class Unfit(Exception):
 def complaints_of(trouble):
     """What is said of an input that can't be used, or of other trouble, and the status."""
     return (trouble.args[0], 1) if isinstance(trouble, Unfit) else ([Complaint(str(trouble))], 2)
-
-
-def command(name):
-    """How a user calls another script: where it is installed, or in a checkout."""
-    scripts = os.path.dirname(os.path.dirname(os.path.realpath(__file__)))
-    return ("iptsim-" if scripts.endswith(os.path.join("lib", "iptsim")) else "bin/") + name
-
-
-def read_input(name):
-    """What a file has, or standard input where the name is `-`."""
-    return sys.stdin.buffer.read() if name == "-" else read(name)
 
 
 def values(line):
@@ -101,7 +86,7 @@ class Answers:
     `blamed` makes a complaint of the place of a packet line, from 0, and why it is refused."""
 
     def __init__(self, name, packets, blamed):
-        lines = lines_of(read_input(name))
+        lines = lines_of(read(name))
         session = Session()
         restore = session.restore(lines)
         session.ask(b"iptables -S")
@@ -115,14 +100,10 @@ class Answers:
             raise Unfit([Complaint(f"{name} has no section *filter that is read: {command('check')} says more", name)])
         self.read_listing(written)
         faults = [(place, session.fault(places)) for place, places in enumerate(asked)]
-        complaints = [blamed(place, self.reason(packets[place], fault)) for place, fault in faults if fault]
+        complaints = [blamed(place, os.fsdecode(explained(packets[place], fault.text, self.chains))) for place, fault in faults if fault]
         if complaints:
             raise Unfit(complaints)
         self.walks = list(read_walks(written, packets))
-
-    def reason(self, packet, fault):
-        """Why a packet line is refused: with the word at fault, where that is found out."""
-        return os.fsdecode(explained(packet, fault.text, self.chains) if explained else fault.text)
 
     def read_listing(self, lines):
         self.chains, self.rules = [], {}
