@@ -24,7 +24,9 @@ def text_of(finding):
     if not finding.code:
         return visible(finding.text)
     word = b": " + shown(finding.word) if finding.word else b""
-    return finding.code.encode() + b" " + finding.text + word + finding.more + (b" (%s?)" % shown(finding.meant) if finding.meant else b"")
+    more = b" (%s)" % finding.more if finding.more else b""
+    meant = b" (%s?)" % shown(finding.meant) if finding.meant else b""
+    return finding.code.encode() + b" " + finding.text + word + more + meant
 
 
 def of_fault(number, fault, word, **more):

@@ -12,9 +12,10 @@ def text(data):
 
 
 def fault(finding):
-    return {"line": finding.line or None, "code": finding.code or None,
-            "text": text(finding.text if finding.code else visible(finding.text)), "word": text(finding.word) or None,
-            "meant": text(finding.meant) or None}
+    """One fault; what there is nothing to say of is null."""
+    sentence = finding.text if finding.code else visible(finding.text)
+    return {"line": finding.line or None, "code": finding.code or None, "text": text(sentence), "word": text(finding.word) or None,
+            "more": text(finding.more) or None, "meant": text(finding.meant) or None}
 
 
 def file(name, findings=(), advice=(), passed=(), error=None):

@@ -18,7 +18,7 @@ ADDRESS_6 = rb"[0-9a-fA-F]*:[0-9a-fA-F]*:[0-9a-fA-F:.]*(?:[/,-][^ \t\"]*)?"
 OF_IPV6 = rb"""(?:-m|--match)%s(?:icmp6|hl|rt|eui64|ipv6header|frag|hbh|dst|mh|srh)|--icmpv6-type%s[^ \t]+|
 (?:-s|--source|--src|-d|--destination|--dst|--src-range|--dst-range)%s""".replace(b"\n", b"") + ADDRESS_6 + \
     rb"|--reject-with%s(?:icmp6-[a-z-]+|no-route|adm-prohibited|addr-unreach|policy-fail|reject-route)"
-MAYBE_IPV6 = re.compile(rb"(?m)^[^#\n].*?(?:" + OF_IPV6.replace(b"%s", rb"[ \t]+\"?") + rb")[\" \t\n].*")
+MAYBE_IPV6 = re.compile(rb"(?m)^[^#\n].*?(?:" + OF_IPV6.replace(b"%s", rb"[ \t]+\"?") + rb")(?=[\" \t]|$).*")
 PAIR_OF_IPV6 = re.compile(OF_IPV6.replace(b"%s", b" "))
 
 
@@ -34,9 +34,9 @@ def is_of_ip6tables(data):
 
 
 def first_line(lines):
-    """The number of the first line that isn't passed over or tells a script of nft, and the line."""
+    """The number of the first line that isn't passed over or begins a script of nft, and the line."""
     for number, line in enumerate(lines, 1):
-        if not is_passed_over(line) or line.startswith(b"#!"):
+        if not is_passed_over(line) or OF_NFT.fullmatch(line):
             return number, line.strip()
     return 0, b""
 

@@ -46,8 +46,8 @@ def nearest_of_list(text, names):
 
 def meant(code, option, word, chains):
     """What was perhaps meant by a word, by the code of its fault, the option or key whose value it is, and the table's chains."""
-    if code in ("T1", "T2"):
-        return nearest(word, [*BUILT_IN, *chains]) if code == "T1" else b""
+    if code == "T1":
+        return nearest(word, [*BUILT_IN, *chains])
     if code == "T11" or (code, option) in (("P3", b"-j"), ("P3", b"--jump")):
         return nearest(word, [*TARGETS, *chains])
     if code in ("P3", "F3"):

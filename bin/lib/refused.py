@@ -308,7 +308,7 @@ def counted(refused, openings):
     for line in refused:
         if line.fault.code == "T14":
             over[bisect.bisect(openings, line.number), line.value].append(line)
-    said = {lines[0].number: f" ({CHAIN_LIMIT + len(lines):,} rules, of {CHAIN_LIMIT:,} at most)".encode() for lines in over.values()}
+    said = {lines[0].number: f"{CHAIN_LIMIT + len(lines):,} rules, of {CHAIN_LIMIT:,} at most".encode() for lines in over.values()}
     return [line._replace(more=said.get(line.number, b"")) for line in refused if line.fault.code != "T14" or line.number in said]
 
 
