@@ -32,8 +32,8 @@ match iprange =--src-range range =--dst-range range
 match conntrack =--ctstate states +--ctproto protocol +--ctorigsrc address +--ctorigdst address +--ctreplsrc address
     +--ctrepldst address +--ctorigsrcport port +--ctorigdstport port +--ctreplsrcport port +--ctrepldstport port +--ctstatus statuses
     +--ctexpire time +--ctdir direction
-match state =--state states
-match ttl =--ttl-eq number =--ttl-gt number =--ttl-lt number
+match state =--state state
+match ttl =--ttl-eq,--ttl number =--ttl-gt number =--ttl-lt number
 match comment =--comment comment
 match addrtype +--src-type type +--dst-type type .--limit-iface-in .--limit-iface-out
 match ah +--ahspi spi
@@ -128,6 +128,11 @@ def extension_of(row):
     return Extension(kind, name.encode(), options, tuple(sets))
 
 
+def unknown_match(name):
+    """A match that isn't in the table."""
+    return Extension("match", name, (), ())
+
+
 EXTENSIONS = [extension_of(row) for row in TABLE.replace("\n    ", " ").strip().split("\n")]
 RULE, COMMAND = EXTENSIONS[:2]
 MATCHES = {row.name: row for row in EXTENSIONS if row.kind == "match"}
@@ -136,6 +141,8 @@ TARGETS = {row.name: row for row in EXTENSIONS if row.kind in ("ends", "passes",
 OF_PROTOCOL = {1: b"icmp", 6: b"tcp", 17: b"udp", 33: b"dccp", 50: b"esp", 51: b"ah", 132: b"sctp"}
 # The protocols of multiport, by their numbers.
 PROTOCOLS = {6: b"tcp", 17: b"udp", 33: b"dccp", 132: b"sctp", 136: b"udplite"}
+# The names of options that the program knows by their first name alone.
+OTHER_NAMES = (b"--fragments", b"--ttl")
 # The matches that the program knows, and which may stand without an option.
 WITHOUT_OPTION = (b"tcp", b"udp", b"icmp")
 
@@ -157,3 +164,8 @@ def begun(name, owners):
         return None
     found = [(owner, option) for owner in owners for option in owner.options if any(each.startswith(name) for each in option.names)]
     return found[0] if len(found) == 1 else None
+
+
+def takes_values(name):
+    """Whether an option of this name of any match, target or rule takes a value."""
+    return any(option.values for owner in EXTENSIONS for option in owner.options if name in option.names)

@@ -6,11 +6,15 @@ import os
 import re
 
 import extensions
+from findings import visible
+from places import command
 from program import Trouble, words_of
-from refused import BUILT_IN, section_of
+from quoting import quoted
+from refused import BUILT_IN, filter_lines
 from rule_parts import Rule, Unclear
 from spelling import KINDS, port_range, refused_values
 
+HEAD, HEAD_LIMIT = b"# iptsim-fit: for trials", 1000
 NEVER = b"! -s 0.0.0.0/0"
 PORTS = {b"--sport": b"--sports", b"--dport": b"--dports"}
 OF_TARGETS = (b"ACCEPT", b"DROP", b"RETURN")
@@ -24,7 +28,8 @@ class Wrong(Trouble):
 
 
 class Assumption:
-    """WORDS=VALUE: the name of a match and some of its words, with true or false; or a target with what it does."""
+    """WORDS=VALUE: the name of a match and some of its words, or all where the match isn't in the table, with true or false; or a target
+    with what it does."""
 
     def __init__(self, text):
         self.text, self.used = text, False
@@ -33,15 +38,17 @@ class Assumption:
         words = [word.value for word in words_of(left) or ()]
         self.name, self.value = words[0] if words else b"", value
         extension = extensions.MATCHES.get(self.name)
-        if extension and value in (b"true", b"false"):
+        if self.name and self.name not in extensions.TARGETS and value in (b"true", b"false"):
+            extension = extension or extensions.unknown_match(self.name)
             self.words = [self.listed(word, extension) for word in words[1:]]
         elif len(words) == 1 and self.name in extensions.TARGETS and value in OF_TARGETS:
             extension, self.words = extensions.TARGETS[self.name], []
         else:
-            raise Wrong(f"--assume '{text}' is not MATCH=true, MATCH=false or TARGET=ACCEPT, with a name that bin/fit knows")
+            raise Wrong(f"--assume '{text}' is not MATCH=true, MATCH=false or TARGET=ACCEPT, with a target that {command('fit')} knows")
         if extension.kind in ("ends", "passes") or extension.options and all(option.place == "=" for option in extension.options):
             why = "decides nothing" if extension.kind == "passes" else "is known to the program"
             raise Wrong(f"--assume '{text}': {self.name.decode()} {why}")
+        self.is_exact = not extension.options
 
     @staticmethod
     def listed(word, extension):
@@ -50,8 +57,8 @@ class Assumption:
         return found[1].names[0] if found else word
 
     def is_on(self, condition):
-        """Whether its words stand in the condition one after another."""
-        count = len(self.words)
+        """Whether its words stand in the condition one after another, or are all of it where the match isn't in the table."""
+        count = len(condition.words) if self.is_exact else len(self.words)
         places = range(len(condition.words) - count + 1)
         return self.name == condition.name and any(condition.words[at:at + count] == self.words for at in places)
 
@@ -82,24 +89,6 @@ def conditions(match):
     if asked:
         return [Condition(name, words_of_part(part) + more, part.inverted != turned) for part in asked]
     return [] if match.spelled or extensions.is_known(match.extension) else [Condition(name, more, turned)]
-
-
-def quoted(value):
-    if re.fullmatch(rb"[A-Za-z0-9_.,:/+!-]+", value):
-        return value
-    return b'"' + re.sub(rb'(["\\])', rb"\\\1", value) + b'"'
-
-
-def filter_lines(lines):
-    """The numbered lines of the sections filter, but comments and the lines that open and end a section."""
-    section = None
-    for number, line in enumerate(lines, 1):
-        if section is None:
-            section = section_of(line)
-        elif line.strip(b" \t") == b"COMMIT":
-            section = None
-        elif section == b"filter" and line.strip(b" \t")[:1] not in (b"", b"#"):
-            yield number, line
 
 
 class Edits:
@@ -147,14 +136,16 @@ class Edits:
 
 
 class Fitting:
-    """The rules of a dump: what is written in place of the refused ones, what is said of each, and which assumptions are missing."""
+    """The rules of a dump: what is written in place of the refused ones, what is said of each, and which assumptions are missing. `place`
+    says how a line is named."""
 
-    def __init__(self, lines, refused, names, assumptions):
-        self.names, self.assumptions = names, assumptions
+    def __init__(self, lines, refused, names, assumptions, place):
+        self.names, self.assumptions, self.place = names, assumptions, place
+        self.exact = [(each.name, each.words) for each in assumptions if each.is_exact]
         self.lines = dict(filter_lines(lines))
         self.rules = {number: self.rule_of(line) for number, line in self.lines.items()}
         self.refused = [number for number in refused if self.rules.get(number)]
-        self.changes, self.missing, self.loses = [], {}, False
+        self.changes, self.missing, self.loses, self.dropped = [], {}, False, {}
         self.find_quiet()
         values = {(kind, self.rules[number].text(part.at + place, part.at + place))
                   for number in self.refused for part in self.rules[number].parts if part.option.place == "="
@@ -163,7 +154,7 @@ class Fitting:
 
     def rule_of(self, line):
         try:
-            return Rule(line, self.names)
+            return Rule(line, self.names, self.exact)
         except Unclear:
             return None
 
@@ -173,7 +164,7 @@ class Fitting:
         self.chains = {words[0].value[1:] for words in map(words_of, self.lines.values()) if words and words[0].value[:1] == b":"}
         self.sets = {}
         for number, rule in self.rules.items():
-            if rule:
+            if rule and rule.whole:
                 rules.append(rule)
                 for name in rule.target.extension.sets if rule.target else ():
                     self.sets.setdefault(name, (number, rule.target.extension.name))
@@ -205,6 +196,8 @@ class Fitting:
         rule = self.rules[number]
         edits = Edits(rule)
         self.spell(edits)
+        if not rule.whole:
+            return [self.lines[number]] if rule.requoted else list(edits.lines())
         if self.decides(rule):
             self.assume(number, edits)
         else:
@@ -218,6 +211,8 @@ class Fitting:
     def spell(self, edits):
         """Options and values in the spelling that the program takes."""
         rule = edits.rule
+        for old, new in rule.requoted:
+            edits.say(b"quotes written out: %s -> %s" % (old, new))
         if rule.value(rule.command_at)[:2] == b"--" and not extensions.exact(rule.value(rule.command_at), [extensions.COMMAND]):
             word = rule.words[rule.command_at]
             edits.pieces[word.start, word.end] = [rule.command]
@@ -236,7 +231,7 @@ class Fitting:
         """One option with its values; of a list of addresses each."""
         rule, label = edits.rule, None
         typed = rule.value(part.at)
-        name = typed if typed in part.option.names and typed != b"--fragments" else part.option.names[0]
+        name = typed if typed in part.option.names and typed not in extensions.OTHER_NAMES else part.option.names[0]
         glued = rule.glued.get(part.at)
         if name != typed or glued:
             label = "option written out"
@@ -282,11 +277,19 @@ class Fitting:
         for match in edits.rule.matches:
             if conditions(match):
                 self.leave_out(edits, match, b"decides nothing, taken out: ")
+                self.drop(match)
         if target and target.extension.kind == "passes":
             known = extensions.is_known(target.extension)
             parts = target.unknown_options() if known else [target.part, *target.options]
             if parts:
                 self.remove(edits, parts, b"decides nothing, taken out: ")
+                self.drop(target)
+
+    def drop(self, owner):
+        """Notes what is taken out for the head of the dump: a match or a target, or options where it stays."""
+        name = (b"-m " if owner.extension.kind == "match" else b"-j ") + owner.extension.name
+        known = extensions.is_known(owner.extension)
+        self.dropped.update(dict.fromkeys([part.option.names[0] for part in owner.unknown_options()] if known else [name]))
 
     def remove(self, edits, parts, why):
         for part in parts:
@@ -322,8 +325,9 @@ class Fitting:
         if failed or missing:
             edits.never()
         for match in dict.fromkeys(missing):
-            name = match.extension.name
-            self.miss(number, name, b"'%s=true' or '%s=false'" % (name, name), edits.rule.text_of(match))
+            name, text = match.extension.name, edits.rule.text_of(match)
+            stated = name if match.extension.options else edits.rule.text(match.part.last, (match.options or [match.part])[-1].last)
+            self.miss(number, name, b"'%s=true' or '%s=false'" % (stated, stated), text)
         self.assume_target(number, edits, bool(failed))
 
     def assume_target(self, number, edits, never):
@@ -348,11 +352,18 @@ class Fitting:
         """Notes an assumption that is missing, once for all lines that ask the same."""
         sets = b""
         if name in self.sets:
-            sets = b", which line %d sets by -j %s" % self.sets[name]
+            line, target = self.sets[name]
+            sets = b", which %s sets by -j %s" % (self.place(line), target)
         first = self.missing.setdefault((name, text), [number, b"state --assume %s: %s%s" % (stated, text, sets), 0])
         first[2] += 1
 
+    def head(self):
+        """The comment at the top of a dump that is for trials; nothing where all that was changed means the same."""
+        said = [(b"assumed ", dict.fromkeys(each.shown for each in self.assumptions if each.used)), (b"taken out ", self.dropped)]
+        text = b"; ".join([HEAD, *(what + b", ".join(words) for what, words in said if words)])
+        return [visible(text if len(text) <= HEAD_LIMIT else text[:HEAD_LIMIT] + b" ..")] if self.loses else []
+
     def by_words(self):
         """Commands that name a rule by its words, where rules lost some: they might name another one now."""
-        named = [number for number, rule in self.rules.items() if rule and rule.command in (b"-D", b"-C") and not rule.numbered]
+        named = [number for number, rule in self.rules.items() if rule and rule.whole and rule.command in (b"-D", b"-C") and not rule.numbered]
         return [(number, b"names a rule by its words, and others lose some: name it by its number") for number in named if self.loses]

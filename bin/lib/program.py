@@ -1,14 +1,13 @@
-"""What bin/check, bin/fit and bin/expect share: how the program is found and asked, how files and words are read, how a script ends.
-
-The program is the one that the environment variable IPTSIM names, and else bin/quick. bin/iptsim is never called from here: it may
-begin to prove.
-"""
+"""What the scripts for users share: how a program is asked, how files and words are read, how a script ends."""
 
 import collections
 import os
 import re
+import signal
 import subprocess
 import sys
+
+from places import program_call
 
 FAULT = re.compile(rb"line ([0-9]+): (([A-Z]+[0-9]+) .*)")
 QUOTED_OR_PLAIN = re.compile(rb'(?:"((?:[^"\\]|\\.)*)"|([^ \t"]+))(?=[ \t]|\Z)', re.DOTALL)
@@ -30,8 +29,9 @@ def complain(name, trouble):
 
 
 def read(name):
+    """The bytes of a file, or of standard input where the name is `-`."""
     try:
-        with open(name, "rb") as file:
+        with open(0 if name == "-" else name, "rb", closefd=name != "-") as file:
             return file.read()
     except OSError as error:
         raise Unreadable(f"cannot read {name}: {error.strerror}") from error
@@ -62,15 +62,15 @@ def words_of(line):
         at = found.end()
 
 
-def run(words, data):
+def run(words, data, name="iptsim"):
     """The program's status and what it writes to standard output, with these words and the data. Its messages go to standard error."""
-    path = os.environ.get("IPTSIM") or os.path.join(os.path.dirname(os.path.dirname(os.path.abspath(__file__))), "quick")
+    call = program_call(name)
     try:
-        ended = subprocess.run([path, *words], input=data, stdout=subprocess.PIPE, check=False)
+        ended = subprocess.run([*call, *words], input=data, stdout=subprocess.PIPE, check=False)
     except OSError as error:
-        raise Trouble(f"cannot run {path}: {error.strerror}; IPTSIM is to name the program") from error
+        raise Trouble(f"cannot run {call[0]}: {error.strerror}; {name.upper()} is to name the program") from error
     if ended.returncode not in (0, 1, 2):
-        raise Trouble(f"{path} ended with status {ended.returncode}")
+        raise Trouble(f"{call[0]} ended with status {ended.returncode}")
     return ended.returncode, ended.stdout
 
 
@@ -116,13 +116,19 @@ class Session:
 
 
 def finish(name, main, *arguments):
-    """Ends with the status that main returns, or with 2 and a message where it meets trouble."""
+    """Ends with the status that main returns, or with 2 and a message where it meets trouble. Where nobody reads standard output any more,
+    it ends without a message, by the signal that ends other commands there."""
     try:
-        status = main(*arguments)
-        sys.stdout.buffer.flush()
+        try:
+            status = main(*arguments)
+        finally:
+            sys.stdout.flush()
     except Trouble as trouble:
         complain(name, trouble)
         status = 2
+    except BrokenPipeError:
+        signal.signal(signal.SIGPIPE, signal.SIG_DFL)
+        signal.raise_signal(signal.SIGPIPE)
     except OSError:
         complain(name, "output failed")
         status = 2

@@ -1,5 +1,6 @@
 """The lines of a dump that the program refuses, each asked by itself, for bin/check, whose head says what that means, and bin/fit."""
 
+import bisect
 import collections
 import difflib
 import re
@@ -7,6 +8,8 @@ import re
 from program import Session, Word, words_of
 
 LINE_LIMIT = 10240
+CHAIN_LIMIT = 8192
+SESSION_WORDS = (b"iptables", b"iptables-save", b"iptables-restore", b"packet", b"lines")
 TABLES = (b"filter", b"nat", b"mangle", b"raw", b"security")
 BUILT_IN = (b"INPUT", b"FORWARD", b"OUTPUT")
 LISTING_COMMANDS = (b"-S", b"--list-rules")
@@ -21,7 +24,8 @@ PLACES = {"C1": 0, "T1": 1, "T2": 1, "T3": 1, "T4": 2, "T5": 1, "T6": 1, "T7": 1
 # `text` is what is asked of a line: a command without the counters before it, else the line. `asks` are pairs of places in the
 # session and the codes that count there, all where it is None. `chain` is the name of a chain line, and the number of its section.
 Question = collections.namedtuple("Question", "number text asks chain")
-Refused = collections.namedtuple("Refused", "number fault option word value")
+# `more` says more of the word.
+Refused = collections.namedtuple("Refused", "number fault option word value more", defaults=(b"",))
 
 
 def is_passed_over(line):
@@ -37,12 +41,24 @@ def section_of(line):
     return b" ".join(word.value for word in words)[1:].strip(b" ").split(b" ")[0]
 
 
+def filter_lines(lines):
+    """The numbered lines of the sections filter, but comments and the lines that open and end a section."""
+    section = None
+    for number, line in enumerate(lines, 1):
+        if section is None:
+            section = section_of(line)
+        elif line.strip(b" \t") == b"COMMIT":
+            section = None
+        elif section == b"filter" and not is_passed_over(line):
+            yield number, line
+
+
 class Reading:
     """The questions about the lines of a dump, in one session. Lines before `first` are known to be accepted."""
 
     def __init__(self, lines, first):
         self.session, self.questions, self.notes = Session(), [], []
-        self.first, self.sections = first, 0
+        self.first, self.sections, self.openings = first, 0, []
         self.section, self.opening = None, None
         for number, line in enumerate(lines, 1):
             self.read(number, line)
@@ -93,6 +109,7 @@ class Reading:
         self.section = name
         if name == b"filter":
             self.sections, self.names = self.sections + 1, set()
+            self.openings.append(number)
             self.session.restore([b"*filter", b"COMMIT"])
 
     def read_in_filter(self, number, line, words):
@@ -285,6 +302,16 @@ def locate(pairs):
     return searches
 
 
+def counted(refused, openings):
+    """Of the lines for which a chain of a section has no room the first alone, with the number of rules that the chain was to have."""
+    over = collections.defaultdict(list)
+    for line in refused:
+        if line.fault.code == "T14":
+            over[bisect.bisect(openings, line.number), line.value].append(line)
+    said = {lines[0].number: f"{CHAIN_LIMIT + len(lines):,} rules, of {CHAIN_LIMIT:,} at most".encode() for lines in over.values()}
+    return [line._replace(more=said.get(line.number, b"")) for line in refused if line.fault.code != "T14" or line.number in said]
+
+
 def refused_lines(reading):
     """The refused lines of a dump, without those that are refused for the name of a chain that couldn't be made."""
     missing, result = set(), []
@@ -294,4 +321,4 @@ def refused_lines(reading):
             missing.add(name[name.startswith(b":"):])
         if code not in ("T1", "T11", "P3") or name not in missing:
             result.append(line)
-    return result
+    return counted(result, reading.openings)

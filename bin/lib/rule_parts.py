@@ -4,6 +4,7 @@ import collections
 
 import extensions
 from program import words_of
+from quoting import written_out
 from refused import COUNTERS, TABLE_OPTIONS
 
 # An option of a rule: its words are those from `first`, which may be `!`, to `last`; its name stands at `at`.
@@ -27,18 +28,24 @@ class Owner:
 
 
 class Rule:
-    """The parts of a line that has a command with a rule; Unclear where they can't be told."""
+    """The parts of a line that has a command with a rule; Unclear where it has none. It isn't `whole` where only the parts before some
+    word can be told. `exact` has the words that matches which aren't in the table are known to have, by their names."""
 
-    def __init__(self, line, names):
-        self.line, self.names = line, names
-        self.words = words_of(line)
+    def __init__(self, line, names, exact=()):
+        self.names, self.exact = names, exact
+        self.line, self.requoted = (line, []) if words_of(line) is not None else written_out(line) or (line, [])
+        self.words = words_of(self.line)
         self.parts, self.matches, self.glued = [], [], {}
         self.target, self.protocol = None, None
         if not self.words:
             raise Unclear
         self.read_head()
-        while self.parts_end() < len(self.words):
-            self.read_part(self.parts_end())
+        try:
+            while self.parts_end() < len(self.words):
+                self.read_part(self.parts_end())
+            self.whole = True
+        except Unclear:
+            self.whole = False
 
     def parts_end(self):
         return self.parts[-1].last + 1 if self.parts else self.head
@@ -83,14 +90,35 @@ class Rule:
         if part.inverted and name in (b"-m", b"-j", b"-g", b"-4"):
             raise Unclear
         if name == b"-m":
-            if part.values[0].value not in extensions.MATCHES:
-                raise Unclear
-            self.matches.append(Owner(extensions.MATCHES[part.values[0].value], part))
+            match = part.values[0].value
+            self.matches.append(Owner(extensions.MATCHES.get(match) or extensions.unknown_match(match), part))
+            if not self.matches[-1].extension.options:
+                self.read_unknown(part.last + 1)
         elif name in (b"-j", b"-g"):
             target = part.values[0].value
             self.target = Owner(extensions.TARGETS.get(target) or extensions.Extension("chain", target, (), ()), part)
         elif name == b"-p" and not part.inverted:
             self.protocol = self.names.protocol(part.values[0].value)
+
+    def read_unknown(self, first):
+        """The words of a match that isn't in the table: all up to an option that is known, or more that are known to be its own."""
+        values = [word.value for word in self.words[first:]]
+        counts = [len(words) for name, words in self.exact if name == self.words[first - 1].value and words == values[:len(words)]]
+        known = [place for place in range(first, len(self.words)) if self.is_known_at(place)]
+        count = max([(known or [len(self.words)])[0] - first, *counts])
+        if count:
+            option = extensions.Option((values[0],), ("word",) * (count - 1), "+")
+            part = Part(option, self.matches[-1], False, first, first, first + count - 1, self.words[first + 1:first + count])
+            self.parts.append(part)
+            self.matches[-1].options.append(part)
+
+    def is_known_at(self, place):
+        """Whether at a place stands the full name of an option of the rule, of what it has started or of what `-p` starts, or `!` before one."""
+        at = min(place + (self.value(place) == b"!"), len(self.words) - 1)
+        owners = [*self.matches, *([self.target] if self.target else [])]
+        implied = extensions.MATCHES.get(extensions.OF_PROTOCOL.get(self.protocol))
+        known = [extensions.RULE, extensions.COMMAND, *(owner.extension for owner in owners), *([implied] if implied else [])]
+        return extensions.exact(self.value(at), known) is not None
 
     def option_at(self, at):
         """The owner of the option that stands at a place, and the option. A value that is written onto it by `=` becomes a word."""

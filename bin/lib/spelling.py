@@ -139,9 +139,9 @@ def icmp_type(text):
     return begun[0].encode() if text and len(begun) == 1 else None
 
 
-def states(text):
+def states(text, known=STATES):
     """A list of states, of each of which the beginning is enough."""
-    found = [[state for state in STATES if item and state.startswith(item.upper())] for item in text.split(b",")]
+    found = [[state for state in known if item and state.startswith(item.upper())] for item in text.split(b",")]
     return b",".join(each[0] for each in found) if all(found) else None
 
 
@@ -171,6 +171,7 @@ KINDS = {
     "range": ("address", b"-m iprange --src-range %s", lambda names, text, protocol: address_range(text)),
     "type": ("ICMP type", b"-p icmp --icmp-type %s", lambda names, text, protocol: icmp_type(text)),
     "states": ("state", b"-m conntrack --ctstate %s", lambda names, text, protocol: states(text)),
+    "state": ("state", b"-m state --state %s", lambda names, text, protocol: states(text, STATES[:5])),
     "flags": ("flag", b"-p tcp --tcp-flags %s NONE", lambda names, text, protocol: flags(text)),
     "number": ("number", b"-m ttl --ttl-eq %s", lambda names, text, protocol: decimal(number(text, 255))),
     "reject": ("type", b"-p tcp -j REJECT --reject-with %s", lambda names, text, protocol: reject_type(text)),

@@ -1,0 +1,36 @@
+"""Whether a program that was built of the crates is up to date: what bin/lib/crates.sh asks, for scripts in Python."""
+
+import os
+
+FOLDERS = ("src", "specs", "proofs")
+
+
+def crates_of(top, made):
+    """The crate of a program, and those of the repository on which it stands, by crates.txt."""
+    with open(os.path.join(top, "crates.txt"), encoding="utf-8") as file:
+        rows = [line.partition("#")[0].partition(":") for line in file]
+    uses = {crate.split()[0]: below.split() for crate, colon, below in rows if colon}
+    found, left = set(), [made]
+    while left:
+        crate = left.pop()
+        if crate in uses and crate not in found:
+            found.add(crate)
+            left += uses[crate]
+    return found
+
+
+def entries(folder):
+    """A folder and all that lies in it."""
+    for path, inner, names in os.walk(folder):
+        yield path
+        yield from (os.path.join(path, name) for name in inner + names)
+
+
+def is_built(top, made, program):
+    """Whether the proved program is there, and nothing of its crates is newer, nor crates.txt."""
+    if not os.access(program, os.X_OK):
+        return False
+    built = os.stat(program).st_mtime_ns
+    folders = [os.path.join(top, "crates", crate, folder) for crate in crates_of(top, made) for folder in FOLDERS]
+    sources = [os.path.join(top, "crates.txt"), *(path for folder in folders for path in entries(folder))]
+    return all(os.lstat(path).st_mtime_ns <= built for path in sources)

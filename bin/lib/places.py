@@ -1,0 +1,48 @@
+"""Where the programs are and what commands are called, in a checkout or where the scripts are installed.
+
+Installed, this file lies in PREFIX/lib/iptsim/lib, the scripts in PREFIX/lib/iptsim and the programs in PREFIX/bin; there links
+`iptsim-check` and so on lead to the scripts.
+"""
+
+import functools
+import os
+import sys
+
+from crates import is_built
+
+SCRIPTS = os.path.dirname(os.path.dirname(os.path.realpath(__file__)))
+TOP = os.path.dirname(SCRIPTS)
+IS_INSTALLED = SCRIPTS.split(os.sep)[-2:] == ["lib", "iptsim"]
+PROGRAMS = ("iptsim", "iptaudit")
+SLOW = """{called}: {command} runs {name}, which is not proved and slow: 8,192 rules take it 22 to 110 s, and the proved program 0.15 s.
+{called}: install an archive of a release, or have {proved} prove and build the program once, which takes about an hour.
+"""
+
+
+def called():
+    """The name by which the script was called."""
+    return os.path.basename(sys.argv[0])
+
+
+def command(name):
+    """How a user calls a script or a program of the project."""
+    if not IS_INSTALLED:
+        return "bin/" + name
+    return name if name in PROGRAMS else "iptsim-" + name
+
+
+@functools.lru_cache(maxsize=None)
+def program_call(name):
+    """The words that run a program: the one that the environment names, the installed one, a proved one that is up to date, or bin/quick,
+    of which standard error then says once that it is slow."""
+    named = os.environ.get(name.upper())
+    if named:
+        return (named,)
+    if IS_INSTALLED:
+        return (os.path.join(os.path.dirname(TOP), "bin", name),)
+    proved = os.path.join(TOP, "crates", name, "out", name)
+    if is_built(TOP, name, proved):
+        return (proved,)
+    sys.stderr.write(SLOW.format(called=called(), command=command("quick"), name=name, proved=command(name)))
+    sys.stderr.flush()
+    return (os.path.join(SCRIPTS, "quick"), name)
