@@ -32,6 +32,8 @@ ROWS = {
                       b"list.rules:2: address list, a rule for each: -s 192.0.2.1,192.0.2.2 -> -s 192.0.2.1, -s 192.0.2.2\n"),
     "iptsim-expect": Row(["own.rules", "own.expected"], b"", b"1..1\nok 1 - packet INPUT src=192.0.2.7 dst=198.51.100.1 proto=gre ->"
                          b" DROP by INPUT 1\n# no packet matched INPUT 2: -A INPUT -s 192.0.2.7/32 -j ACCEPT\n", 0),
+    "iptsim-explain": Row(["own.rules", "INPUT src=192.0.2.7 dst=198.51.100.1 proto=gre"], b"", b"packet INPUT src=192.0.2.7 dst=198.51.100.1"
+                          b" proto=gre\n  INPUT 1: -A INPUT -s 192.0.2.0/24 -j DROP\n  verdict DROP by rule\n", 0),
 }
 # Seconds of a processor.
 MOST = 1.0
