@@ -1,12 +1,14 @@
-"""A program that bin/refusing built, run with one allocation refused."""
+"""A program that is run with one allocation refused."""
 
 import os
 import shutil
 import subprocess
 import tempfile
 
-# The number of the allocation for which the program was built, as the four bytes of a comparison with it. Each run has another in
-# its place.
+# What refuses an allocation of a program that it is preloaded into.
+SOURCE = os.path.join(os.path.dirname(os.path.realpath(__file__)), "refuse.c")
+# In a program that bin/refusing built stands the number of the refused allocation, as the four bytes of a comparison with it. Each run
+# has another in its place, since nothing can be preloaded into such a program.
 BUILT_FOR = 123456789
 SIGN = BUILT_FOR.to_bytes(4, "little")
 
@@ -29,11 +31,19 @@ class RefusingProgram:
         os.chmod(self.path, 0o700)
         with open(self.path, "rb") as file:
             self.places = places_of(SIGN, file.read())
-        if not self.places:
-            raise ValueError(f"{path} was not built by bin/refusing for the allocation {BUILT_FOR}")
+        self.environment = None if self.places else {"LD_PRELOAD": self.built()}
+
+    def built(self):
+        """The library that refuses an allocation of the program."""
+        library = os.path.join(self.folder.name, "refuse.so")
+        subprocess.run([os.environ.get("CC", "cc"), "-O2", "-shared", "-fPIC", "-o", library, SOURCE], check=True)
+        return library
 
     def refuse(self, number):
         """Has the allocation of a number refused in the next runs."""
+        if not self.places:
+            self.environment["REFUSED"] = str(number)
+            return
         with open(self.path, "r+b") as file:
             for place in self.places:
                 file.seek(place)
@@ -49,5 +59,5 @@ class RefusingProgram:
             with open(self.load, "wb") as load:
                 load.write(file)
             words = (*words, "--load", self.load)
-        ended = subprocess.run([self.path, *words], input=data, capture_output=True, check=False)
+        ended = subprocess.run([self.path, *words], input=data, capture_output=True, check=False, env=self.environment)
         return ended.stdout, ended.stderr, ended.returncode

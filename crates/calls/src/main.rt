@@ -3,9 +3,8 @@
 //! Without a word it makes the cases of all groups, with ample memory, and prints how each ended.
 //!
 //! With a word it makes the cases of that group alone: `values`, `questions`, `ample`, `tables`, `sessions`, `planted` or `texts`. The
-//! first two are made for runs in which one allocation is refused. Each byte of standard input takes memory once before the first case, so
-//! that with the Nth allocation of the run refused, the length of the input says which one of the cases it is. What is
-//! printed is the same whether one was refused or not. The status is 0 where no call was refused, and 4 where one was.
+//! first two are made for runs in which one allocation is refused. What is printed is the same whether one of the cases' was refused or
+//! not. The status is 0 where no call was refused, and 4 where one was.
 //!
 //! With the word `free` and no input it prints cases of calls that promise to take no memory. With a case and a number as its
 //! input, as `spans 1000`, it makes the calls of the case so often. After them it takes memory and gives it back until that is
@@ -30,9 +29,7 @@ use crate::refused::{asked, bit_rows, planted, port_sets, sets};
 use crate::tables::{commands, lent, sections, taps};
 use crate::trouble::Trouble;
 use questions::BoxedTable;
-use std::alloc::Global;
 use std::env;
-use std::io::{BufRead, BufReader};
 use std::process::ExitCode;
 use std::rt::Env;
 
@@ -46,24 +43,6 @@ const GROUPS: &[&str] = &[
     "planted",
     "texts",
 ];
-
-/// Takes memory once for each byte of the input, and gives it back.
-fn take_first<R: BufRead>(alloc: Global, input: &mut R) {
-    for _ in 0..u64::MAX {
-        let count = match input.fill_buf() {
-            Ok(shown) => shown.len(),
-            Err(_) => 0,
-        };
-        if count == 0 {
-            return;
-        }
-        for _ in 0..count {
-            let mut taken = Vec::new(alloc);
-            let _ = taken.push(0u8);
-        }
-        input.consume(count);
-    }
-}
 
 /// Prints how a case ended.
 fn tell<R: Print>(rt: &R, name: &str, ended: Result<(), Trouble>) {
@@ -176,7 +155,7 @@ fn word_given<R: Env + AllocGlobal>(rt: &R) -> Option<String> {
     words.next()
 }
 
-/// Makes the cases of a group, or of all, after memory was taken for each byte of the input.
+/// Makes the cases of a group, or of all.
 fn run<R: Print + AllocGlobal>(rt: &R, refusals: &mut Refusals, word: Option<&str>) {
     match word {
         Some(group) => run_of(rt, refusals, group),
@@ -194,9 +173,6 @@ fn main(rt: HostRuntime) -> ExitCode {
     if word == Some("free") {
         free::job::done(&rt, &mut rt.reader());
         return ExitCode::from(0);
-    }
-    if let Ok(mut input) = BufReader::new(rt.alloc(), rt.reader()) {
-        take_first(rt.alloc(), &mut input);
     }
     let mut refusals = Refusals::new();
     run(&rt, &mut refusals, word);

@@ -1,5 +1,4 @@
 //! Why the program ends without an answer.
-use audits::LineFault;
 use fields::WriteFailed;
 use programs::ProgramFault;
 use std::alloc::AllocError;
@@ -8,8 +7,6 @@ use thiserror::Error;
 /// Why the program ends without an answer, with its message.
 #[derive(Debug, Drop, Error)]
 pub(crate) enum Fault<'a> {
-    #[error(transparent)]
-    Line(LineFault),
     #[error(transparent)]
     Program(ProgramFault<'a>),
     /// The word after `--steps`.
@@ -34,7 +31,7 @@ impl Fault<'_> {
     /// The status that the program ends with: 2 or 4.
     pub(crate) fn status(&self) -> u8 {
         match self {
-            Fault::Program(ProgramFault::NoMemory) | Fault::Line(LineFault::NoMemory) => 4,
+            Fault::Program(ProgramFault::NoMemory) => 4,
             _ => 2,
         }
     }
@@ -43,12 +40,6 @@ impl Fault<'_> {
 impl From<AllocError> for Fault<'_> {
     fn from(_error: AllocError) -> Self {
         Fault::Program(ProgramFault::NoMemory)
-    }
-}
-
-impl From<LineFault> for Fault<'_> {
-    fn from(fault: LineFault) -> Self {
-        Fault::Line(fault)
     }
 }
 

@@ -21,7 +21,7 @@ use crate::program::run;
 use std::process::ExitCode;
 
 /// Answers what the words after the program's name ask: `dead [--steps N] FILE`, `compare [--steps N] OLD NEW`,
-/// `tests [--steps N] FILE`, `cover [--steps N] FILE` or `reach [--steps N] FILE HOOK key=value.. by=FIELD`.
+/// `tests [--steps N] FILE`, `cover [--steps N] FILE` or `reach [--steps N] FILE HOOK key=value.. by=FIELD`. `--version` prints the version to standard output.
 ///
 /// `dead` prints a line for each rule that no packet can match, in the order of a listing, with a line that says why, and one
 /// for each of which it isn't known; and then how many there were. `compare` prints a line for each built-in chain: whether both rulesets give each
@@ -37,7 +37,7 @@ use std::process::ExitCode;
 ///
 /// | Status | Cause |
 /// |---|---|
-/// | 0 | no rule is dead; the rulesets are alike; each rule that can match does match a packet of standard input; what becomes of some packets is known |
+/// | 0 | no rule is dead; the rulesets are alike; each rule that can match does match a packet of standard input; what becomes of some packets is known; the version was printed |
 /// | 1 | a rule is dead; a packet gets two verdicts; a rule that can match a packet matches none of standard input |
 /// | 2 | a file cannot be opened, read or restored; standard input fails, or a line of it is no packet; output failed; the words are refused, ask for help or name no subcommand |
 /// | 3 | nothing of this was found, and something isn't known |

@@ -9,10 +9,10 @@ use crate::marks::Marks;
 use crate::outcomes::write_outcomes;
 use crate::packet_input::mark_packets;
 use crate::progress::Progress;
-use audits::{Audit, LineFault, Question};
 use fields::Tap;
 use programs::{
-    ProgramFault, buffered_input, buffered_output, let_go, load, texts_after_name, words_given,
+    Audit, ProgramFault, Question, answer_line, buffered_input, buffered_output, let_go, load,
+    texts_after_name, words_given,
 };
 use questions::BoxedTable;
 use sessions::Session;
@@ -54,12 +54,8 @@ where
 
 // Writes the message of a fault, and answers its status. A message that cannot be written is given up.
 fn report<E: Print>(errors: &E, fault: Fault<'_>) -> u8 {
-    let status = fault.status();
-    let _ = match fault {
-        Fault::Line(LineFault::Refused(error)) => print!(errors; "{error}"),
-        fault => println!(errors; "iptaudit: {fault}"),
-    };
-    status
+    let _ = println!(errors; "iptaudit: {fault}");
+    fault.status()
 }
 
 // The number of steps that a word gives.
@@ -103,7 +99,10 @@ where
     R: Clock + Files + Input + Print + AllocGlobal,
     E: Print + IsTerminal,
 {
-    let audit = Audit::read(rt.alloc(), words)?;
+    let audit = match Audit::read(rt.alloc(), words) {
+        Ok(audit) => audit,
+        Err(fault) => return Ok(answer_line(rt, errors, fault)?),
+    };
     let steps = steps_of(audit.steps)?;
     let mut output = buffered_output(rt.alloc(), io::writer(rt))?;
     let mut asking = Asking::new(rt.alloc(), steps, Progress::new(rt, errors));

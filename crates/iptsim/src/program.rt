@@ -1,7 +1,9 @@
 //! What the program does: it reads its line, restores a file where it is asked to, and does its task.
-use crate::fault::Fault;
-use jobs::{Job, LineFault, Task};
-use programs::{buffered_input, buffered_output, let_go, load, texts_after_name, words_given};
+use crate::fault::status_of;
+use programs::{
+    Job, ProgramFault, Task, answer_line, buffered_input, buffered_output, let_go, load,
+    texts_after_name, words_given,
+};
 use sessions::{Console, Session};
 use std::alloc::Global;
 use std::io::{self, Read, Write};
@@ -16,7 +18,7 @@ where
 {
     match words_given(rt) {
         Ok(words) => run_words(rt, errors, words.as_slice()),
-        Err(fault) => report(errors, Fault::Program(fault)),
+        Err(fault) => report(errors, fault),
     }
 }
 
@@ -28,7 +30,7 @@ where
 {
     let texts = match texts_after_name(rt.alloc(), words) {
         Ok(texts) => texts,
-        Err(error) => return report(errors, Fault::from(error)),
+        Err(error) => return report(errors, ProgramFault::from(error)),
     };
     match run_line(rt, errors, texts.as_slice()) {
         Ok(status) => status,
@@ -37,22 +39,21 @@ where
 }
 
 // Writes the message of a fault, and answers its status. A message that cannot be written is given up.
-fn report<E: Print>(errors: &E, fault: Fault<'_>) -> u8 {
-    let status = fault.status();
-    let _ = match fault {
-        Fault::Line(LineFault::Refused(error)) => print!(errors; "{error}"),
-        fault => println!(errors; "iptsim: {fault}"),
-    };
-    status
+fn report<E: Print>(errors: &E, fault: ProgramFault<'_>) -> u8 {
+    let _ = println!(errors; "iptsim: {fault}");
+    status_of(&fault)
 }
 
 // Does the job of the words, and answers the status of its first part that has a fault.
-fn run_line<'a, R, E>(rt: &R, errors: &E, words: &'a [&'a str]) -> Result<u8, Fault<'a>>
+fn run_line<'a, R, E>(rt: &R, errors: &E, words: &'a [&'a str]) -> Result<u8, ProgramFault<'a>>
 where
     R: Files + Input + Print + AllocGlobal,
     E: Print,
 {
-    let job = Job::read(rt.alloc(), words)?;
+    let job = match Job::read(rt.alloc(), words) {
+        Ok(job) => job,
+        Err(fault) => return answer_line(rt, errors, fault),
+    };
     let mut session = Session::new(rt.alloc())?;
     if let Some(file) = job.load {
         let status = load(rt, errors, &mut session, file)?;
@@ -77,7 +78,7 @@ fn serve<'a, R: Read + Drop, W: Write + Drop>(
     task: Task,
     reader: R,
     writer: W,
-) -> Result<u8, Fault<'a>> {
+) -> Result<u8, ProgramFault<'a>> {
     let mut input = buffered_input(alloc, reader)?;
     let mut output = buffered_output(alloc, writer)?;
     let mut console = Console::new(&mut input, &mut output);

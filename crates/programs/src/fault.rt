@@ -11,6 +11,10 @@ pub enum ProgramFault<'a> {
     /// A word of the program's line is no text.
     #[error("a word is not UTF-8")]
     NotText,
+    #[error("no subcommand")]
+    NoSubcommand,
+    #[error("no file")]
+    NoFile,
     #[error("cannot open {0}")]
     CannotOpen(&'a str),
     #[error("cannot read {0}")]

@@ -1,12 +1,30 @@
-//! What the programs have in common: the words that they are given, files that they restore, buffers, and why they end early.
+//! What the programs have in common: their lines, the words that they are given, files that they restore, buffers, and why they
+//! end early.
+//!
+//! | Line of `iptsim` | Job |
+//! |---|---|
+//! | `session [--load FILE]` | a session from standard input to standard output |
+//! | `restore [--noflush] [--test] [--load FILE]` | a restore from standard input, and the listing that results |
+//!
+//! | Line of `iptaudit` | Audit |
+//! |---|---|
+//! | `dead [--steps N] FILE` | which rules of a ruleset no packet can match |
+//! | `compare [--steps N] OLD NEW` | whether two rulesets give each packet the same verdict |
+//! | `tests [--steps N] FILE` | a packet for each rule |
+//! | `cover [--steps N] FILE` | which rules match none of the packets on standard input |
+//! | `reach [--steps N] FILE WORD..` | what becomes of some packets, by their numbers on a field |
+//!
+//! Either takes `--help` and `--version` in place of a subcommand.
 #![tactic(auto)]
 
 mod buffers;
 mod fault;
 mod files;
+mod line;
 mod words;
 
 pub use buffers::{buffered_input, buffered_output, let_go};
 pub use fault::ProgramFault;
 pub use files::load;
-pub use words::{texts_after_name, words_given};
+pub use line::{Audit, Job, LineFault, Question, Task, VERSION};
+pub use words::{answer_line, texts_after_name, words_given};

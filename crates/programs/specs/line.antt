@@ -1,0 +1,3 @@
+pub mod AuditLine
+pub mod JobLine
+pub mod Line

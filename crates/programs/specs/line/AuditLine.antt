@@ -1,0 +1,95 @@
+-- The line of `iptaudit`, and what `clap` makes of it.
+use Rattle.std.specs.Prelude.{◌≡◌, ◌⊎◌, ⊤, [], codes, map, true, List, Some, None, option_map, unwrap_or}
+use Rattle.clap.specs.Words.{App, IsAmong, Row, Rule, Text, all_of, fault_of, first_of, kind_of, new_app, new_rule, subcommand_of, with_rule, with_subcommand}
+use Rattle.clap.specs.Lexer.{usize_max}
+use Rattle.clap.specs.declared.builder.action.ArgAction.TheVariants.{Append}
+use Rattle.programs.specs.line.Line.{as_program}
+use Rattle.programs.specs.declared.line.audit.Audit.{Audit}
+use Rattle.programs.specs.declared.line.audit.Question.{Question}
+use Rattle.programs.specs.declared.line.audit.Question.TheVariants as questions
+use Rattle.programs.specs.declared.line.fault.LineFault.{LineFault}
+use Rattle.programs.specs.declared.line.fault.LineFault.TheVariants as faults
+
+-- `--steps N`
+abbrev pub steps_rule : Rule
+steps_rule = record (new_rule (codes "steps")) { long = Some (codes "steps"); value_names = 1 }
+
+-- a file, which has to be there
+abbrev pub file_rule : Text → Rule
+file_rule name = record (new_rule name) { required = true; value_names = 1 }
+
+-- `NAME FILE [--steps N]`
+abbrev pub one_file_app : Text → App
+one_file_app name = with_rule (with_rule (new_app name) (file_rule (codes "file"))) steps_rule
+
+-- `compare OLD NEW [--steps N]`
+abbrev pub compare_app : App
+compare_app = with_rule (with_rule (with_rule (new_app (codes "compare")) (file_rule (codes "old"))) (file_rule (codes "new"))) steps_rule
+
+-- one word or more
+abbrev pub words_rule : Rule
+words_rule = record (new_rule (codes "word")) {
+  required = true;
+  action = Some Append;
+  range = Some (record { start_inclusive = 1; end_inclusive = usize_max });
+  value_names = 1;
+}
+
+-- `reach FILE WORD.. [--steps N]`
+abbrev pub reach_app : App
+reach_app = with_rule (with_rule (with_rule (new_app (codes "reach")) (file_rule (codes "file"))) words_rule) steps_rule
+
+-- the program, with its five subcommands
+abbrev pub program_app : App
+program_app = with_subcommand (with_subcommand (with_subcommand (with_subcommand (with_subcommand (as_program (new_app (codes "iptaudit")))
+    (one_file_app (codes "dead")).top) compare_app.top) (one_file_app (codes "tests")).top) (one_file_app (codes "cover")).top) reach_app.top
+
+-- the name of a subcommand that asks about one file
+abbrev pub AsksOneFile : Text → Type 0
+AsksOneFile name = (name ≡ codes "dead") ⊎ (name ≡ codes "tests") ⊎ (name ≡ codes "cover") ⊎ (name ≡ codes "reach")
+
+-- the name of a subcommand
+abbrev pub IsSubcommand : Text → Type 0
+IsSubcommand name = (name ≡ codes "dead") ⊎ (name ≡ codes "compare") ⊎ (name ≡ codes "tests") ⊎ (name ≡ codes "cover") ⊎ (name ≡ codes "reach")
+
+-- the one file of a subcommand of this name
+abbrev pub AsksOf : Text → Text → List Row → Text → Type 0
+AsksOf subcommand name rows file = (name ≡ subcommand) × (Some file ≡ first_of (codes "file") rows)
+
+-- the question of a subcommand, by its name and what was found of its files
+abbrev pub IsQuestion : Text → List Row → Question → Type 0
+IsQuestion name rows (questions.Dead file) = AsksOf (codes "dead") name rows file.now
+IsQuestion name rows (questions.Compare old new) = (name ≡ codes "compare")
+    × (Some old.now ≡ first_of (codes "old") rows) × (Some new.now ≡ first_of (codes "new") rows)
+IsQuestion name rows (questions.Tests file) = AsksOf (codes "tests") name rows file.now
+IsQuestion name rows (questions.Cover file) = AsksOf (codes "cover") name rows file.now
+IsQuestion name rows (questions.Reach file) = AsksOf (codes "reach") name rows file.now
+
+-- a file of a subcommand was not found
+abbrev pub LacksFile : Text → List Row → Type 0
+LacksFile name rows = (AsksOneFile name × (first_of (codes "file") rows ≡ None))
+    ⊎ ((name ≡ codes "compare") × ((first_of (codes "old") rows ≡ None) ⊎ (first_of (codes "new") rows ≡ None)))
+
+-- all that was found under a name
+abbrev pub values_of : Text → List Row → List Text
+values_of name rows = unwrap_or (all_of name rows) []
+
+-- the audit of a subcommand, by its name and what was found of its files, its option and its words
+abbrev pub IsAuditOf : Text → List Row → Audit → Type 0
+IsAuditOf name rows audit = IsQuestion name rows audit.question
+    × (option_map (λ s. s.now) audit.steps ≡ first_of (codes "steps") rows)
+    × (map (λ s. s.now) audit.words.items ≡ values_of (codes "word") rows)
+
+-- `clap` takes the words, and the audit is what it makes of them
+abbrev pub IsAuditOn : List Text → Audit → Type 0
+IsAuditOn words audit = (fault_of program_app words ≡ [])
+    × (met : Text × List Row) × (subcommand_of program_app words ≡ Some met) × IsAuditOf met.0 met.1 audit
+
+-- why the words are no audit: `clap` takes them and they name no subcommand or give no file, or it refuses them with an
+-- error of this kind; nothing is said of memory
+abbrev pub IsFaultOn : List Text → LineFault → Type 0
+IsFaultOn words faults.NoMemory = ⊤
+IsFaultOn words faults.NoSubcommand = (fault_of program_app words ≡ []) × (subcommand_of program_app words ≡ None)
+IsFaultOn words faults.NoFile = (fault_of program_app words ≡ [])
+    × (met : Text × List Row) × (subcommand_of program_app words ≡ Some met) × LacksFile met.0 met.1
+IsFaultOn words (faults.Refused error) = IsAmong (kind_of error) (fault_of program_app words)
