@@ -2,7 +2,7 @@
 
 import packet_words
 from findings import of_fault, text_of
-from meant import RESTORE_OPTIONS, meant
+from meant import COMMANDS, RESTORE_OPTIONS, meant
 from program import FAULT, Fault, words_of
 from refused import COUNTERS, SESSION_WORDS, Question, locate
 
@@ -33,16 +33,23 @@ def of_session(line, code):
         return words[-1][2:]
     if code == "S2":
         return restore_word(words)
-    if code == "S1" or len(words) == 1:
+    if code in ("S1", "C1", "R1") or len(words) == 1:
         return words[0]
     return words[2] if (code, words[0]) == ("C3", b"lines") else words[1]
 
 
-def command_of(line):
+def is_of_restore(words, code):
+    """Whether a line that begins with `iptables` must be one of a restore, where it is no command, by its fault."""
+    return code in ("R1", "R2", "R3") or code == "C1" and len(words) > 1 and words[1].value in COMMANDS
+
+
+def command_of(line, code):
     """What is asked of a line with a command: what stands after `iptables`, or after counters, or a line of a restore as it is."""
     words = words_of(line)
     if words and COUNTERS.fullmatch(words[0].value):
         return line[words[0].end:]
+    if words and is_of_restore(words, code):
+        return line
     return line.lstrip(b" \t")[len(kind_of(line)):].lstrip(b" \t")
 
 
@@ -52,7 +59,7 @@ def is_command(line, code):
 
 def of_commands(items, chains):
     """The findings of lines with commands, by their places among the items."""
-    asked = [(place, item, Question(item[0], command_of(item[1]), (), None)) for place, item in enumerate(items)
+    asked = [(place, item, Question(item[0], command_of(item[1], item[2].code), (), None)) for place, item in enumerate(items)
              if is_command(item[1], item[2].code)]
     found = locate([(question, item[2]) for _, item, question in asked])
     for (place, (number, line, fault), _), search in zip(asked, found):

@@ -44,7 +44,7 @@ def examine(data):
     if whole:
         return [whole], []
     first = first_fault(lines)
-    reading = Reading(lines, first.number if first else 0)
+    reading = Reading(lines, first.number if first else None)
     if not reading.sections and not reading.notes:
         return [*notes, (None, b"has no section *filter: a dump is what iptables-save writes.")], []
     if reading.notes:

@@ -11,10 +11,8 @@ def is_for_ipv6(line):
     """Whether a line of a section is a rule for IPv6 alone. A word that another option takes as its value says nothing."""
     if not any(option in line for option in OPTIONS):
         return False
-    words = words_of(line) or ()
-    values = [word.value for word in words]
-    places = [place for place, word in enumerate(words) if line[word.start:word.end] in OPTIONS]
-    return any(not extensions.takes_values(values[place - 1]) for place in places if place > 1)
+    values = [word.value for word in words_of(line) or ()]
+    return any(value in OPTIONS and not extensions.takes_values(before) for before, value in zip(values[1:], values[2:]))
 
 
 def of_ipv6(lines):

@@ -15,10 +15,11 @@ LEVELS = (b"emerg", b"alert", b"crit", b"error", b"warning", b"notice", b"info",
 KNOWN = [owner for owner in extensions.EXTENSIONS if owner.kind != "command" and (owner.kind == "rule" or extensions.is_known(owner))]
 OPTIONS = [name for owner in KNOWN for option in owner.options if option.place == "=" for name in option.names if name[:2] == b"--"]
 MATCHES = [owner.name for owner in KNOWN if owner.kind == "match"]
-COMMANDS = [name for option in extensions.COMMAND.options[:12] for name in option.names if name[:2] == b"--"]
+SHORT_COMMANDS = (b"-A", b"-I", b"-R", b"-D", b"-C", b"-F", b"-N", b"-X", b"-P", b"-E", b"-S")
+COMMANDS = [name for option in extensions.COMMAND.options if option.names[0] in SHORT_COMMANDS for name in option.names]
 # What may stand where a fault has this code; of P3 and F3 by the option or key whose value it is.
-NAMES = {"C1": COMMANDS, "C4": (b"filter",), "P1": OPTIONS, "P7": MATCHES, "T16": POLICIES, "S1": SESSION_WORDS, "S2": RESTORE_OPTIONS,
-         "F1": PACKET_KEYS}
+NAMES = {"C1": [name for name in COMMANDS if name[:2] == b"--"], "C4": (b"filter",), "P1": OPTIONS, "P7": MATCHES, "T16": POLICIES,
+         "S1": SESSION_WORDS, "S2": RESTORE_OPTIONS, "F1": PACKET_KEYS}
 VALUES = {
     **dict.fromkeys((b"-p", b"--protocol", b"proto"), tuple(OWN_PROTOCOLS)),
     **dict.fromkeys((b"--ctstate", b"ct"), STATES), b"--state": STATES[:5],
@@ -29,13 +30,16 @@ VALUES = {
 }
 
 
+def folded(name):
+    """What is compared of a name: no case, and no `-` before it, since all options have that."""
+    return name.lower().lstrip(b"-").decode("latin-1")
+
+
 def nearest(word, names):
     """The name that a word is in another case, or else the one that is most like it; empty where none is."""
-    folded = {}
-    for name in names:
-        folded.setdefault(name.lower().decode("latin-1"), name)
-    found = difflib.get_close_matches(word.lower().decode("latin-1"), folded, 1)
-    return folded[found[0]] if found and folded[found[0]] != word else b""
+    by_form = {folded(name): name for name in reversed(list(names)) if name.startswith(b"-") == word.startswith(b"-")}
+    found = difflib.get_close_matches(folded(word), by_form, 1)
+    return by_form[found[0]] if found and by_form[found[0]] != word else b""
 
 
 def nearest_of_list(text, names):
@@ -55,6 +59,6 @@ def meant(code, option, word, chains):
     name, equal, value = word.partition(b"=")
     if code == "P1" and equal and name in OPTIONS:
         return name + b" " + value
-    if code == "S1" and extensions.exact(word, [extensions.COMMAND]):
+    if code == "S1" and word in COMMANDS:
         return b"iptables " + word
     return nearest(word, NAMES.get(code, ()))

@@ -14,7 +14,7 @@ SCRIPTS = os.path.dirname(os.path.dirname(os.path.realpath(__file__)))
 TOP = os.path.dirname(SCRIPTS)
 IS_INSTALLED = SCRIPTS.split(os.sep)[-2:] == ["lib", "iptsim"]
 PROGRAMS = ("iptsim", "iptaudit")
-SLOW = """{called}: {command} runs {name}, which is not proved and slow: 8,192 rules take it 22 to 110 s, and the proved program 0.15 s.
+SLOW = """{called}: {command} runs {name} without a proof, and slowly: 8,192 rules take iptsim 22 to 110 s so, and 0.15 s where it is proved.
 {called}: install an archive of a release, or have {proved} prove and build the program once, which takes about an hour.
 """
 

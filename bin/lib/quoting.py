@@ -17,8 +17,7 @@ def quoted(value):
 def whole_word(before, within):
     """A word with a quote in it as the program takes it: of an option with `=` of a match or target the option and its value."""
     name, value = before[:-1], re.sub(rb"(?s)\\(.)", rb"\1", within)
-    own = [extensions.RULE, extensions.COMMAND]
-    if before.startswith(b"--") and before.endswith(b"=") and not extensions.exact(name, own) and not extensions.begun(name, own):
+    if before.startswith(b"--") and before.endswith(b"=") and not extensions.begun(name, [extensions.RULE, extensions.COMMAND]):
         return name + b" " + quoted(value)
     return quoted(before + value)
 

@@ -54,7 +54,8 @@ def filter_lines(lines):
 
 
 class Reading:
-    """The questions about the lines of a dump, in one session. Lines before `first` are known to be accepted."""
+    """The questions about the lines of a dump, in one session. Lines before `first` are known to be accepted, and all where it is None:
+    then no line of a section is asked."""
 
     def __init__(self, lines, first):
         self.session, self.questions, self.notes = Session(), [], []
@@ -88,7 +89,7 @@ class Reading:
             self.open(number, line, section_of(line))
         elif self.section is None:
             self.question(number, line, self.session.restore([line], b"-t"))
-        elif self.section == b"filter":
+        elif self.section == b"filter" and self.first is not None:
             self.read_in_filter(number, line, words_of(line))
 
     def open(self, number, line, name):

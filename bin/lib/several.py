@@ -4,7 +4,7 @@ import collections
 
 from findings import Finding, text_of
 from program import words_of
-from refused import BUILT_IN, COUNTERS, section_of
+from refused import BUILT_IN, section_of
 
 # A line with its place, by which it is named.
 Row = collections.namedtuple("Row", "file number line")
@@ -40,10 +40,7 @@ class Section:
         self.earlier = self.made | self.lined if self.rows else set()
 
     def add(self, row):
-        words = words_of(row.line) or []
-        values = [word.value for word in words]
-        if values and COUNTERS.fullmatch(values[0]):
-            values = values[1:]
+        values = [word.value for word in words_of(row.line) or ()]
         if values and values[0].startswith(b":"):
             self.add_chain(row, values[0][1:], values[1:2])
             return
