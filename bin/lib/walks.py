@@ -5,6 +5,7 @@ import os
 import re
 
 from at_fault import explained
+from families import for_ipv4
 from places import command
 from program import Session, lines_of, read, words_of
 
@@ -86,7 +87,7 @@ class Answers:
     `blamed` makes a complaint of the place of a packet line, from 0, and why it is refused."""
 
     def __init__(self, name, packets, blamed):
-        lines = lines_of(read(name))
+        lines = for_ipv4(lines_of(read(name)))
         session = Session()
         restore = session.restore(lines)
         session.ask(b"iptables -S")
