@@ -4,9 +4,8 @@ use crate::line::LineFault;
 use clap::Error;
 use clap::error::ErrorKind;
 use std::alloc::{AllocError, Global};
-use std::env;
-use std::io::ErrorKind;
 use std::rt::Env;
+use std::{env, io};
 
 /// The words of the program's line, of which its name is the first.
 ///
@@ -16,7 +15,7 @@ use std::rt::Env;
 pub fn words_given<R: Env + AllocGlobal>(rt: &R) -> Result<Vec<String>, ProgramFault<'static>> {
     match env::args(rt) {
         Ok(words) => Ok(words.collect(rt.alloc())?),
-        Err(error) if error.kind() == ErrorKind::OutOfMemory => Err(ProgramFault::NoMemory),
+        Err(error) if error.kind() == io::ErrorKind::OutOfMemory => Err(ProgramFault::NoMemory),
         Err(_) => Err(ProgramFault::NotText),
     }
 }
