@@ -1,20 +1,28 @@
 //! The program `iptaudit`: questions about all packets, asked of files of iptables-restore.
 #![tactic(auto)]
 
+mod answers;
 mod asked_packets;
 mod asking;
+mod assumptions;
 mod deciding;
 mod difference;
+mod difference_entry;
+mod document;
 mod each_rule;
 mod fault;
 mod marks;
+mod memory_text;
+mod names;
 mod outcomes;
 mod packet_input;
 mod packet_line;
 mod program;
 mod progress;
+mod reason_entry;
 mod reason_line;
 mod rule_line;
+mod rules_answer;
 mod tally;
 
 use crate::program::run;
