@@ -73,12 +73,13 @@ DOCUMENTS = {
         (["R"], {"R": TAKERS}, b"", 1, {
             "rules": [
                 rule("INPUT", 8, "-p tcp -j a", "dead", reason=taken(step("INPUT", 1, verdict="DROP"))),
-                rule("a", 2, "-j ACCEPT", "dead", standing="shadowed",
-                     reason=taken(step("a", 1, verdict="DROP"), *(step("INPUT", number, verdict="DROP") for number in range(1, 8))))],
+                rule("a", 2, "-j ACCEPT", "dead",
+                     reason=taken(step("a", 1, verdict="DROP"), *(step("INPUT", number, verdict="DROP") for number in range(1, 8))),
+                     standing="shadowed")],
             "counts": counts(11, 2, 0, 0, 1)}),
         (["R"], {"R": RETURNED}, b"", 1, {
-            "rules": [rule("a", 2, "-p tcp -j ACCEPT", "dead", standing="shadowed",
-                           reason=taken(policies=[("INPUT", "DROP"), ("FORWARD", "ACCEPT")]))],
+            "rules": [rule("a", 2, "-p tcp -j ACCEPT", "dead", reason=taken(policies=[("INPUT", "DROP"), ("FORWARD", "ACCEPT")]),
+                           standing="shadowed")],
             "counts": counts(4, 1, 0, 0, 1)}),
         (["R"], {"R": REJECTED}, b"", 1, {
             "rules": [
@@ -106,7 +107,7 @@ DOCUMENTS = {
             "hooks": [
                 {"hook": "INPUT", "answer": "same"},
                 {"hook": "FORWARD", "answer": "differs",
-                 "packet": "packet FORWARD src=192.0.2.1 dst=198.51.100.1 in=eth0 out=eth1 proto=1 icmp=8/0 ct=NEW ttl=64",
+                 "packet": "packet FORWARD src=192.0.2.1 dst=198.51.100.1 in=eth0 out=eth0 proto=1 icmp=8/0 ct=NEW ttl=64",
                  "old": {"trail": [step("FORWARD", 1), step("a", 1)], "verdict": "REJECT icmp-port-unreachable", "by": step("a", 1)},
                  "new": {"trail": [step("FORWARD", 1), step("FORWARD", 2)], "verdict": "ACCEPT", "by": {"policy": "FORWARD"}}},
                 {"hook": "OUTPUT", "answer": "same"}]}),
@@ -119,9 +120,9 @@ DOCUMENTS = {
                       rule("INPUT", 3, NAMES, "live", packet=NAME_PACKET)]}),
         (["--steps", "0", "R"], {"R": WITHOUT}, b"", 3, {
             "rules": [rule("INPUT", 1, WEB, "unclear"), rule("INPUT", 2, NAMES, "unclear")]}),
-        (["R"], {"R": ruleset(b"INPUT -i \"a b\" -p icmp -j DROP")}, b"", 0, {
-            "rules": [rule("INPUT", 1, "-i \"a b\" -p icmp -j DROP", "live",
-                           packet="packet INPUT src=192.0.2.1 dst=198.51.100.1 \"in=a b\" proto=1 icmp=8/0 ct=NEW ttl=64")]}),
+        (["R"], {"R": ruleset(b"INPUT -i \"a'b\" -p icmp -j DROP")}, b"", 0, {
+            "rules": [rule("INPUT", 1, "-i a'b -p icmp -j DROP", "live",
+                           packet="packet INPUT src=192.0.2.1 dst=198.51.100.1 \"in=a\\'b\" proto=1 icmp=8/0 ct=NEW ttl=64")]}),
     ],
     "cover": [
         (["R"], {"R": GATEWAY}, b"# Is the gateway reached?\n" + LOGIN, 1, {
