@@ -154,6 +154,7 @@ def document_rows(rows):
         for words, files, given, status, document in table:
             words = [question, "--json", *words]
             rows.row(" ".join(words), words, files, document_of(question, document), status, input=given)
+    rows.row("cover --json, a line that is no packet", ["cover", "--json", "R"], {"R": GATEWAY}, b"", 2, b"line 1: S1 unknown line\n", input=b"boom")
 
 
 def schema_rows():
