@@ -1,15 +1,21 @@
 //! What the rules and policies do that decide.
 use fields::Hook;
 use questions::Takers;
-use rules::Target;
+use rules::{Rule, Target};
+use serde::Serialize;
 use table::{Policy, Step, Table, Verdict};
 
-/// The verdict of a rule that decides; none of one that sends packets on.
-pub(crate) fn verdict_of(table: &Table, at: Step) -> Option<Verdict> {
+/// The rule that stands there, if there is one.
+pub(crate) fn rule_at(table: &Table, at: Step) -> Option<&Rule> {
     if at.chain >= table.chain_count() || at.number == 0 || at.number > table.rule_count(at.chain) {
         return None;
     }
-    match table.rule(at.chain, at.number).target() {
+    Some(table.rule(at.chain, at.number))
+}
+
+/// The verdict of a rule that decides; none of one that sends packets on.
+pub(crate) fn verdict_of(table: &Table, at: Step) -> Option<Verdict> {
+    match rule_at(table, at)?.target() {
         Some(Target::Accept) => Some(Verdict::Accept),
         Some(Target::Drop) => Some(Verdict::Drop),
         Some(Target::Reject(kind)) => Some(Verdict::Reject(kind)),
@@ -31,7 +37,8 @@ pub(crate) fn policy_of(table: &Table, hook: Hook) -> Verdict {
 }
 
 /// What a dead rule is whose packets others decide.
-#[derive(Clone, Copy)]
+#[derive(Clone, Copy, Serialize)]
+#[serde(rename_all = "snake_case")]
 pub(crate) enum Standing {
     /// All of them do what it would do.
     Redundant,

@@ -2,12 +2,54 @@
 use crate::asking::Asking;
 use crate::fault::Fault;
 use crate::packet_line::put_packet;
+use crate::tally::status;
 use fields::{Hook, Packet, Tap, Words};
 use questions::{BoxedTable, Likeness};
 use sessions::write_walk;
+use std::alloc::AllocError;
 use std::io::{IsTerminal, Write};
 use std::rt::Clock;
 use table::Table;
+
+/// What is known of the packets at a hook.
+#[derive(Drop)]
+pub(crate) struct HookLikeness {
+    pub(crate) hook: Hook,
+    pub(crate) likeness: Likeness,
+}
+
+/// Asks of each hook whether two tables give each packet there the same verdict.
+///
+/// # Errors
+///
+/// `AllocError` where memory was refused.
+pub(crate) fn ask_hooks<R: Clock, E: Print + IsTerminal>(
+    asking: &mut Asking<'_, R, E>,
+    old: &BoxedTable,
+    new: &BoxedTable,
+) -> Result<Vec<HookLikeness>, AllocError> {
+    asking.begin(Hook::ALL.len());
+    let mut found = Vec::new(asking.alloc());
+    for hook in Hook::ALL {
+        asking.next();
+        let likeness = asking.likeness(old, new, hook)?;
+        found.push(HookLikeness { hook, likeness })?;
+    }
+    Ok(found)
+}
+
+/// The status: 1 where some packet gets two verdicts, else 3 where it isn't known at some hook, else 0.
+pub(crate) fn likeness_status(found: &[HookLikeness]) -> u8 {
+    let (mut differ, mut unclear) = (false, false);
+    for entry in found {
+        match entry.likeness {
+            Likeness::Same => {}
+            Likeness::Differ(_) => differ = true,
+            Likeness::Unclear => unclear = true,
+        }
+    }
+    status(differ, unclear)
+}
 
 // Writes what a table does with a packet, below a heading.
 fn put_walk<'a, W: Write>(
@@ -29,6 +71,7 @@ fn put_difference<'a, W: Write>(
     output: &mut Tap<W>,
 ) -> Result<(), Fault<'a>> {
     put_packet(words, output)?;
+    output.put(b"\n")?;
     if let Ok(packet) = Packet::read(words, 0) {
         put_walk(b"old:\n", old, &packet, output)?;
         put_walk(b"new:\n", new, &packet, output)?;
@@ -36,55 +79,27 @@ fn put_difference<'a, W: Write>(
     Ok(())
 }
 
-// Writes what is known of the packets at a hook: `INPUT same`, `INPUT unclear`, or `INPUT differs` and a packet.
-fn put_likeness<'a, W: Write>(
-    old: &Table,
-    new: &Table,
-    hook: Hook,
-    likeness: &Likeness,
-    output: &mut Tap<W>,
-) -> Result<(), Fault<'a>> {
-    output.put(hook.name())?;
-    match likeness {
-        Likeness::Same => output.put(b" same\n")?,
-        Likeness::Differ(words) => {
-            output.put(b" differs\n")?;
-            put_difference(old, new, words, output)?;
-        }
-        Likeness::Unclear => output.put(b" unclear\n")?,
-    }
-    Ok(())
-}
-
-/// Writes of each hook whether two tables give each packet there the same verdict, and answers the status: 1 where they
-/// don't at some hook, else 3 where it isn't known at some, else 0.
+/// Writes what is known of the packets at each hook, as lines: `INPUT same`, `INPUT unclear`, or `INPUT differs` and a packet.
 ///
 /// # Errors
 ///
 /// Where memory was refused, or a write failed.
-pub(crate) fn write_differences<'a, R: Clock, E: Print + IsTerminal, W: Write>(
-    asking: &mut Asking<'_, R, E>,
-    old: &BoxedTable,
-    new: &BoxedTable,
+pub(crate) fn put_likenesses<'a, W: Write>(
+    old: &Table,
+    new: &Table,
+    found: &[HookLikeness],
     output: &mut Tap<W>,
-) -> Result<u8, Fault<'a>> {
-    asking.begin(Hook::ALL.len());
-    let (mut differ, mut unclear) = (false, false);
-    for hook in Hook::ALL {
-        asking.next();
-        let likeness = asking.likeness(old, new, hook)?;
-        put_likeness(&old.table, &new.table, hook, &likeness, output)?;
-        match likeness {
-            Likeness::Same => {}
-            Likeness::Differ(_) => differ = true,
-            Likeness::Unclear => unclear = true,
+) -> Result<(), Fault<'a>> {
+    for entry in found {
+        output.put(entry.hook.name())?;
+        match &entry.likeness {
+            Likeness::Same => output.put(b" same\n")?,
+            Likeness::Differ(words) => {
+                output.put(b" differs\n")?;
+                put_difference(old, new, words, output)?;
+            }
+            Likeness::Unclear => output.put(b" unclear\n")?,
         }
     }
-    Ok(if differ {
-        1
-    } else if unclear {
-        3
-    } else {
-        0
-    })
+    Ok(())
 }

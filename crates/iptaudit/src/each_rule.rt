@@ -3,27 +3,24 @@ ghost use Rattle.std.specs.Prelude.{◌<◌, ◌≤◌, length};
 ghost use Rattle.table.specs.chains.Table.{chain_at};
 
 use crate::asking::Asking;
-use crate::deciding::standing_of;
-use crate::fault::Fault;
+use crate::deciding::{Standing, standing_of};
 use crate::marks::Marks;
-use crate::packet_line::put_packet;
-use crate::reason_line::put_reason;
-use crate::rule_line::put_rule;
 use crate::tally::Tally;
-use fields::{Tap, WriteFailed};
+use fields::Words;
 use questions::{BoxedTable, Life, Reason};
-use std::io::{IsTerminal, Write};
+use std::alloc::AllocError;
+use std::io::IsTerminal;
 use std::rt::Clock;
 use table::{Step, Table};
 
-/// What is written of the rules.
+/// What is asked of the rules.
 #[derive(Clone, Copy)]
 pub(crate) enum Form<'a> {
-    /// Those that no packet can match.
+    /// Which no packet can match, and why.
     Dead,
-    /// A session with a packet for each.
+    /// A packet for each.
     Tests,
-    /// Those that match none of some packets, by the marks that these left.
+    /// Which match none of some packets, by the marks that these left.
     Cover(&'a Marks),
 }
 
@@ -36,129 +33,128 @@ impl<'a> Form<'a> {
         }
     }
 
-    // Whether it is written why a rule is dead.
+    // Whether it is asked why a rule is dead.
     fn has_reasons(self) -> bool {
         matches!(self, Form::Dead)
     }
 
-    // What stands before a rule of which this is known; there is no line of a rule that isn't asked for.
-    fn words_before(self, life: &Life) -> Option<&'static [u8]> {
-        match (self, life) {
-            (Form::Dead, Life::Live(_)) => None,
-            (Form::Tests, Life::Live(_)) => Some(b"# ".as_slice()),
-            (Form::Cover(_), Life::Live(_)) => Some(b"missed ".as_slice()),
-            (Form::Tests, Life::Dead) => Some(b"# dead ".as_slice()),
-            (Form::Dead | Form::Cover(_), Life::Dead) => Some(b"dead ".as_slice()),
-            (Form::Tests, Life::Unclear) => Some(b"# unclear ".as_slice()),
-            (Form::Dead | Form::Cover(_), Life::Unclear) => Some(b"unclear ".as_slice()),
-        }
-    }
-
-    // Writes what is known of a rule, and the packet that matches it where there is one.
-    fn put<W: Write>(
-        self,
-        table: &Table,
-        at: Step,
-        life: &Life,
-        output: &mut Tap<W>,
-    ) -> Result<(), WriteFailed>
-        requires place { at.chain < length table.now.table.chains }
-        requires first { 0 < at.number }
-        requires last { at.number ≤ length (chain_at table.now.table at.chain).rules }
-    {
-        let Some(before) = self.words_before(life) else {
-            return Ok(());
-        };
-        put_rule(table, before, at, output)?;
-        match life {
-            Life::Live(words) => put_packet(words, output),
-            Life::Dead | Life::Unclear => Ok(()),
-        }
-    }
-
-    // Writes what stands after the last rule, and answers the status.
-    fn end<W: Write>(self, tally: &Tally, output: &mut Tap<W>) -> Result<u8, WriteFailed> {
+    // Whether a rule of which this is known stands in the answer.
+    fn has(self, known: &Known) -> bool {
         match self {
-            Form::Dead => {
-                tally.put(output)?;
-                Ok(tally.status())
-            }
-            Form::Tests => Ok(tally.status()),
-            Form::Cover(_) => {
-                tally.put_coverage(output)?;
-                Ok(tally.coverage_status())
-            }
+            Form::Dead => !matches!(known, Known::Live(_)),
+            Form::Tests | Form::Cover(_) => true,
+        }
+    }
+
+    /// The status of an answer.
+    pub(crate) fn status(self, tally: &Tally) -> u8 {
+        match self {
+            Form::Dead | Form::Tests => tally.status(),
+            Form::Cover(_) => tally.coverage_status(),
         }
     }
 }
 
-// Counts what a dead rule is beside those who decide its packets.
-fn note_standing(table: &Table, at: Step, reason: &Reason, tally: &mut Tally) {
-    if let Reason::Taken(takers) = reason {
-        if let Some(standing) = standing_of(table, at, takers) {
-            tally.note_standing(standing);
+/// What is known of a rule.
+#[derive(Drop)]
+pub(crate) enum Known {
+    /// It matches a packet that was given.
+    Covered,
+    /// It matches the packet that these words write.
+    Live(Words),
+    /// It matches none; and why, if that is known and was asked.
+    Dead(Option<Reason>),
+    Unclear,
+}
+
+// Puts the rules of a reason into the order of a listing, but for those of the chain at a place, which come first.
+fn put_in_order(reason: &mut Reason, place: usize) {
+    let rules = match reason {
+        Reason::Excluded(ways) => ways,
+        Reason::Taken(takers) => &mut takers.rules,
+        Reason::Impossible(_) | Reason::Unreached | Reason::NoPacket => return,
+    };
+    rules.sort_unstable_by_key(|rule| (rule.chain != place, rule.chain, rule.number));
+}
+
+impl Known {
+    /// What the rule is beside those who decide its packets, where these are known.
+    pub(crate) fn standing(&self, table: &Table, at: Step) -> Option<Standing> {
+        match self {
+            Known::Dead(Some(Reason::Taken(takers))) => standing_of(table, at, takers),
+            _ => None,
         }
     }
 }
 
-// Writes why a rule that is dead is so, if that is known and asked for.
-fn write_reason<'a, R: Clock, E: Print + IsTerminal, W: Write>(
-    asking: &Asking<'_, R, E>,
-    subject: &BoxedTable,
-    form: Form<'_>,
-    at: Step,
-    tally: &mut Tally,
-    output: &mut Tap<W>,
-) -> Result<(), Fault<'a>>
-    requires place { at.chain < length subject.now.table.table.chains }
-    requires first { 0 < at.number }
-    requires last { at.number ≤ length (chain_at subject.now.table.table at.chain).rules }
-{
-    if form.has_reasons() {
-        if let Some(reason) = asking.reason(subject, at)? {
-            note_standing(&subject.table, at, &reason, tally);
-            put_reason(&subject.table, at.chain, &reason, output)?;
-        }
-    }
-    Ok(())
+/// A rule, and what is known of it.
+#[derive(Drop)]
+pub(crate) struct FoundRule {
+    pub(crate) at: Step,
+    pub(crate) known: Known,
 }
 
-// Asks of a rule, and writes what is known of it.
-fn write_rule<'a, R: Clock, E: Print + IsTerminal, W: Write>(
+/// The rules that stand in an answer, and how many there are of each kind.
+#[derive(Drop)]
+pub(crate) struct Found {
+    pub(crate) rules: Vec<FoundRule>,
+    pub(crate) tally: Tally,
+}
+
+impl Found {
+    // Takes in what is known of a rule.
+    fn add(
+        &mut self,
+        table: &Table,
+        form: Form<'_>,
+        at: Step,
+        known: Known,
+    ) -> Result<(), AllocError> {
+        self.tally.note(&known, known.standing(table, at));
+        if form.has(&known) {
+            self.rules.push(FoundRule { at, known })?;
+        }
+        Ok(())
+    }
+}
+
+// Asks of a rule. One that a packet matches that was given needn't be asked of.
+fn ask_rule<R: Clock, E: Print + IsTerminal>(
     asking: &mut Asking<'_, R, E>,
     subject: &BoxedTable,
     form: Form<'_>,
     at: Step,
-    tally: &mut Tally,
-    output: &mut Tap<W>,
-) -> Result<(), Fault<'a>>
+) -> Result<Known, AllocError>
     requires place { at.chain < length subject.now.table.table.chains }
     requires first { 0 < at.number }
     requires last { at.number ≤ length (chain_at subject.now.table.table at.chain).rules }
 {
     asking.next();
     if form.is_covered(at) {
-        tally.note_covered();
-        return Ok(());
+        return Ok(Known::Covered);
     }
-    let life = asking.life(subject, at)?;
-    tally.note(&life);
-    form.put(&subject.table, at, &life, output)?;
-    match life {
-        Life::Dead => write_reason(asking, subject, form, at, tally, output),
-        Life::Live(_) | Life::Unclear => Ok(()),
+    match asking.life(subject, at)? {
+        Life::Live(words) => Ok(Known::Live(words)),
+        Life::Dead if form.has_reasons() => {
+            let mut reason = asking.reason(subject, at)?;
+            if let Some(reason) = &mut reason {
+                put_in_order(reason, at.chain);
+            }
+            Ok(Known::Dead(reason))
+        }
+        Life::Dead => Ok(Known::Dead(None)),
+        Life::Unclear => Ok(Known::Unclear),
     }
 }
 
 // Asks of each rule of the chain at a place.
-fn write_chain<'a, R: Clock, E: Print + IsTerminal, W: Write>(
+fn ask_chain<R: Clock, E: Print + IsTerminal>(
     asking: &mut Asking<'_, R, E>,
     subject: &BoxedTable,
     form: Form<'_>,
     place: usize,
-    tally: &mut Tally,
-    output: &mut Tap<W>,
-) -> Result<(), Fault<'a>>
+    found: &mut Found,
+) -> Result<(), AllocError>
     requires { place < length subject.now.table.table.chains }
 {
     for before in 0..subject.table.rule_count(place) {
@@ -166,7 +162,8 @@ fn write_chain<'a, R: Clock, E: Print + IsTerminal, W: Write>(
             chain: place,
             number: before + 1,
         };
-        write_rule(asking, subject, form, at, tally, output)?;
+        let known = ask_rule(asking, subject, form, at)?;
+        found.add(&subject.table, form, at, known)?;
     }
     Ok(())
 }
@@ -180,22 +177,23 @@ fn rules_of(table: &Table) -> usize {
     rules
 }
 
-/// Asks of each rule of a table, in the order of a listing, and writes what is known of it, in one of the forms; and answers
-/// the status. A rule that a packet matches that was given isn't asked of.
+/// Asks of each rule of a table, in the order of a listing.
 ///
 /// # Errors
 ///
-/// Where memory was refused, or a write failed.
-pub(crate) fn write_rules<'a, R: Clock, E: Print + IsTerminal, W: Write>(
+/// `AllocError` where memory was refused.
+pub(crate) fn ask_rules<R: Clock, E: Print + IsTerminal>(
     asking: &mut Asking<'_, R, E>,
     subject: &BoxedTable,
     form: Form<'_>,
-    output: &mut Tap<W>,
-) -> Result<u8, Fault<'a>> {
+) -> Result<Found, AllocError> {
     asking.begin(rules_of(&subject.table));
-    let mut tally = Tally::new();
+    let mut found = Found {
+        rules: Vec::new(asking.alloc()),
+        tally: Tally::new(),
+    };
     for place in 0..subject.table.chain_count() {
-        write_chain(asking, subject, form, place, &mut tally, output)?;
+        ask_chain(asking, subject, form, place, &mut found)?;
     }
-    Ok(form.end(&tally, output)?)
+    Ok(found)
 }

@@ -1,27 +1,36 @@
 //! The program `iptaudit`: questions about all packets, asked of files of iptables-restore.
 #![tactic(auto)]
 
+mod answers;
 mod asked_packets;
 mod asking;
+mod assumptions;
 mod deciding;
 mod difference;
+mod difference_entry;
+mod document;
 mod each_rule;
 mod fault;
 mod marks;
+mod memory_text;
+mod names;
 mod outcomes;
 mod packet_input;
 mod packet_line;
 mod program;
 mod progress;
+mod reason_entry;
 mod reason_line;
 mod rule_line;
+mod rules_answer;
 mod tally;
 
 use crate::program::run;
 use std::process::ExitCode;
 
-/// Answers what the words after the program's name ask: `dead [--steps N] FILE`, `compare [--steps N] OLD NEW`,
-/// `tests [--steps N] FILE`, `cover [--steps N] FILE` or `reach [--steps N] FILE HOOK key=value.. by=FIELD`. `--version` prints the version to standard output.
+/// Answers what the words after the program's name ask: `dead FILE`, `compare OLD NEW`, `tests FILE`, `cover FILE` or
+/// `reach FILE HOOK key=value.. by=FIELD`, each with `--steps N` and `--json` where they are wanted. `--version` prints the version
+/// to standard output.
 ///
 /// `dead` prints a line for each rule that no packet can match, in the order of a listing, with a line that says why, and one
 /// for each of which it isn't known; and then how many there were. `compare` prints a line for each built-in chain: whether both rulesets give each
@@ -29,11 +38,12 @@ use std::process::ExitCode;
 /// rule a comment that names it, and a packet that it matches. `cover` reads packets from standard input, as lines of a
 /// session, and prints of each rule that matches none of them whether there is a packet that it matches, and which; and then
 /// how many rules there were of each kind. `reach` prints what becomes of some packets: of each verdict and what decides, the
-/// numbers of their packets on a field.
+/// numbers of their packets on a field. With `--json` an answer is one JSON document.
 ///
-/// Answers go to standard output. A fault in a file or in a packet goes to standard error, as `line N: CODE text`, and so does
-/// each message of the program itself. Where standard error is a terminal, it is told once a second how many questions are
-/// asked so far: one for each rule, or for each built-in chain.
+/// Answers go to standard output. A line `# iptsim-fit: ..` of a file goes to standard error as it stands, when it is read. A
+/// fault in a file or in a packet goes there, as `line N: CODE text`, and so does each message of the program itself. Where
+/// standard error is a terminal, it is told once a second how many questions are asked so far: one for each rule, or for each
+/// built-in chain.
 ///
 /// | Status | Cause |
 /// |---|---|

@@ -1,17 +1,18 @@
 //! What becomes of some packets, by their numbers on a field.
-ghost use Rattle.std.specs.Prelude.{◌≡◌};
+ghost use Rattle.std.specs.Prelude.{◌≡◌, All};
 ghost use Rattle.fields.specs.numbers.Field.{top};
 
 use crate::asked_packets::Asked;
-use crate::asking::Asking;
+use crate::document::{Answer, OutcomeEntry};
 use crate::fault::Fault;
+use crate::memory_text::{name_text, verdict_text};
+use crate::names::decider_entry;
 use crate::rule_line::put_rule_name;
 use fields::{Field, Tap, WriteFailed};
 use notation::set_text;
-use questions::{BoxedTable, Reached};
-use std::alloc::Global;
-use std::io::{IsTerminal, Write};
-use std::rt::Clock;
+use questions::Reached;
+use std::alloc::{AllocError, Global};
+use std::io::Write;
 use table::{Step, Table, Verdict};
 
 /// Writes a verdict: `ACCEPT`, or `REJECT icmp-port-unreachable`.
@@ -42,43 +43,67 @@ fn put_decider<W: Write>(
     }
 }
 
-// Writes the line of packets with one end: `ACCEPT by INPUT 3: 22, 80`.
-fn put_reached<'a, W: Write>(
-    alloc: Global,
-    table: &Table,
-    field: Field,
-    reached: &Reached,
-    output: &mut Tap<W>,
-) -> Result<(), Fault<'a>>
-    requires { reached.now.numbers.top ≡ top field }
-{
-    let numbers = set_text(alloc, field, &reached.numbers)?;
-    put_verdict(reached.verdict, output)?;
-    output.put(b" by ")?;
-    put_decider(table, reached.by, output)?;
-    Ok(output.put_all(&[b": ", numbers.as_slice(), b"\n"])?)
-}
-
-/// Writes what becomes of some packets, each verdict with what decides, and the numbers of its packets on the field; and
-/// answers the status: 3 where it isn't known, else 0.
+/// Writes what becomes of some packets, a line for each verdict with what decides, and the numbers of its packets on the field:
+/// `ACCEPT by INPUT 3: 22, 80`.
 ///
 /// # Errors
 ///
 /// Where memory was refused, or a write failed.
-pub(crate) fn write_outcomes<'a, R: Clock, E: Print + IsTerminal, W: Write>(
-    asking: &mut Asking<'_, R, E>,
-    subject: &BoxedTable,
-    asked: &Asked,
+pub(crate) fn put_outcomes<'a, W: Write>(
+    alloc: Global,
+    table: &Table,
+    field: Field,
+    found: &[Reached],
     output: &mut Tap<W>,
-) -> Result<u8, Fault<'a>> {
-    asking.begin(1);
-    asking.next();
-    let Some(found) = asking.reach(subject, &asked.given, asked.field)? else {
-        output.put(b"unclear\n")?;
-        return Ok(3);
-    };
-    for reached in found.as_slice() {
-        put_reached(asking.alloc(), &subject.table, asked.field, reached, output)?;
+) -> Result<(), Fault<'a>>
+    requires { All (λ reached. reached.numbers.top ≡ top field) found.now }
+{
+    for reached in found {
+        let numbers = set_text(alloc, field, &reached.numbers)?;
+        put_verdict(reached.verdict, output)?;
+        output.put(b" by ")?;
+        put_decider(table, reached.by, output)?;
+        output.put_all(&[b": ", numbers.as_slice(), b"\n"])?;
     }
-    Ok(0)
+    Ok(())
+}
+
+/// What becomes of some packets, as a document.
+///
+/// # Errors
+///
+/// `AllocError` where memory was refused.
+pub(crate) fn outcomes_answer(
+    alloc: Global,
+    table: &Table,
+    asked: &Asked,
+    found: &[Reached],
+) -> Result<Answer, AllocError>
+    requires { All (λ reached. reached.numbers.top ≡ top asked.now.field) found.now }
+{
+    let mut outcomes = Vec::new(alloc);
+    for reached in found {
+        let numbers = set_text(alloc, asked.field, &reached.numbers)?;
+        outcomes.push(OutcomeEntry {
+            verdict: verdict_text(alloc, reached.verdict)?,
+            by: decider_entry(alloc, table, asked.given.hook, reached.by)?,
+            numbers: name_text(alloc, numbers.as_slice())?,
+        })?;
+    }
+    Ok(Answer::Reach {
+        field: name_text(alloc, asked.field.name())?,
+        outcomes,
+    })
+}
+
+/// That it isn't known what becomes of them, as a document.
+///
+/// # Errors
+///
+/// `AllocError` where memory was refused.
+pub(crate) fn unclear_answer(alloc: Global, asked: &Asked) -> Result<Answer, AllocError> {
+    Ok(Answer::UnclearReach {
+        field: name_text(alloc, asked.field.name())?,
+        unclear: true,
+    })
 }

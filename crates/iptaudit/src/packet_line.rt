@@ -20,12 +20,12 @@ fn put_word<W: Write>(word: &[u8], output: &mut Tap<W>) -> Result<(), WriteFaile
     output.put(word)
 }
 
-/// Writes the line that asks a session about a packet: `packet INPUT src=10.0.0.1 ..`.
+/// Writes the line that asks a session about a packet, without its newline: `packet INPUT src=10.0.0.1 ..`.
 pub(crate) fn put_packet<W: Write>(words: &Words, output: &mut Tap<W>) -> Result<(), WriteFailed> {
     output.put(b"packet")?;
     for place in 0..words.len() {
         output.put(b" ")?;
         put_word(words.get(place), output)?;
     }
-    output.put(b"\n")
+    Ok(())
 }

@@ -1,9 +1,7 @@
 //! The line that says why a rule is dead.
-ghost use Rattle.std.specs.Prelude.{◌<◌, length};
-
 use crate::deciding::{policy_of, verdict_of};
 use crate::outcomes::put_verdict;
-use crate::rule_line::put_rule_name;
+use crate::rule_line::{chain_name, put_rule_name};
 use fields::{Hook, Tap, WriteFailed};
 use itoa::Buffer;
 use questions::{Reason, Takers};
@@ -12,30 +10,6 @@ use table::{Step, Table, Verdict};
 
 // How many rules are named at most.
 const NAMED: usize = 5;
-
-// Whether a rule stands before another, in the order of a listing but for those of the chain at a place, which come first.
-fn stands_before(place: usize, one: Step, other: Step) -> bool {
-    if (one.chain == place) != (other.chain == place) {
-        return one.chain == place;
-    }
-    if one.chain != other.chain {
-        return one.chain < other.chain;
-    }
-    one.number < other.number
-}
-
-// The first of some rules in this order, after another where there is one.
-fn next_after(place: usize, rules: &[Step], last: Option<Step>) -> Option<Step> {
-    let mut next: Option<Step> = None;
-    for rule in rules {
-        let is_passed = last.is_some_and(|last| !stands_before(place, last, *rule));
-        let is_later = next.is_some_and(|next| stands_before(place, next, *rule));
-        if !is_passed && !is_later {
-            next = Some(*rule);
-        }
-    }
-    next
-}
 
 // Writes what is done: ` (DROP)`.
 fn put_what<W: Write>(verdict: Verdict, output: &mut Tap<W>) -> Result<(), WriteFailed> {
@@ -65,24 +39,18 @@ enum Naming {
 // Writes the first of some rules, and how many more there are.
 fn put_rules<W: Write>(
     table: &Table,
-    place: usize,
     rules: &[Step],
     naming: Naming,
     output: &mut Tap<W>,
 ) -> Result<(), WriteFailed> {
-    let mut last = None;
-    for written in 0..NAMED {
-        let Some(rule) = next_after(place, rules, last) else {
-            break;
-        };
+    for (written, rule) in rules.iter().take(NAMED).enumerate() {
         if written > 0 {
             output.put(b", ")?;
         }
         match naming {
-            Naming::Bare => put_rule_name(table, rule, output)?,
-            Naming::Deciding => put_taker(table, rule, output)?,
+            Naming::Bare => put_rule_name(table, *rule, output)?,
+            Naming::Deciding => put_taker(table, *rule, output)?,
         }
-        last = Some(rule);
     }
     if rules.len() > NAMED {
         let mut digits = Buffer::new();
@@ -127,33 +95,30 @@ fn put_policies<W: Write>(
     Ok(())
 }
 
-// Writes who takes the packets of a dead rule of the chain at a place.
+// Writes who takes the packets of a dead rule.
 fn put_takers<W: Write>(
     table: &Table,
-    place: usize,
     takers: &Takers,
     output: &mut Tap<W>,
 ) -> Result<(), WriteFailed> {
     let rules = takers.rules.as_slice();
     let hooks = takers.policies.as_slice();
-    put_rules(table, place, rules, Naming::Deciding, output)?;
+    put_rules(table, rules, Naming::Deciding, output)?;
     if !hooks.is_empty() && !rules.is_empty() {
         output.put(b" and ")?;
     }
     put_policies(table, hooks, output)
 }
 
-/// Writes why a rule of the chain at a place is dead: `  taken by INPUT 1 (ACCEPT) and the policy (DROP)`. Of many rules five are
-/// named, those of its chain first.
+/// Writes why a rule of the chain at a place is dead: `  taken by INPUT 1 (ACCEPT) and the policy (DROP)`. Of many rules the
+/// first five are named.
 pub(crate) fn put_reason<W: Write>(
     table: &Table,
     place: usize,
     reason: &Reason,
     output: &mut Tap<W>,
-) -> Result<(), WriteFailed>
-    requires { place < length table.now.table.chains }
-{
-    let chain = table.chain_name(place);
+) -> Result<(), WriteFailed> {
+    let chain = chain_name(table, place);
     match reason {
         Reason::Impossible(field) => output.put_all(&[b"  no value of ", field.name(), b" fits"])?,
         Reason::Unreached => output.put_all(&[b"  no rule leads to ", chain])?,
@@ -162,12 +127,12 @@ pub(crate) fn put_reason<W: Write>(
         }
         Reason::Excluded(ways) => {
             output.put(b"  no packet that comes from ")?;
-            put_rules(table, place, ways.as_slice(), Naming::Bare, output)?;
+            put_rules(table, ways.as_slice(), Naming::Bare, output)?;
             output.put(b" fits")?
         }
         Reason::Taken(takers) => {
             output.put(b"  taken by ")?;
-            put_takers(table, place, takers, output)?
+            put_takers(table, takers, output)?
         }
     }
     output.put(b"\n")

@@ -1,12 +1,19 @@
 //! The line of a rule.
-ghost use Rattle.std.specs.Prelude.{◌<◌, ◌≤◌, length};
-ghost use Rattle.table.specs.chains.Table.{chain_at};
-
+use crate::deciding::rule_at;
 use fields::{Tap, WriteFailed};
 use itoa::Buffer;
 use rules::write_rule;
 use std::io::Write;
 use table::{Step, Table};
+
+/// The name of the chain at a place; no bytes where there is none.
+pub(crate) fn chain_name(table: &Table, place: usize) -> &[u8] {
+    if place < table.chain_count() {
+        table.chain_name(place)
+    } else {
+        b""
+    }
+}
 
 /// Writes a rule by its chain and its number there: `INPUT 2`.
 pub(crate) fn put_rule_name<W: Write>(
@@ -14,15 +21,27 @@ pub(crate) fn put_rule_name<W: Write>(
     at: Step,
     output: &mut Tap<W>,
 ) -> Result<(), WriteFailed> {
-    if at.chain >= table.chain_count() {
-        return Ok(());
-    }
     let mut digits = Buffer::new();
     output.put_all(&[
-        table.chain_name(at.chain),
+        chain_name(table, at.chain),
         b" ",
         digits.format(at.number).as_bytes(),
     ])
+}
+
+/// Writes a rule as it is listed: `-A INPUT -j DROP`.
+pub(crate) fn put_listed<W: Write>(
+    table: &Table,
+    at: Step,
+    output: &mut Tap<W>,
+) -> Result<(), WriteFailed> {
+    match rule_at(table, at) {
+        Some(rule) => {
+            output.put_all(&[b"-A ", chain_name(table, at.chain)])?;
+            write_rule(rule, output)
+        }
+        None => Ok(()),
+    }
 }
 
 /// Writes the line of a rule, after some words: `dead INPUT 2 -A INPUT -j DROP`, where `dead ` stands before it.
@@ -31,14 +50,10 @@ pub(crate) fn put_rule<W: Write>(
     before: &[u8],
     at: Step,
     output: &mut Tap<W>,
-) -> Result<(), WriteFailed>
-    requires place { at.chain < length table.now.table.chains }
-    requires first { 0 < at.number }
-    requires last { at.number ≤ length (chain_at table.now.table at.chain).rules }
-{
+) -> Result<(), WriteFailed> {
     output.put(before)?;
     put_rule_name(table, at, output)?;
-    output.put_all(&[b" -A ", table.chain_name(at.chain)])?;
-    write_rule(table.rule(at.chain, at.number), output)?;
+    output.put(b" ")?;
+    put_listed(table, at, output)?;
     output.put(b"\n")
 }

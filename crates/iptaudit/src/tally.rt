@@ -1,8 +1,9 @@
 //! How many rules there are of each kind.
 use crate::deciding::Standing;
+use crate::document::Counts;
+use crate::each_rule::Known;
 use fields::{Tap, WriteFailed};
 use itoa::Buffer;
-use questions::Life;
 use std::io::Write;
 
 /// How many rules match a packet that was given, how many of the others can match, how many can't, and of how many it isn't
@@ -30,25 +31,18 @@ impl Tally {
         }
     }
 
-    /// Counts a rule that matches a packet that was given.
-    pub(crate) fn note_covered(&mut self) {
-        self.covered = self.covered.saturating_add(1);
-    }
-
-    /// Counts another rule, by what is known of it.
-    pub(crate) fn note(&mut self, life: &Life) {
-        match life {
-            Life::Live(_) => self.live = self.live.saturating_add(1),
-            Life::Dead => self.dead = self.dead.saturating_add(1),
-            Life::Unclear => self.unclear = self.unclear.saturating_add(1),
+    /// Counts a rule by what is known of it, and by what it is beside those who decide its packets, if that is known.
+    pub(crate) fn note(&mut self, known: &Known, standing: Option<Standing>) {
+        match known {
+            Known::Covered => self.covered = self.covered.saturating_add(1),
+            Known::Live(_) => self.live = self.live.saturating_add(1),
+            Known::Dead(_) => self.dead = self.dead.saturating_add(1),
+            Known::Unclear => self.unclear = self.unclear.saturating_add(1),
         }
-    }
-
-    /// Counts what a rule that can't match is beside those who decide its packets.
-    pub(crate) fn note_standing(&mut self, standing: Standing) {
         match standing {
-            Standing::Redundant => self.redundant = self.redundant.saturating_add(1),
-            Standing::Shadowed => self.shadowed = self.shadowed.saturating_add(1),
+            Some(Standing::Redundant) => self.redundant = self.redundant.saturating_add(1),
+            Some(Standing::Shadowed) => self.shadowed = self.shadowed.saturating_add(1),
+            None => {}
         }
     }
 
@@ -95,6 +89,32 @@ impl Tally {
             ],
             output,
         )
+    }
+
+    /// The counts, without those of packets that were given.
+    pub(crate) fn counts(&self) -> Counts {
+        Counts {
+            rules: self.rules(),
+            covered: None,
+            missed: None,
+            dead: self.dead,
+            unclear: self.unclear,
+            redundant: Some(self.redundant),
+            shadowed: Some(self.shadowed),
+        }
+    }
+
+    /// The counts with those of packets that were given.
+    pub(crate) fn coverage_counts(&self) -> Counts {
+        Counts {
+            rules: self.rules(),
+            covered: Some(self.covered),
+            missed: Some(self.live),
+            dead: self.dead,
+            unclear: self.unclear,
+            redundant: None,
+            shadowed: None,
+        }
     }
 
     /// 1 where a rule is dead, else 3 where it isn't known of some, else 0.

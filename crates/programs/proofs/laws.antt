@@ -1,1 +1,2 @@
+pub mod AuditFaults
 pub mod Subcommands

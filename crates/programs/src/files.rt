@@ -3,15 +3,56 @@ use crate::buffers::{buffered_input, buffered_output, let_go};
 use crate::fault::ProgramFault;
 use sessions::{RunFault, Session};
 use std::fs;
-use std::io::{self, ErrorKind};
+use std::io::{self, ErrorKind, Read};
 use std::rt::Files;
 
-/// Restores a file into a session, and answers the status of the restore. Its fault goes to `errors`.
+/// Opens a file.
 ///
 /// # Errors
 ///
-/// `CannotOpen` and `CannotRead` where the file fails; `OutputFailed` where the fault cannot be written; `NoMemory` where the
-/// memory of a buffer was refused.
+/// `CannotOpen` where it fails; `NoMemory` where memory was refused.
+pub fn open_file<'a, R: Files>(rt: &R, file: &'a str) -> Result<R::File, ProgramFault<'a>> {
+    match fs::open(rt, file) {
+        Ok(opened) => Ok(opened),
+        Err(error) if error.kind() == ErrorKind::OutOfMemory => Err(ProgramFault::NoMemory),
+        Err(_) => Err(ProgramFault::CannotOpen(file)),
+    }
+}
+
+/// Restores what a reader of a file gives into a session, and answers the status of the restore. Its fault goes to `errors`.
+///
+/// # Errors
+///
+/// `CannotRead` where the reader fails; `OutputFailed` where the fault cannot be written; `NoMemory` where the memory of a
+/// buffer was refused.
+pub fn load_from<'a, R, E, I>(
+    rt: &R,
+    errors: &E,
+    session: &mut Session,
+    file: &'a str,
+    reader: I,
+) -> Result<u8, ProgramFault<'a>>
+where
+    R: AllocGlobal,
+    E: Print,
+    I: Read + Drop,
+{
+    let mut input = buffered_input(rt.alloc(), reader)?;
+    let mut output = buffered_output(rt.alloc(), io::writer(errors))?;
+    let restored = session.restore(false, false, false, &mut input, &mut output);
+    let_go(output);
+    match restored {
+        Ok(status) => Ok(status),
+        Err(RunFault::ReadFailed) => Err(ProgramFault::CannotRead(file)),
+        Err(RunFault::WriteFailed) => Err(ProgramFault::OutputFailed),
+    }
+}
+
+/// Restores a file into a session, as `load_from` does.
+///
+/// # Errors
+///
+/// As of `open_file` and `load_from`.
 pub fn load<'a, R, E>(
     rt: &R,
     errors: &E,
@@ -22,18 +63,6 @@ where
     R: Files + AllocGlobal,
     E: Print,
 {
-    let opened = match fs::open(rt, file) {
-        Ok(opened) => opened,
-        Err(error) if error.kind() == ErrorKind::OutOfMemory => return Err(ProgramFault::NoMemory),
-        Err(_) => return Err(ProgramFault::CannotOpen(file)),
-    };
-    let mut input = buffered_input(rt.alloc(), opened)?;
-    let mut output = buffered_output(rt.alloc(), io::writer(errors))?;
-    let restored = session.restore(false, false, false, &mut input, &mut output);
-    let_go(output);
-    match restored {
-        Ok(status) => Ok(status),
-        Err(RunFault::ReadFailed) => Err(ProgramFault::CannotRead(file)),
-        Err(RunFault::WriteFailed) => Err(ProgramFault::OutputFailed),
-    }
+    let opened = open_file(rt, file)?;
+    load_from(rt, errors, session, file, opened)
 }

@@ -8,11 +8,11 @@
 //!
 //! | Line of `iptaudit` | Audit |
 //! |---|---|
-//! | `dead [--steps N] FILE` | which rules of a ruleset no packet can match |
-//! | `compare [--steps N] OLD NEW` | whether two rulesets give each packet the same verdict |
-//! | `tests [--steps N] FILE` | a packet for each rule |
-//! | `cover [--steps N] FILE` | which rules match none of the packets on standard input |
-//! | `reach [--steps N] FILE WORD..` | what becomes of some packets, by their numbers on a field |
+//! | `dead [--steps N] [--json] FILE` | which rules of a ruleset no packet can match |
+//! | `compare [--steps N] [--json] OLD NEW` | whether two rulesets give each packet the same verdict |
+//! | `tests [--steps N] [--json] FILE` | a packet for each rule |
+//! | `cover [--steps N] [--json] FILE` | which rules match none of the packets on standard input |
+//! | `reach [--steps N] [--json] FILE WORD..` | what becomes of some packets, by their numbers on a field |
 //!
 //! Either takes `--help` and `--version` in place of a subcommand.
 #![tactic(auto)]
@@ -25,6 +25,6 @@ mod words;
 
 pub use buffers::{buffered_input, buffered_output, let_go};
 pub use fault::ProgramFault;
-pub use files::load;
+pub use files::{load, load_from, open_file};
 pub use line::{Audit, Job, LineFault, Question, Task, VERSION};
 pub use words::{answer_line, texts_after_name, words_given};

@@ -3,7 +3,7 @@ use Rattle.std.specs.Prelude.{◌≡◌, ◌⊎◌, ⊤, [], codes, map, true, L
 use Rattle.clap.specs.Words.{App, IsAmong, Row, Rule, Text, all_of, fault_of, first_of, kind_of, new_app, new_rule, subcommand_of, with_rule, with_subcommand}
 use Rattle.clap.specs.Lexer.{usize_max}
 use Rattle.clap.specs.declared.builder.action.ArgAction.TheVariants.{Append}
-use Rattle.programs.specs.line.Line.{as_program}
+use Rattle.programs.specs.line.Line.{as_program, flag_rule, is_true}
 use Rattle.programs.specs.declared.line.audit.Audit.{Audit}
 use Rattle.programs.specs.declared.line.audit.Question.{Question}
 use Rattle.programs.specs.declared.line.audit.Question.TheVariants as questions
@@ -14,17 +14,22 @@ use Rattle.programs.specs.declared.line.fault.LineFault.TheVariants as faults
 abbrev pub steps_rule : Rule
 steps_rule = record (new_rule (codes "steps")) { long = Some (codes "steps"); value_names = 1 }
 
+-- `--json`
+abbrev pub json_rule : Rule
+json_rule = flag_rule (codes "json")
+
 -- a file, which has to be there
 abbrev pub file_rule : Text → Rule
 file_rule name = record (new_rule name) { required = true; value_names = 1 }
 
--- `NAME FILE [--steps N]`
+-- `NAME FILE [--steps N] [--json]`
 abbrev pub one_file_app : Text → App
-one_file_app name = with_rule (with_rule (new_app name) (file_rule (codes "file"))) steps_rule
+one_file_app name = with_rule (with_rule (with_rule (new_app name) (file_rule (codes "file"))) steps_rule) json_rule
 
--- `compare OLD NEW [--steps N]`
+-- `compare OLD NEW [--steps N] [--json]`
 abbrev pub compare_app : App
-compare_app = with_rule (with_rule (with_rule (new_app (codes "compare")) (file_rule (codes "old"))) (file_rule (codes "new"))) steps_rule
+compare_app = with_rule (with_rule (with_rule (with_rule (new_app (codes "compare"))
+    (file_rule (codes "old"))) (file_rule (codes "new"))) steps_rule) json_rule
 
 -- one word or more
 abbrev pub words_rule : Rule
@@ -35,9 +40,10 @@ words_rule = record (new_rule (codes "word")) {
   value_names = 1;
 }
 
--- `reach FILE WORD.. [--steps N]`
+-- `reach FILE WORD.. [--steps N] [--json]`
 abbrev pub reach_app : App
-reach_app = with_rule (with_rule (with_rule (new_app (codes "reach")) (file_rule (codes "file"))) words_rule) steps_rule
+reach_app = with_rule (with_rule (with_rule (with_rule (new_app (codes "reach"))
+    (file_rule (codes "file"))) words_rule) steps_rule) json_rule
 
 -- the program, with its five subcommands
 abbrev pub program_app : App
@@ -74,10 +80,11 @@ LacksFile name rows = (AsksOneFile name × (first_of (codes "file") rows ≡ Non
 abbrev pub values_of : Text → List Row → List Text
 values_of name rows = unwrap_or (all_of name rows) []
 
--- the audit of a subcommand, by its name and what was found of its files, its option and its words
+-- the audit of a subcommand, by its name and what was found of its files, its option, its flag and its words
 abbrev pub IsAuditOf : Text → List Row → Audit → Type 0
 IsAuditOf name rows audit = IsQuestion name rows audit.question
     × (option_map (λ s. s.now) audit.steps ≡ first_of (codes "steps") rows)
+    × (audit.json ≡ is_true (first_of (codes "json") rows))
     × (map (λ s. s.now) audit.words.items ≡ values_of (codes "word") rows)
 
 -- `clap` takes the words, and the audit is what it makes of them

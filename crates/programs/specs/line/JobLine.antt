@@ -1,9 +1,7 @@
 -- The line of `iptsim`, and what `clap` makes of it.
-use Rattle.std.specs.Prelude.{◌≡◌, ◌⊎◌, ⊤, [], Bool, true, false, codes, List, Option, Some, None, option_map}
-use Rattle.std.specs.Str.{bytes_eq}
+use Rattle.std.specs.Prelude.{◌≡◌, ◌⊎◌, ⊤, [], codes, List, Some, None, option_map}
 use Rattle.clap.specs.Words.{App, IsAmong, Row, Rule, Text, fault_of, first_of, kind_of, new_app, new_rule, subcommand_of, with_rule, with_subcommand}
-use Rattle.clap.specs.declared.builder.action.ArgAction.TheVariants.{SetTrue}
-use Rattle.programs.specs.line.Line.{as_program}
+use Rattle.programs.specs.line.Line.{as_program, flag_rule, is_true}
 use Rattle.programs.specs.declared.line.fault.LineFault.{LineFault}
 use Rattle.programs.specs.declared.line.fault.LineFault.TheVariants as faults
 use Rattle.programs.specs.declared.line.job.Job.{Job}
@@ -13,10 +11,6 @@ use Rattle.programs.specs.declared.line.job.Task.TheVariants as tasks
 -- `--load FILE`
 abbrev pub load_rule : Rule
 load_rule = record (new_rule (codes "load")) { long = Some (codes "load"); value_names = 1 }
-
--- a flag `--name`
-abbrev pub flag_rule : Text → Rule
-flag_rule name = record (new_rule name) { long = Some name; action = Some SetTrue }
 
 -- `session [--load FILE]`
 abbrev pub session_app : App
@@ -33,11 +27,6 @@ program_app = with_subcommand (with_subcommand (as_program (new_app (codes "ipts
 -- the name of a subcommand
 abbrev pub IsSubcommand : Text → Type 0
 IsSubcommand name = (name ≡ codes "session") ⊎ (name ≡ codes "restore")
-
--- the flag was given
-abbrev pub is_true : Option Text → Bool
-is_true None = false
-is_true (Some t) = bytes_eq t (codes "true")
 
 -- the task of a subcommand, by its name and what was found of its flags
 abbrev pub IsTask : Text → List Row → Task → Type 0

@@ -2,10 +2,10 @@
 ghost use Rattle.std.specs.Prelude.{◌≡◌, IfErr, IfOk, MatchOption, codes, false, map};
 ghost use Rattle.clap.specs.Words.{app_of, found_of, rows_of, rule_of};
 ghost use Rattle.clap.specs.declared.builder.command.Command.TheViews.{out-Command as fields_of};
-ghost use Rattle.programs.specs.line.AuditLine.{IsAuditOn, IsFaultOn, IsQuestion, IsSubcommand, LacksFile, compare_app, file_rule, one_file_app, program_app, reach_app, steps_rule, values_of, words_rule};
+ghost use Rattle.programs.specs.line.AuditLine.{IsAuditOn, IsFaultOn, IsQuestion, IsSubcommand, LacksFile, compare_app, file_rule, json_rule, one_file_app, program_app, reach_app, steps_rule, values_of, words_rule};
 
 use super::fault::{LineFault, fault_of};
-use super::program::{named, with};
+use super::program::{flag, is_set, named, with};
 use clap::{Arg, ArgAction, ArgMatches, Command};
 use std::alloc::{AllocError, Global};
 
@@ -24,11 +24,13 @@ pub enum Question<'a> {
     Reach { file: &'a str },
 }
 
-/// A question, the number that was given of steps, and the words after the file, where some packets are asked about.
+/// A question, the number that was given of steps, whether the answer is to be JSON, and the words after the file, where some
+/// packets are asked about.
 #[derive(Debug, Drop)]
 pub struct Audit<'a> {
     pub question: Question<'a>,
     pub steps: Option<&'a str>,
+    pub json: bool,
     pub words: Vec<&'a str>,
 }
 
@@ -40,6 +42,14 @@ fn steps<'a>(alloc: Global) -> Arg<'a>
     Arg::new(alloc, "steps").long("steps").value_name("N").help(
         "Take N steps at most for each question, each a rule asked of a box of packets [default: 20000]",
     )
+}
+
+// The flag `--json`.
+fn json<'a>(alloc: Global) -> Arg<'a>
+    ensures rule { rule_of result ≡ json_rule }
+    ensures local { result.global ≡ false }
+{
+    flag(alloc, "json", "Print the answer as one JSON document")
 }
 
 // A file, which is a word of its own.
@@ -61,7 +71,8 @@ fn one_file<'a>(alloc: Global, name: &'a str, about: &'a str) -> Result<Command<
     Command::new(alloc, name)
         .about(about)
         .arg(file(alloc, "file", "FILE", "A file of iptables-restore"))?
-        .arg(steps(alloc))
+        .arg(steps(alloc))?
+        .arg(json(alloc))
 }
 
 // Words that say which packets are asked about: one or more, after the file.
@@ -85,7 +96,8 @@ fn reach<'a>(alloc: Global) -> Result<Command<'a>, AllocError>
         .about("Print what becomes of some packets, by their numbers on a field")
         .arg(file(alloc, "file", "FILE", "A file of iptables-restore"))?
         .arg(words(alloc))?
-        .arg(steps(alloc))
+        .arg(steps(alloc))?
+        .arg(json(alloc))
 }
 
 fn compare<'a>(alloc: Global) -> Result<Command<'a>, AllocError>
@@ -96,7 +108,8 @@ fn compare<'a>(alloc: Global) -> Result<Command<'a>, AllocError>
         .about("Print whether two rulesets give each packet the same verdict")
         .arg(file(alloc, "old", "OLD", "A file of iptables-restore"))?
         .arg(file(alloc, "new", "NEW", "Another one"))?
-        .arg(steps(alloc))
+        .arg(steps(alloc))?
+        .arg(json(alloc))
 }
 
 fn program<'a>(alloc: Global) -> Result<Command<'a>, AllocError>
@@ -197,6 +210,7 @@ impl<'a> Audit<'a> {
             Some(question) => Ok(Audit {
                 question,
                 steps: inner.get_str("steps"),
+                json: is_set(inner, "json"),
                 words,
             }),
             None => Err(LineFault::NoFile),

@@ -1,12 +1,12 @@
 //! The line of `iptsim`: what the words after the program's name ask for.
 ghost use Rattle.std.specs.Prelude.{◌≡◌, IfErr, IfOk, false, map};
-ghost use Rattle.clap.specs.Words.{app_of, first_of, found_of, rows_of, rule_of};
+ghost use Rattle.clap.specs.Words.{app_of, found_of, rows_of, rule_of};
 ghost use Rattle.clap.specs.declared.builder.command.Command.TheViews.{out-Command as fields_of};
-ghost use Rattle.programs.specs.line.JobLine.{IsFaultOn, IsJobOf, IsJobOn, IsSubcommand, flag_rule, is_true, load_rule, program_app, restore_app, session_app};
+ghost use Rattle.programs.specs.line.JobLine.{IsFaultOn, IsJobOf, IsJobOn, IsSubcommand, load_rule, program_app, restore_app, session_app};
 
 use super::fault::{LineFault, fault_of};
-use super::program::{named, with};
-use clap::{Arg, ArgAction, ArgMatches, Command};
+use super::program::{flag, is_set, named, with};
+use clap::{Arg, ArgMatches, Command};
 use std::alloc::{AllocError, Global};
 
 /// What the program is asked to do.
@@ -39,17 +39,6 @@ fn load<'a>(alloc: Global) -> Arg<'a>
         .long("load")
         .value_name("FILE")
         .help("Restore FILE first")
-}
-
-// A flag, which is written as its name after `--`.
-fn flag<'a>(alloc: Global, name: &'a str, help: &'a str) -> Arg<'a>
-    ensures rule { rule_of result ≡ flag_rule name.entry.now }
-    ensures local { result.global ≡ false }
-{
-    Arg::new(alloc, name)
-        .long(name)
-        .action(ArgAction::SetTrue)
-        .help(help)
 }
 
 fn session<'a>(alloc: Global) -> Result<Command<'a>, AllocError>
@@ -91,16 +80,6 @@ fn program<'a>(alloc: Global) -> Result<Command<'a>, AllocError>
     let program = with(program, session(alloc)?)?;
     let program = with(program, restore(alloc)?)?;
     Ok(program)
-}
-
-// Whether a flag was given.
-fn is_set(matches: &ArgMatches<'_>, name: &str) -> bool
-    ensures { result ≡ is_true (first_of name.now (rows_of (found_of matches.now))) }
-{
-    match matches.get_str(name) {
-        Some(text) => text == "true",
-        None => false,
-    }
 }
 
 // The job of a subcommand.

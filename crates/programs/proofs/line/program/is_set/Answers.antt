@@ -1,8 +1,8 @@
 use Rattle.std.proofs.Common.{ap, ◌∙◌}
 use Rattle.clap.proofs.WalkLemmas.{first_value-rows}
 use Rattle.clap.specs.Words.{found_of}
-use Rattle.programs.specs.line.JobLine.{is_true}
-use Rattle.programs.proofs.line.job.is_set.Goals as goal
+use Rattle.programs.specs.line.Line.{is_true}
+use Rattle.programs.proofs.line.program.is_set.Goals as goal
 
 pub returns-in-Some : goal.returns-in-Some
 returns-in-Some c = c.eq.ensures ∙ ap is_true (c.in-Some.ensures ∙ first_value-rows (found_of c.args.matches.now) c.args.name.now)

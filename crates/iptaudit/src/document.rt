@@ -1,0 +1,179 @@
+//! What `--json` writes: an answer as one JSON document. A key that doesn't apply is left out.
+use crate::deciding::Standing;
+use crate::fault::Fault;
+use fields::Tap;
+use programs::ProgramFault;
+use serde::Serialize;
+use std::alloc::Global;
+use std::io::Write;
+
+/// An answer.
+#[derive(Drop, Serialize)]
+#[serde(tag = "question", rename_all = "snake_case")]
+pub(crate) enum Answer {
+    Dead {
+        rules: Vec<RuleEntry>,
+        counts: Counts,
+    },
+    Compare {
+        hooks: Vec<HookEntry>,
+    },
+    Tests {
+        rules: Vec<RuleEntry>,
+    },
+    Cover {
+        rules: Vec<RuleEntry>,
+        counts: Counts,
+    },
+    Reach {
+        field: String,
+        outcomes: Vec<OutcomeEntry>,
+    },
+    /// What becomes of the packets isn't known.
+    #[serde(rename = "reach")]
+    UnclearReach {
+        field: String,
+        unclear: bool,
+    },
+}
+
+/// What is known of a rule.
+#[derive(Drop, Serialize)]
+pub(crate) struct RuleEntry {
+    pub(crate) chain: String,
+    pub(crate) number: usize,
+    /// Its line in a listing.
+    pub(crate) rule: String,
+    pub(crate) life: LifeWord,
+    /// The line of a packet that it matches.
+    #[serde(skip_serializing_if = "Option::is_none")]
+    pub(crate) packet: Option<String>,
+    #[serde(skip_serializing_if = "Option::is_none")]
+    pub(crate) reason: Option<ReasonEntry>,
+    #[serde(skip_serializing_if = "Option::is_none")]
+    pub(crate) standing: Option<Standing>,
+}
+
+/// What is known of a rule, in one word.
+#[derive(Clone, Copy, Serialize)]
+#[serde(rename_all = "snake_case")]
+pub(crate) enum LifeWord {
+    Live,
+    Covered,
+    Missed,
+    Dead,
+    Unclear,
+}
+
+/// Why a rule is dead.
+#[derive(Drop, Serialize)]
+#[serde(tag = "kind", rename_all = "snake_case")]
+pub(crate) enum ReasonEntry {
+    Impossible {
+        field: String,
+    },
+    Unreached,
+    NoPacket,
+    Excluded {
+        rules: Vec<RuleName>,
+    },
+    Taken {
+        rules: Vec<RuleName>,
+        policies: Vec<PolicyEntry>,
+    },
+}
+
+/// A rule by its chain and its number there, and what it does where it decides a dead rule's packets.
+#[derive(Drop, Serialize)]
+pub(crate) struct RuleName {
+    pub(crate) chain: String,
+    pub(crate) number: usize,
+    #[serde(skip_serializing_if = "Option::is_none")]
+    pub(crate) verdict: Option<String>,
+}
+
+/// A policy that decides a dead rule's packets.
+#[derive(Drop, Serialize)]
+pub(crate) struct PolicyEntry {
+    pub(crate) chain: String,
+    pub(crate) verdict: String,
+}
+
+/// How many rules there are, of all and of each kind.
+#[derive(Drop, Serialize)]
+pub(crate) struct Counts {
+    pub(crate) rules: usize,
+    #[serde(skip_serializing_if = "Option::is_none")]
+    pub(crate) covered: Option<usize>,
+    #[serde(skip_serializing_if = "Option::is_none")]
+    pub(crate) missed: Option<usize>,
+    pub(crate) dead: usize,
+    pub(crate) unclear: usize,
+    #[serde(skip_serializing_if = "Option::is_none")]
+    pub(crate) redundant: Option<usize>,
+    #[serde(skip_serializing_if = "Option::is_none")]
+    pub(crate) shadowed: Option<usize>,
+}
+
+/// Whether two rulesets give each packet at a hook the same verdict; and where they don't, a packet, with its walk in each.
+#[derive(Drop, Serialize)]
+pub(crate) struct HookEntry {
+    pub(crate) hook: String,
+    pub(crate) answer: LikenessWord,
+    #[serde(skip_serializing_if = "Option::is_none")]
+    pub(crate) packet: Option<String>,
+    #[serde(skip_serializing_if = "Option::is_none")]
+    pub(crate) old: Option<WalkEntry>,
+    #[serde(skip_serializing_if = "Option::is_none")]
+    pub(crate) new: Option<WalkEntry>,
+}
+
+/// What is known of two rulesets at a hook, in one word.
+#[derive(Clone, Copy, Serialize)]
+#[serde(rename_all = "snake_case")]
+pub(crate) enum LikenessWord {
+    Same,
+    Differs,
+    Unclear,
+}
+
+/// The walk of a packet: the rules that it matches, in turn, and the verdict with what gives it. Nothing gives `TOOLONG`.
+#[derive(Drop, Serialize)]
+pub(crate) struct WalkEntry {
+    pub(crate) trail: Vec<RuleName>,
+    pub(crate) verdict: String,
+    #[serde(skip_serializing_if = "Option::is_none")]
+    pub(crate) by: Option<DeciderEntry>,
+}
+
+/// What gives a verdict: a rule, or the policy of a chain.
+#[derive(Drop, Serialize)]
+#[serde(untagged)]
+pub(crate) enum DeciderEntry {
+    Rule(RuleName),
+    Policy { policy: String },
+}
+
+/// A verdict with what gives it, and the numbers of its packets on the field.
+#[derive(Drop, Serialize)]
+pub(crate) struct OutcomeEntry {
+    pub(crate) verdict: String,
+    pub(crate) by: DeciderEntry,
+    pub(crate) numbers: String,
+}
+
+/// Writes an answer, and a newline. Nothing is written where memory was refused.
+///
+/// # Errors
+///
+/// Where memory was refused, which is all that can keep an answer from being text, or a write failed.
+pub(crate) fn write_answer<'a, W: Write>(
+    alloc: Global,
+    answer: &Answer,
+    output: &mut Tap<W>,
+) -> Result<(), Fault<'a>> {
+    match serde_json::to_vec(alloc, answer) {
+        Ok(text) => Ok(output.put_all(&[text.as_slice(), b"\n"])?),
+        Err(_) => Err(Fault::Program(ProgramFault::NoMemory)),
+    }
+}
