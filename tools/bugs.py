@@ -204,10 +204,9 @@ UNTOLD = [
     Bug("message-of-memory", "another message where memory is refused before any line", "programs/src/fault.rt",
         """    #[error("no memory")]""", """    #[error("out of memory")]""", "faults", "a jump comes back"),
     Bug("status-before-any-line", "status 1 where memory is refused before any line", "iptsim/src/fault.rt",
-        "Fault::Program(ProgramFault::NoMemory) | Fault::Line(LineFault::NoMemory) => 4,",
-        "Fault::Program(ProgramFault::NoMemory) | Fault::Line(LineFault::NoMemory) => 1,", "faults", "a jump comes back"),
+        "        ProgramFault::NoMemory => 4,", "        ProgramFault::NoMemory => 1,", "faults", "a jump comes back"),
     Bug("open-in-place-of-memory", "a file that is refused memory as it is opened can't be opened", "programs/src/files.rt",
-        "        Err(error) if error.kind() == ErrorKind::OutOfMemory => return Err(ProgramFault::NoMemory),\n", "", "faults",
+        "        Err(error) if error.kind() == ErrorKind::OutOfMemory => Err(ProgramFault::NoMemory),\n", "", "faults",
         "a session after a restore"),
 ]
 
