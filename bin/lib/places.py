@@ -14,8 +14,8 @@ SCRIPTS = os.path.dirname(os.path.dirname(os.path.realpath(__file__)))
 TOP = os.path.dirname(SCRIPTS)
 IS_INSTALLED = SCRIPTS.split(os.sep)[-2:] == ["lib", "iptsim"]
 PROGRAMS = ("iptsim", "iptaudit")
-SLOW = """{called}: {command} runs {name} without a proof, and slowly: 8,192 rules take iptsim 22 to 110 s so, and 0.15 s where it is proved.
-{called}: install an archive of a release, or have {proved} prove and build the program once, which takes about an hour.
+SLOW = """{called}: bin/quick runs {name} without a proof, and slowly: 8,192 rules take iptsim 22 to 110 s so, and 0.15 s where it is proved.
+{called}: install an archive of a release, or have bin/{name} prove and build the program once, which takes about an hour.
 """
 
 
@@ -25,8 +25,8 @@ def called():
 
 
 def command(name):
-    """How a user calls a script or a program of the project."""
-    if not IS_INSTALLED:
+    """How a user calls a script or a program of the project: as it is installed, if the script was called so, else as it stands in a checkout."""
+    if not IS_INSTALLED and not called().startswith("iptsim-"):
         return "bin/" + name
     return name if name in PROGRAMS else "iptsim-" + name
 
@@ -43,6 +43,6 @@ def program_call(name):
     proved = os.path.join(TOP, "crates", name, "out", name)
     if is_built(TOP, name, proved):
         return (proved,)
-    sys.stderr.write(SLOW.format(called=called(), command=command("quick"), name=name, proved=command(name)))
+    sys.stderr.write(SLOW.format(called=called(), name=name))
     sys.stderr.flush()
     return (os.path.join(SCRIPTS, "quick"), name)
