@@ -28,8 +28,13 @@ def value_rows(values):
             yield f'    {name}) _iptsim_words "$2" {" ".join(offers)} ;;'
 
 
+def pointing(name, first):
+    """The text of the file of another command, by whose name bash-completion looks for it."""
+    return f"# Completion for bash of {name}: it stands in the file of {first}. bin/completions writes this file.\n\n. \"${{BASH_SOURCE[0]%/*}}/{first}\"\n"
+
+
 def written(commands, values):
-    """The text of each file, by its name; an empty text where a file is a link to the first."""
+    """The text of the file that has the completion of all commands."""
     forms = [form_row(f"{command.name} {name}".strip(), form, [] if name else subcommands(command))
              for command in commands.values() for name, form in command.forms.items()]
     with open(FORM, encoding="utf-8") as file:

@@ -48,13 +48,6 @@ def entry(source, place, mode):
         return Entry(place, mode, file.read())
 
 
-def copied(source, place):
-    """A file or a link of the sources, which keeps what it names."""
-    if os.path.islink(source):
-        return Link(place, os.readlink(source))
-    return entry(source, place, 0o644)
-
-
 def installation(root, programs):
     """All files, where `programs` has the bytes of each program by its name."""
     entries = [Entry(f"bin/{name}", 0o755, data) for name, data in programs.items()]
@@ -65,5 +58,5 @@ def installation(root, programs):
         entries.append(entry(os.path.join(root, "bin", "lib", module), f"lib/iptsim/lib/{module}", 0o644))
     for pattern, folder in COPIED:
         for source in sorted(glob.glob(os.path.join(root, pattern))):
-            entries.append(copied(source, f"{folder}/{os.path.basename(source)}"))
+            entries.append(entry(source, f"{folder}/{os.path.basename(source)}", 0o644))
     return entries
