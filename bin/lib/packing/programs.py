@@ -87,7 +87,7 @@ def numbers(version):
 def answer(name, path, words, given):
     """The status and the output of a program."""
     try:
-        ended = subprocess.run([path, *words], input=given.encode(), stdout=subprocess.PIPE, check=False, timeout=60)
+        ended = subprocess.run([path, *words], input=given.encode(), stdout=subprocess.PIPE, stderr=subprocess.DEVNULL, check=False, timeout=60)
     except (OSError, subprocess.TimeoutExpired) as error:
         raise Failure(f"the program {name} can't be asked: {path}: {error}") from error
     return ended.returncode, ended.stdout.decode(errors="replace")
