@@ -28,7 +28,7 @@ KEPT = [
         """            settle_lines(lines, at, spans);
             Ok(())
         }
-        Err(refused) => {""", "faults", "a table with all kinds"),
+        Err(refused) => {""", "faults", "cuts two lines"),
     Bug("keeps-a-row", "a row stays where the start of its piece is refused memory", "classify/src/line/owned.rt",
         """            Err(refused) => {
                 self.rows.remove(k + 1);
@@ -42,7 +42,7 @@ KEPT = [
         }
     }
 
-    // Cuts a piece at two""", "faults", "a table with all kinds"),
+    // Cuts a piece at two""", "faults", "cuts a line once more"),
     Bug("keeps-one-row-of-two", "of two rows one stays where the starts of their pieces are refused memory", "classify/src/line/owned.rt",
         """                self.rows.remove(k + 1);
                 self.rows.remove(k + 1);""",
@@ -50,7 +50,7 @@ KEPT = [
     Bug("keeps-words-of-a-row", "the words of the first of two rows stay where those of the second are refused", "bits/src/rows.rt",
         """            words.truncate(before);
             Err(refused)""",
-        """            Err(refused)""", "faults", "a table with all kinds"),
+        """            Err(refused)""", "faults", "cuts the piece of the one before"),
     Bug("keeps-a-start", "of two starts one stays where the other is refused memory", "classify/src/line/starts.rt",
         """            Err(refused) => {
                 self.remove(k);
@@ -120,7 +120,7 @@ UNTOLD = [
         "    let both = met(alloc, &spans[place], asked.set)?;",
         """    let Ok(both) = met(alloc, &spans[place], asked.set) else {
         return Ok(());
-    };""", "faults", "refused_rules.cases"),
+    };""", "faults", "asks one field three times"),
     Bug("match-untold", "a copy of a rule lacks a match", "rules/src/rule/copy.rt",
         "        let copy = copy_match(alloc, one)?;",
         """        let Ok(copy) = copy_match(alloc, one) else {
@@ -174,7 +174,7 @@ UNTOLD = [
             Err(_) => return Err(TableFault::NoMemory),""",
         """        match self.replace(place, at, Entry { rule, flow }, work) {
             Ok(()) => return Ok(()),
-            Err(_) => return Err(TableFault::NumberOutOfRange),""", "faults", "a table with all kinds"),
+            Err(_) => return Err(TableFault::NumberOutOfRange),""", "faults", "cuts two lines"),
     Bug("chains-in-place-of-memory", "T15 in place of M0", "table/src/table.rt",
         """        match self.parts.make(place, owned) {
             Ok(()) => Ok(()),

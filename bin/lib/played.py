@@ -112,12 +112,19 @@ class Told:
         if self.model.restore:
             self.say([self.model.end])
 
+    def names(self):
+        return [quoted(name) for name in self.model.table.in_order()]
+
+    def show_lines(self, is_large=False):
+        """Shows the lines of each chain, unless the table is large."""
+        self.say([b"lines " + name for name in ([] if is_large else self.names())])
+
     def show(self, is_large=False):
         """Shows the table: what -S lists, and unless it is large the lines of each chain. Then it is emptied chain by chain, and the user
         chains go: so how often each is named shows too."""
-        names = [] if is_large else [quoted(name) for name in self.model.table.in_order()]
+        names = [] if is_large else self.names()
         self.say([b"iptables -S"])
-        self.say([b"lines " + name for name in names])
+        self.show_lines(is_large)
         self.say([b"iptables -F " + name for name in names])
         self.say([b"iptables -X " + name for name in names])
         self.say([b"iptables -S"])

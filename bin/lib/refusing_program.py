@@ -11,6 +11,8 @@ SOURCE = os.path.join(os.path.dirname(os.path.realpath(__file__)), "refuse.c")
 # has another in its place, since nothing can be preloaded into such a program.
 BUILT_FOR = 123456789
 SIGN = BUILT_FOR.to_bytes(4, "little")
+# Folders above the file that is loaded: a long path takes memory as it is opened.
+DEEP = "x" * 200, "x" * 200
 
 
 def places_of(sign, data):
@@ -26,7 +28,8 @@ class RefusingProgram:
 
     def __init__(self, path):
         self.folder = tempfile.TemporaryDirectory()
-        self.path, self.load, self.runs = os.path.join(self.folder.name, "program"), os.path.join(self.folder.name, "file"), 0
+        self.path, self.load, self.runs = os.path.join(self.folder.name, "program"), os.path.join(self.folder.name, *DEEP, "file"), 0
+        os.makedirs(os.path.dirname(self.load))
         shutil.copy(path, self.path)
         os.chmod(self.path, 0o700)
         with open(self.path, "rb") as file:
