@@ -322,7 +322,7 @@ TAKING = [
         return match restore.finish() {""",
         """    if is_end(&word, line, too_long) {
         let _copy = table.copy();
-        return match restore.finish() {""", "faults", "sessions.cases: two restores"),
+        return match restore.finish() {""", "faults", "a table with all kinds"),
 ]
 
 # Devices: when replies are handed on, and what comes of a call that fails.
