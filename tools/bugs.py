@@ -206,8 +206,7 @@ UNTOLD = [
     Bug("status-before-any-line", "status 1 where memory is refused before any line", "iptsim/src/fault.rt",
         "        ProgramFault::NoMemory => 4,", "        ProgramFault::NoMemory => 1,", "faults", "a jump comes back"),
     Bug("open-in-place-of-memory", "a file that is refused memory as it is opened can't be opened", "programs/src/files.rt",
-        "        Err(error) if error.kind() == ErrorKind::OutOfMemory => Err(ProgramFault::NoMemory),\n", "", "faults",
-        "a session after a restore"),
+        "        Err(error) if error.kind() == ErrorKind::OutOfMemory => Err(ProgramFault::NoMemory),\n", "", "nothing: opening a file takes no memory of the program"),
 ]
 
 # Where a refusal leads to.
@@ -238,7 +237,7 @@ TAKING = [
         return Outcome::fails(Mode::Outside, Fault::Line(RestoreFault::LineTooLong));""",
         """    if too_long {
         let _copy = line.to_vec(alloc);
-        return Outcome::fails(Mode::Outside, Fault::Line(RestoreFault::LineTooLong));""", "faults", "long_lines.cases: # and x, 10,241 bytes"),
+        return Outcome::fails(Mode::Outside, Fault::Line(RestoreFault::LineTooLong));""", "faults"),
     Bug("commit-takes", "COMMIT takes memory", "restore/src/restore.rt",
         """                if is_commit(line) {
                     commit(section, test, table);""",
@@ -347,7 +346,7 @@ DEVICES = [
             Err(_) => Err(RunFault::WriteFailed),""",
         """        match self.report_last(table, reply, output) {
             Ok(()) => Ok(self.status),
-            Err(_) => Ok(self.status),""", "cut", "times_to_live.cases: times to live"),
+            Err(_) => Ok(self.status),""", "cut", "a dump with another table"),
     Bug("reads-on-after-a-failed-write", "lines are read after a write that failed", "sessions/src/run/session.rt",
         """        Ok(()) => Ok(()),
         Err(_) => Err(RunFault::WriteFailed),
