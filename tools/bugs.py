@@ -213,9 +213,9 @@ UNTOLD = [
 AFTER = [
     Bug("restore-left-at-its-fault", "after a fault the lines of a restore are those of the session", "sessions/src/line/outcome.rt",
         "        Err(fault) => Outcome::fails(Mode::AfterFault(word), Fault::of_line(fault)),",
-        "        Err(fault) => Outcome::fails(Mode::Outside, Fault::of_line(fault)),", "cases"),
+        "        Err(fault) => Outcome::fails(Mode::Outside, Fault::of_line(fault)),", "cases", "sessions.cases"),
     Bug("status-of-the-last-fault", "the status is that of the last fault", "sessions/src/run/session.rt",
-        "            if self.status == 0 {", "            if self.status < 9 {", "cases"),
+        "            if self.status == 0 {", "            if self.status < 9 {", "cases", "first_faults.cases"),
     Bug("status-of-memory-wins", "M0 gives the status though another fault came first", "sessions/src/run/session.rt",
         "            if self.status == 0 {", "            if self.status == 0 || fault.status() == 4 {", "faults",
         "the status is that of the first fault: three faults"),
@@ -382,7 +382,7 @@ DEVICES = [
         LineEnd::Input""", "cut", "times_to_live.cases: times to live"),
     Bug("long-last-line-unserved", "a last line that is too long isn't served", "fields/src/text/line.rt",
         "    let end = if too_long || !line.is_empty() {",
-        "    let end = if !line.is_empty() && !too_long {", "cases"),
+        "    let end = if !line.is_empty() && !too_long {", "cases", "long_lines.cases"),
     Bug("line-in-parts-is-two", "a line that comes in two reads is two lines", "fields/src/text/line.rt",
         """    tap.eat(n);
     Ok(LineStep::More)""",
@@ -390,12 +390,12 @@ DEVICES = [
     Ok(LineStep::Newline)""", "cut", "times_to_live.cases: times to live"),
     Bug("end-word-unasked", "S3 isn't told", "sessions/src/reply/end.rt",
         "        Mode::InRestore(_word, _restore) => Err(Fault::EndWordMissing),",
-        "        Mode::InRestore(_word, _restore) => Ok(Answer::Nothing),", "cases"),
+        "        Mode::InRestore(_word, _restore) => Ok(Answer::Nothing),", "cases", "faults.cases: S3"),
     Bug("end-told-twice", "S3 is told after a fault of the restore too", "sessions/src/reply/end.rt",
         """        Mode::InRestore(_word, _restore) => Err(Fault::EndWordMissing),
         Mode::AfterFault(_word) => Ok(Answer::Nothing),""",
         """        Mode::InRestore(_word, _restore) => Err(Fault::EndWordMissing),
-        Mode::AfterFault(_word) => Err(Fault::EndWordMissing),""", "cases"),
+        Mode::AfterFault(_word) => Err(Fault::EndWordMissing),""", "cases", "sessions.cases"),
     Bug("input-for-output", "a failed write is told as a failed read", "programs/src/fault.rt",
         "            RunFault::WriteFailed => ProgramFault::OutputFailed,",
         "            RunFault::WriteFailed => ProgramFault::InputFailed,", "cut", "times_to_live.cases: times to live"),
@@ -407,9 +407,9 @@ DEVICES = [
 # Texts of faults.
 TEXTS = [
     Bug("text-of-a-table-fault", "another text of T10", "sessions/src/line/fault.rt",
-        """TableFault::Loop => b"T10 loop",""", """TableFault::Loop => b"T10 a loop",""", "cases"),
+        """TableFault::Loop => b"T10 loop",""", """TableFault::Loop => b"T10 a loop",""", "cases", "faults.cases: T10"),
     Bug("text-of-a-packet-fault", "another text of F4", "sessions/src/line/fault.rt",
-        """PacketFault::NotCarried => b"F4 field not carried",""", """PacketFault::NotCarried => b"F4 not carried",""", "cases"),
+        """PacketFault::NotCarried => b"F4 field not carried",""", """PacketFault::NotCarried => b"F4 not carried",""", "cases", "faults.cases: F4"),
     Bug("status-of-a-section", "status 2 of R3", "sessions/src/line/fault.rt",
         """        RestoreFault::Command(_) => 2,
         RestoreFault::Table(_)
@@ -421,7 +421,7 @@ TEXTS = [
         RestoreFault::Table(_)
         | RestoreFault::NotAllowed
         | RestoreFault::BadChainLine
-        | RestoreFault::EndBeforeCommit""", "cases"),
+        | RestoreFault::EndBeforeCommit""", "cases", "faults.cases: R3"),
     Bug("text-of-an-error-type", "the error type of T10 prints another text", "table/src/fault.rt",
         """#[error("loop")]""", """#[error("a loop")]""", "calls"),
 ]

@@ -48,13 +48,17 @@ def size_of(case):
 
 
 def plays_of(case):
-    """A case as a session; and where its runs are a restore, or one and a run after it, as these calls of the program."""
+    """A case as a session of whole lines, in which each restore is ended; and where its runs are a restore, or one and a run after it, as
+    these calls of the program. A session that ends in a restore, or within a line, is played as it stands, too, after an empty file."""
     name = f"{case.file}: {case.name}"
-    yield Play(name, ("session",), b"".join(line + b"\n" for line in joined_lines(case.runs)), None)
+    data = b"".join(line + b"\n" for line in joined_lines(case.runs))
+    yield Play(name, ("session",), data, None)
     *loaded, last = case.runs
     words = (last.kind, *(option for option in last.options if option != "--list"))
     if not loaded and last.kind == "restore":
         yield Play(f"{name}, by itself", words, last.input, None)
+    elif not loaded and last.input != data:
+        yield Play(f"{name}, as it stands", words, last.input, b"")
     elif len(loaded) == 1 and loaded[0].kind == "restore" and set(loaded[0].options) <= {"--list"}:
         yield Play(f"{name}, with a file", words, last.input, loaded[0].input)
 
@@ -221,7 +225,7 @@ def kinds_of(play):
     """All kinds of an input; of a restore by itself and of what is done with a file no more than the coarse ones, under names of their own."""
     model, lines = Session(), lines_of(play.data)
     if play.file is not None:
-        return {f"{' '.join(play.words)} with a file"}
+        return {f"{' '.join(play.words)} with a file" if play.file else "a session as it stands"}
     if play.words == ("session",):
         return kinds_by_line(model, lines)
     model.restore = Restore(model.table, "--noflush" in play.words, "--test" in play.words)
