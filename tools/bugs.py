@@ -237,7 +237,7 @@ TAKING = [
         return Outcome::fails(Mode::Outside, Fault::Line(RestoreFault::LineTooLong));""",
         """    if too_long {
         let _copy = line.to_vec(alloc);
-        return Outcome::fails(Mode::Outside, Fault::Line(RestoreFault::LineTooLong));""", "faults"),
+        return Outcome::fails(Mode::Outside, Fault::Line(RestoreFault::LineTooLong));""", "nothing: the line is empty there, and its copy takes none"),
     Bug("commit-takes", "COMMIT takes memory", "restore/src/restore.rt",
         """                if is_commit(line) {
                     commit(section, test, table);""",
