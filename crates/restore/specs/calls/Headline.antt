@@ -11,7 +11,7 @@ use Rattle.restore.specs.calls.Calls.{Call, IsCall, Lead, Standing, accepted, is
 use Rattle.restore.specs.calls.Changes.{changed_by}
 use Rattle.restore.specs.listings.RoundTrip.{IsRestored, RestoresItself}
 
--- what `Table::stands` says of every table
+-- what the lemma `Table::stands` says of every table
 pub record IsSoundAndClassified (t : TableView) : Type 0 where
   pub sound : IsSound t.table
   pub classified : AreClassified t.table.chains t.classifiers
@@ -33,11 +33,11 @@ pub record Leaves (old : TableView) (calls : List Call) (new : TableView) : Type
   -- and with nothing else
   pub one_walk : (packet : Packet) (walked : Walked) → Walks new.table packet walked → walked ≡ walk new.table packet
 
--- whatever calls lead from one table to another, they leave so
+-- whatever calls lead from one table to another, they leave that
 abbrev pub CallsLeaveWhatTheyAccept : Type 0
 CallsLeaveWhatTheyAccept =
     (old new : TableView) (calls : List Call) → IsSoundAndClassified new → Lead (standing old.table) old calls new → Leaves old calls new
 
--- a call that is refused changes nothing, classifiers included
+-- a refused call changes nothing, classifiers included
 abbrev pub RefusedCallsChangeNothing : Type 0
 RefusedCallsChangeNothing = (s : Standing) (old new : TableView) (call : Call) → IsCall s old call new → IsTrue (is_refused call) → new ≡ old

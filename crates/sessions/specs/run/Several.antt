@@ -1,4 +1,4 @@
--- Several runs of one session, one after another: each begins from the table that the one before left, also where that stopped
+-- Several runs of one session, one after another: each begins from the table that the one before left, even where that one stopped
 -- at a failed device.
 use Rattle.std.specs.Prelude.{◌≡◌, List, [], ◌∷◌, ◌++◌}
 use Rattle.table.specs.chains.Table.{Table, TableView}
@@ -12,25 +12,25 @@ pub record Run : Type 0 where
   pub kind : Kind
   pub done : Done
 
--- how a run of a table begins
+-- how a run on a table begins
 abbrev pub beginning : Table → Run → State
 beginning t run = start_of run.kind t
 
--- the runs lead from one table to another: each begins from the table that the one before left
+-- the runs lead from one table to another, each from what the one before left
 abbrev pub Follow : TableView → List Run → TableView → Type 0
 Follow old [] new = new ≡ old
 Follow old (run ∷ runs) new = (next : TableView) × Headline (beginning old.table run) run.done old next × Follow next runs new
 
--- the changes that a run had accepted
+-- the changes of a run that were accepted
 abbrev pub accepted_in : Table → Run → List Change
 accepted_in t run = accepted (beginning t run) run.done.lines
 
--- the changes that the runs had accepted, in order
+-- the changes of all runs that were accepted, in order
 abbrev pub accepted_by : Table → List Run → List Change
 accepted_by t [] = []
 accepted_by t (run ∷ runs) = accepted_in t run ++ accepted_by (changed_by t (accepted_in t run)) runs
 
--- something holds of how each run began, and of what it did
+-- this fact holds of each run: of how it began, and of what it did
 abbrev pub OfEach : (State → Done → Type 0) → Table → List Run → Type 0
 OfEach P t [] = Unit {0}
 OfEach P t (run ∷ runs) = P (beginning t run) run.done × OfEach P (changed_by t (accepted_in t run)) runs
