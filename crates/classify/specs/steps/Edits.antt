@@ -56,7 +56,7 @@ Says top sets line = (x : ℕ) → x ≤ top → row_in line x ≡ row_at has se
 abbrev pub row_of : List (ℕ × List Bool) → ℕ → List Bool
 row_of line j = let none : ℕ × List Bool = (0, []) in let p : ℕ × List Bool = slice_index_or line j none in p.1
 
--- the piece after the j-th is joined to it where their rows are equal; where the two bits differ that isn't tested
+-- the piece after the j-th is joined to it only if their rows are equal; if they are, and the two bits differ, it is joined
 abbrev pub IsJoined : Bool → Bool → ℕ → List (ℕ × List Bool) → List (ℕ × List Bool) → Type 0
 IsJoined bit above j old new =
     ((new ≡ old) × (suc j < length old → bit ≢ above → row_of old j ≢ row_of old (suc j))) ⊎ ((suc j < length old)

@@ -16,8 +16,8 @@ IsHeld max text items too_long = MatchBool too_long (max < length text) (items �
 abbrev pub EndsAt : Option (List ℕ) → Option (List ℕ) → Type 0
 EndsAt old new = OnSome old (IsAtEnd new)
 
--- the reader gave up the line, with its newline where it has one; a last line without a newline isn't empty, and the input ends
--- after it; without a line nothing was taken and the input is at its end
+-- what was taken from the reader, where that is known: a line and its newline; a last line without a newline, which isn't empty; or
+-- nothing, at the end of the input
 abbrev pub TakesLine : Option (List ℕ) → Option (List ℕ) → LineEnd → List ℕ → Type 0
 TakesLine old new ends.Newline text = Consumes old new (text ++ 10 ∷ [])
 TakesLine old new ends.Input text = (0 < length text) × Consumes old new text × EndsAt old new
@@ -29,7 +29,7 @@ LineOf old new turns left max items (Ok read) text =
     IsHeld max text items read.too_long × TakesLine old new read.end text × (turns ≤ left + (length text + 1))
 LineOf old new turns left max items (Err e) text = Consumes old new text
 
--- a line was read, or the reader failed within one; `turns` and `left` count the steps before and after
+-- a line was read, or the reader failed within one; `left` and `turns` count the steps that the reader had left before and after
 abbrev pub ReadsLine : {E : Type 0} → Option (List ℕ) → Option (List ℕ) → ℕ → ℕ → ℕ → List ℕ → Result LineRead E → Type 0
 ReadsLine old new turns left max items r = (text : List ℕ) × IsOneLine text × LineOf old new turns left max items r text
 

@@ -21,8 +21,8 @@ use Rattle.questions.specs.declared.walking.task.Leaf.{Leaf}
 use Rattle.questions.specs.steps.Taken.{IsUnfinished}
 use Rattle.questions.specs.steps.Takers.{IsBoxAt}
 
--- no packet of the box shows that the rule can match: no packet line writes one, or the one that some line writes doesn't have the
--- rule on its walk
+-- no packet of the box shows that the rule can match: no packet line writes one, or some line writes one that doesn't have the rule
+-- on its walk
 abbrev pub IsUnseen : Table → Step → Hook → List SpanSet → Type 0
 IsUnseen t step hook box =
     HasNoneWritten hook box ⊎ ((words : List (List ℕ)) × (p : Packet) × IsSampleOf hook box words p × (Contains (walk t p).trail (entry_of t.chains step) → ⊥))
@@ -32,7 +32,7 @@ abbrev pub IsUnseenIn : Table → Step → Hook → Leaf → Type 0
 IsUnseenIn t step hook leaf = Contains leaf.trail.items step → IsUnseen t step hook leaf.area
 
 -- the packets that the rule's box has at the hook can't all be walked within the budget; or some of their leaves have the rule on
--- the trail, and no packet of any of these shows it
+-- the trail, and of each of these no packet shows it
 abbrev pub MayLive : Table → Step → Hook → ℕ → Type 0
 MayLive t step hook budget =
     (given : Given) × IsBoxAt t step hook given
@@ -40,20 +40,20 @@ MayLive t step hook budget =
     ⊎ ((leaves : List Leaf) × AreLeavesOf t hook given.area leaves × Any (λ (leaf : Leaf). Contains leaf.trail.items step) leaves
     × All (IsUnseenIn t step hook) leaves))
 
--- an answer about a rule at one hook is unclear only there
+-- an answer about a rule at one hook is unclear only where `MayLive` holds
 abbrev pub IsUnclearAt : Table → Step → Hook → ℕ → Life → Type 0
 IsUnclearAt t step hook budget life.Dead = Unit {0}
 IsUnclearAt t step hook budget (life.Live words) = Unit {0}
 IsUnclearAt t step hook budget life.Unclear = MayLive t step hook budget
 
--- an answer about a rule is unclear only where this is so of each hook at which the rule isn't dead, and there is such a hook
+-- an answer about a rule is unclear only where `MayLive` holds at each hook at which the rule isn't dead, and at one hook at least
 abbrev pub IsUnclear : Table → Step → ℕ → Life → Type 0
 IsUnclear t step budget life.Dead = Unit {0}
 IsUnclear t step budget (life.Live words) = Unit {0}
 IsUnclear t step budget life.Unclear =
     ((hook : Hook) → IsDeadAt t (entry_of t.chains step) hook ⊎ MayLive t step hook budget) × ((hook : Hook) × MayLive t step hook budget)
 
--- no packet of the box shows that the tables differ: no packet line writes one, or both tables give the one that some line writes
+-- no packet of the box shows that the tables differ: no packet line writes one, or some line writes one to which both tables give
 -- the same verdict
 abbrev pub IsAlikeAsSeen : Table → Table → Hook → List SpanSet → Type 0
 IsAlikeAsSeen old new hook box = HasNoneWritten hook box ⊎ ((words : List (List ℕ)) × (p : Packet) × IsSampleOf hook box words p × IsAlike old new p)
@@ -63,7 +63,7 @@ abbrev pub IsAlikeIn : Table → Table → Hook → Verdict → Leaf → Type 0
 IsAlikeIn old new hook verdict leaf = leaf.verdict ≢ verdict → IsAlikeAsSeen old new hook leaf.area
 
 -- the packets of a leaf of the first table can't all be walked through the second table within the budget; or some leaves there
--- have another verdict, and no packet of any of these shows it
+-- have another verdict, and of each of these no packet shows it
 abbrev pub MayDifferIn : Table → Table → Hook → ℕ → Leaf → Type 0
 MayDifferIn old new hook budget leaf =
     (box : List SpanSet) × IsBoth leaf.area leaf.area box
@@ -78,13 +78,13 @@ MayDiffer old new hook budget =
     (box : List SpanSet) × ((p : Packet) → IsAtHook p → p.hook ≡ hook → IsIn box p)
     × (IsUnfinished old hook box budget ⊎ ((leaves : List Leaf) × AreLeavesOf old hook box leaves × Any (MayDifferIn old new hook budget) leaves))
 
--- an answer about two tables is unclear only where this is so
+-- an answer about two tables is unclear only where this fact holds
 abbrev pub IsUnclearIf : Type 0 → Likeness → Type 0
 IsUnclearIf may likeness.Same = Unit {0}
 IsUnclearIf may (likeness.Differ words) = Unit {0}
 IsUnclearIf may likeness.Unclear = may
 
--- this is so of each hook at which the tables aren't the same, and there is such a hook
+-- `MayDiffer` holds at each hook at which the tables aren't the same, and at one hook at least
 abbrev pub MayDifferSomewhere : Table → Table → ℕ → Type 0
 MayDifferSomewhere old new budget =
     ((hook : Hook) → IsSameAt old new hook ⊎ MayDiffer old new hook budget) × ((hook : Hook) × MayDiffer old new hook budget)

@@ -40,6 +40,6 @@ IsUndecidedAt t step budget hook =
     × (MayBeSeveral t given budget
     ⊎ ((leaves : List Leaf) × AreExactWalks t given leaves × (Any (λ (leaf : Leaf). Contains leaf.trail.items step) leaves ⊎ Any IsTooLong leaves))))
 
--- this is so at some hook from which jumps and gotos lead to the rule's chain
+-- `IsUndecidedAt` holds at some hook from which jumps and gotos lead to the rule's chain
 abbrev pub IsUndecided : Table → Step → ℕ → Type 0
 IsUndecided t step budget = (hook : Hook) × IsLed t step hook × IsUndecidedAt t step budget hook

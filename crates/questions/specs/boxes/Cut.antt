@@ -23,8 +23,7 @@ pub record IsCut (rule : Rule) (box inside : List SpanSet) (outside : List (List
 pub record IsApart (rule : Rule) (box : List SpanSet) : Type 0 where
   pub none : (numbers : List ℕ) → IsPoint numbers → Has box numbers → matches numbers rule ≡ false
 
--- the packets that the rule matches are in some parts, each of which is cut again, and each other packet is in one of these or of
--- some others
+-- the packets that the rule matches are in some parts, and each other packet is in one of these or of some others
 pub record IsPartedFor (rule : Rule) (box : List SpanSet) (again outside : List (List SpanSet)) : Type 0 where
   pub matched : (numbers : List ℕ) → IsPoint numbers → Has box numbers → matches numbers rule ≡ true
       → IsInSome again numbers

@@ -46,11 +46,11 @@ HasShared transport own other both = (p : Packet) → IsAtHook p → HasTranspor
 abbrev pub IsSplit : Table → Hook → ℕ → List SpanSet → Type 0
 IsSplit t hook budget box = IsUnfinished t hook box budget ⊎ ((leaves : List Leaf) × IsFinished t hook box budget leaves × (length leaves ≢ 1))
 
--- that is so of a box with the same packets
+-- the walk of a box with the same packets is split
 abbrev pub HasSplitCopy : Table → Hook → ℕ → List SpanSet → Type 0
 HasSplitCopy t hook budget own = (box : List SpanSet) × IsBoth own own box × IsSplit t hook budget box
 
--- that is so of a box with packets only that two others share, among them all that have the transport header
+-- the walk of a box is split that has only packets which two others share, among them all that have the transport header
 pub record HasSplitPart (t : Table) (hook : Hook) (budget : ℕ) (transport : Transport) (own other : List SpanSet) : Type 0 where
   pub part : List SpanSet
   pub all : HasShared transport own other part
@@ -58,7 +58,7 @@ pub record HasSplitPart (t : Table) (hook : Hook) (budget : ℕ) (transport : Tr
   pub some : HasNumbers part
   pub split : HasSplitCopy t hook budget part
 
--- that is so, for some transport header, of packets that the leaf shares with the given box
+-- for some transport header, packets that the leaf shares with the given box have a walk that is split
 abbrev pub IsSplitIn : Table → Given → ℕ → Leaf → Type 0
 IsSplitIn t given budget leaf = (transport : Transport) × HasSplitPart t given.hook budget transport given.area leaf.area
 

@@ -18,19 +18,19 @@ pub record IsSoundAndClassified (t : TableView) : Type 0 where
 
 -- what calls left of a table
 pub record Leaves (old : TableView) (calls : List Call) (new : TableView) : Type 0 where
-  -- the chains are those that the accepted changes give by plain list edits
+  -- the table is the old one with the accepted changes made to it in order, as plain list edits
   pub chains : new.table ≡ changed_by old.table (accepted (standing old.table) calls)
-  -- the table is sound, and each chain's classifier is that of its rules
+  -- it is sound, and each chain's classifier is that of its rules
   pub stands : IsSoundAndClassified new
-  -- the present listing restores into an empty table without a refusal, as a table of these chains
+  -- its listing is read from the empty table without a refusal, as an equal table
   pub restores : RestoresItself new.table
-  -- and whatever table that restore gives has these classifiers
+  -- a table that this restore gives, with the classifiers of its rules, has these classifiers
   pub restored : (made : TableView) → IsSoundAndClassified made → IsRestored new.table made.table → made ≡ new
-  -- and so has whatever table other calls lead to, where it has these chains
+  -- so has any other table of these chains, whatever calls led to it
   pub classifiers : (other : TableView) → IsSoundAndClassified other → other.table ≡ new.table → other ≡ new
-  -- every packet's walk, by the cases of one rule after another, ends with what `walk` says
+  -- every packet's walk, by cases, one rule at a time, ends with what `walk` gives
   pub walks : (packet : Packet) → Walks new.table packet (walk new.table packet)
-  -- and with nothing else
+  -- no walk ends with anything else
   pub one_walk : (packet : Packet) (walked : Walked) → Walks new.table packet walked → walked ≡ walk new.table packet
 
 -- whatever calls lead from one table to another, they leave that

@@ -45,7 +45,7 @@ pub record IsReadIn (start : State) (lines : List Line) (s : State) (line : Line
   pub leads : Lead start before s
   pub going : IsFalse (has_ended s.now.mode)
 
--- a session in this state shows these chains, and their classifiers
+-- a session in this state shows this table, with the classifiers of its chains
 abbrev pub IsShownIn : State → TableView → Type 0
 IsShownIn s t = (t.table ≡ s.now.table) × AreClassified t.table.chains t.classifiers
 
@@ -76,13 +76,13 @@ RestoresClassifiers t =
 
 -- what holds of every table that a session shows
 pub record Stands (t : TableView) : Type 0 where
-  -- its chains are sound
+  -- it is a sound table
   pub sound : IsSound t.table
   -- each chain's classifier is that of its rules
   pub classified : AreClassified t.table.chains t.classifiers
-  -- the present listing restores into an empty table without a refusal, as a table of these chains
+  -- its listing is read from the empty table without a refusal, as an equal table
   pub restores : RestoresItself t.table
-  -- and whatever table that restore gives has these classifiers
+  -- a table that this restore gives, with the classifiers of its rules, has these classifiers
   pub classifiers : RestoresClassifiers t
 
 -- what the calls `verdict` and `trail` answer of a packet: its verdict, and its trail unless memory for that was refused
@@ -100,15 +100,15 @@ AnswersByWalks chains t =
 pub record Headline (start : State) (done : Done) (old new : TableView) : Type 0 where
   -- the table is the one to which the lines led
   pub reached : LeadTo start done.lines new
-  -- the chains are those that the accepted changes give by plain list edits
+  -- the table, policies included, is the old one with the accepted changes made to it in order, as plain list edits
   pub chains : new.table ≡ changed_by old.table (accepted start done.lines)
-  -- every chain's classifier is that of its rules, and the one that restoring the present listing builds
+  -- each chain's classifier is that of its rules, and the one that restoring the present listing builds
   pub stands : Stands new
-  -- every packet's verdict and trail are those of walking these rules in order
+  -- what the table answers of any packet is the walk through these rules in order
   pub walks : AnswersByWalks (changed_by old.table (accepted start done.lines)) new
-  -- so were those of the packets that lines asked for, each in the table of that line
+  -- the reply to each packet that a line asked for was the walk through the table as it was then
   pub packets : PacketsWereWalked start done
-  -- and what was refused changed nothing
+  -- what was refused changed nothing
   pub refused : RefusedChangedNothing start done
 
 -- a run from one moment to another: the lines that it read and executed; with a status, that it did what is said of all bytes of

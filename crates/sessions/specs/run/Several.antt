@@ -37,15 +37,15 @@ OfEach P t (run ∷ runs) = P (beginning t run) run.done × OfEach P (changed_by
 
 -- what the lines of all runs left of a session's table
 pub record Headlines (old : TableView) (runs : List Run) (new : TableView) : Type 0 where
-  -- the chains are those that the accepted changes of all runs give by plain list edits
+  -- the table is the old one with the accepted changes of all runs made to it in order, as plain list edits
   pub chains : new.table ≡ changed_by old.table (accepted_by old.table runs)
-  -- where every chain's classifier was that of its rules before, it is so now, and the one that restoring the present listing builds
+  -- if `Stands` held of the table before, it holds now
   pub stands : Stands old → Stands new
-  -- every packet's verdict and trail are those of walking these rules in order
+  -- what the table answers of any packet is the walk through these rules in order
   pub walks : AnswersByWalks (changed_by old.table (accepted_by old.table runs)) new
-  -- so were those of the packets that lines asked for, in each run
+  -- in each run, the reply to each packet that a line asked for was the walk through the table as it was then
   pub packets : OfEach PacketsWereWalked old.table runs
-  -- and what was refused changed nothing, in each run
+  -- in each run, what was refused changed nothing
   pub refused : OfEach RefusedChangedNothing old.table runs
 
 -- whatever runs a session makes, together they leave what the headline says
