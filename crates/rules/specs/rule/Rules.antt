@@ -1,4 +1,4 @@
--- Rules: what they consist of, and the form in which they are kept.
+-- Rules: what they consist of (iptables(8), SYNOPSIS, rule-specification), and the form in which they are kept.
 use Rattle.std.specs.Prelude.{false, List, [], ◌∷◌, map, filter, Option, Some, None}
 use Rattle.fields.specs.declared.values.icmp.Asked.TheVariants as asked
 use Rattle.fields.specs.declared.values.reject.RejectType.TheVariants as reject

@@ -1,4 +1,5 @@
--- What a line of a session does, by where it stands: outside of restores, in one, or after the fault of one.
+-- What a line of a session does, by its mode, that is where it stands: outside of restores, in one, with its end line, or after the
+-- fault of one. A restore from the command line has no end line.
 use Rattle.std.specs.Prelude.{ℕ, ◌==◌, ◌||◌, ◌&&◌, not, Bool, true, false, List, [], Option, Some, None, Result, Ok, Err, if◌then◌else◌}
 use Rattle.std.specs.Str.{bytes_eq}
 use Rattle.table.specs.chains.Table.{Table, has_chain, rules_of}

@@ -1,4 +1,5 @@
--- What a line of a session asks for: its first word says of which kind it is, and the words after it are read by that.
+-- What a line of a session asks for (iptables(8), iptables-save(8), iptables-restore(8)): its first word says of which kind it is,
+-- and the words after it are read by that.
 use Rattle.std.specs.Prelude.{ℕ, List, [], ◌∷◌, find, length, drop, slice_index_or, Option, Some, None, Result, Ok, Err, codes, if◌then◌else◌}
 use Rattle.std.specs.Str.{bytes_eq}
 use Rattle.fields.specs.packet.Packet.{PacketView, packet_of}
