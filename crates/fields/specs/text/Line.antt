@@ -8,7 +8,7 @@ use Rattle.fields.specs.declared.text.line.LineEnd.{LineEnd}
 use Rattle.fields.specs.declared.text.line.LineEnd.TheVariants as ends
 use Rattle.fields.specs.declared.text.line.LineRead.{LineRead}
 
--- a line of at most `max` bytes is held whole; of a longer one the flag says that it is longer
+-- the text is held whole, or the flag says that it has more than `max` bytes
 abbrev pub IsHeld : ℕ → List ℕ → List ℕ → Bool → Type 0
 IsHeld max text items too_long = MatchBool too_long (max < length text) (items ≡ text)
 
