@@ -11,7 +11,7 @@ use Rattle.restore.specs.calls.Calls.{Call, IsCall, Lead, Standing, accepted, is
 use Rattle.restore.specs.calls.Changes.{changed_by}
 use Rattle.restore.specs.listings.RoundTrip.{IsRestored, RestoresItself}
 
--- what the contract of `Table::stands` says of every table: it is sound, and each chain's classifier is that of its rules
+-- the table is sound, and each chain's classifier is that of its rules, as `Table::stands` says of every table
 pub record IsSoundAndClassified (t : TableView) : Type 0 where
   pub sound : IsSound t.table
   pub classified : AreClassified t.table.chains t.classifiers
