@@ -8,7 +8,7 @@ use Rattle.fields.specs.declared.numbers.spans.Interval.{Interval}
 use Rattle.fields.specs.numbers.Field.{top}
 use Rattle.notation.specs.ValueText.{value_text}
 
--- the digit of base 16 of a number below 16: `0` (48) to `9`, `a` (97) to `f`
+-- the hexadecimal digit of a number below 16: `0` (48) to `9`, `a` (97) to `f`
 abbrev pub digit_byte : ℕ → ℕ
 digit_byte d = if nat_lt d 10 then 48 + d else 87 + d
 
@@ -16,11 +16,11 @@ digit_byte d = if nat_lt d 10 then 48 + d else 87 + d
 abbrev pub digits_of : ℕ → List ℕ
 digits_of byte = digit_byte (byte / 16) ∷ digit_byte (byte % 16) ∷ []
 
--- a number of 128 bits by its 32 digits
+-- a number of 128 bits as 32 hexadecimal digits
 unfoldable pub hexadecimal_text : ℕ → List ℕ
 hexadecimal_text number = flat_map digits_of (to_be_bytes w128 number)
 
--- an end of an interval; an interface may have no name
+-- the text of one end of an interval; of interfaces 32 hexadecimal digits, since not every number is that of a name
 abbrev pub end_text : Field → ℕ → List ℕ
 end_text Source number = value_text Source number
 end_text Destination number = value_text Destination number
@@ -35,7 +35,7 @@ end_text IcmpType number = value_text IcmpType number
 end_text ConnectionState number = value_text ConnectionState number
 end_text TimeToLive number = value_text TimeToLive number
 
--- what stands between the two ends, `-` (45) or `:` (58)
+-- what stands between the two ends: `-` (45) or `:` (58)
 abbrev pub mark_of : Field → ℕ
 mark_of Source = 45
 mark_of Destination = 45
@@ -50,7 +50,7 @@ mark_of IcmpType = 45
 mark_of ConnectionState = 58
 mark_of TimeToLive = 58
 
--- whether a text may stand for several numbers
+-- a text may stand for several numbers on this field: not of flags and states
 abbrev pub has_ranges : Field → Bool
 has_ranges Source = true
 has_ranges Destination = true
@@ -65,11 +65,11 @@ has_ranges IcmpType = true
 has_ranges ConnectionState = false
 has_ranges TimeToLive = true
 
--- both ends, or the one number
+-- the two ends with the mark between them or, of flags and states, the one number
 abbrev pub plain_text : Field → Interval → List ℕ
 plain_text field s = if has_ranges field then end_text field s.first ++ mark_of field ∷ end_text field s.last else end_text field s.first
 
--- numbers that a text can stand for: those of an interval within the top, or one number
+-- the intervals that have such a text: those up to the field's top, of flags and states only those of one number
 pub record IsPart (field : Field) (s : Interval) : Type 0 where
   pub ordered : s.first ≤ s.last
   pub within : s.last ≤ top field

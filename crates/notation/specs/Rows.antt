@@ -1,7 +1,7 @@
--- A table of names and numbers as the code has it.
+-- Tables of names and numbers, as the code has them.
 use Rattle.std.specs.Prelude.{ℕ, List, map}
 use Rattle.std.specs.Borrow.{Bor}
 
--- the names and numbers of its rows
+-- the names and numbers of the rows
 abbrev pub rows_of : List (Bor (List ℕ) × ℕ) → List (List ℕ × ℕ)
 rows_of rows = map (λ row. (row.0.now, row.1)) rows

@@ -1,4 +1,4 @@
--- The text of one number on a field, as a packet line has it.
+-- The text of one number on a field, as a packet line has it (iptables(8), PARAMETERS; iptables-extensions(8)).
 use Rattle.std.specs.Prelude.{◌≡◌, ℕ, ◌/◌, ◌%◌, ◌≤◌, ◌==◌, Bool, not, List, [], ◌∷◌, ◌++◌, map, filter, slice_index_or, Some, decimal}
 use Rattle.std.specs.Int.{w128, to_be_bytes}
 use Rattle.fields.specs.declared.numbers.field.Field.{Field}
@@ -12,19 +12,19 @@ use Rattle.fields.specs.values.Interface.{interface_of, interface_value}
 use Rattle.fields.specs.values.Prefix.{address_text}
 use Rattle.fields.specs.values.TcpFlags.{tcp_flags_text}
 
--- the name of a packet's state, in the order of their numbers
+-- the name of a packet's state with this number
 abbrev pub state_name : ℕ → List ℕ
 state_name number = slice_index_or (map (λ row. row.0) packet_states) number []
 
--- a byte of a name
+-- a byte other than 0
 abbrev pub is_some_byte : ℕ → Bool
 is_some_byte byte = not (byte == 0)
 
--- the name of an interface: the bytes of its number but 0
+-- the name of an interface: the bytes of its number other than 0
 unfoldable pub interface_name : ℕ → List ℕ
 interface_name number = filter is_some_byte (to_be_bytes w128 number)
 
--- type/code
+-- `type/code`
 abbrev pub icmp_text : ℕ → List ℕ
 icmp_text number = decimal (number / 256) ++ 47 ∷ decimal (number % 256)
 
@@ -47,7 +47,7 @@ value_text TimeToLive number = decimal number
 abbrev pub HasName : ℕ → Type 0
 HasName number = (name : List ℕ) × (interface_of name ≡ Some name) × (number ≡ interface_value name)
 
--- the number has a text on the field: of interfaces that of a name, of others each up to the top
+-- the numbers that have a text: of interfaces those of names, on other fields each up to the top
 abbrev pub HasText : Field → ℕ → Type 0
 HasText Source number = number ≤ top Source
 HasText Destination number = number ≤ top Destination
@@ -62,7 +62,7 @@ HasText IcmpType number = number ≤ top IcmpType
 HasText ConnectionState number = number ≤ top ConnectionState
 HasText TimeToLive number = number ≤ top TimeToLive
 
--- the text is read as the number in a packet line, where it stands without quotes
+-- the text is read as the number in a packet line, and may stand there without quotes
 pub record IsValueText (field : Field) (text : List ℕ) (number : ℕ) : Type 0 where
   pub reads_back : number_of_text field text ≡ Some number
   pub bare : IsBareWord text

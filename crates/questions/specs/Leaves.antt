@@ -1,4 +1,4 @@
--- Boxes of packets of which each has one walk.
+-- Leaves: boxes of packets that all have the same walk.
 use Rattle.std.specs.Prelude.{◌≡◌, ℕ, List, [], map, slice_index_or, Any}
 use Rattle.fields.specs.declared.packet.hook.Hook.{Hook}
 use Rattle.fields.specs.numbers.Spans.{SpanSet}
@@ -13,11 +13,11 @@ use Rattle.questions.specs.declared.walking.task.Leaf.{Leaf}
 abbrev pub name_at : List Chain → ℕ → List ℕ
 name_at chains place = let chain : Chain = slice_index_or chains place (empty_chain []) in chain.name
 
--- an entry of the trail, its chain by its name
+-- the entry of a trail for which a step stands, with its chain's name
 abbrev pub entry_of : List Chain → Step → Entry
 entry_of chains step = record { chain = name_at chains step.chain; number = step.number }
 
--- the entries of a trail
+-- the entries for which the steps of a trail stand
 abbrev pub entries_of : List Chain → List Step → List Entry
 entries_of chains steps = map (entry_of chains) steps
 
@@ -26,11 +26,11 @@ abbrev pub walked_of : List Chain → Leaf → Walked
 walked_of chains leaf =
     record { trail = entries_of chains leaf.trail.items; verdict = leaf.verdict; by_policy = leaf.by_policy }
 
--- the packet is one of the leaf's box, and its walk is the one that the leaf shows
+-- the packet is in the leaf's box, and its walk is the one that the leaf shows
 pub record EndsIn (t : Table) (p : Packet) (leaf : Leaf) : Type 0 where
   pub inside : IsIn leaf.area p
   pub walked : walk t p ≡ walked_of t.chains leaf
 
--- each packet at the hook that is one of the box is in some leaf, and has its walk
+-- each packet of the box that can be at the hook is in some leaf, and its walk is the one that this leaf shows
 abbrev pub AreLeavesOf : Table → Hook → List SpanSet → List Leaf → Type 0
 AreLeavesOf t hook box leaves = (p : Packet) → IsAtHook p → p.hook ≡ hook → IsIn box p → Any (EndsIn t p) leaves

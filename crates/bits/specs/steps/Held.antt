@@ -1,4 +1,4 @@
--- Rows of equally many bits as they are held: each has a slot, and a slot has as many words as any other.
+-- Rows of equally many bits as they are stored: each row has a slot, and all slots have the same number of words.
 use Rattle.std.specs.Prelude.{◌≡◌, ◌≢◌, ℕ, ◌*◌, ◌^◌, ◌<◌, ◌≤◌, ◌==◌, Bool, false, List, [], ◌∷◌, length, take, drop, All, if◌then◌else◌, ◌++◌, insert, remove, slice_set}
 use Rattle.bits.specs.steps.Packing.{all_bits}
 
@@ -29,7 +29,7 @@ abbrev pub AreApart : List ℕ → Type 0
 AreApart [] = Unit {0}
 AreApart (s ∷ ss) = IsNoneOf s ss × AreApart ss
 
--- rows of len bits, each in a slot of its own, in words of which each slot has `width`
+-- rows of `len` bits, each in a slot of its own, stored in words of which each slot has `width`
 pub record AreHeld (len width : ℕ) (slots words : List ℕ) : Type 0 where
   pub covers : len ≤ 64 * width
   pub few : width < 2 ^ 58
@@ -43,15 +43,15 @@ pub record AreHeld (len width : ℕ) (slots words : List ℕ) : Type 0 where
 abbrev pub redirected : ℕ → ℕ → ℕ → ℕ
 redirected from to slot = if slot == from then to else slot
 
--- a 0 put into a row's words at a place: the highest bit falls out
+-- a 0 is inserted into a row's words at a place, and their highest bit is dropped
 abbrev pub TakesIn : ℕ → List ℕ → List ℕ → Type 0
 TakesIn at old new = (top : Bool) × (all_bits new ++ top ∷ [] ≡ insert (all_bits old) at false)
 
--- the bit at a place taken out of a row's words: a 0 comes in as the highest
+-- the bit at a place is removed from a row's words, and a 0 becomes their highest bit
 abbrev pub GivesUp : ℕ → List ℕ → List ℕ → Type 0
 GivesUp at old new = all_bits new ≡ remove (all_bits old) at ++ false ∷ []
 
--- a bit written at a place of a row's words
+-- a bit is written at a place of a row's words
 abbrev pub Writes : ℕ → Bool → List ℕ → List ℕ → Type 0
 Writes at bit old new = all_bits new ≡ slice_set (all_bits old) at bit
 

@@ -7,20 +7,20 @@ use Rattle.bits.specs.Rows.{two_words}
 use Rattle.bits.specs.steps.Packing.{all_bits}
 use Rattle.bits.specs.steps.Shifts.{Shifts}
 
--- two words without a bit put in before the others: the last two fall out
+-- two words without a bit are inserted before the others, and the last two are dropped
 abbrev pub TakesWordsIn : List ℕ → List ℕ → Type 0
 TakesWordsIn old new = all_bits new ≡ replicate two_words false ++ all_bits (take (length old - 2) old)
 
--- the first two words taken out: two without a bit come in last
+-- the first two words are dropped, and two without a bit follow the others
 abbrev pub GivesWordsUp : List ℕ → List ℕ → Type 0
 GivesWordsUp old new = all_bits new ≡ all_bits (drop 2 old) ++ replicate two_words false
 
--- a move can be made of so many words
+-- the move is possible in so many words
 abbrev pub Fits : Move → ℕ → Type 0
 Fits (move.Bits how at) count = at < 64 * count
 Fits (move.Words how) count = 2 ≤ count
 
--- what a move makes of a row's words
+-- what a move does to a row's words
 abbrev pub Makes : Move → List ℕ → List ℕ → Type 0
 Makes (move.Bits how at) old new = Shifts how at old new
 Makes (move.Words way.In) old new = TakesWordsIn old new

@@ -4,7 +4,7 @@ use Rattle.std.specs.Int.{bit_at}
 use Rattle.bits.specs.steps.Packing.{all_bits, word_bits, low_bit}
 use Rattle.bits.specs.steps.Held.{words_in}
 
--- a summary has the bit of a pair of words, which pairs 64 apart share
+-- a summary has the bit of this pair of words; pairs that are 64 apart share a bit
 abbrev pub HasPair : ℕ → ℕ → Type 0
 HasPair summary pair = bit_at summary (pair % 64) ≡ 1
 
@@ -16,7 +16,7 @@ IsMarked summary word = HasPair summary (word / 2)
 abbrev pub IsSummaryOf : ℕ → List Bool → Type 0
 IsSummaryOf summary row = (p : ℕ) → slice_index_or row p false ≡ true → IsMarked summary (p / 64)
 
--- a summary has three of each four pairs of so many words, which are taken as whole eights
+-- at least three quarters of the pairs of so many words are marked, counted in whole groups of eight words
 abbrev pub AreMostMarked : ℕ → ℕ → Type 0
 AreMostMarked summary words = 3 * ((words + 7) / 8) ≤ count_ones summary
 

@@ -1,4 +1,4 @@
--- What holds of the classifier of rules, whatever the code.
+-- What holds of the classifier of rules, whatever the code does.
 use Rattle.std.specs.Prelude.{◌≡◌, ◌↔◌, ℕ, Bool, List, map, Some, slice_get, slice_set, if◌then◌else◌}
 use Rattle.fields.specs.declared.numbers.field.Field.{Field}
 use Rattle.fields.specs.numbers.Field.{top}
@@ -16,13 +16,13 @@ use Rattle.classify.specs.search.NextMatch.{next_match}
 abbrev pub EachRuleHasABox : Type 0
 EachRuleHasABox = (rule : Rule) → (box : List SpanSet) × IsBox box × IsBoxOf rule box
 
--- the classifier of rules' boxes is that of the rules, and the other way round
+-- the classifier of the rules' boxes is that of the rules, and the other way round
 abbrev pub BoxesHaveTheRulesClassifier : Type 0
 BoxesHaveTheRulesClassifier =
     (rules : List Rule) (boxes : List (List SpanSet)) (c : Classified) → AreBoxesOf rules boxes
     → IsClassifierOf boxes c ↔ IsClassifierOfRules rules c
 
--- the next box that allows a point is that of the next rule that allows it
+-- the next box that allows each number of a point belongs to the next rule that does
 abbrev pub BoxesHaveTheRulesMatches : Type 0
 BoxesHaveTheRulesMatches =
     (rules : List Rule) (boxes : List (List SpanSet)) (point : List ℕ) (from : ℕ) → AreBoxesOf rules boxes → IsPoint point
@@ -32,7 +32,7 @@ BoxesHaveTheRulesMatches =
 abbrev pub RulesHaveOneClassifier : Type 0
 RulesHaveOneClassifier = (rules : List Rule) (c d : Classified) → IsClassifierOfRules rules c → IsClassifierOfRules rules d → c ≡ d
 
--- the line of rules on a field is the one that the function computes
+-- a line is that of the rules on a field exactly where it is the computed one
 abbrev pub RulesHaveTheComputedLine : Type 0
 RulesHaveTheComputedLine =
     (rules : List Rule) (field : Field) (line : List (ℕ × List Bool)) → IsLineOf (λ rule x. allows rule field x) (top field) rules line
@@ -43,14 +43,14 @@ abbrev pub SameNumbersSameClassifier : Type 0
 SameNumbersSameClassifier = (rules others : List Rule) (c : Classified) → AllowTheSame rules others → IsClassifierOfRules rules c
     → IsClassifierOfRules others c
 
--- a renamed target leaves the classifier as it is
+-- renaming the target of one rule leaves the classifier as it is
 abbrev pub RenamedOneSameClassifier : Type 0
 RenamedOneSameClassifier =
     (rules : List Rule) (at : ℕ) (rule : Rule) (name : List ℕ) (c : Classified) → slice_get rules at ≡ Some rule
     → IsClassifierOfRules rules c
     → IsClassifierOfRules (slice_set rules at (with_chain_name name rule)) c
 
--- renamed targets of all rules that pass a test leave it, too
+-- so does renaming the targets of all rules that pass a test
 abbrev pub RenamedManySameClassifier : Type 0
 RenamedManySameClassifier =
     (rules : List Rule) (test : Rule → Bool) (name : List ℕ) (c : Classified) → IsClassifierOfRules rules c

@@ -1,4 +1,4 @@
--- What the definition of a line comes to.
+-- A law of lines.
 use Rattle.std.specs.Prelude.{◌≡◌, ℕ, Bool, List}
 use Rattle.fields.specs.numbers.Spans.{SpanSet}
 use Rattle.fields.specs.declared.numbers.field.Field.{Field}

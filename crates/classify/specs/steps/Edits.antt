@@ -6,33 +6,34 @@ use Rattle.fields.specs.numbers.Spans.{has}
 use Rattle.classify.specs.line.Line.{row_at}
 use Rattle.classify.specs.steps.Pieces.{IsRising, StartsAt, SayTheSame, Differ, row_in}
 
--- an answer of each number put into a piece's row
+-- the piece, with an answer for its start inserted into its row
 abbrev pub with_test : ℕ → (ℕ → Bool) → ℕ × List Bool → ℕ × List Bool
 with_test at test p = (p.0, insert p.1 at (test p.0))
 
--- a new box's answer put into it
+-- the piece, with a new box's answer inserted
 abbrev pub with_answer : ℕ → List Interval → ℕ × List Bool → ℕ × List Bool
 with_answer at spans p = with_test at (has spans) p
 
--- an answer of each number written into it
+-- the piece, with an answer for its start written over the one at the place
 abbrev pub with_bit : ℕ → (ℕ → Bool) → ℕ × List Bool → ℕ × List Bool
 with_bit at test p = (p.0, slice_set p.1 at (test p.0))
 
--- a box's answer written into it
+-- the piece, with a box's answer written over the one at the place
 abbrev pub with_written : ℕ → List Interval → ℕ × List Bool → ℕ × List Bool
 with_written at spans p = with_bit at (has spans) p
 
--- a box's answer taken out of it
+-- the piece, with the answer at the place removed
 abbrev pub without_answer : ℕ → ℕ × List Bool → ℕ × List Bool
 without_answer at p = (p.0, remove p.1 at)
 
--- new says what old says, and no two neighbours are equal
+-- the new line says of each number what the old one said, and no two neighbours have equal rows
 pub record IsMergeOf (top : ℕ) (old new : List (ℕ × List Bool)) : Type 0 where
   pub rising : IsRising top new
   pub same : SayTheSame old new
   pub differ : Differ new
 
--- new says what old says with no more pieces, and at the numbers of P it has one only where the row changes
+-- the new line says of each number what the old one said, its pieces start at starts of old pieces, and those that P holds of start
+-- only where the row changes
 pub record IsUnsplitAt (P : ℕ → Type 0) (top : ℕ) (old new : List (ℕ × List Bool)) : Type 0 where
   pub rising : IsRising top new
   pub same : SayTheSame old new
@@ -43,7 +44,7 @@ pub record IsUnsplitAt (P : ℕ → Type 0) (top : ℕ) (old new : List (ℕ × 
 abbrev pub IsNumber : ℕ → ℕ → Type 0
 IsNumber x y = y ≡ x
 
--- where an interval begins, and after its end
+-- the start of an interval, or the number after its end
 abbrev pub IsEndOf : Interval → ℕ → Type 0
 IsEndOf s x = (x ≡ s.first) ⊎ (x ≡ s.last + 1)
 
@@ -55,18 +56,18 @@ Says top sets line = (x : ℕ) → x ≤ top → row_in line x ≡ row_at has se
 abbrev pub row_of : List (ℕ × List Bool) → ℕ → List Bool
 row_of line j = let none : ℕ × List Bool = (0, []) in let p : ℕ × List Bool = slice_index_or line j none in p.1
 
--- the piece after the j-th joined to it if their rows are equal, where the two bits say that they may be
+-- the piece after the j-th is joined to it only if their rows are equal; if they are, and the two bits differ, it is joined
 abbrev pub IsJoined : Bool → Bool → ℕ → List (ℕ × List Bool) → List (ℕ × List Bool) → Type 0
 IsJoined bit above j old new =
     ((new ≡ old) × (suc j < length old → bit ≢ above → row_of old j ≢ row_of old (suc j))) ⊎ ((suc j < length old)
     × (row_of old j ≡ row_of old (suc j)) × (new ≡ remove old (suc j)))
 
--- the piece after the j-th joined to it if their rows are equal beside the answers of one box
+-- the piece after the j-th is joined to it where their rows are equal apart from the answers of one box
 abbrev pub IsJoinedBeside : ℕ → ℕ → List (ℕ × List Bool) → List (ℕ × List Bool) → Type 0
 IsJoinedBeside at j old new =
     ((new ≡ old) × (remove (row_of old j) at ≢ remove (row_of old (j + 1)) at)) ⊎ ((new ≡ remove old (j + 1)) × (remove (row_of old j) at ≡ remove (row_of old (j + 1)) at))
 
--- neighbours with one bit at the place still have two rows after the change
+-- neighbours that have the same bit at the place still have different rows after the change
 abbrev pub KeepsApart : (ℕ × List Bool → ℕ × List Bool) → ℕ → List (ℕ × List Bool) → Type 0
 KeepsApart g at line =
     (j : ℕ) → suc j < length line → slice_index_or (row_of line j) at false ≡ slice_index_or (row_of line (suc j)) at false

@@ -18,7 +18,7 @@ use Rattle.classify.specs.steps.Kept.{PiecesAndRoom, IsSound}
 abbrev pub shown_line : PiecesAndRoom → List (ℕ × List Bool)
 shown_line l = l.pieces
 
--- what so many boxes and their lines show
+-- what so many boxes with these lines show
 abbrev pub shown_by : ℕ → List PiecesAndRoom → Classified
 shown_by len lines = record { len = len; lines = map shown_line lines }
 
@@ -30,7 +30,7 @@ tops = map top all_fields
 abbrev pub most_boxes : ℕ
 most_boxes = 64 * (2 ^ 58 - 1)
 
--- as many blank places stand before the first box's in each line as in any other
+-- all lines have the same number of blank places before their rows
 abbrev pub HaveOneMargin : List PiecesAndRoom → Type 0
 HaveOneMargin lines =
     (j k : ℕ) (l : PiecesAndRoom) → j < length lines → k < length lines → (slice_index_or lines j l).room.before ≡ (slice_index_or lines k l).room.before
@@ -42,12 +42,12 @@ pub record IsKept (len : ℕ) (lines : List PiecesAndRoom) : Type 0 where
   pub sound : (k : ℕ) (l : PiecesAndRoom) → k < length lines → IsSound (slice_index tops k) len (slice_index_or lines k l)
   pub margin : HaveOneMargin lines
 
--- the least room of some lines, and n at most
+-- the least room of some lines, but at most n
 unfoldable pub room_of_lines : ℕ → List PiecesAndRoom → ℕ
 room_of_lines n [] = n
 room_of_lines n (l ∷ ls) = min l.room.places (room_of_lines n ls)
 
--- how many boxes go in before a row has to grow: no more than a classifier may have
+-- how many boxes can be added before a row has to grow, within the greatest number of boxes
 abbrev pub room_beside : ℕ → List PiecesAndRoom → ℕ
 room_beside len lines = room_of_lines (most_boxes - len) lines
 
@@ -63,7 +63,7 @@ EachEdit R old new = (k : ℕ) (l : PiecesAndRoom) → k < length old → R (sli
 abbrev pub ShowTheSame : List PiecesAndRoom → List PiecesAndRoom → Type 0
 ShowTheSame = EachEdit (λ l m. m.pieces ≡ l.pieces)
 
--- each line is that of no box
+-- each line is that of no box at all
 abbrev pub AreEmpty : List PiecesAndRoom → List PiecesAndRoom → Type 0
 AreEmpty = EachEdit (λ _ m. m.pieces ≡ (0, []) ∷ [])
 
@@ -92,7 +92,7 @@ HasOnlyCuts s l = IsApart s.intervals l.pieces
 abbrev pub IsKeptWithCuts : SpanSet → PiecesAndRoom → PiecesAndRoom → Type 0
 IsKeptWithCuts s l m = HasCuts s l → m.pieces ≡ l.pieces
 
--- no room is lost, and as many blank places stand before
+-- no room is lost, and the margin is the same
 pub record KeepsRoom (l m : PiecesAndRoom) : Type 0 where
   pub more : l.room.places ≤ m.room.places
   pub before : m.room.before ≡ l.room.before
@@ -106,7 +106,7 @@ pub record IsRoomier (l m : PiecesAndRoom) : Type 0 where
   pub same : m.pieces ≡ l.pieces
   pub room : KeepsRoom l m
 
--- the room of one bit is used, and no more
+-- at most the room of one bit is used
 abbrev pub UsesRoom : PiecesAndRoom → PiecesAndRoom → Type 0
 UsesRoom l m = l.room.places ≤ m.room.places + 1
 
@@ -114,29 +114,29 @@ UsesRoom l m = l.room.places ≤ m.room.places + 1
 abbrev pub FreesRoom : PiecesAndRoom → PiecesAndRoom → Type 0
 FreesRoom l m = m.room.places ≡ l.room.places + 1
 
--- each row has room for all bits that it had, beside what it had room for, and no blank place before them
+-- each row has the room that it had and room for all bits that it had, and no margin
 pub record FreesAll (l m : PiecesAndRoom) : Type 0 where
   pub places : m.room.places ≡ l.room.places + row_bits l.pieces
   pub before : m.room.before ≡ 0
 
--- each row has room for so many bits more after its last
+-- each row has room for so many more bits after its last one
 abbrev pub HasRoomAfter : ℕ → PiecesAndRoom → Type 0
 HasRoomAfter bits l = bits ≤ l.room.places - l.room.before
 
--- for a bit at a place no memory is taken where there is room after the rows, or where blank places before them have two words,
--- or where the bit goes in first and there is one
+-- to insert a bit at a place no memory is taken where there is room after the rows, where the margin has two words, or where the
+-- bit goes in first and the margin has one place
 pub record TakesNoneBeside (at : ℕ) (l m : PiecesAndRoom) : Type 0 where
   pub after : HasRoomAfter 1 l → m.room ≡ l.room
   pub blank : two_words ≤ l.room.before → m.room ≡ l.room
   pub first : at ≡ 0 → 0 < l.room.before → m.room ≡ l.room
 
--- the same line, with blank places more before each row, which two words have
+-- the same line, with a margin that is wider by two words
 pub record IsOpenedUp (l m : PiecesAndRoom) : Type 0 where
   pub same : m.pieces ≡ l.pieces
   pub places : m.room.places ≡ l.room.places
   pub before : m.room.before ≡ l.room.before + two_words
 
--- the same line, with fewer blank places before each row, where there were any: so there is room after the rows, where there is any
+-- the same line with a margin made narrower, if it had one; if there is room at all, there is now room after the rows
 pub record IsClosedUp (l m : PiecesAndRoom) : Type 0 where
   pub same : m.pieces ≡ l.pieces
   pub places : m.room.places ≡ l.room.places
@@ -155,12 +155,12 @@ IsCutMore s l m = IsSplitOf s.top s.intervals l.pieces m.pieces
 abbrev pub IsJoinedUp : SpanSet → PiecesAndRoom → PiecesAndRoom → Type 0
 IsJoinedUp s l m = IsMergeOf s.top l.pieces m.pieces
 
--- the set put in at a place: the line of any sets becomes that of the sets with it
+-- a set is inserted at a place: if the old line is that of some sets, the new line is that of these with it
 abbrev pub InsertsSet : ℕ → SpanSet → PiecesAndRoom → PiecesAndRoom → Type 0
 InsertsSet at s l m =
     (sets : List (List Interval)) → IsLineOf has s.top sets l.pieces → IsLineOf has s.top (insert sets at s.intervals) m.pieces
 
--- the set put in the place of another: the line of any sets becomes that of the sets with it
+-- a set replaces another: if the old line is that of some sets, the new line is that of these with it
 abbrev pub ReplacesSet : ℕ → SpanSet → PiecesAndRoom → PiecesAndRoom → Type 0
 ReplacesSet at s l m =
     (sets : List (List Interval)) → IsLineOf has s.top sets l.pieces
@@ -172,17 +172,18 @@ pub record IsCutFor (s : SpanSet) (l : PiecesAndRoom) : Type 0 where
   pub cuts : HasCuts s l
   pub apart : HasOnlyCuts s l
 
--- of so many blank places a bit put in before all others takes one, where there is one, and any other none
+-- a bit that is inserted before all others takes one place of the margin, if there is one, and any other bit takes none
 pub record TakesPlace (at old new : ℕ) : Type 0 where
   pub first : at ≡ 0 → new ≡ old - 1
   pub later : 0 < at → new ≡ old
 
--- a bit taken out leaves one more, where it was before all others
+-- a bit that was before all others leaves one place more in the margin when it is removed, and any other bit leaves none
 pub record LeavesPlace (at old new : ℕ) : Type 0 where
   pub first : at ≡ 0 → new ≡ old + 1
   pub later : 0 < at → new ≡ old
 
--- a box's set put in at a place: the line of any sets becomes that of the sets with it, and the rows are longer by one bit
+-- a box's set is inserted at a place: if the old line says which sets have a number, the new line is that of these sets with it,
+-- and its rows have one bit more
 pub record TakesIn (at : ℕ) (s : SpanSet) (old new : PiecesAndRoom) : Type 0 where
   pub line : (sets : List (List Interval)) → Says s.top sets old.pieces
       → IsLineOf has s.top (insert sets at s.intervals) new.pieces
@@ -190,12 +191,13 @@ pub record TakesIn (at : ℕ) (s : SpanSet) (old new : PiecesAndRoom) : Type 0 w
   pub room : new.room.places + 1 ≡ old.room.places
   pub margin : TakesPlace at old.room.before new.room.before
 
--- nothing need grow for the set's answers: pieces start where they change, and each row has room for a bit
+-- nothing has to grow for the set's answers: pieces start where these change, and each row has room for a bit
 pub record HasRoom (s : SpanSet) (l : PiecesAndRoom) : Type 0 where
   pub cuts : CutsStart s.top s.intervals l.pieces
   pub room : 0 < l.room.places
 
--- a box's set put in the place of another: the line of any sets becomes that of the sets with it, and the rows stay as long
+-- a box's set replaces another: if the old line says which sets have a number, the new line is that of these sets with it, and its
+-- rows are as long
 pub record TakesOver (at : ℕ) (s : SpanSet) (old new : PiecesAndRoom) : Type 0 where
   pub line : (sets : List (List Interval)) → Says s.top sets old.pieces
       → IsLineOf has s.top (slice_set sets at s.intervals) new.pieces
@@ -206,7 +208,7 @@ pub record TakesOver (at : ℕ) (s : SpanSet) (old new : PiecesAndRoom) : Type 0
 abbrev pub HasPlace : ℕ → PiecesAndRoom → Type 0
 HasPlace at l = (at < row_bits l.pieces) × Differ l.pieces
 
--- a box taken out: the line of any sets becomes that of the others, and the rows are shorter by one bit
+-- a box is removed: if the old line is that of some sets, the new line is that of the others, and its rows have one bit less
 pub record LosesBox (at : ℕ) (old new : PiecesAndRoom) : Type 0 where
   pub line : (top : ℕ) (sets : List (List Interval)) → IsLineOf has top sets old.pieces
       → IsLineOf has top (remove sets at) new.pieces

@@ -1,4 +1,4 @@
--- A line as it is kept.
+-- A line as it is stored.
 use Rattle.std.specs.Prelude.{◌≡◌, ℕ, ◌+◌, ◌-◌, ◌^◌, ◌%◌, Bool, List, [], ◌∷◌, length, refl}
 use Rattle.std.specs.Coded.{Coded, Coded-set, code_by, coded_ℕ, coded_bool, coded_list, coded×, ×_prop, Unit-prop, le_prop}
 use Rattle.classify.specs.steps.Pieces.{IsRising, IsRisingFrom, Differ, EachRow, row_bits}
@@ -9,7 +9,7 @@ use base.Stored.{coded_sub}
 abbrev pub most_start : ℕ
 most_start = 2 ^ 128 - 1
 
--- the pieces rise from 0, each row has as many bits as the first, and these and the places for more fill words
+-- the pieces rise from 0, each row has as many bits as the first, and these bits with the room for more fill whole words
 pub record IsLine (pieces : List (ℕ × List Bool)) (places : ℕ) : Type 0 where
   pub rising : IsRising most_start pieces
   pub rows : EachRow (row_bits pieces) pieces
@@ -60,7 +60,7 @@ line_prop pieces places = λ g h i.
 abbrev data_code : Coded (List (ℕ × List Bool) × (ℕ × ℕ))
 data_code = coded× (coded_list (coded× coded_ℕ (coded_list coded_bool))) (coded× coded_ℕ coded_ℕ)
 
--- a line is stored as its pieces and its room
+-- how a line is encoded: as its pieces and its room
 abbrev pub line_code : Coded PiecesAndRoom
 line_code =
     code_by ((d : List (ℕ × List Bool) × (ℕ × ℕ)) × IsLine d.0 d.1.0) (coded_sub data_code (λ d. IsLine d.0 d.1.0) (λ d. line_prop d.0 d.1.0)) (λ l. ((l.pieces, (l.room.places, l.room.before)), l.stands))

@@ -1,10 +1,10 @@
--- The places where a packet meets the table.
+-- The hooks, that is the points where a packet enters the table: one for each built-in chain (iptables(8), TABLES).
 use Rattle.std.specs.Prelude.{ℕ, List, [], ◌∷◌, Option, codes, find}
 use Rattle.std.specs.Str.{bytes_eq}
 use Rattle.fields.specs.declared.packet.hook.Hook.{Hook}
 use Rattle.fields.specs.declared.packet.hook.Hook.TheVariants.{Input, Forward, Output}
 
--- the name of the built-in chain
+-- the name of the hook's built-in chain
 abbrev pub name : Hook → List ℕ
 name Input = codes "INPUT"
 name Forward = codes "FORWARD"
@@ -14,6 +14,6 @@ name Output = codes "OUTPUT"
 abbrev pub all_hooks : List Hook
 all_hooks = Input ∷ Forward ∷ Output ∷ []
 
--- the hook of this name
+-- the hook of a built-in chain's name
 abbrev pub hook_of : List ℕ → Option Hook
 hook_of text = find (λ hook. bytes_eq (name hook) text) all_hooks

@@ -1,4 +1,4 @@
--- The keys of a packet line: what each takes, which packets carry it, and which need it.
+-- The keys of a packet line (one for each field, named like it): what each takes, which packets carry it, and which need it.
 use Rattle.std.specs.Prelude.{ℕ, Bool, true, false, ◌==◌, ◌&&◌, List, Option, Some, None}
 use Rattle.fields.specs.Sequence.{◌>>=◌}
 use Rattle.fields.specs.text.Number.{number_to}
@@ -20,7 +20,7 @@ use Rattle.fields.specs.declared.packet.keys.Shape.{Shape}
 use Rattle.fields.specs.declared.packet.keys.Carrier.{Carrier}
 use Rattle.fields.specs.declared.packet.keys.Carrier.TheVariants as carrier
 
--- the number that a text is as a value of this kind
+-- the number that a text stands for as a value of this kind
 abbrev pub value_of : ValueKind → List ℕ → Option ℕ
 value_of value.Address text = address_of text
 value_of value.Interface text = interface_of text >>= λ name. Some (interface_value name)
@@ -32,24 +32,24 @@ value_of value.Icmp text = packet_icmp_of text
 value_of value.State text = packet_state_of text
 value_of value.Ttl text = ttl_of text
 
--- a packet comes in unless it is sent from here
+-- whether a packet at this hook came in by an interface: at OUTPUT it didn't (iptables(8), PARAMETERS, -i)
 abbrev pub comes_in : Hook → Bool
 comes_in Input = true
 comes_in Forward = true
 comes_in Output = false
 
--- a packet goes out unless it is for here
+-- whether a packet at this hook goes out by an interface: at INPUT it doesn't (iptables(8), PARAMETERS, -o)
 abbrev pub goes_out : Hook → Bool
 goes_out Input = false
 goes_out Forward = true
 goes_out Output = true
 
--- a first fragment of such a protocol; without a protocol there is none
+-- the packet has such a protocol and isn't a further fragment; false where no protocol is given
 abbrev pub is_first_of : (ℕ → Bool) → ℕ → Option ℕ → Bool
 is_first_of has fragment None = false
 is_first_of has fragment (Some protocol) = has protocol && (fragment == 0)
 
--- whether a packet of a shape carries a key
+-- whether a packet of this shape carries what a key stands for
 abbrev pub carries : Shape → Carrier → Bool
 carries shape carrier.Every = true
 carries shape carrier.Incoming = comes_in shape.hook
@@ -58,12 +58,12 @@ carries shape carrier.WithPorts = is_first_of carries_ports shape.fragment shape
 carries shape carrier.Tcp = is_first_of (λ n. n == 6) shape.fragment shape.protocol
 carries shape carrier.Icmp = is_first_of (λ n. n == 1) shape.fragment shape.protocol
 
--- the row of these
+-- a row of these values
 abbrev pub key : ValueKind → Carrier → Bool → ℕ → KeyRow
 key value carrier required absent = record { value = value; carrier = carrier; is_required = required; absent = absent }
 
--- the table of keys: one row a field, whose name is the key. What it takes, who carries it, whether a packet that does needs it, and
--- the packet's number where no word gives one
+-- the table of keys: what a key takes, which packets carry it, whether a packet that carries it needs it, and the packet's number
+-- on the field where no word gives one
 abbrev pub key_of : Field → KeyRow
 key_of field.Source = key value.Address carrier.Every true 0
 key_of field.Destination = key value.Address carrier.Every true 0

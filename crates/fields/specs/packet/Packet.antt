@@ -1,4 +1,4 @@
--- Packets, and the words of a packet line.
+-- Packets, and the words of a packet line: a hook, and then words `key=value`.
 use Rattle.std.specs.Prelude.{ℕ, ◌≡◌, ◌≤◌, Bool, not, ◌&&◌, ◌||◌, List, [], ◌∷◌, ◌++◌, length, map, find, Option, Some, None, is_some}
 use Rattle.std.specs.Prelude.{is_none, unwrap_or, Result, Ok, Err, if◌then◌else◌}
 use Rattle.std.specs.List.{list_any}
@@ -16,29 +16,29 @@ use Rattle.fields.specs.declared.packet.hook.Hook.{Hook}
 use Rattle.fields.specs.declared.packet.PacketFault.{PacketFault}
 use Rattle.fields.specs.declared.packet.PacketFault.TheVariants.{UnknownKey, KeyMissing, BadValue, NotCarried}
 
--- a packet: its hook, and its value on each field, in the fields' order
+-- a packet: its hook, and its number on each field, in the order of the fields
 pub record PacketView : Type 0 where
   pub hook : Hook
   pub values : List ℕ
 
--- the packet's value on a field
+-- the packet's number on a field
 abbrev pub point : PacketView → Field → ℕ
 point p field = number_on p.values field
 
--- what a packet can be: it has one value a field, each within the field's top
+-- a packet has one number a field, each at most the field's top
 pub record IsPacket (p : PacketView) : Type 0 where
   pub whole : length p.values ≡ length all_fields
   pub within : (field : Field) → point p field ≤ top field
 
--- the field of a key: the one whose name is the key
+-- whether this is the field's key
 abbrev pub has_key : List ℕ → Field → Bool
 has_key key field = bytes_eq (name field) key
 
--- the field of a key
+-- the field of a key, if it is known
 abbrev pub field_of : List ℕ → Option Field
 field_of key = find (has_key key) all_fields
 
--- what a word `key=value` gives: the field of the key, and the value's text
+-- the field and the value's text in a word `key=value`, cut at the first `=`; nothing where there is no `=` or the key is unknown
 abbrev pub part_of : List ℕ → Option (Field × List ℕ)
 part_of word = cut_at 61 word >>= λ p. field_of p.0 >>= λ field. Some (field, p.1)
 
@@ -46,16 +46,17 @@ part_of word = cut_at 61 word >>= λ p. field_of p.0 >>= λ field. Some (field, 
 abbrev pub text_in : Field → List ℕ → Option (List ℕ)
 text_in field word = cut_at 61 word >>= λ p. if bytes_eq (name field) p.0 then Some p.1 else None
 
--- the text that some words give a field: that of the first one that gives it
+-- the text that some words give a field: that of the first word that gives it one
 abbrev pub text_of : Field → List (List ℕ) → Option (List ℕ)
 text_of field [] = None
 text_of field (word ∷ words) = option_or (text_in field word) (text_of field words)
 
--- the number of the text after a field's key
+-- the number that a text stands for on a field
 abbrev pub number_of_text : Field → List ℕ → Option ℕ
 number_of_text field text = value_of (key_of field).value text
 
--- the fault of a word that gives this, after other words
+-- the fault of a word with this part, after other words: there is no known key, an earlier word gave the same key, or the value
+-- isn't one of the field
 abbrev pub fault_of_part : List (List ℕ) → Option (Field × List ℕ) → Option PacketFault
 fault_of_part before None = Some UnknownKey
 fault_of_part before (Some part) = if is_some (text_of part.0 before) || is_none (number_of_text part.0 part.1) then Some BadValue else None
@@ -64,16 +65,16 @@ fault_of_part before (Some part) = if is_some (text_of part.0 before) || is_none
 abbrev pub word_fault : List (List ℕ) → List ℕ → Option PacketFault
 word_fault before word = fault_of_part before (part_of word)
 
--- the fault of the leftmost word at fault, of words after others
+-- the fault of the leftmost word that has one
 abbrev pub leftmost_fault : List (List ℕ) → List (List ℕ) → Option PacketFault
 leftmost_fault before [] = None
 leftmost_fault before (word ∷ words) = option_or (word_fault before word) (leftmost_fault (before ++ word ∷ []) words)
 
--- the value that the words give a field: where none does, 64 for the time to live, and 0 for each other field
+-- the number that the words give a field; where none gives one, 64 for the time to live, and 0 for every other field
 abbrev pub value_on : List (List ℕ) → Field → ℕ
 value_on words field = unwrap_or (text_of field words >>= λ text. number_of_text field text) (key_of field).absent
 
--- the shape of a packet that decide which others it carries
+-- what decides which keys a packet carries: its hook, its protocol if one is given, and whether it is a further fragment
 abbrev pub shape_of : Hook → List (List ℕ) → Shape
 shape_of hook words = record {
   hook = hook;
@@ -81,7 +82,7 @@ shape_of hook words = record {
   fragment = value_on words fields.Fragment;
 }
 
--- the shape of a packet by its values
+-- the same, of a packet
 abbrev pub packet_shape : PacketView → Shape
 packet_shape p = record { hook = p.hook; protocol = Some (point p fields.Protocol); fragment = point p fields.Fragment }
 
@@ -89,23 +90,24 @@ packet_shape p = record { hook = p.hook; protocol = Some (point p fields.Protoco
 abbrev pub carries_key : PacketView → Field → Bool
 carries_key p field = carries (packet_shape p) (key_of field).carrier
 
--- whether the key of a field is given, of a packet that doesn't carry it
+-- the words give the key of a field that such a packet doesn't carry
 abbrev pub strays : Shape → List (List ℕ) → Field → Bool
 strays shape words field = is_some (text_of field words) && not (carries shape (key_of field).carrier)
 
--- whether such a key is given
+-- the words give such a key
 abbrev pub strays_key : Shape → List (List ℕ) → Bool
 strays_key shape words = list_any (strays shape words) all_fields
 
--- whether the key of a field has to be given and isn't
+-- the words don't give the key of a field that such a packet needs
 abbrev pub lacks : Shape → List (List ℕ) → Field → Bool
 lacks shape words field = (key_of field).is_required && carries shape (key_of field).carrier && is_none (text_of field words)
 
--- whether such a key is missing
+-- the words lack such a key
 abbrev pub lacks_key : Shape → List (List ℕ) → Bool
 lacks_key shape words = list_any (lacks shape words) all_fields
 
--- the packet of a hook and the words after it, or the first fault: of a word, then a key that it doesn't carry, then one that it lacks
+-- the packet that the words after a hook write, or its first fault: that of the leftmost faulty word, then a key that it doesn't
+-- carry, then a key that it lacks
 abbrev pub checked : Hook → List (List ℕ) → Option PacketFault → Result PacketView PacketFault
 checked hook words (Some fault) = Err fault
 checked hook words None =
@@ -113,12 +115,14 @@ checked hook words None =
     else if lacks_key (shape_of hook words) words then Err KeyMissing
     else Ok (record { hook = hook; values = map (value_on words) all_fields })
 
--- the packet at a hook, where there is one
+-- the packet at this hook, or the fault that there is no such hook
 abbrev pub packet_at : Option Hook → List (List ℕ) → Result PacketView PacketFault
 packet_at None words = Err UnknownKey
 packet_at (Some hook) words = checked hook words (leftmost_fault [] words)
 
--- the packet that words write: the first is the hook
+-- the packet that the words write, the first of which is the hook. A further word is at fault if it has no `=` or an unknown key
+-- (F1), if an earlier word gave that key, or if its value isn't one of the field (F3); the leftmost word at fault decides, then a
+-- key that such a packet doesn't carry (F4), then one that it lacks (F2)
 abbrev pub packet_of : List (List ℕ) → Result PacketView PacketFault
 packet_of [] = Err UnknownKey
 packet_of (word ∷ words) = packet_at (hook_of word) words

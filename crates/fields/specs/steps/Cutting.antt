@@ -1,4 +1,4 @@
--- How the code cuts a line: byte after byte, with the words so far and the word at hand.
+-- How the code cuts a line into words: byte after byte, with the words so far and the present word.
 use Rattle.std.specs.Prelude.{◌≡◌, ℕ, ◌<◌, ◌≤◌, Bool, true, false, All, List, [], ◌∷◌, ◌++◌, length, drop, MatchResult, Option, Some, None, Result, option_and_then}
 use Rattle.std.specs.Borrow.{Bor}
 use Rattle.fields.specs.text.WordEnds.{words_to}
@@ -13,7 +13,7 @@ use Rattle.fields.specs.declared.text.words.WordFault.{WordFault}
 use Rattle.fields.specs.declared.text.words.WordFault.TheVariants as faults
 use Rattle.fields.specs.Refusals.{GivesFor, or_refused}
 
--- the place that the code's place stands for
+-- the state for which a state of the code stands
 abbrev pub view_state : State → line.State
 view_state states.Between = line.Between
 view_state states.Bare = line.Bare
@@ -21,19 +21,19 @@ view_state states.Quoted = line.Quoted
 view_state states.Escaped = line.Escaped
 view_state states.Closed = line.Closed
 
--- the act that the code's act stands for
+-- the transition for which one of the code stands
 abbrev pub view_transition : CodeTransition → Transition
 view_transition (transitions.Skips next) = line.Skips (view_state next)
 view_transition (transitions.Joins next) = line.Joins (view_state next)
 view_transition (transitions.Ends next) = line.Ends (view_state next)
 view_transition transitions.Breaks = line.Breaks
 
--- where the last word ends, or the place before the first
+-- the place where the last word ends, or the one where the first begins
 abbrev pub last_end : ℕ → List ℕ → ℕ
 last_end from [] = from
 last_end from (end ∷ ends) = last_end end ends
 
--- the words so far, the word at hand, and the place of the next byte
+-- the words so far, the present word, and where the next byte stands
 pub record Cut : Type 0 where
   pub words : List (List ℕ)
   pub word : List ℕ
@@ -46,30 +46,30 @@ view_cutting cutting =
     let ends = cutting.ends.items in
     record { words = words_to bytes 0 ends; word = drop (last_end 0 ends) bytes; state = view_state cutting.state }
 
--- some bytes more in the word at hand
+-- the cut with some bytes more in the present word
 abbrev pub joined : List ℕ → Cut → Cut
 joined bytes cut = record { words = cut.words; word = cut.word ++ bytes; state = cut.state }
 
--- the word at hand ended
+-- the cut with the present word ended
 abbrev pub ended : Cut → Cut
 ended cut = record { words = cut.words ++ cut.word ∷ []; word = []; state = cut.state }
 
--- the same cut, with the next byte at another place
+-- the cut with the next byte standing elsewhere
 abbrev pub placed : line.State → Cut → Cut
 placed state cut = record { words = cut.words; word = cut.word; state = state }
 
--- what an act makes of a cut
+-- the cut after a byte that does this
 abbrev pub cut_by : Transition → ℕ → Cut → Option Cut
 cut_by (line.Skips next) byte cut = Some (placed next cut)
 cut_by (line.Joins next) byte cut = Some (placed next (joined (byte ∷ []) cut))
 cut_by (line.Ends next) byte cut = Some (placed next (ended cut))
 cut_by line.Breaks byte cut = None
 
--- what a byte makes of a cut
+-- the cut after a byte; nothing where the quoting is bad
 unfoldable pub after : Cut → ℕ → Option Cut
 after cut byte = cut_by (transition_of cut.state byte) byte cut
 
--- the words at the line's end, by the place of the last byte
+-- the words at the end of the line, where the next byte would stand here
 abbrev pub words_at : line.State → Cut → Option (List (List ℕ))
 words_at line.Between cut = Some cut.words
 words_at line.Bare cut = Some (cut.words ++ cut.word ∷ [])
@@ -77,7 +77,7 @@ words_at line.Quoted cut = None
 words_at line.Escaped cut = None
 words_at line.Closed cut = Some cut.words
 
--- the words at the line's end
+-- the words at the end of the line; nothing where the quoting is bad
 unfoldable pub at_line_end : Cut → Option (List (List ℕ))
 at_line_end cut = words_at cut.state cut
 
@@ -95,26 +95,27 @@ abbrev pub refusal_of : WordFault → Option WordFault
 refusal_of faults.Quoting = Some faults.Quoting
 refusal_of faults.NoMemory = None
 
--- what came, seen by view, is what is wanted; bad quoting is reported only where nothing is
+-- the call's value, seen through `view`, is what is wanted; bad quoting is reported only where nothing is wanted, and memory may
+-- run out
 abbrev pub Gives : {X Y : Type 0} → (X → Y) → Result X WordFault → Option Y → Type 0
 Gives view result wanted = GivesFor refusal_of view result (or_refused faults.Quoting wanted)
 
--- a call with memory alone to fail by
+-- this holds, or the call failed because memory ran out
 abbrev pub UnlessNoMemory : {X : Type 0} → Result X WordFault → Type 0 → Type 0
 UnlessNoMemory result P = MatchResult result (λ _. P) (λ fault. fault ≡ faults.NoMemory)
 
--- fewer bytes are left, and the words to come are the same; bad quoting is reported only where there are none
+-- fewer bytes are left, and the words in the end are the same; bad quoting is reported only where there are none
 abbrev pub Advances : Cut → List ℕ → Cut → Result (Bor (List ℕ)) WordFault → Type 0
 Advances old bytes new result =
     MatchResult result (λ left. (length left.now < length bytes) × (cut_from old bytes ≡ cut_from new left.now))
     (λ fault. OnQuoting fault (cut_from old bytes ≡ None))
 
--- no more bytes are left, and the words to come are the same, unless memory ran out
+-- no more bytes are left than before, and the words in the end are the same, unless memory ran out
 abbrev pub Continues : Cut → List ℕ → Cut → Result (Bor (List ℕ)) WordFault → Type 0
 Continues old bytes new result =
     MatchResult result (λ left. (length left.now ≤ length bytes) × (cut_from old bytes ≡ cut_from new left.now)) (λ fault. fault ≡ faults.NoMemory)
 
--- an unquoted word begins or goes on there
+-- an unquoted word begins or goes on at a byte that stands there
 abbrev pub is_unquoted : line.State → Bool
 is_unquoted line.Between = true
 is_unquoted line.Bare = true

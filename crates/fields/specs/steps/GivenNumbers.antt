@@ -16,18 +16,18 @@ use Rattle.fields.specs.declared.packet.PacketFault.TheVariants.{UnknownKey, Key
 abbrev pub number_in : List (Option ℕ) → Field → Option ℕ
 number_in given field = slice_index_or given (index field) None
 
--- the numbers are those of the words: a field has one where its key is given, and it is that of the text
+-- the numbers are those of the words: a field has one where its key is given, the number of the text there
 pub record IsGiven (given : List (Option ℕ)) (words : List (List ℕ)) : Type 0 where
   pub whole : length given ≡ length all_fields
   pub number : (field : Field) → number_in given field ≡ (text_of field words >>= λ text. number_of_text field text)
   pub filled : (field : Field) → is_some (number_in given field) ≡ is_some (text_of field words)
 
--- the fault of a word that gives this, after words that give these numbers
+-- the fault of a word with this part, after words that gave these numbers
 abbrev pub fault_in : List (Option ℕ) → Option (Field × List ℕ) → Option PacketFault
 fault_in given None = Some UnknownKey
 fault_in given (Some part) = if is_some (number_in given part.0) || is_none (number_of_text part.0 part.1) then Some BadValue else None
 
--- the numbers with that of such a word
+-- the numbers, with that of such a word
 abbrev pub with_part : List (Option ℕ) → Option (Field × List ℕ) → List (Option ℕ)
 with_part given None = given
 with_part given (Some part) = slice_set given (index part.0) (number_of_text part.0 part.1)
@@ -49,11 +49,11 @@ value_in given field = unwrap_or (number_in given field) (key_of field).absent
 abbrev pub shape_in : Hook → List (Option ℕ) → Shape
 shape_in hook given = record { hook = hook; protocol = number_in given fields.Protocol; fragment = value_in given fields.Fragment }
 
--- whether a field has a number, of a packet that doesn't carry it
+-- a field that such a packet doesn't carry has a number
 abbrev pub strays_in : Shape → List (Option ℕ) → Field → Bool
 strays_in shape given field = is_some (number_in given field) && not (carries shape (key_of field).carrier)
 
--- whether a field has to have a number and has none
+-- a field that such a packet needs has no number
 abbrev pub lacks_in : Shape → List (Option ℕ) → Field → Bool
 lacks_in shape given field = (key_of field).is_required && carries shape (key_of field).carrier && is_none (number_in given field)
 

@@ -6,10 +6,10 @@ use Rattle.std.specs.List.{list_all}
 abbrev pub IsOneLine : List ℕ → Type 0
 IsOneLine text = All (λ byte. byte ≢ 10) text
 
--- the same, as a test
+-- the test of it
 abbrev pub is_one_line : List ℕ → Bool
 is_one_line text = list_all (λ byte. not (byte == 10)) text
 
--- none of the texts has a newline
+-- no text has a newline
 abbrev pub AreOneLine : List (List ℕ) → Type 0
 AreOneLine texts = All IsOneLine texts

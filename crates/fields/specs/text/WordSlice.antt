@@ -1,4 +1,4 @@
--- Words that are lent.
+-- Words that are lent by reference.
 use Rattle.std.specs.Prelude.{ℕ, List}
 use Rattle.fields.specs.text.WordEnds.{words_to}
 use Rattle.fields.specs.declared.text.word_slice.WordSlice.{WordSlice}

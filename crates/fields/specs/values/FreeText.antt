@@ -1,11 +1,12 @@
--- Free texts, as a comment and a log prefix have them (iptables-extensions(8)), and how they are printed.
+-- Free texts, as `--comment` and `--log-prefix` take them (iptables-extensions(8), comment and LOG), and how a listing quotes them
+-- (iptables-save(8)).
 use Rattle.std.specs.Prelude.{ℕ, Bool, ◌&&◌, ◌||◌, ◌==◌, nat_lt, nat_le, List, [], ◌∷◌, ◌++◌, length, flat_map, Option, Some, None}
 use Rattle.std.specs.Prelude.{if◌then◌else◌}
 use Rattle.std.specs.List.{list_all}
 use Rattle.std.specs.Char.{is_ascii_alphanumeric}
 use Rattle.fields.specs.text.OneLine.{is_one_line}
 
--- any bytes but newlines, also none, up to a number of them
+-- a text of at most so many bytes, none of them a newline; it may be empty
 unfoldable pub text_of : ℕ → List ℕ → Option (List ℕ)
 text_of most bytes = if nat_le (length bytes) most && is_one_line bytes then Some bytes else None
 
@@ -13,7 +14,7 @@ text_of most bytes = if nat_le (length bytes) most && is_one_line bytes then Som
 abbrev pub is_plain_byte : ℕ → Bool
 is_plain_byte byte = is_ascii_alphanumeric byte || byte == 95 || byte == 45
 
--- a text that is printed without quotes: one or more such bytes
+-- one or more such bytes: a text that is printed without quotes
 abbrev pub is_plain : List ℕ → Bool
 is_plain text = nat_lt 0 (length text) && list_all is_plain_byte text
 
@@ -25,6 +26,6 @@ escaped byte = if byte == 34 || byte == 92 || byte == 39 then 92 ∷ byte ∷ []
 abbrev pub in_quotes : List ℕ → List ℕ
 in_quotes text = 34 ∷ (flat_map escaped text ++ 34 ∷ [])
 
--- the text as it is printed
+-- the text as it is printed: bare if it is only letters, digits, `_` and `-`, else in quotes
 abbrev pub quoted : List ℕ → List ℕ
 quoted text = if is_plain text then text else in_quotes text

@@ -1,4 +1,4 @@
--- ICMP types and codes, as `--icmp-type` of iptables-extensions(8) takes them.
+-- ICMP types and codes, as `--icmp-type` takes them (iptables-extensions(8), icmp).
 use Rattle.std.specs.Prelude.{ℕ, ◌<◌, ◌/◌, ◌%◌, ◌==◌, ◌&&◌, Bool, true, List, [], ◌∷◌, ◌++◌, find, Option, Some, None, option_map}
 use Rattle.std.specs.Prelude.{if◌then◌else◌, codes, decimal}
 use Rattle.std.specs.Option.{option_or}
@@ -9,7 +9,7 @@ use Rattle.fields.specs.text.Number.{number_to}
 use Rattle.fields.specs.declared.values.icmp.Asked.{Asked}
 use Rattle.fields.specs.declared.values.icmp.Asked.TheVariants.{Any, OfType, OfCode}
 
--- the names, each with its type and, where it stands for one, its code
+-- the names, each with the type or the type and code that it stands for
 abbrev pub icmp_names : List (List ℕ × Asked)
 icmp_names =
     (codes "any", Any) ∷ (codes "echo-reply", OfType 0) ∷ (codes "pong", OfType 0) ∷ (codes "destination-unreachable", OfType 3)
@@ -19,11 +19,11 @@ icmp_names =
     ∷ (codes "ttl-exceeded", OfType 11) ∷ (codes "parameter-problem", OfType 12) ∷ (codes "timestamp-request", OfType 13)
     ∷ (codes "timestamp-reply", OfType 14) ∷ []
 
--- what the first of some names that is the text stands for
+-- what the text stands for as one of these names
 abbrev pub asked_by_name : List ℕ → List (List ℕ × Asked) → Option Asked
 asked_by_name text names = option_map (λ row. row.1) (find (λ row. bytes_eq row.0 text) names)
 
--- a number alone is a type, and 255 is any
+-- a number alone is a type, but 255 is any type
 abbrev pub asked_type : ℕ → Asked
 asked_type n = if n == 255 then Any else OfType n
 
@@ -32,11 +32,11 @@ abbrev pub numbers_parted : List ℕ → Option (List ℕ × List ℕ) → Optio
 numbers_parted text None = number_to 255 text >>= λ n. Some (asked_type n)
 numbers_parted text (Some p) = number_to 254 p.0 >>= λ t. number_to 255 p.1 >>= λ c. Some (OfCode t c)
 
--- what numbers ask for
+-- what a text stands for as numbers
 unfoldable pub asked_by_numbers : List ℕ → Option Asked
 asked_by_numbers text = numbers_parted text (cut_at 47 text)
 
--- what a text asks for: numbers, or a name
+-- what a text stands for: as numbers, or else as a name
 unfoldable pub icmp_of : List ℕ → Option Asked
 icmp_of text = option_or (asked_by_numbers text) (asked_by_name text icmp_names)
 
@@ -52,7 +52,7 @@ icmp_text Any = codes "any"
 icmp_text (OfType t) = decimal t
 icmp_text (OfCode t c) = decimal t ++ 47 ∷ decimal c
 
--- whether it holds of a number on the field `icmp`, which is the type times 256, plus the code
+-- whether a packet with this number on the field `icmp` (the type times 256, plus the code) has that type or code
 abbrev pub icmp_passes : Asked → ℕ → Bool
 icmp_passes Any value = true
 icmp_passes (OfType t) value = value / 256 == t

@@ -1,4 +1,4 @@
--- The levels of LOG, as `--log-level` of iptables-extensions(8) takes them.
+-- The levels that `--log-level` takes (iptables-extensions(8), LOG).
 use Rattle.std.specs.Prelude.{ℕ, ◌==◌, List, [], ◌∷◌, Option, find, codes, decimal}
 use Rattle.std.specs.Option.{option_or}
 use Rattle.std.specs.Str.{bytes_eq}
@@ -12,7 +12,7 @@ pub record LevelRow : Type 0 where
   pub number : ℕ
   pub name : List ℕ
 
--- the row of these
+-- a row of these
 abbrev pub row : ℕ → List ℕ → LevelRow
 row number name = record { number = number; name = name }
 
@@ -47,10 +47,10 @@ level_named text levels = find (λ level. bytes_eq (level_name level) text) leve
 abbrev pub all_levels : List LogLevel
 all_levels = Emerg ∷ Alert ∷ Crit ∷ Error ∷ Warning ∷ Notice ∷ Info ∷ Debug ∷ []
 
--- the level that a text writes, as a number up to 7 or by its name
+-- the level that a text stands for: a number up to 7, or a name
 unfoldable pub log_level_of : List ℕ → Option LogLevel
 log_level_of text = option_or (number_to 7 text >>= λ n. level_at n all_levels) (level_named text all_levels)
 
--- the number of a level
+-- the number of a level, as it is printed
 abbrev pub log_level_text : LogLevel → List ℕ
 log_level_text level = decimal (level_number level)

@@ -4,7 +4,7 @@ use Rattle.fields.specs.Sequence.{◌>>=◌}
 use Rattle.fields.specs.text.Cut.{cut_at}
 use Rattle.fields.specs.text.Number.{number_to}
 
--- the number of a packet's `type/code`, each up to 255
+-- the number of a packet's `type/code`, each up to 255: the type times 256, plus the code
 unfoldable pub packet_icmp_of : List ℕ → Option ℕ
 packet_icmp_of text = do
   p ← cut_at 47 text

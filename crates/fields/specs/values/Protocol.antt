@@ -1,4 +1,4 @@
--- Protocols by their names and numbers, as `-p` takes them (iptables(8)).
+-- Protocols by name and number, as `-p` takes them (iptables(8), PARAMETERS, -p).
 use Rattle.std.specs.Prelude.{ℕ, ◌==◌, Bool, ◌||◌, List, [], ◌∷◌, Option, Some, None, option_map, find, codes, decimal, if◌then◌else◌}
 use Rattle.std.specs.Option.{option_or}
 use Rattle.std.specs.Str.{bytes_eq}
@@ -19,28 +19,28 @@ number_in text entries = option_map (λ entry. entry.1) (find (λ entry. bytes_e
 abbrev pub name_in : ℕ → List (List ℕ × ℕ) → Option (List ℕ)
 name_in number entries = option_map (λ entry. entry.0) (find (λ entry. entry.1 == number) entries)
 
--- the number that a name has
+-- the number of a name
 unfoldable pub protocol_number : List ℕ → Option ℕ
 protocol_number text = number_in text protocols
 
--- the first name that a number has
+-- the first name of a number
 unfoldable pub protocol_name : ℕ → Option (List ℕ)
 protocol_name number = name_in number protocols
 
--- one protocol: by a name, or by a number up to 255
+-- one protocol: a name, or a number up to 255
 unfoldable pub one_protocol_of : List ℕ → Option ℕ
 one_protocol_of text = option_or (protocol_number text) (number_to 255 text)
 
--- the protocol of a rule: `all`, which is 0, or one protocol
+-- the protocol that a rule gives: `all`, which is 0, a name, or a number up to 255
 unfoldable pub protocol_of : List ℕ → Option ℕ
 protocol_of text = if bytes_eq text (codes "all") then Some 0 else one_protocol_of text
 
--- the first name, else the number
+-- the name, or else the number
 abbrev pub named_or_decimal : ℕ → Option (List ℕ) → List ℕ
 named_or_decimal number None = decimal number
 named_or_decimal number (Some name) = name
 
--- the text of a protocol: its first name, else its number
+-- the text of a protocol: its first name, or else its number
 unfoldable pub protocol_text : ℕ → List ℕ
 protocol_text number = named_or_decimal number (protocol_name number)
 

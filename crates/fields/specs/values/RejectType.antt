@@ -1,11 +1,11 @@
--- What REJECT answers with, as `--reject-with` of iptables-extensions(8) names it.
+-- The answers that `--reject-with` names (iptables-extensions(8), REJECT).
 use Rattle.std.specs.Prelude.{ℕ, List, [], ◌∷◌, Option, codes, find}
 use Rattle.std.specs.Str.{bytes_eq}
 use Rattle.fields.specs.declared.values.reject.RejectType.{RejectType}
 use Rattle.fields.specs.declared.values.reject.RejectType.TheVariants.{NetUnreachable, HostUnreachable, PortUnreachable, ProtoUnreachable}
 use Rattle.fields.specs.declared.values.reject.RejectType.TheVariants.{NetProhibited, HostProhibited, AdminProhibited, TcpReset}
 
--- the text of a type
+-- the name of an answer
 abbrev pub reject_text : RejectType → List ℕ
 reject_text NetUnreachable = codes "icmp-net-unreachable"
 reject_text HostUnreachable = codes "icmp-host-unreachable"
@@ -16,16 +16,16 @@ reject_text HostProhibited = codes "icmp-host-prohibited"
 reject_text AdminProhibited = codes "icmp-admin-prohibited"
 reject_text TcpReset = codes "tcp-reset"
 
--- the first of some types with this text
+-- the first of some answers with this name
 abbrev pub reject_named : List ℕ → List RejectType → Option RejectType
 reject_named text answers = find (λ answer. bytes_eq (reject_text answer) text) answers
 
--- the types
+-- all answers
 abbrev pub all_reject_types : List RejectType
 all_reject_types =
     NetUnreachable ∷ HostUnreachable ∷ PortUnreachable ∷ ProtoUnreachable ∷ NetProhibited ∷ HostProhibited ∷ AdminProhibited
     ∷ TcpReset ∷ []
 
--- the type of this text
+-- the answer of this name
 abbrev pub reject_of : List ℕ → Option RejectType
 reject_of text = reject_named text all_reject_types

@@ -1,4 +1,4 @@
--- That no two answers hold at once.
+-- What the answers come to, whatever the code does.
 use Rattle.std.specs.Prelude.{◌≡◌, ◌≢◌, ℕ, Bool, List, Ok}
 use Rattle.fields.specs.packet.Packet.{PacketView as Packet, packet_of}
 use Rattle.table.specs.chains.Sound.{IsSound}
@@ -10,23 +10,23 @@ use Rattle.questions.specs.asked.Verdicts.{IsAlike, IsOther, IsSame}
 use Rattle.questions.specs.asked.Without.{AreDead, after, deletions, without}
 use Rattle.questions.specs.boxes.Area.{IsAtHook}
 
--- a line writes only packets that can be at their hooks
+-- a packet line writes only packets that can be at their hook
 abbrev pub LinesWritePacketsAtHooks : Type 0
 LinesWritePacketsAtHooks = (words : List (List ℕ)) (p : Packet) → packet_of words ≡ Ok p → IsAtHook p
 
--- a dead rule isn't live
+-- no rule is both dead and live
 abbrev pub DeadIsNotLive : Type 0
 DeadIsNotLive = (t : Table) (entry : Entry) (words : List (List ℕ)) → IsDead t entry → IsLive t entry words → ⊥
 
--- tables that are the same don't differ
+-- no two tables both are the same and differ
 abbrev pub SameIsNotOther : Type 0
 SameIsNotOther = (old new : Table) (words : List (List ℕ)) → IsSame old new → IsOther old new words → ⊥
 
--- without rules that are dead a table gives each packet the verdict that it gave, but where the walk was too long
+-- without rules that are dead a table gives each packet the verdict that it gave, except where the walk was too long
 abbrev pub DeadRulesCanGo : Type 0
 DeadRulesCanGo =
     (t : Table) (goes : Entry → Bool) → AreDead t goes → (p : Packet) → IsAtHook p → (walk t p).verdict ≢ TooLong → IsAlike t (without goes t) p
 
--- the table without its rules that go is the one that is left after the commands that delete them
+-- the commands `-D chain number` for some rules leave the table without these rules (iptables(8), COMMANDS, -D)
 abbrev pub DeletionsLeaveTheRest : Type 0
 DeletionsLeaveTheRest = (t : Table) (goes : Entry → Bool) → IsSound t → after (deletions goes t.chains) t ≡ without goes t

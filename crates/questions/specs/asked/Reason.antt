@@ -22,7 +22,8 @@ use Rattle.questions.specs.declared.asked.takers.Takers.{Takers}
 abbrev pub IsLed : Table → Step → Hook → Type 0
 IsLed t step hook = Leads t.chains (hook_name hook) (chain_at t step.chain).name
 
--- the packet might come to the rule and would match it: it can be at its hook, which leads to the rule's chain, and the rule matches it
+-- the packet might come to the rule and would match it: it can be at its hook, jumps and gotos lead from there to the rule's chain,
+-- and the rule matches it
 pub record IsMeantFor (t : Table) (step : Step) (p : Packet) : Type 0 where
   pub can : IsAtHook p
   pub led : IsLed t step p.hook
@@ -32,7 +33,7 @@ pub record IsMeantFor (t : Table) (step : Step) (p : Packet) : Type 0 where
 abbrev pub HasPacket : Table → Step → Type 0
 HasPacket t step = (p : Packet) × IsMeantFor t step p
 
--- the rule allows no number on the field that a packet can have
+-- the rule allows no number that a packet can have on the field
 abbrev pub IsImpossible : Rule → Field → Type 0
 IsImpossible rule field = (p : Packet) → IsAtHook p → IsFalse (allows rule field (point p field))
 
@@ -40,20 +41,20 @@ IsImpossible rule field = (p : Packet) → IsAtHook p → IsFalse (allows rule f
 abbrev pub IsUnreached : Table → Step → Type 0
 IsUnreached t step = (hook : Hook) → IsLed t step hook → ⊥
 
--- a rule decides the packet's walk
+-- this rule decides the packet's walk
 abbrev pub IsDecidedBy : Table → Packet → Step → Type 0
 IsDecidedBy t p by = decider_of (walk t p) ≡ Some (entry_of t.chains by)
 
--- one of the rules decides the packet's walk, or the policy of its hook, if that is named
+-- one of the named rules decides the packet's walk, or the policy of its hook does and is named
 abbrev pub IsDecidedAmong : Table → Takers → Packet → Type 0
 IsDecidedAmong t takers p = (Contains takers.policies.items p.hook × IsTrue (walk t p).by_policy) ⊎ Any (IsDecidedBy t p) takers.rules.items
 
--- a policy of a hook decides a packet that might come to the rule and would match it
+-- the policy of this hook decides a packet that might come to the rule and would match it
 abbrev pub IsTakenByPolicy : Table → Step → Hook → Type 0
 IsTakenByPolicy t step hook = (p : Packet) × IsMeantFor t step p × (p.hook ≡ hook) × IsTrue (walk t p).by_policy
 
--- just these decide the packets that might come to the rule and would match it: each of the packets is decided by one of them, and each of them
--- decides some packet; they are rules of the table, each named once
+-- exactly the named rules and policies decide the packets that might come to the rule and would match it: each such packet is
+-- decided by one of them, and each of them decides such a packet; the named rules are the table's, and nothing is named twice
 pub record IsTaken (t : Table) (step : Step) (takers : Takers) : Type 0 where
   pub all : (p : Packet) → IsMeantFor t step p → IsDecidedAmong t takers p
   pub each : All (λ by. (p : Packet) × IsMeantFor t step p × IsDecidedBy t p by) takers.rules.items
@@ -62,14 +63,14 @@ pub record IsTaken (t : Table) (step : Step) (takers : Takers) : Type 0 where
   pub once : AllPairs (λ a b. a ≡ b → ⊥) takers.rules.items
   pub apart : AllPairs (λ a b. a ≡ b → ⊥) takers.policies.items
 
--- a rule of another chain jumps or goes to one of the named chains
+-- a rule outside of some chains jumps or goes to one of them (iptables(8), TARGETS)
 pub record Enters (t : Table) (within : List (List ℕ)) (by : Step) : Type 0 where
   pub rule : IsRule t by
   pub outside : Contains within (chain_at t by.chain).name → ⊥
   pub names : (name : List ℕ) × (chain_named_by (rule_at t by) ≡ Some name) × Contains within name
 
--- The rule's chain is one of some chains in which no walk begins. Just the named rules enter these, and no packet that can be at its hook is
--- matched both by one of them and by the rule.
+-- the rule's chain is one of some chains in which no walk begins; exactly the named rules enter them from outside; and no packet
+-- that can be at its hook is matched both by one of these rules and by the rule
 pub record IsExcluded (t : Table) (step : Step) (ways : List Step) : Type 0 where
   pub within : List (List ℕ)
   pub own : Contains within (chain_at t step.chain).name
@@ -78,7 +79,7 @@ pub record IsExcluded (t : Table) (step : Step) (ways : List Step) : Type 0 wher
   pub each : All (Enters t within) ways
   pub none : (p : Packet) → IsAtHook p → (by : Step) → Enters t within by → IsTrue (matches p.values (rule_at t by)) → IsFalse (matches p.values (rule_at t step))
 
--- what a reason says of the rule of a step
+-- what a reason says of the rule
 abbrev pub IsReason : Table → Step → Reason → Type 0
 IsReason t step (Impossible field) = IsImpossible (rule_at t step) field
 IsReason t step Unreached = IsUnreached t step
@@ -86,7 +87,9 @@ IsReason t step NoPacket = HasPacket t step → ⊥
 IsReason t step (Excluded ways) = HasPacket t step × IsExcluded t step ways.items
 IsReason t step (Taken takers) = HasPacket t step × IsTaken t step takers
 
--- the rule is dead, for this reason
+-- the rule is dead, for this reason: no packet has a number on a field that the rule allows; no jumps and gotos lead to its chain;
+-- no packet is meant for it; packets come to its chain only by rules that match no packet that it matches; or exactly these rules
+-- and policies decide the packets that are meant for it
 pub record Explains (t : Table) (step : Step) (reason : Reason) : Type 0 where
   pub dead : IsDead t (entry_of t.chains step)
   pub why : IsReason t step reason

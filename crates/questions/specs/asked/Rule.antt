@@ -1,4 +1,4 @@
--- What is asked of a rule, and what the answers say.
+-- What the answer to a question about one rule says: dead, live or unclear.
 use Rattle.std.specs.Prelude.{◌≡◌, ℕ, List, Contains, Ok}
 use Rattle.fields.specs.declared.packet.hook.Hook.{Hook}
 use Rattle.fields.specs.packet.Packet.{PacketView as Packet, packet_of}
@@ -8,29 +8,29 @@ use Rattle.questions.specs.boxes.Area.{IsAtHook}
 use Rattle.questions.specs.declared.asked.rule.Life.{Life}
 use Rattle.questions.specs.declared.asked.rule.Life.TheVariants.{Dead, Live, Unclear}
 
--- the rule of an entry matches no packet on its walk, of those that can be at the hook
+-- the rule is on the walk of no packet that can be at this hook
 abbrev pub IsDeadAt : Table → Entry → Hook → Type 0
 IsDeadAt t entry hook = (p : Packet) → IsAtHook p → p.hook ≡ hook → Contains (walk t p).trail entry → ⊥
 
--- the rule matches no packet on its walk
+-- the rule is on the walk of no packet that can be at its hook
 abbrev pub IsDead : Table → Entry → Type 0
 IsDead t entry = (p : Packet) → IsAtHook p → Contains (walk t p).trail entry → ⊥
 
--- the rule is on the walk of a packet, and a line writes that packet
+-- the rule is on the walk of a packet that these words write
 abbrev pub IsLive : Table → Entry → List (List ℕ) → Type 0
 IsLive t entry words = (p : Packet) × (packet_of words ≡ Ok p) × Contains (walk t p).trail entry
 
--- the rule is on the walk of a packet at the hook, and a line writes that packet
+-- the rule is on the walk of a packet at this hook that these words write
 abbrev pub IsLiveAt : Table → Entry → Hook → List (List ℕ) → Type 0
 IsLiveAt t entry hook words = (p : Packet) × (packet_of words ≡ Ok p) × (p.hook ≡ hook) × Contains (walk t p).trail entry
 
--- what is said of a rule, for the packets at one hook
+-- what an answer says of a rule, for the packets at one hook; an unclear one says nothing
 abbrev pub SaysAt : Table → Entry → Hook → Life → Type 0
 SaysAt t entry hook Dead = IsDeadAt t entry hook
 SaysAt t entry hook (Live words) = IsLiveAt t entry hook words
 SaysAt t entry hook Unclear = Unit {0}
 
--- what is said of a rule
+-- what an answer says of a rule; an unclear one says nothing
 abbrev pub Says : Table → Entry → Life → Type 0
 Says t entry Dead = IsDead t entry
 Says t entry (Live words) = IsLive t entry words

@@ -1,4 +1,4 @@
--- Where an answer may be unclear.
+-- Where alone an answer may be unclear, given a budget of steps.
 use Rattle.std.specs.Prelude.{◌≡◌, ◌≢◌, ◌⊎◌, ℕ, List, All, Any, Contains}
 use Rattle.fields.specs.declared.packet.hook.Hook.{Hook}
 use Rattle.fields.specs.numbers.Spans.{SpanSet}
@@ -21,17 +21,18 @@ use Rattle.questions.specs.declared.walking.task.Leaf.{Leaf}
 use Rattle.questions.specs.steps.Taken.{IsUnfinished}
 use Rattle.questions.specs.steps.Takers.{IsBoxAt}
 
--- no packet of the box shows that the rule can match: no line writes one, or the rule isn't on the walk of one that a line writes
+-- no packet of the box shows that the rule can match: no packet line writes one, or some line writes one that doesn't have the rule
+-- on its walk
 abbrev pub IsUnseen : Table → Step → Hook → List SpanSet → Type 0
 IsUnseen t step hook box =
     HasNoneWritten hook box ⊎ ((words : List (List ℕ)) × (p : Packet) × IsSampleOf hook box words p × (Contains (walk t p).trail (entry_of t.chains step) → ⊥))
 
--- nor does one of the leaf, if the rule is on its trail
+-- the same of a leaf's box, if the leaf has the rule on its trail
 abbrev pub IsUnseenIn : Table → Step → Hook → Leaf → Type 0
 IsUnseenIn t step hook leaf = Contains leaf.trail.items step → IsUnseen t step hook leaf.area
 
--- The packets at the hook that a rule's box has don't come to the ends of their walks within the budget; or some of their leaves have the rule on
--- their trail, and no packet of those shows it.
+-- the packets that the rule's box has at the hook can't all be walked within the budget; or some of their leaves have the rule on
+-- the trail, and of each of these no packet shows it
 abbrev pub MayLive : Table → Step → Hook → ℕ → Type 0
 MayLive t step hook budget =
     (given : Given) × IsBoxAt t step hook given
@@ -39,29 +40,30 @@ MayLive t step hook budget =
     ⊎ ((leaves : List Leaf) × AreLeavesOf t hook given.area leaves × Any (λ (leaf : Leaf). Contains leaf.trail.items step) leaves
     × All (IsUnseenIn t step hook) leaves))
 
--- an answer about a rule is unclear only there
+-- an answer about a rule at one hook is unclear only where `MayLive` holds
 abbrev pub IsUnclearAt : Table → Step → Hook → ℕ → Life → Type 0
 IsUnclearAt t step hook budget life.Dead = Unit {0}
 IsUnclearAt t step hook budget (life.Live words) = Unit {0}
 IsUnclearAt t step hook budget life.Unclear = MayLive t step hook budget
 
--- it is unclear only where each hook at which the rule isn't dead is such a hook, and there is one
+-- an answer about a rule is unclear only where `MayLive` holds at each hook at which the rule isn't dead, and at one hook at least
 abbrev pub IsUnclear : Table → Step → ℕ → Life → Type 0
 IsUnclear t step budget life.Dead = Unit {0}
 IsUnclear t step budget (life.Live words) = Unit {0}
 IsUnclear t step budget life.Unclear =
     ((hook : Hook) → IsDeadAt t (entry_of t.chains step) hook ⊎ MayLive t step hook budget) × ((hook : Hook) × MayLive t step hook budget)
 
--- no packet of the box shows that the tables differ: no line writes one, or they give one verdict to one that a line writes
+-- no packet of the box shows that the tables differ: no packet line writes one, or some line writes one to which both tables give
+-- the same verdict
 abbrev pub IsAlikeAsSeen : Table → Table → Hook → List SpanSet → Type 0
 IsAlikeAsSeen old new hook box = HasNoneWritten hook box ⊎ ((words : List (List ℕ)) × (p : Packet) × IsSampleOf hook box words p × IsAlike old new p)
 
--- nor does one of the leaf, if it has another verdict
+-- the same of a leaf's box, if the leaf has another verdict
 abbrev pub IsAlikeIn : Table → Table → Hook → Verdict → Leaf → Type 0
 IsAlikeIn old new hook verdict leaf = leaf.verdict ≢ verdict → IsAlikeAsSeen old new hook leaf.area
 
--- The packets of a leaf of the first table don't come to the ends of their walks in the second one; or some leaves there have another verdict, and
--- no packet of those shows it.
+-- the packets of a leaf of the first table can't all be walked through the second table within the budget; or some leaves there
+-- have another verdict, and of each of these no packet shows it
 abbrev pub MayDifferIn : Table → Table → Hook → ℕ → Leaf → Type 0
 MayDifferIn old new hook budget leaf =
     (box : List SpanSet) × IsBoth leaf.area leaf.area box
@@ -69,19 +71,20 @@ MayDifferIn old new hook budget leaf =
     ⊎ ((leaves : List Leaf) × AreLeavesOf new hook box leaves × Any (λ (other : Leaf). other.verdict ≢ leaf.verdict) leaves
     × All (IsAlikeIn old new hook leaf.verdict) leaves))
 
--- the packets at the hook don't come to the ends of their walks in the first table, or those of a leaf may get two verdicts
+-- the packets at the hook can't all be walked through the first table within the budget, or those of one of its leaves may get
+-- different verdicts
 abbrev pub MayDiffer : Table → Table → Hook → ℕ → Type 0
 MayDiffer old new hook budget =
     (box : List SpanSet) × ((p : Packet) → IsAtHook p → p.hook ≡ hook → IsIn box p)
     × (IsUnfinished old hook box budget ⊎ ((leaves : List Leaf) × AreLeavesOf old hook box leaves × Any (MayDifferIn old new hook budget) leaves))
 
--- an answer about two tables is unclear only where this holds
+-- an answer about two tables is unclear only where this fact holds
 abbrev pub IsUnclearIf : Type 0 → Likeness → Type 0
 IsUnclearIf may likeness.Same = Unit {0}
 IsUnclearIf may (likeness.Differ words) = Unit {0}
 IsUnclearIf may likeness.Unclear = may
 
--- each hook at which the tables aren't known to be the same is such a hook, and there is one
+-- `MayDiffer` holds at each hook at which the tables aren't the same, and at one hook at least
 abbrev pub MayDifferSomewhere : Table → Table → ℕ → Type 0
 MayDifferSomewhere old new budget =
     ((hook : Hook) → IsSameAt old new hook ⊎ MayDiffer old new hook budget) × ((hook : Hook) × MayDiffer old new hook budget)

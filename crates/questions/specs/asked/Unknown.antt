@@ -1,4 +1,4 @@
--- Where what becomes of some packets, or why a rule is dead, isn't known.
+-- Where alone there is no answer to `reach`, or to why a rule is dead, given a budget of steps.
 use Rattle.std.specs.Prelude.{◌≡◌, ◌⊎◌, ℕ, false, true, List, None, Any, Contains}
 use Rattle.fields.specs.declared.packet.hook.Hook.{Hook}
 use Rattle.fields.specs.numbers.Spans.{SpanSet}
@@ -14,15 +14,15 @@ use Rattle.questions.specs.steps.Exact.{AreExactWalks, IsMet, IsSplitIn}
 use Rattle.questions.specs.steps.Taken.{IsFinished, IsUnfinished}
 use Rattle.questions.specs.steps.Takers.{IsBoxAt}
 
--- the packets don't come to the ends of their walks within the budget, or what they share with a leaf, with some transport header, isn't known to
--- have one walk
+-- the packets can't all be walked within the budget; or what they share with some leaf, with some transport header, may have
+-- several walks
 abbrev pub MayBeSeveral : Table → Given → ℕ → Type 0
 MayBeSeveral t given budget =
     (box : List SpanSet) × IsBoth given.area given.area box
     × (IsUnfinished t given.hook box budget
     ⊎ ((leaves : List Leaf) × IsFinished t given.hook box budget leaves × Any (IsSplitIn t given budget) leaves))
 
--- so do those of some packets that can be at their hook
+-- the same of those of some packets that can be at their hook
 abbrev pub MayBeSeveralMet : Table → Given → ℕ → Type 0
 MayBeSeveralMet t given budget = (met : Given) × IsMet given met × MayBeSeveral t met budget
 
@@ -31,8 +31,8 @@ pub record IsTooLong (leaf : Leaf) : Type 0 where
   pub nobody : step_of leaf ≡ None
   pub unended : leaf.by_policy ≡ false
 
--- the rule asks both ports; or what becomes of the packets at the hook that its box has isn't known; or the rule is on the walk of some of them, or
--- their walk is too long
+-- the rule has a condition on both ports; or the verdicts of the packets that its box has at the hook aren't known; or the rule is
+-- on the walk of some of them, or their walk is too long
 abbrev pub IsUndecidedAt : Table → Step → ℕ → Hook → Type 0
 IsUndecidedAt t step budget hook =
     (asks_both (rule_at t step) ≡ true)
@@ -40,6 +40,6 @@ IsUndecidedAt t step budget hook =
     × (MayBeSeveral t given budget
     ⊎ ((leaves : List Leaf) × AreExactWalks t given leaves × (Any (λ (leaf : Leaf). Contains leaf.trail.items step) leaves ⊎ Any IsTooLong leaves))))
 
--- at some hook from which jumps and gotos lead to the rule's chain
+-- `IsUndecidedAt` holds at some hook from which jumps and gotos lead to the rule's chain
 abbrev pub IsUndecided : Table → Step → ℕ → Type 0
 IsUndecided t step budget = (hook : Hook) × IsLed t step hook × IsUndecidedAt t step budget hook

@@ -1,4 +1,4 @@
--- Boxes of packets: on each field a set of numbers.
+-- Boxes of packets: a set of numbers for each field.
 use Rattle.std.specs.Prelude.{◌≡◌, ℕ, ◌≤◌, ◌==◌, ◌||◌, not, Bool, true, false, IsTrue, List}
 use Rattle.fields.specs.declared.numbers.field.Field.{Field}
 use Rattle.fields.specs.declared.numbers.field.Field.TheVariants as field
@@ -9,41 +9,43 @@ use Rattle.fields.specs.packet.Keys.{comes_in, goes_out}
 use Rattle.fields.specs.packet.Packet.{PacketView as Packet, IsPacket, carries_key, point}
 use Rattle.classify.specs.classifier.Classifier.{IsPoint, box_allows, box_matches}
 
--- What a packet can be where it meets the table: its numbers are within their tops, and what it doesn't carry, as packet lines have it, is 0.
+-- a packet that can be at its hook: each number is at most its field's top, and the number of a field that the packet doesn't
+-- carry, as packet lines have it, is 0 (iptables(8), PARAMETERS, -p, -f, -i and -o)
 pub record IsAtHook (p : Packet) : Type 0 where
   pub packet : IsPacket p
   pub carried : (f : Field) → carries_key p f ≡ false → point p f ≡ 0
 
--- a packet for here has no interface that it goes out by, and one from here none that it came in by
+-- a packet at INPUT has no interface to go out by, and one at OUTPUT has none that it came in by (iptables(8), PARAMETERS, -i and
+-- -o)
 pub record HasOwnInterfaces (p : Packet) : Type 0 where
   pub came : comes_in p.hook ≡ false → point p field.InIface ≡ 0
   pub goes : goes_out p.hook ≡ false → point p field.OutIface ≡ 0
 
--- a box has some numbers, one a field in the order of the fields: each is in the set of its field
+-- a box has some numbers, given one a field in the order of the fields: each is in the set of its field
 pub record Has (box : List SpanSet) (numbers : List ℕ) : Type 0 where
   pub each : IsTrue (box_matches numbers box)
 
--- the packet is one of the box
+-- the packet is in the box: each of its numbers is in the set of its field
 abbrev pub IsIn : List SpanSet → Packet → Type 0
 IsIn box p = Has box p.values
 
--- a box has just the numbers that two others have
+-- a box has exactly the numbers that two others have in common
 pub record IsBoth (own other both : List SpanSet) : Type 0 where
   pub all : (numbers : List ℕ) → IsPoint numbers → Has own numbers → Has other numbers → Has both numbers
   pub first : (numbers : List ℕ) → IsPoint numbers → Has both numbers → Has own numbers
   pub second : (numbers : List ℕ) → IsPoint numbers → Has both numbers → Has other numbers
 
--- each field has a number
+-- each field's set has a number
 abbrev pub HasNumbers : List SpanSet → Type 0
 HasNumbers box = (f : Field) → (x : ℕ) × (x ≤ top f) × (box_allows box f x ≡ true)
 
--- of the numbers of a box another has just those whose number on a field is in a set
+-- one box has of the numbers of another exactly those whose number on a field is in a set
 pub record IsNarrowed (field : Field) (wanted : SpanSet) (before after : List SpanSet) : Type 0 where
   pub all : (numbers : List ℕ) → IsPoint numbers → Has before numbers → has wanted.intervals (number_on numbers field) ≡ true → Has after numbers
   pub own : (numbers : List ℕ) → IsPoint numbers → Has after numbers → Has before numbers
   pub members : (numbers : List ℕ) → IsPoint numbers → Has after numbers → has wanted.intervals (number_on numbers field) ≡ true
 
--- of the packets of a box that are at the hook another has just those that carry the field's key
+-- one box has of the packets of another, at a hook, exactly those that carry the field's key
 pub record IsCarrying (hook : Hook) (f : Field) (before after : List SpanSet) : Type 0 where
   pub all : (p : Packet) → IsPacket p → p.hook ≡ hook → IsIn before p → carries_key p f ≡ true → IsIn after p
   pub own : (p : Packet) → IsPacket p → IsIn after p → IsIn before p

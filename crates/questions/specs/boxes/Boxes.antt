@@ -10,12 +10,12 @@ abbrev pub rules_in : List Chain → ℕ
 rules_in [] = 0
 rules_in (chain ∷ chains) = length chain.rules + rules_in chains
 
--- a box for each rule, in their order
+-- each rule's box, in the order of the rules
 pub record AreBoxesOfRules (rules : List Rule) (boxes : List (List SpanSet)) : Type 0 where
   pub long : length boxes ≡ length rules
   pub each : (k : ℕ) (r : Rule) (b : List SpanSet) → k < length rules → IsBoxOf (slice_index_or rules k r) (slice_index_or boxes k b)
 
--- the boxes of its rules for each chain, in the order of a listing
+-- for each chain the boxes of its rules, in the order of a listing
 pub record AreBoxesOf (chains : List Chain) (boxes : List (List (List SpanSet))) : Type 0 where
   pub long : length boxes ≡ length chains
   pub each : (k : ℕ) (c : Chain) (bs : List (List SpanSet)) → k < length chains

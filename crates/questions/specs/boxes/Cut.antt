@@ -1,4 +1,4 @@
--- What a rule makes of a box of packets.
+-- How a rule cuts a box of packets into those that it matches and the others.
 use Rattle.std.specs.Prelude.{◌≡◌, ◌⊎◌, ℕ, true, false, List, Contains}
 use Rattle.fields.specs.numbers.Spans.{SpanSet}
 use Rattle.classify.specs.classifier.Classifier.{IsPoint}
@@ -12,25 +12,26 @@ use Rattle.questions.specs.declared.boxes.cut.Cut.TheVariants.{Apart, Parts, ByP
 abbrev pub IsInSome : List (List SpanSet) → List ℕ → Type 0
 IsInSome boxes numbers = (box : List SpanSet) × Contains boxes box × Has box numbers
 
--- of the packets of a box those that the rule matches are in one part, and each other is in one of some parts
+-- the packets of a box that the rule matches are in one part, and each other packet is in one of some parts
 pub record IsCut (rule : Rule) (box inside : List SpanSet) (outside : List (List SpanSet)) : Type 0 where
   pub matched : (numbers : List ℕ) → IsPoint numbers → Has box numbers → matches numbers rule ≡ true
       → Has inside numbers
   pub others : (numbers : List ℕ) → IsPoint numbers → Has box numbers → matches numbers rule ≡ false
       → IsInSome outside numbers
 
--- the rule matches none of them
+-- the rule matches none of the box
 pub record IsApart (rule : Rule) (box : List SpanSet) : Type 0 where
   pub none : (numbers : List ℕ) → IsPoint numbers → Has box numbers → matches numbers rule ≡ false
 
--- the packets that the rule matches are in some parts, and each other is in one of these or of some others
+-- the packets that the rule matches are in some parts, and each other packet is in one of these or of some others
 pub record IsPartedFor (rule : Rule) (box : List SpanSet) (again outside : List (List SpanSet)) : Type 0 where
   pub matched : (numbers : List ℕ) → IsPoint numbers → Has box numbers → matches numbers rule ≡ true
       → IsInSome again numbers
   pub others : (numbers : List ℕ) → IsPoint numbers → Has box numbers → matches numbers rule ≡ false
       → IsInSome again numbers ⊎ IsInSome outside numbers
 
--- by what became of the box
+-- what a cut says of the box: the rule matches none of it; the part that it matches, and the others; or parts by their ports, some
+-- of which are cut again
 abbrev pub IsCutBy : Rule → List SpanSet → Cut → Type 0
 IsCutBy rule box (Apart same) = (same ≡ box) × IsApart rule box
 IsCutBy rule box (Parts inside outside) = IsCut rule box inside outside.items

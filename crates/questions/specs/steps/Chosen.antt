@@ -1,4 +1,4 @@
--- How the numbers of a packet of a box are chosen.
+-- How the numbers of one packet of a box are chosen.
 use Rattle.std.specs.Prelude.{◌≡◌, ◌⊎◌, ℕ, zero, suc, ◌+◌, ◌*◌, ◌^◌, ◌≤◌, Bool, true, false, List, Some}
 use Rattle.fields.specs.declared.numbers.field.Field.{Field}
 use Rattle.fields.specs.declared.numbers.field.Field.TheVariants as field
@@ -11,7 +11,7 @@ use Rattle.classify.specs.classifier.Classifier.{box_allows}
 use Rattle.questions.specs.declared.sampling.choice.Kind.{Kind}
 use Rattle.questions.specs.steps.Sampled.{IsInterfaceNumber}
 
--- the name of an interface can have the byte
+-- the byte may stand in an interface's name
 abbrev pub IsNameByte : ℕ → Type 0
 IsNameByte byte = is_interface_byte byte ≡ true
 
@@ -21,13 +21,13 @@ IsTail zero number = number ≡ 0
 IsTail (suc after) number =
     (number ≡ 0) ⊎ ((byte : ℕ) × (rest : ℕ) × IsNameByte byte × IsTail after rest × (number ≡ byte * 256 ^ suc after + rest))
 
--- the least number from another one on of which something holds
+-- the least number, from a given one on, of which the fact holds
 pub record IsLeast (holds : ℕ → Type 0) (from number : ℕ) : Type 0 where
   pub is : holds number
   pub above : from ≤ number
   pub least : (other : ℕ) → holds other → from ≤ other → number ≤ other
 
--- it holds of none from there on
+-- the fact holds of no number from there on
 abbrev pub HasNoneFrom : (ℕ → Type 0) → ℕ → Type 0
 HasNoneFrom holds from = (number : ℕ) → holds number → from ≤ number → ⊥
 
@@ -35,12 +35,12 @@ HasNoneFrom holds from = (number : ℕ) → holds number → from ≤ number →
 abbrev pub IsNamed : ℕ → Type 0
 IsNamed number = IsInterfaceNumber number × (1 ≤ number)
 
--- a number that passes a test, and of which something holds
+-- a number that passes the test, and of which the fact holds
 pub record IsFound (holds : ℕ → Type 0) (passes : ℕ → Bool) (number : ℕ) : Type 0 where
   pub is : holds number
   pub there : passes number ≡ true
 
--- it holds of none that passes
+-- the fact holds of no number that passes the test
 abbrev pub FindsNone : (ℕ → Type 0) → (ℕ → Bool) → Type 0
 FindsNone holds passes = (number : ℕ) → holds number → passes number ≡ true → ⊥
 
@@ -48,7 +48,7 @@ FindsNone holds passes = (number : ℕ) → holds number → passes number ≡ t
 abbrev pub carries_field : Kind → Field → Bool
 carries_field kind f = carries (record { hook = kind.hook; protocol = Some kind.protocol; fragment = kind.fragment }) (key_of f).carrier
 
--- the box has the kind's protocol and fragment, and 0 on what the kind doesn't carry
+-- the box has the kind's protocol and fragment, and 0 on each field that the kind doesn't carry
 pub record IsKindOf (box : List SpanSet) (kind : Kind) : Type 0 where
   pub protocol_fits : kind.protocol ≤ top field.Protocol
   pub fragment_fits : kind.fragment ≤ top field.Fragment
@@ -56,19 +56,20 @@ pub record IsKindOf (box : List SpanSet) (kind : Kind) : Type 0 where
   pub fragment : box_allows box field.Fragment kind.fragment ≡ true
   pub others : (f : Field) → carries_field kind f ≡ false → box_allows box f 0 ≡ true
 
--- the same at a hook
+-- the box has packets of this kind, which is of this hook
 pub record IsKindAt (hook : Hook) (box : List SpanSet) (kind : Kind) : Type 0 where
   pub there : kind.hook ≡ hook
   pub inside : IsKindOf box kind
 
+-- the kind of packets with this hook, protocol and fragment
 abbrev pub kind_of : Hook → ℕ → ℕ → Kind
 kind_of hook protocol fragment = record { hook = hook; protocol = protocol; fragment = fragment }
 
--- the box has no kind of packets with the protocol at the hook
+-- the box has no kind of packets with this protocol at the hook
 abbrev pub HasNoKindWith : Hook → List SpanSet → ℕ → Type 0
 HasNoKindWith hook box protocol = (fragment : ℕ) → IsKindOf box (kind_of hook protocol fragment) → ⊥
 
--- what the number on a field is, beside being one of the box: that of the kind, or of an interface
+-- what the number on a field has to be besides being one of the box: the kind's protocol or fragment, or the number of an interface
 abbrev pub IsOwn : Kind → Field → ℕ → Type 0
 IsOwn kind field.Protocol number = number ≡ kind.protocol
 IsOwn kind field.Fragment number = number ≡ kind.fragment
@@ -83,7 +84,7 @@ IsOwn kind field.IcmpType number = Unit {0}
 IsOwn kind field.ConnectionState number = Unit {0}
 IsOwn kind field.TimeToLive number = Unit {0}
 
--- the number on a field of a packet of the kind, which is one of the box
+-- a number that a packet of the kind may have on the field, and that the box has
 pub record IsNumberOn (box : List SpanSet) (kind : Kind) (f : Field) (number : ℕ) : Type 0 where
   pub within : number ≤ top f
   pub there : box_allows box f number ≡ true

@@ -17,7 +17,8 @@ use Rattle.questions.specs.declared.walking.task.Leaf.{Leaf}
 use Rattle.questions.specs.steps.Taken.{IsFinished, IsUnfinished}
 use Rattle.questions.specs.steps.Transports.{HasTransport}
 
--- of the packets that can be at the hook, one box has those of another, and none with an interface that isn't theirs
+-- one box has all packets of another that can be at the hook, and only packets of that one with interfaces that packets at the hook
+-- have
 pub record IsMet (given met : Given) : Type 0 where
   pub there : met.hook ≡ given.hook
   pub all : (p : Packet) → IsMeant given p → IsIn met.area p
@@ -29,8 +30,8 @@ pub record IsWalkOf (t : Table) (hook : Hook) (box : List SpanSet) (leaf : Leaf)
   pub same : leaf.area ≡ box
   pub walked : (p : Packet) → IsAtHook p → p.hook ≡ hook → IsIn box p → walk t p ≡ walked_of t.chains leaf
 
--- the leaf's box has packets, only those of the box; with interfaces of their own they can be at the hook, and each that can be has the
--- walk that the leaf shows
+-- the leaf's box has packets, and only packets of the given box; with interfaces that packets at the hook have each can be at the
+-- hook, and then has the walk that the leaf shows
 pub record IsExact (t : Table) (given : Given) (leaf : Leaf) : Type 0 where
   pub inside : (numbers : List ℕ) → IsPoint numbers → Has leaf.area numbers → Has given.area numbers
   pub can : (p : Packet) → IsPacket p → HasOwnInterfaces p → IsIn leaf.area p → IsAtHook p
@@ -41,15 +42,15 @@ pub record IsExact (t : Table) (given : Given) (leaf : Leaf) : Type 0 where
 abbrev pub HasShared : Transport → List SpanSet → List SpanSet → List SpanSet → Type 0
 HasShared transport own other both = (p : Packet) → IsAtHook p → HasTransport transport p → IsIn own p → IsIn other p → IsIn both p
 
--- the walk of a box doesn't come to its end within the budget, or not in one leaf
+-- the walk of a box isn't finished within the budget, or has not exactly one leaf
 abbrev pub IsSplit : Table → Hook → ℕ → List SpanSet → Type 0
 IsSplit t hook budget box = IsUnfinished t hook box budget ⊎ ((leaves : List Leaf) × IsFinished t hook box budget leaves × (length leaves ≢ 1))
 
--- so does that of a box with the packets of another
+-- the walk of a box with the same packets is split
 abbrev pub HasSplitCopy : Table → Hook → ℕ → List SpanSet → Type 0
 HasSplitCopy t hook budget own = (box : List SpanSet) × IsBoth own own box × IsSplit t hook budget box
 
--- so does that of a box which has some of the packets that two others share, all with the transport header among them
+-- the walk of a box is split that has only packets which two others share, among them all that have the transport header
 pub record HasSplitPart (t : Table) (hook : Hook) (budget : ℕ) (transport : Transport) (own other : List SpanSet) : Type 0 where
   pub part : List SpanSet
   pub all : HasShared transport own other part
@@ -57,11 +58,12 @@ pub record HasSplitPart (t : Table) (hook : Hook) (budget : ℕ) (transport : Tr
   pub some : HasNumbers part
   pub split : HasSplitCopy t hook budget part
 
--- so does that of the packets that a leaf shares with a box, with some transport header
+-- for some transport header, packets that the leaf shares with the given box have a walk that is split
 abbrev pub IsSplitIn : Table → Given → ℕ → Leaf → Type 0
 IsSplitIn t given budget leaf = (transport : Transport) × HasSplitPart t given.hook budget transport given.area leaf.area
 
--- by what a leaf shares with the box, of packets with a transport header
+-- what the leaf shares with the given box, of packets with a transport header: nothing, an exact leaf, or packets whose walk is
+-- split
 abbrev pub IsSharedOf : Table → Given → Leaf → Transport → ℕ → Shared → Type 0
 IsSharedOf t given leaf transport budget Nobody = (p : Packet) → IsAtHook p → HasTransport transport p → IsIn given.area p → IsIn leaf.area p → ⊥
 IsSharedOf t given leaf transport budget (One exact) = IsExact t given exact × HasShared transport given.area leaf.area exact.area
@@ -71,22 +73,22 @@ IsSharedOf t given leaf transport budget Several = HasSplitPart t given.hook bud
 abbrev pub AnyHas : List ℕ → List Leaf → Type 0
 AnyHas numbers leaves = Any (λ (leaf : Leaf). Has leaf.area numbers) leaves
 
--- the packets of a box that a leaf has are those of exact leaves
+-- the packets of the box that the leaf has are in exact leaves
 abbrev pub IsCovered : Given → List Leaf → Leaf → Type 0
 IsCovered given exact leaf = (p : Packet) → IsAtHook p → IsIn given.area p → IsIn leaf.area p → AnyHas p.values exact
 
--- exact leaves and more of them, which have what a leaf shares with the box
+-- the exact leaves, with more of them for what the leaf shares with the box
 pub record AddsExact (t : Table) (given : Given) (leaf : Leaf) (old new : List Leaf) : Type 0 where
   pub each : All (IsExact t given) old → All (IsExact t given) new
   pub kept : (numbers : List ℕ) → AnyHas numbers old → AnyHas numbers new
   pub covered : IsCovered given new leaf
 
--- the packets of the box that some leaves have are those of exact leaves
+-- exact leaves that have all packets of the box that some leaves have
 pub record AreExact (t : Table) (given : Given) (found exact : List Leaf) : Type 0 where
   pub each : All (IsExact t given) exact
   pub all : All (IsCovered given exact) found
 
--- each packet of the box that can be at the hook is one of an exact leaf
+-- exact leaves that have each packet of the box that can be at the hook
 pub record AreExactWalks (t : Table) (given : Given) (exact : List Leaf) : Type 0 where
   pub each : All (IsExact t given) exact
   pub all : (p : Packet) → IsAtHook p → p.hook ≡ given.hook → IsIn given.area p → AnyHas p.values exact

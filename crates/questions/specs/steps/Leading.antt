@@ -1,4 +1,4 @@
--- Chains from which jumps and gotos lead to a chain, by marks.
+-- The chains from which jumps and gotos lead to a given chain, as marks.
 use Rattle.std.specs.Prelude.{◌≡◌, ℕ, zero, suc, ◌<◌, Bool, true, false, List, [], ◌∷◌, Option, Some, None, length, slice_index_or, Contains}
 use Rattle.classify.specs.classifier.Classifier.{IsPoint}
 use Rattle.rules.specs.rule.Allows.{allows_each}
@@ -25,11 +25,11 @@ IsMarkedName chains marks name = (j : ℕ) × (j < length chains) × IsMarked ma
 abbrev pub NamesMarked : List Chain → List Bool → Rule → Type 0
 NamesMarked chains marks rule = (name : List ℕ) × (chain_named_by rule ≡ Some name) × IsMarkedName chains marks name
 
--- two rules allow some numbers both, field by field
+-- some numbers are allowed, field by field, by both rules
 abbrev pub ShareNumbers : Rule → Rule → Type 0
 ShareNumbers a b = (numbers : List ℕ) × IsPoint numbers × (allows_each numbers a ≡ true) × (allows_each numbers b ≡ true)
 
--- beside another rule, if one is given, a rule counts only where both allow some numbers
+-- a rule counts if there are numbers that it and the given rule both allow; without a given rule each counts
 abbrev pub Counts : Option Rule → Rule → Type 0
 Counts None rule = Unit {0}
 Counts (Some own) rule = ShareNumbers own rule
@@ -51,21 +51,21 @@ AreClosed t own marks count = (k : ℕ) → k < count → LeadsOn t own marks k 
 abbrev pub AllLead : Table → Option Rule → List ℕ → List Bool → Type 0
 AllLead t own name marks = (k : ℕ) → k < length t.chains → IsMarked marks k → (n : ℕ) × PathBy t own n (name_at t.chains k) name
 
--- the chain at a place is marked, each other marked chain leads to it by rules that count, and each with a rule that counts and names a marked
--- chain is marked
+-- the chain at a place is marked, each other marked chain leads to it by rules that count, and each chain with a rule that counts
+-- and names a marked chain is marked
 pub record AreSpread (t : Table) (own : Option Rule) (place : ℕ) (marks : List Bool) : Type 0 where
   pub long : length marks ≡ length t.chains
   pub there : IsMarked marks place
   pub each : AllLead t own (name_at t.chains place) marks
   pub closed : AreClosed t own marks (length t.chains)
 
--- just the chains are marked from which a path leads to the named one
+-- exactly the chains are marked from which a path leads to the named one
 pub record AreLeading (t : Table) (name : List ℕ) (marks : List Bool) : Type 0 where
   pub long : length marks ≡ length t.chains
   pub each : (k : ℕ) → k < length t.chains → IsMarked marks k → Leads t.chains (name_at t.chains k) name
   pub all : (k : ℕ) → k < length t.chains → Leads t.chains (name_at t.chains k) name → IsMarked marks k
 
--- marks with more of them, and for each one a path, where there was one for each before
+-- the marks, perhaps with more of them; if a path led from each marked chain to a named one, it still does
 pub record Spreads (t : Table) (own : Option Rule) (old new : List Bool) : Type 0 where
   pub long : length new ≡ length old
   pub kept : (k : ℕ) → IsMarked old k → IsMarked new k

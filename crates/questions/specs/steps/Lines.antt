@@ -1,4 +1,4 @@
--- The line that writes a packet: its hook, and a word of each field whose number has to be written.
+-- The packet line that writes a packet: its hook, and a word for each field whose number has to be written.
 use Rattle.std.specs.Prelude.{ℕ, ◌==◌, Bool, true, false, not, List, ◌∷◌, ◌++◌, filter, flat_map, if◌then◌else◌}
 use Rattle.fields.specs.declared.numbers.field.Field.{Field}
 use Rattle.fields.specs.declared.numbers.field.Field.TheVariants.{Source, Destination, InIface, OutIface, Protocol, Fragment, SourcePort}
@@ -12,7 +12,7 @@ use Rattle.notation.specs.ValueText.{value_text}
 abbrev pub word_of : Field → ℕ → List ℕ
 word_of field number = name field ++ 61 ∷ value_text field number
 
--- a missing interface, a first fragment, no flags and the state of number 0 are written by no word
+-- a missing interface, a packet or first fragment, no flags and the state INVALID (all 0) are written by no word
 abbrev pub goes_without_zero : Field → Bool
 goes_without_zero Source = false
 goes_without_zero Destination = false
@@ -27,7 +27,7 @@ goes_without_zero IcmpType = false
 goes_without_zero ConnectionState = true
 goes_without_zero TimeToLive = false
 
--- whether a word gives the number on a field: every other is given where it is carried
+-- whether a word gives the number on a field; fields other than these are given where they are carried
 abbrev pub is_written : Packet → Field → Bool
 is_written p field = if goes_without_zero field then not (point p field == 0) else carries_key p field
 

@@ -1,4 +1,4 @@
--- What a packet can be that a line writes, by its numbers.
+-- Which packets some packet line writes, by their numbers.
 use Rattle.std.specs.Prelude.{◌≡◌, ℕ, List, Some, Ok}
 use Rattle.fields.specs.declared.numbers.field.Field.TheVariants as field
 use Rattle.fields.specs.declared.packet.hook.Hook.{Hook}
@@ -12,7 +12,7 @@ use Rattle.questions.specs.boxes.Area.{IsAtHook, IsIn}
 abbrev pub IsInterfaceNumber : ℕ → Type 0
 IsInterfaceNumber number = (name : List ℕ) × IsInterfaceName name × (number ≡ interface_value name)
 
--- it can be at its hook, and its interfaces have names
+-- the packet can be at its hook, and its interfaces have names
 pub record CanBeWritten (p : Packet) : Type 0 where
   pub at_hook : IsAtHook p
   pub came : IsInterfaceNumber (point p field.InIface)

@@ -1,4 +1,4 @@
--- The parts of a box beside another box, place by place.
+-- The parts of a box that are outside of another box, place by place.
 use Rattle.std.specs.Prelude.{◌≡◌, ℕ, ◌≤◌, ◌<◌, nat_lt, ◌==◌, ◌&&◌, not, Bool, true, false, List, [], slice_index, slice_index_or, if◌then◌else◌}
 use Rattle.fields.specs.declared.numbers.field.TheConstants.{FIELDS}
 use Rattle.fields.specs.declared.numbers.field.Field.{Field}
@@ -7,7 +7,7 @@ use Rattle.fields.specs.numbers.Field.{top}
 use Rattle.fields.specs.numbers.Spans.{SpanSet, has}
 use Rattle.questions.specs.boxes.Area.{may_have}
 
--- no number
+-- the set without a number
 abbrev pub no_set : SpanSet
 no_set = record { top = 0; intervals = [] }
 
@@ -15,17 +15,17 @@ no_set = record { top = 0; intervals = [] }
 abbrev pub has_at : List SpanSet → List ℕ → ℕ → Bool
 has_at box numbers place = let own : SpanSet = slice_index_or box place no_set in has own.intervals (slice_index numbers place)
 
--- Of two boxes, the part of the first that leaves the second at a place: before it what the second has, at it what the second
--- hasn't, after it whatever is there.
+-- of a part that leaves the other box at a place: before the place it takes numbers of the other box, at the place numbers that the
+-- other box lacks, and after it any
 abbrev pub takes : ℕ → ℕ → Bool → Bool
 takes at place there = if nat_lt place at then there else if place == at then not there else true
 
--- a set of that part
+-- one set of the part that leaves the other box at a place
 pub record IsSide (at place : ℕ) (own other side : SpanSet) : Type 0 where
   pub top : side.top ≡ own.top
   pub members : (x : ℕ) → x ≤ own.top → has side.intervals x ≡ (has own.intervals x && takes at place (has other.intervals x))
 
--- the part
+-- the part of a box that leaves the other box at a place
 abbrev pub IsPart : ℕ → List SpanSet → List SpanSet → List SpanSet → Type 0
 IsPart at own other part =
     (place : ℕ) (d e f : SpanSet) → place < FIELDS
@@ -40,7 +40,7 @@ pub record IsBeginning (hook : Hook) (field : Field) (set : SpanSet) : Type 0 wh
   pub greatest : set.top ≡ top field
   pub members : (x : ℕ) → x ≤ top field → has set.intervals x ≡ may_have hook field x
 
--- numbers leave a box at a place: the first where it hasn't theirs
+-- the place is the first at which the box doesn't have the number
 pub record LeavesAt (at : ℕ) (box : List SpanSet) (numbers : List ℕ) : Type 0 where
   pub before : (place : ℕ) → place < at → has_at box numbers place ≡ true
   pub here : has_at box numbers at ≡ false

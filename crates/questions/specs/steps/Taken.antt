@@ -12,7 +12,7 @@ use Rattle.questions.specs.declared.walking.front.Front.{Front}
 use Rattle.questions.specs.declared.walking.task.Leaf.{Leaf}
 use Rattle.questions.specs.declared.walking.task.Task.{Task}
 
--- a box is at the first rule of a hook's chain, and nothing else is there
+-- the box stands before the first rule of the hook's chain, and there is nothing else
 pub record IsFirst (hook : Hook) (box : List SpanSet) (front : Front) : Type 0 where
   pub task : Task
   pub tasks : front.tasks.items ≡ task ∷ []
@@ -50,12 +50,12 @@ pub record IsFull (front : Front) : Type 0 where
   pub tasks : front.tasks.items ≡ left ++ task ∷ []
   pub full : 65536 ≤ length task.trail.items
 
--- after just as many steps as the budget has there is a task left, or after fewer a trail is full
+-- the walk isn't finished within the budget: after as many steps as it has a task is left, or after fewer a trail is full
 abbrev pub IsUnfinished : Table → Hook → List SpanSet → ℕ → Type 0
 IsUnfinished t hook box budget =
     (n : ℕ) × (front : Front) × GetsTo t hook box n front × (((n ≡ budget) × (0 < length front.tasks.items)) ⊎ ((n < budget) × IsFull front))
 
--- after as many steps as the budget has, or fewer, no task is left, and these are the leaves
+-- the walk is finished within the budget: no task is left, and these are the leaves
 abbrev pub IsFinished : Table → Hook → List SpanSet → ℕ → List Leaf → Type 0
 IsFinished t hook box budget leaves =
     (n : ℕ) × (front : Front) × GetsTo t hook box n front × (n ≤ budget) × (length front.tasks.items ≡ 0) × (front.leaves.items ≡ leaves)

@@ -1,4 +1,4 @@
--- Who decides the packets that a rule matches.
+-- Which rules and policies decide the packets that a rule matches.
 use Rattle.std.specs.Prelude.{◌≡◌, ◌⊎◌, true, List, Option, None, All, AllPairs, Any, Contains, MatchOption, IsTrue}
 use Rattle.fields.specs.declared.packet.hook.Hook.{Hook}
 use Rattle.fields.specs.packet.Packet.{PacketView as Packet, IsPacket}
@@ -21,69 +21,70 @@ pub record IsMatchedAt (t : Table) (step : Step) (hook : Hook) (p : Packet) : Ty
   pub there : p.hook ≡ hook
   pub matched : matches p.values (rule_at t step) ≡ true
 
--- of the packets at the hook a box has those that the rule matches, and none with an interface that isn't theirs or a number that the rule
--- doesn't allow
+-- the box has all packets at the hook that the rule matches, and only packets with interfaces that packets at the hook have and
+-- with numbers that the rule allows
 pub record IsBoxAt (t : Table) (step : Step) (hook : Hook) (given : Given) : Type 0 where
   pub there : given.hook ≡ hook
   pub all : (p : Packet) → IsMatchedAt t step hook p → IsIn given.area p
   pub only : (p : Packet) → IsPacket p → p.hook ≡ hook → IsIn given.area p → HasOwnInterfaces p × (allows_each p.values (rule_at t step) ≡ true)
 
--- each packet at the hook that the rule matches is in some leaf, and has its walk
+-- each packet at the hook that the rule matches is in some leaf, and its walk is the one that the leaf shows
 abbrev pub AreWalksOf : Table → Step → Hook → List Leaf → Type 0
 AreWalksOf t step hook leaves = (p : Packet) → IsMatchedAt t step hook p → Any (EndsIn t p) leaves
 
--- one of them has the walk that the leaf shows
+-- some packet at the hook that the rule matches has the walk that the leaf shows
 abbrev pub IsWalked : Table → Step → Hook → Leaf → Type 0
 IsWalked t step hook leaf = (p : Packet) × IsMatchedAt t step hook p × (walk t p ≡ walked_of t.chains leaf)
 
--- the policy decides, or a rule
+-- a rule or the policy decides the leaf's walk: it isn't too long
 abbrev pub IsDecided : Leaf → Type 0
 IsDecided leaf = step_of leaf ≡ None → IsTrue leaf.by_policy
 
--- the rule is on the walk of no packet at the hook, and the leaves have just the walks of those that it matches
+-- the rule is on the walk of no packet at the hook, and the leaves show exactly the walks of the packets that it matches
 pub record AreBefore (t : Table) (step : Step) (hook : Hook) (leaves : List Leaf) : Type 0 where
   pub dead : IsDeadAt t (entry_of t.chains step) hook
   pub all : AreWalksOf t step hook leaves
   pub each : All (IsWalked t step hook) leaves
   pub decided : All IsDecided leaves
 
--- who decides a leaf of packets at a hook is among them
+-- this rule is among the deciders or, where no rule is given, the policy of the hook is
 abbrev pub IsAmong : Takers → Hook → Option Step → Type 0
 IsAmong takers hook by = MatchOption by (Contains takers.policies.items hook) (Contains takers.rules.items)
 
--- the leaf of packets at one hook is decided by this, at another: by the rule, or by the policy of the same hook
+-- this rule, or the policy of this hook, decides the leaf, which has packets at the hook `own`
 pub record IsByThis (own : Hook) (leaf : Leaf) (hook : Hook) (by : Option Step) : Type 0 where
   pub decides : step_of leaf ≡ by
   pub there : by ≡ None → hook ≡ own
 
--- more of them
+-- the deciders, perhaps with more of them
 pub record Grows (old new : Takers) : Type 0 where
   pub kept : (hook : Hook) (by : Option Step) → IsAmong old hook by → IsAmong new hook by
   pub once : AllPairs (λ a b. a ≡ b → ⊥) old.rules.items → AllPairs (λ a b. a ≡ b → ⊥) new.rules.items
   pub apart : AllPairs (λ a b. a ≡ b → ⊥) old.policies.items → AllPairs (λ a b. a ≡ b → ⊥) new.policies.items
 
--- with who decides a leaf of packets at a hook, and nobody else
+-- the deciders, with what decides a leaf of packets at the hook `own`, and nothing else
 pub record Takes (own : Hook) (leaf : Leaf) (old new : Takers) : Type 0 where
   pub grows : Grows old new
   pub added : IsAmong new own (step_of leaf)
   pub only : (hook : Hook) (by : Option Step) → IsAmong new hook by → IsAmong old hook by ⊎ IsByThis own leaf hook by
 
--- with those who decide all leaves, and nobody else
+-- the deciders, with what decides each of the leaves, and nothing else
 pub record TakesAll (own : Hook) (leaves : List Leaf) (old new : Takers) : Type 0 where
   pub grows : Grows old new
   pub added : All (λ leaf. IsAmong new own (step_of leaf)) leaves
   pub only : (hook : Hook) (by : Option Step) → IsAmong new hook by → IsAmong old hook by ⊎ Any (λ leaf. IsByThis own leaf hook by) leaves
 
--- the packet might come to the rule and would match it, and this rule, or the policy of this hook, decides it
+-- this rule, or the policy of this hook, decides a packet that might come to the rule and would match it
 abbrev pub TakesOne : Table → Step → Hook → Option Step → Type 0
 TakesOne t step hook by =
     (p : Packet) × IsMeantFor t step p × MatchOption by ((p.hook ≡ hook) × IsTrue (walk t p).by_policy) (λ taker. IsRule t taker × IsDecidedBy t p taker)
 
--- each of them decides such a packet
+-- each of the deciders decides such a packet
 abbrev pub AllTake : Table → Step → Takers → Type 0
 AllTake t step takers = (hook : Hook) (by : Option Step) → IsAmong takers hook by → TakesOne t step hook by
 
--- the rule is dead at the hook, and if this leads to the rule's chain, they decide the packets there that it matches
+-- the rule is dead at the hook and, where this leads to the rule's chain, the packets there that it matches are decided by one of
+-- these
 pub record IsTakenAt (t : Table) (step : Step) (takers : Takers) (hook : Hook) : Type 0 where
   pub dead : IsDeadAt t (entry_of t.chains step) hook
   pub decided : IsLed t step hook → (p : Packet) → IsMatchedAt t step hook p → IsDecidedAmong t takers p

@@ -1,4 +1,5 @@
--- What stands behind the header of IP, and the numbers of packets with it.
+-- The transport header of a packet (tcp, another with ports, icmp, another without, or missing in a further fragment), and which
+-- numbers packets with it have.
 use Rattle.std.specs.Prelude.{◌≡◌, ℕ, ◌≤◌, ◌==◌, ◌||◌, not, Bool, true, false, List, [], ◌∷◌}
 use Rattle.fields.specs.declared.numbers.field.Field.{Field}
 use Rattle.fields.specs.declared.numbers.field.Field.TheVariants as field
@@ -10,11 +11,11 @@ use Rattle.questions.specs.boxes.Area.{Has}
 use Rattle.questions.specs.declared.boxes.transport.Transport.{Transport}
 use Rattle.questions.specs.declared.boxes.transport.Transport.TheVariants.{Tcp, Ports, Icmp, Other, Missing}
 
--- each of them
+-- all of these
 abbrev pub all_transports : List Transport
 all_transports = Tcp ∷ Ports ∷ Icmp ∷ Other ∷ Missing ∷ []
 
--- its packets have ports
+-- packets with it have ports
 abbrev pub with_ports : Transport → Bool
 with_ports Tcp = true
 with_ports Ports = true
@@ -22,7 +23,7 @@ with_ports Icmp = false
 with_ports Other = false
 with_ports Missing = false
 
--- its packets have flags
+-- packets with it have TCP flags
 abbrev pub with_flags : Transport → Bool
 with_flags Tcp = true
 with_flags Ports = false
@@ -30,7 +31,7 @@ with_flags Icmp = false
 with_flags Other = false
 with_flags Missing = false
 
--- its packets have an ICMP type
+-- packets with it have an ICMP type and code
 abbrev pub with_type : Transport → Bool
 with_type Tcp = false
 with_type Ports = false
@@ -42,7 +43,7 @@ with_type Missing = false
 abbrev pub is_ported : ℕ → Bool
 is_ported x = x == 17 || x == 33 || x == 132 || x == 136
 
--- the protocols of its packets
+-- packets with it may have this protocol
 abbrev pub of_protocol : Transport → ℕ → Bool
 of_protocol Tcp x = x == 6
 of_protocol Ports x = is_ported x
@@ -50,7 +51,7 @@ of_protocol Icmp x = x == 1
 of_protocol Other x = not (is_ported x || x == 6 || x == 1)
 of_protocol Missing x = true
 
--- 1 for further fragments, in which it is missing
+-- the number on the field `frag`: 1 for further fragments, in which the header is missing
 abbrev pub fragment_of : Transport → ℕ
 fragment_of Tcp = 0
 fragment_of Ports = 0
@@ -77,23 +78,23 @@ fits t field.TimeToLive x = true
 abbrev pub Fits : Transport → List ℕ → Type 0
 Fits t numbers = (f : Field) → fits t f (number_on numbers f) ≡ true
 
--- the packet has it
+-- the packet has this transport header
 pub record HasTransport (t : Transport) (p : Packet) : Type 0 where
   pub protocol : of_protocol t (point p field.Protocol) ≡ true
   pub fragment : point p field.Fragment ≡ fragment_of t
 
--- the numbers on a field of packets with it
+-- the numbers on a field of packets with this transport header
 pub record AreNumbersWith (t : Transport) (f : Field) (set : SpanSet) : Type 0 where
   pub greatest : set.top ≡ top f
   pub members : (x : ℕ) → x ≤ top f → has set.intervals x ≡ fits t f x
 
--- of the packets of a box another has just those with it
+-- one box has of the packets of another exactly those with this transport header
 pub record IsWithTransport (t : Transport) (before after : List SpanSet) : Type 0 where
   pub all : (numbers : List ℕ) → IsPoint numbers → Has before numbers → Fits t numbers → Has after numbers
   pub own : (numbers : List ℕ) → IsPoint numbers → Has after numbers → Has before numbers
   pub with : (numbers : List ℕ) → IsPoint numbers → Has after numbers → Fits t numbers
 
--- of the packets of a box another has just the first fragments with a protocol that passes a test
+-- one box has of the packets of another exactly those that are no further fragments and whose protocol passes a test
 pub record IsFirstWith (test : ℕ → Bool) (before after : List SpanSet) : Type 0 where
   pub all : (numbers : List ℕ) → IsPoint numbers → Has before numbers → test (number_on numbers field.Protocol) ≡ true → number_on numbers field.Fragment ≡ 0
       → Has after numbers
@@ -101,7 +102,7 @@ pub record IsFirstWith (test : ℕ → Bool) (before after : List SpanSet) : Typ
   pub protocol : (numbers : List ℕ) → IsPoint numbers → Has after numbers → test (number_on numbers field.Protocol) ≡ true
   pub first : (numbers : List ℕ) → IsPoint numbers → Has after numbers → number_on numbers field.Fragment ≡ 0
 
--- a box has the packets of another if they are wanted, else none
+-- one box has the packets of another if they are wanted, else none
 pub record IsKept (wanted : Bool) (before after : List SpanSet) : Type 0 where
   pub all : wanted ≡ true → (numbers : List ℕ) → IsPoint numbers → Has before numbers → Has after numbers
   pub own : (numbers : List ℕ) → IsPoint numbers → Has after numbers → Has before numbers

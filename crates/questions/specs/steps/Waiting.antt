@@ -23,7 +23,7 @@ rest_of chains at = record { chain = name_at chains at.chain; passed = at.passed
 abbrev pub rests_of : List Chain → List Pending → List Rest
 rests_of chains waiting = map (rest_of chains) (reverse waiting)
 
--- what is left behind the next rule
+-- what is left of the chain after its next rule
 abbrev pub behind : Pending → Pending
 behind at = record { chain = at.chain; passed = at.passed + 1 }
 
@@ -45,7 +45,7 @@ stage_of chains task = Under (rests_of chains task.rests.items) (entries_of chai
 abbrev pub WaitsIn : Table → Packet → Task → Type 0
 WaitsIn t p task = Stands t p task.area (stage_of t.chains task)
 
--- the packet is in some task, or in some leaf
+-- the packet is in a task, with its walk at the task's stage, or in a leaf, with the leaf's walk
 abbrev pub IsAccounted : Table → Packet → Front → Type 0
 IsAccounted t p front = Any (WaitsIn t p) front.tasks.items ⊎ Any (EndsIn t p) front.leaves.items
 
@@ -66,17 +66,17 @@ pub record IsAsked (t : Table) (policy : Verdict) (p : Packet) : Type 0 where
   pub at_hook : IsAtHook p
   pub ends : end_verdict t p ≡ policy
 
--- nobody is lost
+-- each packet that was accounted for still is
 pub record Keeps (t : Table) (old new : Front) : Type 0 where
   pub kept : (p : Packet) → IsAccounted t p old → IsAccounted t p new
   pub there : AllThere t.chains old → AllThere t.chains new
 
--- whoever stood there is accounted for, and nobody else is lost
+-- each packet of the box whose walk gets to the stage is accounted for, and so is each that was before
 pub record Moves (t : Table) (policy : Verdict) (box : List SpanSet) (stage : Stage) (old new : Front) : Type 0 where
   pub moved : (p : Packet) → IsAsked t policy p → Stands t p box stage → IsAccounted t p new
   pub keeps : Keeps t old new
 
--- whoever is in one of some boxes, and stood there, is accounted for, and nobody else is lost
+-- the same of the packets in some boxes
 pub record PassesOver (t : Table) (policy : Verdict) (boxes : List (List SpanSet)) (stage : Stage) (old new : Front) : Type 0 where
   pub passed : (p : Packet) → IsAsked t policy p → IsInSome boxes p.values → Reaches t p stage → IsAccounted t p new
   pub keeps : Keeps t old new

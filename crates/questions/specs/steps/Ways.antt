@@ -19,7 +19,7 @@ pub record IsWay (t : Table) (marks : List Bool) (by : Step) : Type 0 where
   pub rule : IsRule t by
   pub names : NamesMarked t.chains marks (rule_at t by)
 
--- some rules, and just those of the chain at a place that name a marked chain
+-- the rules, with those of the chain at a place that name a marked chain, and no others
 pub record AddsWays (t : Table) (marks : List Bool) (place : ℕ) (old new : List Step) : Type 0 where
   pub kept : (by : Step) → Contains old by → Contains new by
   pub added : (by : Step) → by.chain ≡ place → IsWay t marks by → Contains new by

@@ -1,5 +1,5 @@
--- Calls that edit a table, in any order: commands, transactions, and restores that are handed its lines. A caller may have several
--- transactions and restores at once, each in a place of its own, a number.
+-- Calls that edit a table, in any order: commands, transactions, and restores that are given their lines. A caller may have several
+-- transactions and restores under way, each in a place, that is under a number of its own.
 use Rattle.std.specs.Prelude.{◌≡◌, ℕ, ◌==◌, Bool, true, false, List, [], ◌∷◌, ◌++◌, Option, Some, None, option_map, Result, Ok, Err, IfOk, if◌then◌else◌}
 use Rattle.std.specs.declared.alloc.AllocError.{AllocError}
 use Rattle.table.specs.chains.Table.{Table, TableView}
@@ -12,9 +12,9 @@ use Rattle.restore.specs.sections.Lines.{IsLine, puts_table}
 use Rattle.restore.specs.sections.Restore.{SectionState, Between, Skipping, Building, Restore, ended_at}
 use Rattle.restore.specs.sections.Section.{RestoreFault, Section, asked, begun, is_out_of_memory, line_in}
 
--- a call, with its answer where it can be refused: an edit of the table, or a question, which only reads it; of the transaction in
--- a place, that it begins, with noflush or without, is given a line, is committed or given up; and of the restore in a place, that
--- it is given a line, or its end
+-- a call, with its answer where it can be refused: an edit; a question, which only reads; of the transaction in a place: it begins
+-- (with noflush or without), is given a line, is committed, or is given up; of the restore in a place: it is given a line, or its
+-- end
 pub data Call : Type 0 where
   Edits : Edit → Result (Unit {0}) TableFault → Call
   Asks : Call
@@ -25,45 +25,45 @@ pub data Call : Type 0 where
   Reads : ℕ → Restore → List ℕ → Result Restore RestoreFault → Call
   Ends : ℕ → Restore → Result (Unit {0}) RestoreFault → Call
 
--- the section of a transaction or a restore that is neither committed nor given up: the table that it began as, what it is so far,
--- and the edits that its lines asked for
+-- a section that is neither committed nor given up: the table that it began as, what it is so far, and the edits that its lines
+-- asked for
 pub record Pending : Type 0 where
   pub from : Table
   pub section : Section
   pub edits : List Edit
 
--- a section without a line so far
+-- a section to which no line was given yet
 abbrev pub opened : Table → Section → Pending
 opened from section = record { from = from; section = section; edits = [] }
 
--- a section with one line more
+-- the section after one more line
 abbrev pub with_line : List ℕ → Section → Pending → Pending
 with_line line section o = record { from = o.from; section = section; edits = o.edits ++ edit_asked (asked o.section line) }
 
--- the section in each place, if one is pending there
+-- the pending section in each place, if there is one
 abbrev pub Places : Type 0
 Places = ℕ → Option Pending
 
--- the same, but for one place
+-- the places, with another section, or none, in one of them
 abbrev pub put : ℕ → Option Pending → Places → Places
 put place pending places other = if other == place then pending else places other
 
--- how a table stands: its lists, and the sections that are pending
+-- the state between two calls: the table, and the pending sections
 pub record Standing : Type 0 where
   pub table : Table
   pub places : Places
 
--- no section is pending
+-- this table, and no section is pending
 abbrev pub standing : Table → Standing
 standing t = record { table = t; places = λ place. None }
 
--- the change that a committed section makes
+-- the change that a section makes when it is committed
 abbrev pub section_change : Option Pending → List Change
 section_change None = []
 section_change (Some o) = change.SectionOf o.from o.edits ∷ []
 
--- the change that a call makes, if it makes one: an edit that isn't refused, a transaction that is committed, or the `COMMIT` of a
--- restore that is no test
+-- the change that a call makes, if it makes one: an edit that isn't refused, the commit of a transaction, or the `COMMIT` of a
+-- restore that isn't a test
 abbrev pub accepted_of : Standing → Call → List Change
 accepted_of s (Edits edit (Ok done)) = change.Command edit ∷ []
 accepted_of s (Edits edit (Err fault)) = []
@@ -76,8 +76,7 @@ accepted_of s (Reads place r line (Ok next)) = if puts_table r line then section
 accepted_of s (Reads place r line (Err fault)) = []
 accepted_of s (Ends place r answer) = []
 
--- the section that is pending after a restore's line, by where its next line stands and where this one stood; it begins as this
--- table
+-- the section that is pending after a line of a restore: the same one with the line, a new one that began as this table, or none
 abbrev pub pending_at : SectionState → SectionState → Table → List ℕ → Option Pending → Option Pending
 pending_at Between before from line pending = None
 pending_at Skipping before from line pending = None
@@ -85,7 +84,7 @@ pending_at (Building next) (Building section) from line pending = option_map (wi
 pending_at (Building next) Between from line pending = Some (opened from next)
 pending_at (Building next) Skipping from line pending = Some (opened from next)
 
--- the sections that are pending after a call; a refusal gives a section up, and one that can't begin is none
+-- the pending sections after a call; a refused line gives its section up, and one that can't begin is none
 abbrev pub places_after : Standing → Call → Places
 places_after s (Edits edit answer) = s.places
 places_after s Asks = s.places
@@ -99,7 +98,7 @@ places_after s (Reads place r line (Ok next)) = put place (pending_at next.state
 places_after s (Reads place r line (Err fault)) = put place None s.places
 places_after s (Ends place r answer) = put place None s.places
 
--- how the table stands after a call, by plain list edits
+-- the state after a call: the table by plain list edits
 abbrev pub after : Standing → Call → Standing
 after s call = record { table = changed_by s.table (accepted_of s call); places = places_after s call }
 
@@ -108,14 +107,14 @@ abbrev pub accepted : Standing → List Call → List Change
 accepted s [] = []
 accepted s (call ∷ calls) = accepted_of s call ++ accepted (after s call) calls
 
--- a restore that is building a section builds the one that is pending
+-- a restore that is building a section builds the pending one
 abbrev pub IsPendingIn : SectionState → Option Pending → Type 0
 IsPendingIn Between pending = Unit {0}
 IsPendingIn Skipping pending = Unit {0}
 IsPendingIn (Building section) pending = (o : Pending) × (pending ≡ Some o) × (o.section ≡ section)
 
--- what a call answers and leaves of the table, by its contract; a line of a section, and its commit, are of one that these calls
--- began
+-- what a call answers and leaves of the table, by its contract; a line of a section, and its commit, belong to a section that these
+-- calls began
 abbrev pub IsCall : Standing → TableView → Call → TableView → Type 0
 IsCall s old (Edits edit answer) new = IsStepOf edit old new answer
 IsCall s old Asks new = new ≡ old
@@ -127,7 +126,7 @@ IsCall s old (GivesUp place) new = new ≡ old
 IsCall s old (Reads place r line answer) new = IsPendingIn r.state (s.places place) × IsLine r line old new answer
 IsCall s old (Ends place r answer) new = (answer ≡ ended_at r.state) × (new ≡ old)
 
--- calls, made one after another, lead from one table to another
+-- these calls, made one after another, lead from one table to another
 abbrev pub Lead : Standing → TableView → List Call → TableView → Type 0
 Lead s old [] new = new ≡ old
 Lead s old (call ∷ calls) new = (next : TableView) × IsCall s old call next × Lead (after s call) next calls new

@@ -11,33 +11,33 @@ use Rattle.restore.specs.calls.Calls.{Call, IsCall, Lead, Standing, accepted, is
 use Rattle.restore.specs.calls.Changes.{changed_by}
 use Rattle.restore.specs.listings.RoundTrip.{IsRestored, RestoresItself}
 
--- what `Table::stands` says of every table
+-- the table is sound, and each chain's classifier is that of its rules, as `Table::stands` says of every table
 pub record IsSoundAndClassified (t : TableView) : Type 0 where
   pub sound : IsSound t.table
   pub classified : AreClassified t.table.chains t.classifiers
 
 -- what calls left of a table
 pub record Leaves (old : TableView) (calls : List Call) (new : TableView) : Type 0 where
-  -- the chains are those that the accepted changes give by plain list edits
+  -- the table is the old one with the accepted changes made to it in order, as plain list edits
   pub chains : new.table ≡ changed_by old.table (accepted (standing old.table) calls)
-  -- the table is sound, and each chain's classifier is that of its rules
+  -- it is sound, and each chain's classifier is that of its rules
   pub stands : IsSoundAndClassified new
-  -- the present listing restores into an empty table without a refusal, as a table of these chains
+  -- its listing is read from the empty table without a refusal, as an equal table
   pub restores : RestoresItself new.table
-  -- and whatever table that restore gives has these classifiers
+  -- a table that this restore gives, with the classifiers of its rules, has these classifiers
   pub restored : (made : TableView) → IsSoundAndClassified made → IsRestored new.table made.table → made ≡ new
-  -- and so has whatever table other calls lead to, where it has these chains
+  -- so has any other table of these chains, whatever calls led to it
   pub classifiers : (other : TableView) → IsSoundAndClassified other → other.table ≡ new.table → other ≡ new
-  -- every packet's walk, by the cases of one rule after another, ends with what `walk` says
+  -- every packet's walk, by cases, one rule at a time, ends with what `walk` gives
   pub walks : (packet : Packet) → Walks new.table packet (walk new.table packet)
-  -- and with nothing else
+  -- no walk ends with anything else
   pub one_walk : (packet : Packet) (walked : Walked) → Walks new.table packet walked → walked ≡ walk new.table packet
 
--- whatever calls lead from one table to another, they leave so
+-- whatever calls lead from one table to another, they leave that
 abbrev pub CallsLeaveWhatTheyAccept : Type 0
 CallsLeaveWhatTheyAccept =
     (old new : TableView) (calls : List Call) → IsSoundAndClassified new → Lead (standing old.table) old calls new → Leaves old calls new
 
--- a call that is refused changes nothing, classifiers included
+-- a refused call changes nothing, classifiers included
 abbrev pub RefusedCallsChangeNothing : Type 0
 RefusedCallsChangeNothing = (s : Standing) (old new : TableView) (call : Call) → IsCall s old call new → IsTrue (is_refused call) → new ≡ old

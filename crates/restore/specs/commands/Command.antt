@@ -1,4 +1,4 @@
--- Commands, and why words are none (iptables(8), "COMMANDS").
+-- Commands, and what it means that a call reads or applies one (iptables(8), COMMANDS).
 use Rattle.std.specs.Prelude.{ℕ, Bool, true, false, IsTrue, List, Option, is_none, option_map, Result, Ok, Err}
 use Rattle.rules.specs.Sequence.{refusal_of}
 use Rattle.table.specs.chains.Table.{TableView}
@@ -11,7 +11,7 @@ pub use Rattle.restore.specs.declared.fault.CommandFault.TheVariants.{NoCommand,
 use Rattle.restore.specs.declared.command.Command as code
 use Rattle.restore.specs.declared.command.Command.TheVariants as command
 
--- a command: an edit of the table, or `-S`, which lists the rules of one chain or of all
+-- a command: an edit of the table, or `-S`, which lists the rules of one chain or of all chains
 pub data Command : Type 0 where
   Change : Edit → Command
   ListRules : Option (List ℕ) → Command
@@ -24,7 +24,7 @@ is_out_of_memory WordCount = false
 is_out_of_memory OtherTable = false
 is_out_of_memory (Rule fault) = is_none (refusal_of fault)
 
--- the edit has a rule
+-- the edit contains a rule
 abbrev pub has_rule : Edit → Bool
 has_rule (edit.Append chain r) = true
 has_rule (edit.Insert chain n r) = true
@@ -40,7 +40,7 @@ has_rule edit.DeleteChains = false
 has_rule (edit.SetPolicy chain policy) = false
 has_rule (edit.Rename old new) = false
 
--- what refuses the words may stand in those of a rule
+-- this refusal may come from the words of a rule
 abbrev pub may_be_of_rule : CommandFault → Bool
 may_be_of_rule NoCommand = false
 may_be_of_rule TwoCommands = true
@@ -48,13 +48,13 @@ may_be_of_rule WordCount = false
 may_be_of_rule OtherTable = false
 may_be_of_rule (Rule fault) = true
 
--- memory may be taken where the words write a command with a rule, or where what refuses them may stand in those of a rule
+-- reading may take memory: the words write a command with a rule, or what refuses them may come from the words of a rule
 abbrev pub may_take_memory : Result Command CommandFault → Bool
 may_take_memory (Ok (Change edit)) = has_rule edit
 may_take_memory (Ok (ListRules chain)) = false
 may_take_memory (Err fault) = may_be_of_rule fault
 
--- what a command of the code asks for
+-- the command that a command of the code stands for
 abbrev pub meaning : code.Command → Command
 meaning (command.Append chain r) = Change (edit.Append chain.now r)
 meaning (command.Insert chain number r) = Change (edit.Insert chain.now number r)
@@ -71,12 +71,13 @@ meaning (command.SetPolicy chain policy) = Change (edit.SetPolicy chain.now poli
 meaning (command.Rename old new) = Change (edit.Rename old.now new.now)
 meaning (command.ListRules chain) = ListRules (option_map (λ c. c.now) chain)
 
--- memory runs out for a rule alone
+-- memory runs out only where reading may take some
 abbrev pub TakesMemoryForRules : Result code.Command CommandFault → Result Command CommandFault → Type 0
 TakesMemoryForRules (Ok c) given = Unit {0}
 TakesMemoryForRules (Err fault) given = IsTrue (is_out_of_memory fault) → IsTrue (may_take_memory given)
 
--- the call gives the command that the words write, or what refuses them, unless memory ran out, which it does for a rule alone
+-- the call gives the command that the words write, or what refuses them, unless memory ran out; that happens only where the command
+-- has a rule, or where what refuses the words may come from those of a rule
 abbrev pub IsRead : Result code.Command CommandFault → Result Command CommandFault → Type 0
 IsRead result given = Gives is_out_of_memory meaning result given × TakesMemoryForRules result given
 

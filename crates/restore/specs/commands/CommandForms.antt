@@ -1,4 +1,4 @@
--- The words that write a command: its name, and what it takes (iptables(8), "SYNOPSIS" and "COMMANDS").
+-- The words that write a command: its name, and what it takes (iptables(8), SYNOPSIS and COMMANDS).
 use Rattle.std.specs.Prelude.{ℕ, ◌-◌, ◌||◌, ◌&&◌, nat_lt, Bool, true, false, List, [], ◌∷◌, ◌++◌, map, find, length, slice_get, is_some}
 use Rattle.std.specs.Prelude.{Option, Some, None, option_and_then, Result, Ok, Err, codes, if◌then◌else◌}
 use Rattle.std.specs.Char.{is_ascii_digit}
@@ -17,7 +17,7 @@ use Rattle.restore.specs.Sequence.{◌>>=◌, or_refused, refused_as, made_into}
 use Rattle.restore.specs.commands.Command.{Command, Change, ListRules, CommandFault, NoCommand, TwoCommands, WordCount, OtherTable}
 use Rattle.restore.specs.declared.fault.CommandFault.TheVariants as fault
 
--- a refusal of a value in the form, or of the rule
+-- the command is refused for a value in it, or for its rule
 abbrev pub refused : Refusal → CommandFault
 refused r = fault.Rule (Refused r)
 
@@ -31,26 +31,27 @@ pub data Operand : Type 0 where
   Number : Operand
   Rule : Operand
 
--- a chain: a word as it is
+-- the name of a chain: a word as it is
 abbrev pub Chain : Operand
 Chain = Word
 
--- a name for a chain: a word as it is
+-- a new name for a chain: a word as it is
 abbrev pub Name : Operand
 Name = Word
 
--- a policy: a word as it is, and the table judges it
+-- a policy: a word as it is, which the table judges
 abbrev pub Policy : Operand
 Policy = Word
 
--- what makes a value of operands, in their order
+-- a function that makes a value of operands, in their order
 abbrev pub Takes : List Operand → Type 0 → Type 0
 Takes [] A = A
 Takes (Word ∷ os) A = List ℕ → Takes os A
 Takes (Number ∷ os) A = ℕ → Takes os A
 Takes (Rule ∷ os) A = rules.Rule → Takes os A
 
--- the words are the operands, one for each, and a rule has all that are left; else a word is missing, or one is left over
+-- what these operands make of the words: each takes one word, a rule takes all that are left; else a word is missing, or one is
+-- left over
 abbrev pub takes : {A : Type 0} → (os : List Operand) → Takes os A → Reader A
 takes [] made end [] = Ok made
 takes [] made end (w ∷ ws) = Err WordCount
@@ -64,7 +65,7 @@ takes (Rule ∷ os) make end words = refused_as refused (rule_of end words) >>= 
 abbrev pub is_digits : List ℕ → Bool
 is_digits text = nat_lt 0 (length text) && list_all is_ascii_digit text
 
--- the words fit the operands: none is missing, and a number is made of digits alone; a rule may have no words
+-- the words fit the operands: none is missing, and a number is written in digits; a rule may have no words
 abbrev pub fits : List Operand → List (List ℕ) → Bool
 fits [] words = true
 fits (Word ∷ os) [] = false
@@ -74,21 +75,22 @@ fits (Number ∷ os) (w ∷ ws) = is_digits w && fits os ws
 fits (Rule ∷ os) words = true
 
 infix 5 if_fits◌then◌else◌
--- these operands where the words fit them, or else others
+-- these operands where the words fit them, else the others
 abbrev pub if_fits◌then◌else◌ : {A : Type 0} → (os : List Operand) → Takes os A → Reader A → Reader A
 if_fits◌then◌else◌ os make others end words = if fits os words then takes os make end words else others end words
 
--- a name, short and long, and what follows it
+-- a command's short and long name, and what follows it
 pub record CommandForm (A : Type 0) : Type 0 where
   pub short : List ℕ
   pub long : List ℕ
   pub follows : Reader A
 
--- a row of a table of forms
+-- a row of a table of commands
 abbrev pub form : {A : Type 0} → List ℕ → List ℕ → Reader A → CommandForm A
 form short long follows = record { short = short; long = long; follows = follows }
 
--- the commands that edit the table
+-- the commands that edit the table, one row each: the short and the long name, and what it takes (a chain, a number, a rule, a
+-- name, a policy)
 abbrev pub edits : List (CommandForm Edit)
 edits =
     form (codes "-A") (codes "--append") (takes (Chain ∷ Rule ∷ []) Append)
@@ -103,59 +105,59 @@ edits =
     ∷ form (codes "-E") (codes "--rename-chain") (takes (Chain ∷ Name ∷ []) Rename)
     ∷ []
 
--- an edit is a command
+-- the row of an edit, as the row of a command
 abbrev pub changing : CommandForm Edit → CommandForm Command
 changing h = form h.short h.long (λ end words. made_into Change (h.follows end words))
 
--- all commands
+-- all commands: those that edit the table, and `-S`
 abbrev pub commands : List (CommandForm Command)
 commands = map changing edits ++ form (codes "-S") (codes "--list-rules") (if_fits Chain ∷ [] then (λ chain. ListRules (Some chain)) else takes [] (ListRules None)) ∷ []
 
--- the word is the short name or the long
+-- the word is the short or the long name
 abbrev pub is_name_of : {A : Type 0} → List ℕ → CommandForm A → Bool
 is_name_of w h = bytes_eq w h.short || bytes_eq w h.long
 
--- what follows a form's name; another word is no command
+-- what follows a command's name; any other word is no command
 abbrev pub followed : {A : Type 0} → Option (CommandForm A) → Reader A
 followed None end words = Err NoCommand
 followed (Some h) end words = h.follows end words
 
--- one of these forms
+-- one of these commands
 abbrev pub one_of : {A : Type 0} → List (CommandForm A) → Reader A
 one_of forms end [] = Err NoCommand
 one_of forms end (w ∷ ws) = followed (find (is_name_of w) forms) end ws
 
--- the word that names the table, with its value
+-- `-t` or `--table`, with a value
 abbrev pub table : {A : Type 0} → Reader A → CommandForm A
 table next = form (codes "-t") (codes "--table") next
 
--- the next word, which is a value
+-- the next word, as a value
 abbrev pub value : {A : Type 0} → (List ℕ → Reader A) → Reader A
 value next end [] = Err (refused refusal.ValueMissing)
 value next end (w ∷ ws) = next w end ws
 
--- the table is named once
+-- a second `-t` is refused
 abbrev pub again : {A : Type 0} → CommandForm A
 again = table (value (λ name end words. Err (refused refusal.RepeatedOption)))
 
--- the table is `filter`, and a command follows
+-- the table has to be `filter`, and a command follows
 abbrev pub named : {A : Type 0} → List (CommandForm A) → List ℕ → Reader A
 named forms name = if bytes_eq name (codes "filter") then one_of (again ∷ forms) else (λ end words. Err OtherTable)
 
--- one of these commands, after its table where that is named
+-- one of these commands, after `-t filter` or without
 abbrev pub line_of : {A : Type 0} → List (CommandForm A) → Reader A
 line_of forms = one_of (table (value (named forms)) ∷ forms)
 
--- the name of a command
+-- the word is the name of a command
 abbrev pub is_command : Option (List ℕ) → Bool
 is_command None = false
 is_command (Some w) = is_some (find (is_name_of w) commands)
 
--- the word at a place of the line, where these words are its last ones
+-- the word at a place of the line, of which these are the last words
 abbrev pub word_at : ℕ → List (List ℕ) → ℕ → Option (List ℕ)
 word_at end words place = slice_get words (place - (end - length words))
 
--- the place of the unknown option, where one is refused
+-- the place of the unknown option, where that is the refusal
 abbrev pub unknown_option : Refusal → Option ℕ
 unknown_option (refusal.UnknownOption place) = Some place
 unknown_option refusal.ValueMissing = None
@@ -178,14 +180,14 @@ unknown_in WordCount = None
 unknown_in OtherTable = None
 unknown_in (fault.Rule f) = option_and_then unknown_option (refusal_of f)
 
--- an unknown option that is a command's name is a second command
+-- an unknown option that is a command's name is reported as a second command
 abbrev pub or_second : ℕ → List (List ℕ) → CommandFault → CommandFault
 or_second end words fault = if is_command (option_and_then (word_at end words) (unknown_in fault)) then TwoCommands else fault
 
--- the command that the words write
+-- the command that the words write, after `-t filter` or without, or the first fault
 unfoldable pub command_of : Reader Command
 command_of end words = refused_as (or_second end words) (line_of commands end words)
 
--- the edit that the words write: any command but `-S`
+-- the edit that the words write (any command but `-S`), or the first fault
 unfoldable pub edit_of : Reader Edit
 edit_of end words = refused_as (or_second end words) (line_of edits end words)

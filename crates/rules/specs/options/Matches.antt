@@ -4,8 +4,8 @@ use Rattle.std.specs.Str.{bytes_eq}
 use Rattle.rules.specs.declared.options.match_kind.MatchKind.{MatchKind}
 use Rattle.rules.specs.declared.options.match_kind.MatchKind.TheVariants as kind
 
--- A match's number, its name, the protocols of which it needs one (none: it needs no protocol), whether it needs an option, and
--- whether it looks into a packet's parts, so that it asks for a first fragment.
+-- a match's number, its name, the protocols one of which its rule has to name (an empty list: none is needed), whether it needs an
+-- option, and whether it looks behind the IP header, and so never matches a further fragment
 pub record MatchRow : Type 0 where
   pub number : ℕ
   pub name : List ℕ
@@ -18,7 +18,7 @@ abbrev pub match_row_with : ℕ → List ℕ → List ℕ → Bool → Bool → 
 match_row_with number name protocols needs_option asks_fragment =
     record { number = number; name = name; protocols = protocols; needs_option = needs_option; asks_fragment = asks_fragment }
 
--- the rows; the protocols are tcp 6, udp 17, icmp 1, udplite 136, dccp 33 and sctp 132
+-- the table of matches; the protocols are tcp 6, udp 17, icmp 1, udplite 136, dccp 33 and sctp 132
 abbrev pub match_row : MatchKind → MatchRow
 match_row kind.Tcp = match_row_with 0 (codes "tcp") (6 ∷ []) false true
 match_row kind.Udp = match_row_with 1 (codes "udp") (17 ∷ []) false true
@@ -34,15 +34,15 @@ match_row kind.Ttl = match_row_with 8 (codes "ttl") [] true false
 abbrev pub kind_name : MatchKind → List ℕ
 kind_name k = (match_row k).name
 
--- two matches are one
+-- two matches are the same
 abbrev pub same_kind : MatchKind → MatchKind → Bool
 same_kind k l = (match_row k).number == (match_row l).number
 
--- the matches
+-- all matches
 abbrev pub all_kinds : List MatchKind
 all_kinds = kind.Tcp ∷ kind.Udp ∷ kind.Icmp ∷ kind.Multiport ∷ kind.Iprange ∷ kind.Conntrack ∷ kind.State ∷ kind.Comment ∷ kind.Ttl ∷ []
 
--- the matches that an option starts by itself, after `-p` of the protocol of their name: tcp, udp and icmp
+-- the matches that an option starts without `-m`, after `-p` with the protocol of the same name: tcp, udp and icmp
 abbrev pub implied_kinds : List MatchKind
 implied_kinds = kind.Tcp ∷ kind.Udp ∷ kind.Icmp ∷ []
 

@@ -1,4 +1,5 @@
--- Options with their values.
+-- Options with their values: how words give a value, and which values say nothing (iptables(8), PARAMETERS;
+-- iptables-extensions(8)).
 use Rattle.std.specs.Prelude.{ℕ, ◌==◌, Bool, false, ◌||◌, ◌&&◌, not, nat_lt, List, [], ◌∷◌, length, codes, if◌then◌else◌}
 use Rattle.std.specs.Prelude.{Option, Some, None, Result, Ok, Err}
 use Rattle.std.specs.Str.{bytes_eq}
@@ -27,7 +28,7 @@ use Rattle.rules.specs.declared.options.option_value.OptionValue.{OptionValue}
 use Rattle.rules.specs.declared.options.value.Value.{Value}
 use Rattle.rules.specs.declared.options.value.Value.TheVariants as value
 
--- the option of a value
+-- the option that has this value
 abbrev pub option_of_value : Value → Opt
 option_of_value (value.Source x) = opt.Source
 option_of_value (value.Destination x) = opt.Destination
@@ -58,7 +59,7 @@ option_of_value value.LogTcpOptions = opt.LogTcpOptions
 option_of_value value.LogIpOptions = opt.LogIpOptions
 option_of_value value.LogUid = opt.LogUid
 
--- the place of an option among those of its owner
+-- the option's place among those of its owner
 abbrev pub slot_of : OptionValue → ℕ
 slot_of s = slot (option_of_value s.value)
 
@@ -67,37 +68,37 @@ abbrev pub protocol_is : ℕ → Bool → Option ℕ → Bool
 protocol_is n inverted None = false
 protocol_is n inverted (Some m) = not inverted && (m == n)
 
--- the option is this protocol, not inverted
+-- the option gives this protocol, not inverted
 abbrev pub is_protocol : ℕ → OptionValue → Bool
 is_protocol n s = protocol_is n s.inverted (protocol_in s.value)
 
--- one of the options is this protocol, not inverted
+-- one of the options gives this protocol, not inverted
 abbrev pub has_protocol : ℕ → List OptionValue → Bool
 has_protocol n option_values = list_any (is_protocol n) option_values
 
--- the second word, if there is one
+-- the second word, or the empty one
 abbrev pub second_of : List (List ℕ) → List ℕ
 second_of [] = []
 second_of (word ∷ words) = first_of words
 
--- a value that was read, or a bad one
+-- the value that was read, or the refusal of a bad one
 abbrev pub read_as : {X : Type 0} → (X → Value) → Option X → Result Value Refusal
 read_as make x = or_refused refusal.BadValue x >>= λ y. Ok (make y)
 
--- a text of so many bytes at most; with more it is too long, whatever they are
+-- a text of at most so many bytes; a longer one is refused as too long, whatever its bytes are
 abbrev pub text_within : ℕ → List ℕ → Result (List ℕ) Refusal
 text_within most bytes = if nat_lt most (length bytes) then Err refusal.TextTooLong else or_refused refusal.BadValue (text_of most bytes)
 
--- a text that was read, or why it is none
+-- the value with a text that was read, or the text's refusal
 abbrev pub text_as : (List ℕ → Value) → Result (List ℕ) Refusal → Result Value Refusal
 text_as make x = x >>= λ y. Ok (make y)
 
--- all protocols have no opposite
+-- the protocol, but `all` is refused after a `!`
 abbrev pub with_opposite : Bool → Option ℕ → Option ℕ
 with_opposite inverted None = None
 with_opposite inverted (Some n) = if inverted && (n == 0) then None else Some n
 
--- the value that the words after an option give it
+-- the value that the words after an option give it, or their refusal
 unfoldable pub value_of : Opt → Bool → List (List ℕ) → Result Value Refusal
 value_of opt.Source inverted words = read_as value.Source (prefix_of (first_of words))
 value_of opt.Destination inverted words = read_as value.Destination (prefix_of (first_of words))
@@ -132,7 +133,8 @@ value_of opt.Match inverted words = Err refusal.BadValue
 value_of opt.Jump inverted words = Err refusal.BadValue
 value_of opt.Goto inverted words = Err refusal.BadValue
 
--- a value that stands for no condition, where it isn't inverted
+-- a value that says nothing unless it is inverted: a condition that every packet meets, an empty log prefix, or the log level that
+-- is the default (4)
 abbrev pub is_trivial : Value → Bool
 is_trivial (value.Source p) = p.length == 0
 is_trivial (value.Destination p) = p.length == 0
@@ -163,6 +165,6 @@ is_trivial value.LogTcpOptions = false
 is_trivial value.LogIpOptions = false
 is_trivial value.LogUid = false
 
--- an option that says something: an inverted one does always
+-- an option that says something; an inverted one always does
 abbrev pub is_condition : OptionValue → Bool
 is_condition s = s.inverted || not (is_trivial s.value)

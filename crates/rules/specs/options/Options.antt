@@ -1,4 +1,4 @@
--- The table of options: a row for each (iptables(8), iptables-extensions(8)).
+-- The table of options: a row for each (iptables(8), PARAMETERS; iptables-extensions(8)).
 use Rattle.std.specs.Prelude.{ℕ, Bool, true, false, ◌||◌, List, [], ◌∷◌, Option, find, codes}
 use Rattle.std.specs.List.{list_any}
 use Rattle.std.specs.Str.{bytes_eq}
@@ -13,8 +13,8 @@ use Rattle.rules.specs.declared.options.option.Owner.TheVariants as owned
 use Rattle.rules.specs.declared.options.option.Extended.TheVariants as extended
 use Rattle.rules.specs.options.Matches.{same_kind}
 
--- An option's spellings, of which the first is printed, how many values follow it, whether `!` may stand before it, what it
--- belongs to, and its place among the options of its owner. Options of one place count as one.
+-- an option's names, the first of which is printed, how many values follow it, whether `!` may stand before it, what it belongs to
+-- (a rule, some matches, a target), and its place among the options of its owner; options with the same place exclude each other
 pub record OptionSpec : Type 0 where
   pub names : List (List ℕ)
   pub values : ℕ
@@ -26,23 +26,23 @@ pub record OptionSpec : Type 0 where
 abbrev pub option_row_with : List (List ℕ) → ℕ → Bool → Owner → ℕ → OptionSpec
 option_row_with names values inverts owner slot = record { names = names; values = values; inverts = inverts; owner = owner; slot = slot }
 
--- two spellings
+-- an option with a short and a long name
 abbrev pub or : List ℕ → List ℕ → List (List ℕ)
 or short long = short ∷ long ∷ []
 
--- one spelling
+-- an option with one name
 abbrev pub alone : List ℕ → List (List ℕ)
 alone name = name ∷ []
 
--- what belongs to one match
+-- it belongs to this match
 abbrev pub of : MatchKind → Owner
 of k = owned.Match (One k)
 
--- what belongs to tcp and to udp
+-- it belongs to the matches tcp and udp
 abbrev pub of_ports : Owner
 of_ports = owned.Match (Either kind.Tcp kind.Udp)
 
--- the rows
+-- the table of options
 abbrev pub option_row : Opt → OptionSpec
 option_row opt.Source = option_row_with (codes "-s" ∷ codes "--source" ∷ codes "--src" ∷ []) 1 true owned.Rule 0
 option_row opt.Destination = option_row_with (codes "-d" ∷ codes "--destination" ∷ codes "--dst" ∷ []) 1 true owned.Rule 1
@@ -77,16 +77,16 @@ option_row opt.LogTcpOptions = option_row_with (alone (codes "--log-tcp-options"
 option_row opt.LogIpOptions = option_row_with (alone (codes "--log-ip-options")) 0 false (owned.Target extended.Log) 4
 option_row opt.LogUid = option_row_with (alone (codes "--log-uid")) 0 false (owned.Target extended.Log) 5
 
--- the first word, if there is one
+-- the first word, or the empty one
 abbrev pub first_of : List (List ℕ) → List ℕ
 first_of [] = []
 first_of (word ∷ words) = word
 
--- the word spells the option
+-- the word is one of the option's names
 abbrev pub spells : List ℕ → Opt → Bool
 spells word o = list_any (bytes_eq word) (option_row o).names
 
--- the options
+-- all options
 abbrev pub all_options : List Opt
 all_options =
     opt.Source ∷ opt.Destination ∷ opt.InInterface ∷ opt.OutInterface ∷ opt.Protocol ∷ opt.Fragment ∷ opt.Match
@@ -95,11 +95,11 @@ all_options =
     ∷ opt.Comment ∷ opt.TtlEqual ∷ opt.TtlGreater ∷ opt.TtlLess ∷ opt.RejectWith ∷ opt.LogPrefix ∷ opt.LogLevel ∷ opt.LogTcpSequence ∷ opt.LogTcpOptions
     ∷ opt.LogIpOptions ∷ opt.LogUid ∷ []
 
--- the option that a word spells
+-- the option with this name
 unfoldable pub option_of : List ℕ → Option Opt
 option_of word = find (spells word) all_options
 
--- the spelling that is printed
+-- the name that is printed
 abbrev pub name_of : Opt → List ℕ
 name_of o = first_of (option_row o).names
 
@@ -124,7 +124,7 @@ abbrev pub is_one_of : MatchKinds → MatchKind → Bool
 is_one_of (One k) m = same_kind k m
 is_one_of (Either k l) m = same_kind k m || same_kind l m
 
--- what belongs there belongs to the match
+-- an option with this owner belongs to the match
 abbrev pub is_match_of : Owner → MatchKind → Bool
 is_match_of owned.Rule m = false
 is_match_of owned.Start m = false
@@ -133,6 +133,6 @@ is_match_of owned.Goto m = false
 is_match_of (owned.Match ks) m = is_one_of ks m
 is_match_of (owned.Target t) m = false
 
--- a match has an option where it is among the option's owners
+-- the option belongs to the match
 abbrev pub kind_has : MatchKind → Opt → Bool
 kind_has m o = is_match_of (owner o) m

@@ -1,11 +1,12 @@
--- What the values of some options hold.
+-- What some values contain: a protocol, a list for both ports, or an answer of REJECT (iptables-extensions(8), multiport and
+-- REJECT).
 use Rattle.std.specs.Prelude.{ℕ, List, Option, Some, None}
 use Rattle.fields.specs.values.PortRange.{Ports}
 use Rattle.fields.specs.declared.values.reject.RejectType.{RejectType}
 use Rattle.rules.specs.declared.options.value.Value.{Value}
 use Rattle.rules.specs.declared.options.value.Value.TheVariants as value
 
--- the protocol; each other value names none
+-- the protocol of a value of `-p`; other values contain none
 abbrev pub protocol_in : Value → Option ℕ
 protocol_in (value.Source x) = None
 protocol_in (value.Destination x) = None
@@ -36,7 +37,7 @@ protocol_in value.LogTcpOptions = None
 protocol_in value.LogIpOptions = None
 protocol_in value.LogUid = None
 
--- the ports of a condition on both ports; each other value speaks of one field or of none
+-- the ports of a value of `--ports`, which asks for the source or the destination port; other values contain none
 abbrev pub both_ports_in : Value → Option (List Ports)
 both_ports_in (value.Source x) = None
 both_ports_in (value.Destination x) = None
@@ -67,7 +68,7 @@ both_ports_in value.LogTcpOptions = None
 both_ports_in value.LogIpOptions = None
 both_ports_in value.LogUid = None
 
--- how REJECT answers; each other value says nothing of it
+-- the answer of a value of `--reject-with`; other values contain none
 abbrev pub reject_type_in : Value → Option RejectType
 reject_type_in (value.Source x) = None
 reject_type_in (value.Destination x) = None

@@ -1,4 +1,4 @@
--- How a rule is printed.
+-- How a rule is printed (iptables-save(8)).
 use Rattle.std.specs.Prelude.{ℕ, Bool, true, false, List, [], ◌∷◌, ◌++◌, flat_map, Option, Some, None, codes}
 use Rattle.fields.specs.values.ConnectionState.{states_text}
 use Rattle.fields.specs.values.Icmp.{icmp_text}
@@ -22,7 +22,7 @@ use Rattle.rules.specs.declared.options.option_value.OptionValue.{OptionValue}
 use Rattle.rules.specs.declared.options.value.Value.{Value}
 use Rattle.rules.specs.declared.options.value.Value.TheVariants as value
 
--- one word
+-- one word, printed as it is
 abbrev pub one : List ℕ → List Shown
 one word = bare word ∷ []
 
@@ -57,16 +57,16 @@ shown_value value.LogTcpOptions = []
 shown_value value.LogIpOptions = []
 shown_value value.LogUid = []
 
--- the word before an option that is inverted
+-- a `!` before an inverted option
 abbrev pub shown_bang : Bool → List Shown
 shown_bang true = bare (codes "!") ∷ []
 shown_bang false = []
 
--- an option with its value; `!` stands before it where it is inverted
+-- an option with its value, after a `!` where it is inverted
 abbrev pub shown_option_value : OptionValue → List Shown
 shown_option_value s = shown_bang s.inverted ++ (bare (name_of (option_of_value s.value)) ∷ shown_value s.value)
 
--- the words of options, one after another
+-- the words of some options, one after another
 abbrev pub shown_option_values : List OptionValue → List Shown
 shown_option_values ss = flat_map shown_option_value ss
 
@@ -74,7 +74,7 @@ shown_option_values ss = flat_map shown_option_value ss
 abbrev pub shown_match : Match → List Shown
 shown_match m = bare (codes "-m") ∷ (bare (kind_name m.kind) ∷ shown_option_values m.option_values)
 
--- the option and the word of a target
+-- the words of a target: `-j` and its name, or `-g` and a chain
 abbrev pub shown_given : Action → List Shown
 shown_given action.Accept = bare (codes "-j") ∷ one (codes "ACCEPT")
 shown_given action.Drop = bare (codes "-j") ∷ one (codes "DROP")
@@ -84,12 +84,12 @@ shown_given action.Log = bare (codes "-j") ∷ one (codes "LOG")
 shown_given (action.Jump name) = bare (codes "-j") ∷ one name
 shown_given (action.Goto name) = bare (codes "-g") ∷ one name
 
--- and no word where there is no target
+-- those of a rule's target; none where it has no target
 abbrev pub shown_action : Option Action → List Shown
 shown_action None = []
 shown_action (Some a) = shown_given a
 
--- the words of a rule
+-- the words of a rule: its own options, its matches, its target, the options of that
 abbrev pub shown_rule : Rule → List Shown
 shown_rule r = shown_option_values r.option_values ++ (flat_map shown_match r.matches ++ (shown_action r.action ++ shown_option_values r.target_options))
 

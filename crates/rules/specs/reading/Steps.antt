@@ -1,4 +1,5 @@
--- How words are read as a rule: option by option, each legal beside those before it.
+-- How words are read as a rule: one option after another, each of which has to be legal after those before it (iptables(8),
+-- COMMANDS).
 use Prim.Native.Nat.{zero, suc}
 use Rattle.std.specs.Prelude.{ℕ, ◌+◌, ◌==◌, Bool, true, false, ◌&&◌, nat_lt, nat_le, List, [], ◌∷◌, ◌++◌, length, slice_set, find}
 use Rattle.std.specs.Prelude.{Option, Some, None, Result, Ok, Err, if◌then◌else◌}
@@ -23,16 +24,16 @@ use Rattle.rules.specs.declared.options.option_value.OptionValue.{OptionValue}
 use Rattle.rules.specs.declared.rule.action.Action.{Action}
 use Rattle.rules.specs.declared.rule.action.Action.TheVariants as action
 
--- an option of this place was given
+-- an option with this place was given already
 abbrev pub is_given : ℕ → List OptionValue → Bool
 is_given slot option_values = list_any (λ (s : OptionValue). slot_of s == slot) option_values
 
--- the options with one more, which stands before the first one of a later place
+-- the options with one more, put before the first option with a later place
 abbrev pub insert_by_place : ℕ → OptionValue → List OptionValue → List OptionValue
 insert_by_place slot s [] = s ∷ []
 insert_by_place slot s (t ∷ ts) = if nat_lt slot (slot_of t) then s ∷ t ∷ ts else t ∷ insert_by_place slot s ts
 
--- the options with one more, where none of its place was given
+-- the options with one more, unless one with the same place was given
 unfoldable pub with_option : List OptionValue → OptionWords → Result (List OptionValue) Refusal
 with_option option_values p =
     if is_given (slot p.option) option_values then Err refusal.RepeatedOption
@@ -40,7 +41,7 @@ with_option option_values p =
     value_of p.option p.inverted p.values
     >>= λ v. Ok (insert_by_place (slot p.option) (record { inverted = p.inverted; value = v }) option_values)
 
--- the rule with these options of its own
+-- the rule with these as its own options
 abbrev pub with_option_values : Rule → List OptionValue → Rule
 with_option_values r option_values = record { option_values = option_values; matches = r.matches; action = r.action; target_options = r.target_options }
 
@@ -48,7 +49,7 @@ with_option_values r option_values = record { option_values = option_values; mat
 abbrev pub with_matches : Rule → List Match → Rule
 with_matches r matches = record { option_values = r.option_values; matches = matches; action = r.action; target_options = r.target_options }
 
--- the rule with this action
+-- the rule with this target
 abbrev pub with_action : Rule → Action → Rule
 with_action r t = record { option_values = r.option_values; matches = r.matches; action = Some t; target_options = r.target_options }
 
@@ -56,49 +57,49 @@ with_action r t = record { option_values = r.option_values; matches = r.matches;
 abbrev pub with_target_options : Rule → List OptionValue → Rule
 with_target_options r options = record { option_values = r.option_values; matches = r.matches; action = r.action; target_options = options }
 
--- the rule with one more match, where it has fewer than 16
+-- the rule with one more match, if it has fewer than 16
 unfoldable pub with_match : Rule → MatchKind → Result Rule Refusal
 with_match r k =
     if nat_le 16 (length r.matches) then Err refusal.TooManyMatches
     else let one : Match = record { kind = k; option_values = [] } in Ok (with_matches r (r.matches ++ one ∷ []))
 
--- the place one further on, or the first where a match here has the option
+-- the place found further on, counted from here; else this place, if the match here has the option
 abbrev pub later : Bool → Option ℕ → Option ℕ
 later here (Some i) = Some (i + 1)
 later here None = if here then Some 0 else None
 
--- the place of the match that was started last among those that have an option
+-- the place of the last match that has this option
 abbrev pub last_with : Opt → List Match → Option ℕ
 last_with o [] = None
 last_with o (m ∷ ms) = later (kind_has m.kind o) (last_with o ms)
 
--- tcp, udp or icmp, where it is the rule's protocol: the match that an option starts by itself
+-- the match that an option starts without `-m`: tcp, udp or icmp, if it is the rule's protocol and has the option
 abbrev pub implied_match : List OptionValue → Opt → Option MatchKind
 implied_match option_values o = find (λ k. is_met_for k option_values && kind_has k o) implied_kinds
 
--- an option that may start a match by itself
+-- the option may start a match without `-m`
 abbrev pub is_implied_option : Opt → Bool
 is_implied_option o = list_any (λ k. kind_has k o) implied_kinds
 
--- the rule with the match that an option starts by itself, and that match's place
+-- the rule with the match that an option starts, and the match's place; else a protocol is needed, or the option is unknown here
 abbrev pub with_match_for : Rule → OptionWords → Option MatchKind → Result (Rule × ℕ) Refusal
 with_match_for r p None = if is_implied_option p.option then Err refusal.ProtocolNeeded else Err (refusal.UnknownOption p.place)
 with_match_for r p (Some k) = with_match r k >>= λ s. Ok (s, length r.matches)
 
--- the place of a match that was started, or that of the one that the option starts
+-- the place of a match that was started, or that of the match that the option starts
 abbrev pub at_match_or_new : Rule → OptionWords → Option ℕ → Result (Rule × ℕ) Refusal
 at_match_or_new r p (Some i) = Ok (r, i)
 at_match_or_new r p None = with_match_for r p (implied_match r.option_values p.option)
 
--- the rule with the match that an option belongs to, and that match's place
+-- the rule with the match that an option belongs to (the last one that has it, or one that it starts), and that match's place
 unfoldable pub match_for : Rule → OptionWords → Result (Rule × ℕ) Refusal
 match_for r p = at_match_or_new r p (last_with p.option r.matches)
 
--- what stands beyond the last match
+-- what stands for a match where there is none
 abbrev pub no_match : Match
 no_match = record { kind = kind.Comment; option_values = [] }
 
--- the matches with one more option at a place
+-- the matches, with one more option for the match at a place
 unfoldable pub with_option_at : List Match → ℕ → OptionWords → Result (List Match) Refusal
 with_option_at ms i p =
     let m = slice_index_or ms i no_match in
@@ -121,14 +122,14 @@ has_jump None = false
 has_jump (Some (action.Goto name)) = false
 has_jump (Some t) = true
 
--- the rule with the target that `-j` names, where none was given
+-- the rule with the target that `-j` names, if it has none yet
 unfoldable pub with_jump : Rule → List ℕ → Result Rule Refusal
 with_jump r text =
     if has_goto r.action then Err refusal.JumpAndGoto
     else if has_jump r.action then Err refusal.RepeatedOption
     else or_refused refusal.BadValue (action_of text) >>= λ t. Ok (with_action r t)
 
--- the rule with the chain that `-g` names, where no target was given
+-- the rule with the chain that `-g` names, if it has no target yet
 unfoldable pub with_goto : Rule → List ℕ → Result Rule Refusal
 with_goto r text =
     if has_jump r.action then Err refusal.JumpAndGoto
@@ -150,7 +151,7 @@ owned_step (owned.Target t) r p =
     if action_has r.action p.option then (with_option r.target_options p >>= λ ss. Ok (with_target_options r ss))
     else Err refusal.OtherTarget
 
--- the rule so far with one more option, or why that option isn't legal beside those before it
+-- the rule so far with one more option, or why that option isn't legal after those before it
 unfoldable pub step : Rule → OptionWords → Result Rule Refusal
 step r p = owned_step (owner p.option) r p
 
@@ -160,15 +161,15 @@ steps_from n end r [] = Ok r
 steps_from zero end r (w ∷ ws) = Err refusal.ValueMissing
 steps_from (suc n) end r (w ∷ ws) = option_words_at end (w ∷ ws) >>= λ q. step r q.0 >>= λ s. steps_from n end s q.1
 
--- the rule, or what it lacks
+-- the rule, or the refusal of what it lacks
 abbrev pub unless_unmet : Rule → Option Refusal → Result Rule Refusal
 unless_unmet r None = Ok r
 unless_unmet r (Some e) = Err e
 
--- the rule in its normal form, where its needs hold
+-- the rule in its normal form, unless something that it needs is missing
 abbrev pub with_needs_met : Rule → Result Rule Refusal
 with_needs_met r = unless_unmet (normal_form r) (unmet (normal_form r))
 
--- the rule that words read as, or why they are none; end is the place after the last word of the line
+-- the rule that words are read as, or their first fault; `end` is the place after the last word of the line
 unfoldable pub rule_of : ℕ → List (List ℕ) → Result Rule Refusal
 rule_of end words = steps_from (length words) end empty_rule words >>= with_needs_met

@@ -1,4 +1,4 @@
--- Which numbers a rule allows on a field, and which packets it matches (iptables(8), iptables-extensions(8)).
+-- Which numbers a rule allows on a field, and which packets it matches (iptables(8), PARAMETERS; iptables-extensions(8)).
 use Rattle.std.specs.Prelude.{ℕ, ◌==◌, nat_lt, Bool, true, false, ◌&&◌, ◌||◌, not, List, Option, Some, None, if◌then◌else◌}
 use Rattle.std.specs.List.{list_all, list_any}
 use Rattle.fields.specs.values.ConnectionState.{states_pass}
@@ -20,7 +20,7 @@ use Rattle.rules.specs.declared.options.option_value.OptionValue.{OptionValue}
 use Rattle.rules.specs.declared.options.value.Value.{Value}
 use Rattle.rules.specs.declared.options.value.Value.TheVariants as value
 
--- the field that a value speaks of, if it speaks of one
+-- the one field on which a value puts a condition; none where it puts none, or one on both ports
 abbrev pub field_of : Value → Option Field
 field_of (value.Source x) = Some field.Source
 field_of (value.Destination x) = Some field.Destination
@@ -51,7 +51,8 @@ field_of value.LogTcpOptions = None
 field_of value.LogIpOptions = None
 field_of value.LogUid = None
 
--- whether the value holds of a number of its field; one that speaks of no field holds of each
+-- whether a value's condition holds of a number on its field: `--ttl-eq`, `--ttl-gt` and `--ttl-lt`, for example, where the time to
+-- live is equal, greater or less; a value without such a condition holds of every number
 abbrev pub holds_of : Value → ℕ → Bool
 holds_of (value.Source x) n = holds x n
 holds_of (value.Destination x) n = holds x n
@@ -82,44 +83,45 @@ holds_of value.LogTcpOptions n = true
 holds_of value.LogIpOptions n = true
 holds_of value.LogUid n = true
 
--- two fields are one
+-- two fields are the same
 abbrev pub same_field : Field → Field → Bool
 same_field f g = index f == index g
 
--- the field that is spoken of, if there is one, is this
+-- there is a field, and it is this one
 abbrev pub is_on : Field → Option Field → Bool
 is_on f None = false
 is_on f (Some g) = same_field f g
 
--- a condition, or its opposite
+-- the condition holds, or doesn't where it is inverted
 abbrev pub option_value_holds : OptionValue → ℕ → Bool
 option_value_holds s n = if s.inverted then not (holds_of s.value n) else holds_of s.value n
 
--- the option allows the number on the field: it speaks of another field, or holds of it
+-- the option allows the number on the field: its condition is on another field, or holds
 abbrev pub option_value_allows : Field → ℕ → OptionValue → Bool
 option_value_allows f n s = if is_on f (field_of s.value) then option_value_holds s n else true
 
--- a match that looks into the packet's parts asks for a first fragment
+-- a match that looks behind the IP header allows no further fragment
 abbrev pub fragment_allows : Field → ℕ → MatchKind → Bool
 fragment_allows f n k = not ((match_row k).asks_fragment && same_field f field.Fragment) || (n == 0)
 
--- the match allows it: by the fragments that it asks for, and by each of its options
+-- the match allows the number on the field: it isn't a further fragment where that is excluded, and each of its options allows it
 abbrev pub match_allows : Field → ℕ → Match → Bool
 match_allows f n m = fragment_allows f n m.kind && list_all (option_value_allows f n) m.option_values
 
--- every condition of the rule on the field holds of the number
+-- the rule allows the number on the field: each condition that it has on this field alone holds
 unfoldable pub allows : Rule → Field → ℕ → Bool
 allows r f n = list_all (option_value_allows f n) r.option_values && list_all (match_allows f n) r.matches
 
--- whether the rule allows each of these numbers, one a field in the order of the fields
+-- the rule allows each of these numbers, given one a field in the order of the fields
 abbrev pub allows_each : List ℕ → Rule → Bool
 allows_each numbers r = list_all (λ f. allows r f (number_on numbers f)) all_fields
 
--- whether the rule matches a packet with these numbers: it allows each on its field, and what it asks of several fields at once holds
+-- the rule matches a packet with these numbers: it allows each on its field, and its conditions on several fields hold
+-- (iptables(8), PARAMETERS, -m)
 abbrev pub matches : List ℕ → Rule → Bool
 matches numbers r = allows_each numbers r && cross numbers r
 
--- the condition asks something on the field
+-- the option has a condition on the field
 abbrev pub asks : Field → OptionValue → Bool
 asks f s = is_on f (field_of s.value)
 

@@ -1,4 +1,4 @@
--- What every rule is once it was read, so that its text reads back as it (iptables-save(8)).
+-- What holds of every rule that was read, so that its text reads back as the same rule (iptables-save(8)).
 use Rattle.std.specs.Prelude.{◌≡◌, ◌⊎◌, ◌≤◌, true, List, [], ◌∷◌, ◌++◌, length, map, flat_map, Option, Some, None, Ok}
 use Rattle.std.specs.List.{All, Contains}
 use Rattle.fields.specs.text.Printed.{Shown}
@@ -16,7 +16,7 @@ use Rattle.rules.specs.declared.options.option.Opt.{Opt}
 use Rattle.rules.specs.declared.options.option.Opt.TheVariants as opt
 use Rattle.rules.specs.declared.options.option_value.OptionValue.{OptionValue}
 
--- a place in a listing where this option alone may stand
+-- a place in a listing at which only this option may stand
 abbrev pub only : Opt → List Opt
 only o = o ∷ []
 
@@ -25,7 +25,7 @@ abbrev pub rule_places : List (List Opt)
 rule_places =
     only opt.Source ∷ only opt.Destination ∷ only opt.InInterface ∷ only opt.OutInterface ∷ only opt.Protocol ∷ only opt.Fragment ∷ []
 
--- the places of a match's options; multiport and ttl have one place each for all of their options
+-- the places of a match's options; multiport and ttl have a single place for all of their options
 abbrev pub match_places : MatchKind → List (List Opt)
 match_places kind.Tcp = only opt.SourcePort ∷ only opt.DestinationPort ∷ only opt.TcpFlags ∷ []
 match_places kind.Udp = only opt.SourcePort ∷ only opt.DestinationPort ∷ []
@@ -55,7 +55,8 @@ AreInOrder places [] = Unit {0}
 AreInOrder [] (s ∷ ss) = ⊥
 AreInOrder (place ∷ places) (s ∷ ss) = (Contains place (option_of_value s.value) × AreInOrder places ss) ⊎ AreInOrder places (s ∷ ss)
 
--- a rule's own options, each match's and the target's stand in the order of a listing, in whatever order they were given
+-- a rule's own options, those of each match and those of the target stand in the order of a listing, with at most one option of
+-- each multiport and of each ttl
 pub record IsInOrder (r : Rule) : Type 0 where
   pub own : AreInOrder rule_places r.option_values
   pub matches : All (λ (m : Match). AreInOrder (match_places m.kind) m.option_values) r.matches
@@ -65,12 +66,12 @@ pub record IsInOrder (r : Rule) : Type 0 where
 abbrev pub all_option_values : Rule → List OptionValue
 all_option_values r = r.option_values ++ (flat_map (λ (m : Match). m.option_values) r.matches ++ r.target_options)
 
--- the words of an option's value give the value, and `!` stands only before an option that may be inverted
+-- the words of the option's value are read as the value, and only an option that may be inverted is
 pub record ValueReadsBack (s : OptionValue) : Type 0 where
   pub value : value_of (option_of_value s.value) s.inverted (map (λ (w : Shown). w.word) (shown_value s.value)) ≡ Ok s.value
   pub bang : s.inverted ≡ true → may_be_inverted (option_of_value s.value) ≡ true
 
--- a chain that the action names has a chain's name
+-- a chain that the target names has a chain's name
 abbrev pub NamesChain : Option Action → Type 0
 NamesChain None = Unit {0}
 NamesChain (Some action.Accept) = Unit {0}
@@ -81,8 +82,8 @@ NamesChain (Some action.Log) = Unit {0}
 NamesChain (Some (action.Jump name)) = name_of name ≡ Some name
 NamesChain (Some (action.Goto name)) = name_of name ≡ Some name
 
--- A rule's options stand in order and their values read back, it has 16 matches at most, each option says something, what is
--- meant where nothing is said stands there, and nothing that it needs is missing.
+-- the rule's options stand in order and their values read back, it has at most 16 matches, each option says something, defaults are
+-- written out, and nothing that it needs is missing
 pub record IsReadable (r : Rule) : Type 0 where
   pub ordered : IsInOrder r
   pub values : All ValueReadsBack (all_option_values r)

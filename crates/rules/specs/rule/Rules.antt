@@ -1,4 +1,4 @@
--- Rules.
+-- Rules: what they consist of (iptables(8), SYNOPSIS, rule-specification), and the form in which they are kept.
 use Rattle.std.specs.Prelude.{false, List, [], ◌∷◌, map, filter, Option, Some, None}
 use Rattle.fields.specs.declared.values.icmp.Asked.TheVariants as asked
 use Rattle.fields.specs.declared.values.reject.RejectType.TheVariants as reject
@@ -16,19 +16,19 @@ pub record Match : Type 0 where
   pub kind : MatchKind
   pub option_values : List OptionValue
 
--- A rule: its own options, its matches in the order in which they were started, what it does, and the options of that.
--- Options stand in the order in which they are printed.
+-- a rule: its own options, its matches in the order in which they were started, its target, and the options of that; options stand
+-- in the order in which they are printed
 pub record Rule : Type 0 where
   pub option_values : List OptionValue
   pub matches : List Match
   pub action : Option Action
   pub target_options : List OptionValue
 
--- a rule of which nothing was read yet
+-- the rule before any word of it was read
 abbrev pub empty_rule : Rule
 empty_rule = record { option_values = []; matches = []; action = None; target_options = [] }
 
--- what a match asks where its option isn't given: icmp asks for any type
+-- what a match asks for where its option isn't given: icmp asks for any type
 abbrev pub match_default : MatchKind → Option Value
 match_default kind.Tcp = None
 match_default kind.Udp = None
@@ -40,7 +40,7 @@ match_default kind.State = None
 match_default kind.Comment = None
 match_default kind.Ttl = None
 
--- what a target does where its option isn't given: REJECT answers that the port is unreachable
+-- what a target does where its option isn't given: REJECT answers with icmp-port-unreachable
 abbrev pub action_default : Option Action → Option Value
 action_default None = None
 action_default (Some action.Accept) = None
@@ -51,16 +51,16 @@ action_default (Some action.Log) = None
 action_default (Some (action.Jump name)) = None
 action_default (Some (action.Goto name)) = None
 
--- the options or, where there are none, what is meant then
+-- the options or, where there are none, the default
 abbrev pub or_default : Option Value → List OptionValue → List OptionValue
 or_default (Some v) [] = record { inverted = false; value = v } ∷ []
 or_default v option_values = option_values
 
--- a match without what is no condition, and with what is meant where nothing is said
+-- a match without options that say nothing, and with its default written out
 abbrev pub normal_match : Match → Match
 normal_match m = record { kind = m.kind; option_values = or_default (match_default m.kind) (filter is_condition m.option_values) }
 
--- The form in which a rule is kept: what is no condition is as if absent, and what is meant where nothing is said stands there.
+-- the form in which a rule is kept: options that say nothing are left out, and defaults are written out
 abbrev pub normal_form : Rule → Rule
 normal_form r = record {
   option_values = filter is_condition r.option_values;

@@ -1,4 +1,4 @@
--- What came of a line: how the code's answers stand for replies.
+-- How the code's answer to a line stands for the reply that the definition gives.
 use Rattle.std.specs.Prelude.{◌≡◌, ℕ, ◌<◌, Bool, List, [], length, option_map, Option, Some, None, Result, Ok, Err}
 use Rattle.fields.specs.packet.Packet.{PacketView}
 use Rattle.table.specs.chains.Table.{Table, TableView, chain_at}
@@ -32,7 +32,7 @@ HasChain t (Err fault) = Unit {0}
 abbrev pub name_at : Table → Option ℕ → Option (List ℕ)
 name_at t place = option_map (λ k. (chain_at t k).name) place
 
--- what is printed of an answer or a fault
+-- the reply for which the code's answer or fault stands, by the place of a chain or the trail
 abbrev pub IsReply : Table → Result Answer Fault → Reply → Type 0
 IsReply t (Ok answers.Nothing) said = said ≡ Says []
 IsReply t (Ok (answers.Rules place)) said = said ≡ Says (rules_listing t (name_at t place))
@@ -41,7 +41,7 @@ IsReply t (Ok (answers.Walk trail)) said = (packet : PacketView) × Shows t.chai
 IsReply t (Ok (answers.Lines place)) said = said ≡ Says (lines_reply (chain_at t place).rules)
 IsReply t (Err fault) said = said ≡ Fails fault
 
--- of any trail: what is printed is its text
+-- where the answer is a trail, this fact of it
 abbrev pub OnTrail : Result Answer Fault → (Trail → Type 0) → Type 0
 OnTrail (Ok answers.Nothing) P = Unit {0}
 OnTrail (Ok (answers.Rules place)) P = Unit {0}
@@ -50,13 +50,13 @@ OnTrail (Ok (answers.Walk trail)) P = P trail
 OnTrail (Ok (answers.Lines place)) P = Unit {0}
 OnTrail (Err fault) P = Unit {0}
 
--- what the definition says of a line is what came of it
+-- what the code did is this outcome
 pub record IsOutcome (said : Outcome) (new : TableView) (t : made.Outcome) : Type 0 where
   pub table : said.table ≡ new.table
   pub mode : said.mode ≡ t.mode
   pub reply : IsReply new.table t.reply said.reply
   pub place : HasChain new.table t.reply
 
--- what the definition says of a line came, for some mark
+-- what the code did is the outcome of the line, for some mark
 abbrev pub IsOutcomeOf : List ℕ → Mode → TableView → TableView → made.Outcome → Type 0
 IsOutcomeOf text mode old new t = (refused : Bool) × IsOutcome (outcome old.table mode (record { text = text; refused = refused })) new t

@@ -1,4 +1,4 @@
--- Why a line is refused: its code and text, and the status of a session whose first fault it is.
+-- Why a line is refused: each fault's code and text, and the exit status of a session whose first fault it is.
 use Rattle.std.specs.Prelude.{ℕ, Bool, true, false, List, ◌++◌, codes, decimal}
 use Rattle.std.specs.Prelude.{if◌then◌else◌}
 use Rattle.fields.specs.declared.packet.PacketFault.{PacketFault}
@@ -17,7 +17,7 @@ use Rattle.restore.specs.sections.Section as section
 pub use Rattle.sessions.specs.declared.line.fault.Fault.{Fault}
 pub use Rattle.sessions.specs.declared.line.fault.Fault.TheVariants.{Line, Packet, UnknownLine, BadRestoreLine, EndWordMissing, NoMemory}
 
--- of the words of a rule
+-- the code and the text of a refusal of a rule's words: P1 to P12
 abbrev pub refusal_text : Refusal → List ℕ
 refusal_text (refusal.UnknownOption place) = codes "P1 unknown option"
 refusal_text refusal.ValueMissing = codes "P2 value missing"
@@ -32,12 +32,12 @@ refusal_text refusal.TextTooLong = codes "P10 text too long"
 refusal_text refusal.OtherTarget = codes "P11 option of another target"
 refusal_text refusal.MatchOptionMissing = codes "P12 match option missing"
 
--- of a rule
+-- those of a rule's fault
 abbrev pub rule_text : RuleFault → List ℕ
 rule_text (rule.Refused fault) = refusal_text fault
 rule_text rule.NoMemory = codes "M0 no memory"
 
--- of a command
+-- those of a command's fault: C1 to C4, or its rule's
 abbrev pub command_text : CommandFault → List ℕ
 command_text command.NoCommand = codes "C1 no command"
 command_text command.TwoCommands = codes "C2 two commands"
@@ -45,7 +45,7 @@ command_text command.WordCount = codes "C3 wrong number of words"
 command_text command.OtherTable = codes "C4 other table"
 command_text (command.Rule fault) = rule_text fault
 
--- of a table
+-- those of a table's fault: T1 to T16
 abbrev pub table_text : TableFault → List ℕ
 table_text table.NoSuchChain = codes "T1 no such chain"
 table_text table.ChainExists = codes "T2 chain exists"
@@ -65,7 +65,7 @@ table_text table.TooManyChains = codes "T15 too many chains"
 table_text table.BadPolicy = codes "T16 bad policy"
 table_text table.NoMemory = codes "M0 no memory"
 
--- of a line of a restore
+-- those of a restore line's fault: R1 to R6, or its command's or the table's
 abbrev pub line_text : RestoreFault → List ℕ
 line_text (restore.Command fault) = command_text fault
 line_text (restore.Table fault) = table_text fault
@@ -77,14 +77,14 @@ line_text restore.Quoting = codes "R5 bad quoting"
 line_text restore.LineTooLong = codes "R6 line too long"
 line_text restore.NoMemory = codes "M0 no memory"
 
--- of a packet
+-- those of a packet line's fault: F1 to F4
 abbrev pub packet_text : PacketFault → List ℕ
 packet_text packet.UnknownKey = codes "F1 unknown key"
 packet_text packet.KeyMissing = codes "F2 key missing"
 packet_text packet.BadValue = codes "F3 bad packet value"
 packet_text packet.NotCarried = codes "F4 field not carried"
 
--- the code and the text of a fault
+-- the code and the text of any fault
 abbrev pub fault_text : Fault → List ℕ
 fault_text (Line fault) = line_text fault
 fault_text (Packet fault) = packet_text fault
@@ -102,11 +102,11 @@ is_out_of_memory BadRestoreLine = false
 is_out_of_memory EndWordMissing = false
 is_out_of_memory NoMemory = true
 
--- what a line of a restore was refused for; out of memory is one fault, whatever asked for the memory
+-- the fault of a line of a restore; out of memory is one fault, whatever asked for the memory
 abbrev pub of_line : RestoreFault → Fault
 of_line fault = if section.is_out_of_memory fault then NoMemory else Line fault
 
--- 2 for what can't be read, 1 for what the table or a restore refuses
+-- the status of it, where memory didn't run out: 2 for words that can't be read, 1 for what the table or the restore refuses
 abbrev pub line_status : RestoreFault → ℕ
 line_status (restore.Command fault) = 2
 line_status (restore.Table fault) = 1
@@ -118,7 +118,7 @@ line_status restore.Quoting = 1
 line_status restore.LineTooLong = 1
 line_status restore.NoMemory = 1
 
--- 2 for what can't be read, 1 for what the table or a restore refuses, and 4 for out of memory
+-- the status of a fault: 2 for words that can't be read, 1 for what the table or a restore refuses, 4 for out of memory
 abbrev pub fault_status : Fault → ℕ
 fault_status (Line fault) = if section.is_out_of_memory fault then 4 else line_status fault
 fault_status (Packet fault) = 2
@@ -127,6 +127,6 @@ fault_status BadRestoreLine = 2
 fault_status EndWordMissing = 2
 fault_status NoMemory = 4
 
--- `line N: CODE text`
+-- the line that reports a fault: `line N: CODE text`
 abbrev pub fault_line : ℕ → Fault → List ℕ
 fault_line n fault = codes "line " ++ (decimal n ++ (codes ": " ++ (fault_text fault ++ codes "\n")))

@@ -1,4 +1,4 @@
--- How a restore is opened among the lines of a session: `iptables-restore [-n] [-t] <<WORD` (iptables-restore(8)).
+-- How a restore begins among the lines of a session: `iptables-restore [-n] [-t] <<WORD` (iptables-restore(8), -n and -t).
 use Rattle.std.specs.Prelude.{ℕ, ◌||◌, ◌&&◌, nat_lt, nat_le, Bool, true, false, List, [], ◌∷◌, length, take, drop}
 use Rattle.std.specs.Prelude.{Option, Some, None, option_and_then, codes, if◌then◌else◌}
 use Rattle.std.specs.Str.{bytes_eq}
@@ -11,14 +11,14 @@ pub use Rattle.sessions.specs.declared.line.opening.Opening.{Opening}
 abbrev pub no_option : Options
 no_option = record { noflush = false; test = false }
 
--- a word that is an option
+-- the option that a word is
 abbrev pub option_of : List ℕ → Option Options
 option_of w =
     if bytes_eq w (codes "-n") || bytes_eq w (codes "--noflush") then Some (record { noflush = true; test = false })
     else if bytes_eq w (codes "-t") || bytes_eq w (codes "--test") then Some (record { noflush = false; test = true })
     else None
 
--- two options, of which neither is given twice
+-- two options, unless one is given twice
 abbrev pub joined : Options → Options → Option Options
 joined a b =
     if a.noflush && b.noflush || a.test && b.test then None
@@ -28,15 +28,16 @@ joined a b =
 abbrev pub options_of : List ℕ → List ℕ → Option Options
 options_of v w = option_and_then (λ a. option_and_then (joined a) (option_of w)) (option_of v)
 
--- a word that ends a restore: `<<` and the 1 to 64 bytes of the end line
+-- `<<` and the 1 to 64 bytes of the end line
 abbrev pub is_end_word : List ℕ → Bool
 is_end_word w = bytes_eq (take 2 w) (codes "<<") && nat_lt 2 (length w) && nat_le (length w) 66
 
--- these options, and the end word
+-- these options, with the end line of a word
 abbrev pub ended_by : List ℕ → Options → Option Opening
 ended_by w options = if is_end_word w then Some (record { options = options; word = drop 2 w }) else None
 
--- what the words after `iptables-restore` say: no option, one, or both in either order, and then the end word
+-- what the words after `iptables-restore` say: no option, one, or both in either order, and then `<<` with the 1 to 64 bytes of the
+-- end line
 abbrev pub opening_of : List (List ℕ) → Option Opening
 opening_of (last ∷ []) = ended_by last no_option
 opening_of (w ∷ (last ∷ [])) = option_and_then (ended_by last) (option_of w)

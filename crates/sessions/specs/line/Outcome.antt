@@ -1,4 +1,5 @@
--- What a line of a session does, by where it stands: outside of restores, in one, or after the fault of one.
+-- What a line of a session does, by its mode, that is where it stands: outside of restores, in one, with its end line, or after the
+-- fault of one. A restore from the command line has no end line.
 use Rattle.std.specs.Prelude.{ℕ, ◌==◌, ◌||◌, ◌&&◌, not, Bool, true, false, List, [], Option, Some, None, Result, Ok, Err, if◌then◌else◌}
 use Rattle.std.specs.Str.{bytes_eq}
 use Rattle.table.specs.chains.Table.{Table, has_chain, rules_of}
@@ -19,7 +20,7 @@ use Rattle.sessions.specs.reply.Lines.{lines_reply}
 pub use Rattle.sessions.specs.declared.line.mode.Mode.{Mode}
 pub use Rattle.sessions.specs.declared.line.mode.Mode.TheVariants.{Outside, InRestore, AfterFault}
 
--- a line, and its mark: whether memory was refused in it
+-- a line's text, and its mark: whether memory was refused in it
 pub record Line : Type 0 where
   pub text : List ℕ
   pub refused : Bool
@@ -29,12 +30,12 @@ pub data Reply : Type 0 where
   Says : List ℕ → Reply
   Fails : Fault → Reply
 
--- what is printed of a reply to line n
+-- the bytes that are printed of a reply to line n
 abbrev pub reply_text : ℕ → Reply → List ℕ
 reply_text n (Says text) = text
 reply_text n (Fails fault) = fault_line n fault
 
--- the status is that of the first fault
+-- the status so far, or that of this fault if it is the first
 abbrev pub status_after : ℕ → Reply → ℕ
 status_after status (Says text) = status
 status_after status (Fails fault) = if status == 0 then fault_status fault else status
@@ -45,7 +46,7 @@ pub record Outcome : Type 0 where
   pub mode : Mode
   pub reply : Reply
 
--- an outcome of these parts
+-- an outcome with these parts
 abbrev pub outcome_with : Table → Mode → Reply → Outcome
 outcome_with t mode reply = record { table = t; mode = mode; reply = reply }
 
@@ -53,40 +54,40 @@ outcome_with t mode reply = record { table = t; mode = mode; reply = reply }
 abbrev pub silent : Table → Mode → Outcome
 silent t mode = outcome_with t mode (Says [])
 
--- a fault in a restore ends it: the lines up to its end line are passed over
+-- a fault in a restore ends it: its further lines, up to its end line, are passed over
 abbrev pub after_fault : Mode → Mode
 after_fault Outside = Outside
 after_fault (InRestore word r) = AfterFault word
 after_fault (AfterFault word) = AfterFault word
 
--- a run ends at the fault of a restore that no line ends
+-- a run ends at the fault of a restore that has no end line
 abbrev pub has_ended : Mode → Bool
 has_ended Outside = false
 has_ended (InRestore word r) = false
 has_ended (AfterFault None) = true
 has_ended (AfterFault (Some word)) = false
 
--- a line that is refused changes nothing
+-- a refused line: nothing changes, and a restore that it stands in ends
 abbrev pub fails : Table → Mode → Fault → Outcome
 fails t mode fault = outcome_with t (after_fault mode) (Fails fault)
 
--- the line that ends a restore; a restore from the command line has none
+-- the line ends the restore; a restore from the command line has no end line
 abbrev pub is_end : Option (List ℕ) → List ℕ → Bool
 is_end None line = false
 is_end (Some word) line = bytes_eq line word
 
--- the table after an edit, or the fault
+-- the table after an edit, or its fault
 abbrev pub edit_outcome : Table → Result Table TableFault → Outcome
 edit_outcome t (Ok new) = silent new Outside
 edit_outcome t (Err fault) = fails t Outside (of_line (OfTable fault))
 
--- what is said of a chain, if it is there, or of all
+-- what is printed of this chain, if it is there, or of all chains
 abbrev pub on_chain : Table → Option (List ℕ) → List ℕ → Outcome
 on_chain t None text = outcome_with t Outside (Says text)
 on_chain t (Some name) text =
     if has_chain t name then outcome_with t Outside (Says text) else fails t Outside (of_line (OfTable NoSuchChain))
 
--- a restore that the next lines hold, up to its end line
+-- the next lines are a restore's, up to its end line
 abbrev pub opened : Opening → Mode
 opened o = InRestore (Some o.word) (begun_restore o.options.noflush o.options.test)
 
@@ -101,12 +102,12 @@ execute t (Ok (Open o)) = silent t (opened o)
 execute t (Ok (Ask packet)) = outcome_with t Outside (Says (packet_reply t packet))
 execute t (Ok (Show name)) = on_chain t (Some name) (lines_reply (rules_of t.chains name))
 
--- the end line of a restore, which stands between sections
+-- the end line of a restore, which has to stand between sections
 abbrev pub ended : Table → Result (Unit {0}) RestoreFault → Outcome
 ended t (Ok done) = silent t Outside
 ended t (Err fault) = fails t Outside (of_line fault)
 
--- a line of a restore
+-- what a line of a restore does
 abbrev pub restore_outcome : Table → Option (List ℕ) → Restore → Result Restoring RestoreFault → Outcome
 restore_outcome t word r (Ok next) = silent next.table (InRestore word next.restore)
 restore_outcome t word r (Err fault) = fails t (InRestore word r) (of_line fault)
@@ -117,29 +118,30 @@ executed t Outside line = execute t (request_on line)
 executed t (InRestore word r) line = if is_end word line then ended t (ended_at r.state) else restore_outcome t word r (restore_line r t line)
 executed t (AfterFault word) line = silent t (if is_end word line then Outside else AfterFault word)
 
--- memory can be refused in no line that is too long, blank, a comment or passed over, that ends a restore or stands in a
--- skipped section, and in no `COMMIT` of a restore
+-- memory can't be refused in this line: it is too long, blank, a comment or passed over, the end line of a restore, in a skipped
+-- section, or the `COMMIT` of a restore
 abbrev pub needs_no_memory : Mode → List ℕ → Bool
 needs_no_memory Outside line = is_too_long line || is_quiet line
 needs_no_memory (InRestore word r) line = is_end word line || takes_no_memory r.state line
 needs_no_memory (AfterFault word) line = true
 
--- what a line does; where memory was refused, nothing
+-- what a line does: the table after it, where the next line stands, and its reply. Where memory was refused it does nothing, and
+-- that is its fault
 unfoldable pub outcome : Table → Mode → Line → Outcome
 outcome t mode line = if line.refused && not (needs_no_memory mode line.text) then fails t mode NoMemory else executed t mode line.text
 
--- the end of the input in a restore that reported no fault: its end line is missing
+-- the end of a session's input: in a restore its end line is missing
 abbrev pub last_outcome : Table → Mode → Outcome
 last_outcome t Outside = silent t Outside
 last_outcome t (InRestore word r) = fails t Outside EndWordMissing
 last_outcome t (AfterFault word) = silent t Outside
 
--- between sections a restore from the command line ends, and the listing follows, if it is wanted
+-- a restore from the command line may end only between sections, and then prints the listing if that is wanted
 abbrev pub listed : Bool → Table → Result (Unit {0}) RestoreFault → Outcome
 listed list t (Ok done) = outcome_with t Outside (Says (if list then listing t else []))
 listed list t (Err fault) = fails t Outside (of_line fault)
 
--- the end of the input of a restore from the command line
+-- the end of the input of a restore from the command line (iptables-restore(8))
 abbrev pub restore_end : Bool → Table → Mode → Outcome
 restore_end list t Outside = silent t Outside
 restore_end list t (InRestore word r) = listed list t (ended_at r.state)

@@ -1,4 +1,5 @@
--- What a line of a session asks for: its kind by its first word, and then the words after it.
+-- What a line of a session asks for (iptables(8), iptables-save(8), iptables-restore(8)): its first word says of which kind it is,
+-- and the words after it are read by that.
 use Rattle.std.specs.Prelude.{ℕ, List, [], ◌∷◌, find, length, drop, slice_index_or, Option, Some, None, Result, Ok, Err, codes, if◌then◌else◌}
 use Rattle.std.specs.Str.{bytes_eq}
 use Rattle.fields.specs.packet.Packet.{PacketView, packet_of}
@@ -13,7 +14,7 @@ use Rattle.restore.specs.sections.Section.{is_quiet, is_too_long}
 use Rattle.sessions.specs.line.Fault.{Fault, Line, Packet, UnknownLine, BadRestoreLine, of_line}
 use Rattle.sessions.specs.line.Opening.{Opening, opening_of}
 
--- what a line asks for: nothing; a command; a listing; a restore that the next lines hold; what becomes of a packet; or the
+-- what a line asks for: nothing; a command; a listing; a restore that the next lines hold; the verdict of a packet; or the
 -- classifier of a chain
 pub data Request : Type 0 where
   Nothing : Request
@@ -23,7 +24,7 @@ pub data Request : Type 0 where
   Ask : PacketView → Request
   Show : List ℕ → Request
 
--- a wrong number of words
+-- the fault of a wrong number of words
 abbrev pub wrong_count : {A : Type 0} → Result A Fault
 wrong_count = Err (Line (restore.Command WordCount))
 
@@ -37,7 +38,7 @@ abbrev pub show : List (List ℕ) → Result Request Fault
 show (name ∷ []) = Ok (Show name)
 show words = wrong_count
 
--- the words after `iptables`; the number is the place after the last of them
+-- the words after `iptables`, which are a command (iptables(8)); the number is the place after the last of them
 abbrev pub run : ℕ → List (List ℕ) → Result Request Fault
 run end words = refused_as (λ fault. of_line (restore.Command fault)) (made_into Run (command_of end words))
 
@@ -49,7 +50,7 @@ opening words = made_into Open (or_refused BadRestoreLine (opening_of words))
 abbrev pub ask : List (List ℕ) → Result Request Fault
 ask words = refused_as Packet (made_into Ask (packet_of words))
 
--- a line's first word, and what reads the words after it, up to the place after the last of them
+-- a line's first word, and what reads the words after it
 pub record Kind : Type 0 where
   pub name : List ℕ
   pub reads : ℕ → List (List ℕ) → Result Request Fault
@@ -58,7 +59,7 @@ pub record Kind : Type 0 where
 abbrev pub kind : List ℕ → (ℕ → List (List ℕ) → Result Request Fault) → Kind
 kind name reads = record { name = name; reads = reads }
 
--- the kinds of lines
+-- the table of kinds: `iptables`, `iptables-save`, `iptables-restore`, `packet` and `lines`
 abbrev pub kinds : List Kind
 kinds =
     kind (codes "iptables") run
@@ -68,7 +69,7 @@ kinds =
     ∷ kind (codes "lines") (λ end words. show words)
     ∷ []
 
--- another first word is of no kind
+-- what reads the words after this first word; any other first word is a fault
 abbrev pub read_by : Option Kind → ℕ → List (List ℕ) → Result Request Fault
 read_by None end words = Err UnknownLine
 read_by (Some k) end words = k.reads end words
@@ -77,7 +78,8 @@ read_by (Some k) end words = k.reads end words
 unfoldable pub request_of : List (List ℕ) → Result Request Fault
 request_of words = read_by (find (λ (k : Kind). bytes_eq (slice_index_or words 0 []) k.name) kinds) (length words) (drop 1 words)
 
--- what a line asks for; its length is asked first, and blank lines and comments ask for nothing
+-- what a line asks for, or its fault: its length is tested first, then whether it is blank or a comment, then its quoting, then its
+-- kind
 unfoldable pub request_on : List ℕ → Result Request Fault
 request_on line =
     if is_too_long line then Err (Line LineTooLong)

@@ -1,4 +1,4 @@
--- Words that only the steps of printing use.
+-- The trail of a packet as the code prints it, also a trail that another table gave.
 use Rattle.std.specs.Prelude.{ℕ, Bool, List, ◌∷◌, ◌++◌, flat_map, decimal}
 use Rattle.table.specs.chains.Table.{Table, chain_at}
 use Rattle.table.specs.walk.Walk.{Entry}
@@ -7,15 +7,15 @@ use Rattle.table.specs.declared.walk.trail.Trail.{Trail}
 use Rattle.sessions.specs.reply.Lines.{numbers_from}
 use Rattle.sessions.specs.reply.Walked.{entry_line, verdict_line}
 
--- the entry for which a step of a trail stands; its chain has no name where the table has none at the place
+-- the entry for which a step of a trail stands; its chain has no name where the table has no chain at that place
 abbrev pub entry_at : Table → Step → Entry
 entry_at t step = record { chain = (chain_at t step.chain).name; number = step.number }
 
--- the lines of the steps of a trail
+-- a line for each step of a trail
 abbrev pub steps_text : Table → List Step → List ℕ
 steps_text t steps = flat_map (λ step. entry_line (entry_at t step)) steps
 
--- what is printed of any trail, also of one that another table gave
+-- what is printed of any trail: a line for each step, with the name that the chain at its place has now, and then the verdict
 abbrev pub trail_text : Table → Trail → List ℕ
 trail_text t trail = steps_text t trail.steps.items ++ verdict_line trail.verdict trail.by_policy
 

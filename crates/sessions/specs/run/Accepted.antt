@@ -1,4 +1,4 @@
--- The changes that lines had accepted: a command that wasn't refused, or a section of a restore that was committed.
+-- The changes of a run that were accepted: a command that wasn't refused, or a section of a restore that was committed.
 use Rattle.std.specs.Prelude.{ℕ, Bool, List, [], ◌∷◌, ◌++◌, Result, Ok, Err, if◌then◌else◌}
 use Rattle.table.specs.edits.Edits.{Edit}
 use Rattle.restore.specs.commands.Command as command
@@ -13,7 +13,7 @@ use Rattle.sessions.specs.declared.line.mode.Mode.{Mode}
 use Rattle.sessions.specs.declared.line.mode.Mode.TheVariants.{Outside, AfterFault, InRestore}
 use Rattle.sessions.specs.run.Session.{State, step}
 
--- the edits of the open section, from the place before a line and the place after it
+-- the edits of the open section after a line, by where the line and the next one stand in the restore
 abbrev pub section_edits : List Edit → List ℕ → SectionState → SectionState → List Edit
 section_edits edits line (Building s) (Building next) = edits ++ edit_asked (asked s line)
 section_edits edits line (Building s) Between = []
@@ -21,7 +21,7 @@ section_edits edits line (Building s) Skipping = []
 section_edits edits line Between after = []
 section_edits edits line Skipping after = []
 
--- a section that is built before a line, and after it isn't, though the restore goes on, was committed; a test commits nothing
+-- a section that was being built before a line and isn't after it, while the restore goes on, was committed; a test commits nothing
 abbrev pub committed : Bool → Bool → List Edit → SectionState → SectionState → List Change
 committed noflush test edits (Building s) Between = if test then [] else Section noflush edits ∷ []
 committed noflush test edits (Building s) Skipping = []
@@ -29,7 +29,7 @@ committed noflush test edits (Building s) (Building next) = []
 committed noflush test edits Between after = []
 committed noflush test edits Skipping after = []
 
--- a command that was not refused
+-- the edit of a command that wasn't refused
 abbrev pub commanded : Reply → Result Request Fault → List Change
 commanded (Fails fault) request = []
 commanded (Says text) (Ok (Run (command.Change edit))) = Command edit ∷ []
@@ -46,7 +46,7 @@ pub record Account : Type 0 where
   pub edits : List Edit
   pub changes : List Change
 
--- the account after a line, by where it stood and where the next one stands
+-- the account after a line, by where it and the next line stand
 abbrev pub noted : Account → List ℕ → Mode → Outcome → Mode → Account
 noted a line Outside t after = record { edits = []; changes = a.changes ++ commanded t.reply (request_on line) }
 noted a line (InRestore word r) t (InRestore word' next) = record {
@@ -63,6 +63,7 @@ account s a [] = a
 account s a (line ∷ lines) =
     let t = outcome s.now.table s.now.mode line in account (step s line) (noted a line.text s.now.mode t t.mode) lines
 
--- the changes that lines had accepted, in order
+-- the changes of these lines that were accepted, in order: the edit of a command, or a committed section with the edits of its
+-- lines
 abbrev pub accepted : State → List Line → List Change
 accepted s lines = (account s (record { edits = []; changes = [] }) lines).changes

@@ -31,13 +31,13 @@ pub record Done : Type 0 where
   pub written : List ℕ
   pub answer : Result ℕ RunFault
 
--- what was printed up to some line was written, or, where the writer failed, a beginning of it
+-- what was printed up to some line was written; where the writer failed, perhaps only a beginning of it
 abbrev pub IsWritten : Result ℕ RunFault → List ℕ → List ℕ → Type 0
 IsWritten (Ok status) printed written = IsBeginning printed written
 IsWritten (Err ReadFailed) printed written = IsBeginning printed written
 IsWritten (Err WriteFailed) printed written = IsBeginning printed written ⊎ IsBeginning written printed
 
--- a line of a run, and the state in which it was read: that to which the lines before it led
+-- a line of a run, and the state in which it was read, to which the lines before it led
 pub record IsReadIn (start : State) (lines : List Line) (s : State) (line : Line) : Type 0 where
   pub before : List Line
   pub rest : List Line
@@ -45,7 +45,7 @@ pub record IsReadIn (start : State) (lines : List Line) (s : State) (line : Line
   pub leads : Lead start before s
   pub going : IsFalse (has_ended s.now.mode)
 
--- a session that stands so shows this: the table, and the classifiers of its chains
+-- a session in this state shows this table, with the classifiers of its chains
 abbrev pub IsShownIn : State → TableView → Type 0
 IsShownIn s t = (t.table ≡ s.now.table) × AreClassified t.table.chains t.classifiers
 
@@ -53,44 +53,44 @@ IsShownIn s t = (t.table ≡ s.now.table) × AreClassified t.table.chains t.clas
 abbrev pub LeadTo : State → List Line → TableView → Type 0
 LeadTo start lines t = (last : State) × Lead start lines last × IsShownIn last t
 
--- of every line of a run that was refused: it left the table and its classifiers as they were, and its fault was written after
--- what was printed before
+-- of every refused line of a run: it left the table and its classifiers as they were, and its fault was written after what was
+-- printed before
 abbrev pub RefusedChangedNothing : State → Done → Type 0
 RefusedChangedNothing start done =
     (s : State) (line : Line) (fault : Fault) (old new : TableView) → IsReadIn start done.lines s line → (outcome s.now.table s.now.mode line).reply ≡ Fails fault
     → IsShownIn s old → IsShownIn (step s line) new
     → (new ≡ old) × IsWritten done.answer (s.printed ++ fault_line (s.now.number + 1) fault) done.written
 
--- of every line of a run that asked for a packet, outside of restores, and wasn't refused: its reply was the walk through the
--- rules in order, and it was written after what was printed before
+-- of every line of a run that asked for a packet, outside of restores, and wasn't refused: its reply was the walk through the rules
+-- in order, and it was written after what was printed before
 abbrev pub PacketsWereWalked : State → Done → Type 0
 PacketsWereWalked start done =
     (s : State) (line : Line) (packet : PacketView) (text : List ℕ) → IsReadIn start done.lines s line
     → s.now.mode ≡ Outside → request_on line.text ≡ Ok (Ask packet) → (outcome s.now.table s.now.mode line).reply ≡ Says text
     → (text ≡ packet_reply s.now.table packet) × IsWritten done.answer (s.printed ++ text) done.written
 
--- whatever table a restore of the listing into an empty table gives has these classifiers
+-- a table that a restore of the listing into an empty table gives has these classifiers
 abbrev pub RestoresClassifiers : TableView → Type 0
 RestoresClassifiers t =
     (made : TableView) → AreClassified made.table.chains made.classifiers → restored false false empty_table (lines_of (listing t.table)) ≡ Ok made.table → made ≡ t
 
 -- what holds of every table that a session shows
 pub record Stands (t : TableView) : Type 0 where
-  -- its chains are sound
+  -- it is a sound table
   pub sound : IsSound t.table
   -- each chain's classifier is that of its rules
   pub classified : AreClassified t.table.chains t.classifiers
-  -- the present listing restores into an empty table without a refusal, as a table of these chains
+  -- its listing is read from the empty table without a refusal, as an equal table
   pub restores : RestoresItself t.table
-  -- and whatever table that restore gives has these classifiers
+  -- a table that this restore gives, with the classifiers of its rules, has these classifiers
   pub classifiers : RestoresClassifiers t
 
--- what the calls `verdict` and `trail` of a table answer of a packet: a verdict, and a trail, where memory for it wasn't refused
+-- what the calls `verdict` and `trail` answer of a packet: its verdict, and its trail unless memory for that was refused
 pub record Answers (t : TableView) (packet : PacketView) (verdict : Verdict) (trail : Option Trail) : Type 0 where
   pub decides : verdict ≡ (walk t.table packet).verdict
   pub shows : IfSome trail (Shows t.table.chains (walk t.table packet))
 
--- whatever a table answers of any packet, it is the walk through the rules of these chains in order
+-- whatever a table answers of any packet is the walk through the rules of these chains in order
 abbrev pub AnswersByWalks : Table → TableView → Type 0
 AnswersByWalks chains t =
     (packet : PacketView) (verdict : Verdict) (trail : Option Trail) → Answers t packet verdict trail
@@ -100,19 +100,19 @@ AnswersByWalks chains t =
 pub record Headline (start : State) (done : Done) (old new : TableView) : Type 0 where
   -- the table is the one to which the lines led
   pub reached : LeadTo start done.lines new
-  -- the chains are those that the accepted changes give by plain list edits
+  -- the table, policies included, is the old one with the accepted changes made to it in order, as plain list edits
   pub chains : new.table ≡ changed_by old.table (accepted start done.lines)
-  -- every chain's classifier is that of its rules, and the one that restoring the present listing builds
+  -- each chain's classifier is that of its rules, and the one that restoring the present listing builds
   pub stands : Stands new
-  -- every packet's verdict and trail are those of walking these rules in order
+  -- what the table answers of any packet is the walk through these rules in order
   pub walks : AnswersByWalks (changed_by old.table (accepted start done.lines)) new
-  -- so were those of the packets that lines asked for, each in the table of that line
+  -- the reply to each packet that a line asked for was the walk through the table as it was then
   pub packets : PacketsWereWalked start done
-  -- and what was refused changed nothing
+  -- what was refused changed nothing
   pub refused : RefusedChangedNothing start done
 
--- A run from one moment to another: these lines were read and executed; with a status, and the marks of these lines, it did what
--- is said of all bytes; and it left what is said of these lines.
+-- a run from one moment to another: the lines that it read and executed; with a status, that it did what is said of all bytes of
+-- the input, with the marks of these lines; and what the headline says of these lines
 pub record RunsTo (kind : Kind) (before : Moment) (result : Result ℕ RunFault) (after : Moment) : Type 0 where
   pub lines : List Line
   pub runs : Runs (start_of kind before.table.table) (finish_of kind) lines before result after

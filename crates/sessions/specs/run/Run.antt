@@ -1,4 +1,4 @@
--- What a run of a session did, or a restore from the command line, whatever came of its reader and its writer.
+-- What a run of a session, or a restore from the command line, did, whether or not its reader or its writer failed.
 use Rattle.std.specs.Prelude.{◌≡◌, ◌⊎◌, ℕ, ◌+◌, ◌≤◌, Bool, List, [], ◌∷◌, ◌++◌, fold, length, Result, Ok, Err, Option, IfSome, IsTrue, IsFalse}
 use Rattle.std.specs.Io.KnownBytes.{Appends, Consumes}
 use Rattle.fields.specs.text.Tap.{IsBeginning}
@@ -9,21 +9,21 @@ use Rattle.sessions.specs.run.Session.{Kind, State, step, texts_of, whole_run}
 pub use Rattle.sessions.specs.declared.run.session.RunFault.{RunFault}
 pub use Rattle.sessions.specs.declared.run.session.RunFault.TheVariants.{ReadFailed, WriteFailed}
 
--- lines lead from one state to another, and none is read after a run has ended
+-- these lines lead from one state to another, and none is read after the run has ended
 abbrev pub Lead : State → List Line → State → Type 0
 Lead from [] to = to ≡ from
 Lead from (line ∷ lines) to = IsFalse (has_ended from.now.mode) × Lead (step from line) lines to
 
--- the bytes are none, or a newline (10) ends them
+-- the bytes are none, or end with a newline (10)
 abbrev pub EndsLine : List ℕ → Type 0
 EndsLine bytes = (bytes ≡ []) ⊎ ((front : List ℕ) × (bytes ≡ front ++ 10 ∷ []))
 
--- the lines are those of the bytes, each read whole: up to its newline, or up to the end of the input, where that was met
+-- the lines are those of the bytes, each read whole: up to its newline, or up to the end of the input where that was met
 pub record AreRead (lines : List Line) (bytes : List ℕ) (met_end : Type 0) : Type 0 where
   pub texts : texts_of lines ≡ lines_of bytes
   pub whole : EndsLine bytes ⊎ met_end
 
--- The run went on to a state, of which it printed what the end prints; it had ended, or had come to the input's end.
+-- the run finished: it had ended, or met the end of the input; it wrote all that is printed, and its answer is the status
 pub record Finished (start : State) (finish : State → State) (lines : List Line) (bytes : List ℕ) (met_end : Type 0) (written : List ℕ) (status : ℕ) : Type 0 where
   pub last : State
   pub leads : Lead start lines last
@@ -32,7 +32,7 @@ pub record Finished (start : State) (finish : State → State) (lines : List Lin
   pub printed : written ≡ (finish last).printed
   pub answer : status ≡ (finish last).now.status
 
--- The run stopped before or in a line: what was printed is the output of the lines read whole.
+-- the run stopped before or in a line: it wrote the output of the lines that were read whole
 pub record LineStopped (start : State) (lines : List Line) (bytes written : List ℕ) : Type 0 where
   pub last : State
   pub leads : Lead start lines last
@@ -40,20 +40,20 @@ pub record LineStopped (start : State) (lines : List Line) (bytes written : List
   pub going : IsFalse (has_ended last.now.mode)
   pub printed : written ≡ last.printed
 
--- The reader failed there.
+-- the reader failed there
 abbrev pub ReadStopped : State → List Line → List ℕ → List ℕ → Type 0
 ReadStopped start lines bytes written = LineStopped start lines bytes written
 
--- The writer failed there: it was given the output of these lines, and failed to hand it on.
+-- the writer failed there: it was given the output of these lines, and failed to hand it on
 abbrev pub HandStopped : State → List Line → List ℕ → List ℕ → Type 0
 HandStopped start lines bytes written = LineStopped start lines bytes written
 
--- what was written holds all that was printed before, and no more than was printed after
+-- what was written contains all that was printed before, and no more than was printed after
 pub record IsBetween (before after : State) (written : List ℕ) : Type 0 where
   pub all : IsBeginning before.printed written
   pub part : IsBeginning written after.printed
 
--- The writer failed in the reply to the last line that was read.
+-- the writer failed in the reply to the last line: it wrote the output of the lines before, and a beginning of the reply
 pub record ReplyStopped (start : State) (lines : List Line) (bytes : List ℕ) (met_end : Type 0) (written : List ℕ) : Type 0 where
   pub before : List Line
   pub line : Line
@@ -65,7 +65,7 @@ pub record ReplyStopped (start : State) (lines : List Line) (bytes : List ℕ) (
   pub read : AreRead lines bytes met_end
   pub between : IsBetween first last written
 
--- The writer failed in what is printed at the end of the run.
+-- the writer failed in what is printed at the end of the run: it wrote the output of all lines, and a beginning of that
 pub record EndStopped (start : State) (finish : State → State) (lines : List Line) (bytes : List ℕ) (met_end : Type 0) (written : List ℕ) : Type 0 where
   pub last : State
   pub leads : Lead start lines last
@@ -73,23 +73,25 @@ pub record EndStopped (start : State) (finish : State → State) (lines : List L
   pub done : IsTrue (has_ended last.now.mode) ⊎ met_end
   pub between : IsBetween last (finish last) written
 
--- What a run did that read these bytes as these lines and wrote these bytes, by its answer.
+-- what a run did that read these bytes as these lines and wrote these bytes, by its answer. With a status it printed everything;
+-- after a failed read, the output of the lines read whole; after a failed write, the output of the lines before and a beginning of
+-- the last reply, or the output of the lines read whole, or that of all lines and a beginning of what is printed at the end
 abbrev pub Ran : State → (State → State) → List Line → List ℕ → Type 0 → List ℕ → Result ℕ RunFault → Type 0
 Ran start finish lines bytes met_end written (Ok status) = Finished start finish lines bytes met_end written status
 Ran start finish lines bytes met_end written (Err ReadFailed) = ReadStopped start lines bytes written
 Ran start finish lines bytes met_end written (Err WriteFailed) =
     ReplyStopped start lines bytes met_end written ⊎ HandStopped start lines bytes written ⊎ EndStopped start finish lines bytes met_end written
 
--- What stands before a run or after it: the bytes that the reader has left and those that the writer was given, where they are
--- known, the session's table, and how many boxes its lines had made.
+-- what is the case before or after a run: the bytes that the reader has left and those that the writer was given, where they are
+-- known, the session's table, and how many boxes were made
 pub record Moment : Type 0 where
   pub left : Option (List ℕ)
   pub given : Option (List ℕ)
   pub table : TableView
   pub boxes : ℕ
 
--- A run of these lines from one moment to another: the bytes that the reader lost and those that the writer got, what it did, the
--- table that it left, which is that of the lines, and the boxes that it made, one for each line at most.
+-- a run of these lines from one moment to another: the bytes that it read and wrote, what it did, the table that it left, which is
+-- that of the lines, and the boxes that it made, at most one a line
 pub record Runs (start : State) (finish : State → State) (lines : List Line) (before : Moment) (result : Result ℕ RunFault) (after : Moment) : Type 0 where
   pub bytes : List ℕ
   pub written : List ℕ
@@ -99,7 +101,7 @@ pub record Runs (start : State) (finish : State → State) (lines : List Line) (
   pub table : after.table.table ≡ (fold step start lines).now.table
   pub boxes : after.boxes ≤ before.boxes + length lines
 
--- A run that has a status: with these marks it wrote, answered and left what is said of all bytes.
+-- a run with a status: with these marks it wrote, answered and left what is said of all bytes of the input
 abbrev pub Whole : Kind → List Bool → Moment → ℕ → Moment → Type 0
 Whole kind marks before status after = IfSome before.left (λ bytes.
     let s = whole_run kind before.table.table bytes marks in Appends before.given after.given s.printed × (status ≡ s.now.status) × (after.table.table ≡ s.now.table))

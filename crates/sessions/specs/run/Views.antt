@@ -1,4 +1,4 @@
--- What a session shows.
+-- What contracts say of a session: its table, the boxes that it made, and its devices.
 use Rattle.std.specs.Prelude.{ℕ, List, Option}
 use Rattle.fields.specs.declared.text.tap.Tap.{Tap}
 use Rattle.fields.specs.text.Tap.{known}
@@ -8,15 +8,15 @@ use Rattle.sessions.specs.run.Run.{Moment}
 use Rattle.sessions.specs.declared.run.console.Console.{Console}
 use Rattle.sessions.specs.declared.run.session.Session.{Session}
 
--- the table that a session holds
+-- the table that a session shows
 abbrev pub table_of : Session → TableView
 table_of s = s.table
 
--- how many boxes the lines of a session had made
+-- how many boxes the lines of a session made
 abbrev pub boxes_of : Session → ℕ
 boxes_of s = s.work
 
--- a session and its devices, by what of them is known
+-- a session and its devices, by what is known of them
 abbrev pub moment : {R W : Type 0} → (R → Option (List ℕ)) → (W → Option (List ℕ)) → Session → Tap R → Tap W → Moment
 moment remaining contents s input output = record { left = known remaining input; given = known contents output; table = table_of s; boxes = boxes_of s }
 

@@ -1,4 +1,4 @@
--- The table `filter`: the policies of its built-in chains, and its chains in the order of a listing (iptables(8), "TABLES").
+-- The table `filter`: the policies of its built-in chains, and its chains with their rules (iptables(8), TABLES).
 use Rattle.std.specs.Prelude.{ℕ, Bool, false, not, List, [], ◌∷◌, map, filter, position, slice_get, slice_index_or, Option, Some, None, option_and_then}
 use Rattle.std.specs.Prelude.{codes, if◌then◌else◌}
 use Rattle.std.specs.List.{list_any}
@@ -13,17 +13,18 @@ use Rattle.rules.specs.declared.rule.target.Target.TheVariants as target
 pub use Rattle.table.specs.declared.policy.Policy.{Policy}
 pub use Rattle.table.specs.declared.policy.Policy.TheVariants.{Accept, Drop}
 
--- a chain: its name, and its rules, numbered from 1
+-- a chain: its name and its rules, which are numbered from 1
 pub record Chain : Type 0 where
   pub name : List ℕ
   pub rules : List Rule
 
--- the policies of INPUT, FORWARD and OUTPUT, and these three chains, then the user chains by the bytes of their names
+-- the policies of INPUT, FORWARD and OUTPUT, and the chains: first these three, then the user chains ordered by the bytes of their
+-- names
 pub record Table : Type 0 where
   pub policies : List Policy
   pub chains : List Chain
 
--- what a table shows: its lists, and the classifier of each chain, in the order of the chains
+-- what a table shows: its policies and chains, and the classifier of each chain, in the order of the chains
 pub record TableView : Type 0 where
   pub table : Table
   pub classifiers : List Classified
@@ -42,19 +43,19 @@ built_in_names = codes "INPUT" ∷ codes "FORWARD" ∷ codes "OUTPUT" ∷ []
 abbrev pub is_built_in : List ℕ → Bool
 is_built_in name = list_any (bytes_eq name) built_in_names
 
--- a chain without rules
+-- the chain of this name without rules
 abbrev pub empty_chain : List ℕ → Chain
 empty_chain name = record { name = name; rules = [] }
 
--- the chain at a place in the order of a listing, counted from 0; one without a name and rules where there is none
+-- the chain at a place in the order of a listing, counted from 0; without one there, a chain with neither name nor rules
 abbrev pub chain_at : Table → ℕ → Chain
 chain_at t place = slice_index_or t.chains place (empty_chain [])
 
--- the table at first: the built-in chains without rules, each with the policy ACCEPT
+-- the table at the start: the built-in chains without rules, each with the policy ACCEPT
 abbrev pub empty_table : Table
 empty_table = record { policies = Accept ∷ Accept ∷ Accept ∷ []; chains = map empty_chain built_in_names }
 
--- the table without its rules and user chains: the policies stay
+-- the table without its rules and user chains; the policies stay
 abbrev pub emptied : Table → Table
 emptied t = record { policies = t.policies; chains = empty_table.chains }
 
@@ -66,28 +67,28 @@ is_named name chain = bytes_eq chain.name name
 abbrev pub names_of : List Chain → List (List ℕ)
 names_of chains = map (λ (c : Chain). c.name) chains
 
--- a chain of the name is there
+-- the table has a chain of this name
 abbrev pub has_chain : Table → List ℕ → Bool
 has_chain t name = list_any (is_named name) t.chains
 
--- the rules of the chain of a name; none where no chain has it
+-- the rules of the chain with this name; none where there is no such chain
 abbrev pub rules_of : List Chain → List ℕ → List Rule
 rules_of [] name = []
 rules_of (chain ∷ chains) name = if is_named name chain then chain.rules else rules_of chains name
 
--- the chain is no built-in one
+-- the chain isn't a built-in one
 abbrev pub is_user : Chain → Bool
 is_user chain = not (is_built_in chain.name)
 
--- the chains that users made
+-- the user chains
 abbrev pub user_chains : List Chain → List Chain
 user_chains chains = filter is_user chains
 
--- the policy of a chain, if it is a built-in one
+-- the policy of a built-in chain; other names have none
 abbrev pub policy_of : Table → List ℕ → Option Policy
 policy_of t name = option_and_then (slice_get t.policies) (position (bytes_eq name) built_in_names)
 
--- one name comes before another by its bytes
+-- one name comes before another in the order of their bytes
 abbrev pub comes_before : List ℕ → List ℕ → Bool
 comes_before a b = is_lt (slice_cmp nat_cmp a b)
 
@@ -102,11 +103,11 @@ chain_in (Some target.Return) = None
 chain_in (Some (target.Jump name)) = Some name
 chain_in (Some (target.Goto name)) = Some name
 
--- the chain that a rule names, by `-j` or `-g`
+-- the chain that a rule names, by `-j` or `-g` (iptables(8), PARAMETERS, -j and -g)
 abbrev pub chain_named_by : Rule → Option (List ℕ)
 chain_named_by rule = chain_in (target_of rule)
 
--- a name, if there is one, is this one
+-- there is a name, and it is this one
 abbrev pub is_this : List ℕ → Option (List ℕ) → Bool
 is_this name None = false
 is_this name (Some other) = bytes_eq other name

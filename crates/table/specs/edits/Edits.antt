@@ -1,4 +1,4 @@
--- What each command does to the table, and what refuses it (iptables(8), "COMMANDS").
+-- What each command does to the table, and what refuses it (iptables(8), COMMANDS).
 use Rattle.std.specs.Prelude.{◌≡◌, ℕ, zero, suc, ◌+◌, ◌-◌, ◌==◌, nat_lt, nat_le, Bool, true, false, ◌&&◌, ◌||◌, not, List, [], ◌∷◌, ◌++◌}
 use Rattle.std.specs.Prelude.{map, filter, length, position, insert, remove, slice_set, Option, Some, None, is_none, Result, Ok, Err}
 use Rattle.std.specs.Prelude.{IfErr, codes, if◌then◌else◌}
@@ -22,7 +22,7 @@ pub use Rattle.table.specs.declared.fault.TableFault.TheVariants.{ChainNotEmpty,
 pub use Rattle.table.specs.declared.fault.TableFault.TheVariants.{TargetMissing, TargetBuiltIn, InterfaceNotAllowed, ChainFull}
 pub use Rattle.table.specs.declared.fault.TableFault.TheVariants.{TooManyChains, BadPolicy, NoMemory}
 
--- a command on the table; names come in as bytes, and rules count from 1
+-- a command on the table; names are given as bytes, and rules are counted from 1
 pub data Edit : Type 0 where
   Append : List ℕ → Rule → Edit
   Insert : List ℕ → ℕ → Rule → Edit
@@ -38,51 +38,51 @@ pub data Edit : Type 0 where
   SetPolicy : List ℕ → List ℕ → Edit
   Rename : List ℕ → List ℕ → Edit
 
--- the rules have one text in a listing
+-- the two rules have the same text in a listing
 abbrev pub same_text : Rule → Rule → Bool
 same_text rule other = bytes_eq (rule_text rule) (rule_text other)
 
--- the policy that a word names
+-- the policy that a word names: ACCEPT or DROP
 abbrev pub policy_named : List ℕ → Option Policy
 policy_named text = if bytes_eq text (codes "ACCEPT") then Some Accept else if bytes_eq text (codes "DROP") then Some Drop else None
 
 -- What refuses a command
 
--- the chain that a rule names, if it names one, leads there
+-- the rule names a chain, and that chain leads there
 abbrev pub leads_from : (List ℕ → Bool) → Option (List ℕ) → Bool
 leads_from leads None = false
 leads_from leads (Some name) = leads name
 
--- a path along names leads from one chain to another in at most so many steps, also in none
+-- at most so many jumps and gotos lead from one chain to another; no step is needed from a chain to itself
 unfoldable pub leads_within : ℕ → List Chain → List ℕ → List ℕ → Bool
 leads_within zero chains from to = bytes_eq from to
 leads_within (suc n) chains from to =
     bytes_eq from to
     || list_any (λ (r : Rule). leads_from (λ name. leads_within n chains name to) (chain_named_by r)) (rules_of chains from)
 
--- a path along names leads from one chain to another: a path that meets no chain twice has fewer steps than there are chains
+-- a path of jumps and gotos leads from one chain to another. A path that meets no chain twice has fewer steps than there are chains
 abbrev pub leads : List Chain → List ℕ → List ℕ → Bool
 leads chains from to = leads_within (length chains) chains from to
 
--- a packet of INPUT goes out by no interface, one of OUTPUT comes in by none
+-- the rule asks for an interface that packets in this chain lack: one to go out by in INPUT, one that they came in by in OUTPUT
 abbrev pub asks_absent_interface : List ℕ → Rule → Bool
 asks_absent_interface chain rule =
     bytes_eq chain (hook_name hook.Input) && asks_on field.OutIface rule
     || bytes_eq chain (hook_name hook.Output) && asks_on field.InIface rule
 
--- a cause to refuse, and whether it holds
+-- a possible refusal: whether it applies, and its fault
 abbrev pub Cause : Type 0
 Cause = Bool × TableFault
 
--- no chain has the name
+-- there is no chain of this name
 abbrev pub no_such_chain : Table → List ℕ → Cause
 no_such_chain t chain = (not (has_chain t chain), NoSuchChain)
 
--- the number is not one of 1 to the last
+-- the rule number isn't one from 1 to the last
 abbrev pub out_of_range : ℕ → ℕ → Cause
 out_of_range number last = (number == 0 || nat_lt last number, NumberOutOfRange)
 
--- the chain has 8,192 rules
+-- the chain has 8,192 rules already
 abbrev pub full : Table → List ℕ → Cause
 full t chain = (nat_le 8192 (length (rules_of t.chains chain)), ChainFull)
 
@@ -90,19 +90,19 @@ full t chain = (nat_le 8192 (length (rules_of t.chains chain)), ChainFull)
 abbrev pub built_in : List ℕ → Cause
 built_in chain = (is_built_in chain, BuiltInChain)
 
--- the name doesn't have the form of a chain's name
+-- the name can't be a chain's name
 abbrev pub bad_name : List ℕ → Cause
 bad_name name = (not (is_name name), BadChainName)
 
--- a chain has the name, also a built-in one
+-- there is a chain of this name, built-in or not
 abbrev pub exists_already : Table → List ℕ → Cause
 exists_already t name = (has_chain t name, ChainExists)
 
--- no rule of the chain has the text
+-- no rule of the chain has this text
 abbrev pub no_such_rule : Table → List ℕ → Rule → Cause
 no_such_rule t chain rule = (not (list_any (same_text rule) (rules_of t.chains chain)), NoSuchRule)
 
--- the chain that a rule names is missing, built-in, or leads to the chain that the rule would stand in
+-- the chain that a rule names is missing, is built-in, or leads back to the chain in which the rule would stand
 abbrev pub target_causes : Table → List ℕ → Option (List ℕ) → List Cause
 target_causes t chain None = []
 target_causes t chain (Some name) =
@@ -116,7 +116,7 @@ rule_causes t chain rule = (asks_absent_interface chain rule, InterfaceNotAllowe
 abbrev pub has_rules : Chain → Bool
 has_rules chain = nat_lt 0 (length chain.rules)
 
--- what refuses a command, in the order in which it is asked
+-- what may refuse a command, in the order in which it is tested
 abbrev pub causes : Edit → Table → List Cause
 causes (Append c r) t = no_such_chain t c ∷ (rule_causes t c r ++ full t c ∷ [])
 causes (Insert c n r) t = no_such_chain t c ∷ out_of_range n (length (rules_of t.chains c) + 1) ∷ (rule_causes t c r ++ full t c ∷ [])
@@ -136,7 +136,7 @@ causes DeleteChains t =
 causes (SetPolicy c text) t = no_such_chain t c ∷ (not (is_built_in c), NotBuiltInChain) ∷ (is_none (policy_named text), BadPolicy) ∷ []
 causes (Rename old new) t = no_such_chain t old ∷ built_in old ∷ bad_name new ∷ exists_already t new ∷ []
 
--- the fault of the first cause that holds
+-- the fault of the first cause that applies
 abbrev pub first_fault : List Cause → Option TableFault
 first_fault [] = None
 first_fault (cause ∷ causes) = if cause.0 then Some cause.1 else first_fault causes
@@ -147,7 +147,7 @@ fault_of edit t = first_fault (causes edit t)
 
 -- What a command does
 
--- the chain with its rules changed, if it has the name
+-- the chain with its rules changed, if it has this name
 abbrev pub changed_chain : (List Rule → List Rule) → List ℕ → Chain → Chain
 changed_chain change name chain = if is_named name chain then record { name = chain.name; rules = change chain.rules } else chain
 
@@ -155,41 +155,41 @@ changed_chain change name chain = if is_named name chain then record { name = ch
 abbrev pub changed : (List Rule → List Rule) → List ℕ → Table → Table
 changed change name t = record { policies = t.policies; chains = map (changed_chain change name) t.chains }
 
--- the rules without the first of this text
+-- the rules without the first one of this text
 abbrev pub without_first : Rule → List Rule → List Rule
 without_first rule [] = []
 without_first rule (other ∷ rules) = if same_text rule other then rules else other ∷ without_first rule rules
 
--- a user chain put at its place: after the built-in ones and those whose names come before its own
+-- the chains with a user chain put at its place: after the built-in ones and those whose names come before its own
 abbrev pub placed : Chain → List Chain → List Chain
 placed chain [] = chain ∷ []
 placed chain (other ∷ chains) =
     if is_built_in other.name || comes_before other.name chain.name then other ∷ placed chain chains else chain ∷ other ∷ chains
 
--- the chains without that of a name
+-- the chains without the one of this name
 abbrev pub without : List ℕ → List Chain → List Chain
 without name chains = filter (λ c. not (is_named name c)) chains
 
--- a rule follows the chain that it names to its new name
+-- the rule with the new name, if it names the renamed chain
 abbrev pub renamed_rule : List ℕ → List ℕ → Rule → Rule
 renamed_rule old new rule = if names old rule then with_chain_name new rule else rule
 
--- the chain, under its new name if it had the old, with its rules following
+-- the chain under its new name, if it is the renamed one, and its rules with the new name
 abbrev pub renamed_chain : List ℕ → List ℕ → Chain → Chain
 renamed_chain old new chain =
     record { name = if is_named old chain then new else chain.name; rules = map (renamed_rule old new) chain.rules }
 
--- the chain taken from its place and put at that of its new name
+-- the chains with this one taken from its place and put at the place of its name
 abbrev pub moved : List ℕ → List Chain → List Chain
 moved name chains = placed (record { name = name; rules = rules_of chains name }) (without name chains)
 
--- the policies with that of a built-in chain set, if the word names one
+-- the policies with that of one built-in chain set, if the word names a policy
 abbrev pub policies_with : Option ℕ → Option Policy → List Policy → List Policy
 policies_with (Some k) (Some p) policies = slice_set policies k p
 policies_with (Some k) None policies = policies
 policies_with None p policies = policies
 
--- the table after the plain edit of its lists
+-- the table after the command: a plain edit of its lists of chains and rules
 abbrev pub edited : Edit → Table → Table
 edited (Append c r) t = changed (λ rules. rules ++ r ∷ []) c t
 edited (Insert c n r) t = changed (λ rules. insert rules (n - 1) r) c t
@@ -206,22 +206,22 @@ edited (SetPolicy c text) t =
     record { policies = policies_with (position (bytes_eq c) built_in_names) (policy_named text) t.policies; chains = t.chains }
 edited (Rename old new) t = record { policies = t.policies; chains = moved new (map (renamed_chain old new) t.chains) }
 
--- the table after a command, or why it is refused
+-- the table after a command, or the fault that refuses it
 abbrev pub step : Edit → Table → Result Table TableFault
 step edit t = elim (fault_of edit t) [ None ↦ Ok (edited edit t) | Some f ↦ Err f ]
 
 -- What a call leaves
 
--- the call answers the step; what is refused changes nothing, classifiers included
+-- the call's answer: the table is edited, or it is refused with this fault and nothing changed, classifiers included
 abbrev pub Answers : Result Table TableFault → TableView → TableView → Result (Unit {0}) TableFault → Type 0
 Answers (Ok t) old new result = (result ≡ Ok tt) × (new.table ≡ t)
 Answers (Err f) old new result = (result ≡ Err f) × (new ≡ old)
 
--- of a call that takes no memory
+-- the call answers with the step of this command; a refused call changes nothing, classifiers included
 abbrev pub IsStep : Edit → TableView → TableView → Result (Unit {0}) TableFault → Type 0
 IsStep edit old new result = Answers (step edit old.table) old new result
 
--- the fault, where it is no lack of memory
+-- the refusal that a fault stands for; out of memory stands for none
 abbrev pub refusal_of : TableFault → Option TableFault
 refusal_of NoSuchChain = Some NoSuchChain
 refusal_of ChainExists = Some ChainExists
@@ -241,11 +241,11 @@ refusal_of TooManyChains = Some TooManyChains
 refusal_of BadPolicy = Some BadPolicy
 refusal_of NoMemory = None
 
--- what is refused changes nothing, and memory runs out only where nothing else refuses
+-- a refused call changes nothing, and memory runs out only where nothing else refuses the command
 abbrev pub IsRefused : Edit → TableView → TableView → TableFault → Type 0
 IsRefused edit old new fault = (new ≡ old) × (fault ≡ NoMemory → fault_of edit old.table ≡ None)
 
--- of a call that takes memory: it gives the step, unless memory ran out
+-- of a call that takes memory: it answers with the step, or memory ran out
 abbrev pub IsStepIfRoom : Edit → TableView → TableView → Result (Unit {0}) TableFault → Type 0
 IsStepIfRoom edit old new result =
     GivesFor refusal_of (λ u. new.table) result (step edit old.table) × IfErr result (IsRefused edit old new)
@@ -266,6 +266,6 @@ may_grow DeleteChains = false
 may_grow (SetPolicy c text) = false
 may_grow (Rename old new) = false
 
--- of any call: out of memory may refuse a command that takes memory, and no other
+-- of any call: it answers with the step; only a command that takes memory may be refused because memory ran out
 abbrev pub IsStepOf : Edit → TableView → TableView → Result (Unit {0}) TableFault → Type 0
 IsStepOf edit old new result = MatchBool (may_grow edit) (IsStepIfRoom edit old new result) (IsStep edit old new result)

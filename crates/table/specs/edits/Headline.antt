@@ -4,17 +4,17 @@ use Rattle.classify.specs.classifier.Classifier.{Classified}
 use Rattle.table.specs.chains.Table.{Chain, Table, TableView, AreClassified}
 use Rattle.table.specs.edits.Edits.{Edit, TableFault, NoMemory, IsStepIfRoom, edited, fault_of}
 
--- an edit that was asked for, and its answer
+-- an edit that was called for, and the answer
 pub record Call : Type 0 where
   pub edit : Edit
   pub answer : Result (Unit {0}) TableFault
 
--- the calls, made one after another, lead from one table to another
+-- these calls, made one after another, lead from one table to another
 abbrev pub Lead : TableView → List Call → TableView → Type 0
 Lead old [] new = new ≡ old
 Lead old (call ∷ calls) new = (next : TableView) × IsStepIfRoom call.edit old next call.answer × Lead next calls new
 
--- the edit of a call, if it was accepted, before others
+-- the edit of a call put before others, if it was accepted
 abbrev pub if_accepted : Call → List Edit → List Edit
 if_accepted call edits = elim call.answer [ Ok u ↦ call.edit ∷ edits | Err f ↦ edits ]
 
@@ -28,12 +28,12 @@ abbrev pub edited_by : Table → List Edit → Table
 edited_by t [] = t
 edited_by t (edit ∷ edits) = edited_by (edited edit t) edits
 
--- whatever calls are made of a table, they leave it edited by what was accepted
+-- whatever calls are made on a table, they leave it edited by the accepted ones
 abbrev pub CallsLeaveWhatTheyAccept : Type 0
 CallsLeaveWhatTheyAccept =
     (old new : TableView) (calls : List Call) → Lead old calls new → new.table ≡ edited_by old.table (accepted calls)
 
--- a call that is refused changes nothing, classifiers included
+-- a refused call changes nothing, classifiers included
 abbrev pub RefusedCallsChangeNothing : Type 0
 RefusedCallsChangeNothing = (edit : Edit) (old new : TableView) (f : TableFault) → IsStepIfRoom edit old new (Err f) → new ≡ old
 
@@ -42,6 +42,6 @@ abbrev pub ChainsHaveOneListOfClassifiers : Type 0
 ChainsHaveOneListOfClassifiers =
     (chains : List Chain) (cs ds : List Classified) → AreClassified chains cs → AreClassified chains ds → cs ≡ ds
 
--- none of an edit's causes is that memory was refused: it is answered where no other fault is due
+-- no definition of a command refuses it for lack of memory; a call does so only where nothing else refuses
 abbrev pub OutOfMemoryIsNoCause : Type 0
 OutOfMemoryIsNoCause = (edit : Edit) (t : Table) → fault_of edit t ≡ Some NoMemory → ⊥

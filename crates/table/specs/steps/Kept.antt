@@ -97,7 +97,7 @@ pub record AreRecounted (old new : List (Option StoredChain)) : Type 0 where
   pub entries : (key : ℕ) → (stored_at new key).entries ≡ (stored_at old key).entries
   pub classifier : (key : ℕ) → (stored_at new key).classifier ≡ (stored_at old key).classifier
 
--- the counts are as before, with one more under a key and one fewer under another, if there are such
+-- the counts are as before, but one more for one key and one fewer for another, if these are given
 abbrev pub CountsInAndOut : Option ℕ → Option ℕ → (ℕ → ℕ) → (ℕ → ℕ) → Type 0
 CountsInAndOut more fewer old new = (key : ℕ) → new key + ones (is_key key fewer) ≡ old key + ones (is_key key more)
 
@@ -105,7 +105,8 @@ CountsInAndOut more fewer old new = (key : ℕ) → new key + ones (is_key key f
 abbrev pub references_at : List (Option StoredChain) → ℕ → ℕ
 references_at slots key = (stored_at slots key).references
 
--- the chains stand as they should, but for the counts of the rules that name them: those of the index, and no others
+-- the chains are exactly those of the index, their rules are linked, their classifiers are right and the table is sound; nothing is
+-- said of the counts of rules that name a chain
 pub record IsStored (policies : List Policy) (slots : List (Option StoredChain)) (order : List ℕ) : Type 0 where
   pub present : (i : ℕ) → i < length order → IsSome (slot_at slots (slice_index order i))
   pub no_more : (key : ℕ) → IsSome (slot_at slots key) → IsIn order key

@@ -10,7 +10,7 @@ use Rattle.table.specs.declared.chain.entry.Entry.{Entry}
 abbrev pub IsSeen : List Bool → ℕ → Type 0
 IsSeen seen key = IsTrue (slice_index_or seen key false)
 
--- the marks are those of the keys reached, which are keys of the index, and each was reached once
+-- the marked keys are those that were reached; these are keys of the index, each reached once
 pub record IsMarked (order : List ℕ) (seen : List Bool) (reached : List ℕ) : Type 0 where
   pub within : (key : ℕ) → IsIn order key → key < length seen
   pub known : (key : ℕ) → IsIn reached key → IsIn order key
@@ -23,7 +23,8 @@ abbrev pub AreMarked : List Entry → ℕ → List Bool → Type 0
 AreMarked entries upto seen =
     (m : ℕ) (e : Entry) (key : ℕ) → m < upto → slice_index_or entries m e ≡ e → key_in e.flow ≡ Some key → IsSeen seen key
 
--- a search from a chain, the first that was reached: paths lead to all that were reached, and the first of these were visited
+-- a search from a chain, which was reached first: paths lead to all keys that were reached, and the chains of the first of these
+-- were visited
 pub record IsSearch (slots : List (Option StoredChain)) (order : List ℕ) (from : ℕ) (seen : List Bool) (reached : List ℕ) (at : ℕ) : Type 0 where
   pub marked : IsMarked order seen reached
   pub some : 0 < length reached
@@ -32,7 +33,7 @@ pub record IsSearch (slots : List (Option StoredChain)) (order : List ℕ) (from
   pub visited : (i : ℕ) → i < at
       → AreMarked (stored_at slots (slice_index reached i)).entries (length (stored_at slots (slice_index reached i)).entries) seen
 
--- what the mark of a key leaves: what was, if there is no key or it was marked already, and else one more that is reached
+-- marking a key, if there is one: if it is marked already nothing changes, else it is marked and is the last that was reached
 abbrev pub Marks : Option ℕ → List Bool → List ℕ → List Bool → List ℕ → Type 0
 Marks link seen reached seen' reached' =
     (((key : ℕ) → link ≡ Some key → IsSeen seen key) × (seen' ≡ seen) × (reached' ≡ reached))

@@ -1,4 +1,4 @@
--- The walk of a packet by its cases, one rule at a time (iptables(8), "TARGETS" and `-g`).
+-- The walk of a packet by cases, one rule at a time (iptables(8), TARGETS and PARAMETERS, -g).
 use Rattle.std.specs.Prelude.{◌≡◌, ◌⊎◌, ℕ, zero, suc, ◌+◌, ◌<◌, ◌≤◌, true, false, IsTrue, IsFalse, List, [], ◌∷◌, ◌++◌, length, slice_get}
 use Rattle.std.specs.Prelude.{Option, Some, None}
 use Rattle.fields.specs.packet.Hook.{name as hook_name}
@@ -10,16 +10,17 @@ use Rattle.table.specs.chains.Table.{Chain, Table, rules_of}
 use Rattle.table.specs.declared.verdict.Verdict.{Verdict}
 use Rattle.table.specs.walk.Walk.{Rest, Entry, Walked, Next, Ends, GoesOn, after_match, end_verdict, too_long, walk, whole}
 
--- a walk: under way, with what is left of its chains, the present one first, and its trail so far; or over, with what it gave
+-- a walk under way, with what is left of its chains (the present one first) and its trail so far; or a finished walk with its
+-- result
 pub data Stage : Type 0 where
   Under : List Rest → List Entry → Stage
   Over : Walked → Stage
 
--- the rule that is next in what is left of a chain, if one is left
+-- the next rule in what is left of a chain, if one is left
 abbrev pub next_rule : List Chain → Rest → Option Rule
 next_rule chains rest = slice_get (rules_of chains rest.chain) rest.passed
 
--- what is left of the chain behind its next rule
+-- what is left of the chain after its next rule
 abbrev pub behind : Rest → Rest
 behind rest = record { chain = rest.chain; passed = rest.passed + 1 }
 
@@ -31,7 +32,7 @@ with_next trail rest = trail ++ record { chain = rest.chain; number = rest.passe
 abbrev pub IsFull : List Entry → Type 0
 IsFull trail = 65536 ≤ length trail
 
--- it has fewer
+-- the trail has fewer
 abbrev pub HasRoom : List Entry → Type 0
 HasRoom trail = length trail < 65536
 
@@ -39,34 +40,34 @@ HasRoom trail = length trail < 65536
 abbrev pub by_policy : Verdict → List Entry → Stage
 by_policy policy trail = Over (record { trail = trail; verdict = policy; by_policy = true })
 
--- the walk with this trail, where a match leaves it
+-- where a match with this trail leaves the walk
 abbrev pub on_by : Next → List Entry → Stage
 on_by (Ends v) trail = Over (record { trail = trail; verdict = v; by_policy = false })
 on_by (GoesOn rests) trail = Under rests trail
 
 -- The cases
 
--- the next rule doesn't match: on with the rest of its chain
+-- the next rule doesn't match, and the rest of its chain follows
 abbrev pub PassesOver : List Chain → List ℕ → Rest → List Rest → List Entry → Stage → Type 0
 PassesOver chains values rest waiting trail next =
     (rule : Rule) × (next_rule chains rest ≡ Some rule) × IsFalse (matches values rule) × (next ≡ Under (behind rest ∷ waiting) trail)
 
--- it matches, and the trail is full: the walk is too long
+-- the next rule matches and the trail is full: the walk is too long
 abbrev pub RunsFull : List Chain → List ℕ → Rest → List Entry → Stage → Type 0
 RunsFull chains values rest trail next =
     (rule : Rule) × (next_rule chains rest ≡ Some rule) × IsTrue (matches values rule) × IsFull trail × (next ≡ Over too_long)
 
--- it matches: it goes on the trail, and then on by its target
+-- the next rule matches: it goes on the trail, and its target says how the walk goes on
 abbrev pub Matches : List Chain → List ℕ → Rest → List Rest → List Entry → Stage → Type 0
 Matches chains values rest waiting trail next =
     (rule : Rule) × (next_rule chains rest ≡ Some rule) × IsTrue (matches values rule) × HasRoom trail
     × (next ≡ on_by (after_match (target_of rule) (behind rest) waiting) (with_next trail rest))
 
--- the chain is at its end: on with the newest rest that waits
+-- the chain is at its end, and the walk goes on with the rest that was put on the stack last
 abbrev pub ChainEnds : List Chain → Rest → List Rest → List Entry → Stage → Type 0
 ChainEnds chains rest waiting trail next = (next_rule chains rest ≡ None) × (next ≡ Under waiting trail)
 
--- one step of a walk, by these cases; where no rest is left the policy decides, and a walk that is over goes nowhere
+-- one step of a walk: by one of these cases, or by the policy where nothing is left; a finished walk has no further step
 abbrev pub StepsTo : List Chain → Verdict → List ℕ → Stage → Stage → Type 0
 StepsTo chains policy values (Under (rest ∷ waiting) trail) next =
     PassesOver chains values rest waiting trail next
@@ -82,15 +83,15 @@ GoesTo zero chains policy values now last = now ≡ last
 GoesTo (suc n) chains policy values now last =
     (next : Stage) × StepsTo chains policy values now next × GoesTo n chains policy values next last
 
--- some number of steps, from all of the hook's chain and an empty trail, ends the walk of a packet with this
+-- some number of steps, from the first rule of the hook's chain and an empty trail, ends the walk of the packet with this result
 abbrev pub Walks : Table → Packet → Walked → Type 0
 Walks t packet walked =
     (n : ℕ) × GoesTo n t.chains (end_verdict t packet) packet.values (Under (whole (hook_name packet.hook) ∷ []) []) (Over walked)
 
--- every packet walks every table, and ends with what `walk` says
+-- the walk of every packet through every table ends with what `walk` gives
 abbrev pub WalksByCases : Type 0
 WalksByCases = (t : Table) (packet : Packet) → Walks t packet (walk t packet)
 
--- it ends with one thing alone
+-- no walk ends with two results
 abbrev pub WalksInOneWay : Type 0
 WalksInOneWay = (t : Table) (packet : Packet) (a b : Walked) → Walks t packet a → Walks t packet b → a ≡ b

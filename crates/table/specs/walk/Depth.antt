@@ -1,4 +1,4 @@
--- How deep a walk goes: the greatest number of rests on its stack.
+-- How deep a walk goes: how many chains wait on its stack at most.
 use Rattle.std.specs.Prelude.{ℕ, zero, suc, ◌-◌, ◌≤◌, max, List, [], ◌∷◌, length, Some, None}
 use Rattle.fields.specs.packet.Hook.{name as hook_name}
 use Rattle.fields.specs.packet.Packet.{PacketView as Packet}
@@ -6,16 +6,16 @@ use Rattle.table.specs.chains.Table.{Chain, Table, user_chains}
 use Rattle.table.specs.chains.Sound.{IsSound}
 use Rattle.table.specs.walk.Walk.{Rest, Next, Ends, GoesOn, first_hit, next_of, whole}
 
--- the stack is what stands below the rest at work
+-- how many rests wait below the present one
 abbrev pub stacked : List Rest → ℕ
 stacked rests = length rests - 1
 
--- the deeper of where the walk stands and where it goes on
+-- the greater of the stack's height here and later
 abbrev pub deeper : (List Rest → ℕ) → List Rest → Next → ℕ
 deeper go rests (Ends v) = stacked rests
 deeper go rests (GoesOn next) = max (stacked rests) (go next)
 
--- the greatest number of rests on the stack from here on, over so many matches
+-- the greatest height of the stack from here on, over so many matches
 unfoldable pub depth_within : ℕ → List Chain → List ℕ → List Rest → ℕ
 depth_within zero chains values rests = stacked rests
 depth_within (suc room) chains values rests =
@@ -24,11 +24,11 @@ depth_within (suc room) chains values rests =
       | Some hit ↦ deeper (depth_within room chains values) rests (next_of hit)
     ]
 
--- of a walk with room for so many entries
+-- that of a walk with room for so many entries on its trail
 abbrev pub depth_to : ℕ → Table → Packet → ℕ
 depth_to room t packet = depth_within room t.chains packet.values (whole (hook_name packet.hook) ∷ [])
 
--- the greatest number of rests on the stack during the walk of a packet
+-- the greatest height of the stack during the walk of a packet
 abbrev pub depth : Table → Packet → ℕ
 depth t packet = depth_to 65536 t packet
 

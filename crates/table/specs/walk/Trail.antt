@@ -6,11 +6,11 @@ use Rattle.table.specs.walk.Walk.{Entry, Walked}
 use Rattle.table.specs.declared.walk.trail.Step.{Step}
 use Rattle.table.specs.declared.walk.trail.Trail.{Trail}
 
--- an entry of the trail, by the place of its chain in the order of a listing, from 0
+-- an entry of the trail, with its chain given by its place in the order of a listing, counted from 0
 abbrev pub shown : List Chain → Entry → Option Step
 shown chains entry = option_map (λ place. record { chain = place; number = entry.number }) (position (is_named entry.chain) chains)
 
--- the trail, the verdict and whether the policy gave it are those of the walk
+-- the code's trail has the entries and the verdict of the walk, and says the same of whether the policy decided
 pub record Shows (chains : List Chain) (walked : Walked) (trail : Trail) : Type 0 where
   pub steps : map (shown chains) walked.trail ≡ map Some trail.steps.items
   pub verdict : trail.verdict ≡ walked.verdict

@@ -1,4 +1,4 @@
--- The walk of a packet through the table (iptables(8), "TARGETS" and `-g`).
+-- The walk of a packet through the table (iptables(8), TARGETS and PARAMETERS, -g).
 use Rattle.std.specs.Prelude.{ℕ, zero, suc, ◌+◌, Bool, true, false, List, [], ◌∷◌, slice_index_or, Option, Some, None, option_map}
 use Rattle.std.specs.Prelude.{unwrap_or}
 use Rattle.classify.specs.search.NextMatch.{next_match}
@@ -18,7 +18,7 @@ pub record Rest : Type 0 where
   pub chain : List ℕ
   pub passed : ℕ
 
--- an entry of the trail: a chain, and a rule's number in it, from 1
+-- an entry of the trail: a chain, and a rule's number in it, counted from 1
 pub record Entry : Type 0 where
   pub chain : List ℕ
   pub number : ℕ
@@ -30,7 +30,7 @@ pub record Hit : Type 0 where
   pub own : Rest
   pub stack : List Rest
 
--- what a walk gives: its trail, the verdict, and whether the policy gave it
+-- what a walk gives: the trail, that is the rules that matched, the verdict, and whether the policy gave it
 pub record Walked : Type 0 where
   pub trail : List Entry
   pub verdict : Verdict
@@ -40,7 +40,7 @@ pub record Walked : Type 0 where
 abbrev pub whole : List ℕ → Rest
 whole chain = record { chain = chain; passed = 0 }
 
--- the rule at a place of a chain, counted from 0, has matched
+-- the rule at this place of a chain, counted from 0, as a rule that matched
 abbrev pub hit_at : List Chain → List ℕ → List Rest → ℕ → Hit
 hit_at chains chain stack place = record {
   entry = record { chain = chain; number = place + 1 };
@@ -49,7 +49,7 @@ hit_at chains chain stack place = record {
   stack = stack;
 }
 
--- the first rule that matches in what is left of the chains: the present one, and, where it ends, the newest rest on the stack
+-- the first rule that matches in what is left of the present chain, and then in the rests on the stack, the newest first
 abbrev pub first_hit : List Chain → List ℕ → List Rest → Option Hit
 first_hit chains values [] = None
 first_hit chains values (rest ∷ stack) =
@@ -63,7 +63,9 @@ pub data Next : Type 0 where
   Ends : Verdict → Next
   GoesOn : List Rest → Next
 
--- by the target of the rule, with what is left of its chain and the stack
+-- where a match leaves the walk, by the rule's target: ACCEPT, DROP and REJECT end it; LOG, or no target, goes on with the next
+-- rule; RETURN goes back to the stack; `-j` enters a chain and leaves the rest of the present one on the stack, `-g` enters it
+-- without that
 abbrev pub after_match : Option Target → Rest → List Rest → Next
 after_match None own stack = GoesOn (own ∷ stack)
 after_match (Some target.Log) own stack = GoesOn (own ∷ stack)
@@ -74,11 +76,11 @@ after_match (Some target.Return) own stack = GoesOn stack
 after_match (Some (target.Jump chain)) own stack = GoesOn (whole chain ∷ own ∷ stack)
 after_match (Some (target.Goto chain)) own stack = GoesOn (whole chain ∷ stack)
 
--- where a hit leaves the walk
+-- where this rule leaves the walk
 abbrev pub next_of : Hit → Next
 next_of hit = after_match hit.target hit.own hit.stack
 
--- no rule is left that matches: the policy decides
+-- no rule that matches is left, and the policy decides
 abbrev pub at_end : Verdict → Walked
 at_end policy = record { trail = []; verdict = policy; by_policy = true }
 
@@ -86,16 +88,16 @@ at_end policy = record { trail = []; verdict = policy; by_policy = true }
 abbrev pub decided : Entry → Verdict → Walked
 decided entry v = record { trail = entry ∷ []; verdict = v; by_policy = false }
 
--- an entry, and what follows it
+-- the walk with this entry before its trail
 abbrev pub with_entry : Entry → Walked → Walked
 with_entry entry walked = record { trail = entry ∷ walked.trail; verdict = walked.verdict; by_policy = walked.by_policy }
 
--- a match put on the trail, and the walk that goes on
+-- an entry, and the walk that goes on after it
 abbrev pub followed : (List Rest → Option Walked) → Entry → Next → Option Walked
 followed go entry (Ends v) = Some (decided entry v)
 followed go entry (GoesOn rests) = option_map (with_entry entry) (go rests)
 
--- the walk of what is left, with room for so many entries on the trail: none where more rules match
+-- the walk through what is left, with room for so many entries on the trail; none where more rules match
 unfoldable pub walk_within : ℕ → List Chain → Verdict → List ℕ → List Rest → Option Walked
 walk_within zero chains policy values rests = elim (first_hit chains values rests) [ None ↦ Some (at_end policy) | Some hit ↦ None ]
 walk_within (suc room) chains policy values rests =
@@ -104,7 +106,7 @@ walk_within (suc room) chains policy values rests =
       | Some hit ↦ followed (walk_within room chains policy values) hit.entry (next_of hit)
     ]
 
--- too many rules match: the trail is empty
+-- the result of a walk in which too many rules match: an empty trail, and a verdict of its own
 abbrev pub too_long : Walked
 too_long = record { trail = []; verdict = verdict.TooLong; by_policy = false }
 
@@ -113,15 +115,16 @@ abbrev pub policy_verdict : Policy → Verdict
 policy_verdict Accept = verdict.Accept
 policy_verdict Drop = verdict.Drop
 
--- the verdict of a hook's chain at its end
+-- the verdict of the policy of a hook's chain
 abbrev pub end_verdict : Table → Packet → Verdict
 end_verdict t packet = policy_verdict (unwrap_or (policy_of t (hook_name packet.hook)) Accept)
 
--- the walk with room for so many entries, from the first rule of the hook's chain
+-- the walk from the first rule of the hook's chain, with room for so many entries on the trail
 abbrev pub walk_to : ℕ → Table → Packet → Walked
 walk_to room t packet =
     unwrap_or (walk_within room t.chains (end_verdict t packet) packet.values (whole (hook_name packet.hook) ∷ [])) too_long
 
--- the walk of a packet: at most 65,536 rules match in it
+-- the walk of a packet: its trail, its verdict, and whether the policy gave it; where more than 65,536 rules match it is too long,
+-- and has no trail
 abbrev pub walk : Table → Packet → Walked
 walk t packet = walk_to 65536 t packet
