@@ -1,4 +1,5 @@
-//! The answers: the files of a question are restored, it is asked, and what is found is written.
+//! The answers: the files of a question are restored, it is asked, and what is found is written, as lines or as a
+//! document.
 use crate::asked_packets::Asked;
 use crate::asking::Asking;
 use crate::assumptions::Repeating;

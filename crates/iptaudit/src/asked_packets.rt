@@ -1,4 +1,4 @@
-//! The packets of a question about some packets, and the field that their numbers are told by.
+//! The packets that the words of `reach` give in part, and the field by which their numbers are grouped.
 ghost use Rattle.std.specs.Prelude.{◌≡◌};
 
 use crate::fault::Fault;

@@ -1,4 +1,4 @@
-//! The questions that are asked of tables, what they may take, and how far they are.
+//! The questions that are asked of tables, how many steps they may take, and how far they are.
 ghost use Rattle.std.specs.Prelude.{◌≡◌, ◌<◌, ◌≤◌, All, IfOk, IfSome, length};
 ghost use Rattle.fields.specs.numbers.Field.{top};
 ghost use Rattle.table.specs.chains.Table.{chain_at};

@@ -1,4 +1,4 @@
-//! What becomes of some packets, by their numbers on a field.
+//! What is written of the verdicts of a set of packets, grouped by a field.
 ghost use Rattle.std.specs.Prelude.{◌≡◌, All};
 ghost use Rattle.fields.specs.numbers.Field.{top};
 

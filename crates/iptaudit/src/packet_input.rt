@@ -1,4 +1,4 @@
-//! Packets that stand on the lines of an input.
+//! Packets on the lines of an input. A line is refused with the codes and texts of a session.
 ghost use Rattle.std.specs.Prelude.{◌≤◌, vec_capacity};
 
 use crate::fault::Fault;

@@ -1,4 +1,4 @@
-//! Laws of restores: the contract of each call is the law, and it does nothing else.
+//! The laws of lists of lines and of lists of calls: the contract of each call is the law, and it does nothing else.
 ghost use Rattle.restore.specs.listings.RoundTrip.{ListingsRestoreClassifiers};
 ghost use Rattle.restore.specs.calls.Headline.{CallsLeaveWhatTheyAccept, RefusedCallsChangeNothing};
 ghost use Rattle.restore.specs.sections.Headline.{LinesLeaveWhatTheyRestore, RefusedLinesChangeNothing};

@@ -1,4 +1,4 @@
-//! Listings of a table.
+//! The listing of a table, and of its rules.
 ghost use Rattle.std.specs.Prelude.{◌≡◌, ◌<◌, ◌++◌, codes, false, length, flat_map, option_map};
 ghost use Rattle.fields.specs.text.Tap.{has_failed, Puts};
 ghost use Rattle.table.specs.chains.Table.{chain_at, policy_of};

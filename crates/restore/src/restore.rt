@@ -1,4 +1,4 @@
-//! Restores: sections one after another.
+//! Restores: sections one after another, each put in place by its `COMMIT`.
 ghost use Rattle.std.specs.Prelude.{◌≡◌, Ok, IsTrue, IsFalse};
 ghost use Rattle.table.specs.edits.Boxes.{MakesOneBoxAtMost};
 ghost use Rattle.restore.specs.Sequence.{Gives};

@@ -1,4 +1,4 @@
-//! Sections of a restore.
+//! The lines of one section of a restore, done to a table of its own.
 ghost use Rattle.std.specs.Prelude.{◌≡◌, ◌||◌, ◌≢◌, [], IfOk, IsTrue, IsFalse};
 ghost use Rattle.fields.specs.text.Words.{words_of};
 ghost use Rattle.fields.specs.text.WordSlice.{words_in};

@@ -1,4 +1,4 @@
-//! Rules.
+//! Rules, and their equality.
 ghost use Rattle.std.specs.Prelude.{◌≡◌, ℕ, List, Option, Some, None, true, false};
 ghost use Rattle.std.specs.List.{list_any};
 ghost use Rattle.fields.specs.declared.numbers.field.Field.{Field};
@@ -166,8 +166,8 @@ impl Rule {
         Rule { spec, asks_both }
     }
 
-    /// Whether a condition of the rule asks several fields at once, as `--ports` does. Where none does, the rule matches
-    /// just the packets whose numbers it allows, field by field.
+    /// Whether a condition of the rule asks several fields at once, as `--ports` does. Where none does, `cross` holds
+    /// of every packet: the rule matches just the packets whose numbers it allows, field by field.
     pub fn asks_both(&self) -> bool
         ensures value { result ≡ asks_both self.now }
         ensures alone { result ≡ false → (numbers : List ℕ) → cross numbers self.now ≡ true }
@@ -185,7 +185,7 @@ impl Rule {
         &self.spec
     }
 
-    /// The law that every rule is readable, and that its text reads back as it. It does nothing.
+    /// The law that every rule is readable, and that its text reads back as it. The call does nothing.
     #[tactic(auto, using(crate::proofs::laws::printing::RoundTripLaws::listing_laws))]
     pub fn reads_back(&self)
         ensures readable { IsReadable self.now }
@@ -229,7 +229,8 @@ impl Rule {
         }
     }
 
-    /// Changes the name of the chain that the rule jumps or goes to, and leaves all else. It takes no memory.
+    /// Changes the name of the chain that the rule jumps or goes to, which it must do, and leaves all else. It takes
+    /// no memory.
     pub fn rename_target(&mut self, name: &Name)
         requires { IsTrue (names_chain (target_of self.old)) }
         ensures { self.new ≡ with_chain_name name.now self.old }

@@ -1,4 +1,4 @@
-//! The fields of a packet.
+//! The fields of a packet: one table of their top values and names.
 ghost use Rattle.std.specs.Prelude.{◌≡◌, ◌<◌, Some, slice_get};
 
 /// What a packet has one whole number of, and what a condition of a rule asks.

@@ -1,4 +1,4 @@
-//! Who decides the packets that a rule would match.
+//! Which rules and policies decide the packets that a rule would match.
 ghost use Rattle.std.specs.Prelude.{◌≡◌, false, All, Any, IfOk, IsTrue, MatchOption, OnOk};
 ghost use Rattle.table.specs.chains.Table.{chain_at};
 ghost use Rattle.questions.specs.Ends.{IsRule};
@@ -19,7 +19,7 @@ use fields::Hook;
 use std::alloc::{AllocError, Global};
 use table::Step;
 
-/// Who decides some packets: rules and policies, each named once.
+/// Which rules and policies decide some packets, each named once.
 #[derive(Drop)]
 pub struct Takers {
     /// The rules.

@@ -1,4 +1,4 @@
-// Where the walks of a box go.
+//! Where the next rule sends the parts of a box.
 ghost use Rattle.std.specs.Prelude.{◌≡◌, ◌+◌, ◌<◌, ◌∷◌, [], ◌++◌, All, length, OnOk};
 ghost use Rattle.rules.specs.rule.Actions.{target_of};
 ghost use Rattle.table.specs.chains.Table.{Table as Filter, chain_at};

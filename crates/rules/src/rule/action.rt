@@ -1,4 +1,4 @@
-// What a rule does.
+//! What a rule does with a packet that it matches.
 ghost use Rattle.std.specs.Prelude.{◌≡◌, Option, Some, None};
 ghost use Rattle.rules.specs.rule.Actions.{action_of, is_owned_by, action_has};
 ghost use Rattle.rules.specs.options.Options.{owner};

@@ -1,4 +1,4 @@
-// Targets.
+//! Where the packets go that a rule matches.
 use fields::{Name, RejectType};
 
 /// What becomes of a packet that a rule matches (iptables(8), `-j` and `-g`).
