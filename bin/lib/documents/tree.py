@@ -1,0 +1,54 @@
+"""The repository as files: which there are, their text, and the crates in the order in which they stand on one another."""
+
+import functools
+import os
+
+ROOT = os.path.dirname(os.path.dirname(os.path.dirname(os.path.dirname(os.path.realpath(__file__)))))
+# What is built, or isn't the repository's.
+LEFT_OUT = (".git", "out", "__pycache__")
+
+
+@functools.lru_cache(maxsize=None)
+def all_files():
+    """The paths of all files, relative to the repository, in order."""
+    found = []
+    for folder, inner, names in os.walk(ROOT):
+        inner[:] = sorted(name for name in inner if name not in LEFT_OUT)
+        found += [os.path.relpath(os.path.join(folder, name), ROOT) for name in sorted(names)]
+    return tuple(found)
+
+
+def files(*suffixes, below=""):
+    """The files that end in one of the suffixes and begin with a path."""
+    return [path for path in all_files() if path.startswith(below) and path.endswith(suffixes)]
+
+
+def exists(path):
+    return os.path.exists(os.path.join(ROOT, path))
+
+
+@functools.lru_cache(maxsize=None)
+def text(path):
+    with open(os.path.join(ROOT, path), encoding="utf-8", errors="replace") as file:
+        return file.read()
+
+
+def lines(path):
+    return text(path).splitlines()
+
+
+def crates():
+    """The crates, each after those on which it stands."""
+    uses = dict(line.strip().split(":", 1) for line in lines("crates.txt") if ":" in line and not line.startswith("#"))
+    placed = []
+
+    def place(crate):
+        for below in uses[crate].split():
+            if below in uses and below not in placed:
+                place(below)
+        if crate not in placed:
+            placed.append(crate)
+
+    for crate in uses:
+        place(crate)
+    return placed
