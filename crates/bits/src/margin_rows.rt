@@ -82,7 +82,7 @@ impl MarginRows {
         self.rows.row(row)
     }
 
-    /// The summary of a row and its margin.
+    /// The summary of a row and its margin: it has the bit of each word in which these have a bit.
     pub fn summary(&self, row: usize) -> u64
         requires { row < length self.now.rows }
         ensures { IsSummaryOf result (after_margin self.now.room.before (slice_index_or self.now.rows row [])) }

@@ -249,7 +249,7 @@ impl Rows {
         part(&self.words, start, self.len.div_ceil(64))
     }
 
-    /// A row's summary.
+    /// A row's summary: it has the bit of each word in which the row has a bit.
     pub fn summary(&self, row: usize) -> u64
         requires { row < length self.now.rows }
         ensures { IsSummaryOf result (slice_index_or self.now.rows row []) }

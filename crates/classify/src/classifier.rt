@@ -25,7 +25,8 @@ pub(crate) mod lines;
 pub(crate) mod of_rules;
 pub(crate) mod point;
 
-/// The classifier of a list of boxes: on each field the line of their answers, and no more. Places count from 0.
+/// The classifier of a list of boxes: on each field the line of their answers, and no more. A line is cut exactly
+/// where some box's answer changes, and the row of each piece between two cuts is their answers. Places count from 0.
 ///
 /// A box put in at the end costs the pieces that it allows. So does one put in at the front: it takes one of the
 /// blank places that stand before the rows. A box taken out at the front leaves one. Where there is none, a box put

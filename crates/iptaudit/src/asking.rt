@@ -99,7 +99,7 @@ impl<'a, R: Clock, E: Print + IsTerminal> Asking<'a, R, E> {
         compare_at(self.alloc, old, new, hook, self.steps)
     }
 
-    /// What becomes of some packets, by their numbers on a field (`reach`).
+    /// The verdicts of a set of packets, grouped by a field (`reach`).
     ///
     /// # Errors
     ///

@@ -30,7 +30,7 @@ pub(crate) enum Answer {
         field: String,
         outcomes: Vec<OutcomeEntry>,
     },
-    /// What becomes of the packets isn't known.
+    /// The verdicts of the packets aren't known.
     #[serde(rename = "reach")]
     UnclearReach {
         field: String,

@@ -116,7 +116,7 @@ fn take_line<E: Print>(
 }
 
 /// Marks the rules on the walks of the packets on the lines of an input, to its end. Blank lines and comments may stand
-/// between them. Tells whether nothing else does; each other line is a fault, `line N: CODE text`, which goes to `errors`.
+/// between them. Answers whether nothing else does; each other line is a fault, `line N: CODE text`, which goes to `errors`.
 ///
 /// # Errors
 ///

@@ -27,11 +27,11 @@ use std::alloc::{AllocError, Global};
 use std::marker::Model;
 use std::mem::size_of;
 
-/// A rule: what it asks of a packet, and what becomes of the packets that it matches.
+/// A rule: what it tests of a packet, and its target, where the packets go that it matches.
 ///
-/// Every rule was read from words, or is a copy or a renamed one of such a rule, and its text reads back as it. A rule
-/// has 136 bytes and, in memory of their own, its options with 88 bytes each and its matches with 32 bytes each beside
-/// their options. Only a comment has further memory, of at most 272 bytes.
+/// Every rule was read from words, or is a copy or a renamed one of such a rule, and its text reads back as it. A
+/// rule has 136 bytes and, in memory of their own, its options with 88 bytes each and its matches with 32 bytes each
+/// beside their options. Only a comment has further memory, of at most 272 bytes.
 #[derive(Drop)]
 pub struct Rule {
     spec: RuleSpec,
@@ -218,8 +218,7 @@ impl Rule {
         same_spec(self.spec(), other.spec())
     }
 
-    /// What becomes of the packets that the rule matches: `None` where it says nothing, so that the walk goes on. It
-    /// takes no memory.
+    /// The rule's target: `None` where it has none, so that the walk goes on. It takes no memory.
     pub fn target(&self) -> Option<Target>
         ensures { result ≡ target_of self.now }
     {

@@ -32,7 +32,7 @@ struct Seen {
 ///
 /// A tap fails where a call of its device fails, where a write takes no byte, and where its steps of reading are used
 /// up, and nowhere else. It has 2 to the 64 less 1 steps, so that every loop over a device that never ends has an
-/// end.
+/// end. Only `fill`, `eat` and the calls that read lines change how many bytes it shows that weren't taken.
 #[derive(Drop)]
 pub struct Tap<T> {
     device: T,
@@ -191,8 +191,8 @@ fn fill_from<'a, 'b, R: BufRead>(
 }
 
 impl<W: Write> Tap<W> {
-    /// Writes all of the bytes, in as many calls of the device as it takes for them. To write no bytes calls it not
-    /// at all, and succeeds on a tap that hasn't failed.
+    /// Writes all of the bytes, in as many calls of the device as it takes for them. For no bytes it makes no call,
+    /// and succeeds on a tap that hasn't failed.
     ///
     /// # Errors
     ///

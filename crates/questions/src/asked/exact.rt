@@ -12,7 +12,7 @@ use crate::walking::task::Leaf;
 use fields::Hook;
 use std::alloc::{AllocError, Global};
 
-// What becomes of the packets that a leaf shares with a box.
+// The walks of the packets that a leaf shares with a box.
 #[derive(Drop)]
 enum Shared {
     // There are none.

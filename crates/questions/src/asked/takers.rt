@@ -31,7 +31,7 @@ pub struct Takers {
 impl Takers {
     ghost use Rattle.questions.specs.steps.Takers.{Takes, TakesAll};
 
-    // Adds who decides a leaf of packets at a hook.
+    // Adds the decider of a leaf of packets at a hook.
     fn add(&mut self, hook: Hook, leaf: &Leaf) -> Result<(), AllocError>
         ensures { OnOk result (Takes hook leaf.now self.old self.new) }
     {
@@ -49,7 +49,7 @@ impl Takers {
         Ok(())
     }
 
-    // Adds who decides any of the leaves of packets at a hook.
+    // Adds the deciders of leaves of packets at a hook.
     fn add_all(&mut self, hook: Hook, found: &[Leaf]) -> Result<(), AllocError>
         ensures { OnOk result (TakesAll hook found.now self.old self.new) }
     {

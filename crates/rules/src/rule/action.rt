@@ -6,7 +6,7 @@ ghost use Rattle.rules.specs.options.Options.{owner};
 use crate::options::option::{Extended, Opt, Owner};
 use fields::Name;
 
-// What becomes of a packet that a rule matches; the type of REJECT stands among the options.
+// The target of a rule; the type of REJECT stands among the options.
 #[derive(PartialEq, Drop)]
 pub(crate) enum Action {
     Accept,

@@ -20,7 +20,7 @@ pub(crate) enum Request<'a> {
     Save,
     // `iptables-restore`: a restore that the next lines hold.
     Open(Opening),
-    // `packet`: what becomes of a packet.
+    // `packet`: the walk of a packet.
     Ask(Packet),
     // `lines`: the classifier of a chain.
     Show(&'a [u8]),
