@@ -14,11 +14,15 @@ def documents():
     return tree.files(".md")
 
 
-@functools.lru_cache(maxsize=None)
 def prose(path):
     """The lines of a document that aren't code, each with its number."""
+    return prose_of(tree.text(path))
+
+
+@functools.lru_cache(maxsize=None)
+def prose_of(text):
     found, fenced, code, before, in_list = [], False, False, "", False
-    for number, line in enumerate(tree.lines(path), 1):
+    for number, line in enumerate(text.splitlines(), 1):
         if line.startswith("```"):
             fenced = not fenced
             continue

@@ -10,7 +10,7 @@ from documents import definitions, markdown, scripts, sources, tree
 
 LIST = "bin/lib/documents/words.txt"
 # What isn't prose: code, links, paths, options and what else has more than letters.
-CODE = re.compile(r"`[^`]*`|\]\([^)]*\)|https?:\S+")
+CODE = re.compile(r"`[^`]*`|\]\([^)]*\)|https?:\S+|\\\(\w\w")
 WORD = re.compile(r"(?<![\w./:@#$%\\'=-])[A-Za-z][a-z]+(?:'[a-z]+)?(?![\w/@=\\(:]*[\w(/@=\\])")
 
 
@@ -60,7 +60,8 @@ def faults():
     if listed != sorted(set(listed), key=str.lower):
         found.append(f"{LIST}: the words aren't sorted, or one stands there twice")
     if not shutil.which("hunspell"):
-        print("documents: hunspell isn't there, so spelling is passed over", file=sys.stderr)
+        if not tree.planted:
+            print("documents: hunspell isn't there, so spelling is passed over", file=sys.stderr)
         return found
     places = words_at()
     run = subprocess.run(

@@ -8,9 +8,17 @@ ROOT = os.path.dirname(os.path.dirname(os.path.dirname(os.path.dirname(os.path.r
 LEFT_OUT = (".git", "out", "__pycache__")
 
 
-@functools.lru_cache(maxsize=None)
+# Files with faults, by their paths, which stand in place of all others while the checks are tried.
+planted = {}
+
+
 def all_files():
     """The paths of all files, relative to the repository, in order."""
+    return tuple(planted) or own_files()
+
+
+@functools.lru_cache(maxsize=None)
+def own_files():
     found = []
     for folder, inner, names in os.walk(ROOT):
         inner[:] = sorted(name for name in inner if name not in LEFT_OUT)
@@ -27,8 +35,12 @@ def exists(path):
     return os.path.exists(os.path.join(ROOT, path))
 
 
-@functools.lru_cache(maxsize=None)
 def text(path):
+    return planted[path] if path in planted else own_text(path)
+
+
+@functools.lru_cache(maxsize=None)
+def own_text(path):
     with open(os.path.join(ROOT, path), encoding="utf-8", errors="replace") as file:
         return file.read()
 
