@@ -1,8 +1,6 @@
 """A fault of each kind, planted in files that stand in place of the repository's: a check that doesn't find its own is at fault."""
 
-import shutil
-
-from documents import tree
+from documents import spelling, tree
 
 # The name doesn't stand here in one piece, or it would be known.
 UNKNOWN = "_".join(("stands", "nowhere", "else"))
@@ -54,5 +52,5 @@ def faults(checks):
         found = "\n".join(fault for module in checks for fault in module.faults())
     finally:
         tree.planted.clear()
-    due = DUE + ((SPELLED,) if shutil.which("hunspell") else ())
+    due = DUE + ((SPELLED,) if spelling.has_dictionary() else ())
     return [f"bin/documents: a planted fault isn't found: {said}" for said in due if said not in found]

@@ -7,16 +7,16 @@ from documents import tree
 
 
 def is_script(path):
-    """Whether a file of `bin/` or `tools/` is one of them."""
+    """Whether a file is one of them, by its name."""
     name = os.path.basename(path)
     return name.endswith((".py", ".sh", ".c", ".bash")) or "." not in name
 
 
 def paths():
     """The scripts, and then their modules, folder by folder."""
-    found = [path for path in tree.files("", below="bin/") + tree.files("", below="tools/") if is_script(path)]
+    found = [path for path in tree.all_files() if path.startswith((".ci/", "bin/", "tools/", "share/package/")) and is_script(path)]
     found = [path for path in found if tree.text(path).startswith(("#!", '"""', "# ", "/*"))]
-    return sorted(found + [".ci/run"], key=lambda path: (path.startswith("bin/lib/"), os.path.dirname(path), path))
+    return sorted(found, key=lambda path: (path.startswith("bin/lib/"), os.path.dirname(path), path))
 
 
 def comment_at_head(lines):

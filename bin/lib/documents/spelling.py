@@ -1,5 +1,6 @@
 """Whether words are spelled right, by hunspell's American dictionary and the list words.txt, which has the words of the field."""
 
+import functools
 import os
 import re
 import shutil
@@ -9,6 +10,7 @@ import sys
 from documents import definitions, markdown, scripts, sources, tree
 
 LIST = "bin/lib/documents/words.txt"
+HUNSPELL = ("hunspell", "-d", "en_US", "-l")
 # What isn't prose: code, links, paths, options and what else has more than letters.
 CODE = re.compile(r"`[^`]*`|\]\([^)]*\)|https?:\S+|\\\(\w\w")
 WORD = re.compile(r"(?<![\w./:@#$%\\'=-])[A-Za-z][a-z]+(?:'[a-z]+)?(?![\w/@=\\(:]*[\w(/@=\\])")
@@ -54,23 +56,27 @@ def words_at():
     return found
 
 
+@functools.lru_cache(maxsize=None)
+def has_dictionary():
+    """Whether hunspell and its American dictionary are there."""
+    return bool(shutil.which("hunspell")) and subprocess.run([*HUNSPELL, os.devnull], capture_output=True, check=False).returncode == 0
+
+
+def unknown(words):
+    """The words that hunspell doesn't know, in their order."""
+    env = {**os.environ, "LC_ALL": "C.UTF-8"}
+    return subprocess.run(HUNSPELL, input="\n".join(words), capture_output=True, text=True, check=True, env=env).stdout.split()
+
+
 def faults():
     found = []
     listed = tree.lines(LIST)
     if listed != sorted(set(listed), key=str.lower):
         found.append(f"{LIST}: the words aren't sorted, or one stands there twice")
-    if not shutil.which("hunspell"):
+    if not has_dictionary():
         if not tree.planted:
-            print("documents: hunspell isn't there, so spelling is passed over", file=sys.stderr)
+            print("documents: hunspell or its dictionary isn't there, so spelling is passed over", file=sys.stderr)
         return found
     places = words_at()
-    run = subprocess.run(
-        ["hunspell", "-d", "en_US", "-l"],
-        input="\n".join(places),
-        capture_output=True,
-        text=True,
-        check=True,
-        env={**os.environ, "LC_ALL": "C.UTF-8"},
-    )
-    unknown = [word for word in dict.fromkeys(run.stdout.split()) if word not in listed and word.lower() not in listed]
-    return found + [f"{places.get(word, 'docs')}: {word} is in no dictionary" for word in unknown]
+    words = [word for word in dict.fromkeys(unknown(places)) if word not in listed and word.lower() not in listed]
+    return found + [f"{places.get(word, 'docs')}: {word} is in no dictionary" for word in words]
