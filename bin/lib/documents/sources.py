@@ -14,7 +14,7 @@ VARIANT = re.compile(r"^ {4}([A-Z]\w*)(?: *[({,]|$)")
 IMPL = re.compile(r"^impl(?:<[^>]*>)? (?:.* for )?([A-Za-z_]\w*)")
 # The text of an error says what its variant is.
 ERROR = re.compile(r'^#\[error\("')
-CLAUSES = ("ensures", "requires", "{", "ghost ")
+CLAUSES = ("ensures", "requires", "{", "ghost ", "//")
 
 
 def modules(crate):
@@ -50,7 +50,8 @@ def declared_at(lines, number):
         if text.endswith(("{", ";", "}")) or text.endswith(",") and not text.endswith("(,") and parts[0].endswith(","):
             break
     text = " ".join(parts).removesuffix("{").strip().rstrip(";,")
-    return re.sub(r",? \)", ")", text.replace("( ", "("))
+    text = re.sub(r",? \)", ")", text.replace("( ", "("))
+    return re.sub(r"= \[ .*", "= [..]", text)
 
 
 def item_of(line, within):
