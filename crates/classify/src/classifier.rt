@@ -202,7 +202,7 @@ impl Classifier {
     }
 
     /// The least place, at or after `from`, of a box that allows the point; there may be none. The point is as in
-    /// `at`. What a rule asks of several fields at once isn't asked: the place is that of a candidate. It takes no
+    /// `at`. What a rule tests on several fields at once isn't tested: the place is that of a candidate. It takes no
     /// memory, and costs what `at` and one `Candidates::next` do.
     pub fn next(&self, point: &[u128; FIELDS], from: usize) -> Option<usize>
         requires { IsPoint point.now }

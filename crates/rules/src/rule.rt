@@ -166,8 +166,8 @@ impl Rule {
         Rule { spec, asks_both }
     }
 
-    /// Whether a condition of the rule asks several fields at once, as `--ports` does. Where none does, `cross` holds
-    /// of every packet: the rule matches just the packets whose numbers it allows, field by field.
+    /// Whether a condition of the rule tests several fields at once, as `--ports` does. Where none does, `cross`
+    /// holds of every packet: the rule matches just the packets whose numbers it allows, field by field.
     pub fn asks_both(&self) -> bool
         ensures value { result ≡ asks_both self.now }
         ensures alone { result ≡ false → (numbers : List ℕ) → cross numbers self.now ≡ true }
@@ -209,7 +209,7 @@ impl Rule {
         })
     }
 
-    /// Whether the rules are equal: each asks and does the same, and they have one text.
+    /// Whether the rules are equal: they have the same conditions and the same target, and one text.
     #[tactic(auto, using(crate::proofs::laws::printing::RoundTripLaws::same_text))]
     pub fn equals(&self, other: &Rule) -> bool
         ensures value { IsTrue result ↔ (self.now ≡ other.now) }

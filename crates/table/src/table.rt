@@ -54,10 +54,10 @@ impl Model for Table {
 
 impl Table {
     /// The law of every table. It is sound: each rule reads back; each chain that a rule names is there and is a user
-    /// chain; no path of jumps and gotos comes back to where it began; no rule asks for an interface that packets of
-    /// its chain don't have; user chains are in the order of their names; and the limits hold. Each chain's
-    /// classifier is that of its rules. And the loop check answers that a chain leads to another just where a path of
-    /// jumps and gotos does. The call does nothing.
+    /// chain; no path of jumps and gotos comes back to where it began; no rule tests an interface that packets of its
+    /// chain don't have; user chains are in the order of their names; and the limits hold. Each chain's classifier is
+    /// that of its rules. And the loop check answers that a chain leads to another just where a path of jumps and
+    /// gotos does. The call does nothing.
     pub fn stands(&self)
         ensures sound { IsSound self.now.table }
         ensures classified { AreClassified self.now.table.chains self.now.classifiers }

@@ -83,9 +83,9 @@ fn reason_by(
 /// The packets that the rule's box has walk from each hook that leads to its chain as boxes, with `budget` steps, and
 /// each part of a leaf, by transport header, walks again, with `budget` steps each time (`leaves`).
 ///
-/// There is no answer only where, at a hook from whose chain jumps and gotos lead to the rule's chain, the rule asks
-/// both ports (`Rule::asks_both`), the steps don't suffice, a part that walks again doesn't come to one leaf, or a
-/// walk comes to the rule or is too long.
+/// There is no answer only where, at a hook from whose chain jumps and gotos lead to the rule's chain, the rule tests
+/// both ports at once (`Rule::asks_both`), the steps don't suffice, a part that walks again doesn't come to one leaf,
+/// or a walk comes to the rule or is too long.
 ///
 /// # Errors
 ///

@@ -98,7 +98,7 @@ fn begin(alloc: Global, table: &Table, hook: Hook, start: Area) -> Result<Front,
 /// the hook is in one of them and has the walk that it shows. There are none only where the whole budget was used up
 /// with a box left, or a trail was full, with 65,536 rules, before.
 ///
-/// A step of the budget is one rule asked of one box, or one chain at its end. It takes no memory where the rule
+/// A step of the budget is one rule tested on one box, or one chain at its end. It takes no memory where the rule
 /// matches none of the packets. Else it takes that of a copy of the box, of the rests that wait and of the trail for
 /// each field on which others are left out.
 ///

@@ -1,4 +1,4 @@
-//! What a rule asks of several fields at once, of all packets whose ports are in two sets.
+//! What a rule tests on several fields at once, for all packets whose ports are in two sets.
 ghost use Rattle.std.specs.Prelude.{◌≡◌, ℕ, List, Bool, true, false, not, Any, IfOk, IfSome, IsTrue};
 ghost use Rattle.std.specs.List.{list_all};
 ghost use Rattle.fields.specs.numbers.Field.{top};
@@ -17,7 +17,7 @@ use crate::rule::spec::Match;
 use fields::{PortList, Spans};
 use std::alloc::{AllocError, Global};
 
-/// What the conditions of a rule that ask several fields at once say of the packets whose ports are in two sets.
+/// What the conditions of a rule that test several fields at once say of the packets whose ports are in two sets.
 #[derive(Drop)]
 pub enum Crossing {
     /// They hold of each.
@@ -170,7 +170,7 @@ fn matches_say(
     Ok(Crossing::Holds)
 }
 
-/// What the conditions of a rule that ask several fields at once, each `--ports` of its matches, say of all packets
+/// What the conditions of a rule that test several fields at once, each `--ports` of its matches, say of all packets
 /// whose source port is in one set, and whose destination port is in another. Both are sets of ports, up to 65535.
 ///
 /// They hold of each such packet, or of none. Or the packets have to be parted first, by the ports that one of the
