@@ -39,10 +39,11 @@ def constant(name, path):
     return int(re.search(rf"const {name}: usize = (\d+);", tree.text(path))[1])
 
 
-# What is counted: a pattern that has a number, and the count, which is given what the pattern found.
+# What is counted: a pattern that has a number, and the count, or several of which the number may be any; it is given what the pattern found.
 COUNTED = (
     (rf"\b(?:all|the) {NUMBER} crates\b", lambda _: len(tree.crates())),
     (rf"{NUMBER} crates in all", lambda _: len(tree.crates())),
+    (r"\b(?P<n>\d\d) crates\b", lambda _: len(tree.crates())),
     (rf"`(?P<crate>\w+)`(?:'s| has) {NUMBER} functions", lambda found: functions(found["crate"])),
     (rf"{NUMBER} functions of `(?P<crate>\w+)`", lambda found: functions(found["crate"])),
     (rf"{NUMBER} public functions", lambda _: sum(functions(crate, PUBLIC) for crate in tree.crates())),
@@ -50,8 +51,8 @@ COUNTED = (
     (rf"`must-fail/?` has {NUMBER}\b", lambda _: edits("must-fail")),
     (rf"{NUMBER} (?:further )?edits (?:of|in) `further-edits/?`", lambda _: edits("further-edits")),
     (rf"`further-edits/?` has {NUMBER}\b", lambda _: edits("further-edits")),
-    (rf"{NUMBER} edits of both folders", lambda _: edits(r"[\w-]+")),
     (rf"edits of both folders,? {NUMBER}", lambda _: edits(r"[\w-]+")),
+    (rf"{ABOUT}(?P<n>\d[\d,]+) edits\b", lambda _: {edits("must-fail"), edits("further-edits"), edits(r"[\w-]+")}),
     (rf"{ABOUT}(?P<n>\d[\d,]{{2,}}) cases\b", lambda _: cases()),
     (rf"{NUMBER} files of cases", lambda _: len(tree.files(".cases"))),
     (r"at most (?P<n>[\d,]{4,}) words", lambda _: length.MOST),
@@ -90,7 +91,8 @@ def faults():
             for pattern, count in COUNTED:
                 for match in re.finditer(pattern, line, re.IGNORECASE):
                     groups = match.groupdict()
-                    stated, counted = number_of(groups["n"]), count(groups)
-                    if not agrees(groups.get("about"), stated, counted):
-                        found.append(f"{document}:{number}: {match[0]}: they are {counted}")
+                    counted = count(groups)
+                    counted = counted if isinstance(counted, set) else {counted}
+                    if not any(agrees(groups.get("about"), number_of(groups["n"]), each) for each in counted):
+                        found.append(f"{document}:{number}: {match[0]}: they are {' or '.join(map(str, sorted(counted)))}")
     return found
