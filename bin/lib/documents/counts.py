@@ -39,6 +39,7 @@ def constant(name, path):
     return int(re.search(rf"const {name}: usize = (\d+);", tree.text(path))[1])
 
 
+OPTIONS = "crates/rules/src/options/option.rt"
 # What is counted: a pattern that has a number, and the count, or several of which the number may be any; it is given what the pattern found.
 COUNTED = (
     (rf"\b(?:all|the) {NUMBER} crates\b", lambda _: len(tree.crates())),
@@ -57,7 +58,7 @@ COUNTED = (
     (rf"{NUMBER} files of cases", lambda _: len(tree.files(".cases"))),
     (r"at most (?P<n>[\d,]{4,}) words", lambda _: length.MOST),
     (rf"\b(?:the|all|each of the) {NUMBER} fields\b", lambda _: constant("FIELDS", "crates/fields/src/numbers/field.rt")),
-    (rf"\ball {NUMBER} options\b", lambda _: length_of_all("Opt", "crates/rules/src/options/option.rt")),
+    (rf"\ball {NUMBER} options\b", lambda _: length_of_all("Opt", OPTIONS)),
 )
 
 

@@ -6,7 +6,7 @@ import re
 from documents import tree
 
 QUOTED = re.compile(r"`([^`]+)`")
-LINK = re.compile(r"\[[^\]]*\]\(([^)\s]+)\)")
+LINK = re.compile(r"\]\(([^)\s]+)\)")
 LISTED = re.compile(r"^\s*(?:[-*]|\d+\.) ")
 
 

@@ -1,5 +1,5 @@
-"""Whether prose reads well, as far as a script sees it: no sentence of a document is too long, none has one of the phrases below, and no word stands twice
-in a row, in comments neither."""
+"""Whether prose reads well, as far as a script sees it: no sentence of a document is too long, none has one of the phrases below, and no word of
+documents or comments stands twice in a row."""
 
 import re
 
