@@ -1,4 +1,4 @@
-"""What bin/release makes: the version, the programs, the files of an installation, and the archive and the package of them."""
+"""What bin/release and bin/install make: the version, the programs, the files of an installation, and the archive and the package of them."""
 
 
 class Failure(Exception):

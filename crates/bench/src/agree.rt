@@ -9,7 +9,7 @@ use rules::Rule;
 use std::alloc::Global;
 use std::rt::Clock;
 
-/// Prints how often the answers are those that are due.
+/// Prints how often the answers are those that are expected.
 fn print_right(
     rt: &impl Print,
     workload: &Workload,

@@ -1,4 +1,4 @@
-//! Who is asked about packets: how often an answer is the one that is due, and how long it takes.
+//! Answers about packets: how often each is the expected one, and how long it takes.
 
 use crate::walk;
 use crate::workload::Workload;
@@ -49,7 +49,7 @@ pub(crate) enum Asked<'a> {
 }
 
 impl Asked<'_> {
-    /// Whether the answer is the one that is due.
+    /// Whether the answer is the one that is expected.
     fn is_right(self, question: &Question) -> bool {
         let packet = &question.packet;
         match self {

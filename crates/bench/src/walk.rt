@@ -19,8 +19,8 @@ pub(crate) fn first(boxes: &[Boxed], point: &[u128; FIELDS]) -> Option<usize> {
     boxes.iter().position(|boxed| allows(boxed, point))
 }
 
-/// What becomes of a packet by rules that accept or drop: the first decides whose box allows each number, and of which holds
-/// what it asks of both ports. What none decides is dropped.
+/// The verdict of a packet by rules that accept or drop: the first decides whose box allows each number and whose condition on
+/// both ports holds. Where none does, the packet is dropped.
 pub(crate) fn verdict(workload: &Workload, packet: &Packet) -> Verdict {
     for (boxed, rule) in workload.boxes.iter().zip(&workload.rules) {
         if allows(boxed, packet.numbers()) && cross(rule, packet) {

@@ -71,7 +71,7 @@ impl BitRow {
         self.len
     }
 
-    /// The bit at a place.
+    /// The bit at a place below `len`.
     pub fn get(&self, at: usize) -> bool
         requires { at < length self.now.bits }
         ensures { result ≡ slice_index_or self.now.bits at false }
@@ -113,7 +113,12 @@ impl BitRow {
         self.len += 1;
     }
 
-    /// Puts a bit in at a place: the later ones move up by one.
+    /// Puts a bit in at a place, at most `len`: the later ones move up by one.
+    ///
+    /// # Errors
+    ///
+    /// `AllocError` where memory was refused, never where there is room: the bits are as before, and no room is lost.
+    /// There is room where the number of bits is no multiple of 64, and after `remove`.
     pub fn insert(&mut self, at: usize, bit: bool) -> Result<(), AllocError>
         requires { at ≤ length self.old.bits }
         ensures ok { OnOk result (self.new.bits ≡ insert self.old.bits at bit) }
@@ -128,7 +133,7 @@ impl BitRow {
         Ok(())
     }
 
-    /// Takes the bit at a place out: the later ones move down by one. It leaves room for another bit.
+    /// Takes the bit at a place below `len` out: the later ones move down by one. It leaves room for another bit.
     pub fn remove(&mut self, at: usize)
         requires { at < length self.old.bits }
         ensures bits { self.new.bits ≡ remove self.old.bits at }

@@ -11,8 +11,10 @@ use crate::rows::{Rows, TWO_WORDS};
 use std::alloc::{AllocError, Global};
 use std::marker::Model;
 
-/// Rows of equally many bits, in an order, that have a margin: as many blank places, of which there may be none, before the
-/// first bit of each. A bit put in before all others takes one of them, and one taken out from there leaves one.
+/// Rows of equally many bits, in an order, with a margin: a number of blank places, perhaps none, before the first
+/// bit of each. A bit put in before all others takes one of them, and one taken out from there leaves one.
+///
+/// Rows and places count from 0, without the margin. A caller names only those that are there.
 #[derive(Drop)]
 pub struct MarginRows {
     rows: Rows,
@@ -80,7 +82,7 @@ impl MarginRows {
         self.rows.row(row)
     }
 
-    /// The summary of a row and its margin.
+    /// The summary of a row and its margin: it has the bit of each word in which these have a bit.
     pub fn summary(&self, row: usize) -> u64
         requires { row < length self.now.rows }
         ensures { IsSummaryOf result (after_margin self.now.room.before (slice_index_or self.now.rows row [])) }
@@ -109,7 +111,7 @@ impl MarginRows {
         self.rows.set(row, self.margin + at, bit);
     }
 
-    /// Writes a bit at a place of each row.
+    /// Writes a bit at a place of each row. There must be a row.
     pub fn set_all(&mut self, at: usize, bit: bool)
         requires some { 0 < length self.old.rows }
         requires place { All (λ row. at < length row) self.old.rows }
@@ -194,8 +196,9 @@ impl MarginRows {
         self.rows.remove(row);
     }
 
-    /// Puts a 0 into each row at a place. Before all other bits it takes a blank place, where there is one, and moves no
-    /// bit. Elsewhere the later bits move up by one, and there must be room after the last.
+    /// Puts a 0 into each row at a place. Before all other bits it takes a blank place, where there is one, and moves
+    /// no bit. Elsewhere the later bits move up by one, and there must be room after the last. There must be a row,
+    /// and room for a bit (`reserve`).
     pub fn insert_column(&mut self, at: usize)
         requires some { 0 < length self.old.rows }
         requires place { All (λ row. at ≤ length row) self.old.rows }
@@ -214,8 +217,8 @@ impl MarginRows {
         self.rows.insert_column(self.margin + at);
     }
 
-    /// Takes a bit out of each row at a place. The first leaves a blank place, and no bit moves. Of any other the later ones
-    /// move down by one.
+    /// Takes a bit out of each row at a place. The first leaves a blank place, and no bit moves. After any other the
+    /// later ones move down by one. There must be a row.
     pub fn remove_column(&mut self, at: usize)
         requires some { 0 < length self.old.rows }
         requires place { All (λ row. at < length row) self.old.rows }
@@ -233,7 +236,8 @@ impl MarginRows {
         self.rows.remove_column(self.margin + at);
     }
 
-    /// Makes two words of blank places before each row, of the room after its last bit: words move, and no bit within them.
+    /// Makes two words of blank places before each row, from the room after its last bit: words move, and no bit
+    /// within them. There must be a row, and that much room.
     pub fn open_margin(&mut self)
         requires some { 0 < length self.old.rows }
         requires room { self.old.room.before + two_words ≤ self.old.room.places }
@@ -246,8 +250,8 @@ impl MarginRows {
         self.margin += TWO_WORDS;
     }
 
-    /// Gives blank places before each row, where there are any, up for places after its last bit: those of two words, which
-    /// move whole, or where there are fewer one, for which all bits move.
+    /// Turns blank places before each row into room after its last bit, where there are any: two words of them, by
+    /// moving whole words, or, where there are fewer, one of them, by moving all bits. There must be a row.
     pub fn close_margin(&mut self)
         requires { 0 < length self.old.rows }
         ensures rows { self.new.rows ≡ self.old.rows }
@@ -274,13 +278,15 @@ impl MarginRows {
         self.rows.room()
     }
 
-    /// Takes the memory that one more bit in each row needs at a place: none where there is room after the rows, or two words
-    /// of blank places before them. Where there are fewer of these, and the bit isn't to be the first, more memory is taken
-    /// if it is there, so that no bit has to move.
+    /// Takes the memory that one more bit in each row needs at a place. It takes none where there is room after the
+    /// last bit, where there are two words of blank places, or where the bit is to be the first and there is a blank
+    /// place. Where there are fewer blank places and the bit isn't to be the first, it takes more memory if it gets
+    /// it, so that no bit has to move.
     ///
     /// # Errors
     ///
-    /// `AllocError` where memory was refused, never where there is room: the rows are as before.
+    /// `AllocError` where memory was refused, never where there is room after the last bit or before the first: the
+    /// rows are as before.
     pub fn reserve(&mut self, at: usize) -> Result<(), AllocError>
         ensures rows { self.new.rows ≡ self.old.rows }
         ensures more { self.old.room.places ≤ self.new.room.places }
@@ -301,7 +307,7 @@ impl MarginRows {
         Ok(())
     }
 
-    /// Leaves the first row alone, without a bit or a margin.
+    /// Leaves the first row alone, without a bit or a margin. There must be a row.
     pub fn clear(&mut self)
         requires { 0 < length self.old.rows }
         ensures rows { self.new.rows ≡ [] ∷ [] }

@@ -1,4 +1,5 @@
-//! Rows of equally many bits, packed 64 to a word, all in one vector of words.
+//! Rows of equally many bits, packed 64 to a word, all in one vector of words. Each row has a slot of its own, so
+//! that another row is one copy and moves none.
 
 ghost use Rattle.std.specs.Prelude.{◌≡◌, ◌≢◌, ◌<◌, ◌≤◌, ◌+◌, ◌-◌, ◌*◌, ◌^◌, [], ◌∷◌, length, map, insert, remove, slice_set, slice_index_or};
 ghost use Rattle.std.specs.Prelude.{false, true, take, drop, IfOk, OnOk, OnErr, IsOk, IsTrue, ◌↔◌, ◌%◌};
@@ -170,8 +171,10 @@ fn append_twice(words: &mut Vec<u64>, start: usize, width: usize) -> Result<(), 
     }
 }
 
-/// Rows of equally many bits, in an order: the bit at p is bit p mod 64 of the row's word p div 64. A row's slot is where
-/// its words are, and where its summary is.
+/// Rows of equally many bits, in an order: the bit at p is bit p mod 64 of the row's word p div 64. A row's slot is
+/// where its words are, and where its summary is.
+///
+/// Rows and places count from 0. A caller names only those that are there.
 #[derive(Drop)]
 pub struct Rows {
     len: usize,
@@ -246,7 +249,7 @@ impl Rows {
         part(&self.words, start, self.len.div_ceil(64))
     }
 
-    /// A row's summary.
+    /// A row's summary: it has the bit of each word in which the row has a bit.
     pub fn summary(&self, row: usize) -> u64
         requires { row < length self.now.rows }
         ensures { IsSummaryOf result (slice_index_or self.now.rows row []) }
@@ -280,7 +283,7 @@ impl Rows {
         self.summaries[slot] = marked(self.summaries[slot], at / 64, bit);
     }
 
-    /// Writes a bit at a place of each row: it goes from slot to slot.
+    /// Writes a bit at a place of each row, from slot to slot. There must be a row.
     pub fn set_all(&mut self, at: usize, bit: bool)
         requires some { 0 < length self.old.rows }
         requires place { All (λ row. at < length row) self.old.rows }
@@ -396,7 +399,8 @@ impl Rows {
         redirect(&mut self.slots, last as u32, slot);
     }
 
-    /// Puts a 0 into each row at a place, where there is room: the later bits move up by one.
+    /// Puts a 0 into each row at a place: the later bits move up by one. There must be a row, and room for a bit
+    /// (`reserve`).
     pub fn insert_column(&mut self, at: usize)
         requires some { 0 < length self.old.rows }
         requires place { All (λ row. at ≤ length row) self.old.rows }
@@ -418,7 +422,8 @@ impl Rows {
         self.len += 1;
     }
 
-    /// Takes a bit out of each row at a place: the later ones move down by one.
+    /// Takes a bit out of each row at a place: the later ones move down by one. There must be a row. It leaves room
+    /// for another bit.
     pub fn remove_column(&mut self, at: usize)
         requires some { 0 < length self.old.rows }
         requires place { All (λ row. at < length row) self.old.rows }
@@ -434,7 +439,8 @@ impl Rows {
         self.len -= 1;
     }
 
-    /// Puts two words of 0s in before the bits of each row, where there is room: words move, and no bit within them.
+    /// Puts two words of 0s in before the bits of each row: words move, and no bit within them. There must be room
+    /// for that many bits.
     pub fn insert_words(&mut self)
         requires { two_words ≤ self.old.room }
         ensures rows { self.new.rows ≡ map (λ row. replicate two_words false ++ row) self.old.rows }
@@ -449,7 +455,8 @@ impl Rows {
         self.len += TWO_WORDS;
     }
 
-    /// Takes the bits of the first two words out of each row: words move, and no bit within them.
+    /// Takes the first two words of bits out of each row: words move, and no bit within them. There must be a row,
+    /// and each must have that many bits.
     pub fn remove_words(&mut self)
         requires some { 0 < length self.old.rows }
         requires long { All (λ row. two_words ≤ length row) self.old.rows }
@@ -472,7 +479,8 @@ impl Rows {
         64 * self.width - self.len
     }
 
-    /// Takes the memory that one more bit in each row needs: all rows move where there is no room.
+    /// Takes the memory that one more bit in each row needs. Where there is no room, all rows move, and then have
+    /// room for at least as many more bits as each has.
     ///
     /// # Errors
     ///
@@ -500,7 +508,7 @@ impl Rows {
         Ok(())
     }
 
-    /// Leaves the first row alone, without a bit.
+    /// Leaves the first row alone, without a bit, and its room. There must be a row.
     pub fn clear(&mut self)
         requires { 0 < length self.old.rows }
         ensures rows { self.new.rows ≡ [] ∷ [] }

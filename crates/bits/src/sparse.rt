@@ -1,4 +1,4 @@
-//! Bits moved within the words that a summary has: words without a bit are passed over.
+//! Bits moved into or out of the words that a summary has: words without a bit are passed over.
 
 ghost use Rattle.std.specs.Prelude.{◌≡◌, ◌≢◌, ◌<◌, ◌≤◌, ◌*◌, ◌/◌, ◌%◌, ◌^◌, ◌↔◌, length, true, slice_index, IsTrue};
 ghost use Rattle.bits.specs.steps.First.{Nowhere};

@@ -1,10 +1,11 @@
-//! Summaries of words: 64 bits that say which pairs of words have none, so that a search passes over them.
+//! Summaries of rows: 64 bits that say which words have no bit, so that a search or an edit passes over them. The two
+//! words of a pair share a bit of the summary, and so do pairs that are 64 apart.
 
 ghost use Rattle.std.specs.Prelude.{ℕ, ◌≡◌, ◌<◌, ◌≤◌, ◌^◌, ◌+◌, ◌%◌, true, IfSome, IsTrue, ◌↔◌};
 ghost use Rattle.bits.specs.steps.First.{Nowhere, FromOn};
 ghost use Rattle.bits.specs.steps.Summaries.{HasPair, IsMarked};
 
-/// Whether a summary has the bit of a word: else no bit is in the word.
+/// Whether a summary has the bit of a word. Where it hasn't, no bit is in the word.
 pub fn is_marked(summary: u64, word: usize) -> bool
     ensures { IsTrue result ↔ IsMarked summary word }
 {
@@ -51,7 +52,8 @@ fn next_pair(summary: u64, pair: usize) -> Option<usize>
     None
 }
 
-/// The next of so many words, from one on, that a summary has, or their count where it has none of them.
+/// The first word from `start` on, among `words` of them, whose bit the summary has, or `words` where there is none.
+/// There are fewer than 2 to the 58 words, and `start` is at most their number.
 pub fn next_marked(summary: u64, start: usize, words: usize) -> usize
     requires few { words < 2 ^ 58 }
     requires within { start ≤ words }

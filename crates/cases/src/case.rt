@@ -19,7 +19,7 @@ pub(crate) enum Call {
     Restore(Mode),
 }
 
-/// One call of a session: its input, and the output and the status that are due.
+/// One call of a session: its input, and the output and the status that are expected.
 #[derive(Drop)]
 pub(crate) struct Run {
     pub(crate) call: Call,

@@ -1,5 +1,5 @@
-//! The program `cases`: sessions and restores that are given as text, with the output and the status that are due. Each file
-//! of its folder has the cases of a theme (`docs/CASES.md`). It prints each case that comes out otherwise, and how many of
+//! The program `cases`: sessions and restores that are given as text, with the output and the status that are expected. Each
+//! file of its folder has the cases of a theme (`docs/CASES.md`). It prints each case that comes out otherwise, and how many of
 //! each file came out as they are written.
 #![tactic(auto)]
 

@@ -49,7 +49,7 @@ pub(crate) fn tell_misread(rt: &impl Print, file: &str, misread: Misread) -> io:
     println!(rt; "{file}:{line}: {fault}")
 }
 
-/// Prints a case that came out otherwise: both outputs, from the first line on that is another, and both statuses.
+/// Prints a case that came out otherwise: both outputs, from the first different line on, and both statuses.
 pub(crate) fn tell_other(
     rt: &impl Print,
     alloc: Global,

@@ -1,4 +1,4 @@
-//! The classifier: the lines of all fields.
+//! The classifier: the lines of all fields, and the edits of the list of boxes.
 
 ghost use Rattle.std.specs.Prelude.{◌≡◌, ◌≢◌, ◌≤◌, ◌+◌, ◌%◌, OnOk, OnErr, IsOk, IfOk, List, [], ◌<◌, map, insert, remove};
 ghost use Rattle.std.specs.Prelude.{slice_set};
@@ -25,20 +25,21 @@ pub(crate) mod lines;
 pub(crate) mod of_rules;
 pub(crate) mod point;
 
-/// The classifier of a list of boxes: on each field the line of their answers, and no more.
+/// The classifier of a list of boxes: on each field the line of their answers, and no more. A line is cut exactly
+/// where some box's answer changes, and the row of each piece between two cuts is their answers. Places count from 0.
 ///
-/// Places count from 0. A box put in at the end costs the pieces that it allows. So does one put in at the front: it takes one
-/// of the blank places that stand before the rows, of which one taken out at the front leaves one. Where there is none, those
-/// of two words are made at once, by one move of all words. One put in elsewhere moves the words of all rows from its place
-/// on, but passes over words that allow nothing. Where a line has no room after its rows and blank places stand before them,
-/// those of two words are given up first, by one move of all words; where there are fewer, twice the room is taken, or where
-/// that memory is refused all rows move by one bit.
+/// A box put in at the end costs the pieces that it allows. So does one put in at the front: it takes one of the
+/// blank places that stand before the rows. A box taken out at the front leaves one. Where there is none, a box put
+/// in at the front makes two words of them, by one move of all words. A box put in elsewhere moves the words of all
+/// rows from its place on, but passes over words that allow nothing. Where a line then has no room after its rows, it
+/// turns two words of blank places into room, by one move of all words; with fewer it takes twice the room, or, where
+/// that memory is refused, moves all rows by one bit.
 ///
-/// The rows of a line have one room, which doubles: then its rows are copied. A replacement looks at each piece of each line.
-/// A removal asks one bit of each piece, and compares two rows where that bit changes; at the front it writes a 0 into each
-/// row, and elsewhere it moves words as an insert does. A cut is made or goes only where the box's own answers change; it
-/// moves the starts after it on that line, and copies one row. Both cuts of an interval that lies within one piece move them
-/// once.
+/// The rows of a line have one room, which doubles: then its rows are copied. A replacement looks at each piece of
+/// each line. A removal asks one bit of each piece, and compares two rows where that bit changes; at the front it
+/// writes a 0 into each row, and elsewhere it moves words as an insert does. A cut is made or goes only where the
+/// box's own answers change; it moves the starts after it on that line, and copies one row. Both cuts of an interval
+/// that lies within one piece move them once.
 #[derive(Drop)]
 pub struct Classifier {
     len: usize,
@@ -111,14 +112,14 @@ impl Classifier {
         Line::of(line)
     }
 
-    /// Puts a box in at a place among the boxes. It takes the box, also where memory is refused. A box that
-    /// brings no new cut uses the room of one box.
+    /// Puts a box in at a place, at most `len`: the later ones move up by one. It takes the box, also where memory is
+    /// refused. A box that brings no new cut uses the room of one box.
     ///
     /// # Errors
     ///
-    /// `AllocError` where memory was refused: the boxes are as before, and no room is lost. It succeeds where
-    /// there is room and the box brings no new cut. There is room where the number of boxes is no multiple of
-    /// 64, and after `remove`.
+    /// `AllocError` where memory was refused: the boxes are as before, and no room is lost. It succeeds where there
+    /// is room and the box brings no new cut. There is room where the number of boxes is no multiple of 64, and after
+    /// `remove`.
     pub fn insert(&mut self, at: usize, boxed: Boxed) -> Result<(), AllocError>
         requires { at ≤ self.old.shown.len }
         ensures boxes { OnOk result (EditsBoxes (λ boxes. insert boxes at boxed) self.old.shown self.new.shown) }
@@ -138,13 +139,13 @@ impl Classifier {
         Ok(())
     }
 
-    /// Puts a box in the place of another. It takes the box, also where memory is refused. A box that brings
-    /// no new cut uses no room.
+    /// Puts a box in the place, below `len`, of another. It takes the box, also where memory is refused. A box that
+    /// brings no new cut uses no room.
     ///
     /// # Errors
     ///
-    /// `AllocError` where memory was refused: the boxes are as before, and no room is lost. It succeeds where
-    /// the box brings no new cut.
+    /// `AllocError` where memory was refused: the boxes are as before, and no room is lost. It succeeds where the box
+    /// brings no new cut.
     pub fn replace(&mut self, at: usize, boxed: Boxed) -> Result<(), AllocError>
         requires { at < self.old.shown.len }
         ensures boxes { OnOk result (EditsBoxes (λ boxes. slice_set boxes at boxed) self.old.shown self.new.shown) }
@@ -159,7 +160,8 @@ impl Classifier {
         Ok(())
     }
 
-    /// Takes a box out: the later ones move down by one. It takes no memory, and leaves room for one more box.
+    /// Takes the box at a place, below `len`, out: the later ones move down by one. It takes no memory, and leaves
+    /// room for one more box.
     pub fn remove(&mut self, at: usize)
         requires { at < self.old.shown.len }
         ensures boxes { EditsBoxes (λ boxes. remove boxes at) self.old.shown self.new.shown }
@@ -180,7 +182,8 @@ impl Classifier {
         self.len = 0;
     }
 
-    /// Which boxes allow the point. The point has a number for each field, in the order of `Field::ALL`.
+    /// Which boxes allow a point, as a list of bits, one a box. The point has a number for each field, in the order
+    /// of `Field::ALL`, each at most the field's top.
     ///
     /// It takes no memory and copies no row. It costs a search for a place on each line.
     pub fn at(&self, point: &[u128; FIELDS]) -> Candidates<'_>
@@ -198,8 +201,9 @@ impl Classifier {
         Candidates::of(margin, self.len, words, summary)
     }
 
-    /// The least place, at or after `from`, of a box that allows the point; there may be none. It takes no memory, and
-    /// costs what `at` and one `Candidates::next` do.
+    /// The least place, at or after `from`, of a box that allows the point; there may be none. The point is as in
+    /// `at`. What a rule tests on several fields at once isn't tested: the place is that of a candidate. It takes no
+    /// memory, and costs what `at` and one `Candidates::next` do.
     pub fn next(&self, point: &[u128; FIELDS], from: usize) -> Option<usize>
         requires { IsPoint point.now }
         ensures boxes { (boxes : List (List SpanSet)) → IsClassifierOf boxes self.now.shown

@@ -1,4 +1,5 @@
-//! The search for the first place that every row has: rows and-ed word by word.
+//! The search for the first place that every row has: rows and-ed four words at a time, where their summaries leave a
+//! word.
 
 ghost use Rattle.std.specs.Prelude.{IsTrue, ◌<◌, ◌≤◌, ◌+◌, ◌-◌, ◌*◌, ◌/◌, ◌^◌, ℕ};
 ghost use Rattle.bits.specs.steps.First.{Nowhere, IsFirst};

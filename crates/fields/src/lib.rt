@@ -1,6 +1,6 @@
-//! What the layers above share: the words of a line, the values of packets and rules with their
-//! readers and texts, sets of numbers, readers and writers that remember a failure, and some over memory that fail
-//! where a test wants it.
+//! What the crates above share: the words of a line, the values of packets and rules with their readers and texts,
+//! sets of numbers, readers and writers that remember a failure, and readers and writers over memory that fail where
+//! a test wants it.
 #![tactic(auto)]
 
 mod devices;

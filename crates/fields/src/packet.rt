@@ -1,4 +1,4 @@
-//! Packets, and the words of a packet line.
+//! Packets, and the reader of a packet line.
 ghost use Rattle.std.specs.Prelude.{◌≡◌, ◌<◌, ◌≤◌, [], map, length, drop, IfOk};
 ghost use Rattle.std.specs.List.{list_any};
 ghost use Rattle.fields.specs.declared.numbers.field.Field.{Field};
@@ -146,10 +146,15 @@ impl Packet {
         Packet::of_given(hook, &given)
     }
 
-    /// The packet that the words from a place on write: the hook, and then `key=value` in any order. The fault is that
-    /// of the leftmost word at fault, else F4, else F2. Takes no memory. Each word is cut, its key looked up and its
-    /// value read once. A word that repeats a key ends the reading, so it takes at most one word more than there are
-    /// fields.
+    /// The packet that the words from a place on write: the hook, and then `key=value` in any order. It takes no
+    /// memory.
+    ///
+    /// Each word is cut, its key looked up and its value read once. A word that repeats a key ends the reading, so it
+    /// takes at most one word more than there are fields.
+    ///
+    /// # Errors
+    ///
+    /// The fault of the leftmost word at fault (F1 or F3), else F4, else F2.
     pub fn read(words: &Words, from: usize) -> Result<Packet, PacketFault>
         ensures value { result ≡ packet_of (drop from words.now) }
         ensures valid { IfOk result (λ p. IsPacket p) }

@@ -1,4 +1,5 @@
-//! The answers: the files of a question are restored, it is asked, and what is found is written.
+//! The answers: the files of a question are restored, it is asked, and what is found is written, as lines or as a
+//! document.
 use crate::asked_packets::Asked;
 use crate::asking::Asking;
 use crate::assumptions::Repeating;
@@ -116,7 +117,7 @@ fn write_differences<'a, R: Clock, E: Print + IsTerminal, W: Write>(
     Ok(likeness_status(found.as_slice()))
 }
 
-// Asks what becomes of some packets, and answers the status: 3 where it isn't known, else 0.
+// Asks for the verdicts of a set of packets, and answers the status: 3 where they aren't known, else 0.
 fn write_outcomes<'a, R: Clock, E: Print + IsTerminal, W: Write>(
     asking: &mut Asking<'_, R, E>,
     subject: &BoxedTable,

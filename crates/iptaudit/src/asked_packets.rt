@@ -1,4 +1,4 @@
-//! The packets of a question about some packets, and the field that their numbers are told by.
+//! The packets that the words of `reach` give in part, and the field by which their numbers are grouped.
 ghost use Rattle.std.specs.Prelude.{◌≡◌};
 
 use crate::fault::Fault;
@@ -159,7 +159,8 @@ impl Asked {
     /// # Errors
     ///
     /// `NoHook`, `BadWord` and `NoField` by the first word at fault, or where `by=FIELD` is missing; `NotCarried` for the first
-    /// word whose key no packet carries that the words before it, and the values of all others, allow; or where memory was refused.
+    /// word whose key is carried by no packet that the words before it, and the values of all others, allow; or where memory was
+    /// refused.
     pub(crate) fn read<'a>(alloc: Global, words: &[&'a str]) -> Result<Asked, Fault<'a>> {
         let Some((first, words)) = words.split_first() else {
             return Err(Fault::NoField);

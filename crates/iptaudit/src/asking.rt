@@ -1,4 +1,4 @@
-//! The questions that are asked of tables, what they may take, and how far they are.
+//! The questions that are asked of tables, how many steps they may take, and how far they are.
 ghost use Rattle.std.specs.Prelude.{◌≡◌, ◌<◌, ◌≤◌, All, IfOk, IfSome, length};
 ghost use Rattle.fields.specs.numbers.Field.{top};
 ghost use Rattle.table.specs.chains.Table.{chain_at};
@@ -99,7 +99,7 @@ impl<'a, R: Clock, E: Print + IsTerminal> Asking<'a, R, E> {
         compare_at(self.alloc, old, new, hook, self.steps)
     }
 
-    /// What becomes of some packets, by their numbers on a field (`reach`).
+    /// The verdicts of a set of packets, grouped by a field (`reach`).
     ///
     /// # Errors
     ///

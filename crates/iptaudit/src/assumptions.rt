@@ -1,4 +1,5 @@
-//! The lines of a file that say what was assumed when it was made to load.
+//! A reader that repeats the lines `# iptsim-fit: ..` of a file on standard error as they go by: they say what was
+//! assumed when the file was made to load.
 use fields::Tap;
 use std::io::{Read, Result, Write};
 

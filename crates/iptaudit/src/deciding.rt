@@ -1,4 +1,4 @@
-//! What the rules and policies do that decide.
+//! What the rules and policies do that decide, and so whether a dead rule is redundant or shadowed.
 use fields::Hook;
 use questions::Takers;
 use rules::{Rule, Target};

@@ -1,4 +1,5 @@
-//! What `--json` writes: an answer as one JSON document. A key that doesn't apply is left out.
+//! What `--json` writes: an answer as one JSON document, by the schema `docs/schemas/iptaudit.json`. A key that
+//! doesn't apply is left out.
 use crate::deciding::Standing;
 use crate::fault::Fault;
 use fields::Tap;
@@ -29,7 +30,7 @@ pub(crate) enum Answer {
         field: String,
         outcomes: Vec<OutcomeEntry>,
     },
-    /// What becomes of the packets isn't known.
+    /// The verdicts of the packets aren't known.
     #[serde(rename = "reach")]
     UnclearReach {
         field: String,

@@ -1,4 +1,4 @@
-//! What is known of each rule, in the order of a listing.
+//! What is known of each rule, in the order of a listing: dead ones, a packet for each, those that no packet covers.
 ghost use Rattle.std.specs.Prelude.{◌<◌, ◌≤◌, length};
 ghost use Rattle.table.specs.chains.Table.{chain_at};
 

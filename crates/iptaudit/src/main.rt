@@ -37,17 +37,17 @@ use std::process::ExitCode;
 /// packet there the same verdict, and where they don't, a packet with its walk in each. `tests` prints a session: for each
 /// rule a comment that names it, and a packet that it matches. `cover` reads packets from standard input, as lines of a
 /// session, and prints of each rule that matches none of them whether there is a packet that it matches, and which; and then
-/// how many rules there were of each kind. `reach` prints what becomes of some packets: of each verdict and what decides, the
-/// numbers of their packets on a field. With `--json` an answer is one JSON document.
+/// how many rules there were of each kind. `reach` prints the verdicts of a set of packets: for each verdict and decider, the
+/// numbers that its packets have on a field. With `--json` an answer is one JSON document.
 ///
 /// Answers go to standard output. A line `# iptsim-fit: ..` of a file goes to standard error as it stands, when it is read. A
 /// fault in a file or in a packet goes there, as `line N: CODE text`, and so does each message of the program itself. Where
-/// standard error is a terminal, it is told once a second how many questions are asked so far: one for each rule, or for each
+/// standard error is a terminal, it shows once a second how many questions were asked so far: one for each rule, or for each
 /// built-in chain.
 ///
 /// | Status | Cause |
 /// |---|---|
-/// | 0 | no rule is dead; the rulesets are alike; each rule that can match does match a packet of standard input; what becomes of some packets is known; the version was printed |
+/// | 0 | no rule is dead; the rulesets are alike; each rule that can match does match a packet of standard input; the verdicts of a set of packets are known; the version was printed |
 /// | 1 | a rule is dead; a packet gets two verdicts; a rule that can match a packet matches none of standard input |
 /// | 2 | a file cannot be opened, read or restored; standard input fails, or a line of it is no packet; output failed; the words are refused, ask for help or name no subcommand |
 /// | 3 | nothing of this was found, and something isn't known |

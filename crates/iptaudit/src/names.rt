@@ -6,7 +6,7 @@ use fields::Hook;
 use std::alloc::{AllocError, Global};
 use table::{Step, Table, Verdict};
 
-/// A rule by its chain and its number there, and what it does, where that is told.
+/// A rule by its chain and its number there, and what it does, where that is known.
 ///
 /// # Errors
 ///

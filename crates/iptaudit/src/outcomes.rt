@@ -1,4 +1,4 @@
-//! What becomes of some packets, by their numbers on a field.
+//! What is written of the verdicts of a set of packets, grouped by a field.
 ghost use Rattle.std.specs.Prelude.{◌≡◌, All};
 ghost use Rattle.fields.specs.numbers.Field.{top};
 
@@ -43,7 +43,7 @@ fn put_decider<W: Write>(
     }
 }
 
-/// Writes what becomes of some packets, a line for each verdict with what decides, and the numbers of its packets on the field:
+/// Writes the verdicts of a set of packets, a line for each verdict and decider, with the numbers of its packets on the field:
 /// `ACCEPT by INPUT 3: 22, 80`.
 ///
 /// # Errors
@@ -68,7 +68,7 @@ pub(crate) fn put_outcomes<'a, W: Write>(
     Ok(())
 }
 
-/// What becomes of some packets, as a document.
+/// The verdicts of a set of packets, as a document.
 ///
 /// # Errors
 ///
@@ -96,7 +96,7 @@ pub(crate) fn outcomes_answer(
     })
 }
 
-/// That it isn't known what becomes of them, as a document.
+/// That the verdicts aren't known, as a document.
 ///
 /// # Errors
 ///

@@ -1,4 +1,4 @@
-//! Packets that stand on the lines of an input.
+//! Packets on the lines of an input. A line is refused with the codes and texts of a session.
 ghost use Rattle.std.specs.Prelude.{◌≤◌, vec_capacity};
 
 use crate::fault::Fault;
@@ -116,7 +116,7 @@ fn take_line<E: Print>(
 }
 
 /// Marks the rules on the walks of the packets on the lines of an input, to its end. Blank lines and comments may stand
-/// between them. Tells whether nothing else does; each other line is a fault, `line N: CODE text`, which goes to `errors`.
+/// between them. Answers whether nothing else does; each other line is a fault, `line N: CODE text`, which goes to `errors`.
 ///
 /// # Errors
 ///

@@ -1,4 +1,4 @@
-//! How many rules there are of each kind.
+//! How many rules there are of each kind, and the statuses.
 use crate::deciding::Standing;
 use crate::document::Counts;
 use crate::each_rule::Known;

@@ -1,4 +1,4 @@
-//! Interfaces, by their names or their numbers.
+//! Interfaces as text: `none`, a name, a beginning of names with `+`, or two numbers of 32 hexadecimal digits.
 ghost use Rattle.std.specs.Prelude.{◌≡◌, ◌<◌, ◌≤◌, nat_lt, length, slice_index, Some, IfSome};
 ghost use Rattle.fields.specs.values.Interface.{interface_of, filled, bytes_value, is_open, interface_interval};
 ghost use Rattle.notation.specs.Range.{between, ends_at, digit_of, digits_from, hexadecimal_of, interfaces_in};

@@ -1,4 +1,4 @@
-//! How numbers on a field are written, and read back.
+//! Numbers on a field as text: single numbers and sets, as they are written and read back.
 #![tactic(auto)]
 
 mod interfaces;

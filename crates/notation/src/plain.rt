@@ -1,4 +1,5 @@
-//! The plain text of an interval, which always reads back as its numbers.
+//! The plain text of an interval, which always reads back as its numbers: both ends with a mark between them, or one
+//! number.
 ghost use Rattle.std.specs.Prelude.{◌≡◌, ◌≤◌, ◌<◌, ◌++◌, flat_map, OnOk, IfOk};
 ghost use Rattle.fields.specs.numbers.Field.{top};
 ghost use Rattle.notation.specs.Plain.{IsPart, digit_byte, digits_of, end_text, has_ranges, hexadecimal_text, mark_of};

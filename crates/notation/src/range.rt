@@ -1,4 +1,4 @@
-//! The numbers that a text stands for on a field.
+//! The first and the last number that a text stands for on a field: a row a field.
 ghost use Rattle.std.specs.Prelude.{◌≡◌};
 ghost use Rattle.fields.specs.values.ConnectionState.{packet_state_of};
 ghost use Rattle.fields.specs.values.TcpFlags.{tcp_flags_of};
@@ -23,7 +23,11 @@ fn states(text: &[u8]) -> Option<(u128, u128)>
     Some((state.into(), state.into()))
 }
 
-/// The first and the last number that a text stands for on a field. It takes no memory.
+/// The first and the last number that a text stands for on a field; none where it stands for nothing there. It takes
+/// no memory.
+///
+/// A text is one number as a packet line has it, or, of addresses, ports, numbers, interfaces and ICMP types, several
+/// of them, as `10.0.0.0/8`, `1024:65535` or `eth+`. The definition `Range` has the forms of each field.
 pub fn read_range(field: Field, text: &[u8]) -> Option<(u128, u128)>
     ensures { result ≡ range_in field text.now }
 {

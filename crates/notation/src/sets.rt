@@ -1,4 +1,4 @@
-//! Sets of numbers on a field.
+//! The text of a set of numbers on a field.
 ghost use Rattle.std.specs.Prelude.{◌≡◌, ◌≢◌, ◌≤◌, ◌==◌, ◌++◌, ◌∷◌, [], ◌||◌, not, codes, ℕ, List, All, true, IfOk};
 ghost use Rattle.std.specs.List.{list_all};
 ghost use Rattle.std.specs.Str.{bytes_eq};
@@ -135,7 +135,12 @@ fn parts_of(alloc: Global, field: Field, set: &Spans) -> Result<Vec<Interval>, A
     Ok(parts)
 }
 
-/// The text of a set's numbers on a field: `all`, a list, or `not` and the list of the others, whichever is shorter.
+/// The text of a set's numbers on a field: `all`; a list, whose texts stand for just the set's numbers; or `not` and
+/// a list, whose texts stand for just the others. A comma and a blank stand between two texts of a list. Each of them
+/// is read by `read_range`, has no blank and isn't `all`, so the text falls into its parts in one way. The set's top
+/// is the field's.
+///
+/// It writes the list with fewer texts. The contract leaves open which of them is written.
 ///
 /// # Errors
 ///

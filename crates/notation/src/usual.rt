@@ -1,5 +1,5 @@
-//! The text of some numbers as a user would write them, where that is one number, or shorter than the first and the
-//! last. Whether it reads back as them is tried by whoever asks for it.
+//! A text as a user would write it, of one number, or where that is shorter than the first and the last number. No
+//! contract says that it reads back: the caller reads it, and takes the plain text where it stands for other numbers.
 ghost use Rattle.std.specs.Prelude.{◌≤◌};
 ghost use Rattle.fields.specs.numbers.Field.{icmp_top, top};
 

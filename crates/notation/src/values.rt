@@ -118,7 +118,9 @@ fn state_name(number: usize) -> &'static [u8]
     rows()[number].0
 }
 
-/// Writes the text of a number on a field, as a packet line has it.
+/// Writes the text of a number on a field, at most the field's top, after what the line has. A packet line reads that
+/// text as the number, and it needs no quotes there, wherever the number has a text: of interfaces the numbers of
+/// names have one, of other fields all have.
 ///
 /// # Errors
 ///

@@ -1,4 +1,4 @@
-//! What is asked of all packets.
+//! The questions about all packets, and their answers.
 pub(crate) mod equal;
 pub(crate) mod exact;
 pub(crate) mod laws;

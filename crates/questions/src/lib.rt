@@ -1,5 +1,6 @@
-//! Questions about all packets: whether a rule can match at all, and whether two rulesets treat every packet alike. A
-//! box of packets walks the table as a whole, and is cut where a rule matches some of its packets.
+//! Questions about all packets: whether a rule can match at all, and why not; whether two rulesets treat every packet
+//! alike; and the verdicts of a set of packets. A box of packets walks the table as a whole, and is cut where a rule
+//! matches some of its packets.
 #![tactic(auto)]
 
 mod asked;

@@ -1,4 +1,4 @@
-//! Packets of a box, as the words that write them.
+//! A packet of a box, with the words that write it.
 pub(crate) mod choice;
 mod interface;
 pub(crate) mod line;

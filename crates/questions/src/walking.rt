@@ -1,4 +1,4 @@
-//! The walk of whole boxes.
+//! The walk of whole boxes through a table.
 pub(crate) mod engine;
 pub(crate) mod front;
 pub(crate) mod task;

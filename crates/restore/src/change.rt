@@ -6,14 +6,14 @@ use crate::command::Command;
 use rules::Work;
 use table::{Table, TableFault};
 
-/// Does a command's edit to a table: any command but `-S`, which is the caller's condition.
+/// Does a command's edit to a table: any command but `-S`, which edits nothing.
 ///
 /// It costs what the call of the table costs, and makes one box at most.
 ///
 /// # Errors
 ///
-/// The first refusal of the table (iptables(8), "COMMANDS"), and last `TableFault::NoMemory` where memory was refused,
-/// which `-A`, `-I`, `-R` and `-N` alone may answer: the table is unchanged.
+/// The first refusal of the table (iptables(8), "COMMANDS"), and last `TableFault::NoMemory` where memory was
+/// refused, which `-A`, `-I`, `-R` and `-N` alone may answer: the table is unchanged.
 pub fn apply(table: &mut Table, command: Command, work: &mut Work) -> Result<(), TableFault>
     requires { IsChange (meaning command) }
     ensures step { IsApplied (meaning command.entry) table.old table.new result }

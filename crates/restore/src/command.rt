@@ -1,4 +1,4 @@
-//! Commands.
+//! Commands, and their reader.
 ghost use Rattle.std.specs.Prelude.{length, drop, map};
 ghost use Rattle.restore.specs.Sequence.{made_into, refused_as};
 ghost use Rattle.restore.specs.commands.Command.{Change, IsRead};
@@ -33,7 +33,7 @@ pub enum Command<'a> {
     DeleteAt(&'a [u8], usize),
     /// `-D chain rule`: takes the first such rule out.
     DeleteRule(&'a [u8], Rule),
-    /// `-C chain rule`: asks whether such a rule is there.
+    /// `-C chain rule`: checks whether such a rule is there.
     Check(&'a [u8], Rule),
     /// `-F chain`: empties the chain.
     Flush(&'a [u8]),
@@ -78,11 +78,13 @@ impl<'a> Command<'a> {
     ///
     /// # Errors
     ///
-    /// `CommandFault::NoCommand`, C1, where no word is left for the command, or the word there names none;
-    /// `TwoCommands`, C2, where the rule's reader comes on a word that it doesn't know and that names a command;
-    /// `WordCount`, C3, for too few words before the rule, or words after a command that takes no rule; `OtherTable`,
-    /// C4, for another table than `filter`; and `Rule` with the first fault of the rule, or of a value before it: a
-    /// table without a name or named twice, or a number that can't be read. P0 is answered where memory was refused.
+    /// The first fault in the order of the checks. `CommandFault::NoCommand`, C1, where no word is left for the
+    /// command, or the word there names none; `TwoCommands`, C2, where the rule's reader comes on a word that it
+    /// doesn't know and that names a command; `WordCount`, C3, for too few words before the rule, or words after a
+    /// command that takes no rule; `OtherTable`, C4, for another table than `filter`; and `Rule` with the first fault
+    /// of the rule, or of a value before it: a table without a name or named twice, or a number that can't be read.
+    /// P0 is answered where memory was refused, never of words that write a command without a rule, nor where C1, C3
+    /// or C4 is due.
     pub fn read(alloc: Global, words: &'a Words, from: usize) -> Result<Command<'a>, CommandFault>
         ensures { IsRead result (command_of (length words.now) (drop from words.now)) }
     {

@@ -1,4 +1,4 @@
-//! Why words are no command, and why a restore is refused.
+//! Faults of commands and restores, with their codes and texts. Those of rules and tables are within them.
 ghost use Rattle.std.specs.Prelude.{◌≡◌};
 ghost use Rattle.restore.specs.sections.Section.{is_out_of_memory};
 

@@ -1,4 +1,4 @@
-//! Laws of restores: the contract of each call is the law, and it does nothing else.
+//! The laws of lists of lines and of lists of calls: the contract of each call is the law, and it does nothing else.
 ghost use Rattle.restore.specs.listings.RoundTrip.{ListingsRestoreClassifiers};
 ghost use Rattle.restore.specs.calls.Headline.{CallsLeaveWhatTheyAccept, RefusedCallsChangeNothing};
 ghost use Rattle.restore.specs.sections.Headline.{LinesLeaveWhatTheyRestore, RefusedLinesChangeNothing};
@@ -20,15 +20,15 @@ pub fn restores_leave_what_they_accept()
     calls_leave_what_they_accept();
 }
 
-/// The law of every list of calls that edit a table, in any order and refused ones among them: editing calls of `Table` and
-/// `apply`, and calls that only read it; transactions that are begun or refused for want of memory, given lines, committed or
-/// given up; lines and ends of restores; several of both at once, with any other calls in between. The chains are those of
-/// the accepted changes, as plain list edits; the listing restores them, with the same classifiers; every packet's walk ends
-/// with one thing; and a refused call changes nothing.
+/// The law of every list of calls that edit a table, in any order and refused ones among them: editing calls of
+/// `Table` and `apply`, and calls that only read it; transactions that are begun or refused for want of memory, given
+/// lines, committed or abandoned; lines and ends of restores; several of both at once, with any other calls in
+/// between. The chains are those of the accepted changes, as plain list edits; the listing restores them, with the
+/// same classifiers; every packet's walk ends in one way; and a refused call changes nothing.
 ///
-/// A section that is committed puts in place what its lines made of the table as it was when the section began, whatever
-/// has become of that table since. What is asked of callers is that a transaction is committed to the table from which it
-/// was begun, and that a restore is handed that table with each line of a section.
+/// A section that is committed puts in place what its lines made of the table as it was when the section began,
+/// whatever was done to that table since. Callers have to commit a transaction to the table from which it was begun,
+/// and to hand a restore that table with each line of a section.
 ///
 /// With `Table::stands`, `Table::verdict` and `Table::trail` it says what a table shows after any list of calls.
 pub fn all_calls_leave_what_they_accept()

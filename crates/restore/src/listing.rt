@@ -1,4 +1,4 @@
-//! Listings of a table.
+//! The listing of a table, and of its rules.
 ghost use Rattle.std.specs.Prelude.{◌≡◌, ◌<◌, ◌++◌, codes, false, length, flat_map, option_map};
 ghost use Rattle.fields.specs.text.Tap.{has_failed, Puts};
 ghost use Rattle.table.specs.chains.Table.{chain_at, policy_of};
@@ -200,18 +200,18 @@ pub fn write_listing<W: Write>(table: &Table, output: &mut Tap<W>) -> Result<(),
     output.put(b"COMMIT\n")
 }
 
-/// Writes what `-S` lists (iptables(8)), of the chain of a name or, without one, of all: first the chains, each as the
-/// command that gives it its policy or that makes it, and then their rules, each after `-A chain`.
+/// Writes what `-S` lists (iptables(8)), of the chain of a name or, without one, of all: first the chains, each as
+/// the command that gives it its policy or that makes it, and then their rules, each after `-A chain`.
 ///
-/// For a chain that isn't there nothing is written: the caller asks for it before.
+/// For a chain that isn't there it writes nothing: the caller looks for it before.
 ///
 /// It takes no memory, and time linear in the text, which is written as it comes; of one chain, that and a search by
 /// halving.
 ///
 /// # Errors
 ///
-/// `WriteFailed` where the writer failed, now or before: it then got a beginning of the text, none where it had failed
-/// before.
+/// `WriteFailed` where the writer failed, now or before: it then got a beginning of the text, none where it had
+/// failed before.
 pub fn write_rules<W: Write>(
     table: &Table,
     chain: Option<&[u8]>,

@@ -1,4 +1,4 @@
-//! Restores: sections one after another.
+//! Restores: sections one after another, each put in place by its `COMMIT`.
 ghost use Rattle.std.specs.Prelude.{◌≡◌, Ok, IsTrue, IsFalse};
 ghost use Rattle.table.specs.edits.Boxes.{MakesOneBoxAtMost};
 ghost use Rattle.restore.specs.Sequence.{Gives};
@@ -133,15 +133,17 @@ impl Restore {
     }
 
     /// Does a line of the restore, of the bytes between two newlines. `table` is the one in place: a section is begun
-    /// from it, and `COMMIT` puts the section's table in its place, unless this is a test.
+    /// from it, and `COMMIT` puts the section's table in its place, unless this is a test. Sections of other tables
+    /// are skipped.
     ///
-    /// A line that opens a section costs a copy of the table with `noflush`; another line what its command costs. No
-    /// memory is taken for a line that is too long, blank, a comment, of a skipped section, or `COMMIT`.
+    /// A line that opens a section costs a copy of the table with `noflush`; another line what its command costs. It
+    /// makes one box at most. No memory is taken for a line that is too long, blank, a comment, of a skipped section,
+    /// or `COMMIT`.
     ///
     /// # Errors
     ///
     /// The first refusal of the line, which ends the restore; a fault that says that memory ran out is answered where
-    /// memory was refused. `table` is unchanged.
+    /// memory was refused. `table` is unchanged, classifiers included.
     pub fn line(
         self,
         table: &mut Table,

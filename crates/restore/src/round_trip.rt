@@ -1,4 +1,4 @@
-//! The law that a listing restores the table: the contract is the law.
+//! The law that a listing restores the table: the contract of the call is the law.
 ghost use Rattle.restore.specs.listings.RoundTrip.{RestoresAsEqual, CommitsAsEqual};
 
 use rules::lines_of_rules_read_back;

@@ -1,4 +1,4 @@
-//! Sections of a restore.
+//! The lines of one section of a restore, done to a table of its own.
 ghost use Rattle.std.specs.Prelude.{◌≡◌, ◌||◌, ◌≢◌, [], IfOk, IsTrue, IsFalse};
 ghost use Rattle.fields.specs.text.Words.{words_of};
 ghost use Rattle.fields.specs.text.WordSlice.{words_in};
@@ -196,14 +196,15 @@ impl Transaction {
     }
 
     /// Does a line of the section: a command, after counters or without, or a chain line. A blank line or a comment
-    /// asks nothing, and takes no memory. The line `COMMIT` is no command.
+    /// does nothing, and takes no memory. The line `COMMIT` is no command.
     ///
-    /// It costs what its command costs; of a chain line, that and a search among the names of chain lines before.
+    /// It costs what its command costs; of a chain line, that and a search among the names of chain lines before. It
+    /// makes one box at most.
     ///
     /// # Errors
     ///
-    /// The first refusal of the line, with which the transaction is given up. A fault that says that memory ran out is
-    /// answered where memory was refused.
+    /// The first refusal of the line, which ends the transaction. A fault that says that memory ran out is answered
+    /// where memory was refused.
     pub fn line(self, line: &[u8], work: &mut Work) -> Result<Transaction, RestoreFault>
         ensures step { Gives is_out_of_memory (λ next. next) result (line_in self line.now) }
         ensures quiet { IsTrue (is_too_long line.now || is_quiet line.now) → IsFalse (ran_out result) }

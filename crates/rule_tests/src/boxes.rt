@@ -1,4 +1,4 @@
-// The numbers that rules allow on each field.
+//! The numbers that rules allow on each field.
 use crate::lines::read;
 use fields::{Field, Interval, Spans};
 use rules::{Boxed, Work};

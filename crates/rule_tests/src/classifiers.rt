@@ -1,3 +1,4 @@
+//! Classifiers after edits, beside plain lists.
 mod bit_rows;
 mod dice;
 mod drafts;

@@ -1,4 +1,4 @@
-// Rules from lines.
+//! Rules from lines, as the other tests use them.
 use fields::Words;
 use rules::{Rule, RuleFault, read_rule};
 use std::alloc::Global;

@@ -1,2 +1,3 @@
+//! Fields, and sets of numbers.
 mod field;
 mod spans;

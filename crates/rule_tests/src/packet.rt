@@ -1,4 +1,4 @@
-// The numbers of packets.
+//! The numbers of packets.
 use fields::{FIELDS, Field, Hook, Packet, Words};
 use std::alloc::Global;
 

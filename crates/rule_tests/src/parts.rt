@@ -1,4 +1,4 @@
-// Rules that are compared, copied and renamed.
+//! Rules that are compared, copied and renamed.
 use crate::lines::read;
 use fields::Name;
 use rules::{Rule, Target};

@@ -1,1 +1,2 @@
+//! Text in and out.
 mod tap;

@@ -1,4 +1,4 @@
-// Values: the numbers that they hold of, and those that stand where none is given.
+//! Values: the numbers that they hold of, and those that stand where none is given.
 use fields::{IcmpType, IfPattern, IpRange, LogLevel, Name, PortRange, Prefix};
 use std::test::Fail;
 

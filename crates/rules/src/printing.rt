@@ -1,4 +1,4 @@
-//! How a rule is written.
+//! The text of a rule.
 ghost use Rattle.std.specs.Prelude.{◌≡◌, false, flat_map};
 ghost use Rattle.fields.specs.text.Printed.{spaced_all};
 ghost use Rattle.fields.specs.text.OneLine.{IsOneLine};
@@ -147,16 +147,16 @@ fn put_spec<W: Write>(output: &mut Tap<W>, spec: &RuleSpec) -> Result<(), WriteF
 }
 
 /// Writes the text of a rule, each of its words after one blank: what stands after `-A chain` in a listing
-/// (iptables-save(8)). It takes no memory, and time linear in the text, which has at most 8,845 bytes.
+/// (iptables-save(8)). It takes no memory, and time linear in the text, which has at most 8,845 bytes and no newline;
+/// after `-A` and a chain's name it fits a line.
 ///
 /// The options of the rule, of each match and of the target stand in the order of a listing, in whatever order they
-/// were given.
-/// The text's words are read as this rule, and no other rule has the text.
+/// were given. The text's words are read as this rule, and no other rule has the text.
 ///
 /// # Errors
 ///
-/// `WriteFailed` where the writer failed, now or before: it then got a beginning of the text, none where it had failed
-/// before.
+/// `WriteFailed` where the writer failed, now or before: it then got a beginning of the text, none where it had
+/// failed before.
 #[tactic(auto, using(crate::proofs::laws::printing::RoundTripLaws::listing_laws))]
 pub fn write_rule<W: Write>(rule: &Rule, output: &mut Tap<W>) -> Result<(), WriteFailed>
     ensures puts { Puts W.contents output.old output.new result (rule_text rule.now) }

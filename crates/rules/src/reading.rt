@@ -1,4 +1,4 @@
-//! How words are read as a rule.
+//! A rule read from words: a step an option, then its normal form, and then the check of what it needs.
 ghost use Rattle.std.specs.Prelude.{◌≡◌, ◌≤◌, ◌<◌, ◌+◌, ◌-◌, ◌&&◌, ◌==◌, not, Option, Some, None, List, length, drop, IfOk};
 ghost use Rattle.std.specs.List.{list_any};
 ghost use Rattle.fields.specs.text.WordSlice.{words_in};
@@ -136,8 +136,9 @@ fn rule_of(alloc: Global, end: usize, words: WordSlice) -> Result<RuleSpec, Rule
     Ok(spec)
 }
 
-/// The rule that the words from a place on read as (iptables(8), iptables-extensions(8)). From beyond the last word on
-/// there are no words, and they read as the rule that asks and does nothing.
+/// The rule that the words from a place on read as (iptables(8), iptables-extensions(8)). From beyond the last word
+/// on there are no words, and they read as the rule without a condition or a target. Every rule that is read is
+/// readable: its text reads back as it.
 ///
 /// It takes memory for the rule's matches and options and for its comments, as `Rule` says, and time linear in the
 /// words and their bytes.

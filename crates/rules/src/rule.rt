@@ -1,4 +1,4 @@
-//! Rules.
+//! Rules, and their equality.
 ghost use Rattle.std.specs.Prelude.{◌≡◌, ℕ, List, Option, Some, None, true, false};
 ghost use Rattle.std.specs.List.{list_any};
 ghost use Rattle.fields.specs.declared.numbers.field.Field.{Field};
@@ -27,11 +27,11 @@ use std::alloc::{AllocError, Global};
 use std::marker::Model;
 use std::mem::size_of;
 
-/// A rule: what it asks of a packet, and what becomes of the packets that it matches.
+/// A rule: what it tests of a packet, and its target, where the packets go that it matches.
 ///
-/// Every rule was read from words, or is a copy or a renamed one of such a rule, and its text reads back as it. A rule
-/// has 136 bytes and, in memory of their own, its options with 88 bytes each and its matches with 32 bytes each beside
-/// their options. Only a comment has further memory, of at most 272 bytes.
+/// Every rule was read from words, or is a copy or a renamed one of such a rule, and its text reads back as it. A
+/// rule has 136 bytes and, in memory of their own, its options with 88 bytes each and its matches with 32 bytes each
+/// beside their options. Only a comment has further memory, of at most 272 bytes.
 #[derive(Drop)]
 pub struct Rule {
     spec: RuleSpec,
@@ -166,8 +166,8 @@ impl Rule {
         Rule { spec, asks_both }
     }
 
-    /// Whether a condition of the rule asks several fields at once, as `--ports` does. Where none does, the rule matches
-    /// just the packets whose numbers it allows, field by field.
+    /// Whether a condition of the rule tests several fields at once, as `--ports` does. Where none does, `cross`
+    /// holds of every packet: the rule matches just the packets whose numbers it allows, field by field.
     pub fn asks_both(&self) -> bool
         ensures value { result ≡ asks_both self.now }
         ensures alone { result ≡ false → (numbers : List ℕ) → cross numbers self.now ≡ true }
@@ -185,7 +185,7 @@ impl Rule {
         &self.spec
     }
 
-    /// The law that every rule is readable, and that its text reads back as it. It does nothing.
+    /// The law that every rule is readable, and that its text reads back as it. The call does nothing.
     #[tactic(auto, using(crate::proofs::laws::printing::RoundTripLaws::listing_laws))]
     pub fn reads_back(&self)
         ensures readable { IsReadable self.now }
@@ -209,7 +209,7 @@ impl Rule {
         })
     }
 
-    /// Whether the rules are equal: each asks and does the same, and they have one text.
+    /// Whether the rules are equal: they have the same conditions and the same target, and one text.
     #[tactic(auto, using(crate::proofs::laws::printing::RoundTripLaws::same_text))]
     pub fn equals(&self, other: &Rule) -> bool
         ensures value { IsTrue result ↔ (self.now ≡ other.now) }
@@ -218,8 +218,7 @@ impl Rule {
         same_spec(self.spec(), other.spec())
     }
 
-    /// What becomes of the packets that the rule matches: `None` where it says nothing, so that the walk goes on. It
-    /// takes no memory.
+    /// The rule's target: `None` where it has none, so that the walk goes on. It takes no memory.
     pub fn target(&self) -> Option<Target>
         ensures { result ≡ target_of self.now }
     {
@@ -229,7 +228,8 @@ impl Rule {
         }
     }
 
-    /// Changes the name of the chain that the rule jumps or goes to, and leaves all else. It takes no memory.
+    /// Changes the name of the chain that the rule jumps or goes to, which it must do, and leaves all else. It takes
+    /// no memory.
     pub fn rename_target(&mut self, name: &Name)
         requires { IsTrue (names_chain (target_of self.old)) }
         ensures { self.new ≡ with_chain_name name.now self.old }

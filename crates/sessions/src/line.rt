@@ -1,4 +1,4 @@
-// The lines of a session, one by one.
+//! The lines of a session, one by one.
 
 pub(crate) mod fault;
 pub(crate) mod mode;

@@ -1,4 +1,4 @@
-// What is printed of a line, and at the end of the input.
+//! What is printed of a line, and at the end of the input.
 
 pub(crate) mod answer;
 pub(crate) mod end;

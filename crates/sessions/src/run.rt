@@ -1,4 +1,4 @@
-// All lines of an input, to its end.
+//! All lines of an input, to its end.
 
 pub(crate) mod console;
 pub(crate) mod headline;

@@ -1,4 +1,4 @@
-//! Chains taken away.
+//! Why a chain may not be deleted, and chains taken out of the index.
 ghost use Rattle.std.specs.Prelude.{◌≡◌, ◌<◌, ℕ, length, remove, None};
 ghost use Rattle.std.specs.List.{list_any};
 ghost use Rattle.table.specs.chains.Table.{is_referenced, user_chains};

@@ -1,4 +1,4 @@
-//! Edits of one chain's rules, with the counts of the chains that they lead to.
+//! Edits of one chain's rules, with the counts of the chains that they lead to; all chains emptied; new chains.
 ghost use Rattle.std.specs.Prelude.{◌≡◌, ◌<◌, ◌≤◌, ◌+◌, ℕ, [], length, insert, remove, slice_set, OnOk};
 ghost use Rattle.std.specs.Prelude.{OnErr, None};
 ghost use Rattle.table.specs.chains.Sound.{IsSound};

@@ -40,7 +40,7 @@ pub enum TableFault {
     /// T12: the chain that the rule jumps or goes to is a built-in one.
     #[error("target is built-in")]
     TargetBuiltIn,
-    /// T13: the rule asks for an interface that packets of the chain don't have.
+    /// T13: the rule tests an interface that packets of the chain don't have.
     #[error("interface not allowed in this chain")]
     InterfaceNotAllowed,
     /// T14: the chain has 8,192 rules.

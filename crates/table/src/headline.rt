@@ -6,9 +6,9 @@ ghost use Rattle.table.specs.walk.Cases.{WalksByCases, WalksInOneWay};
 
 use classify::rules_have_one_classifier;
 
-/// The law of every list of editing calls of a `Table`: the chains are those of the plain list edits that were
-/// accepted, in order; a refused call changes nothing; memory is no cause
-/// beside the others; and the classifiers are those of the chains, whatever edits led to them.
+/// The law of every list of editing calls of a `Table`: the chains are those that the accepted calls leave, in order,
+/// as plain list edits; a refused call changes nothing; no call is refused for memory where another cause refuses it;
+/// and the classifiers are those of the chains, whatever edits led to them.
 ///
 /// With `Table::stands`, `Table::verdict` and `Table::trail` it says what a table shows after any list of edits.
 pub fn calls_leave_what_they_accept()
@@ -20,8 +20,8 @@ pub fn calls_leave_what_they_accept()
     rules_have_one_classifier();
 }
 
-/// The law of the walk, by the cases of one rule after another: of every packet and table `walk` says what the walk ends
-/// with, and it ends with nothing else.
+/// The law of the walk, by the cases of the manual's walk, one rule after another: each packet's walk through a table
+/// ends in one way, and `walk` says in which.
 pub fn walks_go_by_their_cases()
     ensures is { WalksByCases }
     ensures one { WalksInOneWay }

@@ -1,4 +1,4 @@
-//! What a table is made of.
+//! What a table is made of: the policies, all chains under keys, and the index of the keys in the order of a listing.
 use crate::chain::Chain;
 use crate::policy::Policy;
 use slab::Slab;

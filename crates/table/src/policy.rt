@@ -1,9 +1,9 @@
-//! Policies.
+//! Policies of built-in chains.
 ghost use Rattle.std.specs.Prelude.{◌≡◌};
 
 use crate::verdict::Verdict;
 
-/// What becomes of a packet that no rule of the walk decides (iptables(8), `-P`).
+/// The verdict of a packet that no rule of the walk decides (iptables(8), `-P`).
 #[derive(Clone, Copy, Debug, PartialEq, Eq)]
 pub enum Policy {
     /// The packet is let through.

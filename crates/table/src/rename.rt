@@ -1,4 +1,4 @@
-//! A new name for a chain, and for the rules that name it.
+//! A chain renamed and moved in the index, and the rules that name it. Where its count is 0, no rule is looked at.
 ghost use Rattle.std.specs.Prelude.{◌≡◌, ◌<◌, ◌≤◌, length};
 ghost use Rattle.table.specs.edits.Edits.{Rename, edited};
 ghost use Rattle.table.specs.steps.Kept.{AreKept, IsIn, IsIndexFor, name_in, table_of};

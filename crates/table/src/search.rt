@@ -1,4 +1,5 @@
-//! The search for a path of jumps and gotos from one chain to another.
+//! The loop check: a search for a path of jumps and gotos from one chain to another. It keeps a worklist of the
+//! chains that are reached, and marks that the table has room for, so it takes no memory.
 ghost use Rattle.std.specs.Prelude.{◌≡◌, ◌<◌, ◌≤◌, ◌+◌, ℕ, OnOk, length, false, slice_index, slice_index_or, IfSome};
 ghost use Rattle.std.specs.Prelude.{IsFalse};
 ghost use Rattle.table.specs.edits.Edits.{leads};

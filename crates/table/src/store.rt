@@ -1,4 +1,4 @@
-//! Chains under keys, and the index of the keys in listing order.
+//! Chains under keys: where a chain stands in the index, found by halving, and how many rules it has.
 ghost use Rattle.std.specs.Prelude.{◌≡◌, ◌≢◌, ◌<◌, ◌≤◌, ℕ, [], length, slice_index_or, IfSome, IsSome};
 ghost use Rattle.std.specs.Prelude.{MatchOption, MatchResult};
 ghost use Rattle.std.specs.List.{position};

@@ -1,4 +1,4 @@
-//! The table.
+//! The table: its edits, what it shows, verdicts and trails.
 ghost use Rattle.std.specs.Prelude.{◌≡◌, ◌<◌, ◌≤◌, ◌-◌, [], length, map, slice_index, slice_index_or, slice_get, Some};
 ghost use Rattle.std.specs.Prelude.{None, IfOk};
 ghost use Rattle.classify.specs.classifier.Classifier.{IsClassifierOfRules};
@@ -53,8 +53,11 @@ impl Model for Table {
 }
 
 impl Table {
-    /// The law of every table: it is sound, and each chain's classifier is that of its rules; and a chain leads to another,
-    /// as edits ask it, just where a path of jumps and gotos does. It does nothing.
+    /// The law of every table. It is sound: each rule reads back; each chain that a rule names is there and is a user
+    /// chain; no path of jumps and gotos comes back to where it began; no rule tests an interface that packets of its
+    /// chain don't have; user chains are in the order of their names; and the limits hold. Each chain's classifier is
+    /// that of its rules. And the loop check answers that a chain leads to another just where a path of jumps and
+    /// gotos does. The call does nothing.
     pub fn stands(&self)
         ensures sound { IsSound self.now.table }
         ensures classified { AreClassified self.now.table.chains self.now.classifiers }
@@ -116,7 +119,7 @@ impl Table {
         Ok(Table { parts, seen })
     }
 
-    /// A table that shows the same. It copies rules and classifiers, and makes no box.
+    /// A table that shows the same, classifiers included. It copies rules and classifiers, and makes no box.
     ///
     /// # Errors
     ///
@@ -143,7 +146,7 @@ impl Table {
         self.parts.order.len()
     }
 
-    /// The name of the chain at a place in the order of a listing, from 0; it is lent.
+    /// The name of the chain at a place in the order of a listing, from 0 and below `chain_count`; it is lent.
     pub fn chain_name(&self, place: usize) -> &[u8]
         requires { place < length self.now.table.chains }
         ensures { result.now ≡ (chain_at self.now.table place).name }
@@ -152,9 +155,8 @@ impl Table {
         self.parts.chains[key].name().bytes()
     }
 
-    /// Where the chain of a name stands in the order of a listing, from 0. It takes no memory.
-    ///
-    /// It costs a search by halving.
+    /// Where the chain of a name stands in the order of a listing, from 0; none where there is no such chain. It
+    /// takes no memory. It costs a search by halving.
     pub fn index_of(&self, name: &[u8]) -> Option<usize>
         ensures { result ≡ position (is_named name.now) self.now.table.chains }
     {
@@ -176,7 +178,7 @@ impl Table {
         self.parts.count_at(place)
     }
 
-    /// Rule `number` of the chain at a place, from 1; it is lent.
+    /// Rule `number` of the chain at a place, from 1 to `rule_count`; it is lent.
     pub fn rule(&self, place: usize, number: usize) -> &Rule
         requires place { place < length self.now.table.chains }
         requires first { 0 < number }
@@ -198,7 +200,13 @@ impl Table {
         self.parts.chains[key].classifier()
     }
 
-    /// What becomes of a packet, by the classifiers of the chains: the verdict of its walk. It takes no memory.
+    /// The verdict of a packet's walk, by the classifiers of the chains. It is that of walking the rules in order,
+    /// with jumps, gotos and returns, where a rule matches if it allows each of the packet's numbers and `cross`
+    /// holds. It takes no memory.
+    ///
+    /// It costs a search of a classifier for each rule that matches and each chain that the walk leaves at its end,
+    /// and a look at the matches of each candidate on the way. Where a jump would leave more than 16 rests waiting,
+    /// the walk up to there is done twice.
     pub fn verdict(&self, packet: &Packet) -> Verdict
         ensures walk { result ≡ (walk self.now.table packet.now).verdict }
         ensures cases { (w : Walked) → Walks self.now.table packet.now w → result ≡ w.verdict }
@@ -208,7 +216,7 @@ impl Table {
         self.parts.decide(hook, policy, packet)
     }
 
-    /// The walk of a packet: the rules that matched, the verdict, and whether the policy gave it.
+    /// The walk of a packet: the rules that matched, in turn, the verdict, and whether the policy gave it.
     ///
     /// # Errors
     ///
@@ -223,7 +231,7 @@ impl Table {
         self.parts.trace(hook, policy, packet)
     }
 
-    /// Puts a rule last in a chain (`-A chain rule`). The rule is gone after a refusal too.
+    /// Puts a rule last in a chain (`-A chain rule`). The rule is gone after a refusal too. It makes one box at most.
     ///
     /// It costs a box, the classifier's row work, and, where the rule names a chain, a search of the chains that it
     /// leads to.
@@ -231,7 +239,7 @@ impl Table {
     /// # Errors
     ///
     /// `NoSuchChain`, `InterfaceNotAllowed`, `TargetMissing`, `TargetBuiltIn`, `Loop` and `ChainFull`, in this order,
-    /// and last `NoMemory` where memory was refused: the table is unchanged.
+    /// and last `NoMemory` where memory was refused: the table is unchanged, classifiers included.
     pub fn append(&mut self, chain: &[u8], rule: Rule, work: &mut Work) -> Result<(), TableFault>
         ensures step { IsStepIfRoom (Append chain.now rule) self.old self.new result }
         ensures work { MakesOneBoxAtMost work.old work.new }
@@ -245,11 +253,11 @@ impl Table {
     }
 
     /// Puts a rule in as rule `number` of a chain, from 1 to one more than there are (`-I chain number rule`). The
-    /// rule is gone after a refusal too.
+    /// rule is gone after a refusal too. It makes one box at most.
     ///
     /// # Errors
     ///
-    /// `NoSuchChain`, `NumberOutOfRange`, and then those of `append`: the table is unchanged.
+    /// `NoSuchChain`, `NumberOutOfRange`, and then those of `append`: the table is unchanged, classifiers included.
     pub fn insert(
         &mut self,
         chain: &[u8],
@@ -272,12 +280,12 @@ impl Table {
     }
 
     /// Puts a rule in the place of rule `number` of a chain (`-R chain number rule`). The rule is gone after a
-    /// refusal too.
+    /// refusal too. It makes one box at most.
     ///
     /// # Errors
     ///
     /// `NoSuchChain`, `NumberOutOfRange`, `InterfaceNotAllowed`, `TargetMissing`, `TargetBuiltIn` and `Loop`, in this
-    /// order, and last `NoMemory` where memory was refused: the table is unchanged.
+    /// order, and last `NoMemory` where memory was refused: the table is unchanged, classifiers included.
     pub fn replace(
         &mut self,
         chain: &[u8],

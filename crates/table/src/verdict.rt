@@ -1,7 +1,7 @@
 //! Verdicts.
 use fields::RejectType;
 
-/// What becomes of a packet (iptables(8), "TARGETS").
+/// The end of a packet's walk (iptables(8), "TARGETS").
 #[derive(Clone, Copy, Debug, PartialEq, Eq)]
 pub enum Verdict {
     /// The packet is let through.
@@ -10,6 +10,6 @@ pub enum Verdict {
     Drop,
     /// The packet is dropped, and answered in this way.
     Reject(RejectType),
-    /// More rules match than a walk may have: 65,536.
+    /// The walk is too long: more rules match than it may have, 65,536.
     TooLong,
 }

@@ -1,4 +1,5 @@
-//! The walk of a packet.
+//! The walk of a packet, by the keys of chains, with a return stack of fixed size: a short one first, and the deep
+//! one where that is full.
 ghost use Rattle.std.specs.Prelude.{◌≡◌, ◌<◌, ◌≤◌, ℕ, List, length, IfSome, IfNone, Option, Some, None};
 ghost use Rattle.table.specs.steps.Kept.{AreStored, listed};
 ghost use Rattle.table.specs.steps.StoredChains.{StoredChain};

@@ -6,12 +6,19 @@ use std::alloc::Global;
 /// Which calls are made. Each case makes all calls of one kind of value, and compares their answers.
 #[derive(Clone, Copy, PartialEq, Eq)]
 pub enum Case {
+    /// Sets of numbers: what they lend.
     Spans,
+    /// The target of a rule.
     Target,
+    /// What a rule asks of several fields at once, of a packet.
     Cross,
+    /// What the box of a rule lends.
     Box,
+    /// A row of bits.
     BitRow,
+    /// The verdict of a packet's walk.
     Verdict,
+    /// A call that takes memory: the check has to report it.
     Planted,
 }
 

@@ -173,7 +173,7 @@ fn is_entry(reached: &Reached, verdict: Verdict, by: Option<Step>, ports: &[Inte
     reached.verdict == verdict && reached.by == by && reached.numbers.intervals() == ports
 }
 
-/// What becomes of packets, by their ports.
+/// The verdicts of packets, by their ports.
 const PORTS: &[(Verdict, Option<Step>, &[Interval])] = &[
     (
         Verdict::Accept,

@@ -1,4 +1,4 @@
-//! The boxes that allow a point, as the rows of its fields have them in common.
+//! The candidates at a point: the boxes that allow it, as a list of bits that is lent, and the search among them.
 
 ghost use Rattle.std.specs.Prelude.{◌≡◌, ◌+◌, drop};
 ghost use Rattle.classify.specs.search.NextMatch.{next_match};

@@ -1,4 +1,4 @@
-//! The lines of all fields: each step on every line in turn.
+//! Each step of an edit, on the lines of all fields in turn, and back where one is refused.
 
 ghost use Rattle.std.specs.Prelude.{◌≡◌, ◌<◌, ◌≤◌, ◌+◌, ◌%◌, ◌↔◌, ℕ, length, OnOk, OnErr, IsOk, IsTrue};
 ghost use Rattle.bits.specs.Rows.{two_words};

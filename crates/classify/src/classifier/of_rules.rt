@@ -5,16 +5,16 @@ ghost use Rattle.classify.specs.classifier.Laws.{BoxesHaveTheRulesMatches, Rules
 ghost use Rattle.classify.specs.classifier.Laws.{RulesHaveTheComputedLine, SameNumbersSameClassifier};
 ghost use Rattle.classify.specs.classifier.Laws.{RenamedOneSameClassifier, RenamedManySameClassifier};
 
-/// The law that the classifier of rules' boxes is that of the rules themselves, and the next box that allows
-/// a point that of the next rule that allows it; and that each rule has a box.
+/// The law that every rule has a box; that the classifier of rules' boxes is the classifier of the rules; and that
+/// the next box that allows a point is that of the next rule that allows each of its numbers.
 pub fn boxes_stand_for_their_rules()
     ensures each { EachRuleHasABox }
     ensures classifier { BoxesHaveTheRulesClassifier }
     ensures matches { BoxesHaveTheRulesMatches }
 {}
 
-/// The law that rules have one classifier: two classifiers of the same rules are equal, as many boxes and
-/// the same line on each field.
+/// The law that rules have one classifier: two classifiers of the same rules have as many boxes, and the same line on
+/// each field.
 pub fn rules_have_one_classifier()
     ensures { RulesHaveOneClassifier }
 {}
@@ -24,8 +24,8 @@ pub fn rules_have_the_computed_line()
     ensures { RulesHaveTheComputedLine }
 {}
 
-/// The law that the classifier asks of rules only what they allow: rules that allow the same numbers have
-/// the same classifier, and a renamed target leaves it as it is.
+/// The law that the classifier of rules knows only what they allow: rules that allow the same numbers have the same
+/// classifier, and another chain's name in a target leaves it as it is.
 pub fn targets_leave_the_classifier()
     ensures same { SameNumbersSameClassifier }
     ensures renamed_one { RenamedOneSameClassifier }

@@ -1,4 +1,4 @@
-//! The rows of all fields at a point.
+//! The rows of all fields at a point, lent without the margin that all lines have.
 
 ghost use Rattle.std.specs.Prelude.{ℕ, ◌<◌};
 ghost use Rattle.fields.specs.declared.numbers.field.TheConstants.{FIELDS};

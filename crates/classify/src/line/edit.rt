@@ -1,4 +1,5 @@
-//! The steps of an edit on one line: all memory first, then what cannot fail.
+//! The steps of an edit on one line: cuts made, answers changed, cuts taken back or joined. All memory is taken
+//! first; what follows cannot fail.
 
 ghost use Rattle.fields.specs.declared.numbers.spans.Interval.{Interval};
 ghost use Rattle.std.specs.Prelude.{◌≡◌, ◌<◌, ◌≤◌, ◌+◌, ◌-◌, ℕ, length, OnOk, IsOk, List, map, insert};

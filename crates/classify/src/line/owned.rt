@@ -1,4 +1,4 @@
-//! A line as the classifier keeps it: where its pieces start, and their rows.
+//! The line of a field as the classifier keeps it: the starts of its pieces, and their rows apart from them.
 
 ghost use Rattle.std.specs.Prelude.{ℕ, ◌≡◌, ◌<◌, ◌≤◌, ◌+◌, ◌-◌, ◌%◌, length, map, insert, remove, slice_set, slice_index, slice_index_or, take};
 ghost use Rattle.std.specs.Prelude.{◌≢◌, false, true, IfOk, IsOk, OnOk, OnErr, IsTrue, ◌↔◌, [], ◌∷◌};

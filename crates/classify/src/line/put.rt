@@ -1,4 +1,5 @@
-//! A box's answers put into a line that is cut wherever they change.
+//! A box's answers put into a line that is cut wherever they change: into the pieces that the box allows, or, where
+//! most are such, into all, and then taken back from the others.
 
 ghost use Rattle.std.specs.Prelude.{◌≡◌, ◌<◌, ◌≤◌, ◌+◌, ◌/◌, ◌&&◌, ◌↔◌, ℕ, length, map, false, slice_index_or, count_by, IsTrue};
 ghost use Rattle.fields.specs.numbers.Spans.{has};

@@ -1,4 +1,4 @@
-//! A line as it is lent: its pieces, and the row of each.
+//! The line of a field as it is lent: its pieces, and the row of each.
 
 ghost use Rattle.std.specs.Prelude.{◌≡◌, ◌<◌, length, false, slice_index_or, []};
 ghost use Rattle.std.specs.Iterator.{YieldsFirst, item_count};
@@ -39,7 +39,7 @@ impl<'a> Row<'a> {
         self.len
     }
 
-    /// Whether the box at a place allows the numbers of the piece.
+    /// Whether the box at a place, below `len`, allows the numbers of the piece.
     pub fn get(&self, at: usize) -> bool
         requires { at < length self.now }
         ensures { result ≡ slice_index_or self.now at false }
@@ -128,7 +128,7 @@ impl<'a> Line<'a> {
         self.line.len()
     }
 
-    /// The piece at a place: they rise, and the first starts at 0.
+    /// The piece at a place, below `len`: their starts rise, and the first is 0.
     pub fn piece(&self, at: usize) -> Piece<'a>
         requires { at < length self.now }
         ensures { result ≡ slice_index_or self.now at (0, []) }

@@ -1,7 +1,7 @@
-//! The fields of a packet.
+//! The fields of a packet: one table of their top values and names.
 ghost use Rattle.std.specs.Prelude.{◌≡◌, ◌<◌, Some, slice_get};
 
-/// What a packet has one whole number of, and what a condition of a rule asks.
+/// A field: what each packet has one whole number on, and what a condition of a rule tests.
 #[derive(Clone, Copy, Debug, PartialEq, Eq)]
 pub enum Field {
     /// The address that the packet comes from.

@@ -1,4 +1,4 @@
-//! Sets of numbers up to a top value.
+//! Sets of numbers up to a top value, kept as their intervals.
 
 ghost use Rattle.std.specs.Prelude.{◌≡◌, ◌≤◌, ◌<◌, ◌&&◌, ◌||◌, ℕ, nat_le, not, [], IfOk, IsOk};
 ghost use Rattle.fields.specs.numbers.Spans.{has, AreSpansFrom, CanonicalIsUnique};
@@ -10,7 +10,9 @@ use std::marker::Model;
 /// The numbers from `first` to `last`, both among them.
 #[derive(Clone, Copy, Debug, Default, PartialEq, Eq)]
 pub struct Interval {
+    /// The least of them.
     pub first: u128,
+    /// The greatest of them.
     pub last: u128,
 }
 
@@ -55,7 +57,8 @@ impl Spans {
         Spans::one(alloc, top, 0, top)
     }
 
-    /// The numbers from `first` to `last`, as a set up to `top`: none where `first` is above `last`.
+    /// The numbers from `first` to `last`, both at most `top`, as a set up to `top`: none where `first` is above
+    /// `last`.
     pub fn one(alloc: Global, top: u128, first: u128, last: u128) -> Result<Spans, AllocError>
         requires first_within { first ≤ top }
         requires last_within { last ≤ top }

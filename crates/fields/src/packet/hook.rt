@@ -1,4 +1,4 @@
-//! The places where a packet meets the table.
+//! The hooks INPUT, FORWARD and OUTPUT, where a packet meets the table.
 ghost use Rattle.std.specs.Prelude.{◌≡◌, Some, IfSome};
 
 /// Where a packet meets the table: in one of the three built-in chains of the `filter` table of iptables(8).

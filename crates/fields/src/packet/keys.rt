@@ -1,4 +1,5 @@
-//! The keys of a packet line.
+//! The keys of a packet line, one row a field: what a key takes, which packets carry it, whether they need it, and
+//! the number where no word gives it.
 ghost use Rattle.std.specs.Prelude.{◌≡◌, ◌==◌};
 ghost use Rattle.fields.specs.values.Protocol.{carries_ports};
 

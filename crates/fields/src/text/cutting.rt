@@ -1,4 +1,5 @@
-// How a line is cut into words: byte after byte, and an unquoted run of bytes at once.
+//! How a line is cut into words: an unquoted run of bytes, with the blank after it, at once, and every other byte by
+//! itself.
 ghost use Rattle.std.specs.Prelude.{◌≡◌, ◌≤◌, ◌+◌, true, not, nat_lt, length, take, All};
 ghost use Rattle.std.specs.List.{prefix_len};
 ghost use Rattle.std.specs.Simd.Lanes.{chunk};

@@ -1,4 +1,4 @@
-//! Lines from a reader.
+//! Lines of bounded length, read from a tap.
 ghost use Rattle.std.specs.Prelude.{◌≡◌, ◌≢◌, ◌+◌, ◌<◌, ◌≤◌, ℕ, List, [], ◌∷◌, ◌++◌, Option, None, Ok, true, false, length, take, drop, All, IfOk, OnOk, IsTrue, is_err, slice_index, vec_len, vec_capacity};
 ghost use Rattle.std.specs.Io.KnownBytes.{Consumes, Keeps, IsAtEnd};
 ghost use Rattle.fields.specs.text.Tap.{has_failed, device, known, shown_left, turns_left, ShowsWithin};
@@ -116,12 +116,12 @@ fn last_line(line: &Vec<u8>, too_long: bool) -> LineRead
 }
 
 impl<R: BufRead> Tap<R> {
-    /// Reads on in a line of which a part was read into `line`, by this call before: takes what the device shows, up to
-    /// and including the first newline. `None` where the line goes on. Before the first part `line` is empty, and
-    /// `too_long` is false.
+    /// Reads on in a line of which a part was read into `line`, by this call before: takes what the device shows, up
+    /// to and including the first newline. `None` where the line goes on. Before the first part `line` is empty, and
+    /// `too_long` is false. `line` has room for `max` bytes.
     ///
-    /// It takes a step of reading and calls `fill` once. So a caller who has something to do before the device is asked
-    /// for more does it where `has_more` says that nothing is left.
+    /// It takes a step of reading and calls `fill` once. So a caller who has something to do before the device is
+    /// asked for more does it where `has_more` says that nothing is left. Where the line goes on, nothing is left.
     ///
     /// # Errors
     ///

@@ -1,4 +1,4 @@
-//! Numbers as they are written.
+//! Decimal numbers, read from text.
 ghost use Rattle.std.specs.Prelude.{◌≡◌, ℕ, ◌<◌, ◌≤◌, length, Option, Some, None, IfSome};
 ghost use Rattle.fields.specs.text.Number.{IsNumber, has_number_form, number_from, number_of, number_to};
 
@@ -22,7 +22,8 @@ fn value_of(text: &[u8]) -> Option<u32>
     Some(value)
 }
 
-/// The number that a text writes: `0`, or 1 to 9 decimal digits of which the first isn't `0`.
+/// The number that a text writes: `0`, or 1 to 9 decimal digits of which the first isn't `0`. No other text writes a
+/// number.
 #[tactic(auto, unfolding(crate::specs::text::Number::number_of))]
 pub fn read_number(text: &[u8]) -> Option<u32>
     ensures value { result ≡ number_of text.now }
@@ -36,7 +37,7 @@ pub fn read_number(text: &[u8]) -> Option<u32>
     }
 }
 
-/// The number that a text writes, where it is at most `top`.
+/// The number that a text writes (`read_number`), where it is at most `top`.
 #[tactic(auto, unfolding(crate::specs::text::Number::number_to))]
 pub fn read_number_to(text: &[u8], top: u32) -> Option<u32>
     ensures value { result ≡ number_to top text.now }

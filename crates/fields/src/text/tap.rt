@@ -1,4 +1,5 @@
-//! Taps: a reader or a writer, and whether a call of it has failed.
+//! Taps: a reader or a writer that remembers whether a call of it failed, how many of the bytes it shows weren't
+//! taken, and whether bytes were written since it was last flushed.
 ghost use Rattle.std.specs.Prelude.{◌≡◌, [], IfSome, ◌+◌, ◌-◌, ◌^◌, ◌<◌, ◌↔◌, true, false, length, IfOk, OnOk, IsOk, IsErr, IsTrue, is_err, flat_map};
 ghost use Rattle.fields.specs.text.Tap.{has_failed, device, is_unflushed, known, lent, shown_left, turns_left, Keeps, Puts};
 ghost use Rattle.fields.specs.contracts.text.tap.Tap.{the_row};
@@ -27,10 +28,11 @@ struct Seen {
 }
 
 /// A reader or a writer, whether it has failed, how many bytes it shows that weren't taken, and whether bytes were
-/// written since it was last flushed. Once it has failed, no further call reaches the device.
+/// written since it was last flushed. Once it has failed, no further call reaches the device, which stays as it was.
 ///
 /// A tap fails where a call of its device fails, where a write takes no byte, and where its steps of reading are used
-/// up, and nowhere else. It has 2 to the 64 less 1 steps, so that every loop over a device that never ends has an end.
+/// up, and nowhere else. It has 2 to the 64 less 1 steps, so that every loop over a device that never ends has an
+/// end. Only `fill`, `eat` and the calls that read lines change how many bytes it shows that weren't taken.
 #[derive(Drop)]
 pub struct Tap<T> {
     device: T,
@@ -189,12 +191,13 @@ fn fill_from<'a, 'b, R: BufRead>(
 }
 
 impl<W: Write> Tap<W> {
-    /// Writes all of the bytes, in as many calls of the device as it takes for them: none for no bytes.
+    /// Writes all of the bytes, in as many calls of the device as it takes for them. For no bytes it makes no call,
+    /// and succeeds on a tap that hasn't failed.
     ///
     /// # Errors
     ///
-    /// `WriteFailed` where a call of the device fails or takes no byte, and from then on: a failed tap calls the device
-    /// no more. A beginning of the bytes was written then.
+    /// `WriteFailed` where a call of the device fails or takes no byte, and from then on: a failed tap calls the
+    /// device no more. A beginning of the bytes was written then.
     pub fn put(&mut self, bytes: &[u8]) -> Result<(), WriteFailed>
         ensures puts { Puts W.contents self.old self.new result bytes.now }
         ensures turns { turns_left self.new ≡ turns_left self.old }
@@ -243,7 +246,8 @@ impl<W: Write> Tap<W> {
         Ok(())
     }
 
-    /// Has the device hand on what it holds back: one that writes through a buffer writes the buffer out.
+    /// Has the device hand on what it holds back: one that writes through a buffer writes the buffer out. It gives
+    /// the device no byte. No clause sees that the device hands on what it holds.
     ///
     /// # Errors
     ///

@@ -1,8 +1,8 @@
-//! Words that are lent.
+//! Some of the words of a line, lent.
 ghost use Rattle.std.specs.Prelude.{◌≡◌, ◌∷◌, ◌≤◌, true, length, slice_index};
 ghost use Rattle.fields.specs.text.WordEnds.{do_rise};
 
-/// Some words of a line, one after another, lent by the `Words` that have them.
+/// Some words of a line, one after another, lent by the `Words` that have them. No call takes memory.
 #[derive(Clone, Copy)]
 pub struct WordSlice<'a> {
     bytes: &'a [u8],
@@ -51,7 +51,7 @@ impl<'a> WordSlice<'a> {
         self.ends.is_empty()
     }
 
-    /// The bytes of the word at a place, counted from 0.
+    /// The bytes of the word at a place, counted from 0 and below `len`.
     pub fn get(self, place: usize) -> &'a [u8]
         requires { place < length (words_in self) }
         ensures { slice_get (words_in self.entry) place ≡ Some result.now }
@@ -59,7 +59,7 @@ impl<'a> WordSlice<'a> {
         &self.bytes[start_of(self.from, self.ends, place)..self.ends[place]]
     }
 
-    /// The bytes of the first word, and the words after it.
+    /// The bytes of the first word and the words after it, if there is a word.
     pub fn split_first(self) -> Option<(&'a [u8], WordSlice<'a>)>
         ensures { MatchOption result (words_in self.entry ≡ [])
             (λ split. words_in self.entry ≡ split.0.now ∷ words_in split.1) }
@@ -78,7 +78,7 @@ impl<'a> WordSlice<'a> {
         }
     }
 
-    /// The first `count` words, and the words after them.
+    /// The first `count` words, of at least as many, and the words after them.
     pub fn split_at(self, count: usize) -> (WordSlice<'a>, WordSlice<'a>)
         requires { count ≤ length (words_in self) }
         ensures first { words_in result.0 ≡ take count (words_in self.entry) }

@@ -1,4 +1,4 @@
-//! The words of a line.
+//! The words of a line, in one buffer, with the places where they end.
 ghost use Rattle.std.specs.Prelude.{◌≡◌, ◌<◌, ◌≤◌, ◌↔◌, ℕ, List, [], length, drop, slice_get, IsTrue, Some, None, MatchResult, OnOk, IfOk, IfErr};
 ghost use Rattle.fields.specs.text.OneLine.{IsOneLine, AreOneLine};
 ghost use Rattle.fields.specs.text.Words.{words_of, AreWords, OnQuoting};
@@ -44,9 +44,10 @@ impl Model for Words {
 impl Words {
     /// Cuts a line into its words (iptables-restore(8)).
     ///
-    /// Words are separated by blanks (32) and tabs (9) alone. A word is a run of bytes without blank,
-    /// tab and `"`, or a text between two `"`, in which a backslash before any byte gives that byte;
-    /// so `""` is the empty word. A quoted word is followed by a blank, a tab or the line's end.
+    /// Words are separated by blanks (32) and tabs (9) alone. A word is a run of bytes without blank, tab and `"`, or
+    /// a text between two `"`, in which a backslash before any byte gives that byte; so `""` is the empty word. A
+    /// quoted word is followed by a blank, a tab or the line's end. A line with a newline has no words, and no word
+    /// has one.
     ///
     /// # Errors
     ///
@@ -54,8 +55,8 @@ impl Words {
     ///
     /// # Cost
     ///
-    /// One pass: linear in the length of the line. Two allocations, however many words it has: one for their bytes and
-    /// one for the places where they end, each with room for what a line of that length can have.
+    /// One pass: linear in the length of the line. Two allocations, however many words it has: one for their bytes
+    /// and one for the places where they end, each with room for what a line of that length can have.
     pub fn split(alloc: Global, line: &[u8]) -> Result<Words, WordFault>
         // The function that finds the words of a line says what comes.
         ensures exact { MatchResult result (λ words. words_of line.now ≡ Some words)
@@ -114,7 +115,7 @@ impl Words {
         self.all().is_empty()
     }
 
-    /// The bytes of the word at a place, counted from 0, without quotes and escapes.
+    /// The bytes of the word at a place, counted from 0 and below `len`, without quotes and escapes.
     pub fn get(&self, place: usize) -> &[u8]
         requires { place < length self.now }
         ensures value { slice_get self.now place ≡ Some result.now }

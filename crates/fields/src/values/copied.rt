@@ -1,4 +1,4 @@
-//! Copies of values of a bounded length.
+//! Copies of values of a bounded length, which take no memory.
 ghost use Rattle.std.specs.Prelude.{◌≡◌};
 
 use arrayvec::ArrayVec;

@@ -16,7 +16,9 @@ use std::io::Write;
 /// those of `comp`. It holds of no packet where `comp` has a flag that the mask lacks.
 #[derive(Clone, Copy, Debug, PartialEq, Eq)]
 pub struct FlagTest {
+    /// The flags that are looked at.
     pub mask: TcpFlags,
+    /// Those of them that a packet has to have.
     pub comp: TcpFlags,
 }
 

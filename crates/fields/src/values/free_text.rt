@@ -1,4 +1,4 @@
-//! Free texts.
+//! Texts of any bytes but newlines: comments and log prefixes.
 ghost use Rattle.std.specs.Prelude.{◌≡◌, ◌≤◌, ◌∷◌, [], length, Option, Some, None, false, flat_map};
 ghost use Rattle.std.specs.List.{list_all};
 ghost use Rattle.fields.specs.text.OneLine.{IsOneLine, is_one_line};
@@ -65,8 +65,9 @@ impl<const N: usize> Text<N> {
         }
     }
 
-    /// Writes the text as one word: without quotes if it has at least one byte and all are ASCII
-    /// letters, digits, `_` or `-`, else in `"`, with a backslash before each `"`, `\` and `'`.
+    /// Writes the text as one word, which reads back as this text: without quotes if it has at least one byte and all
+    /// are ASCII letters, digits, `_` or `-`, else in `"`, with a backslash before each `"`, `\` and `'`. It takes no
+    /// memory.
     #[tactic(auto, using(crate::proofs::laws::text::PrintedLaws::text_reads_back, crate::proofs::laws::text::PrintedLaws::lines_read_back, crate::proofs::laws::text::PrintedLaws::quoted_one_line))]
     pub fn put<W: Write>(&self, output: &mut Tap<W>) -> Result<(), WriteFailed>
         ensures puts { Puts W.contents output.old output.new result (quoted self.now) }

@@ -107,9 +107,8 @@ impl Asked {
     }
 }
 
-/// What `--icmp-type` of iptables-extensions(8) asks for: any type, a type from 0 to 254, or such a type and a code
-/// from 0 to
-/// 255.
+/// What `--icmp-type` of iptables-extensions(8) tests for: any type, a type from 0 to 254, or such a type and a code
+/// from 0 to 255.
 #[derive(Clone, Copy, Debug, PartialEq, Eq)]
 pub struct IcmpType {
     asked: Asked,
@@ -131,7 +130,8 @@ impl Model for IcmpType {
 impl IcmpType {
     ghost use Rattle.fields.specs.values.Icmp.{icmp_of, IsAsked, icmp_text, icmp_passes};
 
-    /// What a text asks for: `t` or `t/c`, `any` or 255 for any type, or one of the names. `255/c` is refused.
+    /// The value that a text writes: `t` or `t/c`, `any` or 255 for any type, or one of the names. `255/c` is
+    /// refused.
     #[tactic(auto, using(crate::proofs::laws::values::IcmpLaws::is_asked))]
     pub fn read(text: &[u8]) -> Option<IcmpType>
         ensures value { result ≡ icmp_of text.now }

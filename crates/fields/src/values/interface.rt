@@ -164,7 +164,7 @@ impl IfPattern {
         }
     }
 
-    /// Writes the pattern as it was read. It needs no quotes.
+    /// Writes the pattern as it was read. It needs no quotes. It takes no memory.
     pub fn put<W: Write>(&self, output: &mut Tap<W>) -> Result<(), WriteFailed>
         ensures puts { Puts W.contents output.old output.new result self.now }
         ensures word { IsBareWord self.now }

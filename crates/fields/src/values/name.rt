@@ -97,7 +97,7 @@ impl Name {
         }
     }
 
-    /// Writes the name as it was read. It needs no quotes.
+    /// Writes the name as it was read. It needs no quotes. It takes no memory.
     pub fn put<W: Write>(&self, output: &mut Tap<W>) -> Result<(), WriteFailed>
         ensures puts { Puts W.contents output.old output.new result self.now }
         ensures word { IsBareWord self.now }

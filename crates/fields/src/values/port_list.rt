@@ -104,7 +104,7 @@ impl PortList {
         }
     }
 
-    /// The ports and ranges in their order.
+    /// The ports and ranges in their order; they are lent.
     pub fn items(&self) -> &[PortRange]
         ensures value { result.now ≡ self.now }
         ensures list { IsPortList self.now }
@@ -119,7 +119,8 @@ impl PortList {
         self.items().iter().any(|item| item.holds(port))
     }
 
-    /// Writes the list in its order, with a comma between two. It needs no quotes.
+    /// Writes the list in its order, with a comma between two. That text reads back as this list, and needs no
+    /// quotes. It takes no memory.
     #[tactic(auto, using(crate::proofs::laws::values::PortListLaws::reads_back, crate::proofs::laws::values::BareLaws::list_is_bare))]
     pub fn put<W: Write>(&self, output: &mut Tap<W>) -> Result<(), WriteFailed>
         ensures puts { Puts W.contents output.old output.new result (port_list_text self.now) }

@@ -101,7 +101,8 @@ impl PortRange {
         (self.from, self.to) == (0, 65535)
     }
 
-    /// Writes one port as its number, more as `a:b`. It needs no quotes.
+    /// Writes one port as its number, more as `a:b`. That text reads back as this range, and needs no quotes. It
+    /// takes no memory.
     #[tactic(auto, using(crate::proofs::laws::values::PortRangeLaws::reads_back, crate::proofs::laws::values::BareLaws::range_is_bare))]
     pub fn put<W: Write>(self, output: &mut Tap<W>) -> Result<(), WriteFailed>
         ensures puts { Puts W.contents output.old output.new result (ports_text self) }

@@ -247,7 +247,7 @@ impl Prefix {
         self.length
     }
 
-    /// Tells whether the leading bits of an address, as many as the length says, are those of the prefix.
+    /// Whether the leading bits of an address, as many as the length says, are those of the prefix.
     pub fn holds(&self, address: u32) -> bool
         ensures { result ≡ holds self.now address }
     {
@@ -304,7 +304,7 @@ pub(crate) fn write_address(address: u32, text: &mut [u8], end: usize) -> usize
 }
 
 impl Prefix {
-    /// Writes `a.b.c.d/n`, or fails. It takes no memory.
+    /// Writes `a.b.c.d/n`. It takes no memory.
     pub fn put<W: Write>(&self, output: &mut Tap<W>) -> Result<(), WriteFailed>
         ensures { Puts W.contents output.old output.new result (prefix_text self.now) }
     {

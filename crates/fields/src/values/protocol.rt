@@ -134,7 +134,8 @@ impl Protocol {
         self.0 == 0
     }
 
-    /// Writes the first name of the protocol, else its number. It needs no quotes.
+    /// Writes the first name of the protocol, else its number. That text reads back as this protocol, and needs no
+    /// quotes. It takes no memory.
     #[tactic(auto, using(crate::proofs::laws::values::ProtocolLaws::reads_back, crate::proofs::laws::values::BareLaws::protocol_is_bare), unfolding(crate::specs::values::Protocol::protocol_text, crate::specs::values::Protocol::protocol_name))]
     pub fn put<W: Write>(self, output: &mut Tap<W>) -> Result<(), WriteFailed>
         ensures puts { Puts W.contents output.old output.new result (protocol_text self) }

@@ -48,7 +48,7 @@ impl Ttl {
         self.0
     }
 
-    /// Writes the number. It needs no quotes.
+    /// Writes the number. That text reads back as this time to live, and needs no quotes. It takes no memory.
     #[tactic(auto, using(crate::proofs::laws::values::TtlLaws::reads_back, crate::proofs::laws::values::BareLaws::ttl_is_bare))]
     pub fn put<W: Write>(self, output: &mut Tap<W>) -> Result<(), WriteFailed>
         ensures puts { Puts W.contents output.old output.new result (ttl_text self) }
@@ -59,7 +59,7 @@ impl Ttl {
         output.put(number.format(self.0).as_bytes())
     }
 
-    /// This time to live alone. It answers `AllocError` only where memory was refused.
+    /// The set of this time to live alone. It answers `AllocError` only where memory was refused.
     pub fn same(self, alloc: Global) -> Result<Spans, AllocError>
         ensures top { IfOk result (λ set. set.top ≡ ttl_top) }
         ensures members { IfOk result (λ set. (x : ℕ) → x ≤ ttl_top → has set.intervals x ≡ (x == self)) }
@@ -68,7 +68,7 @@ impl Ttl {
         Spans::one(alloc, TTL_TOP.into(), number, number)
     }
 
-    /// The greater ones: none above 255. It answers `AllocError` only where memory was refused.
+    /// The set of the greater ones, up to 255. It answers `AllocError` only where memory was refused.
     pub fn greater(self, alloc: Global) -> Result<Spans, AllocError>
         ensures top { IfOk result (λ set. set.top ≡ ttl_top) }
         ensures members { IfOk result (λ set. (x : ℕ) → x ≤ ttl_top → has set.intervals x ≡ nat_lt self x) }
@@ -84,7 +84,7 @@ impl Ttl {
         )
     }
 
-    /// The smaller ones: none below 0. It answers `AllocError` only where memory was refused.
+    /// The set of the smaller ones, down to 0. It answers `AllocError` only where memory was refused.
     pub fn smaller(self, alloc: Global) -> Result<Spans, AllocError>
         ensures top { IfOk result (λ set. set.top ≡ ttl_top) }
         ensures members { IfOk result (λ set. (x : ℕ) → x ≤ ttl_top → has set.intervals x ≡ nat_lt x self) }

@@ -1,4 +1,4 @@
-// Whether two tables are equal: their policies, their chains, and the rules of these.
+//! Whether two tables are equal, rule by rule.
 ghost use Rattle.std.specs.Prelude.{◌≡◌, ◌<◌, ◌↔◌, length, IsTrue};
 ghost use Rattle.table.specs.chains.Table.{chain_at};
 

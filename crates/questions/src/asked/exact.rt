@@ -1,4 +1,4 @@
-// Boxes of which all packets have one walk.
+//! The leaves of a set of packets, each with packets that all have one walk.
 ghost use Rattle.std.specs.Prelude.{◌≡◌, false, Any, IfOk, IsTrue, MatchOption};
 ghost use Rattle.questions.specs.asked.Unknown.{MayBeSeveral};
 ghost use Rattle.questions.specs.steps.Exact.{AddsExact, AreExact, AreExactWalks, HasSplitCopy, IsSharedOf, IsSplitIn, IsWalkOf};
@@ -12,7 +12,7 @@ use crate::walking::task::Leaf;
 use fields::Hook;
 use std::alloc::{AllocError, Global};
 
-// What becomes of the packets that a leaf shares with a box.
+// The walks of the packets that a leaf shares with a box.
 #[derive(Drop)]
 enum Shared {
     // There are none.

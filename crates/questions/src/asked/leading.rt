@@ -1,4 +1,4 @@
-// The chains from which jumps and gotos lead to a chain.
+//! The chains from which jumps and gotos lead to a chain.
 ghost use Rattle.std.specs.Prelude.{◌≡◌, ◌<◌, ◌↔◌, false, true, length, option_map, slice_index_or, IfOk, IfSome, IsTrue};
 ghost use Rattle.fields.specs.declared.packet.hook.Hook.{Hook as HookView};
 ghost use Rattle.table.specs.chains.Table.{chain_at};

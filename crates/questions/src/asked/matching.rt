@@ -1,4 +1,4 @@
-// The packets that a rule matches.
+//! The packets at a hook that the box of a rule has.
 ghost use Rattle.std.specs.Prelude.{IfOk};
 ghost use Rattle.questions.specs.Ends.{IsRule};
 ghost use Rattle.questions.specs.steps.Takers.{IsBoxAt};

@@ -1,4 +1,4 @@
-//! What becomes of packets that are given in part.
+//! The verdicts of a set of packets, grouped by a field.
 ghost use Rattle.std.specs.Prelude.{IfOk, MatchOption};
 ghost use Rattle.questions.specs.asked.Reach.{IsReach};
 ghost use Rattle.questions.specs.asked.Unknown.{MayBeSeveralMet};
@@ -14,7 +14,9 @@ use std::alloc::{AllocError, Global};
 /// The packets of a box that can be at a hook.
 #[derive(Drop)]
 pub struct Given {
+    /// The hook.
     pub hook: Hook,
+    /// The box.
     pub area: Area,
 }
 
@@ -27,11 +29,16 @@ fn met(alloc: Global, given: &Given) -> Result<Given, AllocError>
     Ok(Given { hook, area })
 }
 
-/// What becomes of some packets: for each verdict and the rule or the policy that decides, the numbers that the packets with this
-/// end have on a field. Each number is that of such a packet, and each packet's number is there. Nothing is known where there
-/// are more steps to take than `budget` (`leaves`).
+/// The verdicts of a set of packets: for each verdict, and each rule or policy that gives it to some of them, the
+/// numbers that these packets have on a field. The sets are exact: each number is that of such a packet, and the
+/// number of each such packet is there. There is one entry a verdict and decider, and each rule is one of the
+/// table's.
 ///
-/// The packets walk the table as boxes, and each box that came to an end walks it again, with `budget` steps each time.
+/// The packets walk the table as boxes, with `budget` steps (`leaves`). What they share with a leaf is parted by
+/// transport header, and each part walks again, with `budget` steps each time.
+///
+/// There is no answer only where the steps don't suffice, a trail is full, or a part that walks again doesn't come to
+/// one leaf.
 ///
 /// # Errors
 ///

@@ -1,4 +1,4 @@
-//! Packets by verdict and decider.
+//! Packets grouped by verdict and decider, with their numbers on a field.
 ghost use Rattle.std.specs.Prelude.{◌≡◌, ◌↔◌, false, All, Any, IfOk, IsTrue, OnOk};
 ghost use Rattle.fields.specs.numbers.Field.{top};
 ghost use Rattle.questions.specs.steps.Groups.{AreGroups, HasEnd, IsJoined, IsNamed, IsNumbersOf, Lists};
@@ -8,10 +8,10 @@ use fields::{Field, Spans};
 use std::alloc::{AllocError, Global};
 use table::{Step, Verdict};
 
-/// Packets whose walks end with one verdict by one decider, by their numbers on one field.
+/// The packets that one decider gives one verdict, by their numbers on a field.
 #[derive(Drop)]
 pub struct Reached {
-    /// What becomes of them.
+    /// Their verdict.
     pub verdict: Verdict,
     /// The rule that decides, the last that matches; none where the policy does.
     pub by: Option<Step>,

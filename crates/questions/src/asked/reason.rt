@@ -26,9 +26,11 @@ pub enum Reason {
     Unreached,
     /// The rule matches no packet that can be at a hook from whose chain jumps and gotos lead to the rule's chain.
     NoPacket,
-    /// Packets come to its chain by these rules alone, and no packet that one of them matches is one that it matches.
+    /// The rule's chain is one of some chains in which no walk begins, and just these rules of other chains jump or
+    /// go to one of them. No packet is matched by one of these rules and by the rule.
     Excluded(Vec<Step>),
-    /// It matches some of those, and just these rules and policies decide them; none of the packets comes to the rule.
+    /// The rule matches some of these packets, and just these rules and policies decide them: each such packet is
+    /// decided by one of them, and each of them decides one.
     Taken(Takers),
 }
 
@@ -75,14 +77,15 @@ fn reason_by(
     }
 }
 
-/// Why rule `number` of the chain at a place, from 1, is dead: it allows no number on a field; no jumps and gotos lead to its chain;
-/// it matches no packet at the hooks from where they do; the rules that lead to its chain match none that it matches; or others decide all
-/// packets there that it matches. The packets that its box has
-/// walk from each of these hooks as boxes, with `budget` steps, and each box that came to an end walks again, with `budget` steps
-/// each time (`leaves`).
+/// Why rule `number` of the chain at a place, both of which have to be there, is dead. Rules count from 1. An answer
+/// also says that the rule is dead.
 ///
-/// There is no answer only where, at a hook that leads to the rule's chain, the rule asks both ports (`Rule::asks_both`), the steps
-/// don't suffice, a box that was walked again has no one walk, or a walk comes to the rule or is too long.
+/// The packets that the rule's box has walk from each hook that leads to its chain as boxes, with `budget` steps, and
+/// each part of a leaf, by transport header, walks again, with `budget` steps each time (`leaves`).
+///
+/// There is no answer only where, at a hook from whose chain jumps and gotos lead to the rule's chain, the rule tests
+/// both ports at once (`Rule::asks_both`), the steps don't suffice, a part that walks again doesn't come to one leaf,
+/// or a walk comes to the rule or is too long.
 ///
 /// # Errors
 ///

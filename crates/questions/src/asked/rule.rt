@@ -17,15 +17,16 @@ use fields::{Hook, Words};
 use std::alloc::{AllocError, Global};
 use table::{Step, Table};
 
-/// What is said of a rule.
+/// What is known of a rule.
 #[derive(Drop)]
 pub enum Life {
-    /// It matches no packet on its walk.
+    /// The rule is on the walk of no packet that can be at its hook.
     Dead,
-    /// It is on the walk of a packet, which these words write.
+    /// These words write a packet, and the rule is on its walk.
     Live(Words),
-    /// Neither is known: there were too many boxes, or of each with the rule on its trail no line writes a packet, or the one that
-    /// was taken has another walk.
+    /// Neither is known. Each hook at which the rule isn't dead is one where the steps don't suffice, a trail is
+    /// full, or leaves have the rule on their trails, and each of these has no packet that a line writes, or one
+    /// whose walk hasn't the rule. There is such a hook.
     Unclear,
 }
 
@@ -125,8 +126,8 @@ fn life_at(
     }
 }
 
-/// Whether rule `number` of the chain at a place, from 1, can match at all. Of each hook the packets that the rule's box has
-/// walk the table as boxes, with `budget` steps (`leaves`).
+/// Whether rule `number` of the chain at a place, both of which have to be there, can match at all. Rules count from
+/// 1. At each hook the packets that the rule's box has walk the table as boxes, with `budget` steps (`leaves`).
 ///
 /// # Errors
 ///

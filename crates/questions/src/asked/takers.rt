@@ -1,4 +1,4 @@
-//! Who decides the packets that a rule would match.
+//! Which rules and policies decide the packets that a rule would match.
 ghost use Rattle.std.specs.Prelude.{◌≡◌, false, All, Any, IfOk, IsTrue, MatchOption, OnOk};
 ghost use Rattle.table.specs.chains.Table.{chain_at};
 ghost use Rattle.questions.specs.Ends.{IsRule};
@@ -19,7 +19,7 @@ use fields::Hook;
 use std::alloc::{AllocError, Global};
 use table::Step;
 
-/// Who decides some packets: rules and policies, each named once.
+/// Which rules and policies decide some packets, each named once.
 #[derive(Drop)]
 pub struct Takers {
     /// The rules.
@@ -31,7 +31,7 @@ pub struct Takers {
 impl Takers {
     ghost use Rattle.questions.specs.steps.Takers.{Takes, TakesAll};
 
-    // Adds who decides a leaf of packets at a hook.
+    // Adds the decider of a leaf of packets at a hook.
     fn add(&mut self, hook: Hook, leaf: &Leaf) -> Result<(), AllocError>
         ensures { OnOk result (Takes hook leaf.now self.old self.new) }
     {
@@ -49,7 +49,7 @@ impl Takers {
         Ok(())
     }
 
-    // Adds who decides any of the leaves of packets at a hook.
+    // Adds the deciders of leaves of packets at a hook.
     fn add_all(&mut self, hook: Hook, found: &[Leaf]) -> Result<(), AllocError>
         ensures { OnOk result (TakesAll hook found.now self.old self.new) }
     {

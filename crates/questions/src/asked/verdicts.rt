@@ -15,15 +15,17 @@ use fields::{Hook, Words};
 use std::alloc::{AllocError, Global};
 use table::{Table, Verdict};
 
-/// What is said of two tables.
+/// What is known of two tables.
 #[derive(Drop)]
 pub enum Likeness {
-    /// They give each packet the same verdict.
+    /// Both give each packet that can be at its hook the same verdict, whichever rule or policy gives it.
     Same,
-    /// They give the packet that these words write two verdicts.
+    /// These words write a packet, and the tables give it two verdicts.
     Differ(Words),
-    /// Neither is known: there were too many boxes, or of each with two verdicts no line writes a packet, or the one that was taken
-    /// gets one verdict from both.
+    /// Neither is known. Each hook at which the tables aren't known to be the same is one where the steps don't
+    /// suffice, a trail is full, or a leaf of the first table has leaves in the second one with another verdict, and
+    /// each of these has no packet that a line writes, or one to which both tables give one verdict. There is such a
+    /// hook.
     Unclear,
 }
 
@@ -158,9 +160,9 @@ fn likeness_at(
     }
 }
 
-/// Whether two tables give each packet at one hook the same verdict, as `compare` says it of all hooks: the packets of the
-/// hook walk the first table as boxes, and each box with one walk then walks the second one. Where the tables are equal
-/// it takes no step.
+/// Whether two tables give each packet at one hook the same verdict; a packet that shows a difference is at that
+/// hook. The packets of the hook walk the first table as boxes, with `budget` steps, and each leaf then walks the
+/// second one, with `budget` steps again (`leaves`). Equal tables are the same before any step.
 ///
 /// # Errors
 ///
@@ -182,9 +184,8 @@ pub fn compare_at(
     likeness_at(alloc, old, new, hook, budget)
 }
 
-/// Whether two tables give each packet the same verdict, whichever rule gives it. Of each hook all packets walk the first
-/// table as boxes, and each box with one walk then walks the second one: each of these walks has `budget` steps
-/// (`leaves`). Where the tables are equal it takes no step.
+/// Whether two tables give each packet the same verdict: `compare_at` of each hook in turn. Equal tables are the same
+/// before any step.
 ///
 /// # Errors
 ///

@@ -1,4 +1,4 @@
-// The rules by which packets come to a rule's chain, where they leave none to the rule.
+//! The rules by which packets come to a rule's chain, where none of these packets is left to the rule.
 ghost use Rattle.std.specs.Prelude.{◌≡◌, ◌<◌, length, IfOk, MatchOption, OnOk};
 ghost use Rattle.questions.specs.Ends.{IsRule};
 ghost use Rattle.questions.specs.asked.Reason.{IsExcluded};

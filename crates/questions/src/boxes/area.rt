@@ -1,4 +1,4 @@
-//! Boxes of packets.
+//! Boxes of packets: a set of numbers on each field.
 ghost use Rattle.std.specs.Prelude.{◌≡◌, ◌<◌, ◌≤◌, ◌&&◌, ◌||◌, ◌==◌, ℕ, [], false, List, All, Any, not, length, slice_index_or, IfOk, IsTrue, OnOk};
 ghost use Rattle.fields.specs.declared.numbers.field.Field.{Field};
 ghost use Rattle.fields.specs.numbers.Field.{all_fields, top};
@@ -151,8 +151,9 @@ fn open(alloc: Global, hook: Hook, sets: &mut [Spans]) -> Result<(), AllocError>
 }
 
 impl Area {
-    /// A box that has all packets that can be at a hook. One for here has no interface that it goes out by, one from here none
-    /// that it came in by; that a packet has no number on a field that it doesn't carry, no box can say of all protocols at once.
+    /// A box that has all packets that can be at a hook. At INPUT it has no interface that packets go out by, at
+    /// OUTPUT none that they came in by. It has more than packets: that a packet's number is 0 on a field that it
+    /// doesn't carry, no box can say of all protocols at once.
     ///
     /// # Errors
     ///
@@ -198,7 +199,7 @@ impl Area {
         Area::part(alloc, self.sets(), other, FIELDS)
     }
 
-    /// The box again.
+    /// An equal box.
     ///
     /// # Errors
     ///

@@ -9,10 +9,11 @@ use rules::{Boxed, Work};
 use std::alloc::{AllocError, Global};
 use table::Table;
 
-/// A table with the boxes of its rules. These are made once, for any number of questions.
+/// A table with the boxes of its rules. These are made once, for any number of questions, and no question changes
+/// them.
 #[derive(Drop)]
 pub struct BoxedTable {
-    /// What is asked about.
+    /// The table.
     pub table: Table,
     // The boxes of the rules, chain by chain in the order of a listing.
     chains: Vec<Vec<Boxed>>,

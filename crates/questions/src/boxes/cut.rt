@@ -1,4 +1,5 @@
-// A box of packets cut by a rule.
+//! A box of packets cut by a rule: the packets that it matches, and parts with all the others; or, where that depends
+//! on both ports, parts on which the rule has to be tested again.
 ghost use Rattle.std.specs.Prelude.{◌≡◌, ◌<◌, ℕ, List, IfOk, OnOk};
 ghost use Rattle.fields.specs.numbers.Field.{top};
 ghost use Rattle.rules.specs.boxing.Boxed.{IsBox, IsBoxOf};

@@ -1,4 +1,4 @@
-//! Whether boxes have packets in common.
+//! Whether boxes have packets in common, which a step tests before it takes memory.
 ghost use Rattle.std.specs.Prelude.{◌≡◌, ◌&&◌, ℕ, List, false, IsTrue};
 ghost use Rattle.fields.specs.numbers.Spans.{has};
 ghost use Rattle.rules.specs.boxing.Boxed.{IsBox};

@@ -1,4 +1,4 @@
-//! Packets by what stands behind the header of IP.
+//! Packets by their transport header, which says what they carry.
 ghost use Rattle.std.specs.Prelude.{◌≡◌, ◌≤◌, ◌==◌, ◌||◌, ℕ, Bool, not, IfOk};
 ghost use Rattle.fields.specs.numbers.Field.{protocol_top, top};
 ghost use Rattle.fields.specs.numbers.Spans.{has};
@@ -195,7 +195,7 @@ fn kept(alloc: Global, area: Area, field: Field, wanted: bool) -> Result<Area, A
     area.narrow(alloc, field, &none)
 }
 
-/// The packets of a box that carry the key of a field, of those at a hook.
+/// The packets of a box, of those at a hook, that carry the key of a field, and no others.
 ///
 /// # Errors
 ///

@@ -1,4 +1,4 @@
-//! Numbers of a box that a packet line can write.
+//! The numbers of a packet of a box that a line can write, if there is one.
 ghost use Rattle.std.specs.Prelude.{◌≡◌, ◌≤◌, ◌↔◌, ℕ, [], false, true, IfSome, IsNone, IsTrue, MatchOption};
 ghost use Rattle.fields.specs.declared.numbers.field.Field.{Field};
 ghost use Rattle.fields.specs.numbers.Field.{fragment_top, protocol_top};

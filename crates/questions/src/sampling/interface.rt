@@ -1,4 +1,4 @@
-//! Numbers of interfaces that a set has.
+//! The least number of an interface with a name that a set has.
 ghost use Rattle.std.specs.Prelude.{◌≡◌, ◌<◌, ◌≤◌, ◌+◌, ◌^◌, IfSome, MatchOption, if◌then◌else◌};
 ghost use Rattle.fields.specs.numbers.Spans.{has, in_span};
 ghost use Rattle.fields.specs.values.Interface.{interface_value, is_interface_byte};

@@ -1,4 +1,4 @@
-// The line that writes a packet.
+//! The line of a packet, by its numbers.
 ghost use Rattle.std.specs.Prelude.{◌≡◌, ◌≤◌, ◌++◌, ◌∷◌, OnOk, IfOk};
 ghost use Rattle.fields.specs.declared.packet.hook.Hook.{Hook};
 ghost use Rattle.fields.specs.numbers.Field.{top};

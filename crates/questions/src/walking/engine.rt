@@ -1,4 +1,4 @@
-// The walk of a box through a table.
+//! The walk of a box through a table, step after step, until no box is left.
 ghost use Rattle.std.specs.Prelude.{◌≡◌, ◌<◌, length, IfOk, IfSome, MatchOption, OnOk};
 ghost use Rattle.fields.specs.packet.Packet.{PacketView};
 ghost use Rattle.table.specs.declared.verdict.Verdict.{Verdict};
@@ -94,12 +94,13 @@ fn begin(alloc: Global, table: &Table, hook: Hook, start: Area) -> Result<Front,
     Ok(front)
 }
 
-/// The walk of a box, from the first rule of a hook's chain: boxes with one walk each, such that every packet of the box
-/// that can be at the hook is in one of them. There are none where a walk has a full trail of 65,536 rules, or where
-/// there are more steps to take than `budget`: a step is one rule asked of one box, or one chain that is at its end.
+/// The walk of a box, from the first rule of a hook's chain: leaves, such that every packet of the box that can be at
+/// the hook is in one of them and has the walk that it shows. There are none only where the whole budget was used up
+/// with a box left, or a trail was full, with 65,536 rules, before.
 ///
-/// A step takes no memory where the rule matches none of the packets, and else that of a copy of the box for each field on
-/// which others are left out.
+/// A step of the budget is one rule tested on one box, or one chain at its end. It takes no memory where the rule
+/// matches none of the packets. Else it takes that of a copy of the box, of the rests that wait and of the trail for
+/// each field on which others are left out.
 ///
 /// # Errors
 ///

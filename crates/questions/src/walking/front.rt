@@ -1,4 +1,4 @@
-// What is left to look into, and what was found.
+//! The boxes that are left to walk, and the leaves so far.
 ghost use Rattle.std.specs.Prelude.{OnOk};
 ghost use Rattle.table.specs.chains.Table.{Table as Filter};
 ghost use Rattle.table.specs.declared.verdict.Verdict.{Verdict};

@@ -1,4 +1,5 @@
-//! Boxes on their way through the table, and at its end.
+//! Boxes on their way through the table, with what is left of their chains and their trails; and leaves, at the end
+//! of their walks.
 ghost use Rattle.std.specs.Prelude.{◌≡◌, IfOk};
 
 use crate::boxes::area::Area;
@@ -20,19 +21,24 @@ pub(crate) struct Task {
     pub trail: Vec<Step>,
 }
 
-/// A box of packets whose walks are one: its trail, its verdict, and whether the policy gave it.
+/// A box with a walk: its trail, its verdict, and whether the policy gave it. A packet of the box may have another
+/// walk.
 #[derive(Drop)]
 pub struct Leaf {
+    /// The box.
     pub area: Area,
+    /// The rules that match, in turn.
     pub trail: Vec<Step>,
+    /// The verdict.
     pub verdict: Verdict,
+    /// Whether the policy gives the verdict.
     pub by_policy: bool,
 }
 
 impl Leaf {
     ghost use Rattle.questions.specs.Ends.{step_of};
 
-    /// The rule that decides, the last of the trail; none where the policy does.
+    /// The rule that decides the walk that the leaf shows, the last of the trail; none where the policy does.
     pub fn decider(&self) -> Option<Step>
         ensures { result ≡ step_of self.now }
     {

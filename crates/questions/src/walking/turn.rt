@@ -1,4 +1,4 @@
-// Where the walks of a box go.
+//! Where the next rule sends the parts of a box.
 ghost use Rattle.std.specs.Prelude.{◌≡◌, ◌+◌, ◌<◌, ◌∷◌, [], ◌++◌, All, length, OnOk};
 ghost use Rattle.rules.specs.rule.Actions.{target_of};
 ghost use Rattle.table.specs.chains.Table.{Table as Filter, chain_at};
@@ -149,8 +149,8 @@ fn pass_over(
     Ok(())
 }
 
-// The next rule of a chain is asked of the packets of a box: those that it matches follow its target, the others go on
-// behind it. Where that hangs on both ports, the box is parted by ports first, and the rule is asked again of its parts.
+// Cuts a box by the next rule of a chain: the packets that it matches follow its target, the others go on behind it. Where
+// that depends on both ports, the box is parted by ports first, and the rule is tested again on its parts.
 pub(crate) fn ask(
     subject: &BoxedTable,
     front: &mut Front,

@@ -1,4 +1,4 @@
-//! What follows the name of a command.
+//! What follows the name of a command, a row a command.
 ghost use Rattle.std.specs.Prelude.{length, drop};
 ghost use Rattle.restore.specs.commands.Command.{IsRead};
 ghost use Rattle.restore.specs.steps.Reading.{row_of};

@@ -1,4 +1,4 @@
-//! Words of digits.
+//! Words of digits: the numbers of rules, and counters.
 ghost use Rattle.std.specs.Prelude.{◌≡◌};
 ghost use Rattle.std.specs.Char.{is_ascii_digit};
 ghost use Rattle.std.specs.List.{list_all};

@@ -1,4 +1,4 @@
-//! A command, after its table where that is named.
+//! A command, after the table that may be named before it.
 ghost use Rattle.std.specs.Prelude.{◌≡◌, ◌||◌, length, drop, map, find, codes, Err};
 ghost use Rattle.std.specs.Str.{bytes_eq};
 ghost use Rattle.rules.specs.declared.reading.fault.Refusal.TheVariants as refusal;

@@ -1,4 +1,4 @@
-//! The names of commands.
+//! The names of commands, one row each.
 ghost use Rattle.std.specs.Prelude.{◌≡◌, find};
 ghost use Rattle.restore.specs.commands.CommandForms.{is_name_of};
 ghost use Rattle.restore.specs.steps.Reading.{row_of};

@@ -1,4 +1,4 @@
-//! The words of a command, one after another.
+//! The next word, number or rule of a command.
 ghost use Rattle.std.specs.Prelude.{◌≡◌, [], ◌∷◌, length, drop, Some, None, option_map};
 ghost use Rattle.rules.specs.reading.Steps.{rule_of};
 ghost use Rattle.restore.specs.Sequence.{Gives, made_into, refused_as};

@@ -1,4 +1,4 @@
-//! The parts of a chain line.
+//! The parts of a chain line: its name, its policy and its counters.
 ghost use Rattle.std.specs.Prelude.{◌≡◌, Option, option_map, drop};
 ghost use Rattle.fields.specs.text.WordSlice.{words_in};
 ghost use Rattle.table.specs.chains.Table.{is_built_in};

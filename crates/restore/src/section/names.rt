@@ -1,4 +1,4 @@
-//! The names that chain lines had.
+//! The names that the chain lines of a section had.
 ghost use Rattle.std.specs.Prelude.{◌≡◌, OnOk, OnErr};
 ghost use Rattle.std.specs.FinSet as set;
 

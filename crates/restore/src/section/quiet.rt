@@ -1,4 +1,4 @@
-//! Lines that are known by their bytes.
+//! Lines that are known by their bytes: blank lines, comments, and `COMMIT`.
 ghost use Rattle.std.specs.Prelude.{◌≡◌, nat_lt, length};
 ghost use Rattle.std.specs.List.{list_all};
 ghost use Rattle.fields.specs.text.Words.{is_blank};

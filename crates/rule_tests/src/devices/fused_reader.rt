@@ -1,3 +1,4 @@
+//! Readers over memory that fail at a call.
 use fields::{Failure, Fuse, FusedReader};
 use std::io::{BufRead, ErrorKind, Read};
 use std::process::Abort;

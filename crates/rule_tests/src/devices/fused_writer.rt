@@ -1,3 +1,4 @@
+//! Writers into memory that fail at a call.
 use fields::{Failure, Fuse, FusedWriter};
 use std::alloc::Global;
 use std::io::{ErrorKind, Write};

@@ -1,3 +1,4 @@
+//! The names and top values of fields.
 use fields::{FIELDS, Field};
 
 // Each field's name and top, at its index.

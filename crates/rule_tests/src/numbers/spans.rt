@@ -1,3 +1,4 @@
+//! Sets of numbers, each beside the bits of a mask.
 use fields::{Interval, Spans};
 use std::alloc::{AllocError, Global};
 use std::process::Abort;

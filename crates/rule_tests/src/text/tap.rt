@@ -1,3 +1,4 @@
+//! Taps over readers and writers.
 use fields::{Failure, Fuse, FusedReader, FusedWriter, LineEnd, LineRead, ReadFailed, Tap};
 use std::alloc::{AllocError, Global};
 use std::io::{BufRead, Write};

@@ -1,4 +1,4 @@
-//! What a rule allows on each field.
+//! The box of a rule, made condition by condition.
 ghost use Rattle.std.specs.Prelude.{◌≡◌, ◌+◌, ◌-◌, ◌^◌, ◌<◌, ◌&&◌, ℕ, min, nat_le, length, slice_index_or, IfOk, IsTrue, OnOk};
 ghost use Rattle.std.specs.List.{list_all};
 ghost use Rattle.fields.specs.numbers.Field.{top};
@@ -19,7 +19,7 @@ use std::alloc::{AllocError, Global};
 use std::array;
 use std::marker::Model;
 
-/// The numbers that a rule allows, on each field.
+/// The box of a rule: on each field the numbers that it allows, as intervals.
 ///
 /// `Boxed::of` alone makes a box, and none is copied.
 #[derive(Drop)]

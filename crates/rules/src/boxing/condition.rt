@@ -1,4 +1,4 @@
-// What an option asks of packets, as a set of numbers on a field.
+//! The numbers that an option allows on the field of which it speaks: a case an option.
 ghost use Rattle.std.specs.Prelude.{◌≡◌, Some, Ok, IfOk};
 ghost use Rattle.rules.specs.rule.Allows.{field_of, holds_of, option_value_holds};
 ghost use Rattle.rules.specs.steps.Conditions.{Asks};

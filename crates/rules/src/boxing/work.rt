@@ -1,9 +1,10 @@
-// How many boxes were made.
+//! A count of the boxes that were made.
 ghost use Rattle.std.specs.Prelude.{◌≡◌, ◌+◌, ◌-◌, ◌^◌, min};
 
 use std::marker::Model;
 
-/// A count of the boxes that were made of rules, so that a contract can say how many a call makes.
+/// A count of the boxes that were made of rules, also of those for which memory was refused, so that a contract can
+/// say how many a call makes.
 ///
 /// It stays at its greatest value, 2 to the 64 less 1.
 #[derive(Debug, Drop)]

@@ -1,4 +1,4 @@
-// The text of a comment.
+//! The text of a comment.
 ghost use Rattle.std.specs.Prelude.{◌≡◌, ◌≤◌, length, false, IfOk, Ok};
 ghost use Rattle.rules.specs.options.OptionValues.{text_within};
 ghost use Rattle.fields.specs.text.Tap.{has_failed, Puts};

@@ -1,4 +1,4 @@
-// The matches of a rule.
+//! The matches of a rule, in one table: a row a match.
 ghost use Rattle.std.specs.Prelude.{◌≡◌, Option, Some, None};
 ghost use Rattle.rules.specs.options.Matches.{kind_of, same_kind};
 

@@ -1,4 +1,5 @@
-// The options of a rule.
+//! The options of a rule, in one table: of each its spellings, how many values it takes, whether `!` may stand, its
+//! owner and its place in a listing.
 ghost use Rattle.std.specs.Prelude.{◌≡◌, Option, Some, None};
 ghost use Rattle.std.specs.List.{list_any};
 ghost use Rattle.std.specs.Str.{bytes_eq};

@@ -1,4 +1,4 @@
-// Options with their values.
+//! An option with its value, and whether `!` stands before it.
 ghost use Rattle.std.specs.Prelude.{◌≡◌};
 ghost use Rattle.std.specs.List.{list_any};
 ghost use Rattle.rules.specs.options.OptionValues.{is_protocol, has_protocol, is_condition};

@@ -1,4 +1,4 @@
-// That the line of a rule in a listing reads back.
+//! The law that the line of a rule in a listing reads back.
 ghost use Rattle.rules.specs.printing.RoundTrip.{LinesOfRulesReadBack};
 
 /// The law that the line `-A name` with the text of a rule, where that text reads back, is one line of at most 8,876

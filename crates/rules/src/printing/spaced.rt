@@ -1,4 +1,5 @@
-//! What is printed before the words of an option, and of a match, in one piece.
+//! The name of an option, and of a match, with the blanks around it, written in one piece: a row an option, a row a
+//! match.
 ghost use Rattle.std.specs.Prelude.{◌≡◌, ◌++◌, [], codes, if◌then◌else◌};
 ghost use Rattle.fields.specs.text.Printed.{spaced, bare};
 ghost use Rattle.rules.specs.options.Options.{name_of};

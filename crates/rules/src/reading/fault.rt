@@ -1,4 +1,4 @@
-// Why words are no rule.
+//! Why words are no rule.
 use thiserror::Error;
 
 /// The first rule of reading that the words break.

@@ -1,4 +1,5 @@
-// The form in which a rule is kept: without what is no condition, and with what is meant where nothing is said.
+//! The form in which a rule is kept: what is no condition is taken out, and what is meant where nothing is said is
+//! put in.
 ghost use Rattle.std.specs.Prelude.{◌≡◌, ◌≤◌, Option, Some, None, Ok, List, filter, map, IfOk};
 ghost use Rattle.rules.specs.Sequence.{Gives};
 ghost use Rattle.rules.specs.options.OptionValues.{is_condition};

@@ -1,4 +1,4 @@
-// An option as words give it: an optional `!`, a spelling of the option, its values.
+//! An option as words give it: an optional `!`, a spelling of the option, its values.
 ghost use Rattle.std.specs.Prelude.{◌≡◌, ◌≤◌, ◌<◌, ◌+◌, ◌-◌, Option, Some, None, List, length, IfOk};
 ghost use Rattle.fields.specs.text.WordSlice.{words_in};
 ghost use Rattle.rules.specs.reading.OptionWords.{with_values, inverted_words, after_bang, plain_words, option_words_at};

@@ -1,4 +1,4 @@
-// A rule as the options read so far make it.
+//! A rule as the options read so far make it.
 ghost use Rattle.std.specs.Prelude.{◌≡◌, ◌==◌, ◌||◌, ◌≤◌, ◌<◌, ◌+◌, Option, Some, None, Ok, List, length, IfSome, IfOk, vec_len};
 ghost use Rattle.std.specs.List.{list_any};
 ghost use Rattle.rules.specs.rule.Actions.{action_has};

@@ -1,4 +1,4 @@
-// What a rule does.
+//! What a rule does with a packet that it matches.
 ghost use Rattle.std.specs.Prelude.{◌≡◌, Option, Some, None};
 ghost use Rattle.rules.specs.rule.Actions.{action_of, is_owned_by, action_has};
 ghost use Rattle.rules.specs.options.Options.{owner};
@@ -6,7 +6,7 @@ ghost use Rattle.rules.specs.options.Options.{owner};
 use crate::options::option::{Extended, Opt, Owner};
 use fields::Name;
 
-// What becomes of a packet that a rule matches; the type of REJECT stands among the options.
+// The target of a rule; the type of REJECT stands among the options.
 #[derive(PartialEq, Drop)]
 pub(crate) enum Action {
     Accept,

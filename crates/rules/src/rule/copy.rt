@@ -1,4 +1,4 @@
-// Copies of what a rule holds.
+//! Copies of what a rule holds.
 ghost use Rattle.std.specs.Prelude.{◌≡◌, Option, Some, None, IfOk};
 ghost use Rattle.rules.specs.steps.Views.{view_match, view_matches, view_spec};
 

@@ -1,4 +1,4 @@
-// What a rule asks of several fields at once.
+//! What a rule tests on several fields of a packet at once: each `--ports`.
 ghost use Rattle.std.specs.Prelude.{◌≡◌};
 ghost use Rattle.std.specs.List.{list_all, list_any};
 ghost use Rattle.rules.specs.rule.Crossing.{cross, has_both, has_either_port, is_both, option_value_crosses, match_crosses};
@@ -67,9 +67,9 @@ pub(crate) fn ask_both(matches: &[Match]) -> bool
     matches.iter().any(has_both)
 }
 
-/// Whether the conditions of a rule that ask several fields at once hold of the packet: each `--ports` of its matches.
-/// Together with what the rule allows on each field they make up what it matches. It takes no memory, and time linear in
-/// the options of the rule's matches.
+/// Whether the conditions of a rule that test several fields at once hold of the packet: each `--ports` of its
+/// matches. The rule matches the packet where they hold and it allows each of the packet's numbers. It takes no
+/// memory, and time linear in the options of the rule's matches.
 pub fn cross(rule: &Rule, packet: &Packet) -> bool
     ensures { result ≡ cross packet.now.values rule.now }
 {

@@ -1,4 +1,4 @@
-//! What a rule asks of several fields at once, asked of all packets whose ports are in two sets.
+//! What a rule tests on several fields at once, for all packets whose ports are in two sets.
 ghost use Rattle.std.specs.Prelude.{◌≡◌, ℕ, List, Bool, true, false, not, Any, IfOk, IfSome, IsTrue};
 ghost use Rattle.std.specs.List.{list_all};
 ghost use Rattle.fields.specs.numbers.Field.{top};
@@ -17,16 +17,16 @@ use crate::rule::spec::Match;
 use fields::{PortList, Spans};
 use std::alloc::{AllocError, Global};
 
-/// What the conditions of a rule that ask several fields at once say of the packets whose ports are in two sets.
+/// What the conditions of a rule that test several fields at once say of the packets whose ports are in two sets.
 #[derive(Drop)]
 pub enum Crossing {
     /// They hold of each.
     Holds,
     /// They hold of none.
     Fails,
-    /// Some of the source ports are listed in a condition, and some aren't: all ports that are listed there.
+    /// Some of the source ports are listed in a condition, and some aren't: the ports that it lists.
     BySource(Spans),
-    /// Some of the destination ports are listed in a condition, and some aren't: all ports that are listed there.
+    /// Some of the destination ports are listed in a condition, and some aren't: the ports that it lists.
     ByDestination(Spans),
 }
 
@@ -170,10 +170,13 @@ fn matches_say(
     Ok(Crossing::Holds)
 }
 
-/// What the conditions of a rule that ask several fields at once, each `--ports` of its matches, say of all packets whose
-/// source port is in one set, and whose destination port is in another. Where it depends on the packet, these packets can be
-/// parted: by their source ports, or by their destination ports, into those that a condition lists and the others. A rule
-/// without such conditions takes no memory.
+/// What the conditions of a rule that test several fields at once, each `--ports` of its matches, say of all packets
+/// whose source port is in one set, and whose destination port is in another. Both are sets of ports, up to 65535.
+///
+/// They hold of each such packet, or of none. Or the packets have to be parted first, by the ports that one of the
+/// conditions lists: by their source ports, where some of these are listed and some aren't, else by their destination
+/// ports. Where all ports of one of the sets are listed, the packets aren't parted by the other. A rule without such
+/// conditions takes no memory.
 ///
 /// # Errors
 ///

@@ -1,4 +1,4 @@
-//! What a rule holds.
+//! What a rule holds: its options, its matches, its action and the options of that.
 ghost use Rattle.std.specs.Prelude.{◌≡◌, ◌↔◌, IsTrue};
 ghost use Rattle.rules.specs.steps.Views.{view_spec};
 

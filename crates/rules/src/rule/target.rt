@@ -1,7 +1,7 @@
-// Targets.
+//! Targets.
 use fields::{Name, RejectType};
 
-/// What becomes of a packet that a rule matches (iptables(8), `-j` and `-g`).
+/// Where the packets go that a rule matches (iptables(8), `-j` and `-g`).
 #[derive(Debug, PartialEq, Eq, Drop)]
 pub enum Target {
     /// The packet is let through.

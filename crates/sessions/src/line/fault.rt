@@ -1,4 +1,4 @@
-//! Why a line of a session is refused: the table of codes, texts and statuses.
+//! Why a line of a session is refused: one table of codes, texts and statuses, over the faults of the crates below.
 ghost use Rattle.std.specs.Prelude.{◌≡◌};
 ghost use Rattle.sessions.specs.line.Fault.{command_text, fault_status, fault_text, line_text, line_status, of_line};
 ghost use Rattle.sessions.specs.line.Fault.{packet_text, refusal_text, rule_text, table_text};

@@ -1,4 +1,4 @@
-//! Where a line of a session stands.
+//! Where a line of a session stands: outside of restores, in one, or after the fault of one.
 ghost use Rattle.std.specs.Prelude.{◌≡◌};
 ghost use Rattle.sessions.specs.line.Outcome.{after_fault, has_ended};
 

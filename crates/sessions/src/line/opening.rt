@@ -1,4 +1,4 @@
-//! How a restore is opened among the lines of a session.
+//! The words that open a restore among the lines of a session: its options, and the line that ends it.
 ghost use Rattle.std.specs.Prelude.{◌≡◌, ◌≤◌, drop, length};
 ghost use Rattle.sessions.specs.line.Opening.{ended_by, is_end_word, joined, opening_of, option_of, options_of};
 

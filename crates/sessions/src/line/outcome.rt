@@ -1,4 +1,4 @@
-//! What a line of a session does.
+//! What a line of a session does, by where it stands: the table after it, where the next line stands, and the answer.
 ghost use Rattle.std.specs.Prelude.{◌≡◌, ◌≤◌, ℕ, List, Ok, Err, length, option_map};
 ghost use Rattle.fields.specs.text.Line.{IsHeld};
 ghost use Rattle.table.specs.edits.Boxes.{MakesOneBoxAtMost};

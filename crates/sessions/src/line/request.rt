@@ -1,4 +1,4 @@
-//! What a line of a session asks for.
+//! What a line of a session asks for, by its first word and the words after it.
 ghost use Rattle.std.specs.Prelude.{◌≡◌, ◌≢◌, [], drop, length, map, slice_index_or};
 ghost use Rattle.restore.specs.Sequence.{Gives};
 ghost use Rattle.sessions.specs.line.Fault.{is_out_of_memory};
@@ -20,7 +20,7 @@ pub(crate) enum Request<'a> {
     Save,
     // `iptables-restore`: a restore that the next lines hold.
     Open(Opening),
-    // `packet`: what becomes of a packet.
+    // `packet`: the walk of a packet.
     Ask(Packet),
     // `lines`: the classifier of a chain.
     Show(&'a [u8]),

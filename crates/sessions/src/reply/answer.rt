@@ -1,4 +1,4 @@
-//! What is printed of a line.
+//! Answers to lines, and what is printed of each and of a fault.
 ghost use Rattle.std.specs.Prelude.{◌≡◌, ℕ};
 ghost use Rattle.fields.specs.text.Tap.{Puts};
 ghost use Rattle.sessions.specs.line.Fault.{fault_line};

@@ -151,17 +151,17 @@ fn put_lines<W: Write>(
     Ok(())
 }
 
-/// Writes the classifier of the rules of the chain at a place: for each field a line of its name and, for each piece in
-/// rising order, the piece's start, and in braces the numbers of the rules that allow the piece, as `22:{1,2}`. Starts
-/// are decimal, but for interfaces, where they are 32 hexadecimal digits.
+/// Writes the classifier of the rules of the chain at a place, which has to be there: for each field a line of its
+/// name and, for each piece in rising order, the piece's start, and in braces the numbers of the rules that allow the
+/// piece, as `22:{1,2}`. Starts are decimal, but for interfaces, where they are 32 hexadecimal digits.
 ///
-/// It takes no memory, and time linear in the text, which is written as it comes, and in the words of the rows: one for
-/// 64 rules.
+/// It takes no memory, and time linear in the text, which is written as it comes, and in the words of the rows: one
+/// for 64 rules.
 ///
 /// # Errors
 ///
-/// `WriteFailed` where the writer failed, now or before: it then got a beginning of the text, none where it had failed
-/// before.
+/// `WriteFailed` where the writer failed, now or before: it then got a beginning of the text, none where it had
+/// failed before.
 #[tactic(auto, unfolding(crate::specs::reply::Lines::lines_reply))]
 pub fn write_lines<W: Write>(
     table: &Table,

@@ -93,18 +93,18 @@ fn put_verdict<W: Write>(
     }
 }
 
-/// Writes what becomes of a packet: a line `CHAIN NUMBER` for each rule that matched, in turn, and then the verdict with
-/// what decided, as `verdict ACCEPT by rule` (iptables(8), "TARGETS"). Of a walk that is too long it is
-/// `verdict TOOLONG` alone.
+/// Writes the walk of a packet: a line `CHAIN NUMBER` for each rule that matched, in turn, and then the verdict with
+/// what decided, as `verdict ACCEPT by rule` (iptables(8), "TARGETS"). Of a walk that is too long it is `verdict
+/// TOOLONG` alone.
 ///
-/// It writes any trail, and of one that the table gave as it is now, the walk of its packet.
+/// It writes any trail. Of a trail that the table gave as it is now, the text is that of the packet's walk.
 ///
 /// It takes no memory, and time linear in the text, which is written as it comes.
 ///
 /// # Errors
 ///
-/// `WriteFailed` where the writer failed, now or before: it then got a beginning of the text, none where it had failed
-/// before.
+/// `WriteFailed` where the writer failed, now or before: it then got a beginning of the text, none where it had
+/// failed before.
 pub fn write_walk<W: Write>(
     table: &Table,
     trail: &Trail,

@@ -1,4 +1,5 @@
-//! Consoles: a reader and a writer, of which the reader is asked in one place.
+//! Consoles: a reader and the writer that answers it. The reader is asked for more in one way, which notes whether
+//! the writer held bytes back then.
 ghost use Rattle.std.specs.Prelude.{◌≡◌, ◌⊎◌, ◌+◌, ◌<◌, ◌≤◌, ◌↔◌, ℕ, Option, List, OnOk, IsTrue, true, false, is_err, vec_len, vec_capacity};
 ghost use Rattle.fields.specs.text.Tap.{has_failed, is_unflushed, known, shown_left, turns_left};
 ghost use Rattle.fields.specs.text.Line.{ReadsOn, ReadsPart};

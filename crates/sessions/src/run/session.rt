@@ -1,4 +1,4 @@
-//! Sessions over a reader and a writer.
+//! Sessions and their runs: one loop over the lines, and what is printed at the end.
 ghost use Rattle.std.specs.Prelude.{◌≡◌, ◌⊎◌, ◌+◌, ◌^◌, ◌<◌, ◌≤◌, ◌↔◌, ℕ, Option, List, [], false, true, IfOk, OnOk, MatchResult, is_err, length, vec_len, vec_capacity};
 ghost use Rattle.std.specs.Io.KnownBytes.{Appends};
 ghost use Rattle.fields.specs.text.Tap.{has_failed, is_unflushed, known, shown_left, turns_left, Puts};
@@ -226,7 +226,7 @@ impl Progress {
     }
 }
 
-/// A table, and the lines that edit it, list it, restore it and ask it about packets.
+/// A table, and the lines that edit it, list it, restore it and give it packets.
 #[derive(Drop)]
 pub struct Session {
     alloc: Global,
@@ -243,8 +243,8 @@ impl Session {
     ghost use Rattle.sessions.specs.steps.Lines.{ExecutesLine, ExecutesLines, state_of};
     ghost use Rattle.sessions.specs.run.Views.{boxes_of, moment, moment_on, table_of};
 
-    /// A session over a table of the built-in chains without rules. It takes the memory of the table and of the longest
-    /// line, 10,240 bytes.
+    /// A session over a table of the built-in chains without rules, with the policy ACCEPT. It takes the memory of
+    /// the table and of the longest line, 10,240 bytes.
     ///
     /// # Errors
     ///
@@ -263,8 +263,8 @@ impl Session {
         })
     }
 
-    /// The table as the lines so far left it. It is sound, its classifiers are those of its chains, and its listing
-    /// restores both.
+    /// The table as the lines so far left it; it is lent. It is sound, its classifiers are those of its chains, and
+    /// its listing restores both.
     pub fn table(&self) -> &Table
         ensures table { result.now ≡ table_of self.now }
         ensures stands { Stands (table_of self.now) }
@@ -401,10 +401,17 @@ impl Session {
         executed
     }
 
-    /// Runs the lines of the input from the table as it is, and answers the status: that of the first fault, 0 without
-    /// one. Each line is executed before the next is read. The replies are handed on, by a flush of the writer, before the
-    /// reader's device is asked for more bytes, and at the end of the run. So whoever waits for a reply before the next
-    /// line gets it, and the replies to lines that come at once are handed on at once. It is `run_on` of both taps.
+    /// Runs the lines of the input from the table as it is, and answers the status: that of the first fault, 0
+    /// without one. Lines count from 1. The taps haven't failed yet. It is `run_on` of both taps.
+    ///
+    /// Each line is executed before the next is read. The replies are handed on, by a flush of the writer, before the
+    /// reader's device is asked for more bytes, and at the end of the run. So whoever waits for a reply before the
+    /// next line gets it, and the replies to lines that come at once are handed on at once.
+    ///
+    /// Whatever the answer, what was read and written is what some lines give, one after another; the table is
+    /// theirs, and the headline holds of them. With a status the run did what the session of all bytes of the input
+    /// gives: output, status and table. Which allocations were refused is part of that: each line has a mark, which
+    /// says whether memory was refused to it.
     ///
     /// After a `RunFault` it may be called again, with new taps; a restore that was open is given up.
     ///
@@ -431,8 +438,8 @@ impl Session {
         self.run_on(&mut console)
     }
 
-    /// Runs the lines of a console's reader, and writes their replies to its writer, as `run` does. Never is the reader
-    /// asked for more than it shows while the writer holds back a byte of a reply.
+    /// Runs the lines of a console's reader, and writes their replies to its writer, as `run` does. The reader is
+    /// never asked for more than it shows while the writer holds back a byte of a reply.
     ///
     /// # Errors
     ///
@@ -459,8 +466,9 @@ impl Session {
         }
     }
 
-    /// Reads the whole input as one restore, whose lines count from 1, and answers the status: that of the first fault,
-    /// after which no line is read, or 0. Without a fault the listing is written, if `list` says so.
+    /// Reads the whole input as one restore, whose lines count from 1, and answers the status: that of the first
+    /// fault, after which no line is read, or 0. Without a fault the listing is written, if `list` says so. The taps
+    /// haven't failed yet. It is `restore_on` of both taps, and says the same of what was read and written as `run`.
     ///
     /// With `noflush` each section begins from the table in place, and else from its policies alone; with `test` no
     /// table is put in place.
@@ -488,8 +496,8 @@ impl Session {
         self.restore_on(noflush, test, list, &mut console)
     }
 
-    /// Reads a console's whole input as one restore, as `restore` does. Never is the reader asked for more than it shows
-    /// while the writer holds back a byte that was written.
+    /// Reads a console's whole input as one restore, as `restore` does. The reader is never asked for more than it
+    /// shows while the writer holds back a byte that was written.
     ///
     /// # Errors
     ///

@@ -1,4 +1,4 @@
-// Copies of chains.
+//! Copies of chains.
 ghost use Rattle.std.specs.Prelude.{◌≡◌, IfOk};
 
 use crate::chain::Chain;

@@ -1,4 +1,5 @@
-// Rules as a chain keeps them.
+//! Rules as a chain keeps them: beside each stands what the walk does after it, with the key of the chain that it
+//! leads to.
 ghost use Rattle.std.specs.Prelude.{◌≡◌, IsTrue, map};
 ghost use Rattle.rules.specs.rule.Actions.{names_chain, target_of};
 ghost use Rattle.table.specs.steps.Renames.{NameChains, retargeted};

@@ -20,7 +20,7 @@ pub struct Step {
     pub number: usize,
 }
 
-/// The rules that match a packet, and what becomes of it: what the walk of `Table::trail` gave.
+/// The rules that match a packet, and its verdict: what `Table::trail`, which alone makes one, answered.
 #[derive(Drop)]
 pub struct Trail {
     steps: Vec<Step>,
@@ -36,7 +36,7 @@ impl Trail {
         &self.steps
     }
 
-    /// What becomes of the packet.
+    /// The packet's verdict.
     pub fn verdict(&self) -> Verdict
         ensures { result ≡ self.now.verdict }
     {
