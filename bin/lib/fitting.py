@@ -46,7 +46,7 @@ class Assumption:
         else:
             raise Wrong(f"--assume '{text}' is not MATCH=true, MATCH=false or TARGET=ACCEPT, with a target that {command('fit')} knows")
         if extension.kind in ("ends", "passes") or extension.options and all(option.place == "=" for option in extension.options):
-            why = "decides nothing" if extension.kind == "passes" else "is known to the program"
+            why = "gives no verdict" if extension.kind == "passes" else "is known to the program"
             raise Wrong(f"--assume '{text}': {self.name.decode()} {why}")
         self.is_exact = not extension.options
 
@@ -220,7 +220,7 @@ class Fitting:
         for part in rule.parts:
             if part.option.names[0] == b"-4":
                 edits.remove(part)
-                edits.say(b"says nothing here, taken out: " + rule.text(part.first, part.last))
+                edits.say(b"no effect here, taken out: " + rule.text(part.first, part.last))
             elif part.option.place == "=":
                 self.spell_part(edits, part)
         for match in rule.matches:
@@ -276,13 +276,13 @@ class Fitting:
         target = edits.rule.target
         for match in edits.rule.matches:
             if conditions(match):
-                self.leave_out(edits, match, b"decides nothing, taken out: ")
+                self.leave_out(edits, match, b"the rule gives no verdict, taken out: ")
                 self.drop(match)
         if target and target.extension.kind == "passes":
             known = extensions.is_known(target.extension)
             parts = target.unknown_options() if known else [target.part, *target.options]
             if parts:
-                self.remove(edits, parts, b"decides nothing, taken out: ")
+                self.remove(edits, parts, b"the rule gives no verdict, taken out: ")
                 self.drop(target)
 
     def drop(self, owner):
@@ -366,4 +366,4 @@ class Fitting:
     def by_words(self):
         """Commands that name a rule by its words, where rules lost some: they might name another one now."""
         named = [number for number, rule in self.rules.items() if rule and rule.whole and rule.command in (b"-D", b"-C") and not rule.numbered]
-        return [(number, b"names a rule by its words, and others lose some: name it by its number") for number in named if self.loses]
+        return [(number, b"names a rule by its words, and other rules lost some of theirs: give its number instead") for number in named if self.loses]
