@@ -14,12 +14,12 @@ def repaired(data):
     notes = []
     if data.startswith(BYTE_ORDER_MARK):
         data = data[len(BYTE_ORDER_MARK):]
-        notes.append((1, rb"begins with a byte order mark: take it out by `sed -i '1s/^\xef\xbb\xbf//'`."))
+        notes.append((1, rb"begins with a byte order mark: remove it with `sed -i '1s/^\xef\xbb\xbf//'`."))
     lines = lines_of(data)
     for number, line in enumerate(lines, 1):
         bare = line.strip(b" \t\r")
         if line.endswith(b"\r") and (bare.startswith(b"*") or bare == b"COMMIT"):
-            notes.append((number, rb"%s ends in a carriage return, so a section is skipped: take them out by `sed -i 's/\r$//'`." % bare))
+            notes.append((number, rb"%s ends in a carriage return, so a section is skipped: remove them with `sed -i 's/\r$//'`." % bare))
             return [line[:-1] if line.endswith(b"\r") else line for line in lines], notes
     return lines, notes
 
@@ -31,7 +31,7 @@ def first_fault(lines):
         return None
     found = FAULT.fullmatch(output.rstrip(b"\n"))
     if not found:
-        raise Trouble(f"the program ended with status {status}, and named no line")
+        raise Trouble(f"the program ended with status {status} and named no line")
     return Refused(int(found.group(1)), Fault(found.group(3).decode(), found.group(2)), None, b"", b"")
 
 
@@ -46,7 +46,7 @@ def examine(data):
     first = first_fault(lines)
     reading = Reading(lines, first.number if first else None)
     if not reading.sections and not reading.notes:
-        return [*notes, (None, b"has no section *filter: a dump is what iptables-save writes.")], []
+        return [*notes, (None, b"has no section *filter: make a dump with iptables-save.")], []
     if reading.notes:
         reading = Reading(lines, 0)
     elif not first:

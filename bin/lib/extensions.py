@@ -9,14 +9,14 @@ import collections
 #     command   other options, which count where the beginning of a name is to be of one option alone
 #     match     a match
 #     ends      a target that the program knows and that may end the walk
-#     passes    a target that decides nothing: the walk goes on with the next rule. `>` stands before matches that ask what it sets
+#     passes    a target that gives no verdict: the walk goes on with the next rule. `>` stands before matches that test what it sets
 #     decides   a target that decides, and that the program doesn't know
 #
 # Before an option stands what it is:
 #
 #     =   the program knows it
 #     +   a condition that the program doesn't know
-#     .   it says more of a condition, or of a target, and asks nothing by itself
+#     .   it says more of a condition, or of a target, and tests nothing by itself
 #     ^   it turns what its match says
 TABLE = """
 rule . =-s,--source,--src addresses =-d,--destination,--dst addresses =-i,--in-interface name =-o,--out-interface name

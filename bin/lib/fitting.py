@@ -19,7 +19,7 @@ NEVER = b"! -s 0.0.0.0/0"
 PORTS = {b"--sport": b"--sports", b"--dport": b"--dports"}
 OF_TARGETS = (b"ACCEPT", b"DROP", b"RETURN")
 
-# What a match asks that the program doesn't know: the words that an assumption may name, and whether `!` stands before it.
+# What a match tests that the program lacks: the words that an assumption may name, and whether `!` stands before it.
 Condition = collections.namedtuple("Condition", "name words inverted")
 
 
@@ -46,7 +46,7 @@ class Assumption:
         else:
             raise Wrong(f"--assume '{text}' is not MATCH=true, MATCH=false or TARGET=ACCEPT, with a target that {command('fit')} knows")
         if extension.kind in ("ends", "passes") or extension.options and all(option.place == "=" for option in extension.options):
-            why = "decides nothing" if extension.kind == "passes" else "is known to the program"
+            why = "gives no verdict" if extension.kind == "passes" else "is known to the program"
             raise Wrong(f"--assume '{text}': {self.name.decode()} {why}")
         self.is_exact = not extension.options
 
@@ -81,7 +81,7 @@ def words_of_part(part):
 
 
 def conditions(match):
-    """What a match asks that the program doesn't know."""
+    """What a match tests that the program lacks."""
     name, unknown = match.extension.name, match.unknown_options()
     asked = [part for part in unknown if part.option.place == "+"]
     more = [word for part in unknown if part.option.place == "." for word in words_of_part(part)]
@@ -185,7 +185,7 @@ class Fitting:
         return bool(target) and target.kind != "passes" and target.name != b"RETURN"
 
     def decides(self, rule):
-        """Whether what becomes of a packet may hang on whether it matches the rule."""
+        """Whether a packet's verdict may depend on whether it matches the rule."""
         if rule.chain in self.quiet or not rule.target:
             return False
         goes = rule.target.part.option.names[0] == b"-g"
@@ -220,7 +220,7 @@ class Fitting:
         for part in rule.parts:
             if part.option.names[0] == b"-4":
                 edits.remove(part)
-                edits.say(b"says nothing here, taken out: " + rule.text(part.first, part.last))
+                edits.say(b"no effect here, taken out: " + rule.text(part.first, part.last))
             elif part.option.place == "=":
                 self.spell_part(edits, part)
         for match in rule.matches:
@@ -248,7 +248,7 @@ class Fitting:
             edits.say(b"%s: %s -> %s" % (label.encode(), old, b", ".join(texts)))
 
     def spell_ports(self, edits, match):
-        """A match that asks ports alone and whose protocol is one of multiport's."""
+        """A match that tests only ports, and whose protocol is one of multiport's."""
         name = match.extension.name
         ranges = [port_range(self.names, part.values[0].value, name) for part in match.options if part.option.names[0] in PORTS]
         if match.options and len(ranges) == len(match.options) and None not in ranges:
@@ -272,17 +272,17 @@ class Fitting:
         return [text] if None in found else [quoted(item) for item in found]
 
     def take_out(self, edits):
-        """Takes out of a rule that decides nothing what the program doesn't know."""
+        """Takes what the program lacks out of a rule that gives no verdict."""
         target = edits.rule.target
         for match in edits.rule.matches:
             if conditions(match):
-                self.leave_out(edits, match, b"decides nothing, taken out: ")
+                self.leave_out(edits, match, b"the rule gives no verdict, taken out: ")
                 self.drop(match)
         if target and target.extension.kind == "passes":
             known = extensions.is_known(target.extension)
             parts = target.unknown_options() if known else [target.part, *target.options]
             if parts:
-                self.remove(edits, parts, b"decides nothing, taken out: ")
+                self.remove(edits, parts, b"the rule gives no verdict, taken out: ")
                 self.drop(target)
 
     def drop(self, owner):
@@ -311,7 +311,7 @@ class Fitting:
             self.remove(edits, ([] if keeps or not match.part else [match.part]) + unknown, why)
 
     def assume(self, number, edits):
-        """Puts assumptions in place of what a rule that decides asks or does and the program doesn't know."""
+        """Puts assumptions in place of what a rule with a verdict tests or does and the program lacks."""
         asked = [(match, condition, assumed(self.assumptions, condition))
                  for match in edits.rule.matches for condition in conditions(match)]
         failed = [(match, found) for match, condition, found in asked if found and (found.value == b"true") == condition.inverted]
@@ -366,4 +366,4 @@ class Fitting:
     def by_words(self):
         """Commands that name a rule by its words, where rules lost some: they might name another one now."""
         named = [number for number, rule in self.rules.items() if rule and rule.whole and rule.command in (b"-D", b"-C") and not rule.numbered]
-        return [(number, b"names a rule by its words, and others lose some: name it by its number") for number in named if self.loses]
+        return [(number, b"names a rule by its words, and other rules lost some of theirs: give its number instead") for number in named if self.loses]

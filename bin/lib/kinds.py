@@ -64,19 +64,19 @@ def session_word(lines):
 def not_a_dump(data, lines):
     """Why the file as a whole is no dump of iptables: a number of a line, or None, and a sentence; None where it may be one."""
     if not data:
-        return None, b"is empty: a dump is what iptables-save writes."
+        return None, b"is empty: make a dump with iptables-save."
     if data[:2] in UTF_16 or 0 in data[:2]:
-        return None, b"is UTF-16, and a dump has one byte a letter: convert it by `iconv -f UTF-16 -t UTF-8`."
+        return None, b"is UTF-16: convert it with `iconv -f UTF-16 -t UTF-8`."
     if is_of_ip6tables(b"\n".join(lines) + b"\n"):
-        return None, b"is a dump of ip6tables, and the program knows IPv4 alone: take one by iptables-save."
+        return None, b"is a dump of ip6tables, and iptsim knows only IPv4: make a dump with iptables-save."
     number, first = first_line(lines)
     if OF_LISTING.fullmatch(first):
-        return number, b"`Chain` begins a listing of `iptables -L`, which leaves parts of rules out: take a dump by iptables-save."
+        return number, b"`Chain` begins a listing of `iptables -L`, which leaves parts of rules out: make a dump with iptables-save."
     if OF_NFT.fullmatch(first):
-        return number, b"`%s` begins a ruleset of nft: iptables-save writes as a dump what of it was made by iptables-nft." % first.split()[0]
+        return number, b"`%s` begins a ruleset of nft: iptables-save dumps the part of it that iptables-nft made." % first.split()[0]
     found = session_word(lines)
     if found:
         number, word = found
         runs = command("iptsim").encode()
-        return number, b"`%s` begins a line of a session, not of a dump: run the file by `%s session`." % (word, runs)
+        return number, b"`%s` begins a line of a session, not of a dump: run the file with `%s session`." % (word, runs)
     return None

@@ -52,7 +52,7 @@ def of_value(line, words):
         fault = session.fault(places)
         if fault and fault.code == "F3":
             twice = key in keys
-            return {"word": word.value, "more": key + b" stands twice" if twice else b"",
+            return {"word": word.value, "more": key + b" is given twice" if twice else b"",
                     "meant": b"" if twice else meant("F3", key, value, ())}
         keys.add(key)
     return {}

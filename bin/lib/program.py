@@ -68,7 +68,7 @@ def run(words, data, name="iptsim"):
     try:
         ended = subprocess.run([*call, *words], input=data, stdout=subprocess.PIPE, check=False)
     except OSError as error:
-        raise Trouble(f"cannot run {call[0]}: {error.strerror}; {name.upper()} is to name the program") from error
+        raise Trouble(f"cannot run {call[0]}: {error.strerror}; {name.upper()} has to name the program") from error
     if ended.returncode not in (0, 1, 2):
         raise Trouble(f"{call[0]} ended with status {ended.returncode}")
     return ended.returncode, ended.stdout

@@ -97,14 +97,14 @@ class Reading:
         if self.section == b"filter":
             self.ask_in_section(number, line)
         elif self.section is not None:
-            sentence = b"*%s stands in the section %s, which has no COMMIT before it: so it is skipped too."
+            sentence = b"*%s stands in the section %s, which has no COMMIT before it, so it is skipped too."
             self.note(number, sentence % (name[:40], self.opening))
         elif len(words_of(line)) > 1:
             self.question(number, line, self.session.restore([line, b"COMMIT"], b"-t"))
         self.opening = b"*" + (name if len(name) <= 40 else name[:37] + b"...")
         if name not in TABLES:
             meant = difflib.get_close_matches(name.decode("latin-1").lower(), ["filter"])
-            asked = b": is *filter meant?" if meant else b"."
+            asked = b": did you mean *filter?" if meant else b"."
             self.note(number, b"%s is no table of iptables, so its section is skipped%s" % (self.opening, asked))
             name = b"filter" if meant else name
         self.section = name

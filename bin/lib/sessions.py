@@ -26,7 +26,7 @@ def examine(data, load):
     status, output = run(["session", *(["--load", load] if load else [])], data)
     found = [each for each in map(FAULT.fullmatch, lines_of(output)) if each]
     if status and not found:
-        raise Trouble(f"{load} doesn't load: {command('check')} {load} says more" if load else f"the program ended with status {status}")
+        raise Trouble(f"{load} doesn't load: {command('check')} {load} says why" if load else f"the program ended with status {status}")
     lines, faults = lines_of(data), {int(each.group(1)): Fault(each.group(3).decode(), each.group(2)) for each in found}
     items = [(number, opening(lines, faults) if fault.code == "S3" else lines[number - 1], fault) for number, fault in faults.items()]
     made = MAKES_CHAIN.findall(data + b"\n" + (read(load) if load else b""))

@@ -98,7 +98,7 @@ class Answers:
             text = f"{name} doesn't load: line {number}: {session.fault(restore).text.decode()}"
             raise Unfit([Complaint(text, name, number)])
         if not has_filter(lines):
-            raise Unfit([Complaint(f"{name} has no section *filter that is read: {command('check')} says more", name)])
+            raise Unfit([Complaint(f"{name} has no section *filter that iptsim reads: {command('check')} says why", name)])
         self.read_listing(written)
         faults = [(place, session.fault(places)) for place, places in enumerate(asked)]
         complaints = [blamed(place, os.fsdecode(explained(packets[place], fault.text, self.chains))) for place, fault in faults if fault]
