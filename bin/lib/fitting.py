@@ -366,4 +366,4 @@ class Fitting:
     def by_words(self):
         """Commands that name a rule by its words, where rules lost some: they might name another one now."""
         named = [number for number, rule in self.rules.items() if rule and rule.whole and rule.command in (b"-D", b"-C") and not rule.numbered]
-        return [(number, b"names a rule by its words, and other rules lost some of theirs: give its number instead") for number in named if self.loses]
+        return [(number, b"names a rule by its words, and other rules lost some: give its number instead") for number in named if self.loses]
