@@ -1,2 +1,2 @@
-pub mod AuditFaults
+pub mod LineFaults
 pub mod Subcommands

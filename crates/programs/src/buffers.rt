@@ -1,4 +1,4 @@
-//! Readers and writers, each through a buffer.
+//! Buffered readers and writers.
 ghost use Rattle.std.specs.Prelude.{◌≡◌, IfOk, false};
 ghost use Rattle.fields.specs.text.Tap.{has_failed};
 
@@ -6,10 +6,10 @@ use fields::Tap;
 use std::alloc::{AllocError, Global};
 use std::io::{BufReader, BufWriter, Read, Write};
 
-// How many bytes of input are read at a time, and of output gathered before they are written, at most.
+// The size of a buffer, in bytes.
 const BUFFER: usize = 65536;
 
-/// A reader, through a buffer.
+/// Reads through a buffer.
 ///
 /// # Errors
 ///
@@ -26,7 +26,7 @@ pub fn buffered_input<R: Read + Drop>(
     }
 }
 
-/// A writer, through a buffer.
+/// Writes through a buffer.
 ///
 /// # Errors
 ///
@@ -43,8 +43,8 @@ pub fn buffered_output<W: Write + Drop>(
     }
 }
 
-/// Lets the buffer of a writer go. Whoever flushed it before finds in it what a failed write left, which is not written
-/// again.
+/// Drops the buffer of a writer without writing what is left in it. After a flush that is only what a failed write left, and it isn't
+/// written again.
 pub fn let_go<W: Write + Drop>(output: Tap<BufWriter<W>>) {
     let (_writer, _unwritten) = output.into_device().into_parts();
 }

@@ -1,9 +1,9 @@
-//! Why a program ends early.
+//! The faults that end a program early.
 use sessions::RunFault;
 use std::alloc::{AllocError, AllocFailed};
 use thiserror::Error;
 
-/// Why a program ends early, with its message.
+/// A fault that ends a program early; its text is the message.
 #[derive(Debug, Drop, Error)]
 pub enum ProgramFault<'a> {
     #[error("no memory")]

@@ -1,4 +1,4 @@
-//! Files that are restored.
+//! Files that a program restores into a session before its task.
 use crate::buffers::{buffered_input, buffered_output, let_go};
 use crate::fault::ProgramFault;
 use sessions::{RunFault, Session};
@@ -19,12 +19,12 @@ pub fn open_file<'a, R: Files>(rt: &R, file: &'a str) -> Result<R::File, Program
     }
 }
 
-/// Restores what a reader of a file gives into a session, and answers the status of the restore. Its fault goes to `errors`.
+/// Restores a file from its reader into a session, and returns the status of the restore. A fault goes to `errors`.
 ///
 /// # Errors
 ///
-/// `CannotRead` where the reader fails; `OutputFailed` where the fault cannot be written; `NoMemory` where the memory of a
-/// buffer was refused.
+/// `CannotRead` where the reader fails; `OutputFailed` where the fault can't be written; `NoMemory` where the memory of a buffer
+/// was refused.
 pub fn load_from<'a, R, E, I>(
     rt: &R,
     errors: &E,
@@ -48,11 +48,11 @@ where
     }
 }
 
-/// Restores a file into a session, as `load_from` does.
+/// Opens a file and restores it into a session, as `load_from` does.
 ///
 /// # Errors
 ///
-/// As of `open_file` and `load_from`.
+/// Those of `open_file` and `load_from`.
 pub fn load<'a, R, E>(
     rt: &R,
     errors: &E,

@@ -1,5 +1,5 @@
-//! What the programs have in common: their lines, the words that they are given, files that they restore, buffers, and why they
-//! end early.
+//! What both programs share: their command lines, the words that they are given, files that they restore, buffers, and the faults that
+//! end them early.
 //!
 //! | Line of `iptsim` | Job |
 //! |---|---|
@@ -12,9 +12,9 @@
 //! | `compare [--steps N] [--json] OLD NEW` | whether two rulesets give each packet the same verdict |
 //! | `tests [--steps N] [--json] FILE` | a packet for each rule |
 //! | `cover [--steps N] [--json] FILE` | which rules match none of the packets on standard input |
-//! | `reach [--steps N] [--json] FILE WORD..` | what becomes of some packets, by their numbers on a field |
+//! | `reach [--steps N] [--json] FILE WORD..` | the verdicts of a set of packets, grouped by a field |
 //!
-//! Either takes `--help` and `--version` in place of a subcommand.
+//! Both take `--help` and `--version` in place of a subcommand.
 #![tactic(auto)]
 
 mod buffers;

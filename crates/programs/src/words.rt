@@ -1,4 +1,4 @@
-//! The words of a program's line.
+//! The words of a program's command line, and the reply to a line that gives no task.
 use crate::fault::ProgramFault;
 use crate::line::LineFault;
 use clap::Error;
@@ -7,11 +7,11 @@ use std::alloc::{AllocError, Global};
 use std::rt::Env;
 use std::{env, io};
 
-/// The words of the program's line, of which its name is the first.
+/// The words of the command line, of which the program's name is the first.
 ///
 /// # Errors
 ///
-/// `NotText` where a word is no text; `NoMemory` where memory was refused.
+/// `NotText` where a word isn't UTF-8; `NoMemory` where memory was refused.
 pub fn words_given<R: Env + AllocGlobal>(rt: &R) -> Result<Vec<String>, ProgramFault<'static>> {
     match env::args(rt) {
         Ok(words) => Ok(words.collect(rt.alloc())?),
@@ -33,7 +33,7 @@ pub fn texts_after_name(alloc: Global, words: &[String]) -> Result<Vec<&str>, Al
     Ok(texts)
 }
 
-// Writes what `clap` answers in place of a task, and answers the status: the version goes to standard output, all else to `errors`.
+// Writes the message of `clap` for a line that gives no task: the version to standard output, anything else to `errors`. The status is 0 or 2.
 fn answer_refused<'a, R: Print, E: Print>(
     rt: &R,
     errors: &E,
@@ -49,12 +49,12 @@ fn answer_refused<'a, R: Print, E: Print>(
     Ok(2)
 }
 
-/// What becomes of a line that gives no task. The version goes to standard output, with status 0. What else `clap` says goes to
-/// `errors`, with status 2; where that cannot be written it is given up.
+/// Replies to a line that gives no task. The version goes to standard output, with status 0. Any other message of `clap` goes to `errors`,
+/// with status 2; where it can't be written it is dropped.
 ///
 /// # Errors
 ///
-/// `NoMemory`, `NoSubcommand` and `NoFile` as the line's fault is; `OutputFailed` where the version cannot be written.
+/// `NoMemory`, `NoSubcommand` and `NoFile`, as the fault of the line says; `OutputFailed` where the version can't be written.
 pub fn answer_line<'a, R: Print, E: Print>(
     rt: &R,
     errors: &E,

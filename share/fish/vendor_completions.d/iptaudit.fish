@@ -23,7 +23,7 @@ complete -c iptaudit -n '__fish_seen_subcommand_from cover' -s h -l help -d 'Pri
 complete -c iptaudit -n '__fish_seen_subcommand_from cover' -l steps -r -f -d 'Take N steps at most for each question'
 complete -c iptaudit -n '__fish_seen_subcommand_from cover' -l json -d 'Print the answer as one JSON document'
 complete -c iptaudit -n '__fish_seen_subcommand_from cover' -F
-complete -c iptaudit -n __fish_use_subcommand -a reach -d 'Print what becomes of some packets, by their numbers on a field'
+complete -c iptaudit -n __fish_use_subcommand -a reach -d 'Print the verdicts of a set of packets, grouped by a field'
 complete -c iptaudit -n '__fish_seen_subcommand_from reach' -s h -l help -d 'Print help'
 complete -c iptaudit -n '__fish_seen_subcommand_from reach' -l steps -r -f -d 'Take N steps at most for each question'
 complete -c iptaudit -n '__fish_seen_subcommand_from reach' -l json -d 'Print the answer as one JSON document'

@@ -1,10 +1,9 @@
 -- The subcommand that the words name.
-use Rattle.std.proofs.Common.{ap, ap₂, subst, sym, ◌∙◌, ◌≡◌, Bool, true, false, if◌then◌else◌, List, [], ◌∷◌, find, Option, Some, None, option_map, inl, inr, ◌⊎◌}
+use Rattle.std.proofs.Common.{ap, ap₂, sym, ◌∙◌, ◌≡◌, Bool, true, false, if◌then◌else◌, List, [], ◌∷◌, find, Option, Some, None, option_map, inl, inr, ◌⊎◌}
 use Rattle.std.proofs.lemmas.Option.{same_Some}
-use Rattle.clap.specs.Words.{App, HasKind, HasMatchesOf, Row, Shape, Text, fault_of, is_simple, is_simple_and_free, subcommand_of, subcommand_name_of, subcommand_rows_of}
+use Rattle.clap.specs.Words.{App, HasMatchesOf, Row, Shape, Text, fault_of, is_simple, subcommand_of, subcommand_name_of, subcommand_rows_of}
 use Rattle.clap.specs.Simple.{argument_words, built, entered, label_of, names_of, rows_at}
 use Rattle.clap.specs.Walk.{answers_to, stop_after}
-use Rattle.clap.specs.declared.error.Error.{Error}
 use Rattle.clap.specs.declared.parser.matches.ArgMatches.{ArgMatches}
 
 -- a value whose two halves are known
@@ -23,15 +22,8 @@ named_by_words program app words m name rows simple is matches first second =
     sym (ap (λ a. subcommand_of a words) is) ∙ sym (matches (ap is_simple is ∙ simple)).1 ∙ both_read _ _ _ _ first second
 
 -- words that a parse takes have no fault
-pub taken_words : (program app : App) (words : List Text) → is_simple_and_free program ≡ true → app ≡ program
-    → (is_simple_and_free app ≡ true → fault_of app words ≡ []) → fault_of program words ≡ []
-taken_words program app words simple is taken = sym (ap (λ a. fault_of a words) is) ∙ taken (ap is_simple_and_free is ∙ simple)
-
--- an error that a parse gives for words is of a kind that they have
-pub refused_words : (program app : App) (words : List Text) (error : Error) → is_simple_and_free program ≡ true → app ≡ program
-    → (is_simple_and_free app ≡ true → HasKind (fault_of app words) error) → HasKind (fault_of program words) error
-refused_words program app words error simple is refused =
-    subst (λ a. HasKind (fault_of a words) error) is (refused (ap is_simple_and_free is ∙ simple))
+pub taken_words : (program app : App) (words : List Text) → app ≡ program → fault_of app words ≡ [] → fault_of program words ≡ []
+taken_words program app words is taken = sym (ap (λ a. fault_of a words) is) ∙ taken
 
 -- the name is that of one of the shapes
 abbrev pub IsNamed : List Shape → Text → Type 0

@@ -1,14 +1,12 @@
--- The line of `iptaudit`, and what `clap` makes of it.
-use Rattle.std.specs.Prelude.{◌≡◌, ◌⊎◌, ⊤, [], codes, map, true, List, Some, None, option_map, unwrap_or}
-use Rattle.clap.specs.Words.{App, IsAmong, Row, Rule, Text, all_of, fault_of, first_of, kind_of, new_app, new_rule, subcommand_of, with_rule, with_subcommand}
+-- The command line of `iptaudit` (iptaudit(1), SYNOPSIS), and the audit that it asks for.
+use Rattle.std.specs.Prelude.{◌≡◌, ◌⊎◌, [], codes, map, true, List, Some, None, option_map, unwrap_or}
+use Rattle.clap.specs.Words.{App, Row, Rule, Text, all_of, first_of, new_app, new_rule, with_rule, with_subcommand}
 use Rattle.clap.specs.Lexer.{usize_max}
 use Rattle.clap.specs.declared.builder.action.ArgAction.TheVariants.{Append}
 use Rattle.programs.specs.line.Line.{as_program, flag_rule, is_true}
 use Rattle.programs.specs.declared.line.audit.Audit.{Audit}
 use Rattle.programs.specs.declared.line.audit.Question.{Question}
 use Rattle.programs.specs.declared.line.audit.Question.TheVariants as questions
-use Rattle.programs.specs.declared.line.fault.LineFault.{LineFault}
-use Rattle.programs.specs.declared.line.fault.LineFault.TheVariants as faults
 
 -- `--steps N`
 abbrev pub steps_rule : Rule
@@ -86,17 +84,3 @@ IsAuditOf name rows audit = IsQuestion name rows audit.question
     × (option_map (λ s. s.now) audit.steps ≡ first_of (codes "steps") rows)
     × (audit.json ≡ is_true (first_of (codes "json") rows))
     × (map (λ s. s.now) audit.words.items ≡ values_of (codes "word") rows)
-
--- `clap` takes the words, and the audit is what it makes of them
-abbrev pub IsAuditOn : List Text → Audit → Type 0
-IsAuditOn words audit = (fault_of program_app words ≡ [])
-    × (met : Text × List Row) × (subcommand_of program_app words ≡ Some met) × IsAuditOf met.0 met.1 audit
-
--- why the words are no audit: `clap` takes them and they name no subcommand or give no file, or it refuses them with an
--- error of this kind; nothing is said of memory
-abbrev pub IsFaultOn : List Text → LineFault → Type 0
-IsFaultOn words faults.NoMemory = ⊤
-IsFaultOn words faults.NoSubcommand = (fault_of program_app words ≡ []) × (subcommand_of program_app words ≡ None)
-IsFaultOn words faults.NoFile = (fault_of program_app words ≡ [])
-    × (met : Text × List Row) × (subcommand_of program_app words ≡ Some met) × LacksFile met.0 met.1
-IsFaultOn words (faults.Refused error) = IsAmong (kind_of error) (fault_of program_app words)

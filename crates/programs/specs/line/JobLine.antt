@@ -1,9 +1,7 @@
--- The line of `iptsim`, and what `clap` makes of it.
-use Rattle.std.specs.Prelude.{◌≡◌, ◌⊎◌, ⊤, [], codes, List, Some, None, option_map}
-use Rattle.clap.specs.Words.{App, IsAmong, Row, Rule, Text, fault_of, first_of, kind_of, new_app, new_rule, subcommand_of, with_rule, with_subcommand}
+-- The command line of `iptsim` (iptsim(1), SYNOPSIS), and the job that it asks for.
+use Rattle.std.specs.Prelude.{◌≡◌, ◌⊎◌, codes, List, Some, option_map}
+use Rattle.clap.specs.Words.{App, Row, Rule, Text, first_of, new_app, new_rule, with_rule, with_subcommand}
 use Rattle.programs.specs.line.Line.{as_program, flag_rule, is_true}
-use Rattle.programs.specs.declared.line.fault.LineFault.{LineFault}
-use Rattle.programs.specs.declared.line.fault.LineFault.TheVariants as faults
 use Rattle.programs.specs.declared.line.job.Job.{Job}
 use Rattle.programs.specs.declared.line.job.Task.{Task}
 use Rattle.programs.specs.declared.line.job.Task.TheVariants as tasks
@@ -40,15 +38,6 @@ abbrev pub IsJobOf : Text → List Row → Job → Type 0
 IsJobOf name rows job = IsTask name rows job.task
     × (option_map (λ s. s.now) job.load ≡ first_of (codes "load") rows)
 
--- `clap` takes the words, and the job is what it makes of them
-abbrev pub IsJobOn : List Text → Job → Type 0
-IsJobOn words job = (fault_of program_app words ≡ [])
-    × (met : Text × List Row) × (subcommand_of program_app words ≡ Some met) × IsJobOf met.0 met.1 job
-
--- why the words are no job: `clap` takes them and they name no subcommand, or it refuses them with an error of this kind;
--- nothing is said of memory
-abbrev pub IsFaultOn : List Text → LineFault → Type 0
-IsFaultOn words faults.NoMemory = ⊤
-IsFaultOn words faults.NoSubcommand = (fault_of program_app words ≡ []) × (subcommand_of program_app words ≡ None)
-IsFaultOn words faults.NoFile = ⊥
-IsFaultOn words (faults.Refused error) = IsAmong (kind_of error) (fault_of program_app words)
+-- no subcommand needs a file
+abbrev pub LacksFile : Text → List Row → Type 0
+LacksFile name rows = ⊥

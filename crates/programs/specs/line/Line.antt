@@ -1,7 +1,7 @@
--- What the lines of both programs have.
-use Rattle.std.specs.Prelude.{◌≡◌, ◌≢◌, Bool, true, false, codes, Option, Some, None}
+-- What both programs' command lines have in common: their shape, and what a parse of the words by `clap` gives.
+use Rattle.std.specs.Prelude.{◌≡◌, ◌≢◌, ⊤, Bool, true, false, codes, List, [], Option, Some, None}
 use Rattle.std.specs.Str.{bytes_eq}
-use Rattle.clap.specs.Words.{App, Rule, Text, kind_of, new_rule}
+use Rattle.clap.specs.Words.{App, IsAmong, Kinds, Row, Rule, Text, fault_of, kind_of, new_rule, subcommand_of}
 use Rattle.clap.specs.declared.builder.action.ArgAction.TheVariants.{SetTrue}
 use Rattle.clap.specs.declared.error.Error.{Error}
 use Rattle.clap.specs.declared.error.kind.ErrorKind.TheVariants.{OutOfMemory}
@@ -27,3 +27,27 @@ StandsFor error faults.NoMemory = kind_of error ≡ OutOfMemory
 StandsFor error faults.NoSubcommand = ⊥
 StandsFor error faults.NoFile = ⊥
 StandsFor error (faults.Refused kept) = (kept ≡ error) × (kind_of error ≢ OutOfMemory)
+
+-- the fault keeps an error of one of these kinds, or tells that memory was refused
+abbrev pub IsRefusal : Kinds → LineFault → Type 0
+IsRefusal kinds faults.NoMemory = ⊤
+IsRefusal kinds faults.NoSubcommand = ⊥
+IsRefusal kinds faults.NoFile = ⊥
+IsRefusal kinds (faults.Refused error) = IsAmong (kind_of error) kinds
+
+-- `clap` takes the words, and of the subcommand that they name this holds: of its name and of what was found of its options
+abbrev pub Meets : App → List Text → (Text → List Row → Type 0) → Type 0
+Meets program words Holds = (fault_of program words ≡ [])
+    × (met : Text × List Row) × (subcommand_of program words ≡ Some met) × Holds met.0 met.1
+
+-- the words ask the program for this: `clap` takes them, and it is what their subcommand makes of its options
+abbrev pub AsksFor : {A : Type 0} → App → (Text → List Row → A → Type 0) → List Text → A → Type 0
+AsksFor program IsOf words a = Meets program words (λ name rows. IsOf name rows a)
+
+-- why the words ask the program for nothing: `clap` takes them and they name no subcommand, or one that lacks a file, or it
+-- refuses them with an error of this kind; of memory nothing is said
+abbrev pub IsFaultOn : App → (Text → List Row → Type 0) → List Text → LineFault → Type 0
+IsFaultOn program LacksFile words faults.NoMemory = ⊤
+IsFaultOn program LacksFile words faults.NoSubcommand = (fault_of program words ≡ []) × (subcommand_of program words ≡ None)
+IsFaultOn program LacksFile words faults.NoFile = Meets program words LacksFile
+IsFaultOn program LacksFile words (faults.Refused error) = IsAmong (kind_of error) (fault_of program words)

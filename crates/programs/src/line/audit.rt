@@ -1,11 +1,12 @@
-//! The line of `iptaudit`: what the words after the program's name ask for.
+//! The command line of `iptaudit`: the question that the words after the program's name ask.
 ghost use Rattle.std.specs.Prelude.{◌≡◌, IfErr, IfOk, MatchOption, codes, false, map};
 ghost use Rattle.clap.specs.Words.{app_of, found_of, rows_of, rule_of};
 ghost use Rattle.clap.specs.declared.builder.command.Command.TheViews.{out-Command as fields_of};
-ghost use Rattle.programs.specs.line.AuditLine.{IsAuditOn, IsFaultOn, IsQuestion, IsSubcommand, LacksFile, compare_app, file_rule, json_rule, one_file_app, program_app, reach_app, steps_rule, values_of, words_rule};
+ghost use Rattle.programs.specs.line.AuditLine.{IsAuditOf, IsQuestion, IsSubcommand, LacksFile, compare_app, file_rule, json_rule, one_file_app, program_app, reach_app, steps_rule, values_of, words_rule};
+ghost use Rattle.programs.specs.line.Line.{AsksFor, IsFaultOn};
 
-use super::fault::{LineFault, fault_of};
-use super::program::{flag, is_set, named, with};
+use super::fault::LineFault;
+use super::program::{flag, is_set, named, parse, with};
 use clap::{Arg, ArgAction, ArgMatches, Command};
 use std::alloc::{AllocError, Global};
 
@@ -20,7 +21,7 @@ pub enum Question<'a> {
     Tests { file: &'a str },
     /// Which rules match none of some packets.
     Cover { file: &'a str },
-    /// What becomes of some packets, by their numbers on a field.
+    /// The verdicts of a set of packets, grouped by a field.
     Reach { file: &'a str },
 }
 
@@ -93,7 +94,7 @@ fn reach<'a>(alloc: Global) -> Result<Command<'a>, AllocError>
     ensures local { IfOk result (λ c. (fields_of c).has_globals ≡ false) }
 {
     Command::new(alloc, "reach")
-        .about("Print what becomes of some packets, by their numbers on a field")
+        .about("Print the verdicts of a set of packets, grouped by a field")
         .arg(file(alloc, "file", "FILE", "A file of iptables-restore"))?
         .arg(words(alloc))?
         .arg(steps(alloc))?
@@ -193,15 +194,12 @@ impl<'a> Audit<'a> {
     /// where it refuses them, or they ask for help or the version; `NoMemory` where a growth of memory is refused.
     pub fn read(alloc: Global, words: &'a [&'a str]) -> Result<Audit<'a>, LineFault>
         // `clap` takes the words, and the audit is exactly what it makes of them.
-        ensures audit { IfOk result (IsAuditOn (map (λ s. s.now) words.entry.now)) }
+        ensures audit { IfOk result (AsksFor program_app IsAuditOf (map (λ s. s.now) words.entry.now)) }
 
         // A fault says why the words are no audit, unless memory is refused.
-        ensures fault { IfErr result (IsFaultOn (map (λ s. s.now) words.entry.now)) }
+        ensures fault { IfErr result (IsFaultOn program_app LacksFile (map (λ s. s.now) words.entry.now)) }
     {
-        let matches = match program(alloc)?.try_get_matches_from(words) {
-            Ok(matches) => matches,
-            Err(error) => return Err(fault_of(error)),
-        };
+        let matches = parse(program(alloc)?, words)?;
         let Some((name, inner)) = matches.subcommand() else {
             return Err(LineFault::NoSubcommand);
         };

@@ -1,4 +1,4 @@
-//! Why words ask for nothing.
+//! The faults of a command line.
 ghost use Rattle.std.specs.Prelude.{◌≡◌};
 ghost use Rattle.programs.specs.line.Line.{StandsFor};
 
@@ -6,14 +6,14 @@ use clap::Error;
 use clap::error::ErrorKind;
 use std::alloc::AllocError;
 
-/// Why words ask for nothing.
+/// Why a command line gives no task.
 #[derive(Debug, Drop, thiserror::Error)]
 pub enum LineFault {
     #[error("no memory")]
     NoMemory,
     #[error("no subcommand")]
     NoSubcommand,
-    /// `clap` takes the words, and gives no file.
+    /// `clap` takes the words, but they name no file.
     #[error("no file")]
     NoFile,
     /// `clap` refuses the words, or is asked for help or the version. Its text ends with a newline.
@@ -31,7 +31,7 @@ impl From<AllocError> for LineFault {
     }
 }
 
-// What `clap` answers in place of matches.
+// The fault for an error of `clap`.
 pub(crate) fn fault_of(error: Error) -> LineFault
     ensures { StandsFor error result }
 {

@@ -1,11 +1,12 @@
-//! The line of `iptsim`: what the words after the program's name ask for.
+//! The command line of `iptsim`: the job that the words after the program's name ask for.
 ghost use Rattle.std.specs.Prelude.{◌≡◌, IfErr, IfOk, false, map};
 ghost use Rattle.clap.specs.Words.{app_of, found_of, rows_of, rule_of};
 ghost use Rattle.clap.specs.declared.builder.command.Command.TheViews.{out-Command as fields_of};
-ghost use Rattle.programs.specs.line.JobLine.{IsFaultOn, IsJobOf, IsJobOn, IsSubcommand, load_rule, program_app, restore_app, session_app};
+ghost use Rattle.programs.specs.line.JobLine.{IsJobOf, IsSubcommand, LacksFile, load_rule, program_app, restore_app, session_app};
+ghost use Rattle.programs.specs.line.Line.{AsksFor, IsFaultOn};
 
-use super::fault::{LineFault, fault_of};
-use super::program::{flag, is_set, named, with};
+use super::fault::LineFault;
+use super::program::{flag, is_set, named, parse, with};
 use clap::{Arg, ArgMatches, Command};
 use std::alloc::{AllocError, Global};
 
@@ -110,15 +111,12 @@ impl<'a> Job<'a> {
     /// for help or the version; `NoMemory` where a growth of memory is refused.
     pub fn read(alloc: Global, words: &'a [&'a str]) -> Result<Job<'a>, LineFault>
         // `clap` takes the words, and the job is exactly what it makes of them.
-        ensures job { IfOk result (IsJobOn (map (λ s. s.now) words.entry.now)) }
+        ensures job { IfOk result (AsksFor program_app IsJobOf (map (λ s. s.now) words.entry.now)) }
 
         // A fault says why the words are no job, unless memory is refused.
-        ensures fault { IfErr result (IsFaultOn (map (λ s. s.now) words.entry.now)) }
+        ensures fault { IfErr result (IsFaultOn program_app LacksFile (map (λ s. s.now) words.entry.now)) }
     {
-        let matches = match program(alloc)?.try_get_matches_from(words) {
-            Ok(matches) => matches,
-            Err(error) => return Err(fault_of(error)),
-        };
+        let matches = parse(program(alloc)?, words)?;
         match matches.subcommand() {
             Some((name, inner)) => Ok(job_of(name, inner)),
             None => Err(LineFault::NoSubcommand),

@@ -1,10 +1,12 @@
-//! What is alike in the programs: all but their subcommands, and flags of these.
-ghost use Rattle.std.specs.Prelude.{◌≡◌, IfOk, false};
-ghost use Rattle.clap.specs.Words.{app_of, first_of, found_of, new_app, rows_of, rule_of, with_subcommand};
+//! What both programs' command lines have in common: how a program, a subcommand and a flag are declared, and how words are
+//! parsed.
+ghost use Rattle.std.specs.Prelude.{◌≡◌, [], IfErr, IfOk, false, map, true};
+ghost use Rattle.clap.specs.Words.{HasMatchesOf, app_of, fault_of as kinds_of, first_of, found_of, is_simple_and_free, new_app, rows_of, rule_of, with_subcommand};
 ghost use Rattle.clap.specs.declared.builder.command.Command.TheViews.{out-Command as fields_of};
-ghost use Rattle.programs.specs.line.Line.{as_program, flag_rule, is_true};
+ghost use Rattle.programs.specs.line.Line.{IsRefusal, as_program, flag_rule, is_true};
 
 use super::VERSION;
+use super::fault::{LineFault, fault_of};
 use clap::{Arg, ArgAction, ArgMatches, Command};
 use std::alloc::{AllocError, Global};
 
@@ -55,5 +57,21 @@ pub(crate) fn is_set(matches: &ArgMatches<'_>, name: &str) -> bool
     match matches.get_str(name) {
         Some(text) => text == "true",
         None => false,
+    }
+}
+
+// Parses the words that stand after the program's name.
+pub(crate) fn parse<'a>(
+    program: Command<'a>,
+    words: &'a [&'a str],
+) -> Result<ArgMatches<'a>, LineFault>
+    requires { is_simple_and_free (app_of program) ≡ true }
+    ensures taken { IfOk result (λ _. kinds_of (app_of program.entry) (map (λ s. s.now) words.entry.now) ≡ []) }
+    ensures matches { IfOk result (HasMatchesOf (app_of program.entry) (map (λ s. s.now) words.entry.now)) }
+    ensures refused { IfErr result (IsRefusal (kinds_of (app_of program.entry) (map (λ s. s.now) words.entry.now))) }
+{
+    match program.try_get_matches_from(words) {
+        Ok(matches) => Ok(matches),
+        Err(error) => Err(fault_of(error)),
     }
 }

@@ -1,35 +1,38 @@
-use Rattle.std.proofs.Common.{Bor, codes, map, refl, ◌∙◌}
+use Rattle.std.proofs.Common.{Bor, ap, codes, map, refl, ◌∙◌}
 use Rattle.clap.proofs.WalkLemmas.{first_value-rows}
-use Rattle.clap.specs.Words.{Text, found_of}
-use Rattle.programs.specs.line.AuditLine.{program_app}
-use Rattle.programs.proofs.laws.AuditFaults.{stands_for_fault}
-use Rattle.programs.proofs.laws.Subcommands.{named_by_words, named_is_known, refused_words, taken_words}
+use Rattle.clap.specs.Words.{Text, found_of, is_simple_and_free}
+use Rattle.programs.specs.line.AuditLine.{LacksFile, program_app}
+use Rattle.programs.proofs.laws.LineFaults.{refusal_is_fault}
+use Rattle.programs.proofs.laws.Subcommands.{named_by_words, named_is_known, taken_words}
 use Rattle.programs.proofs.line.audit.Audit.read.Goals as goal
 
-pub returns-in-Err-clause-fault : goal.returns-in-Err-clause-fault
-returns-in-Err-clause-fault c =
+pub parse-requires : goal.parse-requires
+parse-requires c = ap is_simple_and_free c.in_ok-program.ensures ∙ refl
+
+pub returns-in_err-matches-clause-fault : goal.returns-in_err-matches-clause-fault
+returns-in_err-matches-clause-fault c =
     let texts = map (λ (s : Bor Text). s.now) c.args.words.now in
-    stands_for_fault texts c.in-Err.error c.fault_of.result (refused_words program_app _ texts c.in-Err.error refl c.in_ok-program.ensures c.in-Err.ensures.kinds) c.fault_of.ensures
+    refusal_is_fault program_app _ LacksFile texts _ c.in_ok-program.ensures c.in_err-matches.ensures
 
 pub question_of-requires : goal.question_of-requires
 question_of-requires c =
     let texts = map (λ (s : Bor Text). s.now) c.args.words.now in
-    named_is_known program_app texts _ (named_by_words program_app _ texts c.in-Ok.matches _ _ refl c.in_ok-program.ensures c.in-Ok.ensures.matches c.in-Some.ensures.name c.in-Some.ensures.rows)
+    named_is_known program_app texts _ (named_by_words program_app _ texts c.in_ok-matches.matches _ _ refl c.in_ok-program.ensures c.in_ok-matches.ensures.matches c.in-Some.ensures.name c.in-Some.ensures.rows)
 
 pub returns-in-Some-question_of-clause-audit : goal.returns-in-Some-question_of-clause-audit
 returns-in-Some-question_of-clause-audit c =
     let texts = map (λ (s : Bor Text). s.now) c.args.words.now in (
-      taken_words program_app _ texts refl c.in_ok-program.ensures c.in-Ok.ensures.kinds,
+      taken_words program_app _ texts c.in_ok-program.ensures c.in_ok-matches.ensures.taken,
       _,
-      named_by_words program_app _ texts c.in-Ok.matches _ _ refl c.in_ok-program.ensures c.in-Ok.ensures.matches c.in-Some.ensures.name c.in-Some.ensures.rows,
+      named_by_words program_app _ texts c.in_ok-matches.matches _ _ refl c.in_ok-program.ensures c.in_ok-matches.ensures.matches c.in-Some.ensures.name c.in-Some.ensures.rows,
       (c.in-Some-question_of.ensures, c.get_str.ensures ∙ first_value-rows (found_of c.in-Some.inner.now) (codes "steps"), c.is_set.ensures, c.in_ok-words.ensures),
     )
 
 pub returns-clause-fault : goal.returns-clause-fault
 returns-clause-fault c =
     let texts = map (λ (s : Bor Text). s.now) c.args.words.now in (
-      taken_words program_app _ texts refl c.in_ok-program.ensures c.in-Ok.ensures.kinds,
+      taken_words program_app _ texts c.in_ok-program.ensures c.in_ok-matches.ensures.taken,
       _,
-      named_by_words program_app _ texts c.in-Ok.matches _ _ refl c.in_ok-program.ensures c.in-Ok.ensures.matches c.in-Some.ensures.name c.in-Some.ensures.rows,
+      named_by_words program_app _ texts c.in_ok-matches.matches _ _ refl c.in_ok-program.ensures c.in_ok-matches.ensures.matches c.in-Some.ensures.name c.in-Some.ensures.rows,
       c.in-None.ensures,
     )
