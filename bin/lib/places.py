@@ -14,8 +14,8 @@ SCRIPTS = os.path.dirname(os.path.dirname(os.path.realpath(__file__)))
 TOP = os.path.dirname(SCRIPTS)
 IS_INSTALLED = SCRIPTS.split(os.sep)[-2:] == ["lib", "iptsim"]
 PROGRAMS = ("iptsim", "iptaudit")
-SLOW = """{called}: bin/quick runs {name} without a proof, and slowly: 8,192 rules take iptsim 22 to 110 s so, and 0.15 s where it is proved.
-{called}: install an archive of a release, or have bin/{name} prove and build the program once, which takes about an hour.
+SLOW = """{called}: bin/quick runs {name} without a proof, and slowly: 8,192 rules take iptsim 22 to 110 s, and 0.15 s if it is proved.
+{called}: install a release, or run bin/{name} once, which proves and builds the program in about an hour.
 """
 
 
