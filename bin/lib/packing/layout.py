@@ -20,6 +20,8 @@ COPIED = (
     ("docs/GUIDE.md", "share/doc/iptsim"),
     ("docs/RECIPES.md", "share/doc/iptsim"),
     ("docs/DIFFERENCES.md", "share/doc/iptsim"),
+    ("docs/THEOREM.md", "share/doc/iptsim"),
+    ("docs/GLOSSARY.md", "share/doc/iptsim"),
     ("docs/differences.tsv", "share/doc/iptsim"),
     ("docs/schemas/*.json", "share/doc/iptsim/schemas"),
     ("CHANGELOG.md", "share/doc/iptsim"),
