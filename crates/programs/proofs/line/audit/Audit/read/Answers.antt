@@ -1,4 +1,5 @@
 use Rattle.std.proofs.Common.{Bor, ap, codes, map, refl, ◌∙◌}
+use Rattle.std.proofs.lemmas.Result.{err_from_is_err_and}
 use Rattle.clap.proofs.WalkLemmas.{first_value-rows}
 use Rattle.clap.specs.Words.{Text, found_of, is_simple_and_free}
 use Rattle.programs.specs.line.AuditLine.{LacksFile, program_app}
@@ -12,7 +13,8 @@ parse-requires c = ap is_simple_and_free c.in_ok-program.ensures ∙ refl
 pub returns-in_err-matches-clause-fault : goal.returns-in_err-matches-clause-fault
 returns-in_err-matches-clause-fault c =
     let texts = map (λ (s : Bor Text). s.now) c.args.words.now in
-    refusal_is_fault program_app _ LacksFile texts _ c.in_ok-program.ensures c.in_err-matches.ensures
+    let p = err_from_is_err_and c.from_residual-in_err-matches.result c.from_residual-in_err-matches.ensures.1 in
+    rw (p.1, p.2) (refusal_is_fault program_app _ LacksFile texts c.in_err-matches.field-0.0 c.in_ok-program.ensures c.in_err-matches.ensures.refused)
 
 pub question_of-requires : goal.question_of-requires
 question_of-requires c =

@@ -1,4 +1,5 @@
 use Rattle.std.proofs.Common.{Bor, ap, map, refl, ◌∙◌}
+use Rattle.std.proofs.lemmas.Result.{err_from_is_err_and}
 use Rattle.clap.specs.Words.{Text, is_simple_and_free}
 use Rattle.programs.specs.line.JobLine.{LacksFile, program_app}
 use Rattle.programs.proofs.laws.LineFaults.{refusal_is_fault}
@@ -11,7 +12,8 @@ parse-requires c = ap is_simple_and_free c.in_ok-program.ensures ∙ refl
 pub returns-in_err-matches-clause-fault : goal.returns-in_err-matches-clause-fault
 returns-in_err-matches-clause-fault c =
     let texts = map (λ (s : Bor Text). s.now) c.args.words.now in
-    refusal_is_fault program_app _ LacksFile texts _ c.in_ok-program.ensures c.in_err-matches.ensures
+    let p = err_from_is_err_and c.from_residual-in_err-matches.result c.from_residual-in_err-matches.ensures.1 in
+    rw (p.1, p.2) (refusal_is_fault program_app _ LacksFile texts c.in_err-matches.field-0.0 c.in_ok-program.ensures c.in_err-matches.ensures.refused)
 
 pub job_of-requires : goal.job_of-requires
 job_of-requires c =
