@@ -1,8 +1,11 @@
 pub mod AreaLaws
 pub mod BoxesLaws
 pub mod ChoiceLaws
+pub mod CollectLaws
+pub mod CompareLaws
 pub mod CountLaws
 pub mod DeleteLaws
+pub mod ElsewhereLaws
 pub mod EndLaws
 pub mod EqualLaws
 pub mod ExactLaws
@@ -14,6 +17,7 @@ pub mod LineStepLaws
 pub mod MeetingLaws
 pub mod PacketLaws
 pub mod ReachLaws
+pub mod SharedLaws
 pub mod TakerLaws
 pub mod TrailLaws
 pub mod TransportLaws

@@ -1,9 +1,12 @@
 pub mod Chosen
+pub mod Collected
+pub mod Compared
 pub mod Exact
 pub mod Groups
 pub mod Leading
 pub mod Lines
 pub mod Sampled
+pub mod Shared
 pub mod Sides
 pub mod Taken
 pub mod Takers

@@ -1,9 +1,11 @@
 //! The questions about all packets, and their answers.
+pub(crate) mod changes;
 pub(crate) mod equal;
 pub(crate) mod exact;
 pub(crate) mod laws;
 pub(crate) mod leading;
 pub(crate) mod matching;
+pub(crate) mod pairs;
 pub(crate) mod reach;
 pub(crate) mod reached;
 pub(crate) mod reason;

@@ -8,7 +8,7 @@ mod boxes;
 mod sampling;
 mod walking;
 
-pub use asked::laws::{answers_exclude_each_other, dead_rules_can_go};
+pub use asked::laws::{answers_exclude_each_other, changes_elsewhere, dead_rules_can_go};
 pub use asked::reach::{Given, reach};
 pub use asked::reached::Reached;
 pub use asked::reason::{Reason, why_dead};

@@ -79,7 +79,7 @@ module _ (goes : ℕ → Bool) where
       ]
 
 -- the rules of a chain, by its name
-rules_without : (goes : Entry → Bool) (cs : List Chain) (name : List ℕ) → rules_of (map (chain_without goes) cs) name ≡ staying (goes_of goes name) 0 (rules_of cs name)
+pub rules_without : (goes : Entry → Bool) (cs : List Chain) (name : List ℕ) → rules_of (map (chain_without goes) cs) name ≡ staying (goes_of goes name) 0 (rules_of cs name)
 rules_without goes [] name = refl
 rules_without goes (c ∷ cs) name =
     let own : List ℕ → List Rule = λ n. staying (goes_of goes n) 0 c.rules in
@@ -91,19 +91,19 @@ rules_without goes (c ∷ cs) name =
 -- ---- a walk that is over
 
 module _ (cs : List Chain) (policy : Verdict) (values : List ℕ) where
-  over_same : (a b : Walked) → Over a ≡ Over b → a ≡ b
+  pub over_same : (a b : Walked) → Over a ≡ Over b → a ≡ b
   over_same a b e = cc
 
-  under_over : (rests : List Rest) (trail : List Entry) (w : Walked) → Under rests trail ≡ Over w → ⊥
+  pub under_over : (rests : List Rest) (trail : List Entry) (w : Walked) → Under rests trail ≡ Over w → ⊥
   under_over rests trail w e = cc
 
   -- it stays what it is
-  ended : (n : ℕ) (a w : Walked) → GoesTo n cs policy values (Over a) (Over w) → a ≡ w
+  pub ended : (n : ℕ) (a w : Walked) → GoesTo n cs policy values (Over a) (Over w) → a ≡ w
   ended zero a w g = over_same a w g
   ended (suc n) a w g = absurd g.1
 
   -- from a stage that is another one
-  from : (n : ℕ) (one two : Stage) (w : Walked) → one ≡ two → GoesTo n cs policy values one (Over w) → GoesTo n cs policy values two (Over w)
+  pub from : (n : ℕ) (one two : Stage) (w : Walked) → one ≡ two → GoesTo n cs policy values one (Over w) → GoesTo n cs policy values two (Over w)
   from n one two w e g = let P : Stage → Type 0 = λ s. GoesTo n cs policy values s (Over w) in subst P e g
 
   -- ---- what is on the trail stays there, but where the walk is too long
@@ -145,18 +145,18 @@ module _ (cs : List Chain) (policy : Verdict) (values : List ℕ) where
 
 module _ (cs : List Chain) (goes : Entry → Bool) (policy : Verdict) (values : List ℕ) where
   -- the chains without them
-  abbrev left : List Chain
+  abbrev pub left : List Chain
   left = map (chain_without goes) cs
 
   -- what is left of a chain there
-  abbrev moved : Rest → Rest
+  abbrev pub moved : Rest → Rest
   moved rest = record { chain = rest.chain; passed = kept (goes_of goes rest.chain) 0 rest.passed (rules_of cs rest.chain) }
 
-  abbrev moved_next : Next → Next
+  abbrev pub moved_next : Next → Next
   moved_next (Ends v) = Ends v
   moved_next (GoesOn rests) = GoesOn (map moved rests)
 
-  after_moved : (to : Option Target) (own : Rest) (waiting : List Rest) → after_match to (moved own) (map moved waiting) ≡ moved_next (after_match to own waiting)
+  pub after_moved : (to : Option Target) (own : Rest) (waiting : List Rest) → after_match to (moved own) (map moved waiting) ≡ moved_next (after_match to own waiting)
   after_moved None own waiting = refl
   after_moved (Some target.Log) own waiting = refl
   after_moved (Some target.Accept) own waiting = refl
@@ -166,21 +166,21 @@ module _ (cs : List Chain) (goes : Entry → Bool) (policy : Verdict) (values : 
   after_moved (Some (target.Jump chain)) own waiting = refl
   after_moved (Some (target.Goto chain)) own waiting = refl
 
-  next_left : (rest : Rest) → next_rule left (moved rest) ≡ slice_get (staying (goes_of goes rest.chain) 0 (rules_of cs rest.chain)) (kept (goes_of goes rest.chain) 0 rest.passed (rules_of cs rest.chain))
+  pub next_left : (rest : Rest) → next_rule left (moved rest) ≡ slice_get (staying (goes_of goes rest.chain) 0 (rules_of cs rest.chain)) (kept (goes_of goes rest.chain) 0 rest.passed (rules_of cs rest.chain))
   next_left rest = ap (λ (rules : List Rule). slice_get rules (kept (goes_of goes rest.chain) 0 rest.passed (rules_of cs rest.chain))) (rules_without goes cs rest.chain)
 
   -- the next rule, if it stays
-  next_stays : (rest : Rest) (rule : Rule) → next_rule cs rest ≡ Some rule → goes_of goes rest.chain (rest.passed + 1) ≡ false → next_rule left (moved rest) ≡ Some rule
+  pub next_stays : (rest : Rest) (rule : Rule) → next_rule cs rest ≡ Some rule → goes_of goes rest.chain (rest.passed + 1) ≡ false → next_rule left (moved rest) ≡ Some rule
   next_stays rest rule at un = next_left rest ∙ there (goes_of goes rest.chain) 0 rest.passed (rules_of cs rest.chain) rule at (ap (goes_of goes rest.chain) (omega arith) ∙ un)
 
-  behind_stays : (rest : Rest) (rule : Rule) → next_rule cs rest ≡ Some rule → goes_of goes rest.chain (rest.passed + 1) ≡ false → moved (behind rest) ≡ behind (moved rest)
+  pub behind_stays : (rest : Rest) (rule : Rule) → next_rule cs rest ≡ Some rule → goes_of goes rest.chain (rest.passed + 1) ≡ false → moved (behind rest) ≡ behind (moved rest)
   behind_stays rest rule at un =
       let goes_here : ℕ → Bool = goes_of goes rest.chain in
       let rules : List Rule = rules_of cs rest.chain in
       let to : ℕ → Rest = λ n. record { chain = rest.chain; passed = n } in
       ap to (ap (λ k. kept goes_here 0 k rules) (add-one rest.passed) ∙ one_more goes_here 0 rest.passed rules rule at (ap goes_here (omega arith) ∙ un) ∙ sym (add-one (kept goes_here 0 rest.passed rules)))
 
-  behind_goes : (rest : Rest) (rule : Rule) → next_rule cs rest ≡ Some rule → goes_of goes rest.chain (rest.passed + 1) ≡ true → moved (behind rest) ≡ moved rest
+  pub behind_goes : (rest : Rest) (rule : Rule) → next_rule cs rest ≡ Some rule → goes_of goes rest.chain (rest.passed + 1) ≡ true → moved (behind rest) ≡ moved rest
   behind_goes rest rule at is =
       let goes_here : ℕ → Bool = goes_of goes rest.chain in
       let rules : List Rule = rules_of cs rest.chain in
@@ -188,13 +188,13 @@ module _ (cs : List Chain) (goes : Entry → Bool) (policy : Verdict) (values : 
       ap to (ap (λ k. kept goes_here 0 k rules) (add-one rest.passed) ∙ gone goes_here 0 rest.passed rules rule at (ap goes_here (omega arith) ∙ is))
 
   -- some steps there end with the same verdict
-  abbrev Follows : Stage → Walked → Type 0
+  abbrev pub Follows : Stage → Walked → Type 0
   Follows stage w = (n : ℕ) × (x : Walked) × GoesTo n left policy values stage (Over x) × (x.verdict ≡ w.verdict)
 
-  follow_same : (one two : Stage) (w : Walked) → one ≡ two → Follows one w → Follows two w
+  pub follow_same : (one two : Stage) (w : Walked) → one ≡ two → Follows one w → Follows two w
   follow_same one two w e f = let P : Stage → Type 0 = λ s. Follows s w in subst P e f
 
-  follow_step : (one two : Stage) (w : Walked) → StepsTo left policy values one two → Follows two w → Follows one w
+  pub follow_step : (one two : Stage) (w : Walked) → StepsTo left policy values one two → Follows two w → Follows one w
   follow_step one two w s f = (suc f.0, f.1, (two, s, f.2), f.3)
 
   -- no rule that goes is on the trail of a walk
@@ -212,7 +212,7 @@ module _ (cs : List Chain) (goes : Entry → Bool) (policy : Verdict) (values : 
       (0, record { trail = other; verdict = v; by_policy = false }, refl, ap (λ (x : Walked). x.verdict) (ended cs policy values n (record { trail = trail; verdict = v; by_policy = false }) w g))
   on_follows n (GoesOn rests) trail other w all long short spares g = all rests trail other w long short spares g
 
-  as_long : (trail other : List Entry) (a b : Entry) → length other ≡ length trail → length (other ++ a ∷ []) ≡ length (trail ++ b ∷ [])
+  pub as_long : (trail other : List Entry) (a b : Entry) → length other ≡ length trail → length (other ++ a ∷ []) ≡ length (trail ++ b ∷ [])
   as_long trail other a b long = length-append other (a ∷ []) ∙ ap (λ n. n + 1) long ∙ sym (length-append trail (b ∷ []))
 
   -- at a rule that matches
@@ -235,7 +235,7 @@ module _ (cs : List Chain) (goes : Entry → Bool) (policy : Verdict) (values : 
       ]
 
   -- at one that doesn't
-  passed : (rest : Rest) (waiting : List Rest) (other : List Entry) (w : Walked) (rule : Rule) → next_rule cs rest ≡ Some rule → IsFalse (matches values rule)
+  pub passed : (rest : Rest) (waiting : List Rest) (other : List Entry) (w : Walked) (rule : Rule) → next_rule cs rest ≡ Some rule → IsFalse (matches values rule)
       → Follows (Under (moved (behind rest) ∷ map moved waiting) other) w → Follows (Under (moved rest ∷ map moved waiting) other) w
   passed rest waiting other w rule at unmet f =
       let under : Rest → Stage = λ r. Under (r ∷ map moved waiting) other in

@@ -1,14 +1,16 @@
 -- Where alone an answer may be unclear, given a budget of steps.
-use Rattle.std.specs.Prelude.{◌≡◌, ◌≢◌, ◌⊎◌, ℕ, List, All, Any, Contains}
+use Rattle.std.specs.Prelude.{◌≡◌, ◌≢◌, ◌⊎◌, ℕ, Bool, IsTrue, List, All, Any, Contains}
 use Rattle.fields.specs.declared.packet.hook.Hook.{Hook}
 use Rattle.fields.specs.numbers.Spans.{SpanSet}
 use Rattle.fields.specs.packet.Packet.{PacketView as Packet}
 use Rattle.table.specs.chains.Table.{Table}
 use Rattle.table.specs.declared.verdict.Verdict.{Verdict}
 use Rattle.table.specs.declared.walk.trail.Step.{Step}
-use Rattle.table.specs.walk.Walk.{walk}
+use Rattle.table.specs.walk.Walk.{Entry, end_verdict, walk}
+use Rattle.questions.specs.Ends.{IsRule}
 use Rattle.questions.specs.Leaves.{AreLeavesOf, entry_of}
 use Rattle.questions.specs.Written.{HasNoneWritten, IsSampleOf}
+use Rattle.questions.specs.asked.Changes.{ShareOthers}
 use Rattle.questions.specs.asked.Rule.{IsDeadAt}
 use Rattle.questions.specs.asked.Verdicts.{IsAlike, IsSameAt}
 use Rattle.questions.specs.boxes.Area.{IsAtHook, IsBoth, IsIn}
@@ -71,12 +73,31 @@ MayDifferIn old new hook budget leaf =
     ⊎ ((leaves : List Leaf) × AreLeavesOf new hook box leaves × Any (λ (other : Leaf). other.verdict ≢ leaf.verdict) leaves
     × All (IsAlikeIn old new hook leaf.verdict) leaves))
 
--- the packets at the hook can't all be walked through the first table within the budget, or those of one of its leaves may get
+-- the packets of the box can't all be walked through the first table within the budget, or those of one of its leaves may get
 -- different verdicts
+abbrev pub MayDifferOn : Table → Table → Hook → ℕ → List SpanSet → Type 0
+MayDifferOn old new hook budget box =
+    IsUnfinished old hook box budget ⊎ ((leaves : List Leaf) × AreLeavesOf old hook box leaves × Any (MayDifferIn old new hook budget) leaves)
+
+-- the tables have different policies at the hook, and the box has all packets there
+abbrev pub IsOfPolicy : Table → Table → Hook → List SpanSet → Type 0
+IsOfPolicy old new hook box =
+    ((p : Packet) → p.hook ≡ hook → end_verdict old p ≢ end_verdict new p) × ((p : Packet) → IsAtHook p → p.hook ≡ hook → IsIn box p)
+
+-- the box has the packets at the hook that the box of one of these rules has
+abbrev pub IsOfRule : Table → (Entry → Bool) → Hook → List SpanSet → Type 0
+IsOfRule t these hook box =
+    (step : Step) × IsRule t step × IsTrue (these (entry_of t.chains step)) × (given : Given) × IsBoxAt t step hook given × (given.area ≡ box)
+
+-- the same of one of the rules by which the tables differ: one of the first table that went, or one of the second table that came
+abbrev pub IsOfChange : Table → Table → Hook → List SpanSet → Type 0
+IsOfChange old new hook box =
+    (went : Entry → Bool) × (came : Entry → Bool) × ShareOthers old went new came × (IsOfRule old went hook box ⊎ IsOfRule new came hook box)
+
+-- there is such a box whose packets may get different verdicts
 abbrev pub MayDiffer : Table → Table → Hook → ℕ → Type 0
 MayDiffer old new hook budget =
-    (box : List SpanSet) × ((p : Packet) → IsAtHook p → p.hook ≡ hook → IsIn box p)
-    × (IsUnfinished old hook box budget ⊎ ((leaves : List Leaf) × AreLeavesOf old hook box leaves × Any (MayDifferIn old new hook budget) leaves))
+    (box : List SpanSet) × (IsOfPolicy old new hook box ⊎ IsOfChange old new hook box) × MayDifferOn old new hook budget box
 
 -- an answer about two tables is unclear only where this fact holds
 abbrev pub IsUnclearIf : Type 0 → Likeness → Type 0

@@ -1,5 +1,5 @@
 -- The rules by which packets come into some chains.
-use Rattle.std.specs.Prelude.{◌≡◌, ◌⊎◌, ℕ, Bool, true, false, List, [], ◌∷◌, Some, Contains}
+use Rattle.std.specs.Prelude.{ℕ, Bool, true, false, List, [], ◌∷◌, Some}
 use Rattle.fields.specs.declared.packet.hook.Hook.{Hook}
 use Rattle.fields.specs.packet.Hook.{name as hook_name}
 use Rattle.table.specs.chains.Table.{Chain, Table, chain_at}
@@ -18,12 +18,6 @@ marked_names (chain ∷ chains) (false ∷ marks) = marked_names chains marks
 pub record IsWay (t : Table) (marks : List Bool) (by : Step) : Type 0 where
   pub rule : IsRule t by
   pub names : NamesMarked t.chains marks (rule_at t by)
-
--- the rules, with those of the chain at a place that name a marked chain, and no others
-pub record AddsWays (t : Table) (marks : List Bool) (place : ℕ) (old new : List Step) : Type 0 where
-  pub kept : (by : Step) → Contains old by → Contains new by
-  pub added : (by : Step) → by.chain ≡ place → IsWay t marks by → Contains new by
-  pub only : (by : Step) → Contains new by → Contains old by ⊎ ((by.chain ≡ place) × IsWay t marks by)
 
 -- rules that allow some numbers that the rule allows too lead from a built-in chain to the rule's chain
 abbrev pub IsOpen : Table → Step → Type 0

@@ -1,4 +1,6 @@
-//! The laws that no two answers hold at once, and that a ruleset can do without its dead rules.
+//! Laws about the answers: no two of them hold at once, dead rules can be deleted, and rules that a packet doesn't match can change
+//! without changing its verdict.
+ghost use Rattle.questions.specs.asked.Changes.{ChangesElsewhere};
 ghost use Rattle.questions.specs.asked.Laws.{DeadIsNotLive, DeadRulesCanGo, DeletionsLeaveTheRest, LinesWritePacketsAtHooks, SameIsNotOther};
 
 /// The law that a packet line writes only packets that can be at their hooks; so no rule is both dead and live, and
@@ -15,4 +17,11 @@ pub fn answers_exclude_each_other()
 pub fn dead_rules_can_go()
     ensures verdicts { DeadRulesCanGo }
     ensures commands { DeletionsLeaveTheRest }
+{}
+
+/// The law that a packet gets the same verdict from two tables if it matches none of the rules by which they differ, and its hook has one
+/// policy in both. Which rules went and which came is for the caller to say: without them each chain name has the same rules in both
+/// tables. Walks that are too long are included. It does nothing.
+pub fn changes_elsewhere()
+    ensures { ChangesElsewhere }
 {}

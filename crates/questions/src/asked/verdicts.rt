@@ -1,19 +1,25 @@
 //! Whether two tables give each packet the same verdict.
 ghost use Rattle.std.specs.Prelude.{◌≡◌, ◌≢◌, false, All, Any, IfOk, IsTrue, MatchOption};
 ghost use Rattle.table.specs.declared.verdict.Verdict.{Verdict};
-ghost use Rattle.questions.specs.asked.Unclear.{IsAlikeAsSeen, IsAlikeIn, IsUnclearIf, MayDiffer, MayDifferIn, MayDifferSomewhere};
+ghost use Rattle.questions.specs.Ends.{IsRule};
+ghost use Rattle.questions.specs.asked.Unclear.{IsAlikeAsSeen, IsAlikeIn, IsUnclearIf, MayDiffer, MayDifferIn, MayDifferOn, MayDifferSomewhere};
 ghost use Rattle.questions.specs.asked.Verdicts.{IsOtherAt, IsSameAt, IsSameIn, Says, SaysIf};
 ghost use Rattle.questions.specs.declared.asked.verdicts.Likeness.TheVariants.{Same};
+ghost use Rattle.questions.specs.steps.Compared.{IsSameOf, IsSameOn, MayDifferOf};
+ghost use Rattle.questions.specs.steps.Shared.{AreChanges};
 
+use crate::asked::changes::{Changes, changes_of};
 use crate::asked::equal::are_equal;
+use crate::asked::matching::packets_of;
+use crate::asked::reach::Given;
 use crate::boxes::area::Area;
 use crate::boxes::boxed_table::BoxedTable;
 use crate::sampling::sample::{Sample, sample_of};
-use crate::walking::engine::leaves;
+use crate::walking::engine::{leaves, policy_at};
 use crate::walking::task::Leaf;
 use fields::{Hook, Words};
 use std::alloc::{AllocError, Global};
-use table::{Table, Verdict};
+use table::{Step, Table, Verdict};
 
 /// What is known of two tables.
 #[derive(Drop)]
@@ -27,6 +33,14 @@ pub enum Likeness {
     /// each of these has no packet that a line writes, or one to which both tables give one verdict. There is such a
     /// hook.
     Unclear,
+}
+
+// Where packets are compared, and with how many steps for each walk.
+#[derive(Clone, Copy)]
+pub(crate) struct Course {
+    pub alloc: Global,
+    pub hook: Hook,
+    pub budget: usize,
 }
 
 // Whether all leaves have this verdict.
@@ -138,31 +152,117 @@ fn likeness_among(
     Ok(Likeness::Unclear)
 }
 
-// What is said of the packets at one hook: they walk the first table, and those of each leaf the second one.
-fn likeness_at(
-    alloc: Global,
+// What is said of the packets of a box: they walk the first table, and those of each leaf the second one.
+fn likeness_on(
     old: &BoxedTable,
     new: &BoxedTable,
-    hook: Hook,
-    budget: usize,
+    course: Course,
+    start: Area,
 ) -> Result<Likeness, AllocError>
-    ensures says { IfOk result (SaysIf (IsSameAt old.now.table.table new.now.table.table hook) old.now.table.table new.now.table.table hook) }
-    ensures unclear { IfOk result (IsUnclearIf (MayDiffer old.now.table.table new.now.table.table hook budget)) }
+    ensures says { IfOk result (SaysIf (IsSameOn old.now.table.table new.now.table.table course.hook start) old.now.table.table new.now.table.table course.hook) }
+    ensures unclear { IfOk result (IsUnclearIf (MayDifferOn old.now.table.table new.now.table.table course.hook course.budget start)) }
 {
-    let start = Area::at_hook(alloc, hook)?;
-    let Some(found) = leaves(alloc, old, hook, start, budget)? else {
+    let Some(found) = leaves(course.alloc, old, course.hook, start, course.budget)? else {
         return Ok(Likeness::Unclear);
     };
-    match likeness_among(&old.table, new, hook, found.as_slice(), budget)? {
+    match likeness_among(
+        &old.table,
+        new,
+        course.hook,
+        found.as_slice(),
+        course.budget,
+    )? {
         Likeness::Same => Ok(Likeness::Same),
         Likeness::Differ(words) => Ok(Likeness::Differ(words)),
         Likeness::Unclear => Ok(Likeness::Unclear),
     }
 }
 
-/// Whether two tables give each packet at one hook the same verdict; a packet that shows a difference is at that
-/// hook. The packets of the hook walk the first table as boxes, with `budget` steps, and each leaf then walks the
-/// second one, with `budget` steps again (`leaves`). Equal tables are the same before any step.
+// What is said of the packets that a rule of one of the tables matches.
+fn likeness_of(
+    old: &BoxedTable,
+    new: &BoxedTable,
+    owner: &BoxedTable,
+    course: Course,
+    step: Step,
+) -> Result<Likeness, AllocError>
+    requires { IsRule owner.now.table.table step }
+    ensures says { IfOk result (SaysIf (IsSameOf owner.now.table.table old.now.table.table new.now.table.table course.hook step) old.now.table.table new.now.table.table course.hook) }
+    ensures unclear { IfOk result (IsUnclearIf (MayDifferOf owner.now.table.table old.now.table.table new.now.table.table course.hook course.budget step)) }
+{
+    let Given { hook: _, area } = packets_of(course.alloc, owner, course.hook, step)?;
+    if area.is_empty() {
+        return Ok(Likeness::Same);
+    }
+    match likeness_on(old, new, course, area)? {
+        Likeness::Same => Ok(Likeness::Same),
+        Likeness::Differ(words) => Ok(Likeness::Differ(words)),
+        Likeness::Unclear => Ok(Likeness::Unclear),
+    }
+}
+
+// What is said of the packets that some of these rules match.
+fn likeness_of_all(
+    old: &BoxedTable,
+    new: &BoxedTable,
+    owner: &BoxedTable,
+    course: Course,
+    steps: &[Step],
+) -> Result<Likeness, AllocError>
+    requires { All (IsRule owner.now.table.table) steps.now }
+    ensures says { IfOk result (SaysIf (All (IsSameOf owner.now.table.table old.now.table.table new.now.table.table course.hook) steps.now) old.now.table.table new.now.table.table course.hook) }
+    ensures unclear { IfOk result (IsUnclearIf (Any (MayDifferOf owner.now.table.table old.now.table.table new.now.table.table course.hook course.budget) steps.now)) }
+{
+    let mut clear = true;
+    for step in steps {
+        match likeness_of(old, new, owner, course, *step)? {
+            Likeness::Same => {}
+            Likeness::Differ(words) => return Ok(Likeness::Differ(words)),
+            Likeness::Unclear => clear = false,
+        }
+    }
+    if clear {
+        return Ok(Likeness::Same);
+    }
+    Ok(Likeness::Unclear)
+}
+
+// What is said of the packets at one hook. Where both tables have one policy there, only packets that a changed rule matches can get
+// two verdicts, and these walk the tables; else all packets of the hook do.
+fn likeness_at(
+    old: &BoxedTable,
+    new: &BoxedTable,
+    changes: &Changes,
+    course: Course,
+) -> Result<Likeness, AllocError>
+    requires { AreChanges old.now.table.table new.now.table.table changes.now }
+    ensures says { IfOk result (SaysIf (IsSameAt old.now.table.table new.now.table.table course.hook) old.now.table.table new.now.table.table course.hook) }
+    ensures unclear { IfOk result (IsUnclearIf (MayDiffer old.now.table.table new.now.table.table course.hook course.budget)) }
+{
+    old.table.stands();
+    new.table.stands();
+    if policy_at(&old.table, course.hook) != policy_at(&new.table, course.hook) {
+        let start = Area::at_hook(course.alloc, course.hook)?;
+        return match likeness_on(old, new, course, start)? {
+            Likeness::Same => Ok(Likeness::Same),
+            Likeness::Differ(words) => Ok(Likeness::Differ(words)),
+            Likeness::Unclear => Ok(Likeness::Unclear),
+        };
+    }
+    let clear = match likeness_of_all(old, new, old, course, changes.went.as_slice())? {
+        Likeness::Differ(words) => return Ok(Likeness::Differ(words)),
+        Likeness::Same => true,
+        Likeness::Unclear => false,
+    };
+    match likeness_of_all(old, new, new, course, changes.came.as_slice())? {
+        Likeness::Differ(words) => Ok(Likeness::Differ(words)),
+        Likeness::Same if clear => Ok(Likeness::Same),
+        Likeness::Same | Likeness::Unclear => Ok(Likeness::Unclear),
+    }
+}
+
+/// Whether two tables give each packet at one hook the same verdict, as `compare` says it of all hooks; a packet that shows a
+/// difference is at that hook.
 ///
 /// # Errors
 ///
@@ -181,11 +281,25 @@ pub fn compare_at(
     if are_equal(&old.table, &new.table) {
         return Ok(Likeness::Same);
     }
-    likeness_at(alloc, old, new, hook, budget)
+    let changes = changes_of(alloc, &old.table, &new.table)?;
+    likeness_at(
+        old,
+        new,
+        &changes,
+        Course {
+            alloc,
+            hook,
+            budget,
+        },
+    )
 }
 
-/// Whether two tables give each packet the same verdict: `compare_at` of each hook in turn. Equal tables are the same
-/// before any step.
+/// Whether two tables give each packet the same verdict, whichever rule gives it. Equal tables are the same before any step.
+///
+/// Otherwise the chains of one name are aligned: rules that both have, in one order, are set aside, and the others are the changes. A packet that
+/// matches no changed rule gets the same verdict from both tables, if its hook has the same policy in both. So for each changed rule and each hook,
+/// the packets of the rule's box walk the first table as boxes, and each leaf then walks the second one. Where the policies of a hook differ,
+/// all packets of the hook do so. Each of these walks has `budget` steps (`leaves`).
 ///
 /// # Errors
 ///
@@ -203,9 +317,15 @@ pub fn compare(
     if are_equal(&old.table, &new.table) {
         return Ok(Likeness::Same);
     }
+    let changes = changes_of(alloc, &old.table, &new.table)?;
     let mut clear = true;
     for hook in Hook::ALL {
-        match likeness_at(alloc, old, new, hook, budget)? {
+        let course = Course {
+            alloc,
+            hook,
+            budget,
+        };
+        match likeness_at(old, new, &changes, course)? {
             Likeness::Same => {}
             Likeness::Differ(words) => return Ok(Likeness::Differ(words)),
             Likeness::Unclear => clear = false,

@@ -2,7 +2,8 @@
 ghost use Rattle.std.specs.Prelude.{◌≡◌, ◌<◌, length, IfOk, MatchOption, OnOk};
 ghost use Rattle.questions.specs.Ends.{IsRule};
 ghost use Rattle.questions.specs.asked.Reason.{IsExcluded};
-ghost use Rattle.questions.specs.steps.Ways.{AddsWays, IsOpen};
+ghost use Rattle.questions.specs.steps.Collected.{AddsRules};
+ghost use Rattle.questions.specs.steps.Ways.{IsOpen, IsWay};
 
 use crate::asked::leading::{names_marked, none_led, spread_from};
 use crate::boxes::boxed_table::BoxedTable;
@@ -18,7 +19,7 @@ fn add_ways(
 ) -> Result<(), AllocError>
     requires long { length marks.now ≡ length table.now.table.chains }
     requires place { place < length table.now.table.chains }
-    ensures { OnOk result (AddsWays table.now.table marks.now place ways.old.items ways.new.items) }
+    ensures { OnOk result (AddsRules (IsWay table.now.table marks.now) place ways.old.items ways.new.items) }
 {
     for passed in 0..table.rule_count(place) {
         let number = passed + 1;

@@ -61,7 +61,7 @@ pub(crate) fn hook_index(hook: Hook) -> usize
 }
 
 // The verdict of a hook's chain at its end.
-fn policy_at(table: &Table, hook: Hook) -> Verdict
+pub(crate) fn policy_at(table: &Table, hook: Hook) -> Verdict
     ensures { (p : PacketView) → p.hook ≡ hook → end_verdict table.now.table p ≡ result }
 {
     match table.policy(hook_index(hook)) {

@@ -15,7 +15,7 @@ loop-hook-preserved c =
     let new = c.args.new.now.table.table in
     let Same : Hook → Type 0 = λ h. IsSameAt old new h in
     let Each : Hook → Type 0 = λ h. Same h ⊎ MayDiffer old new h c.args.budget in
-    elim c.match-branch-2.branch [
+    elim c.match-branch-3.branch [
       | in-Same w ↦ (
           let here : Same (get_or all_hooks c.loop-hook.hook-index Input) = rw w.in-Same.is at c.in_ok-likeness_at.ensures.says in
           record {

@@ -1,6 +1,21 @@
-use Rattle.std.proofs.Common.{inr}
+use Rattle.std.proofs.Common.{◌≡◌, rules, sym, ◌∙◌}
+use Rattle.std.proofs.lemmas.Bool.{true≢false}
+use Rattle.questions.proofs.laws.CompareLaws.{are_rules, same_at}
+use Rattle.questions.proofs.asked.verdicts.likeness_at.Goals.{in-Same-2, in-Unclear-2}
 use Rattle.questions.proofs.asked.verdicts.likeness_at.Goals as goal
 
-pub returns-clause-unclear : goal.returns-clause-unclear
-returns-clause-unclear c =
-    (c.in_ok-start.start, c.in_ok-start.ensures.all, inr (c.in-Some.found.items, rw c.in-Some.is at c.in_ok-found.ensures.leaves, rw (c.in-Unclear.is, c.as_slice.ensures.value) at c.in_ok-likeness_among.ensures.unclear))
+pub likeness_of_all-requires : goal.likeness_of_all-requires
+likeness_of_all-requires c = rw c.as_slice.ensures.value (are_rules c.args.old.now.table.table c.requires.went c.args.changes.now.went.items c.requires.first)
+
+pub likeness_of_all-requires-2 : goal.likeness_of_all-requires-2
+likeness_of_all-requires-2 c = rw c.as_slice-2.ensures.value (are_rules c.args.new.now.table.table c.requires.came c.args.changes.now.came.items c.requires.second)
+
+pub returns-in-Same-3-clause-says : goal.returns-in-Same-3-clause-says
+returns-in-Same-3-clause-says c =
+    let policies : c.policy_at.result ≡ c.policy_at-2.result = search rules in
+    elim c.match-branch-5.branch [
+      | in-Same-2 w ↦
+          same_at c.args.old.now.table.table c.args.new.now.table.table c.args.course.hook c.args.changes.now c.requires (λ p there. c.policy_at.ensures p there ∙ policies ∙ sym (c.policy_at-2.ensures p there))
+          (rw (w.in-Same-2.is, c.as_slice.ensures.value) at c.in_ok-words.ensures.says) (rw (c.in-Same-3.is, c.as_slice-2.ensures.value) at c.in_ok-words-2.ensures.says)
+      | in-Unclear-2 w ↦ absurd (true≢false (sym c.if-clear.true ∙ w.clear-is))
+    ]

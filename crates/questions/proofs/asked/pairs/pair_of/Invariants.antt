@@ -1,0 +1,7 @@
+use Rattle.std.proofs.Common.{◌≡◌}
+use Rattle.table.specs.chains.Table.{chain_at}
+use Rattle.questions.specs.steps.Shared.{IsBeside}
+use Rattle.questions.proofs.asked.pairs.pair_of.Given as goal
+
+abbrev pub invariant-loop : goal.invariant-loop
+invariant-loop l = IsBeside l.old.table l.new.table l.fn.chains l.pair

@@ -1,0 +1,174 @@
+-- Chains of one name beside each other, and the rules that both have.
+use Rattle.std.proofs.Common.{◌≡◌, inl, inr, ℕ, zero, suc, ◌+◌, ◌-◌, ◌<◌, Bool, true, false, List, [], ◌∷◌, ◌++◌, length, get_or, refl, sym, ◌∙◌, ap, ap₂, arith, subst, Option, Some, None, Contains}
+use Rattle.std.specs.List.{AllByRecursion}
+use Rattle.std.specs.Prelude.{All, IsTrue, IsFalse, slice_get}
+use Rattle.std.specs.Str.{bytes_eq}
+use Rattle.std.proofs.lemmas.Bool.{cases_Bool, cond-false, cond-true}
+use Rattle.std.proofs.lemmas.List.{get_or_default}
+use Rattle.std.proofs.lemmas.List.Elements.{Contains-get_or, recursion_from_All}
+use Rattle.std.proofs.lemmas.Option.{get_or_from_slice_get}
+use Rattle.std.proofs.lemmas.Slice.Eq.{bytes_eq-Decides}
+use Rattle.fields.specs.packet.Packet.{PacketView as Packet}
+use Rattle.rules.specs.rule.Allows.{matches}
+use Rattle.rules.specs.rule.Rules.{Rule, empty_rule}
+use Rattle.table.specs.chains.Sound.{IsSound}
+use Rattle.table.specs.chains.Table.{Chain, Table, chain_at, empty_chain, is_named, rules_of}
+use Rattle.table.specs.declared.walk.trail.Step.{Step}
+use Rattle.table.specs.walk.Walk.{Entry}
+use Rattle.table.proofs.laws.chains.KeepLaws.{rules_by_name}
+use Rattle.questions.specs.Ends.{IsRule, rule_at}
+use Rattle.questions.specs.Leaves.{entry_of, name_at}
+use Rattle.questions.specs.asked.Changes.{MatchesNone, ShareOthers}
+use Rattle.questions.specs.asked.Without.{staying}
+use Rattle.questions.specs.declared.asked.pairs.Next.{Next}
+use Rattle.questions.specs.declared.asked.pairs.Next.TheVariants as next
+use Rattle.questions.specs.declared.asked.pairs.Pair.{Pair}
+use Rattle.questions.specs.declared.asked.pairs.Places.{Places}
+use Rattle.questions.specs.declared.asked.pairs.Side.{Side}
+use Rattle.questions.specs.declared.asked.pairs.Side.TheVariants as side
+use Rattle.questions.specs.steps.Collected.{AddsRules}
+use Rattle.questions.specs.steps.Shared.{Adds, AreThere, AreThese, HasPlace, IsBeside, IsMarkedRule, IsPaired, IsThis, is_marked, marks_on, name_of, pair_named, unmarked, unshared}
+use Rattle.questions.proofs.laws.CollectLaws.{adds_as}
+
+-- ---- one more mark
+
+unmarked_more : (ms : List Bool) (xs : List Rule) → unmarked (ms ++ true ∷ []) xs ≡ unmarked ms xs
+unmarked_more [] [] = refl
+unmarked_more [] (x ∷ xs) = refl
+unmarked_more (m ∷ ms) [] = refl
+unmarked_more (true ∷ ms) (x ∷ xs) = unmarked_more ms xs
+unmarked_more (false ∷ ms) (x ∷ xs) = ap (λ (rs : List Rule). x ∷ rs) (unmarked_more ms xs)
+
+unmarked_one : (ms : List Bool) (xs : List Rule) (d : Rule) → length ms < length xs → unmarked (ms ++ false ∷ []) xs ≡ unmarked ms xs ++ get_or xs (length ms) d ∷ []
+unmarked_one [] [] d lt = absurd (omega (arith, lt))
+unmarked_one [] (x ∷ xs) d lt = refl
+unmarked_one (m ∷ ms) [] d lt = absurd (omega (arith, lt))
+unmarked_one (true ∷ ms) (x ∷ xs) d lt = unmarked_one ms xs d (omega (arith, lt))
+unmarked_one (false ∷ ms) (x ∷ xs) d lt = ap (λ (rs : List Rule). x ∷ rs) (unmarked_one ms xs d (omega (arith, lt)))
+
+pub adds_place : (what : Next) (old new : Pair) → Adds what old new → new.place ≡ old.place
+adds_place next.Shared old new adds = adds.0
+adds_place next.Went old new adds = adds.0
+adds_place next.Came old new adds = adds.0
+
+-- what is shared so far stays shared behind what stands next
+pub shared_next : (xs ys : List Rule) (what : Next) (old new : Pair) → Adds what old new → length old.went.items < length xs → length old.came.items < length ys
+    → (what ≡ next.Shared → (d : Rule) → get_or xs (length old.went.items) d ≡ get_or ys (length old.came.items) d) → unmarked old.went.items xs ≡ unmarked old.came.items ys → unmarked new.went.items xs ≡ unmarked new.came.items ys
+shared_next xs ys next.Shared old new adds lt too same shared =
+    let with_one : List Rule → Rule → List Rule = λ rs r. rs ++ r ∷ [] in
+    ap (λ ms. unmarked ms xs) adds.1 ∙ unmarked_one old.went.items xs empty_rule lt ∙ ap₂ with_one shared (same refl empty_rule)
+    ∙ sym (ap (λ ms. unmarked ms ys) adds.2 ∙ unmarked_one old.came.items ys empty_rule too)
+shared_next xs ys next.Went old new adds lt too same shared =
+    ap (λ ms. unmarked ms xs) adds.1 ∙ unmarked_more old.went.items xs ∙ shared ∙ ap (λ ms. unmarked ms ys) (sym adds.2)
+shared_next xs ys next.Came old new adds lt too same shared =
+    ap (λ ms. unmarked ms xs) adds.1 ∙ shared ∙ sym (ap (λ ms. unmarked ms ys) adds.2 ∙ unmarked_more old.came.items ys)
+
+-- the rule at a place
+pub rule_there : (xs : List Rule) (k : ℕ) (x d : Rule) → k < length xs → x ≡ get_or xs (k + 1 - 1) x → get_or xs k d ≡ x
+rule_there xs k x d lt is = get_or_default xs k d x lt ∙ ap (λ j. get_or xs j x) (omega arith) ∙ sym is
+
+-- ---- chains by their names
+
+own_rules : (t : Table) (place : ℕ) → IsSound t → place < length t.chains → rules_of t.chains (name_at t.chains place) ≡ (chain_at t place).rules
+own_rules t place s lt = rules_by_name t (chain_at t place) s (Contains-get_or t.chains place (empty_chain []) lt)
+
+pub paired : (old new : Table) (chains : Places) (pair : Pair) → IsSound old → IsSound new → AreThere old new chains → name_at new.chains chains.new ≡ name_at old.chains chains.old → IsBeside old new chains pair → IsPaired old new pair
+paired old new chains pair s s' there named is =
+    let P : ℕ → Type 0 = λ k. k < length old.chains in
+    let at : name_of old.chains pair ≡ name_at old.chains chains.old = ap (name_at old.chains) is.place in
+    record {
+      placed = subst P (sym is.place) there.first;
+      shared = ap (λ n. unmarked pair.went.items (rules_of old.chains n)) at
+          ∙ ap (unmarked pair.went.items) (own_rules old chains.old s there.first)
+          ∙ is.shared
+          ∙ ap (unmarked pair.came.items) (sym (own_rules new chains.new s' there.second))
+          ∙ ap (λ n. unmarked pair.came.items (rules_of new.chains n)) (named ∙ sym at);
+    }
+
+-- ---- so the tables share all rules but the marked ones
+
+-- rules that stay, by marks
+staying_marks : (g : ℕ → Bool) (ms : List Bool) (before : ℕ) (rules : List Rule) → ((k : ℕ) → g (before + 1 + k) ≡ get_or ms k true) → staying g before rules ≡ unmarked ms rules
+staying_marks g [] before [] at = refl
+staying_marks g (m ∷ ms) before [] at = refl
+staying_marks g [] before (r ∷ rs) at =
+    cond-true (g (before + 1)) _ _ (ap g (omega arith) ∙ at 0) ∙ staying_marks g [] (before + 1) rs (λ k. ap g (omega arith) ∙ at (suc k))
+staying_marks g (true ∷ ms) before (r ∷ rs) at =
+    cond-true (g (before + 1)) _ _ (ap g (omega arith) ∙ at 0) ∙ staying_marks g ms (before + 1) rs (λ k. ap g (omega arith) ∙ at (suc k))
+staying_marks g (false ∷ ms) before (r ∷ rs) at =
+    cond-false (g (before + 1)) _ _ (ap g (omega arith) ∙ at 0) ∙ ap (λ (rules : List Rule). r ∷ rules) (staying_marks g ms (before + 1) rs (λ k. ap g (omega arith) ∙ at (suc k)))
+
+module _ (old new : Table) where
+  -- the chains of a name, by the first pair of it
+  shared_of : (name : List ℕ) (pairs : List Pair) → AllByRecursion (IsPaired old new) pairs
+      → unmarked (marks_on side.Went (pair_named old.chains pairs name)) (rules_of old.chains name) ≡ unmarked (marks_on side.Came (pair_named old.chains pairs name)) (rules_of new.chains name)
+  shared_of name [] all = refl
+  shared_of name (pair ∷ pairs) all =
+      let own : List ℕ = name_of old.chains pair in
+      let P : Option Pair → Type 0 = λ o. unmarked (marks_on side.Went o) (rules_of old.chains name) ≡ unmarked (marks_on side.Came o) (rules_of new.chains name) in
+      let Q : List ℕ → Type 0 = λ n. unmarked pair.went.items (rules_of old.chains n) ≡ unmarked pair.came.items (rules_of new.chains n) in
+      elim (cases_Bool (bytes_eq own name)) [
+        | inl on ↦ subst P (sym (cond-true (bytes_eq own name) (Some pair) _ on)) (subst Q ((bytes_eq-Decides own name).0 on) all.0.shared)
+        | inr off ↦ subst P (sym (cond-false (bytes_eq own name) (Some pair) _ off)) (shared_of name pairs all.1)
+      ]
+
+  pub share_others : (pairs : List Pair) → All (IsPaired old new) pairs → ShareOthers old (unshared side.Went old.chains pairs) new (unshared side.Came old.chains pairs)
+  share_others pairs all name =
+      let one : Option Pair = pair_named old.chains pairs name in
+      let went : List Bool = marks_on side.Went one in
+      let came : List Bool = marks_on side.Came one in
+      staying_marks (λ n. get_or went (n - 1) true) went 0 (rules_of old.chains name) (λ k. ap (λ j. get_or went j true) (omega arith))
+      ∙ shared_of name pairs (recursion_from_All (IsPaired old new) pairs all)
+      ∙ sym (staying_marks (λ n. get_or came (n - 1) true) came 0 (rules_of new.chains name) (λ k. ap (λ j. get_or came j true) (omega arith)))
+
+-- the marked rules of a chain are those of its name
+pub unshared_in : (t : Table) (own : Side) (chains : List Chain) (pairs : List Pair) (marks : List Bool) (place : ℕ) (before after : List Step) → marks ≡ marks_on own (pair_named chains pairs (name_at t.chains place))
+    → AddsRules (IsMarkedRule t marks) place before after → AddsRules (IsThis t (unshared own chains pairs)) place before after
+unshared_in t own chains pairs marks place before after are adds =
+    let named : ℕ → List Bool = λ k. marks_on own (pair_named chains pairs (name_at t.chains k)) in
+    let number : ℕ → List Bool → Bool = λ n ms. is_marked ms n in
+    adds_as (IsMarkedRule t marks) (IsThis t (unshared own chains pairs)) place before after
+    (λ by at h. (h.0, ap (number by.number) (ap named at ∙ sym are) ∙ h.1))
+    (λ by at h. (h.0, ap (number by.number) (are ∙ ap named (sym at)) ∙ h.1)) adds
+
+pub all_placed : (old new : Table) (pairs : List Pair) → All (IsPaired old new) pairs → All (HasPlace old) pairs
+all_placed old new pairs all = λ k d lt. (all k d lt).placed
+
+-- ---- a packet that matches none of them
+
+-- a rule of a chain by its name is one by its place
+placed_rule : (cs : List Chain) (name : List ℕ) (place : ℕ) (rule : Rule) → slice_get (rules_of cs name) place ≡ Some rule
+    → (c : ℕ) × (c < length cs) × (name_at cs c ≡ name) × (slice_get (get_or cs c (empty_chain [])).rules place ≡ Some rule)
+placed_rule [] name place rule e = absurd (nothing e)
+  where
+    nothing : ◌≡◌ {A = Option Rule} None (Some rule) → ⊥
+    nothing e = cc
+placed_rule (x ∷ cs) name place rule e =
+    let P : List Rule → Type 0 = λ rs. slice_get rs place ≡ Some rule in
+    elim (cases_Bool (is_named name x)) [
+      | inl on ↦ (0, omega arith, (bytes_eq-Decides x.name name).0 on, subst P (cond-true (is_named name x) x.rules _ on) e)
+      | inr off ↦ (
+          let w = placed_rule cs name place rule (subst P (cond-false (is_named name x) x.rules _ off) e) in
+          (suc w.0, omega (arith, w.1), w.2, w.3))
+    ]
+
+-- a place where a list has something is within it
+within_list : (xs : List Rule) (k : ℕ) (x : Rule) → slice_get xs k ≡ Some x → k < length xs
+within_list [] k x e = absurd (nothing e)
+  where
+    nothing : ◌≡◌ {A = Option Rule} None (Some x) → ⊥
+    nothing e = cc
+within_list (y ∷ xs) zero x e = omega arith
+within_list (y ∷ xs) (suc k) x e = let w = within_list xs k x e in omega (arith, w)
+
+pub matches_none : (t : Table) (these : Entry → Bool) (steps : List Step) (p : Packet) → AreThese t these steps → ((step : Step) → Contains steps step → IsFalse (matches p.values (rule_at t step))) → MatchesNone t these p
+matches_none t these steps p are off name place rule e is =
+    let w = placed_rule t.chains name place rule e in
+    let step : Step = record { chain = w.0; number = place + 1 } in
+    let entry : List ℕ → Entry = λ n. record { chain = n; number = place + 1 } in
+    let own : List Rule = (chain_at t w.0).rules in
+    let within : place < length own = within_list own place rule w.3 in
+    let this : IsThis t these step = (record { chain = w.1; first = omega arith; last = omega (arith, within) }, ap these (ap entry w.2) ∙ is) in
+    let there : rule_at t step ≡ rule = ap (λ k. get_or own k empty_rule) (omega arith) ∙ get_or_from_slice_get own place rule empty_rule w.3 in
+    let P : Rule → Type 0 = λ r. IsFalse (matches p.values r) in
+    subst P there (off step (are.all step this))

@@ -1,0 +1,73 @@
+//! The rules by which two tables differ.
+ghost use Rattle.std.specs.Prelude.{◌≡◌, ◌+◌, ◌<◌, All, IfOk, OnOk, length};
+ghost use Rattle.questions.specs.steps.Collected.{AddsRules};
+ghost use Rattle.questions.specs.steps.Shared.{AreChanges, AreThese, IsMarkedRule, HasPlace, is_marked, unshared};
+
+use crate::asked::pairs::{Pair, Side, marks_of, pairs_of};
+use std::alloc::{AllocError, Global};
+use table::{Step, Table};
+
+// The rules of the first table that the second one lacks, and those of the second one that the first one lacks.
+#[derive(Drop)]
+pub(crate) struct Changes {
+    pub went: Vec<Step>,
+    pub came: Vec<Step>,
+}
+
+// Whether the rule of a number is marked, or stands beyond the marks.
+fn is_marked(marks: &[bool], passed: usize) -> bool
+    ensures { result ≡ is_marked marks.now (passed + 1) }
+{
+    passed >= marks.len() || marks[passed]
+}
+
+// Adds the marked rules of the chain at a place.
+fn add_marked(
+    table: &Table,
+    place: usize,
+    marks: &[bool],
+    found: &mut Vec<Step>,
+) -> Result<(), AllocError>
+    requires { place < length table.now.table.chains }
+    ensures { OnOk result (AddsRules (IsMarkedRule table.now.table marks.now) place found.old.items found.new.items) }
+{
+    for passed in 0..table.rule_count(place) {
+        if is_marked(marks, passed) {
+            found.push(Step {
+                chain: place,
+                number: passed + 1,
+            })?;
+        }
+    }
+    Ok(())
+}
+
+// The rules of a table, the first one or the second, that the other one lacks.
+fn unshared_of(
+    alloc: Global,
+    table: &Table,
+    old: &Table,
+    pairs: &[Pair],
+    side: Side,
+) -> Result<Vec<Step>, AllocError>
+    requires { All (HasPlace old.now.table) pairs.now }
+    ensures { IfOk result (λ found. AreThese table.now.table (unshared side old.now.table.chains pairs.now) found.items) }
+{
+    let mut found = Vec::new(alloc);
+    for place in 0..table.chain_count() {
+        let marks = marks_of(old, pairs, side, table.chain_name(place));
+        add_marked(table, place, marks, &mut found)?;
+    }
+    Ok(found)
+}
+
+// The rules by which two tables differ. Equal rules that stand in both chains of a name, in one order, are shared, as far as a look ahead
+// of 1,024 rules finds them.
+pub(crate) fn changes_of(alloc: Global, old: &Table, new: &Table) -> Result<Changes, AllocError>
+    ensures { IfOk result (AreChanges old.now.table new.now.table) }
+{
+    let pairs = pairs_of(alloc, old, new)?;
+    let went = unshared_of(alloc, old, old, pairs.as_slice(), Side::Went)?;
+    let came = unshared_of(alloc, new, old, pairs.as_slice(), Side::Came)?;
+    Ok(Changes { went, came })
+}

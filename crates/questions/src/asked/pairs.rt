@@ -1,0 +1,170 @@
+//! Chains of one name in two tables, beside each other: which of their rules both have.
+ghost use Rattle.std.specs.Prelude.{◌≡◌, ◌<◌, All, IfOk, IsTrue, OnOk, length};
+ghost use Rattle.table.specs.chains.Table.{chain_at};
+ghost use Rattle.questions.specs.declared.asked.pairs.Next.TheVariants.{Shared as IsShared};
+ghost use Rattle.questions.specs.steps.Shared.{AreEqualAt, AreThere, HaveNext, IsBeside, IsPaired, HasPlace, marks_on, pair_named};
+
+use std::alloc::{AllocError, Global};
+use table::Table;
+
+// How far ahead of a rule its equal is looked for in the other chain.
+const AHEAD: usize = 1024;
+
+// A place in the first table or chain, and one in the second.
+#[derive(Clone, Copy)]
+pub(crate) struct Places {
+    pub old: usize,
+    pub new: usize,
+}
+
+// What stands next in two chains.
+#[derive(Clone, Copy)]
+pub(crate) enum Next {
+    // Equal rules.
+    Shared,
+    // A rule that the second chain lacks.
+    Went,
+    // A rule that the first chain lacks.
+    Came,
+}
+
+// The first table's rules or the second one's.
+#[derive(Clone, Copy)]
+pub(crate) enum Side {
+    Went,
+    Came,
+}
+
+// A chain that both tables have, by its place in the first one. A mark says that the other table's chain lacks the rule; so do rules
+// beyond the marks.
+#[derive(Drop)]
+pub(crate) struct Pair {
+    pub place: usize,
+    pub went: Vec<bool>,
+    pub came: Vec<bool>,
+}
+
+impl Pair {
+    ghost use Rattle.questions.specs.steps.Shared.{Adds};
+
+    // Goes on behind what stands next.
+    fn add(&mut self, next: Next) -> Result<(), AllocError>
+        ensures { OnOk result (Adds next self.old self.new) }
+    {
+        match next {
+            Next::Shared => {
+                self.went.push(false)?;
+                self.came.push(false)?;
+            }
+            Next::Went => self.went.push(true)?,
+            Next::Came => self.came.push(true)?,
+        }
+        Ok(())
+    }
+}
+
+// Whether the next rules are equal.
+fn are_equal_at(old: &Table, new: &Table, chains: Places, passed: Places) -> bool
+    requires { HaveNext old.now.table new.now.table chains passed }
+    ensures { IsTrue result → AreEqualAt old.now.table new.now.table chains passed }
+{
+    let count = old.rule_count(chains.old);
+    prove!(passed.old < count);
+    let other = new.rule_count(chains.new);
+    prove!(passed.new < other);
+    old.rule(chains.old, passed.old + 1)
+        .equals(new.rule(chains.new, passed.new + 1))
+}
+
+// Which of the next rules is passed: both where they are equal, else the one after which, or within a few more, an equal one comes.
+fn next_of(old: &Table, new: &Table, chains: Places, passed: Places) -> Next
+    requires { HaveNext old.now.table new.now.table chains passed }
+    ensures { result ≡ IsShared → AreEqualAt old.now.table new.now.table chains passed }
+{
+    if are_equal_at(old, new, chains, passed) {
+        return Next::Shared;
+    }
+    for ahead in 1..AHEAD {
+        if ahead < old.rule_count(chains.old) - passed.old {
+            let further = Places {
+                old: passed.old + ahead,
+                new: passed.new,
+            };
+            if are_equal_at(old, new, chains, further) {
+                return Next::Went;
+            }
+        }
+        if ahead < new.rule_count(chains.new) - passed.new {
+            let further = Places {
+                old: passed.old,
+                new: passed.new + ahead,
+            };
+            if are_equal_at(old, new, chains, further) {
+                return Next::Came;
+            }
+        }
+    }
+    Next::Went
+}
+
+// Two chains beside each other.
+fn pair_of(alloc: Global, old: &Table, new: &Table, chains: Places) -> Result<Pair, AllocError>
+    requires { AreThere old.now.table new.now.table chains }
+    ensures { IfOk result (IsBeside old.now.table new.now.table chains) }
+{
+    let count = Places {
+        old: old.rule_count(chains.old),
+        new: new.rule_count(chains.new),
+    };
+    let mut pair = Pair {
+        place: chains.old,
+        went: Vec::new(alloc),
+        came: Vec::new(alloc),
+    };
+    for _ in 0..count.old.saturating_add(count.new) {
+        let passed = Places {
+            old: pair.went.len(),
+            new: pair.came.len(),
+        };
+        if passed.old >= count.old || passed.new >= count.new {
+            return Ok(pair);
+        }
+        pair.add(next_of(old, new, chains, passed))?;
+    }
+    Ok(pair)
+}
+
+// The chains that both tables have.
+pub(crate) fn pairs_of(alloc: Global, old: &Table, new: &Table) -> Result<Vec<Pair>, AllocError>
+    ensures { IfOk result (λ pairs. All (IsPaired old.now.table new.now.table) pairs.items) }
+{
+    old.stands();
+    new.stands();
+    let mut pairs = Vec::new(alloc);
+    for place in 0..old.chain_count() {
+        if let Some(other) = new.index_of(old.chain_name(place)) {
+            let chains = Places {
+                old: place,
+                new: other,
+            };
+            pairs.push(pair_of(alloc, old, new, chains)?)?;
+        }
+    }
+    Ok(pairs)
+}
+
+// The marks of the first pair with a chain name, on one side; none where only one of the tables has the chain.
+pub(crate) fn marks_of<'a>(old: &Table, pairs: &'a [Pair], side: Side, name: &[u8]) -> &'a [bool]
+    requires { All (HasPlace old.now.table) pairs.now }
+    ensures { result.now ≡ marks_on side (pair_named old.now.table.chains pairs.now name.now) }
+{
+    for pair in pairs {
+        if old.chain_name(pair.place) == name {
+            return match side {
+                Side::Went => pair.went.as_slice(),
+                Side::Came => pair.came.as_slice(),
+            };
+        }
+    }
+    &[]
+}
