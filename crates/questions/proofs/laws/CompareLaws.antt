@@ -1,5 +1,5 @@
 -- Two tables compared by the rules in which they differ.
-use Rattle.std.proofs.Common.{◌≡◌, ◌⊎◌, inl, inr, ℕ, zero, suc, ◌<◌, Bool, true, List, [], ◌∷◌, length, get_or, refl, sym, ◌∙◌, ap, arith, subst, Contains}
+use Rattle.std.proofs.Common.{◌≡◌, ◌⊎◌, inl, inr, ℕ, zero, suc, Bool, true, List, [], ◌∷◌, get_or, refl, arith, subst, Contains}
 use Rattle.std.specs.Prelude.{All, Any, IsFalse}
 use Rattle.std.proofs.lemmas.Bool.{cases_Bool}
 use Rattle.std.proofs.lemmas.List.Elements.{All-contains, Contains-get_or}
@@ -10,14 +10,11 @@ use Rattle.table.specs.chains.Table.{Table}
 use Rattle.table.specs.declared.walk.trail.Step.{Step}
 use Rattle.table.specs.walk.Walk.{Entry, end_verdict}
 use Rattle.questions.specs.Ends.{IsRule, rule_at}
-use Rattle.questions.specs.asked.Changes.{ShareOthers}
 use Rattle.questions.specs.asked.Unclear.{IsOfRule, MayDiffer, MayDifferOn}
-use Rattle.questions.specs.asked.Verdicts.{IsAlike, IsSameAt}
-use Rattle.questions.specs.boxes.Area.{IsAtHook}
+use Rattle.questions.specs.asked.Verdicts.{IsSameAt}
 use Rattle.questions.specs.declared.asked.changes.Changes.{Changes}
 use Rattle.questions.specs.steps.Compared.{IsSameOf, MayDifferOf}
 use Rattle.questions.specs.steps.Shared.{AreChanges, AreThese}
-use Rattle.questions.specs.steps.Takers.{IsMatchedAt}
 use Rattle.questions.proofs.laws.ElsewhereLaws.{elsewhere}
 use Rattle.questions.proofs.laws.SharedLaws.{matches_none}
 

@@ -1,7 +1,7 @@
 -- Chains of one name beside each other, and the rules that both have.
 use Rattle.std.proofs.Common.{◌≡◌, inl, inr, ℕ, zero, suc, ◌+◌, ◌-◌, ◌<◌, Bool, true, false, List, [], ◌∷◌, ◌++◌, length, get_or, refl, sym, ◌∙◌, ap, ap₂, arith, subst, Option, Some, None, Contains}
 use Rattle.std.specs.List.{AllByRecursion}
-use Rattle.std.specs.Prelude.{All, IsTrue, IsFalse, slice_get}
+use Rattle.std.specs.Prelude.{All, IsFalse, slice_get}
 use Rattle.std.specs.Str.{bytes_eq}
 use Rattle.std.proofs.lemmas.Bool.{cases_Bool, cond-false, cond-true}
 use Rattle.std.proofs.lemmas.List.{get_or_default}
@@ -16,8 +16,8 @@ use Rattle.table.specs.chains.Table.{Chain, Table, chain_at, empty_chain, is_nam
 use Rattle.table.specs.declared.walk.trail.Step.{Step}
 use Rattle.table.specs.walk.Walk.{Entry}
 use Rattle.table.proofs.laws.chains.KeepLaws.{rules_by_name}
-use Rattle.questions.specs.Ends.{IsRule, rule_at}
-use Rattle.questions.specs.Leaves.{entry_of, name_at}
+use Rattle.questions.specs.Ends.{rule_at}
+use Rattle.questions.specs.Leaves.{name_at}
 use Rattle.questions.specs.asked.Changes.{MatchesNone, ShareOthers}
 use Rattle.questions.specs.asked.Without.{staying}
 use Rattle.questions.specs.declared.asked.pairs.Next.{Next}

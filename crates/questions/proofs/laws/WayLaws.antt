@@ -1,5 +1,5 @@
 -- The rules by which packets come into the marked chains, one after another.
-use Rattle.std.proofs.Common.{◌≡◌, ◌⊎◌, inl, inr, ℕ, zero, suc, ◌+◌, ◌-◌, ◌<◌, ◌≤◌, Bool, true, false, List, [], ◌∷◌, ◌++◌, length, get_or, refl, sym, ◌∙◌, ap, arith, subst, Some, Contains}
+use Rattle.std.proofs.Common.{◌≡◌, inl, inr, ℕ, zero, suc, ◌-◌, ◌<◌, ◌≤◌, Bool, true, false, List, [], ◌∷◌, length, get_or, refl, sym, ◌∙◌, arith, subst, Some, Contains}
 use Rattle.std.proofs.lemmas.Bool.{and_parts, cases_Bool, true≢false}
 use Rattle.std.proofs.lemmas.List.Elements.{Contains-get_or}
 use Rattle.fields.specs.declared.packet.hook.Hook.{Hook}

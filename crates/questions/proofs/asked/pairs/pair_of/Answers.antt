@@ -1,4 +1,4 @@
-use Rattle.std.proofs.Common.{◌≡◌, ◌<◌, ℕ, List, length, get_or, sym, ◌∙◌, ap, arith}
+use Rattle.std.proofs.Common.{◌≡◌, ◌<◌, List, length, get_or, sym, ◌∙◌, ap, arith}
 use Rattle.rules.specs.rule.Rules.{Rule}
 use Rattle.table.specs.chains.Table.{chain_at}
 use Rattle.questions.specs.declared.asked.pairs.Pair.{Pair}

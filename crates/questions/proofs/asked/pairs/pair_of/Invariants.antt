@@ -1,5 +1,3 @@
-use Rattle.std.proofs.Common.{◌≡◌}
-use Rattle.table.specs.chains.Table.{chain_at}
 use Rattle.questions.specs.steps.Shared.{IsBeside}
 use Rattle.questions.proofs.asked.pairs.pair_of.Given as goal
 
