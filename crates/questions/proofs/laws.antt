@@ -1,7 +1,9 @@
+pub mod AheadLaws
 pub mod AreaLaws
 pub mod BoxesLaws
 pub mod ChoiceLaws
 pub mod CollectLaws
+pub mod ComeLaws
 pub mod CompareLaws
 pub mod CountLaws
 pub mod DeleteLaws
@@ -14,6 +16,7 @@ pub mod LeadLaws
 pub mod LeastNameLaws
 pub mod LineLaws
 pub mod LineStepLaws
+pub mod LookLaws
 pub mod MeetingLaws
 pub mod PacketLaws
 pub mod ReachLaws

@@ -1,11 +1,14 @@
+pub mod Ahead
 pub mod Chosen
 pub mod Collected
+pub mod Coming
 pub mod Compared
 pub mod Exact
 pub mod Groups
 pub mod Leading
 pub mod Lines
 pub mod Sampled
+pub mod Searched
 pub mod Shared
 pub mod Sides
 pub mod Taken

@@ -1,5 +1,6 @@
 //! The questions about all packets, and their answers.
 pub(crate) mod changes;
+pub(crate) mod coming;
 pub(crate) mod equal;
 pub(crate) mod exact;
 pub(crate) mod laws;

@@ -2,5 +2,6 @@
 pub(crate) mod area;
 pub(crate) mod boxed_table;
 pub(crate) mod cut;
+pub(crate) mod lying;
 pub(crate) mod meeting;
 pub(crate) mod transport;

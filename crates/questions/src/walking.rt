@@ -1,4 +1,5 @@
 //! The walk of whole boxes through a table.
+pub(crate) mod ahead;
 pub(crate) mod engine;
 pub(crate) mod front;
 pub(crate) mod task;

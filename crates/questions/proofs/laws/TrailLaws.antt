@@ -96,7 +96,7 @@ one_place t i j s lt e =
     ]
 
 -- an entry on the trail that a leaf shows is one of the leaf's steps
-step_in : (t : Table) (steps : List Step) (step : Step) → IsSound t → step.chain < length t.chains → Contains (entries_of t.chains steps) (entry_of t.chains step) → Contains steps step
+pub step_in : (t : Table) (steps : List Step) (step : Step) → IsSound t → step.chain < length t.chains → Contains (entries_of t.chains steps) (entry_of t.chains step) → Contains steps step
 step_in t steps step s lt c =
     let within : c.0 < length steps = omega (arith, c.1, length-map steps (entry_of t.chains)) in
     let here : Step = get_or steps c.0 step in

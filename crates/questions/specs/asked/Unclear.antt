@@ -1,5 +1,5 @@
 -- Where alone an answer may be unclear, given a budget of steps.
-use Rattle.std.specs.Prelude.{◌≡◌, ◌≢◌, ◌⊎◌, ℕ, Bool, IsTrue, List, All, Any, Contains}
+use Rattle.std.specs.Prelude.{◌≡◌, ◌≢◌, ◌⊎◌, ℕ, ◌*◌, ◌/◌, ◌<◌, ◌≤◌, Bool, IsTrue, List, length, All, Any, Contains}
 use Rattle.fields.specs.declared.packet.hook.Hook.{Hook}
 use Rattle.fields.specs.numbers.Spans.{SpanSet}
 use Rattle.fields.specs.packet.Packet.{PacketView as Packet}
@@ -14,13 +14,16 @@ use Rattle.questions.specs.asked.Changes.{ShareOthers}
 use Rattle.questions.specs.asked.Rule.{IsDeadAt}
 use Rattle.questions.specs.asked.Verdicts.{IsAlike, IsSameAt}
 use Rattle.questions.specs.boxes.Area.{IsAtHook, IsBoth, IsIn}
+use Rattle.questions.specs.boxes.Boxes.{rules_in}
 use Rattle.questions.specs.declared.asked.reach.Given.{Given}
 use Rattle.questions.specs.declared.asked.rule.Life.{Life}
 use Rattle.questions.specs.declared.asked.rule.Life.TheVariants as life
 use Rattle.questions.specs.declared.asked.verdicts.Likeness.{Likeness}
 use Rattle.questions.specs.declared.asked.verdicts.Likeness.TheVariants as likeness
+use Rattle.questions.specs.declared.walking.front.Front.{Front}
 use Rattle.questions.specs.declared.walking.task.Leaf.{Leaf}
-use Rattle.questions.specs.steps.Taken.{IsUnfinished}
+use Rattle.questions.specs.steps.Searched.{HasCome, SearchesTo}
+use Rattle.questions.specs.steps.Taken.{IsFull, IsUnfinished}
 use Rattle.questions.specs.steps.Takers.{IsBoxAt}
 
 -- no packet of the box shows that the rule can match: no packet line writes one, or some line writes one that doesn't have the rule
@@ -29,18 +32,17 @@ abbrev pub IsUnseen : Table → Step → Hook → List SpanSet → Type 0
 IsUnseen t step hook box =
     HasNoneWritten hook box ⊎ ((words : List (List ℕ)) × (p : Packet) × IsSampleOf hook box words p × (Contains (walk t p).trail (entry_of t.chains step) → ⊥))
 
--- the same of a leaf's box, if the leaf has the rule on its trail
-abbrev pub IsUnseenIn : Table → Step → Hook → Leaf → Type 0
-IsUnseenIn t step hook leaf = Contains leaf.trail.items step → IsUnseen t step hook leaf.area
+-- so many steps use the budget up: they are as many, or looked at 50 times as many rules, of which a step sees each once at most
+abbrev pub IsUsedUp : Table → ℕ → ℕ → Type 0
+IsUsedUp t n budget = (n ≡ budget) ⊎ (budget ≤ n * rules_in t.chains / 50)
 
--- the packets that the rule's box has at the hook can't all be walked within the budget; or some of their leaves have the rule on
--- the trail, and of each of these no packet shows it
+-- the packets that the rule's box has at the hook are searched, and of each box that came to the rule no packet shows it: the budget is used up
+-- with a task left, a trail is full, or the search is at its end and some box came to the rule
 abbrev pub MayLive : Table → Step → Hook → ℕ → Type 0
 MayLive t step hook budget =
-    (given : Given) × IsBoxAt t step hook given
-    × (IsUnfinished t hook given.area budget
-    ⊎ ((leaves : List Leaf) × AreLeavesOf t hook given.area leaves × Any (λ (leaf : Leaf). Contains leaf.trail.items step) leaves
-    × All (IsUnseenIn t step hook) leaves))
+    (given : Given) × IsBoxAt t step hook given × (n : ℕ) × (front : Front) × (came : List (List SpanSet))
+    × SearchesTo t hook step given.area n front came × All (IsUnseen t step hook) came
+    × ((IsUsedUp t n budget × (0 < length front.tasks.items)) ⊎ (((n < budget) × IsFull front) ⊎ ((n ≤ budget) × HasCome step front came)))
 
 -- an answer about a rule at one hook is unclear only where `MayLive` holds
 abbrev pub IsUnclearAt : Table → Step → Hook → ℕ → Life → Type 0

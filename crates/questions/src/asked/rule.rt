@@ -4,14 +4,15 @@ ghost use Rattle.table.specs.chains.Table.{chain_at};
 ghost use Rattle.questions.specs.Ends.{IsRule};
 ghost use Rattle.questions.specs.Leaves.{entry_of};
 ghost use Rattle.questions.specs.asked.Rule.{IsLiveAt, Says, SaysAt};
-ghost use Rattle.questions.specs.asked.Unclear.{IsUnclear, IsUnclearAt, IsUnseen, IsUnseenIn};
+ghost use Rattle.questions.specs.asked.Unclear.{IsUnclear, IsUnclearAt, IsUnseen};
+ghost use Rattle.questions.specs.steps.Searched.{SaysEnd};
 
+use crate::asked::coming::come;
 use crate::asked::matching::packets_of;
-use crate::asked::reach::Given;
 use crate::boxes::area::Area;
 use crate::boxes::boxed_table::BoxedTable;
 use crate::sampling::sample::{Sample, sample_of};
-use crate::walking::engine::leaves;
+use crate::walking::engine::{LIMIT, begin, policy_at};
 use crate::walking::task::Leaf;
 use fields::{Hook, Words};
 use std::alloc::{AllocError, Global};
@@ -24,14 +25,17 @@ pub enum Life {
     Dead,
     /// These words write a packet, and the rule is on its walk.
     Live(Words),
-    /// Neither is known. Each hook at which the rule isn't dead is one where the steps don't suffice, a trail is
-    /// full, or leaves have the rule on their trails, and each of these has no packet that a line writes, or one
-    /// whose walk hasn't the rule. There is such a hook.
+    /// Neither is known. Each hook at which the rule isn't dead is one where the budget is used up, a trail is full, or boxes
+    /// came to the rule, and each of these has no packet that a line writes, or one whose walk hasn't the rule. There is such a
+    /// hook.
     Unclear,
 }
 
+// How many rules may be looked at ahead for each step of the budget.
+const LOOKS: usize = 50;
+
 // Whether the rule is on a trail.
-fn is_on(trail: &[Step], step: Step) -> bool
+pub(crate) fn is_on(trail: &[Step], step: Step) -> bool
     ensures { IsTrue result ↔ Contains trail.now step }
 {
     trail.contains(&step)
@@ -61,30 +65,6 @@ fn witness(
     Ok(None)
 }
 
-// A packet of some leaf with the rule on its trail, as words that write it.
-fn witness_among(
-    alloc: Global,
-    table: &Table,
-    hook: Hook,
-    leaves: &[Leaf],
-    step: Step,
-) -> Result<Option<Words>, AllocError>
-    requires { IsRule table.now.table step }
-    ensures { IfOk result (λ found. MatchOption found
-        (All (IsUnseenIn table.now.table step hook) leaves.now) (IsLiveAt table.now.table (entry_of table.now.table.chains step) hook)) }
-{
-    for leaf in leaves {
-        if !is_on(leaf.trail.as_slice(), step) {
-            continue;
-        }
-        match witness(alloc, table, hook, &leaf.area, step)? {
-            None => {}
-            Some(words) => return Ok(Some(words)),
-        }
-    }
-    Ok(None)
-}
-
 // Whether no leaf has the rule on its trail.
 pub(crate) fn none_on(found: &[Leaf], step: Step) -> bool
     ensures none { IsTrue result → All (λ leaf. Contains leaf.trail.items step → ⊥) found.now }
@@ -98,7 +78,17 @@ pub(crate) fn none_on(found: &[Leaf], step: Step) -> bool
     true
 }
 
-// What is said of a rule, for the packets at one hook: those that its box has walk the table.
+// What is said of a rule at the end of the search: it is clear where no box came to it.
+fn at_end(clear: bool, leaves: &[Leaf], step: Step) -> Life
+    ensures { SaysEnd clear leaves.now step result }
+{
+    if clear && none_on(leaves, step) {
+        return Life::Dead;
+    }
+    Life::Unclear
+}
+
+// What is said of a rule, for the packets at one hook: those that its box has are searched for one that comes to it.
 fn life_at(
     alloc: Global,
     subject: &BoxedTable,
@@ -111,23 +101,39 @@ fn life_at(
     ensures unclear { IfOk result (IsUnclearAt subject.now.table.table step hook budget) }
 {
     subject.table.stands();
-    let Given { hook: _, area } = packets_of(alloc, subject, hook, step)?;
-    match leaves(alloc, subject, hook, area, budget)? {
-        None => Ok(Life::Unclear),
-        Some(found) => {
-            if none_on(found.as_slice(), step) {
-                return Ok(Life::Dead);
+    let policy = policy_at(&subject.table, hook);
+    let given = packets_of(alloc, subject, hook, step)?;
+    let mut front = begin(alloc, &subject.table, hook, given.area)?;
+    let mut clear = true;
+    let mut looks = 0;
+    for taken in 0..budget {
+        let Some(task) = front.tasks.pop() else {
+            return Ok(at_end(clear, front.leaves.as_slice(), step));
+        };
+        if looks / LOOKS >= budget {
+            return Ok(Life::Unclear);
+        }
+        if task.trail.len() >= LIMIT {
+            return Ok(Life::Unclear);
+        }
+        if let Some(came) = come(subject, policy, &mut front, task, step, &mut looks)? {
+            if let Some(words) = witness(alloc, &subject.table, hook, &came, step)? {
+                return Ok(Life::Live(words));
             }
-            match witness_among(alloc, &subject.table, hook, found.as_slice(), step)? {
-                Some(words) => Ok(Life::Live(words)),
-                None => Ok(Life::Unclear),
-            }
+            clear = false;
         }
     }
+    if !front.tasks.is_empty() {
+        return Ok(Life::Unclear);
+    }
+    Ok(at_end(clear, front.leaves.as_slice(), step))
 }
 
-/// Whether rule `number` of the chain at a place, both of which have to be there, can match at all. Rules count from
-/// 1. At each hook the packets that the rule's box has walk the table as boxes, with `budget` steps (`leaves`).
+/// Whether rule `number` of the chain at a place, both of which have to be there, can match at all. Rules count from 1.
+///
+/// At each hook the packets of the rule's box are searched for one that comes to the rule, with `budget` steps: rules that
+/// share no packet with a box are passed at once, a box is dropped where a rule ahead in its chain takes all of it, and the
+/// first box that comes to the rule offers a packet. Looking at a rule ahead counts a fiftieth of a step.
 ///
 /// # Errors
 ///

@@ -18,10 +18,10 @@ use std::alloc::{AllocError, Global};
 use table::{Policy, Table, Verdict};
 
 // The most rules that match in a walk.
-const LIMIT: usize = 65536;
+pub(crate) const LIMIT: usize = 65536;
 
 // One step of the walks of a task: the policy decides them, a chain comes back, or a rule is asked.
-fn step(
+pub(crate) fn step(
     subject: &BoxedTable,
     policy: Verdict,
     front: &mut Front,
@@ -71,7 +71,12 @@ pub(crate) fn policy_at(table: &Table, hook: Hook) -> Verdict
 }
 
 // A box at the first rule of a hook's chain.
-fn begin(alloc: Global, table: &Table, hook: Hook, start: Area) -> Result<Front, AllocError>
+pub(crate) fn begin(
+    alloc: Global,
+    table: &Table,
+    hook: Hook,
+    start: Area,
+) -> Result<Front, AllocError>
     ensures begins { IfOk result (Begins table.now.table hook start) }
     ensures first { IfOk result (IsFirst hook start) }
 {

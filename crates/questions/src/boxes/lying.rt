@@ -1,0 +1,45 @@
+//! Whether all packets of a box are in another one.
+ghost use Rattle.std.specs.Prelude.{◌≡◌, ◌≤◌, ℕ, List, true, IsTrue};
+ghost use Rattle.fields.specs.numbers.Spans.{has};
+ghost use Rattle.rules.specs.boxing.Boxed.{IsBox};
+ghost use Rattle.questions.specs.boxes.Area.{Has};
+
+use fields::{FIELDS, Interval, Spans};
+
+// Whether an interval of a set has all numbers of this one.
+fn has_span(set: &Spans, span: Interval) -> bool
+    ensures { IsTrue result → (x : ℕ) → span.first ≤ x → x ≤ span.last → has set.now.intervals x ≡ true }
+{
+    for other in set.intervals() {
+        if other.first <= span.first && span.last <= other.last {
+            return true;
+        }
+    }
+    false
+}
+
+// Whether a set has all numbers of another one.
+fn is_part(own: &Spans, other: &Spans) -> bool
+    ensures { IsTrue result → (x : ℕ) → has own.now.intervals x ≡ true → has other.now.intervals x ≡ true }
+{
+    for span in own.intervals() {
+        if !has_span(other, *span) {
+            return false;
+        }
+    }
+    true
+}
+
+// Whether all packets of a box are in another one, by their sets. It takes no memory.
+pub(crate) fn lies_in(own: &[Spans], other: &[Spans]) -> bool
+    requires own { IsBox own.now }
+    requires other { IsBox other.now }
+    ensures { IsTrue result → (numbers : List ℕ) → Has own.now numbers → Has other.now numbers }
+{
+    for place in 0..FIELDS {
+        if !is_part(&own[place], &other[place]) {
+            return false;
+        }
+    }
+    true
+}
