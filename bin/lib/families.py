@@ -12,7 +12,7 @@ def is_for_ipv6(line):
     if not any(option in line for option in OPTIONS):
         return False
     values = [word.value for word in words_of(line) or ()]
-    return any(value in OPTIONS and not extensions.takes_values(before) for before, value in zip(values[1:], values[2:]))
+    return any(value in OPTIONS and not extensions.takes_values(before) for before, value in zip([b"", *values], values))
 
 
 def of_ipv6(lines):
