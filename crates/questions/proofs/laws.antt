@@ -1,6 +1,7 @@
 pub mod AheadLaws
 pub mod AreaLaws
 pub mod BoxesLaws
+pub mod CandidateLaws
 pub mod ChoiceLaws
 pub mod CollectLaws
 pub mod ComeLaws

@@ -1,6 +1,7 @@
 //! Boxes of packets, and how a rule cuts them.
 pub(crate) mod area;
 pub(crate) mod boxed_table;
+pub(crate) mod candidates;
 pub(crate) mod cut;
 pub(crate) mod lying;
 pub(crate) mod meeting;

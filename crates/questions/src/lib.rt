@@ -8,7 +8,10 @@ mod boxes;
 mod sampling;
 mod walking;
 
-pub use asked::laws::{answers_exclude_each_other, changes_elsewhere, dead_rules_can_go};
+pub use asked::changes::{Changes, changes_of};
+pub use asked::laws::{
+    answers_exclude_each_other, changes_elsewhere, changes_off_the_walk, dead_rules_can_go,
+};
 pub use asked::reach::{Given, reach};
 pub use asked::reached::Reached;
 pub use asked::reason::{Reason, why_dead};

@@ -1,8 +1,9 @@
 -- Rules ahead of a walk in a chain: those that are passed at once, and one that takes its packet.
-use Rattle.std.proofs.Common.{◌≡◌, inl, inr, ℕ, zero, suc, ◌+◌, ◌-◌, ◌<◌, ◌≤◌, true, cond, List, [], ◌∷◌, ◌++◌, length, refl, sym, ◌∙◌, ap, arith, subst, Option, Some, None, Contains}
+use Rattle.std.proofs.Common.{◌≡◌, ◌⊎◌, inl, inr, ℕ, zero, suc, ◌+◌, ◌-◌, ◌<◌, ◌≤◌, true, false, cond, List, [], ◌∷◌, ◌++◌, length, refl, sym, ◌∙◌, ap, arith, subst, Option, Some, None, Contains}
 use Rattle.std.specs.Prelude.{slice_get}
 use Rattle.std.proofs.Math.Dec.{ltb}
 use Rattle.std.proofs.lemmas.Bool.{cases_lt, cond-true, cond-false, lt-ltb, le-ltb, true≢false}
+use Rattle.std.proofs.lemmas.List.{length-append}
 use Rattle.std.proofs.lemmas.List.Elements.{Contains-push_cases}
 use Rattle.std.proofs.lemmas.Option.{slice_get-get_or, slice_get_past}
 use Rattle.fields.specs.packet.Packet.{PacketView as Packet}
@@ -13,6 +14,8 @@ use Rattle.rules.specs.rule.Allows.{matches}
 use Rattle.rules.specs.rule.Rules.{Rule, empty_rule}
 use Rattle.table.specs.chains.Table.{Chain, Table, rules_of}
 use Rattle.table.specs.declared.verdict.Verdict.{Verdict}
+use Rattle.table.specs.declared.verdict.Verdict.TheVariants as verdict
+use Rattle.table.specs.declared.verdict.Verdict.TheVariants.{TooLong}
 use Rattle.table.specs.walk.Cases.{Stage, Under, Over, next_rule, behind, with_next, on_by, StepsTo, GoesTo}
 use Rattle.table.specs.walk.Walk.{Rest, Entry, Walked, after_match, end_verdict, too_long, walk}
 use Rattle.table.proofs.laws.walk.CaseLaws.{walks_by_cases}
@@ -93,9 +96,9 @@ module _ (cs : List Chain) (policy : Verdict) (values : List ℕ) where
   -- ---- a rule ahead that takes the packet
 
   module _ (entry : Entry) where
-    -- what the trail of a walk that is over has, it had
+    -- what the trail of a walk that is over has, it had; and the walk isn't too long
     abbrev HadIt : List Entry → Walked → Type 0
-    HadIt trail w = Contains w.trail entry → Contains trail entry
+    HadIt trail w = Contains w.trail entry ⊎ (w.verdict ≡ TooLong) → Contains trail entry
 
     no_more : (trail : List Entry) (e : Entry) → (entry ≡ e → ⊥) → Contains (trail ++ e ∷ []) entry → Contains trail entry
     no_more trail e other c =
@@ -104,19 +107,33 @@ module _ (cs : List Chain) (policy : Verdict) (values : List ℕ) where
           | inr is ↦ absurd (other (sym is))
         ]
 
-    too_long_has_none : Contains too_long.trail entry → ⊥
-    too_long_has_none c = omega (arith, c.1)
-
     -- a rule that decides ends the walk
-    decided : (n : ℕ) (to : Option Target) (own : Rest) (waiting : List Rest) (trail : List Entry) (w : Walked) → Decides to → GoesTo n cs policy values (on_by (after_match to own waiting) trail) (Over w) → w.trail ≡ trail
+    abbrev EndsShort : List Entry → Walked → Type 0
+    EndsShort trail w = (w.trail ≡ trail) × (w.verdict ≡ TooLong → ⊥)
+
+    ends_with : (n : ℕ) (v : Verdict) (trail : List Entry) (w : Walked) → (v ≡ TooLong → ⊥) → GoesTo n cs policy values (Over (record { trail = trail; verdict = v; by_policy = false })) (Over w) → EndsShort trail w
+    ends_with n v trail w short g =
+        let is = ended cs policy values n (record { trail = trail; verdict = v; by_policy = false }) w g in
+        (sym (ap (λ (x : Walked). x.trail) is), λ long. short (ap (λ (x : Walked). x.verdict) is ∙ long))
+
+    decided : (n : ℕ) (to : Option Target) (own : Rest) (waiting : List Rest) (trail : List Entry) (w : Walked) → Decides to → GoesTo n cs policy values (on_by (after_match to own waiting) trail) (Over w) → EndsShort trail w
     decided n None own waiting trail w d g = absurd d
     decided n (Some target.Log) own waiting trail w d g = absurd d
     decided n (Some target.Return) own waiting trail w d g = absurd d
     decided n (Some (target.Jump chain)) own waiting trail w d g = absurd d
     decided n (Some (target.Goto chain)) own waiting trail w d g = absurd d
-    decided n (Some target.Accept) own waiting trail w d g = sym (ap (λ (x : Walked). x.trail) (ended cs policy values n _ w g))
-    decided n (Some target.Drop) own waiting trail w d g = sym (ap (λ (x : Walked). x.trail) (ended cs policy values n _ w g))
-    decided n (Some (target.Reject kind)) own waiting trail w d g = sym (ap (λ (x : Walked). x.trail) (ended cs policy values n _ w g))
+    decided n (Some target.Accept) own waiting trail w d g = ends_with n verdict.Accept trail w accept_short g
+      where
+        accept_short : verdict.Accept ≡ TooLong → ⊥
+        accept_short e = cc
+    decided n (Some target.Drop) own waiting trail w d g = ends_with n verdict.Drop trail w drop_short g
+      where
+        drop_short : verdict.Drop ≡ TooLong → ⊥
+        drop_short e = cc
+    decided n (Some (target.Reject kind)) own waiting trail w d g = ends_with n (verdict.Reject kind) trail w reject_short g
+      where
+        reject_short : verdict.Reject kind ≡ TooLong → ⊥
+        reject_short e = cc
 
     stays_there : (to : Option Target) (own : Rest) (waiting : List Rest) (trail : List Entry) → Stays to → on_by (after_match to own waiting) trail ≡ Under (own ∷ waiting) trail
     stays_there None own waiting trail s = refl
@@ -134,12 +151,13 @@ module _ (cs : List Chain) (policy : Verdict) (values : List ℕ) where
     none_some : (a : Rule) → ◌≡◌ {A = Option Rule} None (Some a) → ⊥
     none_some a e = cc
 
-    -- one rule further, it is still ahead
-    still_ahead : (rest : Rest) (t : IsTakenAhead cs values rest entry) → rest.passed < t.place → IsTakenAhead cs values (behind rest) entry
-    still_ahead rest t lt = record {
+    -- one rule further, it is still ahead, and as near
+    still_ahead : (rest : Rest) (room : ℕ) (t : IsTakenAhead cs values rest room entry) → rest.passed < t.place → IsTakenAhead cs values (behind rest) (room - 1) entry
+    still_ahead rest room t lt = record {
       place = t.place;
       rule = t.rule;
       ahead = omega (arith, lt);
+      near = omega (arith, lt, t.near);
       there = t.there;
       matched = t.matched;
       decides = t.decides;
@@ -147,48 +165,51 @@ module _ (cs : List Chain) (policy : Verdict) (values : List ℕ) where
       apart = λ k low high is. t.apart k (omega (arith, low)) high is;
     }
 
-    at_place : (rest : Rest) (t : IsTakenAhead cs values rest entry) (rule : Rule) → (rest.passed < t.place → ⊥) → next_rule cs rest ≡ Some rule → t.rule ≡ rule
-    at_place rest t rule past at =
+    at_place : (rest : Rest) (room : ℕ) (t : IsTakenAhead cs values rest room entry) (rule : Rule) → (rest.passed < t.place → ⊥) → next_rule cs rest ≡ Some rule → t.rule ≡ rule
+    at_place rest room t rule past at =
         let here : t.place ≡ rest.passed = elim (cases_lt rest.passed t.place) [ inl lt ↦ absurd (past lt) | inr le ↦ omega (arith, le, t.ahead) ] in
         some_same t.rule rule (sym t.there ∙ ap (slice_get (rules_of cs rest.chain)) here ∙ at)
 
     abbrev TakenFrom : ℕ → Type 0
-    TakenFrom n = (rest : Rest) (waiting : List Rest) (trail : List Entry) (w : Walked) → IsTakenAhead cs values rest entry → GoesTo n cs policy values (Under (rest ∷ waiting) trail) (Over w) → HadIt trail w
+    TakenFrom n = (rest : Rest) (waiting : List Rest) (trail : List Entry) (room : ℕ) (w : Walked) → length trail + room ≤ 65536 → IsTakenAhead cs values rest room entry → GoesTo n cs policy values (Under (rest ∷ waiting) trail) (Over w) → HadIt trail w
 
     -- at a rule that matches
-    at_match : (n : ℕ) (rest : Rest) (waiting : List Rest) (trail : List Entry) (w : Walked) (rule : Rule) → TakenFrom n → IsTakenAhead cs values rest entry → next_rule cs rest ≡ Some rule → matches values rule ≡ true
+    at_match : (n : ℕ) (rest : Rest) (waiting : List Rest) (trail : List Entry) (room : ℕ) (w : Walked) (rule : Rule) → TakenFrom n → length trail + room ≤ 65536 → IsTakenAhead cs values rest room entry → next_rule cs rest ≡ Some rule → matches values rule ≡ true
         → GoesTo n cs policy values (on_by (after_match (target_of rule) (behind rest) waiting) (with_next trail rest)) (Over w) → HadIt trail w
-    at_match n rest waiting trail w rule all t at m g c =
+    at_match n rest waiting trail room w rule all few t at m g sought =
         let here : Entry = record { chain = rest.chain; number = rest.passed + 1 } in
         let other : entry ≡ here → ⊥ = t.apart rest.passed (omega arith) t.ahead in
         let ends : Decides (target_of rule) → Contains trail entry = λ d.
         (let P : List Entry → Type 0 = λ es. Contains es entry in
-        no_more trail here other (subst P (decided n (target_of rule) (behind rest) waiting (with_next trail rest) w d g) c)) in
+        let short = decided n (target_of rule) (behind rest) waiting (with_next trail rest) w d g in
+        elim sought [
+          | inl c ↦ no_more trail here other (subst P short.0 c)
+          | inr long ↦ absurd (short.1 long)
+        ]) in
         elim (cases_lt rest.passed t.place) [
           | inr le ↦
               (let Q : Rule → Type 0 = λ r. Decides (target_of r) in
-              ends (subst Q (at_place rest t rule (λ lt. omega (arith, le, lt)) at) t.decides))
+              ends (subst Q (at_place rest room t rule (λ lt. omega (arith, le, lt)) at) t.decides))
           | inl lt ↦ elim (t.before rest.passed rule (omega arith) lt at m) [
             | inl d ↦ ends d
             | inr s ↦ no_more trail here other
-                (all (behind rest) waiting (with_next trail rest) w (still_ahead rest t lt) (from cs policy values n _ _ w (stays_there (target_of rule) (behind rest) waiting (with_next trail rest) s) g) c)
+                (all (behind rest) waiting (with_next trail rest) (room - 1) w (omega (arith, few, lt, t.near, length-append trail (here ∷ []))) (still_ahead rest room t lt)
+                (from cs policy values n _ _ w (stays_there (target_of rule) (behind rest) waiting (with_next trail rest) s) g) sought)
           ]
         ]
 
     taken : (n : ℕ) → TakenFrom n
-    taken zero rest waiting trail w t g c = absurd (under_over cs policy values (rest ∷ waiting) trail w g)
-    taken (suc n) rest waiting trail w t g c =
+    taken zero rest waiting trail room w few t g sought = absurd (under_over cs policy values (rest ∷ waiting) trail w g)
+    taken (suc n) rest waiting trail room w few t g sought =
         elim g.1 [
           | inl p ↦ elim (cases_lt rest.passed t.place) [
-            | inl lt ↦ taken n (behind rest) waiting trail w (still_ahead rest t lt) (from cs policy values n g.0 _ w p.3 g.2) c
-            | inr le ↦ absurd (true≢false (sym t.matched ∙ ap (matches values) (at_place rest t p.0 (λ lt. omega (arith, le, lt)) p.1) ∙ p.2))
+            | inl lt ↦ taken n (behind rest) waiting trail (room - 1) w (omega (arith, few)) (still_ahead rest room t lt) (from cs policy values n g.0 _ w p.3 g.2) sought
+            | inr le ↦ absurd (true≢false (sym t.matched ∙ ap (matches values) (at_place rest room t p.0 (λ lt. omega (arith, le, lt)) p.1) ∙ p.2))
           ]
           | inr q ↦ elim q [
-            | inl p ↦
-                (let P : Walked → Type 0 = λ x. Contains x.trail entry in
-                absurd (too_long_has_none (subst P (sym (ended cs policy values n too_long w (from cs policy values n g.0 _ w p.4 g.2))) c)))
+            | inl p ↦ absurd (omega (arith, p.3, few, t.near, t.ahead))
             | inr r ↦ elim r [
-              | inl p ↦ at_match n rest waiting trail w p.0 (taken n) t p.1 p.2 (from cs policy values n g.0 _ w p.4 g.2) c
+              | inl p ↦ at_match n rest waiting trail room w p.0 (taken n) few t p.1 p.2 (from cs policy values n g.0 _ w p.4 g.2) sought
               | inr p ↦
                   (let within : t.place < length (rules_of cs rest.chain) = some_within (rules_of cs rest.chain) t.place t.rule t.there in
                   let one = here_or_past (rules_of cs rest.chain) rest.passed (omega (arith, within, t.ahead)) in
@@ -198,7 +219,7 @@ module _ (cs : List Chain) (policy : Verdict) (values : List ℕ) where
         ]
 
 pub never_comes_to : NeverComesTo
-never_comes_to t p rest waiting trail entry reaches taken_ahead c =
+never_comes_to t p rest waiting trail room entry reaches few taken_ahead sought =
     let walks = walks_by_cases t p in
     let on = goes_on t.chains (end_verdict t p) p.values reaches.0 walks.0 _ (Under (rest ∷ waiting) trail) (walk t p) reaches.1 walks.1 in
-    taken t.chains (end_verdict t p) p.values entry on.0 rest waiting trail (walk t p) taken_ahead on.1 c
+    taken t.chains (end_verdict t p) p.values entry on.0 rest waiting trail room (walk t p) few taken_ahead on.1 sought

@@ -1,5 +1,5 @@
 -- Boxes of packets, place by place.
-use Rattle.std.proofs.Common.{◌≡◌, ◌≢◌, inl, inr, ℕ, zero, suc, ◌+◌, ◌<◌, ◌≤◌, Bool, true, false, cond, ◌&&◌, not, ◌==◌, ◌||◌, List, [], ◌∷◌, ◌++◌, length, get_or, map, refl, sym, ◌∙◌, ap, arith, subst, ◌⊎◌, below_more}
+use Rattle.std.proofs.Common.{◌≡◌, ◌≢◌, inl, inr, ℕ, zero, suc, ◌+◌, ◌-◌, ◌<◌, ◌≤◌, Bool, true, false, cond, ◌&&◌, not, ◌==◌, ◌||◌, List, [], ◌∷◌, ◌++◌, length, get_or, map, refl, sym, ◌∙◌, ap, arith, subst, ◌⊎◌, below_more}
 use Rattle.std.specs.Prelude.{slice_index}
 use Rattle.std.specs.List.{list_all}
 use Rattle.std.proofs.Math.Dec.{eqb, leb}
@@ -337,15 +337,15 @@ nothing_left at own other a b rest numbers is lt ia ib long members none point t
 pub is_nil : {X : Type 0} (xs : List X) (b : Bool) → b ≡ (length xs == 0) → b ≡ true → xs ≡ []
 is_nil xs b e t = nil_from_length xs (eqb-true (length xs) 0 (sym e ∙ t))
 
--- what leaves at each place below one, and there, is in some part
-pub parts_next : (other own : List SpanSet) (old new : List (List SpanSet)) (at : ℕ) → ((numbers : List ℕ) → IsInSome old numbers → IsInSome new numbers)
-    → ((numbers : List ℕ) → IsPoint numbers → Has own numbers → LeavesAt at other numbers → IsInSome new numbers)
-    → ((numbers : List ℕ) (k : ℕ) → k < at → IsPoint numbers → Has own numbers → LeavesAt k other numbers → IsInSome old numbers)
-    → (numbers : List ℕ) (k : ℕ) → k < at + 1 → IsPoint numbers → Has own numbers → LeavesAt k other numbers → IsInSome new numbers
-parts_next other own old new at kept added below numbers k lt point has leaves =
-    elim (cases_eq k at) [
+-- what leaves at each of the last so many places, and at the one before them, is in some part
+pub parts_next : (other own : List SpanSet) (old new : List (List SpanSet)) (done : ℕ) → done < FIELDS → ((numbers : List ℕ) → IsInSome old numbers → IsInSome new numbers)
+    → ((numbers : List ℕ) → IsPoint numbers → Has own numbers → LeavesAt (FIELDS - 1 - done) other numbers → IsInSome new numbers)
+    → ((numbers : List ℕ) (k : ℕ) → k < FIELDS → FIELDS ≤ k + done → IsPoint numbers → Has own numbers → LeavesAt k other numbers → IsInSome old numbers)
+    → (numbers : List ℕ) (k : ℕ) → k < FIELDS → FIELDS ≤ k + (done + 1) → IsPoint numbers → Has own numbers → LeavesAt k other numbers → IsInSome new numbers
+parts_next other own old new done within kept added last numbers k lt le point has leaves =
+    elim (cases_eq k (FIELDS - 1 - done)) [
       | inl same ↦ (let P : ℕ → Type 0 = λ j. LeavesAt j other numbers in added numbers point has (subst P same leaves))
-      | inr ne ↦ kept numbers (below numbers k (omega (arith, lt, ne)) point has leaves)
+      | inr ne ↦ kept numbers (last numbers k lt (omega (arith, lt, le, ne, within)) point has leaves)
     ]
 
 -- ---- what a rule makes of a box

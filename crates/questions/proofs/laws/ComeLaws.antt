@@ -5,8 +5,9 @@ use Rattle.std.specs.List.{All}
 use Rattle.std.proofs.Math.Nat.{div-mul-le_self}
 use Rattle.std.proofs.Math.Numerals.{add-one}
 use Rattle.std.proofs.lemmas.Nat.{le-div}
-use Rattle.std.proofs.lemmas.List.{length-append}
-use Rattle.std.proofs.lemmas.List.Elements.{All-contains, All-push, Contains-get_or, Contains-push_cases}
+use Rattle.std.proofs.lemmas.Bool.{true≢false}
+use Rattle.std.proofs.lemmas.List.{length-append, length-map}
+use Rattle.std.proofs.lemmas.List.Elements.{All-contains, All-nil, All-pop, All-push, Contains-get_or, Contains-push_cases}
 use Rattle.std.proofs.lemmas.Option.{get_or_from_slice_get}
 use Rattle.fields.specs.declared.packet.hook.Hook.{Hook}
 use Rattle.fields.specs.packet.Packet.{PacketView as Packet}
@@ -16,30 +17,31 @@ use Rattle.rules.specs.rule.Rules.{Rule, empty_rule}
 use Rattle.table.specs.chains.Sound.{IsSound}
 use Rattle.table.specs.chains.Table.{Chain, Table, chain_at, empty_chain, rules_of}
 use Rattle.table.specs.declared.verdict.Verdict.{Verdict}
+use Rattle.table.specs.declared.verdict.Verdict.TheVariants.{TooLong}
 use Rattle.table.specs.declared.walk.trail.Step.{Step}
 use Rattle.table.specs.walk.Cases.{Stage, Under}
-use Rattle.table.specs.walk.Walk.{Entry, Rest, end_verdict, walk}
+use Rattle.table.specs.walk.Walk.{Entry, Rest, Walked, end_verdict, walk}
 use Rattle.table.proofs.laws.chains.KeepLaws.{rules_by_name}
 use Rattle.questions.specs.Ends.{IsRule}
-use Rattle.questions.specs.asked.Rule.{IsDeadAt, SaysAt}
+use Rattle.questions.specs.asked.Rule.{SaysAt}
 use Rattle.questions.specs.asked.Unclear.{IsUnclearAt, IsUnseen, IsUsedUp, MayLive}
 use Rattle.questions.specs.declared.asked.rule.Life.{Life}
 use Rattle.questions.specs.declared.asked.rule.Life.TheVariants as life
 use Rattle.questions.specs.steps.Searched.{AreSearchSteps, IsSearchStep, SaysEnd, SearchesTo, with_found}
-use Rattle.questions.specs.steps.Taken.{IsFull}
-use Rattle.questions.specs.steps.Coming.{Awaits, ComesOn, IsUnderWay}
+use Rattle.questions.specs.steps.Taken.{IsFirst, IsFull, IsFurther}
+use Rattle.questions.specs.steps.Coming.{Awaits, ComesOn, IsKept, IsSought}
+use Rattle.questions.specs.steps.Compared.{AreShort}
 use Rattle.questions.specs.steps.Takers.{IsBoxAt}
 use Rattle.questions.specs.declared.asked.reach.Given.{Given}
 use Rattle.questions.specs.Leaves.{EndsIn, entries_of, entry_of, name_at}
 use Rattle.questions.specs.boxes.Area.{IsAtHook, IsIn}
 use Rattle.questions.specs.boxes.Boxes.{rules_in}
-use Rattle.questions.specs.boxes.Cut.{IsApart}
 use Rattle.questions.specs.declared.walking.front.Front.{Front}
 use Rattle.questions.specs.declared.walking.task.Leaf.{Leaf}
 use Rattle.questions.specs.declared.walking.task.Pending.{Pending}
 use Rattle.questions.specs.declared.walking.task.Task.{Task}
-use Rattle.questions.specs.steps.Ahead.{IsTakenAhead, rule_ahead}
-use Rattle.questions.specs.steps.Waiting.{Begins, IsAccounted, IsAsked, IsThere, Moves, Reaches, WaitsIn, rest_of, rests_of, stage_of}
+use Rattle.questions.specs.steps.Ahead.{IsApartIn, IsTakenAhead}
+use Rattle.questions.specs.steps.Waiting.{Begins, IsAccounted, IsAsked, IsThere, Moves, Reaches, WaitsIn, rest_of, rests_of, rule_ahead, stage_of}
 use Rattle.questions.proofs.laws.AheadLaws.{never_comes_to, passes_at_once}
 use Rattle.questions.proofs.laws.TrailLaws.{on_leaf, rule_matches}
 use Rattle.questions.proofs.laws.WaitLaws.{rests_push}
@@ -64,20 +66,25 @@ split_last (x ∷ y ∷ zs) a e =
 under : (cs : List Chain) (rests init : List Pending) (at : Pending) (es : List Entry) → rests ≡ init ++ at ∷ [] → Under (rests_of cs rests) es ≡ Under (rest_of cs at ∷ rests_of cs init) es
 under cs rests init at es e = ap (λ (rs : List Rest). Under rs es) (ap (rests_of cs) e ∙ rests_push cs init at)
 
+-- its chain is there
+pub last_there : (cs : List Chain) (rests : List Pending) (at : Pending) → slice_get rests (length rests - 1) ≡ Some at → All (IsThere cs) rests → IsThere cs at
+last_there cs rests at last all = let split = split_last rests at last in (All-pop (IsThere cs) rests split.0 (Some at) split.1 all).1
+
 -- a rule ahead of the newest rest takes a packet
-pub taken_in : (t : Table) (p : Packet) (task : Task) (at : Pending) (entry : Entry) → slice_get task.rests.items (length task.rests.items - 1) ≡ Some at → WaitsIn t p task → IsTakenAhead t.chains p.values (rest_of t.chains at) entry
-    → Contains (walk t p).trail entry → Contains (entries_of t.chains task.trail.items) entry
-taken_in t p task at entry last waits taken on =
+pub taken_in : (t : Table) (p : Packet) (task : Task) (at : Pending) (room : ℕ) (entry : Entry) → slice_get task.rests.items (length task.rests.items - 1) ≡ Some at → length task.trail.items + room ≤ 65536 → WaitsIn t p task
+    → IsTakenAhead t.chains p.values (rest_of t.chains at) room entry → IsSought t entry p → Contains (entries_of t.chains task.trail.items) entry
+taken_in t p task at room entry last few waits taken sought =
     let split = split_last task.rests.items at last in
     let P : Stage → Type 0 = λ s. Reaches t p s in
-    never_comes_to t p (rest_of t.chains at) (rests_of t.chains split.0) (entries_of t.chains task.trail.items) entry
-    (subst P (under t.chains task.rests.items split.0 at (entries_of t.chains task.trail.items) split.1) waits.reaches) taken on
+    let long : length (entries_of t.chains task.trail.items) ≡ length task.trail.items = length-map task.trail.items (entry_of t.chains) in
+    never_comes_to t p (rest_of t.chains at) (rests_of t.chains split.0) (entries_of t.chains task.trail.items) room entry
+    (subst P (under t.chains task.rests.items split.0 at (entries_of t.chains task.trail.items) split.1) waits.reaches) (omega (arith, few, long)) taken sought
 
--- the newest rest goes on to a rule, past others that match no packet of the box
-pub advances : (t : Table) (p : Packet) (sound : IsSound t) (task next : Task) (init : List Pending) (at : Pending) (passed : ℕ) → IsThere t.chains at → IsAtHook p → task.rests.items ≡ init ++ at ∷ []
+-- the newest rest goes on to a rule, past others that match no packet that the task's box and another one have
+pub advances : (t : Table) (start : List SpanSet) (p : Packet) (sound : IsSound t) (task next : Task) (init : List Pending) (at : Pending) (passed : ℕ) → IsThere t.chains at → IsAtHook p → IsIn start p → task.rests.items ≡ init ++ at ∷ []
     → next.rests.items ≡ init ++ record { chain = at.chain; passed = passed } ∷ [] → next.area ≡ task.area → next.trail ≡ task.trail → at.passed ≤ passed → (passed ≡ at.passed) ⊎ (passed ≤ length (chain_at t at.chain).rules)
-    → ((k : ℕ) → at.passed ≤ k → k < passed → IsApart (rule_ahead t (record { chain = at.chain; passed = k })) task.area) → WaitsIn t p task → WaitsIn t p next
-advances t p sound task next init at passed there can before after area trail low high none waits =
+    → ((k : ℕ) → at.passed ≤ k → k < passed → IsApartIn (rule_ahead t (record { chain = at.chain; passed = k })) start task.area) → WaitsIn t p task → WaitsIn t p next
+advances t start p sound task next init at passed there can inside before after area trail low high none waits =
     let own : List Rule = (chain_at t at.chain).rules in
     let same : rules_of t.chains (name_at t.chains at.chain) ≡ own = rules_by_name t (chain_at t at.chain) sound (Contains-get_or t.chains at.chain (empty_chain []) there) in
     let es : List Entry = entries_of t.chains task.trail.items in
@@ -87,7 +94,7 @@ advances t p sound task next init at passed there can before after area trail lo
     let apart : (k : ℕ) (rule : Rule) → at.passed ≤ k → k < passed → slice_get (rules_of t.chains (name_at t.chains at.chain)) k ≡ Some rule → IsFalse (matches p.values rule) =
     λ k rule lo hi found.
     (let is : get_or own k empty_rule ≡ rule = get_or_from_slice_get own k rule empty_rule (sym (ap (λ (rs : List Rule). slice_get rs k) same) ∙ found) in
-    subst R is ((none k lo hi).none p.values can.packet.within waits.inside)) in
+    subst R is (none k lo hi p.values can.packet.within inside waits.inside)) in
     let moved : Reaches t p (Under (rest_of t.chains (record { chain = at.chain; passed = passed }) ∷ rests_of t.chains init) es) =
     (let stands : Reaches t p (Under (rest_of t.chains at ∷ rests_of t.chains init) es) = subst P (under t.chains task.rests.items init at es before) waits.reaches in
     elim high [
@@ -107,15 +114,22 @@ advances t p sound task next init at passed there can before after area trail lo
 
 -- ---- a leaf that goes
 
+-- a packet in a leaf has no walk that is too long
+never_long : (t : Table) (p : Packet) (leaf : Leaf) → EndsIn t p leaf → (walk t p).verdict ≡ TooLong → ⊥
+never_long t p leaf ends long = leaf.short (sym (ap (λ (w : Walked). w.verdict) ends.walked) ∙ long)
+
 pub leaf_gone : (t : Table) (step : Step) (old new : Front) (leaf : Leaf) → IsSound t → step.chain < length t.chains → new.tasks.items ≡ old.tasks.items → old.leaves.items ≡ new.leaves.items ++ leaf ∷ []
-    → (Contains leaf.trail.items step → ⊥) → (p : Packet) → Contains (walk t p).trail (entry_of t.chains step) → IsAccounted t p old → IsAccounted t p new
-leaf_gone t step old new leaf sound lt tasks leaves off p on (inl a) = let Q : List Task → Type 0 = λ ts. Any (WaitsIn t p) ts in inl (subst Q (sym tasks) a)
-leaf_gone t step old new leaf sound lt tasks leaves off p on (inr a) =
+    → (Contains leaf.trail.items step → ⊥) → IsKept t (entry_of t.chains step) old new
+leaf_gone t step old new leaf sound lt tasks leaves off p sought (inl a) = let Q : List Task → Type 0 = λ ts. Any (WaitsIn t p) ts in inl (subst Q (sym tasks) a)
+leaf_gone t step old new leaf sound lt tasks leaves off p sought (inr a) =
     let R : List Leaf → Type 0 = λ ls. Contains ls a.1 in
     let S : Leaf → Type 0 = λ x. EndsIn t p x in
     elim (Contains-push_cases new.leaves.items leaf a.1 (subst R leaves (a.0, a.2, a.3))) [
       | inl c ↦ inr (c.0, a.1, c.1, c.2, a.4)
-      | inr is ↦ absurd (off (on_leaf t p leaf step sound lt (subst S (sym is) a.4) on))
+      | inr is ↦ absurd (elim sought [
+        | inl on ↦ off (on_leaf t p leaf step sound lt (subst S (sym is) a.4) on)
+        | inr long ↦ never_long t p a.1 a.4 long
+      ])
     ]
 
 -- nothing is taken off an empty list
@@ -124,44 +138,39 @@ nothing_popped xs [] e none = (e, refl)
 nothing_popped {X} xs (y ∷ ys) e none = absurd (omega (arith, none, ap (λ (l : List X). length l) e))
 
 -- a task that went one step
-pub stepped : (t : Table) (policy : Verdict) (entry : Entry) (task next : Task) (old mid new : Front) → ((p : Packet) → IsAtHook p → WaitsIn t p task → WaitsIn t p next) → Moves t policy next.area (stage_of t.chains next) old mid
-    → ((p : Packet) → Contains (walk t p).trail entry → IsAccounted t p mid → IsAccounted t p new)
-    → (p : Packet) → IsAsked t policy p → Contains (walk t p).trail entry → WaitsIn t p task ⊎ IsAccounted t p old → IsAccounted t p new
-stepped t policy entry task next old mid new waits moves kept p asked on (inl w) = kept p on (moves.moved p asked (waits p asked.at_hook w))
-stepped t policy entry task next old mid new waits moves kept p asked on (inr a) = kept p on (moves.keeps.kept p a)
+pub stepped : (t : Table) (policy : Verdict) (start : List SpanSet) (entry : Entry) (task next : Task) (old mid new : Front) → IsFurther t start task next → Moves t policy next.area (stage_of t.chains next) old mid
+    → IsKept t entry mid new → ComesOn t policy start entry task old new
+stepped t policy start entry task next old mid new further moves kept p asked inside sought (inl w) = kept p sought (moves.moved p asked (further.waits p asked.at_hook inside w))
+stepped t policy start entry task next old mid new further moves kept p asked inside sought (inr a) = kept p sought (moves.keeps.kept p a)
 
 -- one step of the loop
-pub come_next : (t : Table) (hook : Hook) (policy : Verdict) (entry : Entry) (left : List Task) (task : Task) (old popped new : Front) → ((p : Packet) → p.hook ≡ hook → end_verdict t p ≡ policy) → old.tasks.items ≡ left ++ task ∷ []
-    → popped.tasks.items ≡ left → popped.leaves.items ≡ old.leaves.items → Awaits t hook entry old → ComesOn t policy entry task popped new → Awaits t hook entry new
-come_next t hook policy entry left task old popped new ends tasks same leaves awaits on = λ p can e c.
-    go p (record { at_hook = can; ends = ends p e }) c (awaits p can e c)
+pub come_next : (t : Table) (hook : Hook) (policy : Verdict) (start : List SpanSet) (entry : Entry) (left : List Task) (task : Task) (old popped new : Front) → ((p : Packet) → p.hook ≡ hook → end_verdict t p ≡ policy) → old.tasks.items ≡ left ++ task ∷ []
+    → popped.tasks.items ≡ left → popped.leaves.items ≡ old.leaves.items → Awaits t hook start entry old → ComesOn t policy start entry task popped new → Awaits t hook start entry new
+come_next t hook policy start entry left task old popped new ends tasks same leaves awaits on = λ p can e inside sought.
+    go p (record { at_hook = can; ends = ends p e }) inside sought (awaits p can e inside sought)
   where
-    go : (p : Packet) → IsAsked t policy p → Contains (walk t p).trail entry → IsAccounted t p old → IsAccounted t p new
-    go p asked c (inr a) = let Q : List Leaf → Type 0 = λ ls. Any (EndsIn t p) ls in on p asked c (inr (inr (subst Q (sym leaves) a)))
-    go p asked c (inl a) =
+    go : (p : Packet) → IsAsked t policy p → IsIn start p → IsSought t entry p → IsAccounted t p old → IsAccounted t p new
+    go p asked inside sought (inr a) = let Q : List Leaf → Type 0 = λ ls. Any (EndsIn t p) ls in on p asked inside sought (inr (inr (subst Q (sym leaves) a)))
+    go p asked inside sought (inl a) =
         let R : List Task → Type 0 = λ ts. Contains ts a.1 in
         let S : Task → Type 0 = λ x. WaitsIn t p x in
         let Q : List Task → Type 0 = λ ts. Any (WaitsIn t p) ts in
         elim (Contains-push_cases left task a.1 (subst R tasks (a.0, a.2, a.3))) [
-          | inl d ↦ on p asked c (inr (inl (subst Q (sym same) (d.0, a.1, d.1, d.2, a.4))))
-          | inr is ↦ on p asked c (inl (subst S (sym is) a.4))
+          | inl d ↦ on p asked inside sought (inr (inl (subst Q (sym same) (d.0, a.1, d.1, d.2, a.4))))
+          | inr is ↦ on p asked inside sought (inl (subst S (sym is) a.4))
         ]
 
--- no task is left, and no leaf has the rule on its trail
-pub none_came : (t : Table) (hook : Hook) (step : Step) (front : Front) → IsSound t → IsRule t step → Awaits t hook (entry_of t.chains step) front → length front.tasks.items ≡ 0
-    → All (λ leaf. Contains leaf.trail.items step → ⊥) front.leaves.items → IsDeadAt t (entry_of t.chains step) hook
-none_came t hook step front sound is awaits none off p can e on = go (awaits p can e on)
+-- no task is left, and no leaf has the rule on its trail: no packet is sought
+none_sought : (t : Table) (hook : Hook) (start : List SpanSet) (step : Step) (front : Front) → IsSound t → IsRule t step → Awaits t hook start (entry_of t.chains step) front → length front.tasks.items ≡ 0
+    → All (λ leaf. Contains leaf.trail.items step → ⊥) front.leaves.items → (p : Packet) → IsAtHook p → p.hook ≡ hook → IsIn start p → IsSought t (entry_of t.chains step) p → ⊥
+none_sought t hook start step front sound is awaits none off p can e inside sought = go (awaits p can e inside sought)
   where
     go : IsAccounted t p front → ⊥
     go (inl a) = omega (arith, none, a.2)
-    go (inr a) = All-contains (λ (l : Leaf). Contains l.trail.items step → ⊥) front.leaves.items a.1 off (a.0, a.2, a.3) (on_leaf t p a.1 step sound is.chain a.4 on)
-
--- the packets of a rule's box, at the first rule
-pub sets_out : (t : Table) (hook : Hook) (step : Step) (given : Given) (front : Front) → IsSound t → IsRule t step → IsBoxAt t step hook given → Begins t hook given.area front → IsUnderWay t hook (entry_of t.chains step) front
-sets_out t hook step given front sound is box begins = record {
-  there = begins.there;
-  all = λ p can e on. begins.all p can e (box.all p (record { can = can; there = e; matched = rule_matches t p step sound is on }));
-}
+    go (inr a) = elim sought [
+      | inl on ↦ All-contains (λ (l : Leaf). Contains l.trail.items step → ⊥) front.leaves.items a.1 off (a.0, a.2, a.3) (on_leaf t p a.1 step sound is.chain a.4 on)
+      | inr long ↦ never_long t p a.1 a.4 long
+    ]
 
 -- ---- rules looked at
 
@@ -186,48 +195,82 @@ used_by_looks looks all budget le below =
 
 -- ---- the search, step by step
 
--- packets that wait in a task at a later place wait in it
-pub moves_on : (t : Table) (policy : Verdict) (task next : Task) (old mid : Front) → ((p : Packet) → IsAtHook p → WaitsIn t p task → WaitsIn t p next) → Moves t policy next.area (stage_of t.chains next) old mid → Moves t policy task.area (stage_of t.chains task) old mid
-moves_on t policy task next old mid waits moves = record { moved = λ p asked stands. moves.moved p asked (waits p asked.at_hook stands); keeps = moves.keeps }
-
 -- one step more
-pub searches_on : (t : Table) (hook : Hook) (step : Step) (box : List SpanSet) (n : ℕ) (old new : Front) (came : List (List SpanSet)) (found : Option (List SpanSet)) → SearchesTo t hook step box n old came → IsSearchStep t hook step old new found
+pub searches_on : (t : Table) (hook : Hook) (step : Step) (box : List SpanSet) (n : ℕ) (old new : Front) (came : List (List SpanSet)) (found : Option (List SpanSet)) → SearchesTo t hook step box n old came → IsSearchStep t hook box step old new found
     → SearchesTo t hook step box (n + 1) new (with_found came found)
 searches_on t hook step box n old new came found to one =
-    let P : ℕ → Type 0 = λ k. AreSearchSteps k t hook step to.first new (with_found came found) in
+    let P : ℕ → Type 0 = λ k. AreSearchSteps k t hook box step to.first new (with_found came found) in
     record { first = to.first; begins = to.begins; takes = subst P (sym (add-one n)) (old, came, found, to.takes, one, refl) }
 
--- where the search stands, and that no packet of a box that came to the rule shows it
-abbrev pub HasSearched : Table → Step → Hook → ℕ → Bool → Front → Type 0
-HasSearched t step hook n clear front =
-    (given : Given) × IsBoxAt t step hook given × (came : List (List SpanSet)) × SearchesTo t hook step given.area n front came × All (IsUnseen t step hook) came
-    × (clear ≡ false → 0 < length came)
+-- where the search for the packets of the rule's box stands, and that no packet of a box that came to the rule shows it
+pub record HasSearched (t : Table) (step : Step) (hook : Hook) (given : Given) (n : ℕ) (clear : Bool) (front : Front) : Type 0 where
+  pub box : IsBoxAt t step hook given
+  pub came : List (List SpanSet)
+  pub there : SearchesTo t hook step given.area n front came
+  pub unseen : All (IsUnseen t step hook) came
+  pub some : clear ≡ false → 0 < length came
+  pub awaits : clear ≡ true → Awaits t hook given.area (entry_of t.chains step) front
 
-pub none_more : (t : Table) (step : Step) (hook : Hook) (n : ℕ) (clear : Bool) (old new : Front) → HasSearched t step hook n clear old → IsSearchStep t hook step old new None → HasSearched t step hook (n + 1) clear new
-none_more t step hook n clear old new h one = (h.0, h.1, h.2, searches_on t hook step h.0.area n old new h.2 None h.3 one, h.4, h.5)
+pub sets_out : (t : Table) (hook : Hook) (step : Step) (given : Given) (front : Front) → IsBoxAt t step hook given → Begins t hook given.area front → IsFirst hook given.area front → HasSearched t step hook given 0 true front
+sets_out t hook step given front box begins first = record {
+  box = box;
+  came = [];
+  there = record { first = front; begins = first; takes = (refl, refl) };
+  unseen = All-nil (IsUnseen t step hook);
+  some = λ e. absurd (true≢false e);
+  awaits = λ _ p can e inside _. begins.all p can e inside;
+}
 
-pub one_more : (t : Table) (step : Step) (hook : Hook) (n : ℕ) (clear : Bool) (old new : Front) (box : List SpanSet) → HasSearched t step hook n clear old → IsSearchStep t hook step old new (Some box) → IsUnseen t step hook box → HasSearched t step hook (n + 1) false new
-one_more t step hook n clear old new box h one unseen =
-    (h.0, h.1, h.2 ++ box ∷ [], searches_on t hook step h.0.area n old new h.2 (Some box) h.3 one, All-push (IsUnseen t step hook) h.2 box h.4 unseen, λ _. omega (arith, length-append h.2 (box ∷ [])))
+pub none_more : (t : Table) (step : Step) (hook : Hook) (given : Given) (n : ℕ) (clear : Bool) (old new : Front) → HasSearched t step hook given n clear old → IsSearchStep t hook given.area step old new None
+    → (Awaits t hook given.area (entry_of t.chains step) old → Awaits t hook given.area (entry_of t.chains step) new) → HasSearched t step hook given (n + 1) clear new
+none_more t step hook given n clear old new h one on = record {
+  box = h.box;
+  came = h.came;
+  there = searches_on t hook step given.area n old new h.came None h.there one;
+  unseen = h.unseen;
+  some = h.some;
+  awaits = λ e. on (h.awaits e);
+}
+
+pub one_more : (t : Table) (step : Step) (hook : Hook) (given : Given) (n : ℕ) (clear : Bool) (old new : Front) (box : List SpanSet) → HasSearched t step hook given n clear old → IsSearchStep t hook given.area step old new (Some box)
+    → IsUnseen t step hook box → HasSearched t step hook given (n + 1) false new
+one_more t step hook given n clear old new box h one unseen = record {
+  box = h.box;
+  came = h.came ++ box ∷ [];
+  there = searches_on t hook step given.area n old new h.came (Some box) h.there one;
+  unseen = All-push (IsUnseen t step hook) h.came box h.unseen unseen;
+  some = λ _. omega (arith, length-append h.came (box ∷ []));
+  awaits = λ e. absurd (true≢false (sym e));
+}
 
 -- the end
-pub dead_at_end : (t : Table) (hook : Hook) (step : Step) (clear : Bool) (front : Front) (said : Life) → IsSound t → IsRule t step → (clear ≡ true → Awaits t hook (entry_of t.chains step) front) → length front.tasks.items ≡ 0 → SaysEnd clear front.leaves.items step said → SaysAt t (entry_of t.chains step) hook said
-dead_at_end t hook step clear front life.Dead sound is awaits none says = none_came t hook step front sound is (awaits says.0) none says.1
-dead_at_end t hook step clear front (life.Live words) sound is awaits none says = absurd says
-dead_at_end t hook step clear front life.Unclear sound is awaits none says = tt
+pub dead_at_end : (t : Table) (hook : Hook) (step : Step) (given : Given) (n : ℕ) (clear : Bool) (front : Front) (said : Life) → IsSound t → IsRule t step → HasSearched t step hook given n clear front → length front.tasks.items ≡ 0
+    → SaysEnd clear front.leaves.items step said → SaysAt t (entry_of t.chains step) hook said
+dead_at_end t hook step given n clear front life.Dead sound is h none says = λ p can e on.
+    none_sought t hook given.area step front sound is (h.awaits says.0) none says.1 p can e (h.box.all p (record { can = can; there = e; matched = rule_matches t p step sound is on })) (inl on)
+dead_at_end t hook step given n clear front (life.Live words) sound is h none says = absurd says
+dead_at_end t hook step given n clear front life.Unclear sound is h none says = tt
 
-pub unclear_at_end : (t : Table) (hook : Hook) (step : Step) (n budget : ℕ) (clear : Bool) (front : Front) (said : Life) → n ≤ budget → HasSearched t step hook n clear front → length front.tasks.items ≡ 0 → SaysEnd clear front.leaves.items step said → IsUnclearAt t step hook budget said
-unclear_at_end t hook step n budget clear front life.Dead le h none says = tt
-unclear_at_end t hook step n budget clear front (life.Live words) le h none says = absurd says
-unclear_at_end t hook step n budget clear front life.Unclear le h none says =
-    (h.0, h.1, n, front, h.2, h.3, h.4, inr (inr (le, record { ended = none; some = come says })))
+pub short_at_end : (t : Table) (hook : Hook) (step : Step) (given : Given) (n : ℕ) (clear : Bool) (front : Front) (said : Life) → IsSound t → IsRule t step → HasSearched t step hook given n clear front → length front.tasks.items ≡ 0
+    → SaysEnd clear front.leaves.items step said → said ≡ life.Dead → AreShort t step hook
+short_at_end t hook step given n clear front said sound is h none says dead p at long =
+    let P : Life → Type 0 = λ l. SaysEnd clear front.leaves.items step l in
+    let end : (clear ≡ true) × All (λ (leaf : Leaf). Contains leaf.trail.items step → ⊥) front.leaves.items = subst P dead says in
+    none_sought t hook given.area step front sound is (h.awaits end.0) none end.1 p at.can at.there (h.box.all p at) (inr long)
+
+pub unclear_at_end : (t : Table) (hook : Hook) (step : Step) (given : Given) (n budget : ℕ) (clear : Bool) (front : Front) (said : Life) → n ≤ budget → HasSearched t step hook given n clear front → length front.tasks.items ≡ 0
+    → SaysEnd clear front.leaves.items step said → IsUnclearAt t step hook budget said
+unclear_at_end t hook step given n budget clear front life.Dead le h none says = tt
+unclear_at_end t hook step given n budget clear front (life.Live words) le h none says = absurd says
+unclear_at_end t hook step given n budget clear front life.Unclear le h none says =
+    (given, h.box, n, front, h.came, h.there, h.unseen, inr (inr (le, record { ended = none; some = come says })))
   where
-    come : (clear ≡ false) ⊎ Any (λ (leaf : Leaf). Contains leaf.trail.items step) front.leaves.items → (0 < length h.2) ⊎ ((leaf : Leaf) × Contains front.leaves.items leaf × Contains leaf.trail.items step)
-    come (inl off) = inl (h.5 off)
+    come : (clear ≡ false) ⊎ Any (λ (leaf : Leaf). Contains leaf.trail.items step) front.leaves.items → (0 < length h.came) ⊎ ((leaf : Leaf) × Contains front.leaves.items leaf × Contains leaf.trail.items step)
+    come (inl off) = inl (h.some off)
     come (inr a) = inr (a.1, (a.0, a.2, a.3), a.4)
 
-pub unclear_used_up : (t : Table) (hook : Hook) (step : Step) (n budget : ℕ) (clear : Bool) (front : Front) → IsUsedUp t n budget → HasSearched t step hook n clear front → 0 < length front.tasks.items → MayLive t step hook budget
-unclear_used_up t hook step n budget clear front all h some = (h.0, h.1, n, front, h.2, h.3, h.4, inl (all, some))
+pub unclear_used_up : (t : Table) (hook : Hook) (step : Step) (given : Given) (n budget : ℕ) (clear : Bool) (front : Front) → IsUsedUp t n budget → HasSearched t step hook given n clear front → 0 < length front.tasks.items → MayLive t step hook budget
+unclear_used_up t hook step given n budget clear front all h some = (given, h.box, n, front, h.came, h.there, h.unseen, inl (all, some))
 
-pub unclear_full : (t : Table) (hook : Hook) (step : Step) (n budget : ℕ) (clear : Bool) (front : Front) → n < budget → HasSearched t step hook n clear front → IsFull front → MayLive t step hook budget
-unclear_full t hook step n budget clear front lt h full = (h.0, h.1, n, front, h.2, h.3, h.4, inr (inl (lt, full)))
+pub unclear_full : (t : Table) (hook : Hook) (step : Step) (given : Given) (n budget : ℕ) (clear : Bool) (front : Front) → n < budget → HasSearched t step hook given n clear front → IsFull front → MayLive t step hook budget
+unclear_full t hook step given n budget clear front lt h full = (given, h.box, n, front, h.came, h.there, h.unseen, inr (inl (lt, full)))

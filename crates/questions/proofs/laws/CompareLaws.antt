@@ -1,22 +1,26 @@
 -- Two tables compared by the rules in which they differ.
-use Rattle.std.proofs.Common.{◌≡◌, ◌⊎◌, inl, inr, ℕ, zero, suc, Bool, true, List, [], ◌∷◌, get_or, refl, arith, subst, Contains}
+use Rattle.std.proofs.Common.{◌≡◌, ◌≢◌, ◌⊎◌, inl, inr, ℕ, zero, suc, Bool, true, List, [], ◌∷◌, get_or, refl, sym, ◌∙◌, arith, subst, Contains}
 use Rattle.std.specs.Prelude.{All, Any, IsFalse}
-use Rattle.std.proofs.lemmas.Bool.{cases_Bool}
+use Rattle.std.proofs.lemmas.Bool.{cases_Bool, true≢false}
 use Rattle.std.proofs.lemmas.List.Elements.{All-contains, Contains-get_or}
 use Rattle.fields.specs.declared.packet.hook.Hook.{Hook}
 use Rattle.fields.specs.packet.Packet.{PacketView as Packet}
 use Rattle.rules.specs.rule.Allows.{matches}
 use Rattle.table.specs.chains.Table.{Table}
 use Rattle.table.specs.declared.walk.trail.Step.{Step}
-use Rattle.table.specs.walk.Walk.{Entry, end_verdict}
+use Rattle.table.specs.declared.verdict.Verdict.TheVariants.{TooLong}
+use Rattle.table.specs.walk.Walk.{Entry, end_verdict, walk}
 use Rattle.questions.specs.Ends.{IsRule, rule_at}
 use Rattle.questions.specs.asked.Unclear.{IsOfRule, MayDiffer, MayDifferOn}
-use Rattle.questions.specs.asked.Verdicts.{IsSameAt}
+use Rattle.questions.specs.Leaves.{entry_of}
+use Rattle.questions.specs.asked.Changes.{AreChanges, AreThese, IsUntouched}
+use Rattle.questions.specs.asked.Verdicts.{IsAlike, IsSameAt}
+use Rattle.questions.specs.boxes.Area.{IsAtHook}
 use Rattle.questions.specs.declared.asked.changes.Changes.{Changes}
-use Rattle.questions.specs.steps.Compared.{IsSameOf, MayDifferOf}
-use Rattle.questions.specs.steps.Shared.{AreChanges, AreThese}
-use Rattle.questions.proofs.laws.ElsewhereLaws.{elsewhere}
-use Rattle.questions.proofs.laws.SharedLaws.{matches_none}
+use Rattle.questions.specs.steps.Compared.{IsSettled, MayDifferOf}
+use Rattle.questions.specs.steps.Takers.{IsMatchedAt}
+use Rattle.questions.proofs.laws.ElsewhereLaws.{off_the_walk}
+use Rattle.questions.proofs.laws.SharedLaws.{are_off, matches_none}
 
 -- some of the rules matches the packet, or none does
 some_or_none : (t : Table) (p : Packet) (steps : List Step) → ((step : Step) × Contains steps step × (matches p.values (rule_at t step) ≡ true)) ⊎ ((step : Step) → Contains steps step → IsFalse (matches p.values (rule_at t step)))
@@ -34,16 +38,61 @@ some_or_none t p (s ∷ steps) =
     first_or_later step (zero, lt, e) off none = let P : Step → Type 0 = λ x. IsFalse (matches p.values (rule_at t x)) in subst P e off
     first_or_later step (suc k, lt, e) off none = none step (k, omega (arith, lt), e)
 
--- the packets that a changed rule matches get the same verdict, and so do all at the hook
+-- the rule is off the packet's walk if it matches the packet
+abbrev OffIf : Table → Packet → Step → Type 0
+OffIf t p step = matches p.values (rule_at t step) ≡ true → Contains (walk t p).trail (entry_of t.chains step) → ⊥
+
+-- by what is said of some rules of a table, it gives the packet the same verdict as the other table, or none of them touches the packet
+settled : (t old new : Table) (these : Entry → Bool) (hook : Hook) (steps : List Step) (p : Packet) → AreThese t these steps → All (IsSettled t old new hook) steps → IsAtHook p → p.hook ≡ hook → IsAlike old new p ⊎ IsUntouched t these p
+settled t old new these hook steps p are all can there =
+    elim (some_or_none t p steps) [
+      | inr none ↦ inr (inl (matches_none t these steps p are none))
+      | inl w ↦ elim (each w.0 w.1 w.2) [
+        | inl alike ↦ inl alike
+        | inr short ↦ elim (all_off steps (λ step c. c)) [
+          | inl alike ↦ inl alike
+          | inr off ↦ inr (inr (are_off t these steps p are short.1 off))
+        ]
+      ]
+    ]
+  where
+    each : (step : Step) → Contains steps step → matches p.values (rule_at t step) ≡ true → IsAlike old new p ⊎ ((Contains (walk t p).trail (entry_of t.chains step) → ⊥) × ((walk t p).verdict ≢ TooLong))
+    each step c m =
+        let at : IsMatchedAt t step hook p = record { can = can; there = there; matched = m } in
+        elim (All-contains (IsSettled t old new hook) steps step all c) [
+          | inl same ↦ inl (same p at)
+          | inr dead ↦ inr (dead.0 p can there, dead.1 p at)
+        ]
+
+    -- all of these rules that match are off the walk, or one of them gives the same verdict
+    all_off : (some : List Step) → ((step : Step) → Contains some step → Contains steps step)
+        → IsAlike old new p ⊎ ((step : Step) → Contains some step → OffIf t p step)
+    all_off [] within = inr (λ step c. absurd (omega (arith, c.1)))
+    all_off (s ∷ some) within =
+        elim (all_off some (λ step c. within step (suc c.0, omega (arith, c.1), c.2))) [
+          | inl alike ↦ inl alike
+          | inr later ↦ elim (cases_Bool (matches p.values (rule_at t s))) [
+            | inr un ↦ inr (λ step c. by_place step c (λ m. absurd (true≢false (sym m ∙ un))) later)
+            | inl m ↦ elim (each s (within s (0, omega arith, refl)) m) [
+              | inl alike ↦ inl alike
+              | inr off ↦ inr (λ step c. by_place step c (λ _. off.0) later)
+            ]
+          ]
+        ]
+      where
+        by_place : (step : Step) → Contains (s ∷ some) step → OffIf t p s → ((x : Step) → Contains some x → OffIf t p x) → OffIf t p step
+        by_place step (zero, lt, e) here later = subst (OffIf t p) e here
+        by_place step (suc k, lt, e) here later = later step (k, omega (arith, lt), e)
+
+-- what is said of each changed rule is so, and so all packets at the hook get the same verdict
 pub same_at : (old new : Table) (hook : Hook) (changes : Changes) → AreChanges old new changes → ((p : Packet) → p.hook ≡ hook → end_verdict old p ≡ end_verdict new p)
-    → All (IsSameOf old old new hook) changes.went.items → All (IsSameOf new old new hook) changes.came.items → IsSameAt old new hook
+    → All (IsSettled old old new hook) changes.went.items → All (IsSettled new old new hook) changes.came.items → IsSameAt old new hook
 same_at old new hook changes are ends went came p can there =
-    elim (some_or_none old p changes.went.items) [
-      | inl w ↦ All-contains (IsSameOf old old new hook) changes.went.items w.0 went w.1 p (record { can = can; there = there; matched = w.2 })
-      | inr none ↦ elim (some_or_none new p changes.came.items) [
-        | inl w ↦ All-contains (IsSameOf new old new hook) changes.came.items w.0 came w.1 p (record { can = can; there = there; matched = w.2 })
-        | inr neither ↦
-            elsewhere old new are.went are.came p are.shared (ends p there) (matches_none old are.went changes.went.items p are.first none) (matches_none new are.came changes.came.items p are.second neither)
+    elim (settled old old new are.went hook changes.went.items p are.first went can there) [
+      | inl alike ↦ alike
+      | inr untouched ↦ elim (settled new old new are.came hook changes.came.items p are.second came can there) [
+        | inl alike ↦ alike
+        | inr neither ↦ off_the_walk old new are.went are.came p are.shared (ends p there) untouched neither
       ]
     ]
 

@@ -1,11 +1,11 @@
 -- Chains of one name beside each other, and the rules that both have.
-use Rattle.std.proofs.Common.{◌≡◌, inl, inr, ℕ, zero, suc, ◌+◌, ◌-◌, ◌<◌, Bool, true, false, List, [], ◌∷◌, ◌++◌, length, get_or, refl, sym, ◌∙◌, ap, ap₂, arith, subst, Option, Some, None, Contains}
+use Rattle.std.proofs.Common.{◌≡◌, ◌≢◌, inl, inr, ℕ, zero, suc, ◌+◌, ◌-◌, ◌<◌, Bool, true, false, List, [], ◌∷◌, ◌++◌, length, get_or, refl, sym, ◌∙◌, ap, ap₂, arith, subst, Option, Some, None, Contains}
 use Rattle.std.specs.List.{AllByRecursion}
-use Rattle.std.specs.Prelude.{All, IsFalse, slice_get}
+use Rattle.std.specs.Prelude.{All, IsFalse, IsTrue, slice_get}
 use Rattle.std.specs.Str.{bytes_eq}
 use Rattle.std.proofs.lemmas.Bool.{cases_Bool, cond-false, cond-true}
 use Rattle.std.proofs.lemmas.List.{get_or_default}
-use Rattle.std.proofs.lemmas.List.Elements.{Contains-get_or, recursion_from_All}
+use Rattle.std.proofs.lemmas.List.Elements.{All-contains, Contains-get_or, recursion_from_All}
 use Rattle.std.proofs.lemmas.Option.{get_or_from_slice_get}
 use Rattle.std.proofs.lemmas.Slice.Eq.{bytes_eq-Decides}
 use Rattle.fields.specs.packet.Packet.{PacketView as Packet}
@@ -14,11 +14,12 @@ use Rattle.rules.specs.rule.Rules.{Rule, empty_rule}
 use Rattle.table.specs.chains.Sound.{IsSound}
 use Rattle.table.specs.chains.Table.{Chain, Table, chain_at, empty_chain, is_named, rules_of}
 use Rattle.table.specs.declared.walk.trail.Step.{Step}
-use Rattle.table.specs.walk.Walk.{Entry}
+use Rattle.table.specs.declared.verdict.Verdict.TheVariants.{TooLong}
+use Rattle.table.specs.walk.Walk.{Entry, walk}
 use Rattle.table.proofs.laws.chains.KeepLaws.{rules_by_name}
 use Rattle.questions.specs.Ends.{rule_at}
-use Rattle.questions.specs.Leaves.{name_at}
-use Rattle.questions.specs.asked.Changes.{MatchesNone, ShareOthers}
+use Rattle.questions.specs.Leaves.{entry_of, name_at}
+use Rattle.questions.specs.asked.Changes.{AreOff, AreThese, IsThis, MatchesNone, ShareOthers}
 use Rattle.questions.specs.asked.Without.{staying}
 use Rattle.questions.specs.declared.asked.pairs.Next.{Next}
 use Rattle.questions.specs.declared.asked.pairs.Next.TheVariants as next
@@ -27,8 +28,9 @@ use Rattle.questions.specs.declared.asked.pairs.Places.{Places}
 use Rattle.questions.specs.declared.asked.pairs.Side.{Side}
 use Rattle.questions.specs.declared.asked.pairs.Side.TheVariants as side
 use Rattle.questions.specs.steps.Collected.{AddsRules}
-use Rattle.questions.specs.steps.Shared.{Adds, AreThere, AreThese, HasPlace, IsBeside, IsMarkedRule, IsPaired, IsThis, is_marked, marks_on, name_of, pair_named, unmarked, unshared}
+use Rattle.questions.specs.steps.Shared.{Adds, AreThere, HasPlace, IsBeside, IsMarkedRule, IsPaired, is_marked, marks_on, name_of, pair_named, unmarked, unshared}
 use Rattle.questions.proofs.laws.CollectLaws.{adds_as}
+use Rattle.questions.proofs.laws.TrailLaws.{IsMatched, trail_matches}
 
 -- ---- one more mark
 
@@ -161,14 +163,34 @@ within_list [] k x e = absurd (nothing e)
 within_list (y ∷ xs) zero x e = omega arith
 within_list (y ∷ xs) (suc k) x e = let w = within_list xs k x e in omega (arith, w)
 
-pub matches_none : (t : Table) (these : Entry → Bool) (steps : List Step) (p : Packet) → AreThese t these steps → ((step : Step) → Contains steps step → IsFalse (matches p.values (rule_at t step))) → MatchesNone t these p
-matches_none t these steps p are off name place rule e is =
+-- one of these rules, by its chain's name, is one of the steps
+these_step : (t : Table) (these : Entry → Bool) (steps : List Step) (name : List ℕ) (place : ℕ) (rule : Rule) → AreThese t these steps → slice_get (rules_of t.chains name) place ≡ Some rule → IsTrue (these (record { chain = name; number = place + 1 }))
+    → (step : Step) × Contains steps step × (rule_at t step ≡ rule) × (entry_of t.chains step ≡ record { chain = name; number = place + 1 })
+these_step t these steps name place rule are e is =
     let w = placed_rule t.chains name place rule e in
     let step : Step = record { chain = w.0; number = place + 1 } in
     let entry : List ℕ → Entry = λ n. record { chain = n; number = place + 1 } in
     let own : List Rule = (chain_at t w.0).rules in
     let within : place < length own = within_list own place rule w.3 in
     let this : IsThis t these step = (record { chain = w.1; first = omega arith; last = omega (arith, within) }, ap these (ap entry w.2) ∙ is) in
-    let there : rule_at t step ≡ rule = ap (λ k. get_or own k empty_rule) (omega arith) ∙ get_or_from_slice_get own place rule empty_rule w.3 in
+    (step, are.all step this, ap (λ k. get_or own k empty_rule) (omega arith) ∙ get_or_from_slice_get own place rule empty_rule w.3, ap entry w.2)
+
+pub matches_none : (t : Table) (these : Entry → Bool) (steps : List Step) (p : Packet) → AreThese t these steps → ((step : Step) → Contains steps step → IsFalse (matches p.values (rule_at t step))) → MatchesNone t these p
+matches_none t these steps p are off name place rule e is =
+    let w = these_step t these steps name place rule are e is in
     let P : Rule → Type 0 = λ r. IsFalse (matches p.values r) in
-    subst P there (off step (are.all step this))
+    subst P w.2 (off w.0 w.1)
+
+-- where each of the steps that matches is off the walk, which isn't too long, they all are
+pub are_off : (t : Table) (these : Entry → Bool) (steps : List Step) (p : Packet) → AreThese t these steps → (walk t p).verdict ≢ TooLong
+    → ((step : Step) → Contains steps step → matches p.values (rule_at t step) ≡ true → Contains (walk t p).trail (entry_of t.chains step) → ⊥) → AreOff t these p
+are_off t these steps p are short off = record {
+  short = short;
+  off = λ entry is on.
+      (let m : IsMatched t.chains p.values entry = All-contains (IsMatched t.chains p.values) (walk t p).trail entry (trail_matches t p) on in
+      let make : ℕ → Entry = λ k. record { chain = entry.chain; number = k } in
+      let same : entry ≡ make (entry.number - 1 + 1) = ap make (omega (arith, m.3)) in
+      let w = these_step t these steps entry.chain (entry.number - 1) m.0 are m.1 (sym (ap these same) ∙ is) in
+      let P : Entry → Type 0 = λ e. Contains (walk t p).trail e in
+      off w.0 w.1 (ap (matches p.values) w.2 ∙ m.2) (subst P (same ∙ sym w.3) on));
+}

@@ -28,7 +28,7 @@ use Rattle.table.proofs.laws.chains.KeepLaws.{rules_by_name}
 use Rattle.table.proofs.laws.chains.PlaceLaws.{IsPlaced, placed_at, any_none}
 use Rattle.table.proofs.laws.walk.CaseLaws.{walk_is}
 use Rattle.questions.specs.Leaves.{name_at, entry_of, entries_of, walked_of, EndsIn, AreLeavesOf}
-use Rattle.questions.specs.boxes.Area.{Has, IsAtHook}
+use Rattle.questions.specs.boxes.Area.{Has, IsAtHook, IsIn}
 use Rattle.questions.specs.boxes.Cut.{IsInSome, IsCut, IsPartedFor, IsApart}
 use Rattle.questions.specs.steps.Taken.{GetsTo, IsStep, AreSteps}
 use Rattle.questions.specs.steps.Waiting.{rest_of, rests_of, behind, Reaches, stage_of, WaitsIn, IsAccounted, IsThere, AreThere, IsAsked, Keeps, Moves, PassesOver, Begins, entry_before}
@@ -311,24 +311,20 @@ begun t hook box rests empty trail k old new sound at is none bare no_task h =
     }
 
 -- one step of the loop
-pub begun_next : (t : Table) (hook : Hook) (policy : Verdict) (box : List SpanSet) (left : List Task) (task : Task) (old popped new : Front) → ((p : Packet) → p.hook ≡ hook → end_verdict t p ≡ policy) → old.tasks.items ≡ left ++ task ∷ []
-    → popped.tasks.items ≡ left → popped.leaves.items ≡ old.leaves.items → Begins t hook box old → Moves t policy task.area (stage_of t.chains task) popped new → Begins t hook box new
-begun_next t hook policy box left task old popped new ends tasks same leaves begins h = record {
-  all = λ p can e inside. by_case p can e (begins.all p can e inside);
-  there = h.keeps.there (subst Q (sym same) (All-pop (AreThere t.chains) old.tasks.items left (Some task) tasks begins.there).0);
+pub begun_next : (t : Table) (hook : Hook) (box : List SpanSet) (old new : Front) → Begins t hook box old → IsStep t hook box old new → Begins t hook box new
+begun_next t hook box old new begins (policy, task, left, up, (next, further, moves)) = record {
+  all = λ p can e inside. by_case p can e inside (begins.all p can e inside);
+  there = moves.keeps.there (All-pop (AreThere t.chains) old.tasks.items left.tasks.items (Some task) up.tasks begins.there).0;
 }
   where
-    Q : List Task → Type 0
-    Q ts = All (AreThere t.chains) ts
-
-    by_case : (p : Packet) → IsAtHook p → p.hook ≡ hook → IsAccounted t p old → IsAccounted t p new
-    by_case p can e (inr a) = h.keeps.kept p (inr (any_same (EndsIn t p) old.leaves.items popped.leaves.items leaves a))
-    by_case p can e (inl a) =
+    by_case : (p : Packet) → IsAtHook p → p.hook ≡ hook → IsIn box p → IsAccounted t p old → IsAccounted t p new
+    by_case p can e inside (inr a) = moves.keeps.kept p (inr (any_same (EndsIn t p) old.leaves.items left.leaves.items up.leaves a))
+    by_case p can e inside (inl a) =
         let R : List Task → Type 0 = λ ts. Contains ts a.1 in
         let S : Task → Type 0 = λ x. WaitsIn t p x in
-        elim (Contains-push_cases left task a.1 (subst R tasks (a.0, a.2, a.3))) [
-          | inl c ↦ h.keeps.kept p (inl (any_same (WaitsIn t p) left popped.tasks.items same (c.0, a.1, c.1, c.2, a.4)))
-          | inr is ↦ h.moved p (record { at_hook = can; ends = ends p e }) (subst S (sym is) a.4)
+        elim (Contains-push_cases left.tasks.items task a.1 (subst R up.tasks (a.0, a.2, a.3))) [
+          | inl c ↦ moves.keeps.kept p (inl (c.0, a.1, c.1, c.2, a.4))
+          | inr is ↦ moves.moved p (record { at_hook = can; ends = up.ends p e }) (further.waits p can inside (subst S (sym is) a.4))
         ]
 
 -- no task is left
@@ -342,7 +338,7 @@ all_leaves t hook box front begins none = λ p can e inside.
 -- ---- steps
 
 -- one step more
-pub gets_on : (t : Table) (hook : Hook) (box : List SpanSet) (n : ℕ) (old new : Front) → GetsTo t hook box n old → IsStep t hook old new → GetsTo t hook box (n + 1) new
+pub gets_on : (t : Table) (hook : Hook) (box : List SpanSet) (n : ℕ) (old new : Front) → GetsTo t hook box n old → IsStep t hook box old new → GetsTo t hook box (n + 1) new
 gets_on t hook box n old new gets step =
-    let P : ℕ → Type 0 = λ k. AreSteps k t hook gets.first new in
+    let P : ℕ → Type 0 = λ k. AreSteps k t hook box gets.first new in
     record { first = gets.first; begins = gets.begins; takes = subst P (sym (add-one n)) (old, gets.takes, step) }

@@ -245,7 +245,7 @@ module _ (cs : List Chain) (goes : Entry → Bool) (policy : Verdict) (values : 
             (follow_same (under (moved (behind rest))) (under (behind (moved rest))) w (ap under (behind_stays rest rule at un)) f)
       ]
 
-  follows : (n : ℕ) → AllFollow n
+  pub follows : (n : ℕ) → AllFollow n
   follows zero rests trail other w long short spares g = absurd (under_over cs policy values rests trail w g)
   follows (suc n) [] trail other w long short spares g =
       (1, record { trail = other; verdict = policy; by_policy = true }, (_, refl, refl), ap (λ (x : Walked). x.verdict) (ended cs policy values n (record { trail = trail; verdict = policy; by_policy = true }) w (from cs policy values n g.0 _ w g.1 g.2)))

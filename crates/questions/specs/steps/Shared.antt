@@ -1,14 +1,12 @@
 -- The rules that two tables share: chains of one name beside each other, with marks on the rules that only one of them has.
-use Rattle.std.specs.Prelude.{◌≡◌, ℕ, ◌-◌, ◌<◌, Bool, true, false, IsTrue, List, [], ◌∷◌, ◌++◌, length, slice_index_or, Option, None, Some, Contains, if◌then◌else◌}
+use Rattle.std.specs.Prelude.{◌≡◌, ℕ, ◌-◌, ◌<◌, Bool, true, false, IsTrue, List, [], ◌∷◌, ◌++◌, length, slice_index_or, Option, None, Some, if◌then◌else◌}
 use Rattle.std.specs.Str.{bytes_eq}
 use Rattle.rules.specs.rule.Rules.{Rule}
 use Rattle.table.specs.chains.Table.{Chain, Table, chain_at, rules_of}
 use Rattle.table.specs.declared.walk.trail.Step.{Step}
 use Rattle.table.specs.walk.Walk.{Entry}
 use Rattle.questions.specs.Ends.{IsRule}
-use Rattle.questions.specs.Leaves.{entry_of, name_at}
-use Rattle.questions.specs.asked.Changes.{ShareOthers}
-use Rattle.questions.specs.declared.asked.changes.Changes.{Changes}
+use Rattle.questions.specs.Leaves.{name_at}
 use Rattle.questions.specs.declared.asked.pairs.Next.{Next}
 use Rattle.questions.specs.declared.asked.pairs.Next.TheVariants as next
 use Rattle.questions.specs.declared.asked.pairs.Pair.{Pair}
@@ -87,20 +85,3 @@ unshared own chains pairs entry = is_marked (marks_on own (pair_named chains pai
 -- a rule of the table that is marked by its number
 abbrev pub IsMarkedRule : Table → List Bool → Step → Type 0
 IsMarkedRule t marks step = IsRule t step × IsTrue (is_marked marks step.number)
-
--- a rule of the table, and one of these
-abbrev pub IsThis : Table → (Entry → Bool) → Step → Type 0
-IsThis t these step = IsRule t step × IsTrue (these (entry_of t.chains step))
-
--- just these rules of the table
-pub record AreThese (t : Table) (these : Entry → Bool) (steps : List Step) : Type 0 where
-  pub all : (step : Step) → IsThis t these step → Contains steps step
-  pub only : (step : Step) → Contains steps step → IsThis t these step
-
--- the rules that went and those that came: without them the tables are the same, chain by chain
-pub record AreChanges (old new : Table) (changes : Changes) : Type 0 where
-  pub went : Entry → Bool
-  pub came : Entry → Bool
-  pub shared : ShareOthers old went new came
-  pub first : AreThese old went changes.went.items
-  pub second : AreThese new came changes.came.items

@@ -1,10 +1,11 @@
 -- Boxes on their way through the table, and those that are at its end.
-use Rattle.std.specs.Prelude.{◌≡◌, ◌⊎◌, ℕ, ◌+◌, ◌<◌, List, [], ◌∷◌, length, map, reverse, All, Any}
+use Rattle.std.specs.Prelude.{◌≡◌, ◌⊎◌, ℕ, ◌+◌, ◌<◌, List, [], ◌∷◌, length, map, reverse, slice_index_or, All, Any}
 use Rattle.fields.specs.declared.packet.hook.Hook.{Hook}
 use Rattle.fields.specs.numbers.Spans.{SpanSet}
 use Rattle.fields.specs.packet.Hook.{name as hook_name}
 use Rattle.fields.specs.packet.Packet.{PacketView as Packet}
-use Rattle.table.specs.chains.Table.{Chain, Table}
+use Rattle.rules.specs.rule.Rules.{Rule, empty_rule}
+use Rattle.table.specs.chains.Table.{Chain, Table, chain_at}
 use Rattle.table.specs.declared.verdict.Verdict.{Verdict}
 use Rattle.table.specs.walk.Cases.{Stage, Under, GoesTo}
 use Rattle.table.specs.walk.Walk.{Rest, Entry, end_verdict, whole}
@@ -26,6 +27,10 @@ rests_of chains waiting = map (rest_of chains) (reverse waiting)
 -- what is left of the chain after its next rule
 abbrev pub behind : Pending → Pending
 behind at = record { chain = at.chain; passed = at.passed + 1 }
+
+-- its next rule
+abbrev pub rule_ahead : Table → Pending → Rule
+rule_ahead t at = slice_index_or (chain_at t at.chain).rules at.passed empty_rule
 
 -- the walk of a packet gets to a stage
 abbrev pub Reaches : Table → Packet → Stage → Type 0

@@ -1,16 +1,19 @@
 //! The rules by which two tables differ.
 ghost use Rattle.std.specs.Prelude.{◌≡◌, ◌+◌, ◌<◌, All, IfOk, OnOk, length};
+ghost use Rattle.questions.specs.asked.Changes.{AreChanges, AreThese};
 ghost use Rattle.questions.specs.steps.Collected.{AddsRules};
-ghost use Rattle.questions.specs.steps.Shared.{AreChanges, AreThese, IsMarkedRule, HasPlace, is_marked, unshared};
+ghost use Rattle.questions.specs.steps.Shared.{HasPlace, IsMarkedRule, is_marked, unshared};
 
 use crate::asked::pairs::{Pair, Side, marks_of, pairs_of};
 use std::alloc::{AllocError, Global};
 use table::{Step, Table};
 
-// The rules of the first table that the second one lacks, and those of the second one that the first one lacks.
+/// The rules by which two tables differ, after chains of one name are aligned. Without them each chain has the same rules in both.
 #[derive(Drop)]
-pub(crate) struct Changes {
+pub struct Changes {
+    /// Rules of the first table that the second one lacks.
     pub went: Vec<Step>,
+    /// Rules of the second table that the first one lacks.
     pub came: Vec<Step>,
 }
 
@@ -61,9 +64,13 @@ fn unshared_of(
     Ok(found)
 }
 
-// The rules by which two tables differ. Equal rules that stand in both chains of a name, in one order, are shared, as far as a look ahead
-// of 1,024 rules finds them.
-pub(crate) fn changes_of(alloc: Global, old: &Table, new: &Table) -> Result<Changes, AllocError>
+/// The rules by which two tables differ, in the order of a listing. Chains of one name are aligned: where the next rules differ, the nearest
+/// equal one, up to 1,023 rules further on in either chain, says which of them is a change. So a rule may count as one without need.
+///
+/// # Errors
+///
+/// `AllocError` where memory was refused.
+pub fn changes_of(alloc: Global, old: &Table, new: &Table) -> Result<Changes, AllocError>
     ensures { IfOk result (AreChanges old.now.table new.now.table) }
 {
     let pairs = pairs_of(alloc, old, new)?;

@@ -1,6 +1,6 @@
 //! Laws about the answers: no two of them hold at once, dead rules can be deleted, and rules that a packet doesn't match can change
 //! without changing its verdict.
-ghost use Rattle.questions.specs.asked.Changes.{ChangesElsewhere};
+ghost use Rattle.questions.specs.asked.Changes.{ChangesElsewhere, ChangesOffTheWalk};
 ghost use Rattle.questions.specs.asked.Laws.{DeadIsNotLive, DeadRulesCanGo, DeletionsLeaveTheRest, LinesWritePacketsAtHooks, SameIsNotOther};
 
 /// The law that a packet line writes only packets that can be at their hooks; so no rule is both dead and live, and
@@ -24,4 +24,10 @@ pub fn dead_rules_can_go()
 /// tables. Walks that are too long are included. It does nothing.
 pub fn changes_elsewhere()
     ensures { ChangesElsewhere }
+{}
+
+/// The same law, where in each table the packet matches none of the rules, or none of them is on its walk, which isn't too long: so
+/// changed rules that are dead change no verdict. It does nothing.
+pub fn changes_off_the_walk()
+    ensures { ChangesOffTheWalk }
 {}

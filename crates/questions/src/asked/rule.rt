@@ -5,12 +5,15 @@ ghost use Rattle.questions.specs.Ends.{IsRule};
 ghost use Rattle.questions.specs.Leaves.{entry_of};
 ghost use Rattle.questions.specs.asked.Rule.{IsLiveAt, Says, SaysAt};
 ghost use Rattle.questions.specs.asked.Unclear.{IsUnclear, IsUnclearAt, IsUnseen};
+ghost use Rattle.questions.specs.declared.asked.rule.Life.TheVariants.{Dead};
+ghost use Rattle.questions.specs.steps.Compared.{AreShort};
 ghost use Rattle.questions.specs.steps.Searched.{SaysEnd};
 
-use crate::asked::coming::come;
+use crate::asked::coming::{Found, come};
 use crate::asked::matching::packets_of;
 use crate::boxes::area::Area;
 use crate::boxes::boxed_table::BoxedTable;
+use crate::boxes::candidates::Candidates;
 use crate::sampling::sample::{Sample, sample_of};
 use crate::walking::engine::{LIMIT, begin, policy_at};
 use crate::walking::task::Leaf;
@@ -89,7 +92,7 @@ fn at_end(clear: bool, leaves: &[Leaf], step: Step) -> Life
 }
 
 // What is said of a rule, for the packets at one hook: those that its box has are searched for one that comes to it.
-fn life_at(
+pub(crate) fn life_at(
     alloc: Global,
     subject: &BoxedTable,
     hook: Hook,
@@ -99,13 +102,15 @@ fn life_at(
     requires { IsRule subject.now.table.table step }
     ensures says { IfOk result (SaysAt subject.now.table.table (entry_of subject.now.table.table.chains step) hook) }
     ensures unclear { IfOk result (IsUnclearAt subject.now.table.table step hook budget) }
+    ensures short { IfOk result (λ life. life ≡ Dead → AreShort subject.now.table.table step hook) }
 {
     subject.table.stands();
     let policy = policy_at(&subject.table, hook);
     let given = packets_of(alloc, subject, hook, step)?;
+    let mut candidates = Candidates::all(alloc, &given.area)?;
     let mut front = begin(alloc, &subject.table, hook, given.area)?;
     let mut clear = true;
-    let mut looks = 0;
+    let mut looks: usize = 0;
     for taken in 0..budget {
         let Some(task) = front.tasks.pop() else {
             return Ok(at_end(clear, front.leaves.as_slice(), step));
@@ -116,7 +121,16 @@ fn life_at(
         if task.trail.len() >= LIMIT {
             return Ok(Life::Unclear);
         }
-        if let Some(came) = come(subject, policy, &mut front, task, step, &mut looks)? {
+        let Found { area, looks: more } = come(
+            subject,
+            &mut candidates,
+            policy,
+            &mut front,
+            task,
+            step,
+        )?;
+        looks = looks.saturating_add(more);
+        if let Some(came) = area {
             if let Some(words) = witness(alloc, &subject.table, hook, &came, step)? {
                 return Ok(Life::Live(words));
             }
@@ -131,9 +145,10 @@ fn life_at(
 
 /// Whether rule `number` of the chain at a place, both of which have to be there, can match at all. Rules count from 1.
 ///
-/// At each hook the packets of the rule's box are searched for one that comes to the rule, with `budget` steps: rules that
-/// share no packet with a box are passed at once, a box is dropped where a rule ahead in its chain takes all of it, and the
-/// first box that comes to the rule offers a packet. Looking at a rule ahead counts a fiftieth of a step.
+/// At each hook the packets of the rule's box are searched for one that comes to the rule, with `budget` steps. Rules that share no
+/// packet with a box on its way are passed at once; those that share none with the rule's box are set aside after some looks, with
+/// one at each rule; a box is dropped where a rule ahead in its chain takes all of it; and the first box that comes to the rule
+/// offers a packet. Looking at a rule ahead counts a fiftieth of a step.
 ///
 /// # Errors
 ///

@@ -2,16 +2,17 @@
 ghost use Rattle.std.specs.Prelude.{◌≡◌, ◌≢◌, false, All, Any, IfOk, IsTrue, MatchOption};
 ghost use Rattle.table.specs.declared.verdict.Verdict.{Verdict};
 ghost use Rattle.questions.specs.Ends.{IsRule};
+ghost use Rattle.questions.specs.asked.Changes.{AreChanges};
 ghost use Rattle.questions.specs.asked.Unclear.{IsAlikeAsSeen, IsAlikeIn, IsUnclearIf, MayDiffer, MayDifferIn, MayDifferOn, MayDifferSomewhere};
 ghost use Rattle.questions.specs.asked.Verdicts.{IsOtherAt, IsSameAt, IsSameIn, Says, SaysIf};
 ghost use Rattle.questions.specs.declared.asked.verdicts.Likeness.TheVariants.{Same};
-ghost use Rattle.questions.specs.steps.Compared.{IsSameOf, IsSameOn, MayDifferOf};
-ghost use Rattle.questions.specs.steps.Shared.{AreChanges};
+ghost use Rattle.questions.specs.steps.Compared.{IsSameOn, IsSettled, MayDifferOf};
 
 use crate::asked::changes::{Changes, changes_of};
 use crate::asked::equal::are_equal;
 use crate::asked::matching::packets_of;
 use crate::asked::reach::Given;
+use crate::asked::rule::{Life, life_at};
 use crate::boxes::area::Area;
 use crate::boxes::boxed_table::BoxedTable;
 use crate::sampling::sample::{Sample, sample_of};
@@ -178,7 +179,8 @@ fn likeness_on(
     }
 }
 
-// What is said of the packets that a rule of one of the tables matches.
+// What is said of the packets that a rule of one of the tables matches. Where the rule is dead there, its packets are those of the other
+// changed rules.
 fn likeness_of(
     old: &BoxedTable,
     new: &BoxedTable,
@@ -187,11 +189,14 @@ fn likeness_of(
     step: Step,
 ) -> Result<Likeness, AllocError>
     requires { IsRule owner.now.table.table step }
-    ensures says { IfOk result (SaysIf (IsSameOf owner.now.table.table old.now.table.table new.now.table.table course.hook step) old.now.table.table new.now.table.table course.hook) }
+    ensures says { IfOk result (SaysIf (IsSettled owner.now.table.table old.now.table.table new.now.table.table course.hook step) old.now.table.table new.now.table.table course.hook) }
     ensures unclear { IfOk result (IsUnclearIf (MayDifferOf owner.now.table.table old.now.table.table new.now.table.table course.hook course.budget step)) }
 {
     let Given { hook: _, area } = packets_of(course.alloc, owner, course.hook, step)?;
     if area.is_empty() {
+        return Ok(Likeness::Same);
+    }
+    if let Life::Dead = life_at(course.alloc, owner, course.hook, step, course.budget)? {
         return Ok(Likeness::Same);
     }
     match likeness_on(old, new, course, area)? {
@@ -210,7 +215,7 @@ fn likeness_of_all(
     steps: &[Step],
 ) -> Result<Likeness, AllocError>
     requires { All (IsRule owner.now.table.table) steps.now }
-    ensures says { IfOk result (SaysIf (All (IsSameOf owner.now.table.table old.now.table.table new.now.table.table course.hook) steps.now) old.now.table.table new.now.table.table course.hook) }
+    ensures says { IfOk result (SaysIf (All (IsSettled owner.now.table.table old.now.table.table new.now.table.table course.hook) steps.now) old.now.table.table new.now.table.table course.hook) }
     ensures unclear { IfOk result (IsUnclearIf (Any (MayDifferOf owner.now.table.table old.now.table.table new.now.table.table course.hook course.budget) steps.now)) }
 {
     let mut clear = true;
@@ -297,7 +302,8 @@ pub fn compare_at(
 /// Whether two tables give each packet the same verdict, whichever rule gives it. Equal tables are the same before any step.
 ///
 /// Otherwise the chains of one name are aligned: rules that both have, in one order, are set aside, and the others are the changes. A packet that
-/// matches no changed rule gets the same verdict from both tables, if its hook has the same policy in both. So for each changed rule and each hook,
+/// matches no changed rule gets the same verdict from both tables, if its hook has the same policy in both; so does one that matches only changed
+/// rules that are dead in their own tables. So each changed rule is searched for first, as by `dead`; and for each that isn't dead, and each hook,
 /// the packets of the rule's box walk the first table as boxes, and each leaf then walks the second one. Where the policies of a hook differ,
 /// all packets of the hook do so. Each of these walks has `budget` steps (`leaves`).
 ///

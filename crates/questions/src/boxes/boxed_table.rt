@@ -1,10 +1,14 @@
 //! A table with the boxes of its rules.
-ghost use Rattle.std.specs.Prelude.{◌≡◌, ◌+◌, ◌-◌, ◌^◌, ◌<◌, ◌≤◌, [], length, map, min, slice_index_or, IfOk};
+ghost use Rattle.std.specs.Prelude.{◌≡◌, ◌+◌, ◌-◌, ◌^◌, ◌<◌, ◌≤◌, [], length, map, min, slice_index_or, IfOk, IsTrue};
 ghost use Rattle.rules.specs.boxing.Boxed.{IsBoxOf};
 ghost use Rattle.rules.specs.rule.Rules.{empty_rule};
 ghost use Rattle.table.specs.chains.Table.{chain_at};
 ghost use Rattle.questions.specs.boxes.Boxes.{AreBoxesOf, AreBoxesOfRules, rules_in};
+ghost use Rattle.questions.specs.boxes.Cut.{IsApart};
 
+use crate::boxes::area::Area;
+use crate::boxes::meeting::{are_apart, meet, narrow_fields};
+use fields::FIELDS;
 use rules::{Boxed, Work};
 use std::alloc::{AllocError, Global};
 use table::Table;
@@ -17,6 +21,8 @@ pub struct BoxedTable {
     pub table: Table,
     // The boxes of the rules, chain by chain in the order of a listing.
     chains: Vec<Vec<Boxed>>,
+    // For each of them the fields on which it leaves numbers out.
+    narrow: Vec<Vec<[bool; FIELDS]>>,
     ghost boxes: { AreBoxesOf table.table.chains (map (λ v. v.items) chains.items) },
 }
 
@@ -39,6 +45,15 @@ fn boxes_of_chain(
     Ok(boxes)
 }
 
+// The fields on which each of some boxes leaves numbers out.
+fn narrow_of_all(alloc: Global, boxes: &[Boxed]) -> Result<Vec<[bool; FIELDS]>, AllocError> {
+    let mut narrow = Vec::new(alloc);
+    for boxed in boxes {
+        narrow.push(narrow_fields(boxed.spans()))?;
+    }
+    Ok(narrow)
+}
+
 impl BoxedTable {
     /// A table with the boxes of its rules: each is made, and counted in `work`.
     ///
@@ -51,10 +66,17 @@ impl BoxedTable {
     {
         let _made = work.boxes();
         let mut chains = Vec::new(alloc);
+        let mut narrow = Vec::new(alloc);
         for place in 0..table.chain_count() {
-            chains.push(boxes_of_chain(alloc, &table, place, work)?)?;
+            let boxes = boxes_of_chain(alloc, &table, place, work)?;
+            narrow.push(narrow_of_all(alloc, boxes.as_slice())?)?;
+            chains.push(boxes)?;
         }
-        Ok(BoxedTable { table, chains })
+        Ok(BoxedTable {
+            table,
+            chains,
+            narrow,
+        })
     }
 
     // The box of rule `number` of the chain at a place, from 1; it is lent.
@@ -65,5 +87,24 @@ impl BoxedTable {
         ensures { IsBoxOf (slice_index_or (chain_at self.now.table.table place).rules (number - 1) empty_rule) result.now }
     {
         &self.chains[place][number - 1]
+    }
+
+    // The fields on which the box of the rule behind so many others leaves numbers out.
+    fn narrow_at(&self, place: usize, passed: usize) -> Option<&[bool; FIELDS]> {
+        self.narrow.get(place)?.get(passed)
+    }
+
+    // Whether rule `number` of the chain at a place, from 1, matches no packet of a box, by its own box. It takes no memory.
+    pub(crate) fn is_apart(&self, area: &Area, place: usize, number: usize) -> bool
+        requires place { place < length self.now.table.table.chains }
+        requires first { 0 < number }
+        requires last { number ≤ length (chain_at self.now.table.table place).rules }
+        ensures { IsTrue result → IsApart (slice_index_or (chain_at self.now.table.table place).rules (number - 1) empty_rule) area.now }
+    {
+        let boxed = self.at(place, number);
+        match self.narrow_at(place, number - 1) {
+            Some(fields) => are_apart(area.sets(), boxed.spans(), fields),
+            None => !meet(area.sets(), boxed.spans()),
+        }
     }
 }

@@ -50,7 +50,8 @@ fn put_part(
     Ok(())
 }
 
-// The parts of a box that aren't in another one.
+// The parts of a box that aren't in another one: those of later fields, which are narrower, come first in the list, and a walk goes on
+// with them first.
 fn outside(alloc: Global, own: &[Spans], other: &[Spans]) -> Result<Vec<Area>, AllocError>
     requires own { IsBox own.now }
     requires other { IsBox other.now }
@@ -58,8 +59,8 @@ fn outside(alloc: Global, own: &[Spans], other: &[Spans]) -> Result<Vec<Area>, A
         → (Has other.now numbers → ⊥) → IsInSome parts.items numbers) }
 {
     let mut parts = Vec::new(alloc);
-    for at in 0..FIELDS {
-        put_part(alloc, own, other, at, &mut parts)?;
+    for done in 0..FIELDS {
+        put_part(alloc, own, other, FIELDS - 1 - done, &mut parts)?;
     }
     Ok(parts)
 }

@@ -46,3 +46,37 @@ pub(crate) fn meet(own: &[Spans], other: &[Spans]) -> bool
     }
     true
 }
+
+// Whether a set has all numbers up to its top.
+fn is_whole(set: &Spans) -> bool {
+    match set.intervals().first() {
+        Some(only) => only.first == 0 && only.last == set.top(),
+        None => false,
+    }
+}
+
+// The fields on which a box leaves numbers out, by their places.
+pub(crate) fn narrow_fields(sets: &[Spans]) -> [bool; FIELDS]
+    requires { IsBox sets.now }
+{
+    let mut narrow = [false; FIELDS];
+    for place in 0..FIELDS {
+        narrow[place] = !is_whole(&sets[place]);
+    }
+    narrow
+}
+
+// Whether two boxes have no packets in common, as far as some fields tell: the same as `meet`, faster where these are the fields on which the
+// second one leaves numbers out.
+pub(crate) fn are_apart(own: &[Spans], other: &[Spans], fields: &[bool; FIELDS]) -> bool
+    requires own { IsBox own.now }
+    requires other { IsBox other.now }
+    ensures { IsTrue result → (numbers : List ℕ) → Has own.now numbers → Has other.now numbers → ⊥ }
+{
+    for place in 0..FIELDS {
+        if fields[place] && !share(&own[place], &other[place]) {
+            return true;
+        }
+    }
+    false
+}

@@ -1,27 +1,30 @@
 //! The rules ahead of a box in a chain: which are passed at once, and whether one takes all of its packets.
-ghost use Rattle.std.specs.Prelude.{◌≡◌, ◌<◌, ◌≤◌, ◌⊎◌, ℕ, List, true, length, Contains, IfOk, IsTrue};
+ghost use Rattle.std.specs.Prelude.{◌≡◌, ◌+◌, ◌<◌, ◌≤◌, ◌⊎◌, ℕ, List, true, length, Contains, IfOk, IsTrue};
+ghost use Rattle.fields.specs.numbers.Spans.{SpanSet};
 ghost use Rattle.fields.specs.packet.Packet.{PacketView};
 ghost use Rattle.rules.specs.boxing.Boxed.{IsBoxOf};
 ghost use Rattle.rules.specs.rule.Allows.{matches};
 ghost use Rattle.classify.specs.classifier.Classifier.{IsPoint};
 ghost use Rattle.table.specs.chains.Table.{chain_at};
-ghost use Rattle.table.specs.walk.Walk.{walk};
 ghost use Rattle.questions.specs.Ends.{IsRule};
 ghost use Rattle.questions.specs.Leaves.{entries_of, entry_of};
-ghost use Rattle.questions.specs.boxes.Area.{Has, IsAtHook};
+ghost use Rattle.questions.specs.boxes.Area.{Has, IsAtHook, IsIn};
 ghost use Rattle.questions.specs.boxes.Boxes.{rules_in};
-ghost use Rattle.questions.specs.boxes.Cut.{IsApart};
-ghost use Rattle.questions.specs.steps.Ahead.{Decides, IsTakenAhead, SaysAhead, SaysRule, Stays, rule_ahead};
-ghost use Rattle.questions.specs.steps.Waiting.{AreThere, IsThere, WaitsIn, rest_of};
+ghost use Rattle.questions.specs.steps.Ahead.{Decides, IsApartIn, SaysRule, Stays, TakesBefore};
+ghost use Rattle.questions.specs.steps.Candidates.{AreFor, AreKept};
+ghost use Rattle.questions.specs.steps.Coming.{IsSought};
+ghost use Rattle.questions.specs.steps.Taken.{IsFurther};
+ghost use Rattle.questions.specs.steps.Waiting.{AreThere, IsThere, WaitsIn, rule_ahead};
 
 use crate::boxes::area::Area;
 use crate::boxes::boxed_table::BoxedTable;
+use crate::boxes::candidates::{Candidates, may_match};
 use crate::boxes::lying::lies_in;
-use crate::boxes::meeting::meet;
+use crate::walking::engine::LIMIT;
 use crate::walking::task::{Pending, Task};
 use rules::{Boxed, Rule, Target};
 use std::alloc::AllocError;
-use table::Step;
+use table::{Step, Table};
 
 // What a rule ahead does with the packets of a box, where another one is asked for.
 pub(crate) enum Look {
@@ -29,7 +32,7 @@ pub(crate) enum Look {
     Passes,
     // It decides all of them.
     Takes,
-    // It is the one asked for, or may lead elsewhere.
+    // It may lead elsewhere.
     Stops,
 }
 
@@ -60,13 +63,6 @@ fn stays(target: Option<Target>) -> bool
     }
 }
 
-// Whether the rule with a number in the chain of a place isn't the one of a step.
-fn is_other(at: Pending, number: usize, step: Step) -> bool
-    ensures { IsTrue result → at.chain ≡ step.chain → number ≡ step.number → ⊥ }
-{
-    at.chain != step.chain || number != step.number
-}
-
 // Whether a rule matches all packets of a box, as far as its own box tells.
 fn has_all(rule: &Rule, boxed: &Boxed, area: &Area) -> bool
     requires { IsBoxOf rule.now boxed.now }
@@ -75,14 +71,11 @@ fn has_all(rule: &Rule, boxed: &Boxed, area: &Area) -> bool
     !rule.asks_both() && lies_in(area.sets(), boxed.spans())
 }
 
-// What a rule does with the packets of a box, by its target and its box.
+// What a rule does with those packets of a box that it matches, by its target and its box.
 fn done_by(rule: &Rule, boxed: &Boxed, area: &Area) -> Look
     requires { IsBoxOf rule.now boxed.now }
     ensures { SaysRule rule.now area.now result }
 {
-    if !meet(area.sets(), boxed.spans()) {
-        return Look::Passes;
-    }
     if stays(rule.target()) {
         return Look::Passes;
     }
@@ -96,21 +89,36 @@ fn done_by(rule: &Rule, boxed: &Boxed, area: &Area) -> Look
 }
 
 // What the next rule does with the packets of a box.
-fn looked_at(subject: &BoxedTable, area: &Area, at: Pending, step: Step) -> Look
+fn looked_at(subject: &BoxedTable, area: &Area, at: Pending) -> Look
     requires there { IsThere subject.now.table.table.chains at }
     requires passed { at.passed < length (chain_at subject.now.table.table at.chain).rules }
-    requires step { IsRule subject.now.table.table step }
-    ensures { SaysAhead subject.now.table.table area.now at step result }
+    ensures { SaysRule (rule_ahead subject.now.table.table at) area.now result }
 {
-    subject.table.stands();
     let count = subject.table.rule_count(at.chain);
     prove!(at.passed < count);
-    if !is_other(at, at.passed + 1, step) {
-        return Look::Stops;
+    if subject.is_apart(area, at.chain, at.passed + 1) {
+        return Look::Passes;
     }
     let boxed = subject.at(at.chain, at.passed + 1);
     let rule = subject.table.rule(at.chain, at.passed + 1);
     done_by(rule, boxed, area)
+}
+
+// The place in a chain up to which rules are looked at ahead: the chain's end, or the rule of a step where that is ahead; and so many at most.
+fn end_of(table: &Table, at: Pending, step: Step, room: usize) -> usize
+    requires there { IsThere table.now.table.chains at }
+    requires step { IsRule table.now.table step }
+    ensures within { at.passed < result → result ≤ length (chain_at table.now.table at.chain).rules }
+    ensures near { result ≤ at.passed + room }
+    ensures apart { (k : ℕ) → at.passed ≤ k → k < result → at.chain ≡ step.chain → k + 1 ≡ step.number → ⊥ }
+{
+    let count = table.rule_count(at.chain);
+    let end = if at.chain == step.chain && at.passed < step.number {
+        step.number - 1
+    } else {
+        count
+    };
+    end.min(at.passed.saturating_add(room))
 }
 
 // Whether a rule ahead takes all packets of a box, and how many rules were looked at for it.
@@ -120,23 +128,32 @@ pub(crate) struct Ahead {
     pub looks: usize,
 }
 
-// Whether a rule ahead takes all packets of a box, before any may come to the rule of a step, or leave the chain.
-fn takes_all(subject: &BoxedTable, area: &Area, at: Pending, step: Step) -> Ahead
+// Whether a rule ahead, before an end, takes all packets of a box before any may leave the chain. Only candidates are looked at.
+fn takes_all(
+    subject: &BoxedTable,
+    candidates: &Candidates,
+    area: &Area,
+    at: Pending,
+    end: usize,
+) -> Ahead
     requires there { IsThere subject.now.table.table.chains at }
-    requires step { IsRule subject.now.table.table step }
-    ensures taken { IsTrue result.is_taken → (numbers : List ℕ) → IsPoint numbers → Has area.now numbers
-        → IsTakenAhead subject.now.table.table.chains numbers (rest_of subject.now.table.table.chains at) (entry_of subject.now.table.table.chains step) }
+    requires end { at.passed < end → end ≤ length (chain_at subject.now.table.table at.chain).rules }
+    ensures taken { (start : List SpanSet) → AreFor subject.now.table.table start candidates.now → IsTrue result.is_taken
+        → TakesBefore subject.now.table.table start area.now at end }
     ensures looks { result.looks ≤ length (chain_at subject.now.table.table at.chain).rules }
 {
-    subject.table.stands();
-    let count = subject.table.rule_count(at.chain);
-    for passed in at.passed..count {
+    let flags = candidates.in_chain(at.chain);
+    let mut looks = 0;
+    for passed in at.passed..end {
+        if !may_match(flags, passed) {
+            continue;
+        }
+        looks += 1;
         let next = Pending {
             chain: at.chain,
             passed,
         };
-        let looks = passed - at.passed + 1;
-        match looked_at(subject, area, next, step) {
+        match looked_at(subject, area, next) {
             Look::Passes => {}
             Look::Takes => {
                 return Ahead {
@@ -154,16 +171,22 @@ fn takes_all(subject: &BoxedTable, area: &Area, at: Pending, step: Step) -> Ahea
     }
     Ahead {
         is_taken: false,
-        looks: count.saturating_sub(at.passed),
+        looks,
     }
 }
 
 // Whether a rule ahead takes all packets of a task, so that they come to the rule of a step only if they did before.
-pub(crate) fn ahead_of(subject: &BoxedTable, task: &Task, step: Step) -> Ahead
+pub(crate) fn ahead_of(
+    subject: &BoxedTable,
+    candidates: &Candidates,
+    task: &Task,
+    step: Step,
+) -> Ahead
     requires there { AreThere subject.now.table.table.chains task.now }
     requires step { IsRule subject.now.table.table step }
-    ensures taken { IsTrue result.is_taken → (p : PacketView) → IsAtHook p → WaitsIn subject.now.table.table p task.now
-        → Contains (walk subject.now.table.table p).trail (entry_of subject.now.table.table.chains step)
+    ensures taken { (start : List SpanSet) → AreFor subject.now.table.table start candidates.now → IsTrue result.is_taken
+        → (p : PacketView) → IsAtHook p → IsIn start p → WaitsIn subject.now.table.table p task.now
+        → IsSought subject.now.table.table (entry_of subject.now.table.table.chains step) p
         → Contains (entries_of subject.now.table.table.chains task.now.trail.items) (entry_of subject.now.table.table.chains step) }
     ensures looks { result.looks ≤ rules_in subject.now.table.table.chains }
 {
@@ -172,22 +195,30 @@ pub(crate) fn ahead_of(subject: &BoxedTable, task: &Task, step: Step) -> Ahead
             is_taken: false,
             looks: 0,
         },
-        Some(at) => takes_all(subject, &task.area, *at, step),
+        Some(at) => {
+            subject.table.stands();
+            let room = LIMIT.saturating_sub(task.trail.len());
+            let end = end_of(&subject.table, *at, step, room);
+            takes_all(subject, candidates, &task.area, *at, end)
+        }
     }
 }
 
-// The place of the next rule whose box has packets in common with a box, or behind the last rule.
-fn next_place(subject: &BoxedTable, area: &Area, at: Pending) -> usize
+// The place of the next rule whose box has packets in common with a box, or behind the last rule. Only candidates are looked at.
+fn next_place(subject: &BoxedTable, candidates: &Candidates, area: &Area, at: Pending) -> usize
     requires { IsThere subject.now.table.table.chains at }
     ensures low { at.passed ≤ result }
     ensures high { (result ≡ at.passed) ⊎ (result ≤ length (chain_at subject.now.table.table at.chain).rules) }
-    ensures none { (k : ℕ) → at.passed ≤ k → k < result → IsApart (rule_ahead subject.now.table.table (record { chain = at.chain; passed = k })) area.now }
+    ensures none { (start : List SpanSet) → AreFor subject.now.table.table start candidates.now → (k : ℕ) → at.passed ≤ k → k < result
+        → IsApartIn (rule_ahead subject.now.table.table (record { chain = at.chain; passed = k })) start area.now }
 {
-    subject.table.stands();
+    let flags = candidates.in_chain(at.chain);
     let count = subject.table.rule_count(at.chain);
     for passed in at.passed..count {
-        let boxed = subject.at(at.chain, passed + 1);
-        if meet(area.sets(), boxed.spans()) {
+        if !may_match(flags, passed) {
+            continue;
+        }
+        if !subject.is_apart(area, at.chain, passed + 1) {
             return passed;
         }
     }
@@ -198,11 +229,17 @@ fn next_place(subject: &BoxedTable, area: &Area, at: Pending) -> usize
 }
 
 // The task at the next rule that may match some of its packets.
-pub(crate) fn advanced(subject: &BoxedTable, task: Task) -> Result<Task, AllocError>
+pub(crate) fn advanced(
+    subject: &BoxedTable,
+    candidates: &mut Candidates,
+    task: Task,
+) -> Result<Task, AllocError>
     requires { AreThere subject.now.table.table.chains task }
     ensures there { IfOk result (AreThere subject.now.table.table.chains) }
-    ensures waits { IfOk result (λ next. (p : PacketView) → IsAtHook p → WaitsIn subject.now.table.table p task → WaitsIn subject.now.table.table p next) }
     ensures trail { IfOk result (λ next. next.trail ≡ task.trail) }
+    ensures kept { IfOk result (λ next. AreKept subject.now.table.table candidates.old candidates.new) }
+    ensures further { IfOk result (λ next. (start : List SpanSet) → AreFor subject.now.table.table start candidates.old
+        → IsFurther subject.now.table.table start task next) }
 {
     let Task {
         area,
@@ -213,7 +250,9 @@ pub(crate) fn advanced(subject: &BoxedTable, task: Task) -> Result<Task, AllocEr
     let Some(at) = rests.pop() else {
         return Ok(Task { area, rests, trail });
     };
-    let passed = next_place(subject, &area, at);
+    candidates.find(*trail.allocator(), subject)?;
+    let passed = next_place(subject, candidates, &area, at);
+    candidates.count(passed.saturating_sub(at.passed));
     rests.push(Pending {
         chain: at.chain,
         passed,

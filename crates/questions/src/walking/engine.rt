@@ -1,15 +1,19 @@
 //! The walk of a box through a table, step after step, until no box is left.
-ghost use Rattle.std.specs.Prelude.{◌≡◌, ◌<◌, length, IfOk, IfSome, MatchOption, OnOk};
+ghost use Rattle.std.specs.Prelude.{◌≡◌, ◌≢◌, ◌<◌, length, IfOk, IfSome, MatchOption, OnOk};
 ghost use Rattle.fields.specs.packet.Packet.{PacketView};
 ghost use Rattle.table.specs.declared.verdict.Verdict.{Verdict};
+ghost use Rattle.table.specs.declared.verdict.Verdict.TheVariants.{TooLong};
 ghost use Rattle.table.specs.steps.Kept.{hook_index};
 ghost use Rattle.table.specs.walk.Walk.{end_verdict};
 ghost use Rattle.questions.specs.Leaves.{AreLeavesOf};
+ghost use Rattle.questions.specs.steps.Candidates.{AreFor, AreKept};
 ghost use Rattle.questions.specs.steps.Taken.{IsFinished, IsFirst, IsUnfinished};
 ghost use Rattle.questions.specs.steps.Waiting.{AreThere, Begins, Moves, stage_of};
 
 use crate::boxes::area::Area;
 use crate::boxes::boxed_table::BoxedTable;
+use crate::boxes::candidates::Candidates;
+use crate::walking::ahead::advanced;
 use crate::walking::front::Front;
 use crate::walking::task::{Leaf, Pending, Task};
 use crate::walking::turn::ask;
@@ -29,6 +33,7 @@ pub(crate) fn step(
 ) -> Result<(), AllocError>
     requires there { AreThere subject.now.table.table.chains task }
     requires room { length task.trail.items < 65536 }
+    requires short { policy ≢ TooLong }
     ensures { OnOk result (Moves subject.now.table.table policy task.area (stage_of subject.now.table.table.chains task) front.old front.new) }
 {
     let Task {
@@ -62,7 +67,8 @@ pub(crate) fn hook_index(hook: Hook) -> usize
 
 // The verdict of a hook's chain at its end.
 pub(crate) fn policy_at(table: &Table, hook: Hook) -> Verdict
-    ensures { (p : PacketView) → p.hook ≡ hook → end_verdict table.now.table p ≡ result }
+    ensures ends { (p : PacketView) → p.hook ≡ hook → end_verdict table.now.table p ≡ result }
+    ensures short { result ≢ TooLong }
 {
     match table.policy(hook_index(hook)) {
         Some(Policy::Drop) => Verdict::Drop,
@@ -103,9 +109,10 @@ pub(crate) fn begin(
 /// the hook is in one of them and has the walk that it shows. There are none only where the whole budget was used up
 /// with a box left, or a trail was full, with 65,536 rules, before.
 ///
-/// A step of the budget is one rule tested on one box, or one chain at its end. It takes no memory where the rule
-/// matches none of the packets. Else it takes that of a copy of the box, of the rests that wait and of the trail for
-/// each field on which others are left out.
+/// A step of the budget is one rule tested on one box, or one chain at its end; rules that share no packet with the box are
+/// passed without a step. Those that share none with the first box are set aside after many looks, with one at each rule and a
+/// byte for it. A step takes the memory of a copy of the box, of the rests that wait and of the trail for each field on which the rule
+/// leaves numbers out.
 ///
 /// # Errors
 ///
@@ -121,6 +128,25 @@ pub fn leaves(
     ensures steps { IfOk result (λ found. MatchOption found
         (IsUnfinished subject.now.table.table hook start budget) (λ leaves. IsFinished subject.now.table.table hook start budget leaves.items)) }
 {
+    let mut candidates = Candidates::all(alloc, &start)?;
+    leaves_among(alloc, subject, &mut candidates, hook, start, budget)
+}
+
+// The same, with candidates for the box, which are found after many looks.
+pub(crate) fn leaves_among(
+    alloc: Global,
+    subject: &BoxedTable,
+    candidates: &mut Candidates,
+    hook: Hook,
+    start: Area,
+    budget: usize,
+) -> Result<Option<Vec<Leaf>>, AllocError>
+    requires { AreFor subject.now.table.table start candidates.old }
+    ensures kept { IfOk result (λ found. AreKept subject.now.table.table candidates.old candidates.new) }
+    ensures leaves { IfOk result (λ found. IfSome found (λ leaves. AreLeavesOf subject.now.table.table hook start leaves.items)) }
+    ensures steps { IfOk result (λ found. MatchOption found
+        (IsUnfinished subject.now.table.table hook start budget) (λ leaves. IsFinished subject.now.table.table hook start budget leaves.items)) }
+{
     let policy = policy_at(&subject.table, hook);
     let mut front = begin(alloc, &subject.table, hook, start)?;
     for taken in 0..budget {
@@ -130,7 +156,8 @@ pub fn leaves(
                 if task.trail.len() >= LIMIT {
                     return Ok(None);
                 }
-                step(subject, policy, &mut front, task)?;
+                let next = advanced(subject, candidates, task)?;
+                step(subject, policy, &mut front, next)?;
             }
         }
     }

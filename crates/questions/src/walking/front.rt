@@ -1,7 +1,8 @@
 //! The boxes that are left to walk, and the leaves so far.
-ghost use Rattle.std.specs.Prelude.{OnOk};
+ghost use Rattle.std.specs.Prelude.{◌≢◌, OnOk};
 ghost use Rattle.table.specs.chains.Table.{Table as Filter};
 ghost use Rattle.table.specs.declared.verdict.Verdict.{Verdict};
+ghost use Rattle.table.specs.declared.verdict.Verdict.TheVariants.{TooLong};
 ghost use Rattle.table.specs.walk.Cases.{Over};
 ghost use Rattle.questions.specs.Leaves.{entries_of};
 
@@ -36,6 +37,7 @@ impl Front {
         verdict: Verdict,
         by_policy: bool,
     ) -> Result<(), AllocError>
+        requires { verdict ≢ TooLong }
         ensures { OnOk result ((t : Filter) (policy : Verdict)
             → Moves t policy task.area (Over (record { trail = entries_of t.chains task.trail.items; verdict = verdict; by_policy = by_policy })) self.old self.new) }
     {

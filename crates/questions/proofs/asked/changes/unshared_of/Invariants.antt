@@ -1,4 +1,5 @@
-use Rattle.questions.specs.steps.Shared.{IsThis, unshared}
+use Rattle.questions.specs.asked.Changes.{IsThis}
+use Rattle.questions.specs.steps.Shared.{unshared}
 use Rattle.questions.proofs.laws.CollectLaws.{AreAll, AreBefore}
 use Rattle.questions.proofs.asked.changes.unshared_of.Given as goal
 

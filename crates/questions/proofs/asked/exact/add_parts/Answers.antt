@@ -13,7 +13,7 @@ use Rattle.questions.proofs.asked.exact.add_parts.Goals as goal
 use Rattle.questions.proofs.asked.exact.add_parts.Goals.{in-Nobody, in-One+in_ok-push-in-One}
 
 pub loop-transport-init : goal.loop-transport-init
-loop-transport-init c = record { each = λ h. h; kept = λ numbers h. h; shared = shared_begins c.args.subject.now.table.table c.args.given.now c.args.leaf.now c.args.exact.now.items }
+loop-transport-init c = record { fit = λ box are. are; each = λ h. h; kept = λ numbers h. h; shared = shared_begins c.args.subject.now.table.table c.args.given.now c.args.leaf.now c.args.exact.now.items }
 
 pub loop-transport-preserved : goal.loop-transport-preserved
 loop-transport-preserved c =
@@ -26,13 +26,15 @@ loop-transport-preserved c =
     let exact = c.loop-transport.exact.items in
     elim c.match-branch-2.branch [
       | in-Nobody w ↦ rw w.exact-is (record {
+        fit = λ box are. c.in_ok-part_of.ensures.kept box (c.loop-transport.invariant.fit box are);
         each = c.loop-transport.invariant.each;
         kept = c.loop-transport.invariant.kept;
-        shared = shared_nobody t given leaf i transport at exact c.loop-transport.invariant.shared (rw w.in-Nobody.is at c.in_ok-part_of.ensures);
+        shared = shared_nobody t given leaf i transport at exact c.loop-transport.invariant.shared (rw w.in-Nobody.is at c.in_ok-part_of.ensures.shared);
       })
       | in-One+in_ok-push-in-One w ↦ (
-          let own = rw w.in-One.is at c.in_ok-part_of.ensures in
+          let own = rw w.in-One.is at c.in_ok-part_of.ensures.shared in
           rw (w.exact-is, w.in_ok-push-in-One.ensures.items) (record {
+            fit = λ box are. c.in_ok-part_of.ensures.kept box (c.loop-transport.invariant.fit box are);
             each = λ h. All-push (IsExact t given) exact w.in-One.part (c.loop-transport.invariant.each h) own.0;
             kept = λ numbers h. any_left (λ (l : Leaf). Has l.area numbers) exact (w.in-One.part ∷ []) (c.loop-transport.invariant.kept numbers h);
             shared = shared_one t given leaf i transport at exact w.in-One.part c.loop-transport.invariant.shared own.1;
@@ -47,4 +49,10 @@ returns-clause-adds c = λ could. record {
 }
 
 pub returns-in-Several-clause-split : goal.returns-in-Several-clause-split
-returns-in-Several-clause-split c = λ _. (get_or all_transports c.loop-transport.transport-index Tcp, rw c.in-Several.is at c.in_ok-part_of.ensures)
+returns-in-Several-clause-split c = λ _. (get_or all_transports c.loop-transport.transport-index Tcp, rw c.in-Several.is at c.in_ok-part_of.ensures.shared)
+
+pub part_of-requires : goal.part_of-requires
+part_of-requires c = c.loop-transport.invariant.fit c.args.given.now.area c.requires
+
+pub returns-in-Several-clause-kept : goal.returns-in-Several-clause-kept
+returns-in-Several-clause-kept c = λ box are. c.in_ok-part_of.ensures.kept box (c.loop-transport.invariant.fit box are)

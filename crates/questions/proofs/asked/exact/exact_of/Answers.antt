@@ -11,7 +11,7 @@ loop-leaf-preserved c =
     let new = c.add_parts.new.exact.items in
     let adds : AddsExact t given c.leaf-item.result old new = c.in_ok-add_parts.ensures.adds c.if-not-branch.false in
     let lt : c.loop-leaf.leaf-index < length c.args.found.now = omega arith in
-    record { each = adds.each c.loop-leaf.invariant.each; all = covered_next t given c.args.found.now c.loop-leaf.leaf-index c.leaf-item.result lt c.leaf-item.is old new adds c.loop-leaf.invariant.all }
+    record { fit = c.in_ok-add_parts.ensures.kept given.area c.loop-leaf.invariant.fit; each = adds.each c.loop-leaf.invariant.each; all = covered_next t given c.args.found.now c.loop-leaf.leaf-index c.leaf-item.result lt c.leaf-item.is old new adds c.loop-leaf.invariant.all }
 
 pub returns : goal.returns
 returns c = record { each = c.loop-leaf.invariant.each; all = λ k d lt. c.loop-leaf.invariant.all k d (omega (arith, lt)) }

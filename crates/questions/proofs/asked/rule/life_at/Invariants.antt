@@ -1,7 +1,7 @@
-use Rattle.std.proofs.Common.{◌≡◌, ◌*◌, ◌≤◌, true}
-use Rattle.questions.specs.Leaves.{entry_of}
+use Rattle.std.proofs.Common.{◌*◌, ◌≤◌}
 use Rattle.questions.specs.boxes.Boxes.{rules_in}
-use Rattle.questions.specs.steps.Coming.{Awaits}
+use Rattle.questions.specs.declared.asked.reach.Given.{Given}
+use Rattle.questions.specs.steps.Candidates.{AreFor}
 use Rattle.questions.specs.steps.Waiting.{AllThere}
 use Rattle.questions.proofs.laws.ComeLaws.{HasSearched}
 use Rattle.questions.proofs.asked.rule.life_at.Given as goal
@@ -11,7 +11,6 @@ invariant-loop-taken l =
     let t = l.subject.table.table in
     record {
       there : AllThere t.chains l.front;
-      clear : l.clear ≡ true → Awaits t l.fn.hook (entry_of t.chains l.fn.step) l.front;
       looks : l.looks ≤ l.taken * rules_in t.chains;
-      searched : HasSearched t l.fn.step l.fn.hook l.taken l.clear l.front;
+      searched : (given : Given) × AreFor t given.area l.candidates × HasSearched t l.fn.step l.fn.hook given l.taken l.clear l.front;
     }

@@ -15,7 +15,7 @@ returns-in-Same-3-clause-says c =
     let policies : c.policy_at.result ≡ c.policy_at-2.result = search rules in
     elim c.match-branch-5.branch [
       | in-Same-2 w ↦
-          same_at c.args.old.now.table.table c.args.new.now.table.table c.args.course.hook c.args.changes.now c.requires (λ p there. c.policy_at.ensures p there ∙ policies ∙ sym (c.policy_at-2.ensures p there))
+          same_at c.args.old.now.table.table c.args.new.now.table.table c.args.course.hook c.args.changes.now c.requires (λ p there. c.policy_at.ensures.ends p there ∙ policies ∙ sym (c.policy_at-2.ensures.ends p there))
           (rw (w.in-Same-2.is, c.as_slice.ensures.value) at c.in_ok-words.ensures.says) (rw (c.in-Same-3.is, c.as_slice-2.ensures.value) at c.in_ok-words-2.ensures.says)
       | in-Unclear-2 w ↦ absurd (true≢false (sym c.if-clear.true ∙ w.clear-is))
     ]

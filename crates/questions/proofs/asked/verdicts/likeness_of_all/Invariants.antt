@@ -1,11 +1,11 @@
 use Rattle.std.proofs.Common.{◌≡◌, ℕ, ◌<◌, true, false, get_or}
 use Rattle.std.specs.Prelude.{Any}
 use Rattle.table.specs.declared.walk.trail.Step.{Step}
-use Rattle.questions.specs.steps.Compared.{IsSameOf, MayDifferOf}
+use Rattle.questions.specs.steps.Compared.{IsSettled, MayDifferOf}
 use Rattle.questions.proofs.asked.verdicts.likeness_of_all.Given as goal
 
 abbrev pub invariant-loop-step : goal.invariant-loop-step
 invariant-loop-step l = record {
-  same : l.clear ≡ true → (k : ℕ) (d : Step) → k < l.step-index → IsSameOf l.owner.table.table l.old.table.table l.new.table.table l.fn.course.hook (get_or l.steps k d);
+  same : l.clear ≡ true → (k : ℕ) (d : Step) → k < l.step-index → IsSettled l.owner.table.table l.old.table.table l.new.table.table l.fn.course.hook (get_or l.steps k d);
   some : l.clear ≡ false → Any (MayDifferOf l.owner.table.table l.old.table.table l.new.table.table l.fn.course.hook l.fn.course.budget) l.steps;
 }

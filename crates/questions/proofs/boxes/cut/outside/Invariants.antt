@@ -1,9 +1,10 @@
-use Rattle.std.proofs.Common.{ℕ, ◌<◌, List}
+use Rattle.std.proofs.Common.{ℕ, ◌+◌, ◌<◌, ◌≤◌, List}
+use Rattle.fields.specs.declared.numbers.field.TheConstants.{FIELDS}
 use Rattle.classify.specs.classifier.Classifier.{IsPoint}
 use Rattle.questions.specs.boxes.Area.{Has}
 use Rattle.questions.specs.boxes.Cut.{IsInSome}
 use Rattle.questions.specs.steps.Sides.{LeavesAt}
 use Rattle.questions.proofs.boxes.cut.outside.Given as goal
 
-abbrev pub invariant-loop-at : goal.invariant-loop-at
-invariant-loop-at l = (numbers : List ℕ) (k : ℕ) → k < l.at → IsPoint numbers → Has l.own numbers → LeavesAt k l.other numbers → IsInSome l.parts.items numbers
+abbrev pub invariant-loop-done : goal.invariant-loop-done
+invariant-loop-done l = (numbers : List ℕ) (k : ℕ) → k < FIELDS → FIELDS ≤ k + l.done → IsPoint numbers → Has l.own numbers → LeavesAt k l.other numbers → IsInSome l.parts.items numbers

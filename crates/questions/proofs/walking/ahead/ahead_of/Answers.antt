@@ -1,12 +1,19 @@
 use Rattle.std.proofs.Common.{sym, arith}
 use Rattle.questions.specs.Leaves.{entry_of}
-use Rattle.questions.proofs.laws.ComeLaws.{rules_within, taken_in}
+use Rattle.questions.proofs.laws.ComeLaws.{last_there, rules_within, taken_in}
+use Rattle.questions.proofs.laws.LookLaws.{takes_ahead}
 use Rattle.questions.proofs.walking.ahead.ahead_of.Goals as goal
 
 pub returns-in-Some-clause-taken : goal.returns-in-Some-clause-taken
-returns-in-Some-clause-taken c = λ is p can waits on.
+returns-in-Some-clause-taken c = λ start are is p can inside waits sought.
     let t = c.args.subject.now.table.table in
-    taken_in t p c.args.task.now c.in-Some.at.now (entry_of t.chains c.args.step) (sym (rw (c.in-Some.is, c.deref.ensures.value) at c.last.ensures.value)) waits (c.takes_all.ensures.taken is p.values can.packet.within waits.inside) on
+    let at = c.in-Some.at.now in
+    let room = c.saturating_sub-room.result in
+    let takes = c.takes_all.ensures.taken start are is in
+    let last = sym (rw (c.in-Some.is, c.deref.ensures.value) at c.last.ensures.value) in
+    taken_in t p c.args.task.now at room (entry_of t.chains c.args.step) last (omega (arith, takes.near, takes.ahead, c.end_of-end.ensures.near)) waits
+    (takes_ahead t at c.args.step start c.args.task.now.area c.end_of-end.result room p.values c.stands.ensures.sound (last_there t.chains c.args.task.now.rests.items at last c.requires.there) c.requires.step c.end_of-end.ensures.near c.end_of-end.ensures.apart
+    takes can.packet.within inside waits.inside) sought
 
 pub returns-in-Some-clause-looks : goal.returns-in-Some-clause-looks
 returns-in-Some-clause-looks c =

@@ -1,9 +1,21 @@
-use Rattle.questions.proofs.laws.LookLaws.{other_rule, rule_here, says_next}
+use Rattle.std.proofs.Common.{ℕ, List, get_or, subst, arith}
+use Rattle.rules.specs.rule.Rules.{Rule, empty_rule}
+use Rattle.table.specs.chains.Table.{chain_at}
+use Rattle.questions.specs.boxes.Cut.{IsApart}
+use Rattle.questions.specs.steps.Ahead.{SaysRule}
+use Rattle.questions.specs.steps.Waiting.{rule_ahead}
+use Rattle.questions.proofs.laws.LookLaws.{passes_apart, rule_here}
 use Rattle.questions.proofs.walking.ahead.looked_at.Goals as goal
+
+pub returns-then-is_apart : goal.returns-then-is_apart
+returns-then-is_apart c =
+    let t = c.args.subject.now.table.table in
+    let own : List Rule = (chain_at t c.args.at.chain).rules in
+    let P : ℕ → Type 0 = λ j. IsApart (get_or own j empty_rule) c.args.area.now in
+    passes_apart (rule_ahead t c.args.at) c.args.area.now (subst P (omega arith) (c.is_apart.ensures c.if-is_apart.true))
 
 pub returns : goal.returns
 returns c =
     let t = c.args.subject.now.table.table in
-    says_next t c.args.at c.args.step c.rule-rule.result.now c.args.area.now c.done_by.result
-    (other_rule t c.args.at c.args.step c.stands.ensures.sound c.requires.there (c.is_other.ensures c.if-not-is_other.false))
-    (rule_here t c.args.at c.rule-rule.result.now c.requires.passed c.rule-rule.ensures) c.done_by.ensures
+    let P : Rule → Type 0 = λ r. SaysRule r c.args.area.now c.done_by.result in
+    subst P (rule_here t c.args.at c.rule-rule.result.now c.requires.passed c.rule-rule.ensures) c.done_by.ensures

@@ -1,7 +1,11 @@
-use Rattle.std.proofs.Common.{ℕ, ◌<◌, ◌≤◌}
-use Rattle.questions.specs.boxes.Cut.{IsApart}
-use Rattle.questions.specs.steps.Ahead.{rule_ahead}
+use Rattle.std.proofs.Common.{ℕ, List, ◌<◌, ◌≤◌}
+use Rattle.fields.specs.numbers.Spans.{SpanSet}
+use Rattle.questions.specs.steps.Ahead.{IsApartIn}
+use Rattle.questions.specs.steps.Candidates.{AreFor}
+use Rattle.questions.specs.steps.Waiting.{rule_ahead}
 use Rattle.questions.proofs.walking.ahead.next_place.Given as goal
 
 abbrev pub invariant-loop-passed : goal.invariant-loop-passed
-invariant-loop-passed l = (k : ℕ) → l.at.passed ≤ k → k < l.passed → IsApart (rule_ahead l.subject.table.table (record { chain = l.at.chain; passed = k })) l.area
+invariant-loop-passed l =
+    (start : List SpanSet) → AreFor l.subject.table.table start l.candidates → (k : ℕ) → l.at.passed ≤ k → k < l.passed
+    → IsApartIn (rule_ahead l.subject.table.table (record { chain = l.at.chain; passed = k })) start l.area

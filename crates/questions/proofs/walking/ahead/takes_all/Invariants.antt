@@ -1,8 +1,14 @@
-use Rattle.std.proofs.Common.{ℕ, ◌<◌, ◌≤◌}
-use Rattle.questions.specs.steps.Ahead.{IsOther, LetsPass, rule_ahead}
+use Rattle.std.proofs.Common.{◌≡◌, ◌⊎◌, ℕ, List, ◌-◌, ◌<◌, ◌≤◌}
+use Rattle.fields.specs.numbers.Spans.{SpanSet}
+use Rattle.questions.specs.steps.Ahead.{LetsPassIn}
+use Rattle.questions.specs.steps.Candidates.{AreFor}
+use Rattle.questions.specs.steps.Waiting.{rule_ahead}
 use Rattle.questions.proofs.walking.ahead.takes_all.Given as goal
 
 abbrev pub invariant-loop-passed : goal.invariant-loop-passed
-invariant-loop-passed l =
-    (k : ℕ) → l.at.passed ≤ k → k < l.passed
-    → IsOther l.subject.table.table (record { chain = l.at.chain; passed = k }) l.step × LetsPass (rule_ahead l.subject.table.table (record { chain = l.at.chain; passed = k })) l.area
+invariant-loop-passed l = record {
+  passes : (start : List SpanSet) → AreFor l.subject.table.table start l.candidates → (k : ℕ) → l.at.passed ≤ k → k < l.passed
+      → LetsPassIn (rule_ahead l.subject.table.table (record { chain = l.at.chain; passed = k })) start l.area;
+  top : (l.passed ≡ l.at.passed) ⊎ (l.passed ≤ l.end);
+  looks : l.looks ≤ l.passed - l.at.passed;
+}

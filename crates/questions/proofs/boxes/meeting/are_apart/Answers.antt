@@ -1,0 +1,13 @@
+use Rattle.std.proofs.Common.{sym, ap, ◌∙◌, arith}
+use Rattle.fields.specs.numbers.Spans.{SpanSet}
+use Rattle.questions.proofs.laws.AreaLaws.{nothing_shared, same_tops}
+use Rattle.questions.proofs.boxes.meeting.are_apart.Goals as goal
+
+pub share-requires : goal.share-requires
+share-requires c =
+    ap (λ (s : SpanSet). s.top) c.index-own-place.is ∙ same_tops c.args.own.now c.args.other.now c.loop-place.place c.index-own-place.result c.index-other-place.result c.requires.own c.requires.other (omega arith)
+    ∙ sym (ap (λ (s : SpanSet). s.top) c.index-other-place.is)
+
+pub returns-then-not-share : goal.returns-then-not-share
+returns-then-not-share c =
+    λ _ numbers. nothing_shared c.args.own.now c.args.other.now numbers c.loop-place.place c.index-own-place.result c.index-other-place.result c.requires.own c.requires.other (omega arith) c.index-own-place.is c.index-other-place.is (c.share.ensures.none c.if-not-share.true)
