@@ -9,7 +9,8 @@ LINE = b"# iptsim-fit: for trials; assumed limit=true \xff\n"
 OTHER_LINE = b"# iptsim-fit: for trials; assumed recent=false\n"
 SAME = b"INPUT same\nFORWARD same\nOUTPUT same\n"
 COUNTS = b"2 rules, 0 dead, 0 unclear\n"
-UNCLEAR = SAME.replace(b"same", b"unclear")
+CHANGED = b"%d changed rules, %d dead, %d unclear\n"
+UNCLEAR = SAME.replace(b"same", b"unclear") + CHANGED % (1, 0, 1)
 
 # What a file has, and which lines of it are repeated: those that begin so, wherever they stand, and a last one without its newline.
 FILES = [
@@ -55,8 +56,8 @@ def assumption_rows(rows, program):
     cut_rows(rows)
     pipe_rows(rows)
     files = {"O": LINE + GATEWAY, "N": OTHER_LINE + WITHOUT, "B": LINE + ruleset(b"INPUT -j nowhere"), "M": OTHER}
-    rows.row("assumed of both files", ["compare", "O", "N"], files, SAME, 0, LINE + OTHER_LINE)
-    rows.row("assumed of one file twice", ["compare", "N", "N"], files, SAME, 0, OTHER_LINE * 2)
+    rows.row("assumed of both files", ["compare", "O", "N"], files, SAME + CHANGED % (1, 1, 0), 0, LINE + OTHER_LINE)
+    rows.row("assumed of one file twice", ["compare", "N", "N"], files, SAME + CHANGED % (0, 0, 0), 0, OTHER_LINE * 2)
     rows.row("assumed of the old file", ["compare", "--steps", "0", "O", "M"], files, UNCLEAR, 3, LINE)
     rows.row("assumed, tests", ["tests", "--steps", "0", "--json", "N"], {"N": OTHER_LINE}, b'{"question":"tests","rules":[]}\n', 0, OTHER_LINE)
     rows.row("assumed, cover", ["cover", "N"], {"N": OTHER_LINE}, b"0 rules, 0 covered, 0 missed, 0 dead, 0 unclear\n", 0, OTHER_LINE, input=b"")

@@ -23,6 +23,10 @@ def counts(rules, dead, unclear, redundant, shadowed):
     return {"rules": rules, "dead": dead, "unclear": unclear, "redundant": redundant, "shadowed": shadowed}
 
 
+def changes(changed, dead, unclear):
+    return {"changed": changed, "dead": dead, "unclear": unclear}
+
+
 def coverage(rules, covered, missed, dead, unclear):
     return {"rules": rules, "covered": covered, "missed": missed, "dead": dead, "unclear": unclear}
 
@@ -37,9 +41,11 @@ NAMES = "-p udp -m udp --dport 53 -j ACCEPT"
 GATEWAY = ruleset(*(b"INPUT " + text.encode() for text in (WEB, MAIL, NAMES)))
 WITHOUT = ruleset(*(b"INPUT " + text.encode() for text in (WEB, NAMES)))
 OTHER = ruleset(*(b"INPUT " + text.encode() for text in (MAIL, NAMES)))
+REFUSING = GATEWAY.replace(b"--dport 53 -j ACCEPT", b"--dport 53 -j DROP")
 MAIL_PACKET = "packet INPUT src=192.0.2.1 dst=198.51.100.1 in=eth0 proto=6 sport=40000 dport=25 flags=SYN ct=NEW ttl=64"
 WEB_PACKET = MAIL_PACKET.replace("dport=25", "dport=22")
 NAME_PACKET = "packet INPUT src=192.0.2.1 dst=198.51.100.1 in=eth0 proto=17 sport=40000 dport=53 ct=NEW ttl=64"
+OUT_PACKET = "packet OUTPUT src=192.0.2.1 dst=198.51.100.1 out=eth0 proto=6 sport=40000 dport=80 flags=SYN ct=NEW ttl=64"
 LOGIN = b"packet INPUT src=192.0.2.1 dst=192.0.2.2 proto=tcp sport=40000 dport=22\n"
 
 # Why rules are dead, each way; of rules that ask both ports it isn't told. Takers stand whole, also where there are more than five, those of the
@@ -95,13 +101,30 @@ DOCUMENTS = {
     ],
     "compare": [
         (["O", "N"], {"O": GATEWAY, "N": WITHOUT}, b"", 0, {
-            "hooks": [{"hook": hook, "answer": "same"} for hook in ("INPUT", "FORWARD", "OUTPUT")]}),
+            "hooks": [{"hook": hook, "answer": "same"} for hook in ("INPUT", "FORWARD", "OUTPUT")], "counts": changes(1, 1, 0)}),
+        (["O", "O"], {"O": GATEWAY}, b"", 0, {
+            "hooks": [{"hook": hook, "answer": "same"} for hook in ("INPUT", "FORWARD", "OUTPUT")], "counts": changes(0, 0, 0)}),
         (["O", "N"], {"O": GATEWAY, "N": OTHER}, b"", 1, {
             "hooks": [
                 {"hook": "INPUT", "answer": "differs", "packet": MAIL_PACKET,
                  "old": {"trail": [step("INPUT", 1)], "verdict": "ACCEPT", "by": step("INPUT", 1)},
                  "new": {"trail": [step("INPUT", 1)], "verdict": "DROP", "by": step("INPUT", 1)}},
-                {"hook": "FORWARD", "answer": "same"}, {"hook": "OUTPUT", "answer": "same"}]}),
+                {"hook": "FORWARD", "answer": "same"}, {"hook": "OUTPUT", "answer": "same"}],
+            "counts": changes(1, 0, 0)}),
+        (["O", "N"], {"O": GATEWAY, "N": REFUSING}, b"", 1, {
+            "hooks": [
+                {"hook": "INPUT", "answer": "differs", "packet": NAME_PACKET,
+                 "old": {"trail": [step("INPUT", 3)], "verdict": "ACCEPT", "by": step("INPUT", 3)},
+                 "new": {"trail": [step("INPUT", 3)], "verdict": "DROP", "by": step("INPUT", 3)}},
+                {"hook": "FORWARD", "answer": "same"}, {"hook": "OUTPUT", "answer": "same"}],
+            "counts": changes(2, 0, 0)}),
+        (["O", "N"], {"O": GATEWAY, "N": GATEWAY.replace(b":OUTPUT ACCEPT", b":OUTPUT DROP")}, b"", 1, {
+            "hooks": [
+                {"hook": "INPUT", "answer": "same"}, {"hook": "FORWARD", "answer": "same"},
+                {"hook": "OUTPUT", "answer": "differs", "packet": OUT_PACKET,
+                 "old": {"trail": [], "verdict": "ACCEPT", "by": {"policy": "OUTPUT"}},
+                 "new": {"trail": [], "verdict": "DROP", "by": {"policy": "OUTPUT"}}}],
+            "counts": changes(0, 0, 0)}),
         (["O", "N"], {"O": ruleset(b"FORWARD -p icmp -j a", b"a -p icmp -j REJECT"), "N": ruleset(b"FORWARD -p icmp", b"FORWARD -p icmp -j RETURN")},
          b"", 1, {
             "hooks": [
@@ -110,9 +133,10 @@ DOCUMENTS = {
                  "packet": "packet FORWARD src=192.0.2.1 dst=198.51.100.1 in=eth0 out=eth0 proto=1 icmp=8/0 ct=NEW ttl=64",
                  "old": {"trail": [step("FORWARD", 1), step("a", 1)], "verdict": "REJECT icmp-port-unreachable", "by": step("a", 1)},
                  "new": {"trail": [step("FORWARD", 1), step("FORWARD", 2)], "verdict": "ACCEPT", "by": {"policy": "FORWARD"}}},
-                {"hook": "OUTPUT", "answer": "same"}]}),
+                {"hook": "OUTPUT", "answer": "same"}],
+            "counts": changes(4, 0, 0)}),
         (["--steps", "0", "O", "N"], {"O": GATEWAY, "N": OTHER}, b"", 3, {
-            "hooks": [{"hook": hook, "answer": "unclear"} for hook in ("INPUT", "FORWARD", "OUTPUT")]}),
+            "hooks": [{"hook": hook, "answer": "unclear"} for hook in ("INPUT", "FORWARD", "OUTPUT")], "counts": changes(1, 0, 1)}),
     ],
     "tests": [
         (["R"], {"R": GATEWAY}, b"", 1, {

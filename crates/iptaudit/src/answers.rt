@@ -3,7 +3,7 @@
 use crate::asked_packets::Asked;
 use crate::asking::Asking;
 use crate::assumptions::Repeating;
-use crate::difference::{ask_hooks, likeness_status, put_likenesses};
+use crate::difference::{ask_difference, difference_status, put_differences};
 use crate::difference_entry::differences_answer;
 use crate::document::write_answer;
 use crate::each_rule::{Form, ask_rules};
@@ -98,7 +98,8 @@ where
     }
 }
 
-// Asks whether two tables give each packet the same verdict, and answers the status.
+// Asks whether two tables give each packet the same verdict, and which of the rules by which they differ are dead, and answers the
+// status.
 fn write_differences<'a, R: Clock, E: Print + IsTerminal, W: Write>(
     asking: &mut Asking<'_, R, E>,
     old: &BoxedTable,
@@ -106,15 +107,15 @@ fn write_differences<'a, R: Clock, E: Print + IsTerminal, W: Write>(
     json: bool,
     output: &mut Tap<W>,
 ) -> Result<u8, Fault<'a>> {
-    let found = ask_hooks(asking, old, new)?;
+    let found = ask_difference(asking, old, new)?;
     let (old, new) = (&old.table, &new.table);
     if json {
-        let answer = differences_answer(asking.alloc(), old, new, found.as_slice())?;
+        let answer = differences_answer(asking.alloc(), old, new, &found)?;
         write_answer(asking.alloc(), &answer, output)?;
     } else {
-        put_likenesses(old, new, found.as_slice(), output)?;
+        put_differences(old, new, &found, output)?;
     }
-    Ok(likeness_status(found.as_slice()))
+    Ok(difference_status(&found))
 }
 
 // Asks for the verdicts of a set of packets, and answers the status: 3 where they aren't known, else 0.

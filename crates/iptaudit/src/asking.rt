@@ -6,7 +6,8 @@ ghost use Rattle.table.specs.chains.Table.{chain_at};
 use crate::progress::Progress;
 use fields::{Field, Hook};
 use questions::{
-    BoxedTable, Given, Life, Likeness, Reached, Reason, compare_at, dead, reach, why_dead,
+    BoxedTable, Changes, Given, Life, Likeness, Reached, Reason, changes_of, compare_at, dead,
+    reach, why_dead,
 };
 use std::alloc::{AllocError, Global};
 use std::io::IsTerminal;
@@ -97,6 +98,19 @@ impl<'a, R: Clock, E: Print + IsTerminal> Asking<'a, R, E> {
         hook: Hook,
     ) -> Result<Likeness, AllocError> {
         compare_at(self.alloc, old, new, hook, self.steps)
+    }
+
+    /// The rules by which two tables differ (`changes_of`).
+    ///
+    /// # Errors
+    ///
+    /// `AllocError` where memory was refused.
+    pub(crate) fn changes(
+        &self,
+        old: &BoxedTable,
+        new: &BoxedTable,
+    ) -> Result<Changes, AllocError> {
+        changes_of(self.alloc, &old.table, &new.table)
     }
 
     /// The verdicts of a set of packets, grouped by a field (`reach`).

@@ -1,8 +1,9 @@
-//! Whether two rulesets give each packet the same verdict.
+//! Whether two rulesets give each packet the same verdict, and how many rules only one of them has.
 use crate::asking::Asking;
+use crate::each_rule::count_rules;
 use crate::fault::Fault;
 use crate::packet_line::put_packet;
-use crate::tally::status;
+use crate::tally::{Tally, status};
 use fields::{Hook, Packet, Tap, Words};
 use questions::{BoxedTable, Likeness};
 use sessions::write_walk;
@@ -18,17 +19,19 @@ pub(crate) struct HookLikeness {
     pub(crate) likeness: Likeness,
 }
 
-/// Asks of each hook whether two tables give each packet there the same verdict.
-///
-/// # Errors
-///
-/// `AllocError` where memory was refused.
-pub(crate) fn ask_hooks<R: Clock, E: Print + IsTerminal>(
+/// What is known of the packets at each hook, and how many changed rules there are of each kind.
+#[derive(Drop)]
+pub(crate) struct Difference {
+    pub(crate) hooks: Vec<HookLikeness>,
+    pub(crate) tally: Tally,
+}
+
+// Asks of each hook whether two tables give each packet there the same verdict.
+fn ask_hooks<R: Clock, E: Print + IsTerminal>(
     asking: &mut Asking<'_, R, E>,
     old: &BoxedTable,
     new: &BoxedTable,
 ) -> Result<Vec<HookLikeness>, AllocError> {
-    asking.begin(Hook::ALL.len());
     let mut found = Vec::new(asking.alloc());
     for hook in Hook::ALL {
         asking.next();
@@ -38,10 +41,32 @@ pub(crate) fn ask_hooks<R: Clock, E: Print + IsTerminal>(
     Ok(found)
 }
 
+/// Asks of each hook whether two tables give each packet there the same verdict, and then of each rule that only one of them has
+/// whether it can match in this one.
+///
+/// # Errors
+///
+/// `AllocError` where memory was refused.
+pub(crate) fn ask_difference<R: Clock, E: Print + IsTerminal>(
+    asking: &mut Asking<'_, R, E>,
+    old: &BoxedTable,
+    new: &BoxedTable,
+) -> Result<Difference, AllocError> {
+    let changes = asking.changes(old, new)?;
+    let (went, came) = (changes.went.as_slice(), changes.came.as_slice());
+    let rules = went.len().saturating_add(came.len());
+    asking.begin(rules.saturating_add(Hook::ALL.len()));
+    let hooks = ask_hooks(asking, old, new)?;
+    let mut tally = Tally::new();
+    count_rules(asking, old, went, &mut tally)?;
+    count_rules(asking, new, came, &mut tally)?;
+    Ok(Difference { hooks, tally })
+}
+
 /// The status: 1 where some packet gets two verdicts, else 3 where it isn't known at some hook, else 0.
-pub(crate) fn likeness_status(found: &[HookLikeness]) -> u8 {
+pub(crate) fn difference_status(found: &Difference) -> u8 {
     let (mut differ, mut unclear) = (false, false);
-    for entry in found {
+    for entry in found.hooks.as_slice() {
         match entry.likeness {
             Likeness::Same => {}
             Likeness::Differ(_) => differ = true,
@@ -79,18 +104,19 @@ fn put_difference<'a, W: Write>(
     Ok(())
 }
 
-/// Writes what is known of the packets at each hook, as lines: `INPUT same`, `INPUT unclear`, or `INPUT differs` and a packet.
+/// Writes what is known of the packets at each hook, as lines: `INPUT same`, `INPUT unclear`, or `INPUT differs` and a packet; and
+/// then the counts of changed rules.
 ///
 /// # Errors
 ///
 /// Where memory was refused, or a write failed.
-pub(crate) fn put_likenesses<'a, W: Write>(
+pub(crate) fn put_differences<'a, W: Write>(
     old: &Table,
     new: &Table,
-    found: &[HookLikeness],
+    found: &Difference,
     output: &mut Tap<W>,
 ) -> Result<(), Fault<'a>> {
-    for entry in found {
+    for entry in found.hooks.as_slice() {
         output.put(entry.hook.name())?;
         match &entry.likeness {
             Likeness::Same => output.put(b" same\n")?,
@@ -101,5 +127,5 @@ pub(crate) fn put_likenesses<'a, W: Write>(
             Likeness::Unclear => output.put(b" unclear\n")?,
         }
     }
-    Ok(())
+    Ok(found.tally.put_changes(output)?)
 }

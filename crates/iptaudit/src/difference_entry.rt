@@ -1,5 +1,5 @@
-//! Whether two rulesets give each packet the same verdict, in a document.
-use crate::difference::HookLikeness;
+//! Whether two rulesets give each packet the same verdict, and how many rules only one of them has, in a document.
+use crate::difference::Difference;
 use crate::document::{Answer, DeciderEntry, HookEntry, LikenessWord, WalkEntry};
 use crate::memory_text::{name_text, packet_text, verdict_text};
 use crate::names::{decider_entry, rule_names};
@@ -69,7 +69,7 @@ fn difference_entry(
     Ok(entry)
 }
 
-/// What is known of the packets at each hook, as a document.
+/// What is known of the packets at each hook, and the counts of changed rules, as a document.
 ///
 /// # Errors
 ///
@@ -78,15 +78,18 @@ pub(crate) fn differences_answer(
     alloc: Global,
     old: &Table,
     new: &Table,
-    found: &[HookLikeness],
+    found: &Difference,
 ) -> Result<Answer, AllocError> {
     let mut hooks = Vec::new(alloc);
-    for entry in found {
+    for entry in found.hooks.as_slice() {
         hooks.push(match &entry.likeness {
             Likeness::Same => bare_entry(alloc, entry.hook, LikenessWord::Same)?,
             Likeness::Differ(words) => difference_entry(alloc, old, new, entry.hook, words)?,
             Likeness::Unclear => bare_entry(alloc, entry.hook, LikenessWord::Unclear)?,
         })?;
     }
-    Ok(Answer::Compare { hooks })
+    Ok(Answer::Compare {
+        hooks,
+        counts: found.tally.change_counts(),
+    })
 }

@@ -18,6 +18,7 @@ pub(crate) enum Answer {
     },
     Compare {
         hooks: Vec<HookEntry>,
+        counts: ChangeCounts,
     },
     Tests {
         rules: Vec<RuleEntry>,
@@ -127,6 +128,14 @@ pub(crate) struct HookEntry {
     pub(crate) old: Option<WalkEntry>,
     #[serde(skip_serializing_if = "Option::is_none")]
     pub(crate) new: Option<WalkEntry>,
+}
+
+/// How many rules only one of two rulesets has, and how many of these are dead and unclear.
+#[derive(Drop, Serialize)]
+pub(crate) struct ChangeCounts {
+    pub(crate) changed: usize,
+    pub(crate) dead: usize,
+    pub(crate) unclear: usize,
 }
 
 /// What is known of two rulesets at a hook, in one word.

@@ -147,6 +147,39 @@ fn ask_rule<R: Clock, E: Print + IsTerminal>(
     }
 }
 
+// Asks of a rule, where one stands there, whether a packet can match it, and counts it.
+fn count_rule<R: Clock, E: Print + IsTerminal>(
+    asking: &mut Asking<'_, R, E>,
+    subject: &BoxedTable,
+    at: Step,
+    tally: &mut Tally,
+) -> Result<(), AllocError> {
+    let table = &subject.table;
+    if at.chain >= table.chain_count() || at.number == 0 || at.number > table.rule_count(at.chain) {
+        return Ok(());
+    }
+    let known = ask_rule(asking, subject, Form::Tests, at)?;
+    tally.note(&known, None);
+    Ok(())
+}
+
+/// Asks of each of some rules of a table whether a packet can match it, and counts it.
+///
+/// # Errors
+///
+/// `AllocError` where memory was refused.
+pub(crate) fn count_rules<R: Clock, E: Print + IsTerminal>(
+    asking: &mut Asking<'_, R, E>,
+    subject: &BoxedTable,
+    rules: &[Step],
+    tally: &mut Tally,
+) -> Result<(), AllocError> {
+    for at in rules {
+        count_rule(asking, subject, *at, tally)?;
+    }
+    Ok(())
+}
+
 // Asks of each rule of the chain at a place.
 fn ask_chain<R: Clock, E: Print + IsTerminal>(
     asking: &mut Asking<'_, R, E>,

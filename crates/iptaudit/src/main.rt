@@ -34,16 +34,16 @@ use std::process::ExitCode;
 ///
 /// `dead` prints a line for each rule that no packet can match, in the order of a listing, with a line that says why, and one
 /// for each of which it isn't known; and then how many there were. `compare` prints a line for each built-in chain: whether both rulesets give each
-/// packet there the same verdict, and where they don't, a packet with its walk in each. `tests` prints a session: for each
-/// rule a comment that names it, and a packet that it matches. `cover` reads packets from standard input, as lines of a
-/// session, and prints of each rule that matches none of them whether there is a packet that it matches, and which; and then
-/// how many rules there were of each kind. `reach` prints the verdicts of a set of packets: for each verdict and decider, the
-/// numbers that its packets have on a field. With `--json` an answer is one JSON document.
+/// packet there the same verdict, and where they don't, a packet with its walk in each; and then how many rules only one of them has, and
+/// how many of these are dead there. `tests` prints a session: for each rule a comment that names it, and a packet that it matches. `cover`
+/// reads packets from standard input, as lines of a session, and prints of each rule that matches none of them whether there is a packet
+/// that it matches, and which; and then how many rules there were of each kind. `reach` prints the verdicts of a set of packets: for each
+/// verdict and decider, the numbers that its packets have on a field. With `--json` an answer is one JSON document.
 ///
 /// Answers go to standard output. A line `# iptsim-fit: ..` of a file goes to standard error as it stands, when it is read. A
 /// fault in a file or in a packet goes there, as `line N: CODE text`, and so does each message of the program itself. Where
-/// standard error is a terminal, it shows once a second how many questions were asked so far: one for each rule, or for each
-/// built-in chain.
+/// standard error is a terminal, it shows once a second how many questions were asked so far: one for each rule, or of `compare`
+/// one for each built-in chain and for each rule that only one of the rulesets has.
 ///
 /// | Status | Cause |
 /// |---|---|

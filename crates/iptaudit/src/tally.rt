@@ -1,6 +1,6 @@
 //! How many rules there are of each kind, and the statuses.
 use crate::deciding::Standing;
-use crate::document::Counts;
+use crate::document::{ChangeCounts, Counts};
 use crate::each_rule::Known;
 use fields::{Tap, WriteFailed};
 use itoa::Buffer;
@@ -91,6 +91,18 @@ impl Tally {
         )
     }
 
+    /// Writes the line of the counts of changed rules: `2 changed rules, 1 dead, 0 unclear`.
+    pub(crate) fn put_changes<W: Write>(&self, output: &mut Tap<W>) -> Result<(), WriteFailed> {
+        put_counts(
+            &[
+                (self.rules(), b" changed rules, ".as_slice()),
+                (self.dead, b" dead, ".as_slice()),
+                (self.unclear, b" unclear\n".as_slice()),
+            ],
+            output,
+        )
+    }
+
     /// The counts, without those of packets that were given.
     pub(crate) fn counts(&self) -> Counts {
         Counts {
@@ -114,6 +126,15 @@ impl Tally {
             unclear: self.unclear,
             redundant: None,
             shadowed: None,
+        }
+    }
+
+    /// The counts of changed rules.
+    pub(crate) fn change_counts(&self) -> ChangeCounts {
+        ChangeCounts {
+            changed: self.rules(),
+            dead: self.dead,
+            unclear: self.unclear,
         }
     }
 
