@@ -22,6 +22,14 @@ pub(crate) struct Asking<'a, R, E> {
     progress: Progress<'a, R, E>,
 }
 
+// The place of a decider in the order of a listing; that of a policy is behind all rules.
+fn place_of(by: Option<Step>) -> (bool, usize, usize) {
+    match by {
+        Some(step) => (false, step.chain, step.number),
+        None => (true, 0, 0),
+    }
+}
+
 impl<'a, R: Clock, E: Print + IsTerminal> Asking<'a, R, E> {
     /// Before any question.
     pub(crate) fn new(
@@ -113,7 +121,8 @@ impl<'a, R: Clock, E: Print + IsTerminal> Asking<'a, R, E> {
         changes_of(self.alloc, &old.table, &new.table)
     }
 
-    /// The verdicts of a set of packets, grouped by a field (`reach`).
+    /// The verdicts of a set of packets, grouped by a field (`reach`), by their deciders in the order of a listing; those that a policy
+    /// gives come last.
     ///
     /// # Errors
     ///
@@ -126,6 +135,10 @@ impl<'a, R: Clock, E: Print + IsTerminal> Asking<'a, R, E> {
     ) -> Result<Option<Vec<Reached>>, AllocError>
         ensures { IfOk result (λ found. IfSome found (λ reached. All (λ entry. entry.numbers.top ≡ top field) reached.items)) }
     {
-        reach(self.alloc, subject, given, field, self.steps)
+        let Some(mut found) = reach(self.alloc, subject, given, field, self.steps)? else {
+            return Ok(None);
+        };
+        found.sort_unstable_by_key(|reached| place_of(reached.by));
+        Ok(Some(found))
     }
 }
