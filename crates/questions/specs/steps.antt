@@ -8,6 +8,7 @@ pub mod Exact
 pub mod Groups
 pub mod Leading
 pub mod Lines
+pub mod Outlines
 pub mod Sampled
 pub mod Searched
 pub mod Shared

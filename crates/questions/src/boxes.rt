@@ -3,6 +3,8 @@ pub(crate) mod area;
 pub(crate) mod boxed_table;
 pub(crate) mod candidates;
 pub(crate) mod cut;
+pub(crate) mod ends;
 pub(crate) mod lying;
 pub(crate) mod meeting;
+pub(crate) mod rule_box;
 pub(crate) mod transport;

@@ -1,11 +1,12 @@
 -- Boxes of packets, place by place.
-use Rattle.std.proofs.Common.{◌≡◌, ◌≢◌, inl, inr, ℕ, zero, suc, ◌+◌, ◌-◌, ◌<◌, ◌≤◌, Bool, true, false, cond, ◌&&◌, not, ◌==◌, ◌||◌, List, [], ◌∷◌, ◌++◌, length, get_or, map, refl, sym, ◌∙◌, ap, arith, subst, ◌⊎◌, below_more}
+use Rattle.std.proofs.Common.{◌≡◌, ◌≢◌, inl, inr, ℕ, zero, suc, ◌+◌, ◌-◌, ◌<◌, ◌≤◌, Bool, true, false, cond, ◌&&◌, not, ◌==◌, ◌||◌, List, [], ◌∷◌, ◌++◌, length, get_or, map, refl, sym, ◌∙◌, ap, arith, subst, ◌⊎◌, below_more, Contains}
 use Rattle.std.specs.Prelude.{slice_index}
 use Rattle.std.specs.List.{list_all}
 use Rattle.std.proofs.Math.Dec.{eqb, leb}
 use Rattle.std.proofs.Math.ListN.{set}
 use Rattle.std.proofs.lemmas.Bool.{cases_Bool, cases_eq, and_from, and_parts, cases_lt, lt-ltb, le-ltb, le-leb, leb-true, eq-eqb, ne_eqb, eqb-true, true≢false}
 use Rattle.std.proofs.lemmas.List.{get_or-map, length-map, get_or_default, get_or-set_same, get_or-set_other, nil_from_length, same_lists}
+use Rattle.std.proofs.lemmas.List.Elements.{Contains-push_cases}
 use Rattle.std.proofs.lemmas.List.Sums.{AllPass-from_list_all}
 use Rattle.fields.specs.declared.numbers.field.TheConstants.{FIELDS}
 use Rattle.fields.specs.declared.numbers.field.Field.{Field}
@@ -67,6 +68,12 @@ at_place box numbers k lt h =
     let f = field_at k lt in
     let P : ℕ → Type 0 = λ j. has_at box numbers j ≡ true in
     subst P f.1 (on_field box numbers f.0 h)
+
+-- the set at a field's place has the number on it
+pub set_has : (box : List SpanSet) (numbers : List ℕ) (k : ℕ) (f : Field) (s : SpanSet) → IsBox box → k ≡ index f → s ≡ get_or box k s → Has box numbers → has s.intervals (number_on numbers f) ≡ true
+set_has box numbers k f s is at own inside =
+    let P : ℕ → Type 0 = λ j. s ≡ get_or box j s in
+    ap (λ (x : SpanSet). has x.intervals (number_on numbers f)) (subst P at own ∙ get_or_default box (index f) s no_set (omega (arith, index-lt f, box_long box is))) ∙ on_field box numbers f inside.each
 
 -- and the other way round
 pub from_places : (box : List SpanSet) (numbers : List ℕ) → ((k : ℕ) → k < FIELDS → has_at box numbers k ≡ true) → box_matches numbers box ≡ true
@@ -322,17 +329,27 @@ in_part at own other part numbers is h point there leaves = record {
       ]
     ]
 
--- where nothing is left of a set, nothing leaves there
-pub nothing_left : (at : ℕ) (own other : List SpanSet) (a b rest : SpanSet) (numbers : List ℕ) → IsBox own → at < FIELDS → a ≡ get_or own at a → b ≡ get_or other at b → length other ≡ FIELDS
-    → ((x : ℕ) → x ≤ a.top → has rest.intervals x ≡ (has a.intervals x && not (has b.intervals x))) → rest.intervals ≡ [] → IsPoint numbers → Has own numbers → LeavesAt at other numbers → ⊥
-nothing_left at own other a b rest numbers is lt ia ib long members none point there leaves =
+-- it has only numbers of the box, and none of the other one
+pub part_only : (at : ℕ) (own other part : List SpanSet) (numbers : List ℕ) → IsBox own → at < FIELDS → IsPart at own other part → IsPoint numbers → Has part numbers → Has own numbers × (Has other numbers → ⊥)
+part_only at own other part numbers is lt h point there = (record { each = from_places own numbers (λ k less. (both k less).0) }, λ gone. true≢false (sym (at_place other numbers at lt gone.each) ∙ lacks))
+  where
+    both : (k : ℕ) → k < FIELDS → (has_at own numbers k ≡ true) × (takes at k (has_at other numbers k) ≡ true)
+    both k less = and_parts (has_at own numbers k) (takes at k (has_at other numbers k)) (sym (part_at at own other part is h numbers k point less) ∙ at_place part numbers k less there.each)
+
+    lacks : has_at other numbers at ≡ false
+    lacks = elim (cases_Bool (has_at other numbers at)) [
+      | inl t ↦ absurd (true≢false (sym (sym (takes_at at (has_at other numbers at)) ∙ (both at lt).1) ∙ ap not t))
+      | inr f ↦ f
+    ]
+
+-- where a set is part of the other one, nothing leaves there
+pub nothing_left : (at : ℕ) (own other : List SpanSet) (a b : SpanSet) (numbers : List ℕ) → IsBox own → IsBox other → at < FIELDS → a ≡ get_or own at a → b ≡ get_or other at b
+    → ((x : ℕ) → has a.intervals x ≡ true → has b.intervals x ≡ true) → Has own numbers → LeavesAt at other numbers → ⊥
+nothing_left at own other a b numbers is too lt ia ib part there leaves =
     let x : ℕ = slice_index numbers at in
-    let up : slice_index numbers at ≤ (get_or own at a).top = within_top own numbers at a is point lt in
-    let le : x ≤ a.top = omega (arith, up, ap (λ (s : SpanSet). s.top) ia) in
     let first : has a.intervals x ≡ true = ap (λ (s : SpanSet). has s.intervals x) (ia ∙ get_or_default own at a no_set (omega (arith, lt, box_long own is))) ∙ at_place own numbers at lt there.each in
-    let second : has b.intervals x ≡ false = ap (λ (s : SpanSet). has s.intervals x) (ib ∙ get_or_default other at b no_set (omega (arith, lt, long))) ∙ leaves.here in
-    let both : has rest.intervals x ≡ true = members x le ∙ ap (λ t. t && not (has b.intervals x)) first ∙ ap not second in
-    true≢false (sym both ∙ ap (λ (ss : List Interval). has ss x) none)
+    let second : has b.intervals x ≡ false = ap (λ (s : SpanSet). has s.intervals x) (ib ∙ get_or_default other at b no_set (omega (arith, lt, box_long other too))) ∙ leaves.here in
+    true≢false (sym (part x first) ∙ second)
 
 pub is_nil : {X : Type 0} (xs : List X) (b : Bool) → b ≡ (length xs == 0) → b ≡ true → xs ≡ []
 is_nil xs b e t = nil_from_length xs (eqb-true (length xs) 0 (sym e ∙ t))
@@ -348,16 +365,29 @@ parts_next other own old new done within kept added last numbers k lt le point h
       | inr ne ↦ kept numbers (last numbers k lt (omega (arith, lt, le, ne, within)) point has leaves)
     ]
 
+-- numbers of some boxes, of which one is taken out, are in it or in those that are left
+pub some_left : (boxes left : List (List SpanSet)) (box : List SpanSet) (numbers : List ℕ) → boxes ≡ left ++ box ∷ [] → IsInSome boxes numbers → IsInSome left numbers ⊎ Has box numbers
+some_left boxes left box numbers e a =
+    let Q : List (List SpanSet) → Type 0 = λ bs. Contains bs a.0 in
+    let R : List SpanSet → Type 0 = λ b. Has b numbers in
+    elim (Contains-push_cases left box a.0 (subst Q e a.1)) [
+      | inl c ↦ inl (a.0, c, a.2)
+      | inr same ↦ inr (subst R (sym same) a.2)
+    ]
+
+pub none_in : (boxes : List (List SpanSet)) (numbers : List ℕ) → boxes ≡ [] → IsInSome boxes numbers → ⊥
+none_in boxes numbers e some = absurd (omega (arith, some.1.1, ap (λ (bs : List (List SpanSet)). length bs) e))
+
 -- ---- what a rule makes of a box
 
 pub has_of_rule : (rule : Rule) (box : List SpanSet) (numbers : List ℕ) → IsBoxOf rule box → IsPoint numbers → matches numbers rule ≡ true → Has box numbers
 has_of_rule rule box numbers is point m = record { each = box_of_rule rule box numbers is point ∙ (and_parts (allows_each numbers rule) (cross numbers rule) m).0 }
 
-pub apart_of : (rule : Rule) (area box : List SpanSet) → IsBoxOf rule box → ((numbers : List ℕ) → Has area numbers → Has box numbers → ⊥) → IsApart rule area
+pub apart_of : (rule : Rule) (area box : List SpanSet) → IsBoxOf rule box → ((numbers : List ℕ) → IsPoint numbers → Has area numbers → Has box numbers → ⊥) → IsApart rule area
 apart_of rule area box is none = record {
   none = λ numbers point has.
       elim (cases_Bool (matches numbers rule)) [
-        | inl m ↦ absurd (none numbers has (has_of_rule rule box numbers is point m))
+        | inl m ↦ absurd (none numbers point has (has_of_rule rule box numbers is point m))
         | inr f ↦ f
       ];
 }
@@ -381,7 +411,18 @@ module _ (rule : Rule) (area box inside : List SpanSet) (is : IsBoxOf rule box) 
         ];
   }
 
-  module _ (outside : List (List SpanSet)) (out : (numbers : List ℕ) → IsPoint numbers → Has area numbers → (Has box numbers → ⊥) → IsInSome outside numbers) where
+  module _ (outside : List (List SpanSet)) (out : (numbers : List ℕ) → IsPoint numbers → Has area numbers → (Has box numbers → ⊥) → IsInSome outside numbers)
+      (left : (numbers : List ℕ) → IsPoint numbers → IsInSome outside numbers → Has area numbers × (Has box numbers → ⊥)) where
+    -- the rule matches none that is outside
+    unmatched : (numbers : List ℕ) → IsPoint numbers → IsInSome outside numbers → Has area numbers × (matches numbers rule ≡ false)
+    unmatched numbers point some =
+        let own = left numbers point some in
+        let none : matches numbers rule ≡ false = elim (by_box numbers point own.0) [
+          | inl here ↦ absurd (own.1 (both.second numbers point here.0))
+          | inr gone ↦ ap (λ b. b && cross numbers rule) gone.1
+        ] in
+        (own.0, none)
+
     pub cut_of : ((numbers : List ℕ) → IsPoint numbers → Has inside numbers → cross numbers rule ≡ true) → IsCut rule area inside outside
     cut_of holds = record {
       matched = λ numbers point has m. both.all numbers point has (has_of_rule rule box numbers is point m);
@@ -390,16 +431,24 @@ module _ (rule : Rule) (area box inside : List SpanSet) (is : IsBoxOf rule box) 
             | inl here ↦ absurd (true≢false (sym (ap (λ b. b && cross numbers rule) here.1 ∙ holds numbers point here.0) ∙ m))
             | inr gone ↦ out numbers point has gone.0
           ];
+      only = λ numbers point here. (
+        both.first numbers point here,
+        and_from (allows_each numbers rule) (cross numbers rule) (sym (box_of_rule rule box numbers is point) ∙ (both.second numbers point here).each) (holds numbers point here),
+      );
+      rest = unmatched;
     }
 
-    pub parted_of : (again : List (List SpanSet)) → ((numbers : List ℕ) → IsPoint numbers → Has inside numbers → IsInSome again numbers) → IsPartedFor rule area again outside
-    parted_of again parts = record {
+    pub parted_of : (again : List (List SpanSet)) → ((numbers : List ℕ) → IsPoint numbers → Has inside numbers → IsInSome again numbers) → ((numbers : List ℕ) → IsPoint numbers → IsInSome again numbers → Has inside numbers)
+        → IsPartedFor rule area again outside
+    parted_of again parts whole = record {
       matched = λ numbers point has m. parts numbers point (both.all numbers point has (has_of_rule rule box numbers is point m));
       others = λ numbers point has m.
           elim (by_box numbers point has) [
             | inl here ↦ inl (parts numbers point here.0)
             | inr gone ↦ inr (out numbers point has gone.0)
           ];
+      only = λ numbers point some. both.first numbers point (whole numbers point some);
+      rest = unmatched;
     }
 
 -- numbers that are in one of two boxes, which were put into a list one after the other
@@ -411,6 +460,17 @@ two_parts numbers one other none first both n f b h =
       | inl l ↦ (one, (0, omega arith, refl), l)
       | inr r ↦ (other, (1, omega arith, refl), r)
     ])
+
+-- and no others are in these
+pub two_only : (numbers : List ℕ) (one other : List SpanSet) (none first both : List (List SpanSet)) → none ≡ [] → first ≡ none ++ one ∷ [] → both ≡ first ++ other ∷ [] → IsInSome both numbers → Has one numbers ⊎ Has other numbers
+two_only numbers one other none first both n f b some =
+    elim (some_left both first other numbers b some) [
+      | inr second ↦ inr second
+      | inl before ↦ elim (some_left first none one numbers f before) [
+        | inl nowhere ↦ absurd (none_in none numbers n nowhere)
+        | inr here ↦ inl here
+      ]
+    ]
 
 -- what is said of a test of the ports in a box is said of the box's packets
 pub in_ports : (box : List SpanSet) (source destination : SpanSet) (numbers : List ℕ) → source.top ≡ top field.SourcePort → source.intervals ≡ set_on field.SourcePort box

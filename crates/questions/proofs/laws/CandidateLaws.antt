@@ -1,7 +1,8 @@
 -- The rules of a table that may match packets of a box.
-use Rattle.std.proofs.Common.{◌≡◌, inl, inr, ℕ, ◌+◌, ◌-◌, ◌<◌, ◌≤◌, Bool, true, false, List, [], ◌∷◌, ◌++◌, length, get_or, map, refl, sym, ◌∙◌, ap, arith, subst, Vec, Global}
-use Rattle.std.proofs.lemmas.Bool.{cases_lt, true≢false}
-use Rattle.std.proofs.lemmas.List.{get_or_default, get_or_past, get_or-map, length-map}
+use Rattle.std.proofs.Common.{◌≡◌, ◌⊎◌, inl, inr, ℕ, ◌+◌, ◌-◌, ◌<◌, ◌≤◌, List, [], ◌∷◌, ◌++◌, length, get_or, map, sym, ◌∙◌, ap, arith, subst, Vec, Global}
+use Rattle.std.specs.Prelude.{slice_index}
+use Rattle.std.proofs.lemmas.Bool.{cases_eq, cases_lt}
+use Rattle.std.proofs.lemmas.List.{get_or_append_left, get_or_default, get_or_past, get_or_push, get_or-map, length-append, length-map}
 use Rattle.fields.specs.numbers.Spans.{SpanSet}
 use Rattle.rules.specs.rule.Rules.{Rule, empty_rule}
 use Rattle.classify.specs.classifier.Classifier.{IsPoint}
@@ -9,93 +10,117 @@ use Rattle.table.specs.chains.Table.{Chain, Table, chain_at, empty_chain}
 use Rattle.questions.specs.boxes.Area.{Has}
 use Rattle.questions.specs.boxes.Cut.{IsApart}
 use Rattle.questions.specs.declared.boxes.candidates.Candidates.{Candidates}
-use Rattle.questions.specs.steps.Candidates.{AreCandidates, AreFlags, AreFor, may_match}
+use Rattle.questions.specs.steps.Candidates.{AreCandidates, AreFor, AreNexts, nexts_at}
 use Rattle.questions.proofs.laws.BoxesLaws.{Pair, pair_more, pair_none}
 
--- ---- a chain
+-- ---- a chain, from its last rule on
 
--- the flag of a rule: without it the rule matches no packet of the box
-abbrev pub IsFlag : List SpanSet → Rule → Bool → Type 0
-IsFlag box rule flag = flag ≡ false → IsApart rule box
+-- of the last so many places of a chain none is passed over at which something doesn't hold, in a list that begins with the last place and goes on with this
+pub record PassesOver (P : ℕ → Type 0) (count : ℕ) (nexts : List ℕ) (next done : ℕ) : Type 0 where
+  pub long : length nexts ≡ done
+  pub each : (back k : ℕ) → back < done → count ≤ k + 1 + back → k < slice_index nexts back → P k
+  pub last : (k : ℕ) → count ≤ k + done → k < next → P k
 
-abbrev pub FlagPairs : List Rule → List SpanSet → List Bool → ℕ → Type 0
-FlagPairs rules box flags n = Pair (IsFlag box) rules flags n
+pub passes_none : (P : ℕ → Type 0) (count : ℕ) (nexts : List ℕ) (next : ℕ) → nexts ≡ [] → next ≡ count → PassesOver P count nexts next 0
+passes_none P count nexts next e is = record { long = ap length e; each = λ back k lt. absurd (omega (arith, lt)); last = λ k le lt. absurd (omega (arith, le, lt, is)) }
 
-pub flag_none : (rules : List Rule) (box : List SpanSet) → FlagPairs rules box [] 0
-flag_none rules box = pair_none (IsFlag box) rules [] refl
+-- one place more
+pub passes_more : (P : ℕ → Type 0) (count : ℕ) (nexts more : List ℕ) (next new done : ℕ) → done < count → more ≡ nexts ++ new ∷ [] → ((new ≡ next) × P (count - 1 - done)) ⊎ (new ≡ count - 1 - done) → PassesOver P count nexts next done
+    → PassesOver P count more new (done + 1)
+passes_more P count nexts more next new done within is here before = record {
+  long = ap length is ∙ length-append nexts (new ∷ []) ∙ ap (λ m. m + 1) before.long;
+  each = λ back k lt le less.
+      (let Q : List ℕ → Type 0 = λ xs. k < get_or xs back 0 in
+      let there : k < get_or (nexts ++ new ∷ []) back 0 = subst Q is less in
+      elim (cases_lt back done) [
+        | inl early ↦ (
+            let R : ℕ → Type 0 = λ n. k < n in
+            before.each back k early le (subst R (get_or_append_left nexts (new ∷ []) 0 back (omega (arith, early, before.long))) there))
+        | inr late ↦ (
+            let R : ℕ → Type 0 = λ n. k < n in
+            last k (omega (arith, le, lt)) (subst R (get_or_push nexts new 0 back (omega (arith, lt, late, before.long))) there))
+      ]);
+  last = last;
+}
+  where
+    last : (k : ℕ) → count ≤ k + (done + 1) → k < new → P k
+    last k le lt =
+        elim here [
+          | inr is_here ↦ absurd (omega (arith, is_here, le, lt, within))
+          | inl past ↦ elim (cases_eq k (count - 1 - done)) [
+            | inl same ↦ subst P (sym same) past.1
+            | inr ne ↦ before.last k (omega (arith, ne, le, within)) (omega (arith, lt, past.0))
+          ]
+        ]
 
-pub flag_more : (rules : List Rule) (box : List SpanSet) (flags more : List Bool) (flag : Bool) (n : ℕ) → n < length rules → more ≡ flags ++ flag ∷ [] → FlagPairs rules box flags n
-    → (flag ≡ false → IsApart (get_or rules (n + 1 - 1) empty_rule) box) → FlagPairs rules box more (n + 1)
-flag_more rules box flags more flag n lt is pairs apart =
-    pair_more (IsFlag box) rules flags more flag n is pairs
-    (λ a off.
-    (let P : Rule → Type 0 = λ r. IsApart r box in
-    subst P (ap (λ j. get_or rules j empty_rule) (omega arith) ∙ get_or_default rules n empty_rule a lt) (apart off)))
-
-pub all_flags : (rules : List Rule) (box : List SpanSet) (flags : List Bool) (n : ℕ) → FlagPairs rules box flags n → AreFlags rules box flags
-all_flags rules box flags n pairs = λ passed off.
-    elim (cases_lt passed n) [
-      | inl lt ↦ pairs.each passed empty_rule true lt off
-      | inr le ↦ absurd (true≢false (sym (get_or_past flags passed true (omega (arith, le, pairs.long))) ∙ off))
-    ]
+-- all of them
+pub passes_all : (rules : List Rule) (box : List SpanSet) (nexts : List ℕ) (next done : ℕ) → length rules ≤ done → done ≤ length rules → PassesOver (λ k. IsApart (get_or rules k empty_rule) box) (length rules) nexts next done → AreNexts rules box nexts
+passes_all rules box nexts next done all most passes back k lt le less = passes.each back k (omega (arith, lt, passes.long)) (omega (arith, le, passes.long, all, most)) less
 
 -- ---- a table
 
--- the first so many chains have these flags
-abbrev pub FlagsOfChains : Table → List SpanSet → List (Vec Bool Global) → ℕ → Type 0
-FlagsOfChains t box chains n = Pair (λ (chain : Chain) (flags : Vec Bool Global). AreFlags chain.rules box flags.items) t.chains chains n
+-- the first so many chains have these lists
+abbrev pub NextsOfChains : Table → List SpanSet → List (Vec ℕ Global) → ℕ → Type 0
+NextsOfChains t box chains n = Pair (λ (chain : Chain) (nexts : Vec ℕ Global). AreNexts chain.rules box nexts.items) t.chains chains n
 
-pub chain_none : (t : Table) (box : List SpanSet) → FlagsOfChains t box [] 0
-chain_none t box = pair_none (λ (chain : Chain) (flags : Vec Bool Global). AreFlags chain.rules box flags.items) t.chains [] refl
+pub chain_none : (t : Table) (box : List SpanSet) (chains : List (Vec ℕ Global)) → chains ≡ [] → NextsOfChains t box chains 0
+chain_none t box chains e = pair_none (λ (chain : Chain) (nexts : Vec ℕ Global). AreNexts chain.rules box nexts.items) t.chains chains e
 
-pub chain_more : (t : Table) (box : List SpanSet) (chains more : List (Vec Bool Global)) (flags : Vec Bool Global) (n : ℕ) → n < length t.chains → more ≡ chains ++ flags ∷ [] → FlagsOfChains t box chains n → AreFlags (chain_at t n).rules box flags.items
-    → FlagsOfChains t box more (n + 1)
-chain_more t box chains more flags n lt is pairs own =
-    pair_more (λ (chain : Chain) (fs : Vec Bool Global). AreFlags chain.rules box fs.items) t.chains chains more flags n is pairs
+pub chain_more : (t : Table) (box : List SpanSet) (chains more : List (Vec ℕ Global)) (nexts : Vec ℕ Global) (n : ℕ) → n < length t.chains → more ≡ chains ++ nexts ∷ [] → NextsOfChains t box chains n → AreNexts (chain_at t n).rules box nexts.items
+    → NextsOfChains t box more (n + 1)
+chain_more t box chains more nexts n lt is pairs own =
+    pair_more (λ (chain : Chain) (ns : Vec ℕ Global). AreNexts chain.rules box ns.items) t.chains chains more nexts n is pairs
     (λ a.
-    (let P : Chain → Type 0 = λ c. AreFlags c.rules box flags.items in
+    (let P : Chain → Type 0 = λ c. AreNexts c.rules box nexts.items in
     subst P (get_or_default t.chains n (empty_chain []) a lt) own))
 
-abbrev items_of : Vec Bool Global → List Bool
-items_of flags = flags.items
+abbrev items_of : Vec ℕ Global → List ℕ
+items_of nexts = nexts.items
 
-pub all_candidates : (t : Table) (looks : ℕ) (box : List SpanSet) (chains : Vec (Vec Bool Global) Global) (n : ℕ) → FlagsOfChains t box chains.items n → AreCandidates t box (record { looks = looks; start = box; chains = chains })
-all_candidates t looks box chains n pairs at off =
-    elim (cases_lt at.chain n) [
-      | inr le ↦ absurd (true≢false (beyond le))
-      | inl lt ↦ (pairs.each at.chain (empty_chain []) (within at.chain lt) lt) at.passed (ap (λ (fs : List Bool). may_match fs at.passed) (sym (get_or-map items_of chains.items at.chain (within at.chain lt) [] (omega (arith, lt, pairs.long)))) ∙ off)
+pub all_candidates : (t : Table) (looks : ℕ) (box : List SpanSet) (chains : Vec (Vec ℕ Global) Global) (n : ℕ) → NextsOfChains t box chains.items n → AreCandidates t box (record { looks = looks; start = box; chains = chains })
+all_candidates t looks box chains n pairs place =
+    let P : List ℕ → Type 0 = λ ns. AreNexts (chain_at t place).rules box ns in
+    elim (cases_lt place n) [
+      | inl lt ↦ subst P (sym (get_or-map items_of chains.items place (within place lt) [] (omega (arith, lt, pairs.long)))) (pairs.each place (empty_chain []) (within place lt) lt)
+      | inr le ↦ subst P (sym (get_or_past (map items_of chains.items) place [] (omega (arith, le, pairs.long, length-map chains.items items_of)))) (λ back k lt. absurd (omega (arith, lt)))
     ]
   where
-    within : (k : ℕ) → k < n → Vec Bool Global
+    within : (k : ℕ) → k < n → Vec ℕ Global
     within k lt = some chains.items (omega (arith, lt, pairs.long))
       where
-        some : (xs : List (Vec Bool Global)) → 0 < length xs → Vec Bool Global
+        some : (xs : List (Vec ℕ Global)) → 0 < length xs → Vec ℕ Global
         some [] none = absurd (omega (arith, none))
         some (x ∷ xs) there = x
 
-    beyond : n ≤ at.chain → true ≡ false
-    beyond le = sym (ap (λ (fs : List Bool). may_match fs at.passed) (get_or_past (map items_of chains.items) at.chain [] (omega (arith, le, pairs.long, length-map chains.items items_of)))) ∙ off
-
 -- all rules are candidates
-pub all_for : (t : Table) (looks : ℕ) (box start : List SpanSet) (chains : Vec (Vec Bool Global) Global) → chains.items ≡ [] → ((numbers : List ℕ) → IsPoint numbers → Has box numbers → Has start numbers) → AreFor t box (record { looks = looks; start = start; chains = chains })
+pub all_for : (t : Table) (looks : ℕ) (box start : List SpanSet) (chains : Vec (Vec ℕ Global) Global) → chains.items ≡ [] → ((numbers : List ℕ) → IsPoint numbers → Has box numbers → Has start numbers) → AreFor t box (record { looks = looks; start = start; chains = chains })
 all_for t looks box start chains none within = record {
   within = within;
-  others = λ at off.
-      (let P : List (Vec Bool Global) → Type 0 = λ cs. may_match (get_or (map items_of cs) at.chain []) at.passed ≡ false in
-      absurd (true≢false (subst P none off)));
+  others = λ place.
+      (let P : List (Vec ℕ Global) → Type 0 = λ cs. AreNexts (chain_at t place).rules box (get_or (map items_of cs) place []) in
+      subst P (sym none) (λ back k lt. absurd (omega (arith, lt))));
 }
 
+-- what holds of the packets of a box holds of those of a part of it
+nexts_within : (t : Table) (box part : List SpanSet) (candidates : Candidates) → ((numbers : List ℕ) → IsPoint numbers → Has part numbers → Has box numbers) → AreCandidates t box candidates → AreCandidates t part candidates
+nexts_within t box part candidates inside are place back k lt le less =
+    let apart = are place back k lt le less in record { none = λ numbers point has. apart.none numbers point (inside numbers point has) }
+
 -- those that were found for the candidates' box are those of a box that it has
-pub found_for : (t : Table) (looks : ℕ) (start box : List SpanSet) (chains : Vec (Vec Bool Global) Global) → ((numbers : List ℕ) → IsPoint numbers → Has box numbers → Has start numbers) → AreCandidates t start (record { looks = looks; start = start; chains = chains })
+pub found_for : (t : Table) (looks : ℕ) (start box : List SpanSet) (chains : Vec (Vec ℕ Global) Global) → ((numbers : List ℕ) → IsPoint numbers → Has box numbers → Has start numbers) → AreCandidates t start (record { looks = looks; start = start; chains = chains })
     → AreFor t box (record { looks = looks; start = start; chains = chains })
-found_for t looks start box chains within are = record {
-  within = within;
-  others = λ at off. (let apart = are at off in record { none = λ numbers point has. apart.none numbers point (within numbers point has) });
-}
+found_for t looks start box chains within are = record { within = within; others = nexts_within t start box (record { looks = looks; start = start; chains = chains }) within are }
 
 -- what is a candidate for a box may be one for a part of it, and nothing else is
 pub candidates_within : (t : Table) (box part : List SpanSet) (candidates : Candidates) → ((numbers : List ℕ) → IsPoint numbers → Has part numbers → Has box numbers) → AreFor t box candidates → AreFor t part candidates
 candidates_within t box part candidates inside are = record {
   within = λ numbers point has. are.within numbers point (inside numbers point has);
-  others = λ at off. (let apart = are.others at off in record { none = λ numbers point has. apart.none numbers point (inside numbers point has) });
+  others = nexts_within t box part candidates inside are.others;
 }
+
+-- the next candidate in a chain
+pub next_candidate : (t : Table) (box : List SpanSet) (candidates : Candidates) (chain passed : ℕ) (nexts : List ℕ) → AreFor t box candidates → nexts ≡ nexts_at candidates chain → passed < length nexts → (k : ℕ) → passed ≤ k → k < slice_index nexts (length nexts - 1 - passed)
+    → IsApart (get_or (chain_at t chain).rules k empty_rule) box
+next_candidate t box candidates chain passed nexts are is within k le less =
+    let P : List ℕ → Type 0 = λ ns. AreNexts (chain_at t chain).rules box ns in
+    (subst P (sym is) (are.others chain)) (length nexts - 1 - passed) k (omega (arith, within)) (omega (arith, within, le)) less

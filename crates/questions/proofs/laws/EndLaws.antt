@@ -6,7 +6,7 @@ use Rattle.std.proofs.lemmas.Slice.Eq.{bytes_eq-Decides}
 use Rattle.std.proofs.lemmas.Bool.{cases_Bool}
 use Rattle.std.proofs.lemmas.List.{length-map}
 use Rattle.std.proofs.lemmas.List.Elements.{All-contains, Contains-get_or}
-use Rattle.std.proofs.lemmas.Option.{get_or_from_slice_get, slice_get-map, slice_get_within}
+use Rattle.std.proofs.lemmas.Option.{get_or_from_slice_get, slice_get-get_or, slice_get-map, slice_get_within}
 use Rattle.fields.specs.packet.Packet.{PacketView as Packet}
 use Rattle.rules.specs.rule.Rules.{Rule}
 use Rattle.table.specs.chains.Sound.{IsSound}
@@ -21,6 +21,18 @@ use Rattle.questions.proofs.laws.TrailLaws.{IsMatched, one_place, trail_matches}
 
 pub none_some : {X : Type 0} {x : X} → ◌≡◌ {A = Option X} None (Some x) → ⊥
 none_some e = cc
+
+-- where no rule decides the walk that a leaf shows, the policy does
+pub by_policy_where : (leaf : Leaf) → step_of leaf ≡ None → leaf.by_policy ≡ true
+by_policy_where leaf none =
+    elim (cases_Bool leaf.by_policy) [
+      | inl t ↦ t
+      | inr f ↦ absurd (some_last leaf.trail.items (leaf.decided f) (sym (ap (λ b. cond b None (slice_get leaf.trail.items (length leaf.trail.items - 1))) f) ∙ none))
+    ]
+  where
+    some_last : (steps : List Step) → 0 < length steps → slice_get steps (length steps - 1) ≡ None → ⊥
+    some_last [] lt e = absurd (omega (arith, lt))
+    some_last (x ∷ xs) lt e = none_some (sym e ∙ slice_get-get_or (x ∷ xs) (length (x ∷ xs) - 1) x (omega arith))
 
 -- the decider of the walk that a leaf shows
 pub decider_shown : (cs : List Chain) (leaf : Leaf) → decider_of (walked_of cs leaf) ≡ option_map (entry_of cs) (step_of leaf)

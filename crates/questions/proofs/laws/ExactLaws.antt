@@ -1,25 +1,22 @@
--- Boxes of which all packets have one walk.
-use Rattle.std.proofs.Common.{◌≡◌, ℕ, zero, suc, ◌+◌, ◌<◌, ◌≤◌, List, [], ◌∷◌, ◌++◌, length, get_or, refl, inl, inr, sym, ◌∙◌, ap, arith, subst, Option, Some, None, Vec, Global}
-use Rattle.std.specs.Prelude.{Any, MatchOption}
+-- Leaves that have only packets which can be at their hook.
+use Rattle.std.proofs.Common.{◌≡◌, ℕ, ◌+◌, ◌<◌, ◌≤◌, List, [], ◌∷◌, ◌++◌, length, get_or, refl, inl, inr, sym, ◌∙◌, arith, subst, None}
 use Rattle.std.proofs.lemmas.Bool.{cases_eq}
+use Rattle.std.proofs.lemmas.List.{get_or_default}
 use Rattle.std.proofs.lemmas.List.Elements.{All-contains}
 use Rattle.std.proofs.lemmas.List.Quantifiers.{Any-push}
-use Rattle.fields.specs.declared.packet.hook.Hook.{Hook}
 use Rattle.fields.specs.numbers.Spans.{SpanSet}
 use Rattle.fields.specs.packet.Packet.{PacketView as Packet, IsPacket}
 use Rattle.classify.specs.classifier.Classifier.{IsPoint}
 use Rattle.table.specs.chains.Table.{Table}
-use Rattle.table.specs.walk.Walk.{walk}
-use Rattle.questions.specs.Leaves.{AreLeavesOf, EndsIn, walked_of}
-use Rattle.questions.specs.boxes.Area.{Has, HasNumbers, HasOwnInterfaces, IsAtHook, IsBoth, IsIn}
+use Rattle.questions.specs.Leaves.{AreExactOn, AreLeavesOf, ShowsWalk}
+use Rattle.questions.specs.boxes.Area.{Has, HasOwnInterfaces, IsAtHook, IsBoth, IsIn}
 use Rattle.questions.specs.declared.asked.reach.Given.{Given}
 use Rattle.questions.specs.declared.walking.task.Leaf.{Leaf}
 use Rattle.questions.specs.declared.boxes.transport.Transport.{Transport}
 use Rattle.questions.specs.declared.boxes.transport.Transport.TheVariants.{Tcp}
-use Rattle.questions.specs.asked.Unknown.{MayBeSeveral}
-use Rattle.questions.specs.steps.Exact.{AddsExact, AnyHas, AreExact, AreExactWalks, HasShared, HasSplitCopy, HasSplitPart, IsCovered, IsExact, IsMet, IsSplitIn, IsWalkOf}
-use Rattle.questions.specs.steps.Taken.{IsFinished}
+use Rattle.questions.specs.steps.Exact.{AddsExact, AnyHas, AreExact, AreExactWalks, IsCovered, IsExact, IsMet, IsPartIn, IsShare, IsShown}
 use Rattle.questions.specs.steps.Transports.{HasTransport, IsWithTransport, all_transports}
+use Rattle.questions.proofs.laws.BoxesLaws.{Pair, pair_more}
 use Rattle.questions.proofs.laws.GroupLaws.{any_left}
 use Rattle.questions.proofs.laws.TrailLaws.{items_next}
 use Rattle.questions.proofs.laws.TransportLaws.{at_hook_of, fits_of, some_transport}
@@ -34,53 +31,55 @@ met_of given there area all only both = record {
   only = λ p is inside. both.second p.values is.within inside;
 }
 
--- where there is one leaf, all packets have its walk
-pub only_walk : (t : Table) (hook : Hook) (box start : List SpanSet) (leaves rest : List Leaf) (only : Leaf) → leaves ≡ rest ++ only ∷ [] → rest ≡ [] → IsBoth box box start → AreLeavesOf t hook start leaves
-    → (p : Packet) → IsAtHook p → p.hook ≡ hook → IsIn box p → walk t p ≡ walked_of t.chains only
-only_walk t hook box start leaves rest only e none copy cover p can at inside =
-    let P : List Leaf → Type 0 = λ (ls : List Leaf). Any (EndsIn t p) ls in
-    let point : IsPoint p.values = can.packet.within in
-    (one (subst P (e ∙ ap (λ (r : List Leaf). r ++ only ∷ []) none) (cover p can at (copy.all p.values point inside inside)))).walked
-  where
-    one : Any (EndsIn t p) (only ∷ []) → EndsIn t p only
-    one (zero, x, lt, is, h) = subst (EndsIn t p) (sym is) h
-    one (suc k, x, lt, is, h) = absurd (omega (arith, lt))
+-- ---- the packets of a box by their transport headers
 
--- what a leaf shares with a box, of packets with a transport header
-module _ (t : Table) (given : Given) (leaf : Leaf) (transport : Transport) (shared part : List SpanSet) (both : IsBoth leaf.area given.area shared) (with : IsWithTransport transport shared part) where
-  in_part : (p : Packet) → IsAtHook p → HasTransport transport p → IsIn given.area p → IsIn leaf.area p → IsIn part p
-  in_part p can h own there = with.all p.values can.packet.within (both.all p.values can.packet.within there own) (fits_of transport p can h)
+abbrev pub Transports : List SpanSet → List (List SpanSet) → ℕ → Type 0
+Transports box boxes n = Pair (λ transport own. IsWithTransport transport box own) all_transports boxes n
 
-  -- nothing
-  pub nobody_part : ((numbers : List ℕ) → Has part numbers → ⊥) → (p : Packet) → IsAtHook p → HasTransport transport p → IsIn given.area p → IsIn leaf.area p → ⊥
-  nobody_part none p can h own there = none p.values (in_part p can h own there)
+-- those of a copy of the box
+pub transport_next : (box copy own : List SpanSet) (boxes more : List (List SpanSet)) (n : ℕ) → n < length all_transports → IsBoth box box copy → more ≡ boxes ++ own ∷ [] → IsWithTransport (get_or all_transports n Tcp) copy own → Transports box boxes n
+    → Transports box more (n + 1)
+transport_next box copy own boxes more n lt both is with pairs =
+    pair_more (λ transport one. IsWithTransport transport box one) all_transports boxes more own n is pairs
+    (λ transport.
+    (let P : Transport → Type 0 = λ x. IsWithTransport x box own in
+    subst P (get_or_default all_transports n Tcp transport lt)
+    (record {
+      all = λ numbers point h fit. with.all numbers point (both.all numbers point h h) fit;
+      own = λ numbers point h. both.first numbers point (with.own numbers point h);
+      with = with.with;
+    })))
 
-  -- packets with one walk
-  pub exact_part : (exact : Leaf) → HasNumbers part → IsWalkOf t given.hook part exact → IsExact t given exact × HasShared transport given.area leaf.area exact.area
-  exact_part exact some own =
-      let inside : (numbers : List ℕ) → IsPoint numbers → Has part numbers → Has given.area numbers = λ numbers point h. both.second numbers point (with.own numbers point h) in
-      let can : (p : Packet) → IsPacket p → HasOwnInterfaces p → IsIn part p → IsAtHook p = λ p is mine h. at_hook_of transport p is mine (with.with p.values is.within h) in
-      let Q : List SpanSet → Type 0 = λ (box : List SpanSet). (numbers : List ℕ) → IsPoint numbers → Has box numbers → Has given.area numbers in
-      let C : List SpanSet → Type 0 = λ (box : List SpanSet). (p : Packet) → IsPacket p → HasOwnInterfaces p → IsIn box p → IsAtHook p in
-      let R : List SpanSet → Type 0 = λ (box : List SpanSet). (p : Packet) → IsAtHook p → p.hook ≡ given.hook → IsIn box p → walk t p ≡ walked_of t.chains exact in
-      let S : List SpanSet → Type 0 = λ (box : List SpanSet). HasShared transport given.area leaf.area box in (
-        record { inside = subst Q (sym own.same) inside; can = subst C (sym own.same) can; some = subst HasNumbers (sym own.same) some; walked = subst R (sym own.same) own.walked },
-        subst S (sym own.same) in_part,
-      )
+-- ---- the parts of a leaf
 
-  -- packets that may have several walks
-  pub split_part : (budget : ℕ) → HasNumbers part → HasSplitCopy t given.hook budget part → HasSplitPart t given.hook budget transport given.area leaf.area
-  split_part budget some split = record {
-    part = part;
-    all = in_part;
-    only = λ numbers point h. (let own = with.own numbers point h in (both.second numbers point own, both.first numbers point own));
-    some = some;
-    split = split;
-  }
+module _ (given : Given) (leaf : Leaf) (transport : Transport) (own : List SpanSet) (with : IsWithTransport transport given.area own) where
+  -- a part has only packets that can be at the hook, and they have the walk that it shows
+  pub exact_part : (t : Table) (part : Leaf) → IsShown t given leaf → IsShare leaf own part → IsExact t given part
+  exact_part t part shown share =
+      let in_own : (numbers : List ℕ) → IsPoint numbers → Has part.area numbers → Has own numbers = share.both.second in
+      record {
+        inside = λ numbers point h. with.own numbers point (in_own numbers point h);
+        can = λ p is mine h. at_hook_of transport p is mine (with.with p.values is.within (in_own p.values is.within h));
+        some = share.some;
+        walked = λ p can there h.
+            (let point = can.packet.within in
+            (shown p can there (share.both.first p.values point h)).1 ∙ sym (share.shows t.chains));
+      }
+
+  -- it has each packet with the transport header that the leaf and the given box share
+  shared : (p : Packet) → IsAtHook p → HasTransport transport p → IsIn given.area p → IsIn own p
+  shared p can h inside = with.all p.values can.packet.within inside (fits_of transport p can h)
+
+  pub part_has : (part : Leaf) → IsShare leaf own part → (p : Packet) → IsAtHook p → HasTransport transport p → IsIn given.area p → IsIn leaf.area p → IsIn part.area p
+  part_has part share p can h inside there = share.both.all p.values can.packet.within there (shared p can h inside)
+
+  -- where it has none there are none
+  pub part_none : IsPartIn leaf own None → (p : Packet) → IsAtHook p → HasTransport transport p → IsIn given.area p → IsIn leaf.area p → ⊥
+  part_none none p can h inside there = none p.values can.packet.within there (shared p can h inside)
 
 -- ---- transport header after transport header
 
-module _ (t : Table) (given : Given) (leaf : Leaf) where
+module _ (given : Given) (leaf : Leaf) where
   -- of the first so many transport headers
   abbrev pub AreSharedBelow : List Leaf → ℕ → Type 0
   AreSharedBelow exact count = (k : ℕ) (d : Transport) → k < count → (p : Packet) → IsAtHook p → HasTransport (get_or all_transports k d) p → IsIn given.area p → IsIn leaf.area p → AnyHas p.values exact
@@ -88,22 +87,23 @@ module _ (t : Table) (given : Given) (leaf : Leaf) where
   pub shared_begins : (exact : List Leaf) → AreSharedBelow exact 0
   shared_begins exact k d lt = absurd (omega (arith, lt))
 
-  module _ (i : ℕ) (transport : Transport) (at : (d : Transport) → get_or all_transports i d ≡ transport) where
-    next : (exact : List Leaf) → AreSharedBelow exact i → ((p : Packet) → IsAtHook p → HasTransport transport p → IsIn given.area p → IsIn leaf.area p → AnyHas p.values exact) → AreSharedBelow exact (i + 1)
-    next exact below here k d lt p can h =
+  module _ (i : ℕ) (lt : i < length all_transports) where
+    next : (exact : List Leaf) → AreSharedBelow exact i → ((p : Packet) → IsAtHook p → HasTransport (get_or all_transports i Tcp) p → IsIn given.area p → IsIn leaf.area p → AnyHas p.values exact) → AreSharedBelow exact (i + 1)
+    next exact below here k d less p can h =
         let P : Transport → Type 0 = λ x. HasTransport x p in
         let Q : ℕ → Type 0 = λ j. HasTransport (get_or all_transports j d) p in
         elim (cases_eq k i) [
-          | inl e ↦ here p can (subst P (at d) (subst Q e h))
-          | inr ne ↦ below k d (omega (arith, ne, lt)) p can h
+          | inl e ↦ here p can (subst P (get_or_default all_transports i d Tcp lt) (subst Q e h))
+          | inr ne ↦ below k d (omega (arith, ne, less)) p can h
         ]
 
-    pub shared_nobody : (exact : List Leaf) → AreSharedBelow exact i → ((p : Packet) → IsAtHook p → HasTransport transport p → IsIn given.area p → IsIn leaf.area p → ⊥) → AreSharedBelow exact (i + 1)
+    pub shared_nobody : (exact : List Leaf) → AreSharedBelow exact i → ((p : Packet) → IsAtHook p → HasTransport (get_or all_transports i Tcp) p → IsIn given.area p → IsIn leaf.area p → ⊥) → AreSharedBelow exact (i + 1)
     shared_nobody exact below none = next exact below (λ p can h own there. absurd (none p can h own there))
 
-    pub shared_one : (exact : List Leaf) (own : Leaf) → AreSharedBelow exact i → HasShared transport given.area leaf.area own.area → AreSharedBelow (exact ++ own ∷ []) (i + 1)
+    pub shared_one : (exact : List Leaf) (own : Leaf) → AreSharedBelow exact i → ((p : Packet) → IsAtHook p → HasTransport (get_or all_transports i Tcp) p → IsIn given.area p → IsIn leaf.area p → IsIn own.area p)
+        → AreSharedBelow (exact ++ own ∷ []) (i + 1)
     shared_one exact own below shared =
-        next (exact ++ own ∷ []) (λ k d lt p can h a b. any_left (λ (l : Leaf). Has l.area p.values) exact (own ∷ []) (below k d lt p can h a b))
+        next (exact ++ own ∷ []) (λ k d less p can h a b. any_left (λ (l : Leaf). Has l.area p.values) exact (own ∷ []) (below k d less p can h a b))
         (λ p can h a b. Any-push (λ (l : Leaf). Has l.area p.values) exact own (shared p can h a b))
 
   -- of all of them
@@ -118,6 +118,14 @@ module _ (t : Table) (given : Given) (found : List Leaf) (i : ℕ) (leaf : Leaf)
   pub covered_next : (old new : List Leaf) → AddsExact t given leaf old new → ((k : ℕ) (d : Leaf) → k < i → IsCovered given old (get_or found k d)) → (k : ℕ) (d : Leaf) → k < i + 1 → IsCovered given new (get_or found k d)
   covered_next old new adds below = items_next (IsCovered given new) found i leaf lt is (λ k d less p can own there. adds.kept p.values (below k d less p can own there)) adds.covered
 
+-- a leaf of exact ones is shown
+pub shown_at : (t : Table) (given : Given) (found : List Leaf) (i : ℕ) (leaf : Leaf) → i < length found → leaf ≡ get_or found i leaf → AreExactOn t given.hook given.area found → IsShown t given leaf
+shown_at t given found i leaf lt is exact p can there = let P : Leaf → Type 0 = λ l. ShowsWalk t given.area p l in subst P (sym is) (exact p can there i leaf lt)
+
+-- leaves of a copy of the box are exact on the box
+pub exact_copy : (t : Table) (given : Given) (start : List SpanSet) (found : List Leaf) → IsBoth given.area given.area start → AreExactOn t given.hook start found → AreExactOn t given.hook given.area found
+exact_copy t given start found copy exact p can there k d lt inside = let own = exact p can there k d lt inside in (copy.first p.values can.packet.within own.0, own.1)
+
 -- the exact leaves of all leaves
 pub exact_walks_of : (t : Table) (given : Given) (start : List SpanSet) (found exact : List Leaf) → IsBoth given.area given.area start → AreLeavesOf t given.hook start found → AreExact t given found exact → AreExactWalks t given exact
 exact_walks_of t given start found exact copy leaves is = record {
@@ -128,10 +136,3 @@ exact_walks_of t given start found exact copy leaves is = record {
       let own : IsCovered given exact w.1 = All-contains (IsCovered given exact) found w.1 is.all (w.0, w.2, w.3) in
       own p can inside w.4.inside);
 }
-
--- the same where they are known, and where not
-pub exact_walks_if : (t : Table) (given : Given) (budget : ℕ) (start : List SpanSet) (found : List Leaf) (o : Option (Vec Leaf Global)) → IsBoth given.area given.area start → AreLeavesOf t given.hook start found → IsFinished t given.hook start budget found
-    → MatchOption o (Any (IsSplitIn t given budget) found) (λ (v : Vec Leaf Global). AreExact t given found v.items)
-    → MatchOption o (MayBeSeveral t given budget) (λ (v : Vec Leaf Global). AreExactWalks t given v.items)
-exact_walks_if t given budget start found None copy leaves finished h = (start, copy, inr (found, finished, h))
-exact_walks_if t given budget start found (Some v) copy leaves finished h = exact_walks_of t given start found v.items copy leaves h

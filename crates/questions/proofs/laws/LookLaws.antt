@@ -23,7 +23,7 @@ use Rattle.questions.specs.Ends.{IsRule}
 use Rattle.questions.specs.declared.walking.task.Pending.{Pending}
 use Rattle.questions.specs.steps.Ahead.{IsTakenAhead, LetsPass, LetsPassIn, TakesBefore}
 use Rattle.questions.specs.steps.Waiting.{IsThere, rest_of, rule_ahead}
-use Rattle.questions.proofs.laws.AreaLaws.{apart_of, box_of_rule}
+use Rattle.questions.proofs.laws.AreaLaws.{box_of_rule}
 use Rattle.questions.proofs.laws.TrailLaws.{one_place}
 
 -- a rule that was asked for is the next one
@@ -75,4 +75,12 @@ below_next P low n below here k lo hi =
     elim (cases_lt k n) [
       | inl lt ↦ below k lo lt
       | inr le ↦ subst P (omega (arith, le, hi)) here
+    ]
+
+-- and up to the next one, where it holds in between
+pub past_next : (P : ℕ → Type 0) (low n next : ℕ) → ((k : ℕ) → low ≤ k → k < n + 1 → P k) → ((k : ℕ) → n + 1 ≤ k → k < next → P k) → (k : ℕ) → low ≤ k → k < next → P k
+past_next P low n next below between k lo hi =
+    elim (cases_lt k (n + 1)) [
+      | inl lt ↦ below k lo lt
+      | inr le ↦ between k le hi
     ]

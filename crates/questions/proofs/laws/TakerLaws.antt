@@ -29,9 +29,9 @@ use Rattle.questions.specs.declared.asked.reach.Given.{Given}
 use Rattle.questions.specs.declared.asked.takers.Takers.{Takers}
 use Rattle.questions.specs.declared.walking.task.Leaf.{Leaf}
 use Rattle.questions.specs.steps.Exact.{AreExactWalks, IsExact}
-use Rattle.questions.specs.steps.Takers.{AllTake, AreBefore, AreWalksOf, Grows, IsAmong, IsBoxAt, IsByThis, IsDecided, IsMatchedAt, IsTakenAt, IsWalked, Takes, TakesAll, TakesOne}
+use Rattle.questions.specs.steps.Takers.{AllTake, AreBefore, AreWalksOf, Grows, IsAmong, IsBoxAt, IsByThis, IsMatchedAt, IsTakenAt, IsWalked, Takes, TakesAll, TakesOne}
 use Rattle.questions.proofs.laws.AreaLaws.{box_of_rule, has_of_rule, on_field}
-use Rattle.questions.proofs.laws.EndLaws.{decider_is_rule, decider_shown, none_some}
+use Rattle.questions.proofs.laws.EndLaws.{by_policy_where, decider_is_rule, decider_shown, none_some}
 use Rattle.questions.proofs.laws.LeadLaws.{entry_led}
 use Rattle.questions.proofs.laws.ReachLaws.{packet_with, with_inside, with_packet}
 use Rattle.questions.proofs.laws.TrailLaws.{items_next, never_on, rule_matches}
@@ -72,8 +72,8 @@ module _ (t : Table) (step : Step) (hook : Hook) (given : Given) (s : IsSound t)
       let can : IsAtHook p = ex.can p packet own.0 inside in
       (p, record { can = can; there = box.there; matched = and_from (allows_each p.values (rule_at t step)) (cross p.values (rule_at t step)) own.1 (alone p.values) }, ex.walked p can refl inside)
 
-  pub before_of : (exact : List Leaf) → AreExactWalks t given exact → All (λ leaf. Contains leaf.trail.items step → ⊥) exact → All IsDecided exact → AreBefore t step hook exact
-  before_of exact walks none decided =
+  pub before_of : (exact : List Leaf) → AreExactWalks t given exact → All (λ leaf. Contains leaf.trail.items step → ⊥) exact → AreBefore t step hook exact
+  before_of exact walks none =
       let all : AreWalksOf t step hook exact = λ p m. (
       let there = m.there ∙ sym box.there in
       let w = walks.all p m.can there (box.all p m) in
@@ -83,7 +83,6 @@ module _ (t : Table) (step : Step) (hook : Hook) (given : Given) (s : IsSound t)
         dead = λ p can e on. never_on t p step hook exact s is all none can e on;
         all = all;
         each = λ k d lt. walked_in (get_or exact k d) (walks.each k d lt);
-        decided = decided;
       }
 
 -- ---- who decides them
@@ -213,9 +212,9 @@ module _ (t : Table) (step : Step) where
 
   module _ (s : IsSound t) where
     -- a packet of a leaf is decided by whom the leaf shows
-    shown_by : (p : Packet) (leaf : Leaf) (by : Option Step) → walk t p ≡ walked_of t.chains leaf → IsDecided leaf → step_of leaf ≡ by → MatchOption by (IsTrue (walk t p).by_policy) (λ taker. IsRule t taker × IsDecidedBy t p taker)
-    shown_by p leaf None walked own e = ap (λ (w : Walked). w.by_policy) walked ∙ own e
-    shown_by p leaf (Some x) walked own e =
+    shown_by : (p : Packet) (leaf : Leaf) (by : Option Step) → walk t p ≡ walked_of t.chains leaf → step_of leaf ≡ by → MatchOption by (IsTrue (walk t p).by_policy) (λ taker. IsRule t taker × IsDecidedBy t p taker)
+    shown_by p leaf None walked e = ap (λ (w : Walked). w.by_policy) walked ∙ by_policy_where leaf e
+    shown_by p leaf (Some x) walked e =
         let P : Option Step → Type 0 = λ o. IfSome o (IsRule t) in
         (subst P e (decider_is_rule t p leaf s walked), ap decider_of walked ∙ decider_shown t.chains leaf ∙ ap (option_map (entry_of t.chains)) e)
 
@@ -229,27 +228,26 @@ module _ (t : Table) (step : Step) where
         dead = before.dead;
         decided = λ led p m. (
             let w = before.all p m in
-            let own : IsDecided w.1 = All-contains IsDecided leaves w.1 before.decided (w.0, w.2, w.3) in
             let there : IsAmong new hook (step_of w.1) = All-contains (λ (l : Leaf). IsAmong new hook (step_of l)) leaves w.1 takes.added (w.0, w.2, w.3) in
             let P : Hook → Type 0 = λ h. IsAmong new h (step_of w.1) in
-            among_of p new (step_of w.1) (shown_by p w.1 (step_of w.1) w.4.walked own refl) (subst P (sym m.there) there));
+            among_of p new (step_of w.1) (shown_by p w.1 (step_of w.1) w.4.walked refl) (subst P (sym m.there) there));
       }
 
       -- a packet of a leaf that this decides
-      taken_by : (at : Hook) (by : Option Step) (leaf : Leaf) → IsLed t step hook → IsByThis hook leaf at by → IsWalked t step hook leaf → IsDecided leaf → TakesOne t step at by
-      taken_by at None leaf led is one own =
+      taken_by : (at : Hook) (by : Option Step) (leaf : Leaf) → IsLed t step hook → IsByThis hook leaf at by → IsWalked t step hook leaf → TakesOne t step at by
+      taken_by at None leaf led is one =
           let m : IsMatchedAt t step hook one.0 = one.1 in
           let P : Hook → Type 0 = λ k. IsLed t step k in
-          (one.0, record { can = m.can; led = subst P (sym m.there) led; matched = m.matched }, (m.there ∙ sym (is.there refl), shown_by one.0 leaf None one.2 own is.decides))
-      taken_by at (Some x) leaf led is one own =
+          (one.0, record { can = m.can; led = subst P (sym m.there) led; matched = m.matched }, (m.there ∙ sym (is.there refl), shown_by one.0 leaf None one.2 is.decides))
+      taken_by at (Some x) leaf led is one =
           let m : IsMatchedAt t step hook one.0 = one.1 in
           let P : Hook → Type 0 = λ k. IsLed t step k in
-          (one.0, record { can = m.can; led = subst P (sym m.there) led; matched = m.matched }, shown_by one.0 leaf (Some x) one.2 own is.decides)
+          (one.0, record { can = m.can; led = subst P (sym m.there) led; matched = m.matched }, shown_by one.0 leaf (Some x) one.2 is.decides)
 
       pub all_take : IsLed t step hook → AllTake t step old → AllTake t step new
       all_take led below at by h = elim (takes.only at by h) [
         | inl there ↦ below at by there
-        | inr w ↦ taken_by at by w.1 led w.4 (All-contains (IsWalked t step hook) leaves w.1 before.each (w.0, w.2, w.3)) (All-contains IsDecided leaves w.1 before.decided (w.0, w.2, w.3))
+        | inr w ↦ taken_by at by w.1 led w.4 (All-contains (IsWalked t step hook) leaves w.1 before.each (w.0, w.2, w.3))
       ]
 
     -- of all hooks

@@ -27,15 +27,16 @@ use Rattle.table.specs.walk.Walk.{Rest, Entry, after_match, end_verdict, whole}
 use Rattle.table.proofs.laws.chains.KeepLaws.{rules_by_name}
 use Rattle.table.proofs.laws.chains.PlaceLaws.{IsPlaced, placed_at, any_none}
 use Rattle.table.proofs.laws.walk.CaseLaws.{walk_is}
-use Rattle.questions.specs.Leaves.{name_at, entry_of, entries_of, walked_of, EndsIn, AreLeavesOf}
+use Rattle.questions.specs.Leaves.{name_at, entry_of, entries_of, walked_of, EndsIn, ShowsWalk, AreExactOn, AreLeavesOf}
 use Rattle.questions.specs.boxes.Area.{Has, IsAtHook, IsIn}
 use Rattle.questions.specs.boxes.Cut.{IsInSome, IsCut, IsPartedFor, IsApart}
 use Rattle.questions.specs.steps.Taken.{GetsTo, IsStep, AreSteps}
-use Rattle.questions.specs.steps.Waiting.{rest_of, rests_of, behind, Reaches, stage_of, WaitsIn, IsAccounted, IsThere, AreThere, IsAsked, Keeps, Moves, PassesOver, Begins, entry_before}
+use Rattle.questions.specs.steps.Waiting.{rest_of, rests_of, behind, Reaches, stage_of, WaitsIn, IsAccounted, Belongs, FitsTask, IsThere, AreThere, IsAsked, Keeps, Moves, PassesOver, Begins, entry_before}
 use Rattle.questions.specs.declared.walking.front.Front.{Front}
 use Rattle.questions.specs.declared.walking.task.Leaf.{Leaf}
 use Rattle.questions.specs.declared.walking.task.Pending.{Pending}
 use Rattle.questions.specs.declared.walking.task.Task.{Task}
+use Rattle.questions.proofs.laws.AreaLaws.{some_left}
 
 -- ---- one step more
 
@@ -74,6 +75,10 @@ module _ (t : Table) (policy : Verdict) (old new : Front) where
     pub task_moves : AreThere t.chains task → Moves t policy task.area (stage_of t.chains task) old new
     task_moves there = record {
       moved = λ p asked stands. inl (any_last (WaitsIn t p) old.tasks.items task new.tasks.items tasks stands);
+      fits = λ start p asked fit all. record {
+        tasks = (let Q : List Task → Type 0 = λ ts. All (FitsTask t start p) ts in subst Q (sym tasks) (All-push (FitsTask t start p) old.tasks.items task all.tasks fit));
+        leaves = (let Q : List Leaf → Type 0 = λ ls. All (ShowsWalk t start p) ls in subst Q (sym leaves) all.leaves);
+      };
       keeps = record {
         kept = kept_task;
         there = λ all. (let Q : List Task → Type 0 = λ ts. All (AreThere t.chains) ts in subst Q (sym tasks) (All-push (AreThere t.chains) old.tasks.items task all there));
@@ -88,6 +93,11 @@ module _ (t : Table) (policy : Verdict) (old new : Front) where
     pub leaf_moves : Moves t policy leaf.area (Over (walked_of t.chains leaf)) old new
     leaf_moves = record {
       moved = λ p asked stands. inr (any_last (EndsIn t p) old.leaves.items leaf new.leaves.items leaves (record { inside = stands.inside; walked = walk_is t p (walked_of t.chains leaf) stands.reaches }));
+      fits = λ start p asked fit all. record {
+        tasks = (let Q : List Task → Type 0 = λ ts. All (FitsTask t start p) ts in subst Q (sym tasks) all.tasks);
+        leaves = (let Q : List Leaf → Type 0 = λ ls. All (ShowsWalk t start p) ls in
+            subst Q (sym leaves) (All-push (ShowsWalk t start p) old.leaves.items leaf all.leaves (λ inside. let own = fit inside in (own.0, walk_is t p (walked_of t.chains leaf) own.1))));
+      };
       keeps = record {
         kept = kept_leaf;
         there = λ all. (let Q : List Task → Type 0 = λ ts. All (AreThere t.chains) ts in subst Q (sym tasks) all);
@@ -110,6 +120,7 @@ module _ (t : Table) (policy : Verdict) (box : List SpanSet) (old new : Front) w
   pub moves_step : (one two : Stage) → ((p : Packet) → StepsTo t.chains (end_verdict t p) p.values one two) → Moves t policy box two old new → Moves t policy box one old new
   moves_step one two s h = record {
     moved = λ p asked stands. h.moved p asked (record { inside = stands.inside; reaches = reaches_more t p one two stands.reaches (s p) });
+    fits = λ start p asked fit. h.fits start p asked (λ inside. let own = fit inside in (own.0, reaches_more t p one two own.1 (s p)));
     keeps = h.keeps;
   }
 
@@ -173,15 +184,6 @@ keeps_then t one two three a b = record { kept = λ p h. b.kept p (a.kept p h); 
 
 -- ---- boxes that go on behind a rule, one after another
 
-pub some_left : (boxes left : List (List SpanSet)) (box : List SpanSet) (numbers : List ℕ) → boxes ≡ left ++ box ∷ [] → IsInSome boxes numbers → IsInSome left numbers ⊎ Has box numbers
-some_left boxes left box numbers e a =
-    let Q : List (List SpanSet) → Type 0 = λ bs. Contains bs a.0 in
-    let R : List SpanSet → Type 0 = λ b. Has b numbers in
-    elim (Contains-push_cases left box a.0 (subst Q e a.1)) [
-      | inl c ↦ inl (a.0, c, a.2)
-      | inr same ↦ inr (subst R (sym same) a.2)
-    ]
-
 pub passed_next : (t : Table) (policy : Verdict) (p : Packet) (boxes left : List (List SpanSet)) (box : List SpanSet) (stage : Stage) (old new : Front) → boxes ≡ left ++ box ∷ [] → IsAsked t policy p → Reaches t p stage
     → Moves t policy box stage old new → IsInSome boxes p.values ⊎ IsAccounted t p old → IsInSome left p.values ⊎ IsAccounted t p new
 passed_next t policy p boxes left box stage old new e asked reaches h (inr a) = inr (h.keeps.kept p a)
@@ -190,6 +192,15 @@ passed_next t policy p boxes left box stage old new e asked reaches h (inl is) =
       | inl there ↦ inl there
       | inr here ↦ inr (h.moved p asked (record { inside = here; reaches = reaches }))
     ]
+
+-- a box that is taken out of some was one of them, and the others were, too
+pub some_before : (boxes left : List (List SpanSet)) (box : List SpanSet) (numbers : List ℕ) → boxes ≡ left ++ box ∷ [] → IsInSome left numbers ⊎ Has box numbers → IsInSome boxes numbers
+some_before boxes left box numbers e h =
+    let P : List (List SpanSet) → Type 0 = λ bs. IsInSome bs numbers in
+    subst P (sym e) (elim h [
+      | inl some ↦ (some.0, Contains-append_left left (box ∷ []) some.0 some.1, some.2)
+      | inr here ↦ (box, Contains-push left box, here)
+    ])
 
 -- ---- the next rule
 
@@ -219,12 +230,20 @@ module _ (t : Table) (sound : IsSound t) (policy : Verdict) (at : Pending) (ther
     goes_past : (p : Packet) → matches p.values rule ≡ false → Reaches t p here → Reaches t p after
     goes_past p un reaches = reaches_more t p here after reaches (inl (rule, next_is, un, refl))
 
+    -- it goes past where the rule doesn't match
+    passes : (start box : List SpanSet) (p : Packet) (X : Type 0) → (IsIn box p → Belongs t start p here) → (X → IsIn box p × (matches p.values rule ≡ false)) → X → Belongs t start p after
+    passes start box p X fit rest some =
+        let own = rest some in
+        let belongs = fit own.0 in
+        (belongs.0, goes_past p own.1 belongs.1)
+
     pub apart_moves : (box : List SpanSet) (old new : Front) → IsApart rule box → Moves t policy box after old new → Moves t policy box here old new
     apart_moves box old new apart h = record {
       moved = λ p asked stands. h.moved p asked (record {
         inside = stands.inside;
         reaches = goes_past p (apart.none p.values asked.at_hook.packet.within stands.inside) stands.reaches;
       });
+      fits = λ start p asked fit. h.fits start p asked (λ inside. let own = fit inside in (own.0, goes_past p (apart.none p.values asked.at_hook.packet.within inside) own.1));
       keeps = h.keeps;
     }
 
@@ -239,6 +258,13 @@ module _ (t : Table) (sound : IsSound t) (policy : Verdict) (at : Pending) (ther
             })
             | inr un ↦ h.keeps.kept p (over.passed p asked (cut.others p.values asked.at_hook.packet.within stands.inside un) (goes_past p un stands.reaches))
           ];
+      fits = λ start p asked fit all.
+          (let point = asked.at_hook.packet.within in
+          h.fits start p asked (λ inside.
+          let own = cut.only p.values point inside in
+          let fits_here = fit own.0 in
+          (fits_here.0, reaches_more t p here (on_by (after_match (target_of rule) (rest_of t.chains (behind at)) waiting) (es ++ entry_before t.chains (behind at) ∷ [])) fits_here.1 (inr (inr (inl (rule, next_is, own.1, room, refl))))))
+          (over.fits start p asked (passes start box p (IsInSome outside p.values) fit (cut.rest p.values point)) all));
       keeps = keeps_then t old mid new over.keeps h.keeps;
     }
 
@@ -253,6 +279,9 @@ module _ (t : Table) (sound : IsSound t) (policy : Verdict) (at : Pending) (ther
               | inr out ↦ once.keeps.kept p (over.passed p asked out (goes_past p un stands.reaches))
             ]
           ];
+      fits = λ start p asked fit all.
+          (let point = asked.at_hook.packet.within in
+          once.fits start p asked (λ some. fit (parted.only p.values point some)) (over.fits start p asked (passes start box p (IsInSome outside p.values) fit (parted.rest p.values point)) all));
       keeps = keeps_then t old mid new over.keeps once.keeps;
     }
 
@@ -267,6 +296,7 @@ module _ (t : Table) (policy : Verdict) (box : List SpanSet) (old new : Front) w
           inside = stands.inside;
           reaches = reaches_more t p (Under [] es) (over policy) stands.reaches (sym (ap over asked.ends));
         });
+        fits = λ start p asked fit. h.fits start p asked (λ inside. let own = fit inside in (own.0, reaches_more t p (Under [] es) (over policy) own.1 (sym (ap over asked.ends))));
         keeps = h.keeps;
       }
 
@@ -289,9 +319,9 @@ named_first (a ∷ b ∷ c ∷ cs) Input e = (ap (λ (ns : List (List ℕ)). get
 named_first (a ∷ b ∷ c ∷ cs) Forward e = (ap (λ (ns : List (List ℕ)). get_or ns 1 []) e, omega arith)
 named_first (a ∷ b ∷ c ∷ cs) Output e = (ap (λ (ns : List (List ℕ)). get_or ns 2 []) e, omega arith)
 
-pub begun : (t : Table) (hook : Hook) (box : List SpanSet) (rests empty : List Pending) (trail : List Step) (k : ℕ) (old new : Front) → IsSound t → k ≡ hook_index hook → rests ≡ empty ++ record { chain = k; passed = 0 } ∷ [] → empty ≡ [] → trail ≡ [] → old.tasks.items ≡ []
+pub begun : (t : Table) (hook : Hook) (box : List SpanSet) (rests empty : List Pending) (trail : List Step) (k : ℕ) (old new : Front) → IsSound t → k ≡ hook_index hook → rests ≡ empty ++ record { chain = k; passed = 0 } ∷ [] → empty ≡ [] → trail ≡ [] → old.tasks.items ≡ [] → old.leaves.items ≡ []
     → ((policy : Verdict) → All (IsThere t.chains) rests → Moves t policy box (Under (rests_of t.chains rests) (entries_of t.chains trail)) old new) → Begins t hook box new
-begun t hook box rests empty trail k old new sound at is none bare no_task h =
+begun t hook box rests empty trail k old new sound at is none bare no_task no_leaf h =
     let first : ℕ → Pending = λ j. record { chain = j; passed = 0 } in
     let named = named_first t.chains hook sound.listed.built_in in
     let one : rests ≡ first (hook_index hook) ∷ [] = is ∙ ap (λ (ps : List Pending). ps ++ first k ∷ []) none ∙ ap (λ j. first j ∷ []) at in
@@ -299,14 +329,18 @@ begun t hook box rests empty trail k old new sound at is none bare no_task h =
     let Q : List Task → Type 0 = λ ts. All (AreThere t.chains) ts in
     let there : All (IsThere t.chains) rests = subst P (sym one) (All-cons (IsThere t.chains) (first (hook_index hook)) [] named.1 (All-nil (IsThere t.chains))) in
     let rest : List ℕ → Rest = λ n. record { chain = n; passed = 0 } in
+    let stage : (p : Packet) → p.hook ≡ hook → Under (whole (hook_name p.hook) ∷ []) [] ≡ Under (rests_of t.chains rests) (entries_of t.chains trail) =
+    λ p e. ap (λ g. Under (rest (hook_name g) ∷ []) []) e
+    ∙ ap (λ n. Under (rest n ∷ []) []) (sym named.0)
+    ∙ ap (λ (ps : List Pending). Under (rests_of t.chains ps) []) (sym one)
+    ∙ ap (λ (ss : List Step). Under (rests_of t.chains rests) (entries_of t.chains ss)) (sym bare) in
     record {
-      all = λ p can e inside.
-          (let stage : Under (whole (hook_name p.hook) ∷ []) [] ≡ Under (rests_of t.chains rests) (entries_of t.chains trail) =
-          ap (λ g. Under (rest (hook_name g) ∷ []) []) e
-          ∙ ap (λ n. Under (rest n ∷ []) []) (sym named.0)
-          ∙ ap (λ (ps : List Pending). Under (rests_of t.chains ps) []) (sym one)
-          ∙ ap (λ (ss : List Step). Under (rests_of t.chains rests) (entries_of t.chains ss)) (sym bare) in
-          (h (end_verdict t p) there).moved p (record { at_hook = can; ends = refl }) (record { inside = inside; reaches = (0, stage) }));
+      all = λ p can e inside. (h (end_verdict t p) there).moved p (record { at_hook = can; ends = refl }) (record { inside = inside; reaches = (0, stage p e) });
+      fits = λ p can e.
+          (let T : List Task → Type 0 = λ ts. All (FitsTask t box p) ts in
+          let L : List Leaf → Type 0 = λ ls. All (ShowsWalk t box p) ls in
+          (h (end_verdict t p) there).fits box p (record { at_hook = can; ends = refl }) (λ inside. (inside, (0, stage p e)))
+          (record { tasks = subst T (sym no_task) (All-nil (FitsTask t box p)); leaves = subst L (sym no_leaf) (All-nil (ShowsWalk t box p)) }));
       there = (h Accept there).keeps.there (subst Q (sym no_task) (All-nil (AreThere t.chains)));
     }
 
@@ -314,6 +348,17 @@ begun t hook box rests empty trail k old new sound at is none bare no_task h =
 pub begun_next : (t : Table) (hook : Hook) (box : List SpanSet) (old new : Front) → Begins t hook box old → IsStep t hook box old new → Begins t hook box new
 begun_next t hook box old new begins (policy, task, left, up, (next, further, moves)) = record {
   all = λ p can e inside. by_case p can e inside (begins.all p can e inside);
+  fits = λ p can e.
+      (let before = begins.fits p can e in
+      let split = All-pop (FitsTask t box p) old.tasks.items left.tasks.items (Some task) up.tasks before.tasks in
+      let L : List Leaf → Type 0 = λ ls. All (ShowsWalk t box p) ls in
+      let B : List SpanSet → Type 0 = λ b. IsIn b p in
+      moves.fits box p (record { at_hook = can; ends = up.ends p e })
+      (λ own.
+      let there = subst B further.area own in
+      let belongs = split.1 there in
+      (belongs.0, (further.waits p can belongs.0 (record { inside = there; reaches = belongs.1 })).reaches))
+      (record { tasks = split.0; leaves = subst L (sym up.leaves) before.leaves }));
   there = moves.keeps.there (All-pop (AreThere t.chains) old.tasks.items left.tasks.items (Some task) up.tasks begins.there).0;
 }
   where
@@ -334,6 +379,10 @@ all_leaves t hook box front begins none = λ p can e inside.
       | inl a ↦ absurd (omega (arith, none, a.2))
       | inr a ↦ a
     ]
+
+-- and these are exact
+pub all_exact : (t : Table) (hook : Hook) (box : List SpanSet) (front : Front) → Begins t hook box front → AreExactOn t hook box front.leaves.items
+all_exact t hook box front begins = λ p can e. (begins.fits p can e).leaves
 
 -- ---- steps
 

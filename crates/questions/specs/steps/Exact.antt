@@ -1,21 +1,15 @@
--- Boxes of which all packets have one walk.
-use Rattle.std.specs.Prelude.{◌≡◌, ◌≢◌, ◌⊎◌, List, ℕ, length, All, Any}
-use Rattle.fields.specs.declared.packet.hook.Hook.{Hook}
+-- Leaves that have only packets which can be at their hook.
+use Rattle.std.specs.Prelude.{◌≡◌, List, ℕ, Option, None, Some, All, Any}
 use Rattle.fields.specs.numbers.Spans.{SpanSet}
 use Rattle.fields.specs.packet.Packet.{PacketView as Packet, IsPacket}
-use Rattle.table.specs.chains.Table.{Table}
+use Rattle.table.specs.chains.Table.{Chain, Table}
 use Rattle.table.specs.walk.Walk.{walk}
 use Rattle.classify.specs.classifier.Classifier.{IsPoint}
-use Rattle.questions.specs.Leaves.{walked_of}
+use Rattle.questions.specs.Leaves.{ShowsWalk, walked_of}
 use Rattle.questions.specs.asked.Reach.{IsMeant}
 use Rattle.questions.specs.boxes.Area.{Has, HasNumbers, HasOwnInterfaces, IsAtHook, IsBoth, IsIn}
-use Rattle.questions.specs.declared.asked.exact.Shared.{Shared}
-use Rattle.questions.specs.declared.asked.exact.Shared.TheVariants.{Nobody, One, Several}
 use Rattle.questions.specs.declared.asked.reach.Given.{Given}
-use Rattle.questions.specs.declared.boxes.transport.Transport.{Transport}
 use Rattle.questions.specs.declared.walking.task.Leaf.{Leaf}
-use Rattle.questions.specs.steps.Taken.{IsFinished, IsUnfinished}
-use Rattle.questions.specs.steps.Transports.{HasTransport}
 
 -- one box has all packets of another that can be at the hook, and only packets of that one with interfaces that packets at the hook
 -- have
@@ -25,11 +19,6 @@ pub record IsMet (given met : Given) : Type 0 where
   pub own : (p : Packet) → IsPacket p → p.hook ≡ given.hook → IsIn met.area p → HasOwnInterfaces p
   pub only : (p : Packet) → IsPacket p → IsIn met.area p → IsIn given.area p
 
--- each packet of the box that can be at the hook has the walk that the leaf shows
-pub record IsWalkOf (t : Table) (hook : Hook) (box : List SpanSet) (leaf : Leaf) : Type 0 where
-  pub same : leaf.area ≡ box
-  pub walked : (p : Packet) → IsAtHook p → p.hook ≡ hook → IsIn box p → walk t p ≡ walked_of t.chains leaf
-
 -- the leaf's box has packets, and only packets of the given box; with interfaces that packets at the hook have each can be at the
 -- hook, and then has the walk that the leaf shows
 pub record IsExact (t : Table) (given : Given) (leaf : Leaf) : Type 0 where
@@ -38,36 +27,20 @@ pub record IsExact (t : Table) (given : Given) (leaf : Leaf) : Type 0 where
   pub some : HasNumbers leaf.area
   pub walked : (p : Packet) → IsAtHook p → p.hook ≡ given.hook → IsIn leaf.area p → walk t p ≡ walked_of t.chains leaf
 
--- a box has the packets with a transport header that two others share
-abbrev pub HasShared : Transport → List SpanSet → List SpanSet → List SpanSet → Type 0
-HasShared transport own other both = (p : Packet) → IsAtHook p → HasTransport transport p → IsIn own p → IsIn other p → IsIn both p
+-- each packet of the leaf's box that can be at the hook is one of these, and its walk is the one that the leaf shows
+abbrev pub IsShown : Table → Given → Leaf → Type 0
+IsShown t given leaf = (p : Packet) → IsAtHook p → p.hook ≡ given.hook → ShowsWalk t given.area p leaf
 
--- the walk of a box isn't finished within the budget, or has not exactly one leaf
-abbrev pub IsSplit : Table → Hook → ℕ → List SpanSet → Type 0
-IsSplit t hook budget box = IsUnfinished t hook box budget ⊎ ((leaves : List Leaf) × IsFinished t hook box budget leaves × (length leaves ≢ 1))
+-- a part of a leaf has packets, just those of the leaf's box that another box has, too, and it shows the same walk
+pub record IsShare (leaf : Leaf) (box : List SpanSet) (part : Leaf) : Type 0 where
+  pub both : IsBoth leaf.area box part.area
+  pub some : HasNumbers part.area
+  pub shows : (chains : List Chain) → walked_of chains part ≡ walked_of chains leaf
 
--- the walk of a box with the same packets is split
-abbrev pub HasSplitCopy : Table → Hook → ℕ → List SpanSet → Type 0
-HasSplitCopy t hook budget own = (box : List SpanSet) × IsBoth own own box × IsSplit t hook budget box
-
--- the walk of a box is split that has only packets which two others share, among them all that have the transport header
-pub record HasSplitPart (t : Table) (hook : Hook) (budget : ℕ) (transport : Transport) (own other : List SpanSet) : Type 0 where
-  pub part : List SpanSet
-  pub all : HasShared transport own other part
-  pub only : (numbers : List ℕ) → IsPoint numbers → Has part numbers → Has own numbers × Has other numbers
-  pub some : HasNumbers part
-  pub split : HasSplitCopy t hook budget part
-
--- for some transport header, packets that the leaf shares with the given box have a walk that is split
-abbrev pub IsSplitIn : Table → Given → ℕ → Leaf → Type 0
-IsSplitIn t given budget leaf = (transport : Transport) × HasSplitPart t given.hook budget transport given.area leaf.area
-
--- what the leaf shares with the given box, of packets with a transport header: nothing, an exact leaf, or packets whose walk is
--- split
-abbrev pub IsSharedOf : Table → Given → Leaf → Transport → ℕ → Shared → Type 0
-IsSharedOf t given leaf transport budget Nobody = (p : Packet) → IsAtHook p → HasTransport transport p → IsIn given.area p → IsIn leaf.area p → ⊥
-IsSharedOf t given leaf transport budget (One exact) = IsExact t given exact × HasShared transport given.area leaf.area exact.area
-IsSharedOf t given leaf transport budget Several = HasSplitPart t given.hook budget transport given.area leaf.area
+-- the part of a leaf that is in a box, or none where they share no packet
+abbrev pub IsPartIn : Leaf → List SpanSet → Option Leaf → Type 0
+IsPartIn leaf box None = (numbers : List ℕ) → IsPoint numbers → Has leaf.area numbers → Has box numbers → ⊥
+IsPartIn leaf box (Some part) = IsShare leaf box part
 
 -- some of the leaves have the numbers
 abbrev pub AnyHas : List ℕ → List Leaf → Type 0

@@ -31,6 +31,7 @@ pub record IsTakenUp (t : Table) (hook : Hook) (policy : Verdict) (task : Task) 
 
 -- the task at a later rule of its chain, before which none matches one of its packets that are in a box
 pub record IsFurther (t : Table) (box : List SpanSet) (task next : Task) : Type 0 where
+  pub area : next.area ≡ task.area
   pub trail : next.trail ≡ task.trail
   pub waits : (p : Packet) → IsAtHook p → IsIn box p → WaitsIn t p task → WaitsIn t p next
 

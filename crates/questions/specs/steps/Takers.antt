@@ -36,16 +36,11 @@ AreWalksOf t step hook leaves = (p : Packet) → IsMatchedAt t step hook p → A
 abbrev pub IsWalked : Table → Step → Hook → Leaf → Type 0
 IsWalked t step hook leaf = (p : Packet) × IsMatchedAt t step hook p × (walk t p ≡ walked_of t.chains leaf)
 
--- a rule or the policy decides the leaf's walk: it isn't too long
-abbrev pub IsDecided : Leaf → Type 0
-IsDecided leaf = step_of leaf ≡ None → IsTrue leaf.by_policy
-
 -- the rule is on the walk of no packet at the hook, and the leaves show exactly the walks of the packets that it matches
 pub record AreBefore (t : Table) (step : Step) (hook : Hook) (leaves : List Leaf) : Type 0 where
   pub dead : IsDeadAt t (entry_of t.chains step) hook
   pub all : AreWalksOf t step hook leaves
   pub each : All (IsWalked t step hook) leaves
-  pub decided : All IsDecided leaves
 
 -- this rule is among the deciders or, where no rule is given, the policy of the hook is
 abbrev pub IsAmong : Takers → Hook → Option Step → Type 0

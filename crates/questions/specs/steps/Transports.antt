@@ -1,6 +1,6 @@
 -- The transport header of a packet (tcp, another with ports, icmp, another without, or missing in a further fragment), and which
 -- numbers packets with it have.
-use Rattle.std.specs.Prelude.{◌≡◌, ℕ, ◌≤◌, ◌==◌, ◌||◌, not, Bool, true, false, List, [], ◌∷◌}
+use Rattle.std.specs.Prelude.{◌≡◌, ℕ, ◌<◌, ◌≤◌, ◌==◌, ◌||◌, not, Bool, true, false, List, [], ◌∷◌, length, slice_index_or}
 use Rattle.fields.specs.declared.numbers.field.Field.{Field}
 use Rattle.fields.specs.declared.numbers.field.Field.TheVariants as field
 use Rattle.fields.specs.numbers.Field.{number_on, top}
@@ -93,6 +93,12 @@ pub record IsWithTransport (t : Transport) (before after : List SpanSet) : Type 
   pub all : (numbers : List ℕ) → IsPoint numbers → Has before numbers → Fits t numbers → Has after numbers
   pub own : (numbers : List ℕ) → IsPoint numbers → Has after numbers → Has before numbers
   pub with : (numbers : List ℕ) → IsPoint numbers → Has after numbers → Fits t numbers
+
+-- for each transport header the packets of a box that have it
+pub record AreByTransport (box : List SpanSet) (boxes : List (List SpanSet)) : Type 0 where
+  pub long : length boxes ≡ length all_transports
+  pub each : (k : ℕ) (transport : Transport) (b : List SpanSet) → k < length all_transports
+      → IsWithTransport (slice_index_or all_transports k transport) box (slice_index_or boxes k b)
 
 -- one box has of the packets of another exactly those that are no further fragments and whose protocol passes a test
 pub record IsFirstWith (test : ℕ → Bool) (before after : List SpanSet) : Type 0 where

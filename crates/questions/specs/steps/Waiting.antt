@@ -11,7 +11,7 @@ use Rattle.table.specs.walk.Cases.{Stage, Under, GoesTo}
 use Rattle.table.specs.walk.Walk.{Rest, Entry, end_verdict, whole}
 use Rattle.questions.specs.boxes.Area.{IsAtHook, IsIn}
 use Rattle.questions.specs.boxes.Cut.{IsInSome}
-use Rattle.questions.specs.Leaves.{name_at, entries_of, EndsIn}
+use Rattle.questions.specs.Leaves.{name_at, entries_of, EndsIn, ShowsWalk}
 use Rattle.questions.specs.declared.walking.task.Pending.{Pending}
 use Rattle.questions.specs.declared.walking.task.Task.{Task}
 use Rattle.questions.specs.declared.walking.front.Front.{Front}
@@ -54,6 +54,19 @@ WaitsIn t p task = Stands t p task.area (stage_of t.chains task)
 abbrev pub IsAccounted : Table → Packet → Front → Type 0
 IsAccounted t p front = Any (WaitsIn t p) front.tasks.items ⊎ Any (EndsIn t p) front.leaves.items
 
+-- the packet is in the box from which all others come, and its walk gets to a stage
+abbrev pub Belongs : Table → List SpanSet → Packet → Stage → Type 0
+Belongs t start p stage = IsIn start p × Reaches t p stage
+
+-- if it is in a task's box, it fits the task's stage
+abbrev pub FitsTask : Table → List SpanSet → Packet → Task → Type 0
+FitsTask t start p task = IsIn task.area p → Belongs t start p (stage_of t.chains task)
+
+-- the packet is only in boxes of tasks whose stages it fits, and of leaves that show its walk
+pub record IsFitting (t : Table) (start : List SpanSet) (p : Packet) (front : Front) : Type 0 where
+  pub tasks : All (FitsTask t start p) front.tasks.items
+  pub leaves : All (ShowsWalk t start p) front.leaves.items
+
 -- the chain is there
 abbrev pub IsThere : List Chain → Pending → Type 0
 IsThere chains at = at.chain < length chains
@@ -76,21 +89,25 @@ pub record Keeps (t : Table) (old new : Front) : Type 0 where
   pub kept : (p : Packet) → IsAccounted t p old → IsAccounted t p new
   pub there : AllThere t.chains old → AllThere t.chains new
 
--- each packet of the box whose walk gets to the stage is accounted for, and so is each that was before
+-- each packet of the box whose walk gets to the stage is accounted for, and so is each that was before; and a packet that was only in boxes
+-- that fit it still is
 pub record Moves (t : Table) (policy : Verdict) (box : List SpanSet) (stage : Stage) (old new : Front) : Type 0 where
   pub moved : (p : Packet) → IsAsked t policy p → Stands t p box stage → IsAccounted t p new
+  pub fits : (start : List SpanSet) (p : Packet) → IsAsked t policy p → (IsIn box p → Belongs t start p stage) → IsFitting t start p old → IsFitting t start p new
   pub keeps : Keeps t old new
 
 -- the same of the packets in some boxes
 pub record PassesOver (t : Table) (policy : Verdict) (boxes : List (List SpanSet)) (stage : Stage) (old new : Front) : Type 0 where
   pub passed : (p : Packet) → IsAsked t policy p → IsInSome boxes p.values → Reaches t p stage → IsAccounted t p new
+  pub fits : (start : List SpanSet) (p : Packet) → IsAsked t policy p → (IsInSome boxes p.values → Belongs t start p stage) → IsFitting t start p old → IsFitting t start p new
   pub keeps : Keeps t old new
 
 -- the rule just before a place, as an entry of the trail
 abbrev pub entry_before : List Chain → Pending → Entry
 entry_before chains at = record { chain = name_at chains at.chain; number = at.passed }
 
--- each packet of a box that can be at the hook is accounted for
+-- each packet of a box that can be at the hook is accounted for, and only in boxes that fit it
 pub record Begins (t : Table) (hook : Hook) (box : List SpanSet) (front : Front) : Type 0 where
   pub all : (p : Packet) → IsAtHook p → p.hook ≡ hook → IsIn box p → IsAccounted t p front
+  pub fits : (p : Packet) → IsAtHook p → p.hook ≡ hook → IsFitting t box p front
   pub there : AllThere t.chains front

@@ -1,142 +1,69 @@
-//! The leaves of a set of packets, each with packets that all have one walk.
-ghost use Rattle.std.specs.Prelude.{◌≡◌, false, Any, IfOk, IsTrue, MatchOption};
-ghost use Rattle.questions.specs.asked.Unknown.{MayBeSeveral};
-ghost use Rattle.questions.specs.steps.Candidates.{AreFor, AreKept};
-ghost use Rattle.questions.specs.steps.Exact.{AddsExact, AreExact, AreExactWalks, HasSplitCopy, IsSharedOf, IsSplitIn, IsWalkOf};
+//! The leaves of a set of packets, cut into boxes that have only packets which can be at the hook.
+ghost use Rattle.std.specs.Prelude.{IfOk, MatchOption, OnOk};
+ghost use Rattle.table.specs.chains.Table.{Table};
+ghost use Rattle.questions.specs.Leaves.{AreExactOn};
+ghost use Rattle.questions.specs.asked.Unknown.{CantBeWalked};
+ghost use Rattle.questions.specs.declared.asked.reach.Given.{Given as Packets};
+ghost use Rattle.questions.specs.steps.Exact.{AddsExact, AreExact, AreExactWalks, IsPartIn, IsShown};
+ghost use Rattle.questions.specs.steps.Transports.{AreByTransport};
 
 use crate::asked::reach::Given;
 use crate::boxes::area::Area;
 use crate::boxes::boxed_table::BoxedTable;
-use crate::boxes::candidates::Candidates;
-use crate::boxes::transport::{Transport, with_transport};
-use crate::walking::engine::leaves_among;
-use crate::walking::task::Leaf;
-use fields::Hook;
+use crate::boxes::meeting::meet;
+use crate::boxes::transport::by_transport;
+use crate::walking::engine::leaves;
+use crate::walking::task::{Leaf, copy_trail};
 use std::alloc::{AllocError, Global};
 
-// The walks of the packets that a leaf shares with a box.
-#[derive(Drop)]
-enum Shared {
-    // There are none.
-    Nobody,
-    // They have one walk.
-    One(Leaf),
-    // They may have several, or walks that don't end within the budget.
-    Several,
-}
-
-// The walk of all packets of a box, if it comes to one leaf.
-fn walk_of(
-    alloc: Global,
-    subject: &BoxedTable,
-    candidates: &mut Candidates,
-    hook: Hook,
-    area: Area,
-    budget: usize,
-) -> Result<Option<Leaf>, AllocError>
-    requires { AreFor subject.now.table.table area candidates.old }
-    ensures kept { IfOk result (λ found. AreKept subject.now.table.table candidates.old candidates.new) }
-    ensures walk { IfOk result (λ found. MatchOption found
-        (HasSplitCopy subject.now.table.table hook budget area) (IsWalkOf subject.now.table.table hook area)) }
+// The part of a leaf that is in a box, if it has packets. It takes no memory where the boxes share none.
+fn part_of(leaf: &Leaf, area: &Area) -> Result<Option<Leaf>, AllocError>
+    ensures { IfOk result (IsPartIn leaf.now area.now) }
 {
-    let start = area.copy(alloc)?;
-    let Some(mut found) = leaves_among(alloc, subject, candidates, hook, start, budget)? else {
-        return Ok(None);
-    };
-    let Some(only) = found.pop() else {
-        return Ok(None);
-    };
-    if !found.as_slice().is_empty() {
+    if !meet(leaf.area.sets(), area.sets()) {
         return Ok(None);
     }
-    let Leaf {
-        area: _,
-        trail,
-        verdict,
-        by_policy,
-    } = only;
+    let alloc = *leaf.trail.allocator();
+    let part = leaf.area.within(alloc, area.sets())?;
+    if part.is_empty() {
+        return Ok(None);
+    }
+    let trail = copy_trail(alloc, leaf.trail.as_slice())?;
     Ok(Some(Leaf {
-        area,
+        area: part,
         trail,
-        verdict,
-        by_policy,
+        verdict: leaf.verdict,
+        by_policy: leaf.by_policy,
     }))
 }
 
-// The packets with a transport header that a leaf shares with a box, with their walk.
-fn part_of(
-    subject: &BoxedTable,
-    candidates: &mut Candidates,
-    given: &Given,
-    leaf: &Leaf,
-    transport: Transport,
-    budget: usize,
-) -> Result<Shared, AllocError>
-    requires { AreFor subject.now.table.table given.now.area candidates.old }
-    ensures kept { IfOk result (λ found. AreKept subject.now.table.table candidates.old candidates.new) }
-    ensures shared { IfOk result (IsSharedOf subject.now.table.table given.now leaf.now transport budget) }
+// Adds the parts of a leaf that are in some boxes.
+fn add_parts(possible: &[Area], leaf: &Leaf, exact: &mut Vec<Leaf>) -> Result<(), AllocError>
+    ensures { OnOk result ((t : Table) (given : Packets) → AreByTransport given.area possible.now → IsShown t given leaf.now
+        → AddsExact t given leaf.now exact.old.items exact.new.items) }
 {
-    let alloc = *leaf.trail.allocator();
-    let shared = leaf.area.within(alloc, given.area.sets())?;
-    let part = with_transport(alloc, shared, transport)?;
-    if part.is_empty() {
-        return Ok(Shared::Nobody);
-    }
-    match walk_of(alloc, subject, candidates, given.hook, part, budget)? {
-        Some(leaf) => Ok(Shared::One(leaf)),
-        None => Ok(Shared::Several),
-    }
-}
-
-// Adds the packets that a leaf shares with a box, as boxes of which all packets have one walk. Whether it could: it can't where
-// those with one transport header may have several walks.
-fn add_parts(
-    subject: &BoxedTable,
-    candidates: &mut Candidates,
-    given: &Given,
-    leaf: &Leaf,
-    budget: usize,
-    exact: &mut Vec<Leaf>,
-) -> Result<bool, AllocError>
-    requires { AreFor subject.now.table.table given.now.area candidates.old }
-    ensures kept { IfOk result (λ could. AreKept subject.now.table.table candidates.old candidates.new) }
-    ensures adds { IfOk result (λ could. IsTrue could → AddsExact subject.now.table.table given.now leaf.now exact.old.items exact.new.items) }
-    ensures split { IfOk result (λ could. could ≡ false → IsSplitIn subject.now.table.table given.now budget leaf.now) }
-{
-    for transport in Transport::ALL {
-        match part_of(subject, candidates, given, leaf, transport, budget)? {
-            Shared::Nobody => {}
-            Shared::One(part) => exact.push(part)?,
-            Shared::Several => return Ok(false),
+    for area in possible {
+        match part_of(leaf, area)? {
+            None => {}
+            Some(part) => exact.push(part)?,
         }
     }
-    Ok(true)
+    Ok(())
 }
 
-// The packets that some leaves share with a box, as boxes of which all packets have one walk; none where some box may have
-// packets with several walks.
-fn exact_of(
-    alloc: Global,
-    subject: &BoxedTable,
-    candidates: &mut Candidates,
-    given: &Given,
-    found: &[Leaf],
-    budget: usize,
-) -> Result<Option<Vec<Leaf>>, AllocError>
-    requires { AreFor subject.now.table.table given.now.area candidates.old }
-    ensures { IfOk result (λ exact. MatchOption exact
-        (Any (IsSplitIn subject.now.table.table given.now budget) found.now) (λ leaves. AreExact subject.now.table.table given.now found.now leaves.items)) }
+// The packets that some leaves share with a box, as boxes of packets that can be at the hook.
+fn exact_of(alloc: Global, given: &Given, found: &[Leaf]) -> Result<Vec<Leaf>, AllocError>
+    ensures { IfOk result (λ exact. (t : Table) → AreExactOn t given.now.hook given.now.area found.now → AreExact t given.now found.now exact.items) }
 {
+    let possible = by_transport(alloc, &given.area)?;
     let mut exact = Vec::new(alloc);
     for leaf in found {
-        if !add_parts(subject, candidates, given, leaf, budget, &mut exact)? {
-            return Ok(None);
-        }
+        add_parts(possible.as_slice(), leaf, &mut exact)?;
     }
-    Ok(Some(exact))
+    Ok(exact)
 }
 
-// The walks of all packets of a box that can be at a hook, as boxes of which all packets have one walk; none where that isn't known.
+// The walks of all packets of a box that can be at a hook, as boxes of such packets; none where the box can't be walked within the budget.
 pub(crate) fn exact_walks(
     alloc: Global,
     subject: &BoxedTable,
@@ -144,14 +71,11 @@ pub(crate) fn exact_walks(
     budget: usize,
 ) -> Result<Option<Vec<Leaf>>, AllocError>
     ensures { IfOk result (λ found. MatchOption found
-        (MayBeSeveral subject.now.table.table given.now budget) (λ exact. AreExactWalks subject.now.table.table given.now exact.items)) }
+        (CantBeWalked subject.now.table.table given.now budget) (λ exact. AreExactWalks subject.now.table.table given.now exact.items)) }
 {
     let start = given.area.copy(alloc)?;
-    let mut candidates = Candidates::all(alloc, &given.area)?;
-    let Some(found) = leaves_among(alloc, subject, &mut candidates, given.hook, start, budget)?
-    else {
-        return Ok(None);
-    };
-    let leaves = found.as_slice();
-    exact_of(alloc, subject, &mut candidates, given, leaves, budget)
+    match leaves(alloc, subject, given.hook, start, budget)? {
+        None => Ok(None),
+        Some(found) => Ok(Some(exact_of(alloc, given, found.as_slice())?)),
+    }
 }

@@ -1,7 +1,7 @@
 //! The verdicts of a set of packets, grouped by a field.
 ghost use Rattle.std.specs.Prelude.{IfOk, MatchOption};
 ghost use Rattle.questions.specs.asked.Reach.{IsReach};
-ghost use Rattle.questions.specs.asked.Unknown.{MayBeSeveralMet};
+ghost use Rattle.questions.specs.asked.Unknown.{MetCantBeWalked};
 ghost use Rattle.questions.specs.steps.Exact.{IsMet};
 
 use crate::asked::exact::exact_walks;
@@ -34,11 +34,9 @@ fn met(alloc: Global, given: &Given) -> Result<Given, AllocError>
 /// number of each such packet is there. There is one entry a verdict and decider, and each rule is one of the
 /// table's.
 ///
-/// The packets walk the table as boxes, with `budget` steps (`leaves`). What they share with a leaf is parted by
-/// transport header, and each part walks again, with `budget` steps each time.
+/// The packets walk the table as a box, with `budget` steps (`leaves`), and leaves are cut by transport header.
 ///
-/// There is no answer only where the steps don't suffice, a trail is full, or a part that walks again doesn't come to
-/// one leaf.
+/// There is no answer only where the steps don't suffice or a trail is full.
 ///
 /// # Errors
 ///
@@ -51,7 +49,7 @@ pub fn reach(
     budget: usize,
 ) -> Result<Option<Vec<Reached>>, AllocError>
     ensures { IfOk result (λ found. MatchOption found
-        (MayBeSeveralMet subject.now.table.table given.now budget) (λ reached. IsReach subject.now.table.table given.now field reached.items)) }
+        (MetCantBeWalked subject.now.table.table given.now budget) (λ reached. IsReach subject.now.table.table given.now field reached.items)) }
 {
     subject.table.stands();
     let asked = met(alloc, given)?;

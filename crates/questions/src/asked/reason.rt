@@ -80,12 +80,11 @@ fn reason_by(
 /// Why rule `number` of the chain at a place, both of which have to be there, is dead. Rules count from 1. An answer
 /// also says that the rule is dead.
 ///
-/// The packets that the rule's box has walk from each hook that leads to its chain as boxes, with `budget` steps, and
-/// each part of a leaf, by transport header, walks again, with `budget` steps each time (`leaves`).
+/// The packets that the rule's box has walk from each hook that leads to its chain as a box, with `budget` steps each time
+/// (`leaves`), and leaves are cut by transport header.
 ///
 /// There is no answer only where, at a hook from whose chain jumps and gotos lead to the rule's chain, the rule tests
-/// both ports at once (`Rule::asks_both`), the steps don't suffice, a part that walks again doesn't come to one leaf,
-/// or a walk comes to the rule or is too long.
+/// both ports at once (`Rule::asks_both`), the steps don't suffice, a trail is full, or a walk comes to the rule.
 ///
 /// # Errors
 ///

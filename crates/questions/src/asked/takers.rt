@@ -1,13 +1,13 @@
 //! Which rules and policies decide the packets that a rule would match.
-ghost use Rattle.std.specs.Prelude.{◌≡◌, false, All, Any, IfOk, IsTrue, MatchOption, OnOk};
+ghost use Rattle.std.specs.Prelude.{IfOk, MatchOption, OnOk};
 ghost use Rattle.table.specs.chains.Table.{chain_at};
 ghost use Rattle.questions.specs.Ends.{IsRule};
 ghost use Rattle.questions.specs.Leaves.{entry_of};
 ghost use Rattle.questions.specs.asked.Reason.{IsTaken};
 ghost use Rattle.questions.specs.asked.Rule.{IsDead};
-ghost use Rattle.questions.specs.asked.Unknown.{IsTooLong, IsUndecided, IsUndecidedAt};
+ghost use Rattle.questions.specs.asked.Unknown.{IsUndecided, IsUndecidedAt};
 ghost use Rattle.questions.specs.steps.Leading.{AreLeading};
-ghost use Rattle.questions.specs.steps.Takers.{AreBefore, IsDecided};
+ghost use Rattle.questions.specs.steps.Takers.{AreBefore};
 
 use crate::asked::exact::exact_walks;
 use crate::asked::leading::is_led;
@@ -60,28 +60,7 @@ impl Takers {
     }
 }
 
-// Whether the policy or a rule decides the walk of a leaf, and not its length.
-fn is_decided(leaf: &Leaf) -> bool
-    ensures decided { IsTrue result → IsDecided leaf.now }
-    ensures long { result ≡ false → IsTooLong leaf.now }
-{
-    leaf.by_policy || leaf.decider().is_some()
-}
-
-// Whether that holds of all leaves.
-fn are_decided(found: &[Leaf]) -> bool
-    ensures decided { IsTrue result → All IsDecided found.now }
-    ensures long { result ≡ false → Any IsTooLong found.now }
-{
-    for leaf in found {
-        if !is_decided(leaf) {
-            return false;
-        }
-    }
-    true
-}
-
-// The walks of the packets at a hook that a rule matches, as boxes of which all packets have one walk, if the rule is on none. Of a
+// The walks of the packets at a hook that a rule matches, as boxes of packets that can be there, if the rule is on none. Of a
 // rule that asks both ports it isn't known which packets of its box it matches.
 fn walks_before(
     alloc: Global,
@@ -104,9 +83,6 @@ fn walks_before(
         return Ok(None);
     };
     if !none_on(found.as_slice(), step) {
-        return Ok(None);
-    }
-    if !are_decided(found.as_slice()) {
         return Ok(None);
     }
     Ok(Some(found))

@@ -33,7 +33,7 @@ impl Model for Area {
 }
 
 // The numbers of a set that another hasn't.
-pub(crate) fn minus(alloc: Global, own: &Spans, other: &Spans) -> Result<Spans, AllocError>
+fn minus(alloc: Global, own: &Spans, other: &Spans) -> Result<Spans, AllocError>
     requires { own.now.top ≡ other.now.top }
     ensures top { IfOk result (λ set. set.top ≡ own.now.top) }
     ensures members { IfOk result (λ set. (x : ℕ) → x ≤ own.now.top

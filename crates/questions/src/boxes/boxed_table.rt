@@ -5,10 +5,11 @@ ghost use Rattle.rules.specs.rule.Rules.{empty_rule};
 ghost use Rattle.table.specs.chains.Table.{chain_at};
 ghost use Rattle.questions.specs.boxes.Boxes.{AreBoxesOf, AreBoxesOfRules, rules_in};
 ghost use Rattle.questions.specs.boxes.Cut.{IsApart};
+ghost use Rattle.questions.specs.steps.Outlines.{IsOutlined};
 
 use crate::boxes::area::Area;
-use crate::boxes::meeting::{are_apart, meet, narrow_fields};
-use fields::FIELDS;
+use crate::boxes::ends::Outline;
+use crate::boxes::rule_box::RuleBox;
 use rules::{Boxed, Work};
 use std::alloc::{AllocError, Global};
 use table::Table;
@@ -20,9 +21,7 @@ pub struct BoxedTable {
     /// The table.
     pub table: Table,
     // The boxes of the rules, chain by chain in the order of a listing.
-    chains: Vec<Vec<Boxed>>,
-    // For each of them the fields on which it leaves numbers out.
-    narrow: Vec<Vec<[bool; FIELDS]>>,
+    chains: Vec<Vec<RuleBox>>,
     ghost boxes: { AreBoxesOf table.table.chains (map (λ v. v.items) chains.items) },
 }
 
@@ -32,7 +31,7 @@ fn boxes_of_chain(
     table: &Table,
     place: usize,
     work: &mut Work,
-) -> Result<Vec<Boxed>, AllocError>
+) -> Result<Vec<RuleBox>, AllocError>
     requires { place < length table.now.table.chains }
     ensures counted { IfOk result (λ boxes. work.new ≡ min (work.old + length (chain_at table.now.table place).rules) (2 ^ 64 - 1)) }
     ensures boxes { IfOk result (λ boxes. AreBoxesOfRules (chain_at table.now.table place).rules boxes.items) }
@@ -40,18 +39,10 @@ fn boxes_of_chain(
     let _made = work.boxes();
     let mut boxes = Vec::new(alloc);
     for before in 0..table.rule_count(place) {
-        boxes.push(Boxed::of(alloc, table.rule(place, before + 1), work)?)?;
+        let boxed = Boxed::of(alloc, table.rule(place, before + 1), work)?;
+        boxes.push(RuleBox::of(alloc, boxed)?)?;
     }
     Ok(boxes)
-}
-
-// The fields on which each of some boxes leaves numbers out.
-fn narrow_of_all(alloc: Global, boxes: &[Boxed]) -> Result<Vec<[bool; FIELDS]>, AllocError> {
-    let mut narrow = Vec::new(alloc);
-    for boxed in boxes {
-        narrow.push(narrow_fields(boxed.spans()))?;
-    }
-    Ok(narrow)
 }
 
 impl BoxedTable {
@@ -66,21 +57,14 @@ impl BoxedTable {
     {
         let _made = work.boxes();
         let mut chains = Vec::new(alloc);
-        let mut narrow = Vec::new(alloc);
         for place in 0..table.chain_count() {
-            let boxes = boxes_of_chain(alloc, &table, place, work)?;
-            narrow.push(narrow_of_all(alloc, boxes.as_slice())?)?;
-            chains.push(boxes)?;
+            chains.push(boxes_of_chain(alloc, &table, place, work)?)?;
         }
-        Ok(BoxedTable {
-            table,
-            chains,
-            narrow,
-        })
+        Ok(BoxedTable { table, chains })
     }
 
-    // The box of rule `number` of the chain at a place, from 1; it is lent.
-    pub(crate) fn at(&self, place: usize, number: usize) -> &Boxed
+    // The box of rule `number` of the chain at a place, from 1, with its outline; it is lent.
+    fn own_at(&self, place: usize, number: usize) -> &RuleBox
         requires place { place < length self.now.table.table.chains }
         requires first { 0 < number }
         requires last { number ≤ length (chain_at self.now.table.table place).rules }
@@ -89,22 +73,30 @@ impl BoxedTable {
         &self.chains[place][number - 1]
     }
 
-    // The fields on which the box of the rule behind so many others leaves numbers out.
-    fn narrow_at(&self, place: usize, passed: usize) -> Option<&[bool; FIELDS]> {
-        self.narrow.get(place)?.get(passed)
+    // The box alone; it is lent.
+    pub(crate) fn at(&self, place: usize, number: usize) -> &Boxed
+        requires place { place < length self.now.table.table.chains }
+        requires first { 0 < number }
+        requires last { number ≤ length (chain_at self.now.table.table place).rules }
+        ensures { IsBoxOf (slice_index_or (chain_at self.now.table.table place).rules (number - 1) empty_rule) result.now }
+    {
+        self.own_at(place, number).boxed()
     }
 
     // Whether rule `number` of the chain at a place, from 1, matches no packet of a box, by its own box. It takes no memory.
-    pub(crate) fn is_apart(&self, area: &Area, place: usize, number: usize) -> bool
+    pub(crate) fn is_apart(
+        &self,
+        area: &Area,
+        outline: &Outline,
+        place: usize,
+        number: usize,
+    ) -> bool
+        requires outline { IsOutlined area.now outline.now }
         requires place { place < length self.now.table.table.chains }
         requires first { 0 < number }
         requires last { number ≤ length (chain_at self.now.table.table place).rules }
         ensures { IsTrue result → IsApart (slice_index_or (chain_at self.now.table.table place).rules (number - 1) empty_rule) area.now }
     {
-        let boxed = self.at(place, number);
-        match self.narrow_at(place, number - 1) {
-            Some(fields) => are_apart(area.sets(), boxed.spans(), fields),
-            None => !meet(area.sets(), boxed.spans()),
-        }
+        self.own_at(place, number).is_apart(area, outline)
     }
 }

@@ -1,6 +1,6 @@
 //! A box of packets cut by a rule: the packets that it matches, and parts with all the others; or, where that depends
 //! on both ports, parts on which the rule has to be tested again.
-ghost use Rattle.std.specs.Prelude.{◌≡◌, ◌<◌, ℕ, List, IfOk, OnOk};
+ghost use Rattle.std.specs.Prelude.{◌≡◌, ◌<◌, ◌⊎◌, ℕ, List, IfOk, OnOk};
 ghost use Rattle.fields.specs.numbers.Field.{top};
 ghost use Rattle.rules.specs.boxing.Boxed.{IsBox, IsBoxOf};
 ghost use Rattle.rules.specs.rule.Rules.{Rule};
@@ -9,7 +9,8 @@ ghost use Rattle.questions.specs.boxes.Area.{Has, IsBoth};
 ghost use Rattle.questions.specs.boxes.Cut.{IsCutBy, IsInSome};
 ghost use Rattle.questions.specs.steps.Sides.{LeavesAt};
 
-use crate::boxes::area::{Area, minus};
+use crate::boxes::area::Area;
+use crate::boxes::lying::is_part;
 use crate::boxes::meeting::meet;
 use fields::{FIELDS, Field, Spans};
 use rules::{Boxed, Crossing, Rule, cross_ports};
@@ -41,9 +42,10 @@ fn put_part(
     ensures kept { OnOk result ((numbers : List ℕ) → IsInSome parts.old.items numbers → IsInSome parts.new.items numbers) }
     ensures added { OnOk result ((numbers : List ℕ) → IsPoint numbers → Has own.now numbers
         → LeavesAt at other.now numbers → IsInSome parts.new.items numbers) }
+    ensures only { OnOk result ((numbers : List ℕ) → IsPoint numbers → IsInSome parts.new.items numbers
+        → IsInSome parts.old.items numbers ⊎ (Has own.now numbers × (Has other.now numbers → ⊥))) }
 {
-    let rest = minus(alloc, &own[at], &other[at])?;
-    if rest.intervals().is_empty() {
+    if is_part(&own[at], &other[at]) {
         return Ok(());
     }
     parts.push(Area::part(alloc, own, other, at)?)?;
@@ -55,8 +57,10 @@ fn put_part(
 fn outside(alloc: Global, own: &[Spans], other: &[Spans]) -> Result<Vec<Area>, AllocError>
     requires own { IsBox own.now }
     requires other { IsBox other.now }
-    ensures { IfOk result (λ parts. (numbers : List ℕ) → IsPoint numbers → Has own.now numbers
+    ensures all { IfOk result (λ parts. (numbers : List ℕ) → IsPoint numbers → Has own.now numbers
         → (Has other.now numbers → ⊥) → IsInSome parts.items numbers) }
+    ensures only { IfOk result (λ parts. (numbers : List ℕ) → IsPoint numbers → IsInSome parts.items numbers
+        → Has own.now numbers × (Has other.now numbers → ⊥)) }
 {
     let mut parts = Vec::new(alloc);
     for done in 0..FIELDS {
@@ -68,7 +72,8 @@ fn outside(alloc: Global, own: &[Spans], other: &[Spans]) -> Result<Vec<Area>, A
 // The two parts of a box: the packets whose number on a field is in a set, and the others.
 fn halves(alloc: Global, area: Area, field: Field, wanted: &Spans) -> Result<Vec<Area>, AllocError>
     requires { wanted.now.top ≡ top field }
-    ensures { IfOk result (λ parts. (numbers : List ℕ) → IsPoint numbers → Has area numbers → IsInSome parts.items numbers) }
+    ensures all { IfOk result (λ parts. (numbers : List ℕ) → IsPoint numbers → Has area numbers → IsInSome parts.items numbers) }
+    ensures only { IfOk result (λ parts. (numbers : List ℕ) → IsPoint numbers → IsInSome parts.items numbers → Has area numbers) }
 {
     let others = wanted.except(alloc)?;
     let with = area.copy(alloc)?.narrow(alloc, field, wanted)?;

@@ -19,7 +19,7 @@ fn has_span(set: &Spans, span: Interval) -> bool
 }
 
 // Whether a set has all numbers of another one.
-fn is_part(own: &Spans, other: &Spans) -> bool
+pub(crate) fn is_part(own: &Spans, other: &Spans) -> bool
     ensures { IsTrue result → (x : ℕ) → has own.now.intervals x ≡ true → has other.now.intervals x ≡ true }
 {
     for span in own.intervals() {

@@ -3,7 +3,7 @@ ghost use Rattle.std.specs.Prelude.{◌≡◌, ◌≤◌, ◌==◌, ◌||◌, �
 ghost use Rattle.fields.specs.numbers.Field.{protocol_top, top};
 ghost use Rattle.fields.specs.numbers.Spans.{has};
 ghost use Rattle.questions.specs.boxes.Area.{IsCarrying};
-ghost use Rattle.questions.specs.steps.Transports.{AreNumbersWith, IsFirstWith, IsKept, IsWithTransport, is_ported};
+ghost use Rattle.questions.specs.steps.Transports.{AreByTransport, AreNumbersWith, IsFirstWith, IsKept, IsWithTransport, is_ported};
 ghost use Rattle.fields.specs.values.Protocol.{carries_ports};
 
 use crate::boxes::area::{Area, all_or_zero};
@@ -12,7 +12,7 @@ use std::alloc::{AllocError, Global};
 
 // What a packet carries behind the header of IP, as far as rules ask for it.
 #[derive(Clone, Copy, PartialEq, Eq)]
-pub(crate) enum Transport {
+enum Transport {
     // The header of TCP: ports and flags.
     Tcp,
     // That of UDP, DCCP, SCTP or UDP-Lite: ports.
@@ -141,11 +141,7 @@ fn numbers_with(alloc: Global, transport: Transport, field: Field) -> Result<Spa
 }
 
 // The packets of a box with it.
-pub(crate) fn with_transport(
-    alloc: Global,
-    mut area: Area,
-    transport: Transport,
-) -> Result<Area, AllocError>
+fn with_transport(alloc: Global, mut area: Area, transport: Transport) -> Result<Area, AllocError>
     ensures { IfOk result (IsWithTransport transport area) }
 {
     for place in 0..FIELDS {
@@ -154,6 +150,17 @@ pub(crate) fn with_transport(
         area = area.narrow(alloc, field, &wanted)?;
     }
     Ok(area)
+}
+
+// For each transport header the packets of a box that have it.
+pub(crate) fn by_transport(alloc: Global, area: &Area) -> Result<Vec<Area>, AllocError>
+    ensures { IfOk result (λ boxes. AreByTransport area.now boxes.items) }
+{
+    let mut boxes = Vec::new(alloc);
+    for transport in Transport::ALL {
+        boxes.push(with_transport(alloc, area.copy(alloc)?, transport)?)?;
+    }
+    Ok(boxes)
 }
 
 // The first fragments among the packets of a box that have one of some protocols.

@@ -13,12 +13,14 @@ ghost use Rattle.questions.specs.boxes.Boxes.{rules_in};
 ghost use Rattle.questions.specs.steps.Ahead.{Decides, IsApartIn, SaysRule, Stays, TakesBefore};
 ghost use Rattle.questions.specs.steps.Candidates.{AreFor, AreKept};
 ghost use Rattle.questions.specs.steps.Coming.{IsSought};
+ghost use Rattle.questions.specs.steps.Outlines.{IsOutlined};
 ghost use Rattle.questions.specs.steps.Taken.{IsFurther};
 ghost use Rattle.questions.specs.steps.Waiting.{AreThere, IsThere, WaitsIn, rule_ahead};
 
 use crate::boxes::area::Area;
 use crate::boxes::boxed_table::BoxedTable;
-use crate::boxes::candidates::{Candidates, may_match};
+use crate::boxes::candidates::Candidates;
+use crate::boxes::ends::{Outline, outline_of};
 use crate::boxes::lying::lies_in;
 use crate::walking::engine::LIMIT;
 use crate::walking::task::{Pending, Task};
@@ -89,14 +91,15 @@ fn done_by(rule: &Rule, boxed: &Boxed, area: &Area) -> Look
 }
 
 // What the next rule does with the packets of a box.
-fn looked_at(subject: &BoxedTable, area: &Area, at: Pending) -> Look
+fn looked_at(subject: &BoxedTable, area: &Area, outline: &Outline, at: Pending) -> Look
+    requires outline { IsOutlined area.now outline.now }
     requires there { IsThere subject.now.table.table.chains at }
     requires passed { at.passed < length (chain_at subject.now.table.table at.chain).rules }
     ensures { SaysRule (rule_ahead subject.now.table.table at) area.now result }
 {
     let count = subject.table.rule_count(at.chain);
     prove!(at.passed < count);
-    if subject.is_apart(area, at.chain, at.passed + 1) {
+    if subject.is_apart(area, outline, at.chain, at.passed + 1) {
         return Look::Passes;
     }
     let boxed = subject.at(at.chain, at.passed + 1);
@@ -142,18 +145,16 @@ fn takes_all(
         → TakesBefore subject.now.table.table start area.now at end }
     ensures looks { result.looks ≤ length (chain_at subject.now.table.table at.chain).rules }
 {
-    let flags = candidates.in_chain(at.chain);
+    let outline = outline_of(area.sets());
     let mut looks = 0;
-    for passed in at.passed..end {
-        if !may_match(flags, passed) {
-            continue;
-        }
+    let mut passed = candidates.next_of(at.chain, at.passed);
+    while passed < end {
         looks += 1;
         let next = Pending {
             chain: at.chain,
             passed,
         };
-        match looked_at(subject, area, next) {
+        match looked_at(subject, area, &outline, next) {
             Look::Passes => {}
             Look::Takes => {
                 return Ahead {
@@ -161,13 +162,9 @@ fn takes_all(
                     looks,
                 };
             }
-            Look::Stops => {
-                return Ahead {
-                    is_taken: false,
-                    looks,
-                };
-            }
+            Look::Stops => break,
         }
+        passed = candidates.next_of(at.chain, passed + 1);
     }
     Ahead {
         is_taken: false,
@@ -212,20 +209,16 @@ fn next_place(subject: &BoxedTable, candidates: &Candidates, area: &Area, at: Pe
     ensures none { (start : List SpanSet) → AreFor subject.now.table.table start candidates.now → (k : ℕ) → at.passed ≤ k → k < result
         → IsApartIn (rule_ahead subject.now.table.table (record { chain = at.chain; passed = k })) start area.now }
 {
-    let flags = candidates.in_chain(at.chain);
+    let outline = outline_of(area.sets());
     let count = subject.table.rule_count(at.chain);
-    for passed in at.passed..count {
-        if !may_match(flags, passed) {
-            continue;
-        }
-        if !subject.is_apart(area, at.chain, passed + 1) {
+    let mut passed = candidates.next_of(at.chain, at.passed);
+    while passed < count {
+        if !subject.is_apart(area, &outline, at.chain, passed + 1) {
             return passed;
         }
+        passed = candidates.next_of(at.chain, passed + 1);
     }
-    if count < at.passed {
-        return at.passed;
-    }
-    count
+    count.max(at.passed)
 }
 
 // The task at the next rule that may match some of its packets.

@@ -5,7 +5,7 @@ ghost use Rattle.table.specs.declared.verdict.Verdict.{Verdict};
 ghost use Rattle.table.specs.declared.verdict.Verdict.TheVariants.{TooLong};
 ghost use Rattle.table.specs.steps.Kept.{hook_index};
 ghost use Rattle.table.specs.walk.Walk.{end_verdict};
-ghost use Rattle.questions.specs.Leaves.{AreLeavesOf};
+ghost use Rattle.questions.specs.Leaves.{AreExactOn, AreLeavesOf};
 ghost use Rattle.questions.specs.steps.Candidates.{AreFor, AreKept};
 ghost use Rattle.questions.specs.steps.Taken.{IsFinished, IsFirst, IsUnfinished};
 ghost use Rattle.questions.specs.steps.Waiting.{AreThere, Begins, Moves, stage_of};
@@ -106,12 +106,12 @@ pub(crate) fn begin(
 }
 
 /// The walk of a box, from the first rule of a hook's chain: leaves, such that every packet of the box that can be at
-/// the hook is in one of them and has the walk that it shows. There are none only where the whole budget was used up
+/// the hook is in one of them, and no other is; it has the walk that the leaf shows. There are none only where the whole budget was used up
 /// with a box left, or a trail was full, with 65,536 rules, before.
 ///
 /// A step of the budget is one rule tested on one box, or one chain at its end; rules that share no packet with the box are
-/// passed without a step. Those that share none with the first box are set aside after many looks, with one at each rule and a
-/// byte for it. A step takes the memory of a copy of the box, of the rests that wait and of the trail for each field on which the rule
+/// passed without a step. Those that share none with the first box are set aside after many looks, with one at each rule and eight
+/// bytes for it. A step takes the memory of a copy of the box, of the rests that wait and of the trail for each field on which the rule
 /// leaves numbers out.
 ///
 /// # Errors
@@ -125,6 +125,7 @@ pub fn leaves(
     budget: usize,
 ) -> Result<Option<Vec<Leaf>>, AllocError>
     ensures leaves { IfOk result (λ found. IfSome found (λ leaves. AreLeavesOf subject.now.table.table hook start leaves.items)) }
+    ensures exact { IfOk result (λ found. IfSome found (λ leaves. AreExactOn subject.now.table.table hook start leaves.items)) }
     ensures steps { IfOk result (λ found. MatchOption found
         (IsUnfinished subject.now.table.table hook start budget) (λ leaves. IsFinished subject.now.table.table hook start budget leaves.items)) }
 {
@@ -144,6 +145,7 @@ pub(crate) fn leaves_among(
     requires { AreFor subject.now.table.table start candidates.old }
     ensures kept { IfOk result (λ found. AreKept subject.now.table.table candidates.old candidates.new) }
     ensures leaves { IfOk result (λ found. IfSome found (λ leaves. AreLeavesOf subject.now.table.table hook start leaves.items)) }
+    ensures exact { IfOk result (λ found. IfSome found (λ leaves. AreExactOn subject.now.table.table hook start leaves.items)) }
     ensures steps { IfOk result (λ found. MatchOption found
         (IsUnfinished subject.now.table.table hook start budget) (λ leaves. IsFinished subject.now.table.table hook start budget leaves.items)) }
 {

@@ -1,5 +1,5 @@
 //! The boxes that are left to walk, and the leaves so far.
-ghost use Rattle.std.specs.Prelude.{◌≢◌, OnOk};
+ghost use Rattle.std.specs.Prelude.{◌≡◌, ◌≢◌, ◌<◌, false, length, OnOk};
 ghost use Rattle.table.specs.chains.Table.{Table as Filter};
 ghost use Rattle.table.specs.declared.verdict.Verdict.{Verdict};
 ghost use Rattle.table.specs.declared.verdict.Verdict.TheVariants.{TooLong};
@@ -37,7 +37,8 @@ impl Front {
         verdict: Verdict,
         by_policy: bool,
     ) -> Result<(), AllocError>
-        requires { verdict ≢ TooLong }
+        requires short { verdict ≢ TooLong }
+        requires decided { by_policy ≡ false → 0 < length task.trail.items }
         ensures { OnOk result ((t : Filter) (policy : Verdict)
             → Moves t policy task.area (Over (record { trail = entries_of t.chains task.trail.items; verdict = verdict; by_policy = by_policy })) self.old self.new) }
     {

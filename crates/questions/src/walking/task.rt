@@ -1,6 +1,6 @@
 //! Boxes on their way through the table, with what is left of their chains and their trails; and leaves, at the end
 //! of their walks.
-ghost use Rattle.std.specs.Prelude.{◌≡◌, ◌≢◌, IfOk};
+ghost use Rattle.std.specs.Prelude.{◌≡◌, ◌≢◌, ◌<◌, false, length, IfOk};
 ghost use Rattle.table.specs.declared.verdict.Verdict.TheVariants.{TooLong};
 
 use crate::boxes::area::Area;
@@ -22,8 +22,7 @@ pub(crate) struct Task {
     pub trail: Vec<Step>,
 }
 
-/// A box with a walk that isn't too long: its trail, its verdict, and whether the policy gave it. A packet of the box may have
-/// another walk.
+/// A box with a walk that isn't too long: its trail, its verdict, and whether the policy gave it.
 #[derive(Drop)]
 pub struct Leaf {
     /// The box.
@@ -35,6 +34,7 @@ pub struct Leaf {
     /// Whether the policy gives the verdict.
     pub by_policy: bool,
     ghost short: { verdict ≢ TooLong },
+    ghost decided: { by_policy ≡ false → 0 < length trail.items },
 }
 
 impl Leaf {

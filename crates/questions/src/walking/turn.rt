@@ -77,6 +77,7 @@ fn turn(
     behind: Pending,
     target: Option<Target>,
 ) -> Result<(), AllocError>
+    requires { 0 < length task.trail.items }
     ensures { OnOk result ((policy : Verdict) → IsThere table.now.table.chains behind → AreThere table.now.table.chains task
         → Moves table.now.table policy task.area
         (on_by (after_match target (rest_of table.now.table.chains behind) (rests_of table.now.table.chains task.rests.items))

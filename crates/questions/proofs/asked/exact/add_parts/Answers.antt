@@ -1,58 +1,53 @@
-use Rattle.std.proofs.Common.{◌≡◌, ◌∷◌, [], arith, get_or}
-use Rattle.std.proofs.lemmas.List.{get_or_default}
+use Rattle.std.proofs.Common.{◌<◌, ◌∷◌, [], List, length, get_or, sym, subst, arith}
 use Rattle.std.proofs.lemmas.List.Elements.{All-push}
+use Rattle.fields.specs.numbers.Spans.{SpanSet}
 use Rattle.questions.specs.boxes.Area.{Has}
-use Rattle.questions.specs.declared.boxes.transport.Transport.{Transport}
+use Rattle.questions.specs.declared.asked.reach.Given.{Given}
 use Rattle.questions.specs.declared.boxes.transport.Transport.TheVariants.{Tcp}
 use Rattle.questions.specs.declared.walking.task.Leaf.{Leaf}
-use Rattle.questions.specs.steps.Exact.{IsExact}
-use Rattle.questions.specs.steps.Transports.{all_transports}
-use Rattle.questions.proofs.laws.ExactLaws.{shared_all, shared_begins, shared_nobody, shared_one}
+use Rattle.questions.specs.steps.Exact.{IsExact, IsShare}
+use Rattle.questions.specs.steps.Transports.{AreByTransport, IsWithTransport, all_transports}
+use Rattle.questions.proofs.laws.ExactLaws.{exact_part, part_has, part_none, shared_all, shared_begins, shared_nobody, shared_one}
 use Rattle.questions.proofs.laws.GroupLaws.{any_left}
 use Rattle.questions.proofs.asked.exact.add_parts.Goals as goal
-use Rattle.questions.proofs.asked.exact.add_parts.Goals.{in-Nobody, in-One+in_ok-push-in-One}
+use Rattle.questions.proofs.asked.exact.add_parts.Goals.{in-None, in-Some+in_ok-push-in-Some}
 
-pub loop-transport-init : goal.loop-transport-init
-loop-transport-init c = record { fit = λ box are. are; each = λ h. h; kept = λ numbers h. h; shared = shared_begins c.args.subject.now.table.table c.args.given.now c.args.leaf.now c.args.exact.now.items }
+pub loop-area-init : goal.loop-area-init
+loop-area-init c = record {
+  each = λ t given are shown before. before;
+  kept = λ numbers has. has;
+  shared = λ given are. shared_begins given c.args.leaf.now c.args.exact.now.items;
+}
 
-pub loop-transport-preserved : goal.loop-transport-preserved
-loop-transport-preserved c =
-    let t = c.args.subject.now.table.table in
-    let given = c.args.given.now in
+pub loop-area-preserved : goal.loop-area-preserved
+loop-area-preserved c =
     let leaf = c.args.leaf.now in
-    let i = c.loop-transport.transport-index in
-    let transport : Transport = get_or all_transports i Tcp in
-    let at : (d : Transport) → get_or all_transports i d ≡ transport = λ d. get_or_default all_transports i d Tcp (omega (arith, c.loop-transport-test.true)) in
-    let exact = c.loop-transport.exact.items in
+    let i = c.loop-area.area-index in
+    let own : List SpanSet = c.area-item.result in
+    let exact = c.loop-area.exact.items in
+    let within : (given : Given) → AreByTransport given.area c.args.possible.now → i < length all_transports = λ given are. omega (arith, c.loop-area-test.true, are.long) in
+    let with : (given : Given) → AreByTransport given.area c.args.possible.now → IsWithTransport (get_or all_transports i Tcp) given.area own =
+    λ given are. (let P : List SpanSet → Type 0 = λ b. IsWithTransport (get_or all_transports i Tcp) given.area b in subst P (sym c.area-item.is) (are.each i Tcp own (within given are))) in
     elim c.match-branch-2.branch [
-      | in-Nobody w ↦ rw w.exact-is (record {
-        fit = λ box are. c.in_ok-part_of.ensures.kept box (c.loop-transport.invariant.fit box are);
-        each = c.loop-transport.invariant.each;
-        kept = c.loop-transport.invariant.kept;
-        shared = shared_nobody t given leaf i transport at exact c.loop-transport.invariant.shared (rw w.in-Nobody.is at c.in_ok-part_of.ensures.shared);
+      | in-None w ↦ rw w.exact-is (record {
+        each = c.loop-area.invariant.each;
+        kept = c.loop-area.invariant.kept;
+        shared = λ given are. shared_nobody given leaf i (within given are) exact (c.loop-area.invariant.shared given are) (part_none given leaf (get_or all_transports i Tcp) own (with given are) (rw w.in-None.is at c.in_ok-part_of.ensures));
       })
-      | in-One+in_ok-push-in-One w ↦ (
-          let own = rw w.in-One.is at c.in_ok-part_of.ensures.shared in
-          rw (w.exact-is, w.in_ok-push-in-One.ensures.items) (record {
-            fit = λ box are. c.in_ok-part_of.ensures.kept box (c.loop-transport.invariant.fit box are);
-            each = λ h. All-push (IsExact t given) exact w.in-One.part (c.loop-transport.invariant.each h) own.0;
-            kept = λ numbers h. any_left (λ (l : Leaf). Has l.area numbers) exact (w.in-One.part ∷ []) (c.loop-transport.invariant.kept numbers h);
-            shared = shared_one t given leaf i transport at exact w.in-One.part c.loop-transport.invariant.shared own.1;
+      | in-Some+in_ok-push-in-Some w ↦ (
+          let part = w.in-Some.part in
+          let share : IsShare leaf own part = rw w.in-Some.is at c.in_ok-part_of.ensures in
+          rw (w.exact-is, w.in_ok-push-in-Some.ensures.items) (record {
+            each = λ t given are shown before.
+                All-push (IsExact t given) exact part (c.loop-area.invariant.each t given are shown before) (exact_part given leaf (get_or all_transports i Tcp) own (with given are) t part shown share);
+            kept = λ numbers has. any_left (λ (l : Leaf). Has l.area numbers) exact (part ∷ []) (c.loop-area.invariant.kept numbers has);
+            shared = λ given are. shared_one given leaf i (within given are) exact part (c.loop-area.invariant.shared given are) (part_has given leaf (get_or all_transports i Tcp) own (with given are) part share);
           }))
     ]
 
-pub returns-clause-adds : goal.returns-clause-adds
-returns-clause-adds c = λ could. record {
-  each = c.loop-transport.invariant.each;
-  kept = c.loop-transport.invariant.kept;
-  covered = shared_all c.args.subject.now.table.table c.args.given.now c.args.leaf.now c.loop-transport.exact.items c.loop-transport.transport-index c.loop-transport-test.false c.loop-transport.invariant.shared;
+pub returns : goal.returns
+returns c = λ t given are shown. record {
+  each = c.loop-area.invariant.each t given are shown;
+  kept = c.loop-area.invariant.kept;
+  covered = shared_all given c.args.leaf.now c.loop-area.exact.items c.loop-area.area-index (omega (arith, c.loop-area-test.false, are.long)) (c.loop-area.invariant.shared given are);
 }
-
-pub returns-in-Several-clause-split : goal.returns-in-Several-clause-split
-returns-in-Several-clause-split c = λ _. (get_or all_transports c.loop-transport.transport-index Tcp, rw c.in-Several.is at c.in_ok-part_of.ensures.shared)
-
-pub part_of-requires : goal.part_of-requires
-part_of-requires c = c.loop-transport.invariant.fit c.args.given.now.area c.requires
-
-pub returns-in-Several-clause-kept : goal.returns-in-Several-clause-kept
-returns-in-Several-clause-kept c = λ box are. c.in_ok-part_of.ensures.kept box (c.loop-transport.invariant.fit box are)

@@ -16,7 +16,6 @@ returns c =
     let is : own ≡ rule_at t step = c.rule-rule.ensures ∙ get_or_default (chain_at t step.chain).rules (step.number - 1) own empty_rule (omega (arith, c.requires.first, c.requires.last)) in
     before_of t step c.args.hook c.in_ok-given.given c.stands.ensures.sound c.requires c.in_ok-given.ensures (subst P is (c.asks_both.ensures.alone c.if-asks_both.false))
     c.in-Some.found.items (rw c.in-Some.is at c.in_ok-found.ensures) (rw c.as_slice.ensures.value at (c.none_on.ensures.none c.if-not-none_on.false))
-    (rw c.as_slice-2.ensures.value at (c.are_decided.ensures.decided c.if-not-are_decided.false))
 
 pub returns-then-asks_both : goal.returns-then-asks_both
 returns-then-asks_both c =
@@ -31,8 +30,4 @@ returns-in_default c = inr (c.in_ok-given.given, c.in_ok-given.ensures, inl (rw 
 
 pub returns-then-not-none_on : goal.returns-then-not-none_on
 returns-then-not-none_on c =
-    inr (c.in_ok-given.given, c.in_ok-given.ensures, inr (c.in-Some.found.items, rw c.in-Some.is at c.in_ok-found.ensures, inl (rw c.as_slice.ensures.value at (c.none_on.ensures.some c.if-not-none_on.true))))
-
-pub returns-then-not-are_decided : goal.returns-then-not-are_decided
-returns-then-not-are_decided c =
-    inr (c.in_ok-given.given, c.in_ok-given.ensures, inr (c.in-Some.found.items, rw c.in-Some.is at c.in_ok-found.ensures, inr (rw c.as_slice-2.ensures.value at (c.are_decided.ensures.long c.if-not-are_decided.true))))
+    inr (c.in_ok-given.given, c.in_ok-given.ensures, inr (c.in-Some.found.items, rw c.in-Some.is at c.in_ok-found.ensures, rw c.as_slice.ensures.value at (c.none_on.ensures.some c.if-not-none_on.true)))

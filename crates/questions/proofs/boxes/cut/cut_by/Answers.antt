@@ -6,7 +6,7 @@ use Rattle.questions.proofs.boxes.cut.cut_by.Goals as goal
 
 pub returns-then-not-meet : goal.returns-then-not-meet
 returns-then-not-meet c =
-    (refl, apart_of c.args.rule.now c.args.area c.args.boxed.now c.requires (rw (c.sets.ensures.value, c.spans.ensures.value) at (c.meet.ensures.none c.if-not-meet.true)))
+    (refl, apart_of c.args.rule.now c.args.area c.args.boxed.now c.requires (λ numbers point. (rw (c.sets.ensures.value, c.spans.ensures.value) at (c.meet.ensures.none c.if-not-meet.true)) numbers))
 
 pub returns-in-Fails : goal.returns-in-Fails
 returns-in-Fails c =
@@ -22,5 +22,5 @@ returns-in_ok-others-in-Holds c =
     let P : Crossing → Type 0 = λ said. SaysOf (λ (numbers : List ℕ). cross numbers c.args.rule.now) c.on.result.now c.on-2.result.now said in
     let holds = subst P c.in-Holds.is c.in_ok-cross_ports.ensures.says in
     cut_of c.args.rule.now c.args.area c.args.boxed.now c.in_ok-inside.inside c.requires (rw c.spans-2.ensures.value at c.in_ok-inside.ensures) c.in_ok-others-in-Holds.others.items
-    (rw (c.sets-in-Holds.ensures.value, c.spans-in-Holds.ensures.value) at c.in_ok-others-in-Holds.ensures)
+    (rw (c.sets-in-Holds.ensures.value, c.spans-in-Holds.ensures.value) at c.in_ok-others-in-Holds.ensures.all) (rw (c.sets-in-Holds.ensures.value, c.spans-in-Holds.ensures.value) at c.in_ok-others-in-Holds.ensures.only)
     (λ numbers point h. holds numbers (in_ports c.in_ok-inside.inside c.on.result.now c.on-2.result.now numbers c.on.ensures.top c.on.ensures.set c.on-2.ensures.top c.on-2.ensures.set point h))

@@ -7,4 +7,7 @@ use Rattle.questions.specs.steps.Sides.{LeavesAt}
 use Rattle.questions.proofs.boxes.cut.outside.Given as goal
 
 abbrev pub invariant-loop-done : goal.invariant-loop-done
-invariant-loop-done l = (numbers : List ℕ) (k : ℕ) → k < FIELDS → FIELDS ≤ k + l.done → IsPoint numbers → Has l.own numbers → LeavesAt k l.other numbers → IsInSome l.parts.items numbers
+invariant-loop-done l = record {
+  all : (numbers : List ℕ) (k : ℕ) → k < FIELDS → FIELDS ≤ k + l.done → IsPoint numbers → Has l.own numbers → LeavesAt k l.other numbers → IsInSome l.parts.items numbers;
+  only : (numbers : List ℕ) → IsPoint numbers → IsInSome l.parts.items numbers → Has l.own numbers × (Has l.other numbers → ⊥);
+}

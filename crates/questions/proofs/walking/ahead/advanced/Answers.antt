@@ -10,6 +10,7 @@ returns-clause-further c = λ start are.
     let all = All-pop (IsThere t.chains) c.args.task.rests.items c.pop.new.self.items c.pop.result c.pop.ensures.items c.requires in
     let there = rw c.in-Some.is at all.1 in
     record {
+      area = refl;
       trail = refl;
       waits = λ p can inside waits.
           advances t start p c.stands.ensures.sound c.args.task (record { area = c.args.task.area; rests = c.push.new.self; trail = c.args.task.trail }) c.pop.new.self.items c.in-Some.at c.next_place-passed.result there can inside

@@ -1,25 +1,33 @@
-use Rattle.std.proofs.Common.{ℕ, List, get_or, subst, sym, ◌∙◌, arith}
+use Rattle.std.proofs.Common.{ℕ, List, get_or, subst, arith}
 use Rattle.rules.specs.rule.Rules.{Rule, empty_rule}
 use Rattle.table.specs.chains.Table.{chain_at}
 use Rattle.questions.specs.boxes.Cut.{IsApart}
 use Rattle.questions.specs.declared.walking.task.Pending.{Pending}
 use Rattle.questions.specs.steps.Ahead.{IsApartIn}
 use Rattle.questions.specs.steps.Waiting.{rule_ahead}
-use Rattle.questions.proofs.laws.LookLaws.{below_next}
+use Rattle.questions.proofs.laws.LookLaws.{below_next, past_next}
 use Rattle.questions.proofs.walking.ahead.next_place.Goals as goal
 
+pub loop-passed-init : goal.loop-passed-init
+loop-passed-init c = record {
+  low = c.next_of-passed.ensures.low;
+  none = λ start are k le lt numbers point first has. (c.next_of-passed.ensures.others c.args.subject.now.table.table start are k le lt).none numbers point first;
+}
+
 pub loop-passed-preserved : goal.loop-passed-preserved
-loop-passed-preserved c = λ start are.
+loop-passed-preserved c =
     let t = c.args.subject.now.table.table in
+    let now = c.loop-passed.passed in
     let next : ℕ → Pending = λ k. record { chain = c.args.at.chain; passed = k } in
     let own : List Rule = (chain_at t c.args.at.chain).rules in
     let P : ℕ → Type 0 = λ j. IsApart (get_or own j empty_rule) c.args.area.now in
-    let apart : IsApart (rule_ahead t (next c.loop-passed.passed)) c.args.area.now = subst P (omega arith) (c.is_apart.ensures c.if-not-is_apart.false) in
-    below_next (λ k. IsApartIn (rule_ahead t (next k)) start c.args.area.now) c.args.at.passed c.loop-passed.passed (c.loop-passed.invariant start are) (λ numbers point first. apart.none numbers point)
+    let apart : IsApart (rule_ahead t (next now)) c.args.area.now = subst P (omega arith) (c.is_apart.ensures c.if-not-is_apart.false) in
+    record {
+      low = omega (arith, c.loop-passed.invariant.low, c.next_of-passed-in-loop-passed.ensures.low);
+      none = λ start are. past_next (λ k. IsApartIn (rule_ahead t (next k)) start c.args.area.now) c.args.at.passed now c.next_of-passed-in-loop-passed.result
+          (below_next (λ k. IsApartIn (rule_ahead t (next k)) start c.args.area.now) c.args.at.passed now (c.loop-passed.invariant.none start are) (λ numbers point first. apart.none numbers point))
+          (λ k le lt numbers point first has. (c.next_of-passed-in-loop-passed.ensures.others t start are k le lt).none numbers point first);
+    }
 
-pub loop-passed-preserved-then-not-may_match : goal.loop-passed-preserved-then-not-may_match
-loop-passed-preserved-then-not-may_match c = λ start are.
-    let t = c.args.subject.now.table.table in
-    let next : ℕ → Pending = λ k. record { chain = c.args.at.chain; passed = k } in
-    below_next (λ k. IsApartIn (rule_ahead t (next k)) start c.args.area.now) c.args.at.passed c.loop-passed.passed (c.loop-passed.invariant start are)
-    (λ numbers point first has. (are.others (next c.loop-passed.passed) (sym (rw c.in_chain-flags.ensures at c.may_match.ensures) ∙ c.if-not-may_match.true)).none numbers point first)
+pub returns-clause-none : goal.returns-clause-none
+returns-clause-none c = λ start are k le lt. c.loop-passed.invariant.none start are k le (omega (arith, le, lt, c.loop-passed-test.false, c.max.ensures))

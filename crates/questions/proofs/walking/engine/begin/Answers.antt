@@ -11,7 +11,7 @@ returns-clause-begins c =
     let t = c.args.table.now.table in
     let task : Task = record { area = c.args.start; rests = c.push.new.self; trail = c.new-3.result } in
     let old : Front = record { alloc = c.args.alloc; tasks = c.new.result; leaves = c.new-2.result } in
-    begun t c.args.hook c.args.start c.push.new.self.items c.new-rests.result.items c.new-3.result.items c.hook_index.result old _ c.stands.ensures.sound c.hook_index.ensures c.in_ok-push.ensures.items c.new-rests.ensures.items c.new-3.ensures.items c.new.ensures.items
+    begun t c.args.hook c.args.start c.push.new.self.items c.new-rests.result.items c.new-3.result.items c.hook_index.result old _ c.stands.ensures.sound c.hook_index.ensures c.in_ok-push.ensures.items c.new-rests.ensures.items c.new-3.ensures.items c.new.ensures.items c.new-2.ensures.items
     (λ policy there. task_moves t policy old _ task c.in_ok-push-2.ensures.items refl there)
 
 pub returns-clause-first : goal.returns-clause-first

@@ -3,7 +3,7 @@ use Rattle.questions.specs.declared.walking.front.Front.{Front}
 use Rattle.std.proofs.lemmas.List.Elements.{All-pop}
 use Rattle.questions.specs.steps.Taken.{IsFull, IsStep, IsTakenUp}
 use Rattle.questions.specs.steps.Waiting.{AreThere}
-use Rattle.questions.proofs.laws.WaitLaws.{all_leaves, begun_next, gets_on}
+use Rattle.questions.proofs.laws.WaitLaws.{all_exact, all_leaves, begun_next, gets_on}
 use Rattle.questions.proofs.walking.engine.leaves_among.Goals as goal
 
 pub loop-taken-init : goal.loop-taken-init
@@ -64,3 +64,9 @@ pub returns-then-is_empty-clause-leaves : goal.returns-then-is_empty-clause-leav
 returns-then-is_empty-clause-leaves c =
     let none : length c.loop-taken.front.tasks.items ≡ 0 = grind (arith, c.is_empty.ensures, c.if-is_empty.true, c.loop-taken.front.tasks.ok.0) in
     all_leaves c.args.subject.now.table.table c.args.hook c.args.start c.loop-taken.front c.loop-taken.invariant.begins none
+
+pub returns-in-None-clause-exact : goal.returns-in-None-clause-exact
+returns-in-None-clause-exact c = all_exact c.args.subject.now.table.table c.args.hook c.args.start c.loop-taken.front c.loop-taken.invariant.begins
+
+pub returns-then-is_empty-clause-exact : goal.returns-then-is_empty-clause-exact
+returns-then-is_empty-clause-exact c = all_exact c.args.subject.now.table.table c.args.hook c.args.start c.loop-taken.front c.loop-taken.invariant.begins

@@ -7,9 +7,9 @@ loop-place-preserved c =
     let t = c.args.table.table in
     let within : c.loop-place.place < length t.chains = omega (arith, c.loop-place-test.true, c.chain_count-place-end.ensures, c.loop-place.auto.place-end) in
     record {
-      pairs = pair_more HasBoxes t.chains c.loop-place.chains.items c.push-in-loop-place.new.self.items c.in_ok-boxes.boxes c.loop-place.place c.in_ok-push-2.ensures.items c.loop-place.invariant.pairs
-          (next_chain t c.loop-place.place c.in_ok-boxes.boxes within c.in_ok-boxes.ensures.boxes);
-      counted = omega (arith, rules_more t.chains c.loop-place.place within, c.in_ok-boxes.ensures.counted, c.loop-place.invariant.counted);
+      pairs = pair_more HasBoxes t.chains c.loop-place.chains.items c.push.new.self.items c.in_ok-boxes_of_chain.field-0 c.loop-place.place c.in_ok-push.ensures.items c.loop-place.invariant.pairs
+          (next_chain t c.loop-place.place c.in_ok-boxes_of_chain.field-0 within c.in_ok-boxes_of_chain.ensures.boxes);
+      counted = omega (arith, rules_more t.chains c.loop-place.place within, c.in_ok-boxes_of_chain.ensures.counted, c.loop-place.invariant.counted);
     }
 
 pub invariant_of-result : goal.invariant_of-result

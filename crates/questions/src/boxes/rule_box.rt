@@ -1,0 +1,64 @@
+//! The box of a rule, with what tells most other boxes apart from it at once.
+ghost use Rattle.std.specs.Prelude.{◌≡◌, ℕ, List, IfOk, IsTrue};
+ghost use Rattle.classify.specs.classifier.Classifier.{IsPoint};
+ghost use Rattle.questions.specs.boxes.Area.{Has};
+ghost use Rattle.questions.specs.steps.Outlines.{IsOutlined};
+
+use crate::boxes::area::Area;
+use crate::boxes::ends::{Outline, outline_of};
+use crate::boxes::meeting::{are_apart, narrow_fields};
+use fields::FIELDS;
+use rules::Boxed;
+use std::alloc::{AllocError, Global};
+use std::marker::Model;
+
+// A rule's box. The box itself lies elsewhere in memory, so that boxes which are looked at one after another lie close together.
+#[derive(Drop)]
+pub(crate) struct RuleBox {
+    outline: Outline,
+    // The fields on which the box leaves numbers out.
+    narrow: [bool; FIELDS],
+    boxed: Box<Boxed>,
+}
+
+impl Model for RuleBox {
+    ghost use Rattle.std.specs.Prelude.{List};
+    ghost use Rattle.fields.specs.numbers.Spans.{SpanSet};
+    ghost use Rattle.questions.specs.steps.Outlines.{IsOutlined};
+
+    ghost Value = { List SpanSet };
+
+    ghost view = { λ r. r.boxed.value };
+
+    ghost invariant = { λ r. IsOutlined r.boxed.value r.outline };
+}
+
+impl RuleBox {
+    // A box with its outline.
+    pub(crate) fn of(alloc: Global, boxed: Boxed) -> Result<RuleBox, AllocError>
+        ensures { IfOk result (λ made. made ≡ boxed) }
+    {
+        let outline = outline_of(boxed.spans());
+        let narrow = narrow_fields(boxed.spans());
+        Ok(RuleBox {
+            outline,
+            narrow,
+            boxed: Box::new(alloc, boxed)?,
+        })
+    }
+
+    // The box; it is lent.
+    pub(crate) fn boxed(&self) -> &Boxed
+        ensures { result.now ≡ self.now }
+    {
+        &self.boxed
+    }
+
+    // Whether it has no packet in common with a box, given the box's outline. It takes no memory.
+    pub(crate) fn is_apart(&self, area: &Area, outline: &Outline) -> bool
+        requires { IsOutlined area.now outline.now }
+        ensures { IsTrue result → (numbers : List ℕ) → IsPoint numbers → Has area.now numbers → Has self.now numbers → ⊥ }
+    {
+        self.outline.is_apart(outline) || are_apart(area.sets(), self.boxed.spans(), &self.narrow)
+    }
+}
