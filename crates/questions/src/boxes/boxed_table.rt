@@ -64,7 +64,7 @@ impl BoxedTable {
     }
 
     // The box of rule `number` of the chain at a place, from 1, with its outline; it is lent.
-    fn own_at(&self, place: usize, number: usize) -> &RuleBox
+    pub(crate) fn own_at(&self, place: usize, number: usize) -> &RuleBox
         requires place { place < length self.now.table.table.chains }
         requires first { 0 < number }
         requires last { number ≤ length (chain_at self.now.table.table place).rules }

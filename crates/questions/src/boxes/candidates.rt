@@ -13,8 +13,8 @@ use crate::boxes::boxed_table::BoxedTable;
 use crate::boxes::ends::{Outline, outline_of};
 use std::alloc::{AllocError, Global};
 
-// After how many looks at rules the candidates are found: as many as a chain may have rules.
-const MANY_LOOKS: usize = 8192;
+// After how many looks at rules the candidates are found: fewer rules than most searches look at, so that short searches stay short.
+const MANY_LOOKS: usize = 1024;
 
 // Which rules may match a packet of a box: all of them, until the others are found.
 #[derive(Drop)]

@@ -1,5 +1,6 @@
 //! The box of a rule, with what tells most other boxes apart from it at once.
 ghost use Rattle.std.specs.Prelude.{◌≡◌, ℕ, List, IfOk, IsTrue};
+ghost use Rattle.fields.specs.numbers.Spans.{SpanSet};
 ghost use Rattle.classify.specs.classifier.Classifier.{IsPoint};
 ghost use Rattle.questions.specs.boxes.Area.{Has};
 ghost use Rattle.questions.specs.steps.Outlines.{IsOutlined};
@@ -54,11 +55,23 @@ impl RuleBox {
         &self.boxed
     }
 
+    // Whether it has no packet in common with a box that has this outline, as far as the outlines tell.
+    pub(crate) fn is_outside(&self, outline: &Outline) -> bool
+        ensures { IsTrue result → (area : List SpanSet) → IsOutlined area outline.now → (numbers : List ℕ) → IsPoint numbers → Has area numbers → Has self.now numbers → ⊥ }
+    {
+        self.outline.is_apart(outline)
+    }
+
+    // Whether it may have all packets of a box that has this outline.
+    pub(crate) fn may_have(&self, outline: &Outline) -> bool {
+        outline.lies_in(&self.outline)
+    }
+
     // Whether it has no packet in common with a box, given the box's outline. It takes no memory.
     pub(crate) fn is_apart(&self, area: &Area, outline: &Outline) -> bool
         requires { IsOutlined area.now outline.now }
         ensures { IsTrue result → (numbers : List ℕ) → IsPoint numbers → Has area.now numbers → Has self.now numbers → ⊥ }
     {
-        self.outline.is_apart(outline) || are_apart(area.sets(), self.boxed.spans(), &self.narrow)
+        self.is_outside(outline) || are_apart(area.sets(), self.boxed.spans(), &self.narrow)
     }
 }

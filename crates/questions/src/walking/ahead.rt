@@ -10,7 +10,7 @@ ghost use Rattle.questions.specs.Ends.{IsRule};
 ghost use Rattle.questions.specs.Leaves.{entries_of, entry_of};
 ghost use Rattle.questions.specs.boxes.Area.{Has, IsAtHook, IsIn};
 ghost use Rattle.questions.specs.boxes.Boxes.{rules_in};
-ghost use Rattle.questions.specs.steps.Ahead.{Decides, IsApartIn, SaysRule, Stays, TakesBefore};
+ghost use Rattle.questions.specs.steps.Ahead.{IsApartIn, IsManner, SaysRule, TakesBefore};
 ghost use Rattle.questions.specs.steps.Candidates.{AreFor, AreKept};
 ghost use Rattle.questions.specs.steps.Coming.{IsSought};
 ghost use Rattle.questions.specs.steps.Outlines.{IsOutlined};
@@ -22,6 +22,7 @@ use crate::boxes::boxed_table::BoxedTable;
 use crate::boxes::candidates::Candidates;
 use crate::boxes::ends::{Outline, outline_of};
 use crate::boxes::lying::lies_in;
+use crate::boxes::rule_box::RuleBox;
 use crate::walking::engine::LIMIT;
 use crate::walking::task::{Pending, Task};
 use rules::{Boxed, Rule, Target};
@@ -38,30 +39,23 @@ pub(crate) enum Look {
     Stops,
 }
 
-// Whether a target decides.
-fn decides(target: Option<Target>) -> bool
-    ensures { IsTrue result → Decides target }
-{
-    match target {
-        Some(Target::Accept | Target::Drop | Target::Reject(_)) => true,
-        Some(Target::Log | Target::Return | Target::Jump(_) | Target::Goto(_)) | None => false,
-    }
+// What a target does with a packet.
+enum Manner {
+    // It decides the packet.
+    Decides,
+    // It leaves the packet where it is.
+    Stays,
+    // It may lead the packet elsewhere.
+    Leads,
 }
 
-// Whether a target leaves packets where they are.
-fn stays(target: Option<Target>) -> bool
-    ensures { IsTrue result → Stays target }
+fn manner_of(target: Option<Target>) -> Manner
+    ensures { IsManner target result }
 {
     match target {
-        Some(Target::Log) | None => true,
-        Some(
-            Target::Accept
-            | Target::Drop
-            | Target::Reject(_)
-            | Target::Return
-            | Target::Jump(_)
-            | Target::Goto(_),
-        ) => false,
+        Some(Target::Accept | Target::Drop | Target::Reject(_)) => Manner::Decides,
+        Some(Target::Log) | None => Manner::Stays,
+        Some(Target::Return | Target::Jump(_) | Target::Goto(_)) => Manner::Leads,
     }
 }
 
@@ -73,21 +67,28 @@ fn has_all(rule: &Rule, boxed: &Boxed, area: &Area) -> bool
     !rule.asks_both() && lies_in(area.sets(), boxed.spans())
 }
 
-// What a rule does with those packets of a box that it matches, by its target and its box.
-fn done_by(rule: &Rule, boxed: &Boxed, area: &Area) -> Look
-    requires { IsBoxOf rule.now boxed.now }
+// What a rule does with those packets of a box that it matches, by its target and its box. Whether it matches any is only asked where
+// it may lead elsewhere, and whether it matches all only where the outlines don't tell.
+fn done_by(rule: &Rule, own: &RuleBox, area: &Area, outline: &Outline) -> Look
+    requires own { IsBoxOf rule.now own.now }
+    requires outline { IsOutlined area.now outline.now }
     ensures { SaysRule rule.now area.now result }
 {
-    if stays(rule.target()) {
-        return Look::Passes;
+    match manner_of(rule.target()) {
+        Manner::Stays => Look::Passes,
+        Manner::Decides => {
+            if own.may_have(outline) && has_all(rule, own.boxed(), area) {
+                return Look::Takes;
+            }
+            Look::Passes
+        }
+        Manner::Leads => {
+            if own.is_apart(area, outline) {
+                return Look::Passes;
+            }
+            Look::Stops
+        }
     }
-    if !decides(rule.target()) {
-        return Look::Stops;
-    }
-    if has_all(rule, boxed, area) {
-        return Look::Takes;
-    }
-    Look::Passes
 }
 
 // What the next rule does with the packets of a box.
@@ -99,12 +100,12 @@ fn looked_at(subject: &BoxedTable, area: &Area, outline: &Outline, at: Pending) 
 {
     let count = subject.table.rule_count(at.chain);
     prove!(at.passed < count);
-    if subject.is_apart(area, outline, at.chain, at.passed + 1) {
+    let own = subject.own_at(at.chain, at.passed + 1);
+    if own.is_outside(outline) {
         return Look::Passes;
     }
-    let boxed = subject.at(at.chain, at.passed + 1);
     let rule = subject.table.rule(at.chain, at.passed + 1);
-    done_by(rule, boxed, area)
+    done_by(rule, own, area, outline)
 }
 
 // The place in a chain up to which rules are looked at ahead: the chain's end, or the rule of a step where that is ahead; and so many at most.
