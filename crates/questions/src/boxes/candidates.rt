@@ -83,23 +83,23 @@ impl Candidates {
     }
 }
 
-// Where the first candidate is from the rule behind so many others on, given where it is behind that rule.
+// Where the first candidate is from the rule behind so many others on, given where it is behind that rule. The outlines say it, and no set
+// is looked at.
 fn next_from(
     subject: &BoxedTable,
-    area: &Area,
     outline: &Outline,
     place: usize,
     passed: usize,
     next: usize,
 ) -> usize
-    requires outline { IsOutlined area.now outline.now }
     requires place { place < length subject.now.table.table.chains }
     requires passed { passed < length (chain_at subject.now.table.table place).rules }
-    ensures { ((result ≡ next) × IsApart (slice_index_or (chain_at subject.now.table.table place).rules passed empty_rule) area.now) ⊎ (result ≡ passed) }
+    ensures { (area : List SpanSet) → IsOutlined area outline.now
+        → ((result ≡ next) × IsApart (slice_index_or (chain_at subject.now.table.table place).rules passed empty_rule) area) ⊎ (result ≡ passed) }
 {
     let count = subject.table.rule_count(place);
     prove!(passed < count);
-    if subject.is_apart(area, outline, place, passed + 1) {
+    if subject.own_at(place, passed + 1).is_outside(outline) {
         return next;
     }
     passed
@@ -109,19 +109,18 @@ fn next_from(
 fn nexts_of(
     alloc: Global,
     subject: &BoxedTable,
-    area: &Area,
     outline: &Outline,
     place: usize,
 ) -> Result<Vec<usize>, AllocError>
-    requires outline { IsOutlined area.now outline.now }
     requires place { place < length subject.now.table.table.chains }
-    ensures { IfOk result (λ nexts. AreNexts (chain_at subject.now.table.table place).rules area.now nexts.items) }
+    ensures { IfOk result (λ nexts. (area : List SpanSet) → IsOutlined area outline.now
+        → AreNexts (chain_at subject.now.table.table place).rules area nexts.items) }
 {
     let count = subject.table.rule_count(place);
     let mut nexts = Vec::new(alloc);
     let mut next = count;
     for done in 0..count {
-        next = next_from(subject, area, outline, place, count - 1 - done, next);
+        next = next_from(subject, outline, place, count - 1 - done, next);
         nexts.push(next)?;
     }
     Ok(nexts)
@@ -138,7 +137,7 @@ fn nexts_of_all(
     let outline = outline_of(area.sets());
     let mut chains = Vec::new(alloc);
     for place in 0..subject.table.chain_count() {
-        chains.push(nexts_of(alloc, subject, area, &outline, place)?)?;
+        chains.push(nexts_of(alloc, subject, &outline, place)?)?;
     }
     Ok(chains)
 }

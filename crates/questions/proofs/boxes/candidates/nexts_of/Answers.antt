@@ -6,17 +6,17 @@ use Rattle.questions.proofs.laws.CandidateLaws.{passes_all, passes_more, passes_
 use Rattle.questions.proofs.boxes.candidates.nexts_of.Goals as goal
 
 pub loop-done-init : goal.loop-done-init
-loop-done-init c =
+loop-done-init c = λ area outlined.
     let rules = (chain_at c.args.subject.now.table.table c.args.place).rules in
-    passes_none (λ k. IsApart (get_or rules k empty_rule) c.args.area.now) (length rules) c.new-nexts.result.items c.rule_count-count.result c.new-nexts.ensures.items c.rule_count-count.ensures
+    passes_none (λ k. IsApart (get_or rules k empty_rule) area) (length rules) c.new-nexts.result.items c.rule_count-count.result c.new-nexts.ensures.items c.rule_count-count.ensures
 
 pub loop-done-preserved : goal.loop-done-preserved
-loop-done-preserved c =
+loop-done-preserved c = λ area outlined.
     let rules = (chain_at c.args.subject.now.table.table c.args.place).rules in
-    passes_more (λ k. IsApart (get_or rules k empty_rule) c.args.area.now) (length rules) c.loop-done.nexts.items c.push.new.self.items c.loop-done.next c.next_from-next.result c.loop-done.done (omega (arith, c.loop-done-test.true, c.rule_count-count.ensures))
-    c.in_ok-push.ensures.items (rw c.rule_count-count.ensures at c.next_from-next.ensures) c.loop-done.invariant
+    passes_more (λ k. IsApart (get_or rules k empty_rule) area) (length rules) c.loop-done.nexts.items c.push.new.self.items c.loop-done.next c.next_from-next.result c.loop-done.done (omega (arith, c.loop-done-test.true, c.rule_count-count.ensures))
+    c.in_ok-push.ensures.items (rw c.rule_count-count.ensures at (c.next_from-next.ensures area outlined)) (c.loop-done.invariant area outlined)
 
 pub returns : goal.returns
-returns c =
+returns c = λ area outlined.
     let rules = (chain_at c.args.subject.now.table.table c.args.place).rules in
-    passes_all rules c.args.area.now c.loop-done.nexts.items c.loop-done.next c.loop-done.done (omega (arith, c.loop-done-test.false, c.rule_count-count.ensures)) (omega (arith, c.loop-done.auto.done-end, c.rule_count-count.ensures)) c.loop-done.invariant
+    passes_all rules area c.loop-done.nexts.items c.loop-done.next c.loop-done.done (omega (arith, c.loop-done-test.false, c.rule_count-count.ensures)) (omega (arith, c.loop-done.auto.done-end, c.rule_count-count.ensures)) (c.loop-done.invariant area outlined)
