@@ -1,4 +1,5 @@
 pub mod AheadLaws
+pub mod AnswerLaws
 pub mod AreaLaws
 pub mod BoxesLaws
 pub mod CandidateLaws
@@ -12,6 +13,7 @@ pub mod ElsewhereLaws
 pub mod EndLaws
 pub mod EqualLaws
 pub mod ExactLaws
+pub mod ForeignLaws
 pub mod GroupLaws
 pub mod LeadLaws
 pub mod LeastNameLaws
@@ -19,8 +21,10 @@ pub mod LineLaws
 pub mod LineStepLaws
 pub mod LookLaws
 pub mod MeetingLaws
+pub mod NeverLaws
 pub mod PacketLaws
 pub mod ReachLaws
+pub mod ResolvedLaws
 pub mod SharedLaws
 pub mod TakerLaws
 pub mod TrailLaws

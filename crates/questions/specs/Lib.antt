@@ -1,4 +1,5 @@
 pub mod Ends
+pub mod Foreign
 pub mod Leaves
 pub mod Written
 pub mod asked

@@ -2,6 +2,7 @@ pub mod Changes
 pub mod Laws
 pub mod Reach
 pub mod Reason
+pub mod Resolved
 pub mod Rule
 pub mod Unclear
 pub mod Unknown

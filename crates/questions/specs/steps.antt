@@ -1,4 +1,5 @@
 pub mod Ahead
+pub mod Answered
 pub mod Candidates
 pub mod Chosen
 pub mod Collected

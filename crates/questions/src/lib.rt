@@ -5,6 +5,7 @@
 
 mod asked;
 mod boxes;
+mod foreign;
 mod sampling;
 mod walking;
 
@@ -21,5 +22,7 @@ pub use asked::verdicts::{Likeness, compare, compare_at};
 pub use boxes::area::Area;
 pub use boxes::boxed_table::BoxedTable;
 pub use boxes::transport::carrying;
+pub use foreign::laws::{answers_can_be_given, conditions_leave_a_table};
+pub use foreign::need::{Answer, Need};
 pub use walking::engine::leaves;
 pub use walking::task::Leaf;

@@ -1,0 +1,125 @@
+-- Answers: which assignments give them, and what they tell of a rule's needs.
+use Rattle.std.proofs.Common.{◌≡◌, ◌≢◌, ◌⊎◌, inl, inr, ℕ, zero, suc, ◌+◌, ◌<◌, ◌≤◌, Bool, true, false, cond, not, List, [], ◌∷◌, ◌++◌, length, get_or, refl, sym, ◌∙◌, arith, subst, Option, Some, None, Any, Contains}
+use Rattle.std.specs.Prelude.{nat_eq}
+use Rattle.std.specs.Option.{option_or}
+use Rattle.std.proofs.Math.Bool.{beq}
+use Rattle.std.proofs.lemmas.Bool.{cond-false, cond-true, true≢false}
+use Rattle.std.proofs.lemmas.Bool.Decides.{eqb_tells}
+use Rattle.std.proofs.lemmas.List.{get_or_append_left, get_or_default, length-append}
+use Rattle.std.proofs.lemmas.List.Elements.{All-contains, All-push, Contains-push}
+use Rattle.std.proofs.lemmas.List.Quantifiers.{all_pairs_push}
+use Rattle.std.proofs.lemmas.List.Sums.{list_all-from_AllPass}
+use Rattle.questions.specs.Foreign.{Agrees, AreConsistent, Assignment, IsUnanswered, need_holds}
+use Rattle.questions.specs.declared.foreign.need.Need.{Need}
+use Rattle.questions.specs.declared.foreign.need.Answer.{Answer}
+use Rattle.questions.specs.declared.foreign.need.Standing.TheVariants.{Holds, Open}
+use Rattle.questions.specs.steps.Answered.{IsMet, IsStanding}
+use Rattle.questions.proofs.laws.TrailLaws.{items_next}
+
+-- an answer
+abbrev about : ℕ → Bool → Answer
+about condition holds = record { condition = condition; holds = holds }
+
+-- ---- an answer is given
+
+pub is_given : (a : Assignment) (answers : List Answer) (condition : ℕ) (holds : Bool) → Agrees a answers → Contains answers (about condition holds) → a condition ≡ holds
+is_given a answers condition holds agrees on = All-contains (λ (answer : Answer). a answer.condition ≡ answer.holds) answers (about condition holds) agrees on
+
+pub agrees_with_one_more : (a : Assignment) (answers : List Answer) (condition : ℕ) (holds : Bool) → Agrees a answers → a condition ≡ holds → Agrees a (answers ++ about condition holds ∷ [])
+agrees_with_one_more a answers condition holds agrees is = All-push (λ (answer : Answer). a answer.condition ≡ answer.holds) answers (about condition holds) agrees is
+
+agrees_before : (a : Assignment) (answers more : List Answer) → Agrees a (answers ++ more) → Agrees a answers
+agrees_before a answers more agrees k d lt =
+    let P : Answer → Type 0 = λ answer. a answer.condition ≡ answer.holds in
+    subst P (get_or_append_left answers more d k lt) (agrees k d (omega (arith, lt, length-append answers more)))
+
+-- ---- no condition twice
+
+pub consistent_with_one_more : (answers : List Answer) (condition : ℕ) (holds : Bool) → AreConsistent answers → IsUnanswered answers condition → AreConsistent (answers ++ about condition holds ∷ [])
+consistent_with_one_more answers condition holds apart unanswered = all_pairs_push (λ (one other : Answer). one.condition ≢ other.condition) answers (about condition holds) apart unanswered
+
+-- ---- some assignment gives the answers
+
+-- a condition holds as the first answer about it says, and not without an answer
+abbrev giving : List Answer → Assignment
+giving [] condition = false
+giving (answer ∷ answers) condition = cond (nat_eq answer.condition condition) answer.holds (giving answers condition)
+
+first_gives : (answer : Answer) (answers : List Answer) → giving (answer ∷ answers) answer.condition ≡ answer.holds
+first_gives answer answers =
+    elim (eqb_tells answer.condition answer.condition) [
+      | inl (same, is) ↦ cond-true (nat_eq answer.condition answer.condition) answer.holds _ same
+      | inr (other, apart) ↦ absurd (apart refl)
+    ]
+
+other_gives : (answer : Answer) (answers : List Answer) (condition : ℕ) → answer.condition ≢ condition → giving (answer ∷ answers) condition ≡ giving answers condition
+other_gives answer answers condition apart =
+    elim (eqb_tells answer.condition condition) [
+      | inl (same, is) ↦ absurd (apart is)
+      | inr (other, un) ↦ cond-false (nat_eq answer.condition condition) answer.holds _ other
+    ]
+
+giving_agrees : (answers : List Answer) → AreConsistent answers → Agrees (giving answers) answers
+giving_agrees [] apart k d lt = absurd (omega (arith, lt))
+giving_agrees (answer ∷ answers) apart zero d lt = first_gives answer answers
+giving_agrees (answer ∷ answers) apart (suc k) d lt =
+    let within : k < length answers = omega (arith, lt) in
+    let rest : AreConsistent answers = λ i j e less there. apart (suc i) (suc j) e (omega (arith, less)) (omega (arith, there)) in
+    other_gives answer answers (get_or answers k d).condition (apart 0 (suc k) d (omega arith) lt) ∙ giving_agrees answers rest k d within
+
+pub some_assignment_gives : (answers : List Answer) → AreConsistent answers → (a : Assignment) × Agrees a answers
+some_assignment_gives answers apart = (giving answers, giving_agrees answers apart)
+
+-- so a condition without an answer may hold, and may not
+pub either_is_given : (answers : List Answer) (condition : ℕ) (holds : Bool) → AreConsistent answers → IsUnanswered answers condition → (a : Assignment) × Agrees a answers × (a condition ≡ holds)
+either_is_given answers condition holds apart unanswered =
+    let more : List Answer = answers ++ about condition holds ∷ [] in
+    let (a, agrees) = some_assignment_gives more (consistent_with_one_more answers condition holds apart unanswered) in
+    (a, agrees_before a answers (about condition holds ∷ []) agrees, is_given a more condition holds agrees (Contains-push answers (about condition holds)))
+
+-- ---- what is known of needs
+
+met_by : (inverted value holds : Bool) → value ≡ holds → beq holds inverted ≡ false → cond inverted (not value) value ≡ true
+met_by true true true e h = absurd (true≢false h)
+met_by true true false e h = absurd (true≢false e)
+met_by true false true e h = absurd (true≢false (sym e))
+met_by true false false e h = refl
+met_by false true holds e h = refl
+met_by false false true e h = absurd (true≢false (sym e))
+met_by false false false e h = absurd (true≢false h)
+
+pub is_met : (answers : List Answer) (need : Need) (holds : Bool) → Contains answers (about need.condition holds) → beq holds need.inverted ≡ false → IsMet answers need
+is_met answers need holds on h a agrees = met_by need.inverted (a need.condition) holds (is_given a answers need.condition holds agrees on) h
+
+-- what is known once the first so many needs were looked at: with none of them open all are met, and else the first open one is known
+abbrev pub IsSoFar : List Need → List Answer → ℕ → Option ℕ → Type 0
+IsSoFar needs answers seen None = (k : ℕ) (d : Need) → k < seen → IsMet answers (get_or needs k d)
+IsSoFar needs answers seen (Some condition) =
+    Any (λ (need : Need). need.condition ≡ condition) needs × IsUnanswered answers condition
+    × ((k : ℕ) (d : Need) → k < seen → IsUnanswered answers (get_or needs k d).condition ⊎ IsMet answers (get_or needs k d))
+
+module _ (needs : List Need) (answers : List Answer) (seen : ℕ) (d : Need) (within : seen < length needs) where
+  -- the need that is looked at
+  abbrev need : Need
+  need = get_or needs seen d
+
+  -- what holds of those before it, and of it, holds of one more
+  one_more : (P : Need → Type 0) → ((k : ℕ) (d : Need) → k < seen → P (get_or needs k d)) → P need → (k : ℕ) (d : Need) → k < seen + 1 → P (get_or needs k d)
+  one_more P before here = items_next P needs seen need within (get_or_default needs seen d need within) before here
+
+  abbrev IsEither : Need → Type 0
+  IsEither x = IsUnanswered answers x.condition ⊎ IsMet answers x
+
+  pub met_so_far : (found : Option ℕ) → IsSoFar needs answers seen found → IsMet answers need → IsSoFar needs answers (seen + 1) found
+  met_so_far None met here = one_more (IsMet answers) met here
+  met_so_far (Some condition) (needed, unanswered, others) here = (needed, unanswered, one_more IsEither others (inr here))
+
+  pub open_so_far : (found : Option ℕ) → IsSoFar needs answers seen found → IsUnanswered answers need.condition → IsSoFar needs answers (seen + 1) (option_or found (Some need.condition))
+  open_so_far None met here = ((seen, need, within, sym (get_or_default needs seen d need within), refl), here, one_more IsEither (λ k e lt. inr (met k e lt)) (inl here))
+  open_so_far (Some condition) (needed, unanswered, others) here = (needed, unanswered, one_more IsEither others (inl here))
+
+pub all_are_met : (needs : List Need) (answers : List Answer) (seen : ℕ) → length needs ≤ seen → IsSoFar needs answers seen None → IsStanding needs answers Holds
+all_are_met needs answers seen all met a agrees = list_all-from_AllPass (need_holds a) needs (λ k d lt. met k d (omega (arith, lt, all)) a agrees)
+
+pub one_is_open : (needs : List Need) (answers : List Answer) (seen condition : ℕ) → length needs ≤ seen → IsSoFar needs answers seen (Some condition) → IsStanding needs answers (Open condition)
+one_is_open needs answers seen condition all (needed, unanswered, others) = record { needed = needed; unanswered = unanswered; others = λ k d lt. others k d (omega (arith, lt, all)) }

@@ -1,0 +1,23 @@
+-- What answers tell of the needs of a rule.
+use Rattle.std.specs.Prelude.{◌≡◌, ◌⊎◌, ℕ, List, All, Any, IsTrue, IsFalse}
+use Rattle.questions.specs.Foreign.{Agrees, Assignment, IsUnanswered, all_hold, need_holds}
+use Rattle.questions.specs.declared.foreign.need.Need.{Need}
+use Rattle.questions.specs.declared.foreign.need.Answer.{Answer}
+use Rattle.questions.specs.declared.foreign.need.Standing.{Standing}
+use Rattle.questions.specs.declared.foreign.need.Standing.TheVariants.{Holds, Fails, Open}
+
+-- each assignment that gives the answers meets the need
+abbrev pub IsMet : List Answer → Need → Type 0
+IsMet answers need = (a : Assignment) → Agrees a answers → IsTrue (need_holds a need)
+
+-- The answers leave a condition open that is needed, and meet each need that they don't leave open.
+pub record IsOpen (needs : List Need) (answers : List Answer) (condition : ℕ) : Type 0 where
+  pub needed : Any (λ (need : Need). need.condition ≡ condition) needs
+  pub unanswered : IsUnanswered answers condition
+  pub others : All (λ (need : Need). IsUnanswered answers need.condition ⊎ IsMet answers need) needs
+
+-- what is known of a rule's needs: each assignment that gives the answers meets them all; or each fails one; or a condition is open
+abbrev pub IsStanding : List Need → List Answer → Standing → Type 0
+IsStanding needs answers Holds = (a : Assignment) → Agrees a answers → IsTrue (all_hold a needs)
+IsStanding needs answers Fails = (a : Assignment) → Agrees a answers → IsFalse (all_hold a needs)
+IsStanding needs answers (Open condition) = IsOpen needs answers condition

@@ -1,0 +1,3 @@
+//! Conditions that this program doesn't know.
+pub(crate) mod laws;
+pub(crate) mod need;
