@@ -1,5 +1,5 @@
 -- What two boxes have in common, by their sets.
-use Rattle.std.proofs.Common.{◌≡◌, inl, inr, ℕ, ◌+◌, ◌<◌, ◌≤◌, true, List, ◌∷◌, get_or, refl, sym, ◌∙◌, arith, subst, max, min}
+use Rattle.std.proofs.Common.{◌≡◌, inl, inr, ℕ, ◌+◌, ◌<◌, ◌≤◌, Bool, true, false, ◌||◌, List, [], ◌∷◌, get_or, refl, sym, ◌∙◌, ap, arith, subst, max, min}
 use Rattle.std.proofs.lemmas.Bool.{cases_lt, or_right}
 use Rattle.std.proofs.lemmas.List.{get_or_default}
 use Rattle.fields.specs.declared.numbers.field.TheConstants.{FIELDS}
@@ -21,6 +21,14 @@ pub of_behind : (s : Interval) (ss some all : List Interval) → some ≡ s ∷ 
 of_behind s ss some all e h x there =
     let P : List Interval → Type 0 = λ l. has l x ≡ true in
     h x (subst P (sym e) (or_right (in_span x s) (has ss x) there))
+
+-- a set with one interval has the numbers of that
+pub has_only : (set : SpanSet) (s : Interval) (x : ℕ) → set.intervals ≡ s ∷ [] → has set.intervals x ≡ in_span x s
+has_only set s x e = ap (λ (ss : List Interval). has ss x) e ∙ or_nothing (in_span x s)
+  where
+    or_nothing : (b : Bool) → (b || false) ≡ b
+    or_nothing true = refl
+    or_nothing false = refl
 
 -- two first intervals that meet have a number in common
 pub common_of : (own other : SpanSet) (left right ss ts : List Interval) (s t : Interval) (first last : ℕ) → AreSpansFrom own.top 0 left → left ≡ s ∷ ss → right ≡ t ∷ ts → AreOf left own.intervals → AreOf right other.intervals

@@ -1,14 +1,14 @@
 //! Boxes of packets: a set of numbers on each field.
-ghost use Rattle.std.specs.Prelude.{◌≡◌, ◌<◌, ◌≤◌, ◌&&◌, ◌||◌, ◌==◌, ℕ, [], false, List, All, Any, not, length, slice_index_or, IfOk, IsTrue, OnOk};
+ghost use Rattle.std.specs.Prelude.{◌≡◌, ◌<◌, ◌≤◌, ◌&&◌, ◌||◌, ◌==◌, ℕ, [], ◌∷◌, false, List, All, Any, not, length, slice_index_or, IfOk, IfSome, IsTrue, OnOk};
 ghost use Rattle.fields.specs.declared.numbers.field.Field.{Field};
 ghost use Rattle.fields.specs.numbers.Field.{all_fields, top};
-ghost use Rattle.fields.specs.numbers.Spans.{SpanSet, has};
+ghost use Rattle.fields.specs.numbers.Spans.{SpanSet, has, in_span};
 ghost use Rattle.fields.specs.packet.Packet.{PacketView, IsPacket};
 ghost use Rattle.rules.specs.boxing.Boxed.{IsBox, set_on};
 ghost use Rattle.questions.specs.boxes.Area.{Has, HasNumbers, HasOwnInterfaces, IsAtHook, IsBoth, IsIn, IsNarrowed, is_without};
 ghost use Rattle.questions.specs.steps.Sides.{HasOne, IsBeginning, IsPart, IsSide};
 
-use fields::{FIELDS, Field, Hook, Spans};
+use fields::{FIELDS, Field, Hook, Interval, Spans};
 use std::alloc::{AllocError, Global};
 use std::array;
 use std::marker::Model;
@@ -43,7 +43,44 @@ fn minus(alloc: Global, own: &Spans, other: &Spans) -> Result<Spans, AllocError>
     own.meet(alloc, &others)
 }
 
-// The set at a place of the part of a box that leaves another one at `at`. A set met with itself is its copy.
+// The only interval of a set, if it has one.
+fn only_of(set: &Spans) -> Option<Interval>
+    ensures { IfSome result (λ only. (set.now.intervals ≡ only ∷ []) × (only.last ≤ set.now.top)) }
+{
+    let (only, others) = set.intervals().split_first()?;
+    if others.is_empty() {
+        return Some(*only);
+    }
+    None
+}
+
+// The numbers that two intervals share.
+fn shared(alloc: Global, top: u128, own: Interval, other: Interval) -> Result<Spans, AllocError>
+    requires { own.last ≤ top }
+    ensures top { IfOk result (λ set. set.top ≡ top) }
+    ensures members { IfOk result (λ set. (x : ℕ) → has set.intervals x ≡ (in_span x own && in_span x other)) }
+{
+    let first = own.first.max(other.first);
+    let last = own.last.min(other.last);
+    if last < first {
+        return Ok(Spans::none(alloc, top));
+    }
+    Spans::one(alloc, top, first, last)
+}
+
+// The numbers that two sets share, at once where each has one interval. A set met with itself is its copy.
+fn met(alloc: Global, own: &Spans, other: &Spans) -> Result<Spans, AllocError>
+    requires { own.now.top ≡ other.now.top }
+    ensures top { IfOk result (λ set. set.top ≡ own.now.top) }
+    ensures members { IfOk result (λ set. (x : ℕ) → has set.intervals x ≡ (has own.now.intervals x && has other.now.intervals x)) }
+{
+    match (only_of(own), only_of(other)) {
+        (Some(one), Some(two)) => shared(alloc, own.top(), one, two),
+        _ => own.meet(alloc, other),
+    }
+}
+
+// The set at a place of the part of a box that leaves another one at `at`.
 fn side(
     alloc: Global,
     own: &Spans,
@@ -55,11 +92,11 @@ fn side(
     ensures { IfOk result (IsSide at place own.now other.now) }
 {
     if place < at {
-        own.meet(alloc, other)
+        met(alloc, own, other)
     } else if place == at {
         minus(alloc, own, other)
     } else {
-        own.meet(alloc, own)
+        met(alloc, own, own)
     }
 }
 
