@@ -1,25 +1,30 @@
 -- Two tables compared by the rules in which they differ.
-use Rattle.std.proofs.Common.{◌≡◌, ◌≢◌, ◌⊎◌, inl, inr, ℕ, zero, suc, Bool, true, List, [], ◌∷◌, get_or, refl, sym, ◌∙◌, arith, subst, Contains}
+use Rattle.std.proofs.Common.{◌≡◌, ◌≢◌, ◌⊎◌, inl, inr, ℕ, zero, suc, Bool, ◌<◌, true, List, [], ◌∷◌, length, get_or, refl, sym, ◌∙◌, ap, arith, subst, Contains}
 use Rattle.std.specs.Prelude.{All, Any, IsFalse}
 use Rattle.std.proofs.lemmas.Bool.{cases_Bool, true≢false}
 use Rattle.std.proofs.lemmas.List.Elements.{All-contains, Contains-get_or}
 use Rattle.fields.specs.declared.packet.hook.Hook.{Hook}
+use Rattle.fields.specs.numbers.Spans.{SpanSet}
 use Rattle.fields.specs.packet.Packet.{PacketView as Packet}
 use Rattle.rules.specs.rule.Allows.{matches}
 use Rattle.table.specs.chains.Table.{Table}
 use Rattle.table.specs.declared.walk.trail.Step.{Step}
 use Rattle.table.specs.declared.verdict.Verdict.TheVariants.{TooLong}
-use Rattle.table.specs.walk.Walk.{Entry, end_verdict, walk}
+use Rattle.table.specs.declared.verdict.Verdict.{Verdict}
+use Rattle.table.specs.walk.Walk.{Entry, Walked, end_verdict, walk}
 use Rattle.questions.specs.Ends.{IsRule, rule_at}
 use Rattle.questions.specs.asked.Unclear.{IsOfRule, MayDiffer, MayDifferOn}
-use Rattle.questions.specs.Leaves.{entry_of}
+use Rattle.questions.specs.Leaves.{AreExactOn, AreLeavesOf, IsShownBy, ShowsWalk, entry_of}
+use Rattle.questions.specs.Written.{IsSampleOf}
 use Rattle.questions.specs.asked.Changes.{AreChanges, AreThese, IsUntouched}
-use Rattle.questions.specs.asked.Verdicts.{IsAlike, IsSameAt}
-use Rattle.questions.specs.boxes.Area.{IsAtHook}
+use Rattle.questions.specs.asked.Verdicts.{IsAlike, IsOtherAt, IsSameAt, IsSameIn}
+use Rattle.questions.specs.boxes.Area.{IsAtHook, IsBoth}
 use Rattle.questions.specs.declared.asked.changes.Changes.{Changes}
-use Rattle.questions.specs.steps.Compared.{IsSettled, MayDifferOf}
+use Rattle.questions.specs.declared.walking.task.Leaf.{Leaf}
+use Rattle.questions.specs.steps.Compared.{IsOfOther, IsSameOn, IsSettled, MayDifferOf}
 use Rattle.questions.specs.steps.Takers.{IsMatchedAt}
 use Rattle.questions.proofs.laws.ElsewhereLaws.{off_the_walk}
+use Rattle.questions.proofs.laws.PacketLaws.{written_at_hooks}
 use Rattle.questions.proofs.laws.SharedLaws.{are_off, matches_none}
 
 -- some of the rules matches the packet, or none does
@@ -117,3 +122,44 @@ came_differs old new hook budget changes are may =
 -- the changed rules are rules of their table
 pub are_rules : (t : Table) (these : Entry → Bool) (steps : List Step) → AreThese t these steps → All (IsRule t) steps
 are_rules t these steps are = λ k d lt. (are.only (get_or steps k d) (Contains-get_or steps k d lt)).0
+
+-- ---- leaves of both tables
+
+-- one of some leaves that are shown
+pub shown_here : (t : Table) (hook : Hook) (found : List Leaf) (i : ℕ) (leaf : Leaf) → i < length found → leaf ≡ get_or found i leaf → All (IsShownBy t hook) found → IsShownBy t hook leaf
+shown_here t hook found i leaf lt is shown = subst (IsShownBy t hook) (sym is) (shown i leaf lt)
+
+-- exact leaves are shown
+pub shown_all : (t : Table) (hook : Hook) (box : List SpanSet) (found : List Leaf) → AreExactOn t hook box found → All (IsShownBy t hook) found
+shown_all t hook box found exact k d lt p can there inside = (exact p can there k d lt inside).1
+
+-- each packet of the box is in some leaf of the first table, so what is said of all leaves is said of it
+pub same_on : (old new : Table) (hook : Hook) (start : List SpanSet) (found : List Leaf) → AreLeavesOf old hook start found → All (IsSameIn old new hook) found → IsSameOn old new hook start
+same_on old new hook start found cover same p can there inside =
+    let w = cover p can there inside in
+    All-contains (IsSameIn old new hook) found w.1 same (w.0, w.2, w.3) p can there w.4
+
+-- a packet of a leaf of the first table gets from the second table the verdict that all leaves there have
+pub same_in : (old new : Table) (hook : Hook) (leaf : Leaf) (start : List SpanSet) (found : List Leaf) → IsBoth leaf.area leaf.area start → AreLeavesOf new hook start found → All (λ other. other.verdict ≡ leaf.verdict) found → IsSameIn old new hook leaf
+same_in old new hook leaf start found copy cover alike p can there ends =
+    let w = cover p can there (copy.all p.values can.packet.within ends.inside ends.inside) in
+    ap verdict_of ends.walked ∙ sym (All-contains (λ (other : Leaf). other.verdict ≡ leaf.verdict) found w.1 alike (w.0, w.2, w.3)) ∙ sym (ap verdict_of w.4.walked)
+  where
+    verdict_of : Walked → Verdict
+    verdict_of walked = walked.verdict
+
+-- a packet that a line writes, of a leaf there with another verdict, gets two verdicts
+pub other_in : (old new : Table) (hook : Hook) (leaf : Leaf) (start : List SpanSet) (found : List Leaf) (words : List (List ℕ)) → IsBoth leaf.area leaf.area start → AreExactOn new hook start found → IsShownBy old hook leaf → IsOfOther hook leaf.verdict found words → IsOtherAt old new hook words
+other_in old new hook leaf start found words copy exact shown w =
+    let other : Leaf = w.1 in
+    let p : Packet = w.4.1.0 in
+    let sample : IsSampleOf hook other.area words p = w.4.1.1 in
+    let can : IsAtHook p = written_at_hooks words p sample.writes in
+    let P : Leaf → Type 0 = λ l. ShowsWalk new start p l in
+    let own = subst P w.3 (exact p can sample.there w.0 other w.2) sample.inside in
+    let first : (walk old p).verdict ≡ leaf.verdict = ap verdict_of (shown p can sample.there (copy.first p.values can.packet.within own.0)) in
+    let second : (walk new p).verdict ≡ other.verdict = ap verdict_of own.1 in
+    (p, sample.writes, sample.there, λ same. w.4.0 (sym second ∙ sym same ∙ first))
+  where
+    verdict_of : Walked → Verdict
+    verdict_of walked = walked.verdict

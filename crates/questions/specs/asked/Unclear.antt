@@ -12,7 +12,7 @@ use Rattle.questions.specs.Leaves.{AreLeavesOf, entry_of}
 use Rattle.questions.specs.Written.{HasNoneWritten, IsSampleOf}
 use Rattle.questions.specs.asked.Changes.{ShareOthers}
 use Rattle.questions.specs.asked.Rule.{IsDeadAt}
-use Rattle.questions.specs.asked.Verdicts.{IsAlike, IsSameAt}
+use Rattle.questions.specs.asked.Verdicts.{IsSameAt}
 use Rattle.questions.specs.boxes.Area.{IsAtHook, IsBoth, IsIn}
 use Rattle.questions.specs.boxes.Boxes.{rules_in}
 use Rattle.questions.specs.declared.asked.reach.Given.{Given}
@@ -57,29 +57,24 @@ IsUnclear t step budget (life.Live words) = Unit {0}
 IsUnclear t step budget life.Unclear =
     ((hook : Hook) → IsDeadAt t (entry_of t.chains step) hook ⊎ MayLive t step hook budget) × ((hook : Hook) × MayLive t step hook budget)
 
--- no packet of the box shows that the tables differ: no packet line writes one, or some line writes one to which both tables give
--- the same verdict
-abbrev pub IsAlikeAsSeen : Table → Table → Hook → List SpanSet → Type 0
-IsAlikeAsSeen old new hook box = HasNoneWritten hook box ⊎ ((words : List (List ℕ)) × (p : Packet) × IsSampleOf hook box words p × IsAlike old new p)
-
--- the same of a leaf's box, if the leaf has another verdict
-abbrev pub IsAlikeIn : Table → Table → Hook → Verdict → Leaf → Type 0
-IsAlikeIn old new hook verdict leaf = leaf.verdict ≢ verdict → IsAlikeAsSeen old new hook leaf.area
+-- if the leaf has another verdict, no packet line writes a packet of its box
+abbrev pub IsUnwritten : Hook → Verdict → Leaf → Type 0
+IsUnwritten hook verdict leaf = leaf.verdict ≢ verdict → HasNoneWritten hook leaf.area
 
 -- the packets of a leaf of the first table can't all be walked through the second table within the budget; or some leaves there
--- have another verdict, and of each of these no packet shows it
-abbrev pub MayDifferIn : Table → Table → Hook → ℕ → Leaf → Type 0
-MayDifferIn old new hook budget leaf =
+-- have another verdict, and no packet line writes a packet of one of these
+abbrev pub MayDifferIn : Table → Hook → ℕ → Leaf → Type 0
+MayDifferIn new hook budget leaf =
     (box : List SpanSet) × IsBoth leaf.area leaf.area box
     × (IsUnfinished new hook box budget
     ⊎ ((leaves : List Leaf) × AreLeavesOf new hook box leaves × Any (λ (other : Leaf). other.verdict ≢ leaf.verdict) leaves
-    × All (IsAlikeIn old new hook leaf.verdict) leaves))
+    × All (IsUnwritten hook leaf.verdict) leaves))
 
 -- the packets of the box can't all be walked through the first table within the budget, or those of one of its leaves may get
 -- different verdicts
 abbrev pub MayDifferOn : Table → Table → Hook → ℕ → List SpanSet → Type 0
 MayDifferOn old new hook budget box =
-    IsUnfinished old hook box budget ⊎ ((leaves : List Leaf) × AreLeavesOf old hook box leaves × Any (MayDifferIn old new hook budget) leaves)
+    IsUnfinished old hook box budget ⊎ ((leaves : List Leaf) × AreLeavesOf old hook box leaves × Any (MayDifferIn new hook budget) leaves)
 
 -- the tables have different policies at the hook, and the box has all packets there
 abbrev pub IsOfPolicy : Table → Table → Hook → List SpanSet → Type 0

@@ -1,23 +1,30 @@
 -- What is said of the packets of a box, or of those that a rule matches, where two tables are compared.
-use Rattle.std.specs.Prelude.{◌≡◌, ◌≢◌, ◌⊎◌, ℕ, List}
+use Rattle.std.specs.Prelude.{◌≡◌, ◌≢◌, ◌⊎◌, ℕ, List, Any}
 use Rattle.fields.specs.declared.packet.hook.Hook.{Hook}
 use Rattle.fields.specs.numbers.Spans.{SpanSet}
 use Rattle.fields.specs.packet.Packet.{PacketView as Packet}
 use Rattle.table.specs.chains.Table.{Table}
+use Rattle.table.specs.declared.verdict.Verdict.{Verdict}
 use Rattle.table.specs.declared.verdict.Verdict.TheVariants.{TooLong}
 use Rattle.table.specs.declared.walk.trail.Step.{Step}
 use Rattle.table.specs.walk.Walk.{walk}
 use Rattle.questions.specs.Leaves.{entry_of}
+use Rattle.questions.specs.Written.{IsSampleOf}
 use Rattle.questions.specs.asked.Rule.{IsDeadAt}
 use Rattle.questions.specs.asked.Unclear.{MayDifferOn}
 use Rattle.questions.specs.asked.Verdicts.{IsAlike}
 use Rattle.questions.specs.boxes.Area.{IsAtHook, IsIn}
 use Rattle.questions.specs.declared.asked.reach.Given.{Given}
+use Rattle.questions.specs.declared.walking.task.Leaf.{Leaf}
 use Rattle.questions.specs.steps.Takers.{IsBoxAt, IsMatchedAt}
 
 -- no packet at the hook that the rule matches has a walk that is too long
 abbrev pub AreShort : Table → Step → Hook → Type 0
 AreShort t step hook = (p : Packet) → IsMatchedAt t step hook p → (walk t p).verdict ≢ TooLong
+
+-- the words write a packet of a leaf that has another verdict
+abbrev pub IsOfOther : Hook → Verdict → List Leaf → List (List ℕ) → Type 0
+IsOfOther hook verdict leaves words = Any (λ (leaf : Leaf). (leaf.verdict ≢ verdict) × ((p : Packet) × IsSampleOf hook leaf.area words p)) leaves
 
 -- both tables give each packet of the box that can be at the hook the same verdict
 abbrev pub IsSameOn : Table → Table → Hook → List SpanSet → Type 0

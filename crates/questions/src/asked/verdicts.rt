@@ -1,12 +1,14 @@
 //! Whether two tables give each packet the same verdict.
 ghost use Rattle.std.specs.Prelude.{◌≡◌, ◌≢◌, false, All, Any, IfOk, IsTrue, MatchOption};
+ghost use Rattle.table.specs.chains.Table.{Table as Filter};
 ghost use Rattle.table.specs.declared.verdict.Verdict.{Verdict};
 ghost use Rattle.questions.specs.Ends.{IsRule};
+ghost use Rattle.questions.specs.Leaves.{IsShownBy};
 ghost use Rattle.questions.specs.asked.Changes.{AreChanges};
-ghost use Rattle.questions.specs.asked.Unclear.{IsAlikeAsSeen, IsAlikeIn, IsUnclearIf, MayDiffer, MayDifferIn, MayDifferOn, MayDifferSomewhere};
-ghost use Rattle.questions.specs.asked.Verdicts.{IsOtherAt, IsSameAt, IsSameIn, Says, SaysIf};
+ghost use Rattle.questions.specs.asked.Unclear.{IsUnclearIf, IsUnwritten, MayDiffer, MayDifferIn, MayDifferOn, MayDifferSomewhere};
+ghost use Rattle.questions.specs.asked.Verdicts.{IsSameAt, IsSameIn, Says, SaysIf};
 ghost use Rattle.questions.specs.declared.asked.verdicts.Likeness.TheVariants.{Same};
-ghost use Rattle.questions.specs.steps.Compared.{IsSameOn, IsSettled, MayDifferOf};
+ghost use Rattle.questions.specs.steps.Compared.{IsOfOther, IsSameOn, IsSettled, MayDifferOf};
 
 use crate::asked::changes::{Changes, changes_of};
 use crate::asked::equal::are_equal;
@@ -15,12 +17,12 @@ use crate::asked::reach::Given;
 use crate::asked::rule::{Life, life_at};
 use crate::boxes::area::Area;
 use crate::boxes::boxed_table::BoxedTable;
-use crate::sampling::sample::{Sample, sample_of};
+use crate::sampling::sample::sample_of;
 use crate::walking::engine::{leaves, policy_at};
 use crate::walking::task::Leaf;
 use fields::{Hook, Words};
 use std::alloc::{AllocError, Global};
-use table::{Step, Table, Verdict};
+use table::{Step, Verdict};
 
 /// What is known of two tables.
 #[derive(Drop)]
@@ -31,8 +33,7 @@ pub enum Likeness {
     Differ(Words),
     /// Neither is known. Each hook at which the tables aren't known to be the same is one where the steps don't
     /// suffice, a trail is full, or a leaf of the first table has leaves in the second one with another verdict, and
-    /// each of these has no packet that a line writes, or one to which both tables give one verdict. There is such a
-    /// hook.
+    /// no line writes a packet of one of these. There is such a hook.
     Unclear,
 }
 
@@ -57,60 +58,32 @@ fn all_give(found: &[Leaf], verdict: Verdict) -> bool
     true
 }
 
-// A packet of a box, if the tables give it two verdicts.
-fn witness(
-    alloc: Global,
-    old: &Table,
-    new: &Table,
-    hook: Hook,
-    area: &Area,
-) -> Result<Option<Words>, AllocError>
-    ensures { IfOk result (λ found. MatchOption found
-        (IsAlikeAsSeen old.now.table new.now.table hook area.now) (IsOtherAt old.now.table new.now.table hook)) }
-{
-    let Some(sample) = sample_of(alloc, hook, area)? else {
-        return Ok(None);
-    };
-    let Sample { words, packet } = sample;
-    if old.verdict(&packet) != new.verdict(&packet) {
-        return Ok(Some(words));
-    }
-    Ok(None)
-}
-
 // A packet of some leaf with another verdict than this one.
-fn witness_among(
-    old: &Table,
-    new: &Table,
-    hook: Hook,
-    leaves: &[Leaf],
-    verdict: Verdict,
-) -> Result<Option<Words>, AllocError>
-    ensures { IfOk result (λ found. MatchOption found
-        (All (IsAlikeIn old.now.table new.now.table hook verdict) leaves.now) (IsOtherAt old.now.table new.now.table hook)) }
+fn witness_among(hook: Hook, leaves: &[Leaf], verdict: Verdict) -> Result<Option<Words>, AllocError>
+    ensures { IfOk result (λ found. MatchOption found (All (IsUnwritten hook verdict) leaves.now) (IsOfOther hook verdict leaves.now)) }
 {
     for leaf in leaves {
         if leaf.verdict == verdict {
             continue;
         }
-        match witness(*leaf.trail.allocator(), old, new, hook, &leaf.area)? {
+        match sample_of(*leaf.trail.allocator(), hook, &leaf.area)? {
             None => {}
-            Some(words) => return Ok(Some(words)),
+            Some(sample) => return Ok(Some(sample.words)),
         }
     }
     Ok(None)
 }
 
-// What is said of the packets of a leaf of the first table: they walk the second one.
+// What is said of the packets of a leaf of a first table, where these have the walk that it shows: they walk the second one.
 fn likeness_in(
-    old: &Table,
     new: &BoxedTable,
     hook: Hook,
     leaf: &Leaf,
     budget: usize,
 ) -> Result<Likeness, AllocError>
-    ensures says { IfOk result (SaysIf (IsSameIn old.now.table new.now.table.table hook leaf.now) old.now.table new.now.table.table hook) }
-    ensures unclear { IfOk result (IsUnclearIf (MayDifferIn old.now.table new.now.table.table hook budget leaf.now)) }
+    ensures says { IfOk result (λ likeness. (old : Filter) → IsShownBy old hook leaf.now
+        → SaysIf (IsSameIn old new.now.table.table hook leaf.now) old new.now.table.table hook likeness) }
+    ensures unclear { IfOk result (IsUnclearIf (MayDifferIn new.now.table.table hook budget leaf.now)) }
 {
     let alloc = *leaf.trail.allocator();
     let start = leaf.area.copy(alloc)?;
@@ -120,7 +93,7 @@ fn likeness_in(
             if all_give(found.as_slice(), leaf.verdict) {
                 return Ok(Likeness::Same);
             }
-            match witness_among(old, &new.table, hook, found.as_slice(), leaf.verdict)? {
+            match witness_among(hook, found.as_slice(), leaf.verdict)? {
                 Some(words) => Ok(Likeness::Differ(words)),
                 None => Ok(Likeness::Unclear),
             }
@@ -128,20 +101,20 @@ fn likeness_in(
     }
 }
 
-// What is said of the packets of all leaves of the first table.
+// What is said of the packets of all leaves of a first table, where these have the walks that they show.
 fn likeness_among(
-    old: &Table,
     new: &BoxedTable,
     hook: Hook,
     found: &[Leaf],
     budget: usize,
 ) -> Result<Likeness, AllocError>
-    ensures says { IfOk result (SaysIf (All (IsSameIn old.now.table new.now.table.table hook) found.now) old.now.table new.now.table.table hook) }
-    ensures unclear { IfOk result (IsUnclearIf (Any (MayDifferIn old.now.table new.now.table.table hook budget) found.now)) }
+    ensures says { IfOk result (λ likeness. (old : Filter) → All (IsShownBy old hook) found.now
+        → SaysIf (All (IsSameIn old new.now.table.table hook) found.now) old new.now.table.table hook likeness) }
+    ensures unclear { IfOk result (IsUnclearIf (Any (MayDifferIn new.now.table.table hook budget) found.now)) }
 {
     let mut clear = true;
     for leaf in found {
-        match likeness_in(old, new, hook, leaf, budget)? {
+        match likeness_in(new, hook, leaf, budget)? {
             Likeness::Same => {}
             Likeness::Differ(words) => return Ok(Likeness::Differ(words)),
             Likeness::Unclear => clear = false,
@@ -166,13 +139,7 @@ fn likeness_on(
     let Some(found) = leaves(course.alloc, old, course.hook, start, course.budget)? else {
         return Ok(Likeness::Unclear);
     };
-    match likeness_among(
-        &old.table,
-        new,
-        course.hook,
-        found.as_slice(),
-        course.budget,
-    )? {
+    match likeness_among(new, course.hook, found.as_slice(), course.budget)? {
         Likeness::Same => Ok(Likeness::Same),
         Likeness::Differ(words) => Ok(Likeness::Differ(words)),
         Likeness::Unclear => Ok(Likeness::Unclear),

@@ -2,18 +2,32 @@ use Rattle.std.proofs.Common.{sym, ◌∙◌, arith}
 use Rattle.std.proofs.lemmas.Bool.{true≢false}
 use Rattle.questions.specs.asked.Verdicts.{IsSameIn}
 use Rattle.questions.proofs.laws.TrailLaws.{items_next}
+use Rattle.questions.proofs.laws.CompareLaws.{shown_here}
 use Rattle.questions.proofs.asked.verdicts.likeness_among.Goals as goal
 use Rattle.questions.proofs.asked.verdicts.likeness_among.Goals.{in-Same, in-Unclear}
 
 pub loop-leaf-preserved : goal.loop-leaf-preserved
 loop-leaf-preserved c =
+    let hook = c.args.hook in
+    let found = c.args.found.now in
+    let i = c.loop-leaf.leaf-index in
+    let leaf = c.leaf-item.result in
     elim c.match-branch-2.branch [
       | in-Same w ↦ record {
-        same = λ clear. items_next (IsSameIn c.args.old.now.table c.args.new.now.table.table c.args.hook) c.args.found.now c.loop-leaf.leaf-index c.leaf-item.result (omega arith) c.leaf-item.is (c.loop-leaf.invariant.same (sym w.clear-is ∙ clear)) (rw w.in-Same.is at c.in_ok-likeness_in.ensures.says);
+        same = λ clear old shown. items_next (IsSameIn old c.args.new.now.table.table hook) found i leaf (omega arith) c.leaf-item.is (c.loop-leaf.invariant.same (sym w.clear-is ∙ clear) old shown)
+            ((rw w.in-Same.is at c.in_ok-likeness_in.ensures.says) old (shown_here old hook found i leaf (omega arith) c.leaf-item.is shown));
         some = λ off. c.loop-leaf.invariant.some (sym w.clear-is ∙ off);
       }
       | in-Unclear w ↦ record {
-        same = λ clear. absurd (true≢false (sym clear ∙ w.clear-is));
-        some = λ _. (c.loop-leaf.leaf-index, c.leaf-item.result, omega arith, sym c.leaf-item.is, rw w.in-Unclear.is at c.in_ok-likeness_in.ensures.unclear);
+        same = λ clear old shown. absurd (true≢false (sym clear ∙ w.clear-is));
+        some = λ _. (i, leaf, omega arith, sym c.leaf-item.is, rw w.in-Unclear.is at c.in_ok-likeness_in.ensures.unclear);
       }
     ]
+
+pub returns-in-Differ-clause-says : goal.returns-in-Differ-clause-says
+returns-in-Differ-clause-says c = λ old shown.
+    let hook = c.args.hook in
+    (rw c.in-Differ.is at c.in_ok-likeness_in.ensures.says) old (shown_here old hook c.args.found.now c.loop-leaf.leaf-index c.leaf-item.result (omega arith) c.leaf-item.is shown)
+
+pub returns-then-clear-clause-says : goal.returns-then-clear-clause-says
+returns-then-clear-clause-says c = λ old shown k d lt. c.loop-leaf.invariant.same c.if-clear.true old shown k d (omega (arith, lt))
