@@ -13,13 +13,15 @@ use Rattle.table.specs.declared.verdict.Verdict.TheVariants.{TooLong}
 use Rattle.table.specs.declared.verdict.Verdict.{Verdict}
 use Rattle.table.specs.walk.Walk.{Entry, Walked, end_verdict, walk}
 use Rattle.questions.specs.Ends.{IsRule, rule_at}
-use Rattle.questions.specs.asked.Unclear.{IsOfRule, MayDiffer, MayDifferOn}
+use Rattle.questions.specs.asked.Unclear.{IsOfRule, IsUnclearIf, MayDiffer, MayDifferOn}
 use Rattle.questions.specs.Leaves.{AreExactOn, AreLeavesOf, IsShownBy, ShowsWalk, entry_of}
 use Rattle.questions.specs.Written.{IsSampleOf}
 use Rattle.questions.specs.asked.Changes.{AreChanges, AreThese, IsUntouched}
-use Rattle.questions.specs.asked.Verdicts.{IsAlike, IsOtherAt, IsSameAt, IsSameIn}
+use Rattle.questions.specs.asked.Verdicts.{IsAlike, IsOtherAt, IsSameAt, IsSameIn, SaysIf}
 use Rattle.questions.specs.boxes.Area.{IsAtHook, IsBoth}
 use Rattle.questions.specs.declared.asked.changes.Changes.{Changes}
+use Rattle.questions.specs.declared.asked.verdicts.Likeness.{Likeness}
+use Rattle.questions.specs.declared.asked.verdicts.Likeness.TheVariants as likeness
 use Rattle.questions.specs.declared.walking.task.Leaf.{Leaf}
 use Rattle.questions.specs.steps.Compared.{IsOfOther, IsSameOn, IsSettled, MayDifferOf}
 use Rattle.questions.specs.steps.Takers.{IsMatchedAt}
@@ -122,6 +124,20 @@ came_differs old new hook budget changes are may =
 -- the changed rules are rules of their table
 pub are_rules : (t : Table) (these : Entry → Bool) (steps : List Step) → AreThese t these steps → All (IsRule t) steps
 are_rules t these steps are = λ k d lt. (are.only (get_or steps k d) (Contains-get_or steps k d lt)).0
+
+-- ---- one answer for another
+
+-- what is said with one fact for "the same" is said with any that follows from it
+pub said_as : (one two : Type 0) (old new : Table) (hook : Hook) (likeness : Likeness) → (one → two) → SaysIf one old new hook likeness → SaysIf two old new hook likeness
+said_as one two old new hook likeness.Same f h = f h
+said_as one two old new hook (likeness.Differ words) f h = h
+said_as one two old new hook likeness.Unclear f h = tt
+
+-- so is where alone it may be unclear
+pub unclear_as : (one two : Type 0) (likeness : Likeness) → (one → two) → IsUnclearIf one likeness → IsUnclearIf two likeness
+unclear_as one two likeness.Same f h = tt
+unclear_as one two (likeness.Differ words) f h = tt
+unclear_as one two likeness.Unclear f h = f h
 
 -- ---- leaves of both tables
 

@@ -139,11 +139,7 @@ fn likeness_on(
     let Some(found) = leaves(course.alloc, old, course.hook, start, course.budget)? else {
         return Ok(Likeness::Unclear);
     };
-    match likeness_among(new, course.hook, found.as_slice(), course.budget)? {
-        Likeness::Same => Ok(Likeness::Same),
-        Likeness::Differ(words) => Ok(Likeness::Differ(words)),
-        Likeness::Unclear => Ok(Likeness::Unclear),
-    }
+    likeness_among(new, course.hook, found.as_slice(), course.budget)
 }
 
 // What is said of the packets that a rule of one of the tables matches. Where the rule is dead there, its packets are those of the other
@@ -166,11 +162,7 @@ fn likeness_of(
     if let Life::Dead = life_at(course.alloc, owner, course.hook, step, course.budget)? {
         return Ok(Likeness::Same);
     }
-    match likeness_on(old, new, course, area)? {
-        Likeness::Same => Ok(Likeness::Same),
-        Likeness::Differ(words) => Ok(Likeness::Differ(words)),
-        Likeness::Unclear => Ok(Likeness::Unclear),
-    }
+    likeness_on(old, new, course, area)
 }
 
 // What is said of the packets that some of these rules match.
@@ -215,11 +207,7 @@ fn likeness_at(
     new.table.stands();
     if policy_at(&old.table, course.hook) != policy_at(&new.table, course.hook) {
         let start = Area::at_hook(course.alloc, course.hook)?;
-        return match likeness_on(old, new, course, start)? {
-            Likeness::Same => Ok(Likeness::Same),
-            Likeness::Differ(words) => Ok(Likeness::Differ(words)),
-            Likeness::Unclear => Ok(Likeness::Unclear),
-        };
+        return likeness_on(old, new, course, start);
     }
     let clear = match likeness_of_all(old, new, old, course, changes.went.as_slice())? {
         Likeness::Differ(words) => return Ok(Likeness::Differ(words)),
