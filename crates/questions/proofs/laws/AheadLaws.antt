@@ -4,7 +4,7 @@ use Rattle.std.specs.Prelude.{slice_get}
 use Rattle.std.proofs.Math.Dec.{ltb}
 use Rattle.std.proofs.lemmas.Bool.{cases_lt, cond-true, cond-false, lt-ltb, le-ltb, true≢false}
 use Rattle.std.proofs.lemmas.List.{length-append}
-use Rattle.std.proofs.lemmas.List.Elements.{Contains-push_cases}
+use Rattle.std.proofs.lemmas.List.Elements.{Contains-append_left, Contains-push_cases}
 use Rattle.std.proofs.lemmas.Option.{slice_get-get_or, slice_get_past}
 use Rattle.fields.specs.packet.Packet.{PacketView as Packet}
 use Rattle.rules.specs.declared.rule.target.Target.{Target}
@@ -17,9 +17,10 @@ use Rattle.table.specs.declared.verdict.Verdict.{Verdict}
 use Rattle.table.specs.declared.verdict.Verdict.TheVariants as verdict
 use Rattle.table.specs.declared.verdict.Verdict.TheVariants.{TooLong}
 use Rattle.table.specs.walk.Cases.{Stage, Under, Over, next_rule, behind, with_next, on_by, StepsTo, GoesTo}
-use Rattle.table.specs.walk.Walk.{Rest, Entry, Walked, after_match, end_verdict, too_long, walk}
+use Rattle.table.specs.walk.Walk.{Rest, Entry, Next, Ends, GoesOn, Walked, after_match, end_verdict, too_long, walk}
 use Rattle.table.proofs.laws.walk.CaseLaws.{walks_by_cases}
 use Rattle.questions.specs.steps.Ahead.{Decides, IsTakenAhead, NeverComesTo, NoneMatches, PassesAtOnce, Stays}
+use Rattle.questions.specs.steps.Coming.{IsSought}
 use Rattle.questions.specs.steps.Waiting.{Reaches}
 use Rattle.questions.proofs.laws.WaitLaws.{reaches_more}
 use Rattle.questions.proofs.laws.WithoutLaws.{ended, from, under_over}
@@ -92,6 +93,31 @@ module _ (cs : List Chain) (policy : Verdict) (values : List ℕ) where
   goes_on (suc n) (suc m) now mid w g h =
       let P : Stage → Type 0 = λ s. GoesTo m cs policy values s (Over w) in
       goes_on n m g.0 mid w g.2 (subst P (sym (one_step now g.0 h.0 g.1 h.1)) h.2)
+
+  -- ---- what is on the trail stays there
+
+  module _ (entry : Entry) where
+    -- the entry is on the trail, or the walk was too long
+    abbrev HasIt : Stage → Type 0
+    HasIt (Under rests trail) = Contains trail entry
+    HasIt (Over w) = Contains w.trail entry ⊎ (w.verdict ≡ TooLong)
+
+    put_on : (next : Next) (trail : List Entry) → Contains trail entry → HasIt (on_by next trail)
+    put_on (Ends v) trail c = inl c
+    put_on (GoesOn rests) trail c = c
+
+    has_more : (now next : Stage) → StepsTo cs policy values now next → HasIt now → HasIt next
+    has_more (Under [] trail) next e c = subst HasIt (sym e) (inl c)
+    has_more (Under (rest ∷ waiting) trail) next (inl p) c = subst HasIt (sym p.3) c
+    has_more (Under (rest ∷ waiting) trail) next (inr (inl p)) c = subst HasIt (sym p.4) (inr refl)
+    has_more (Under (rest ∷ waiting) trail) next (inr (inr (inl p))) c =
+        subst HasIt (sym p.4) (put_on (after_match (target_of p.0) (behind rest) waiting) (with_next trail rest) (Contains-append_left trail (record { chain = rest.chain; number = rest.passed + 1 } ∷ []) entry c))
+    has_more (Under (rest ∷ waiting) trail) next (inr (inr (inr p))) c = subst HasIt (sym p.1) c
+    has_more (Over w) next s c = absurd s
+
+    has_at_end : (n : ℕ) (now : Stage) (w : Walked) → GoesTo n cs policy values now (Over w) → HasIt now → HasIt (Over w)
+    has_at_end zero now w g c = subst HasIt g c
+    has_at_end (suc n) now w g c = has_at_end n g.0 w g.2 (has_more now g.0 g.1 c)
 
   -- ---- a rule ahead that takes the packet
 
@@ -223,3 +249,10 @@ never_comes_to t p rest waiting trail room entry reaches few taken_ahead sought 
     let walks = walks_by_cases t p in
     let on = goes_on t.chains (end_verdict t p) p.values reaches.0 walks.0 _ (Under (rest ∷ waiting) trail) (walk t p) reaches.1 walks.1 in
     taken t.chains (end_verdict t p) p.values entry on.0 rest waiting trail room (walk t p) few taken_ahead on.1 sought
+
+-- a walk that comes to a stage with an entry on its trail has the entry, or is too long
+pub sought_from : (t : Table) (p : Packet) (rests : List Rest) (trail : List Entry) (entry : Entry) → Reaches t p (Under rests trail) → Contains trail entry → IsSought t entry p
+sought_from t p rests trail entry reaches on =
+    let walks = walks_by_cases t p in
+    let to = goes_on t.chains (end_verdict t p) p.values reaches.0 walks.0 _ (Under rests trail) (walk t p) reaches.1 walks.1 in
+    has_at_end t.chains (end_verdict t p) p.values entry to.0 (Under rests trail) (walk t p) to.1 on

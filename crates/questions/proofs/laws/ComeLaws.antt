@@ -1,12 +1,12 @@
 -- Boxes on their way to a rule.
 use Rattle.std.proofs.Common.{◌≡◌, inl, inr, ◌⊎◌, ℕ, zero, suc, ◌+◌, ◌*◌, ◌/◌, ◌-◌, ◌<◌, ◌≤◌, Bool, true, false, List, [], ◌∷◌, ◌++◌, length, get_or, refl, sym, ◌∙◌, ap, arith, subst, Option, Some, None, Contains, Vec, Global}
-use Rattle.std.specs.Prelude.{Any, slice_get, IsFalse}
+use Rattle.std.specs.Prelude.{Any, slice_get, IfSome, IsFalse}
 use Rattle.std.specs.List.{All}
 use Rattle.std.proofs.Math.Nat.{div-mul-le_self}
 use Rattle.std.proofs.Math.Numerals.{add-one}
 use Rattle.std.proofs.lemmas.Nat.{le-div}
 use Rattle.std.proofs.lemmas.Bool.{true≢false}
-use Rattle.std.proofs.lemmas.List.{length-append, length-map}
+use Rattle.std.proofs.lemmas.List.{get_or-map, length-append, length-map}
 use Rattle.std.proofs.lemmas.List.Elements.{All-contains, All-nil, All-pop, All-push, Contains-get_or, Contains-push_cases}
 use Rattle.std.proofs.lemmas.Option.{get_or_from_slice_get}
 use Rattle.fields.specs.declared.packet.hook.Hook.{Hook}
@@ -27,13 +27,13 @@ use Rattle.questions.specs.asked.Rule.{SaysAt}
 use Rattle.questions.specs.asked.Unclear.{IsUnclearAt, IsUnseen, IsUsedUp, MayLive}
 use Rattle.questions.specs.declared.asked.rule.Life.{Life}
 use Rattle.questions.specs.declared.asked.rule.Life.TheVariants as life
-use Rattle.questions.specs.steps.Searched.{AreSearchSteps, IsSearchStep, SaysEnd, SearchesTo, with_found}
+use Rattle.questions.specs.steps.Searched.{AreSearchSteps, ComesBy, IsFoundIn, IsSearchStep, SaysEnd, SearchesTo, TakesLeaf, with_found}
 use Rattle.questions.specs.steps.Taken.{IsFirst, IsFull, IsFurther}
 use Rattle.questions.specs.steps.Coming.{Awaits, ComesOn, IsKept, IsSought}
 use Rattle.questions.specs.steps.Compared.{AreShort}
 use Rattle.questions.specs.steps.Takers.{IsBoxAt}
 use Rattle.questions.specs.declared.asked.reach.Given.{Given}
-use Rattle.questions.specs.Leaves.{EndsIn, entries_of, entry_of, name_at}
+use Rattle.questions.specs.Leaves.{EndsIn, ShowsWalk, entries_of, entry_of, name_at, walked_of}
 use Rattle.questions.specs.boxes.Area.{IsAtHook, IsIn}
 use Rattle.questions.specs.boxes.Boxes.{rules_in}
 use Rattle.questions.specs.declared.walking.front.Front.{Front}
@@ -41,8 +41,8 @@ use Rattle.questions.specs.declared.walking.task.Leaf.{Leaf}
 use Rattle.questions.specs.declared.walking.task.Pending.{Pending}
 use Rattle.questions.specs.declared.walking.task.Task.{Task}
 use Rattle.questions.specs.steps.Ahead.{IsApartIn, IsTakenAhead}
-use Rattle.questions.specs.steps.Waiting.{Begins, IsAccounted, IsAsked, IsThere, Moves, Reaches, WaitsIn, rest_of, rests_of, rule_ahead, stage_of}
-use Rattle.questions.proofs.laws.AheadLaws.{never_comes_to, passes_at_once}
+use Rattle.questions.specs.steps.Waiting.{Begins, Belongs, FitsTask, IsAccounted, IsFitting, IsAsked, IsThere, Moves, Reaches, WaitsIn, rest_of, rests_of, rule_ahead, stage_of}
+use Rattle.questions.proofs.laws.AheadLaws.{never_comes_to, passes_at_once, sought_from}
 use Rattle.questions.proofs.laws.TrailLaws.{on_leaf, rule_matches}
 use Rattle.questions.proofs.laws.WaitLaws.{rests_push}
 
@@ -172,6 +172,65 @@ none_sought t hook start step front sound is awaits none off p can e inside soug
       | inr long ↦ never_long t p a.1 a.4 long
     ]
 
+-- ---- the packets of a box that came
+
+-- what a box that came says of a packet: if it is in the box, its walk has the rule or is too long
+abbrev CameWith : Table → Step → Packet → Option (List SpanSet) → Type 0
+CameWith t step p found = IfSome found (λ area. IsIn area p → IsSought t (entry_of t.chains step) p)
+
+on_entries : (cs : List Chain) (steps : List Step) (step : Step) → Contains steps step → Contains (entries_of cs steps) (entry_of cs step)
+on_entries cs steps step c = (c.0, omega (arith, c.1, length-map steps (entry_of cs)), get_or-map (entry_of cs) steps c.0 step (entry_of cs step) c.1 ∙ ap (entry_of cs) c.2)
+
+-- a packet that is only in boxes that fit it still is after one step
+comes_fitting : (t : Table) (policy : Verdict) (start : List SpanSet) (step : Step) (task : Task) (old new : Front) (found : Option (List SpanSet)) (p : Packet) → ComesBy t policy start step task old new found → IsAsked t policy p → FitsTask t start p task
+    → IsFitting t start p old → IsFitting t start p new × CameWith t step p found
+comes_fitting t policy start step task old new found p (inl (on, is, same)) asked own fits =
+    let Q : Front → Type 0 = λ f. IsFitting t start p f in
+    let here : CameWith t step p (Some task.area) = λ inside. sought_from t p (rests_of t.chains task.rests.items) (entries_of t.chains task.trail.items) (entry_of t.chains step) (own inside).1 (on_entries t.chains task.trail.items step on) in
+    (subst Q (sym same) fits, subst (CameWith t step p) (sym is) here)
+comes_fitting t policy start step task old new found p (inr (inl (never, none, same))) asked own fits =
+    let Q : Front → Type 0 = λ f. IsFitting t start p f in
+    (subst Q (sym same) fits, subst (CameWith t step p) (sym none) tt)
+comes_fitting t policy start step task old new found p (inr (inr (mid, (next, further, moves), taken))) asked own fits = by_leaf (moves.fits start p asked further_fits fits) taken
+  where
+    further_fits : IsIn next.area p → Belongs t start p (stage_of t.chains next)
+    further_fits inside =
+        let B : List SpanSet → Type 0 = λ b. IsIn b p in
+        let there = subst B further.area inside in
+        let belongs = own there in
+        (belongs.0, (further.waits p asked.at_hook belongs.0 (record { inside = there; reaches = belongs.1 })).reaches)
+
+    tasks_kept : IsFitting t start p mid → new.tasks ≡ mid.tasks → All (FitsTask t start p) new.tasks.items
+    tasks_kept all same = let T : Vec Task Global → Type 0 = λ ts. All (FitsTask t start p) ts.items in subst T (sym same) all.tasks
+
+    on_walk : (leaf : Leaf) (o : Option (List SpanSet)) → ShowsWalk t start p leaf → IsFoundIn step leaf o → CameWith t step p o
+    on_walk leaf None shows is = tt
+    on_walk leaf (Some area) shows (c, same) = λ inside.
+        let B : List SpanSet → Type 0 = λ b. IsIn b p in
+        let P : Walked → Type 0 = λ (w : Walked). Contains w.trail (entry_of t.chains step) in
+        let shown : walk t p ≡ walked_of t.chains leaf = (shows (subst B same inside)).1 in
+        inl (subst P (sym shown) (on_entries t.chains leaf.trail.items step c))
+
+    by_leaf : IsFitting t start p mid → TakesLeaf step mid new found → IsFitting t start p new × CameWith t step p found
+    by_leaf all (inl (bare, gone, same, none)) =
+        let L : List Leaf → Type 0 = λ ls. All (ShowsWalk t start p) ls in
+        (record { tasks = tasks_kept all same; leaves = subst L (sym gone) (All-nil (ShowsWalk t start p)) }, subst (CameWith t step p) (sym none) tt)
+    by_leaf all (inr (leaf, leaves, same, is)) =
+        let split = All-pop (ShowsWalk t start p) mid.leaves.items new.leaves.items (Some leaf) leaves all.leaves in
+        (record { tasks = tasks_kept all same; leaves = split.0 }, on_walk leaf found split.1 is)
+
+-- so it is after one step of the search
+fits_on : (t : Table) (hook : Hook) (step : Step) (box : List SpanSet) (old new : Front) (found : Option (List SpanSet)) (p : Packet) → IsSearchStep t hook box step old new found → IsAtHook p → p.hook ≡ hook → IsFitting t box p old
+    → IsFitting t box p new × CameWith t step p found
+fits_on t hook step box old new found p (policy, task, left, up, by) can e before =
+    let split = All-pop (FitsTask t box p) old.tasks.items left.tasks.items (Some task) up.tasks before.tasks in
+    let L : List Leaf → Type 0 = λ ls. All (ShowsWalk t box p) ls in
+    comes_fitting t policy box step task left new found p by (record { at_hook = can; ends = up.ends p e }) split.1 (record { tasks = split.0; leaves = subst L (sym up.leaves) before.leaves })
+
+pub came_with : (t : Table) (hook : Hook) (step : Step) (box : List SpanSet) (old new : Front) (area : List SpanSet) → IsSearchStep t hook box step old new (Some area) → ((p : Packet) → IsAtHook p → p.hook ≡ hook → IsFitting t box p old)
+    → (p : Packet) → IsAtHook p → p.hook ≡ hook → IsIn area p → IsSought t (entry_of t.chains step) p
+came_with t hook step box old new area one fits p can e = (fits_on t hook step box old new (Some area) p one can e (fits p can e)).1
+
 -- ---- rules looked at
 
 -- a chain has no more rules than the table
@@ -202,23 +261,25 @@ searches_on t hook step box n old new came found to one =
     let P : ℕ → Type 0 = λ k. AreSearchSteps k t hook box step to.first new (with_found came found) in
     record { first = to.first; begins = to.begins; takes = subst P (sym (add-one n)) (old, came, found, to.takes, one, refl) }
 
--- where the search for the packets of the rule's box stands, and that no packet of a box that came to the rule shows it
+-- where the search for the packets of the rule's box stands, and that no packet of a box that came to the rule shows it, and how its boxes fit
 pub record HasSearched (t : Table) (step : Step) (hook : Hook) (given : Given) (n : ℕ) (clear : Bool) (front : Front) : Type 0 where
   pub box : IsBoxAt t step hook given
   pub came : List (List SpanSet)
   pub there : SearchesTo t hook step given.area n front came
-  pub unseen : All (IsUnseen t step hook) came
+  pub unseen : All (IsUnseen t hook) came
   pub some : clear ≡ false → 0 < length came
   pub awaits : clear ≡ true → Awaits t hook given.area (entry_of t.chains step) front
+  pub fits : (p : Packet) → IsAtHook p → p.hook ≡ hook → IsFitting t given.area p front
 
 pub sets_out : (t : Table) (hook : Hook) (step : Step) (given : Given) (front : Front) → IsBoxAt t step hook given → Begins t hook given.area front → IsFirst hook given.area front → HasSearched t step hook given 0 true front
 sets_out t hook step given front box begins first = record {
   box = box;
   came = [];
   there = record { first = front; begins = first; takes = (refl, refl) };
-  unseen = All-nil (IsUnseen t step hook);
+  unseen = All-nil (IsUnseen t hook);
   some = λ e. absurd (true≢false e);
   awaits = λ _ p can e inside _. begins.all p can e inside;
+  fits = begins.fits;
 }
 
 pub none_more : (t : Table) (step : Step) (hook : Hook) (given : Given) (n : ℕ) (clear : Bool) (old new : Front) → HasSearched t step hook given n clear old → IsSearchStep t hook given.area step old new None
@@ -230,17 +291,19 @@ none_more t step hook given n clear old new h one on = record {
   unseen = h.unseen;
   some = h.some;
   awaits = λ e. on (h.awaits e);
+  fits = λ p can e. (fits_on t hook step given.area old new None p one can e (h.fits p can e)).0;
 }
 
 pub one_more : (t : Table) (step : Step) (hook : Hook) (given : Given) (n : ℕ) (clear : Bool) (old new : Front) (box : List SpanSet) → HasSearched t step hook given n clear old → IsSearchStep t hook given.area step old new (Some box)
-    → IsUnseen t step hook box → HasSearched t step hook given (n + 1) false new
+    → IsUnseen t hook box → HasSearched t step hook given (n + 1) false new
 one_more t step hook given n clear old new box h one unseen = record {
   box = h.box;
   came = h.came ++ box ∷ [];
   there = searches_on t hook step given.area n old new h.came (Some box) h.there one;
-  unseen = All-push (IsUnseen t step hook) h.came box h.unseen unseen;
+  unseen = All-push (IsUnseen t hook) h.came box h.unseen unseen;
   some = λ _. omega (arith, length-append h.came (box ∷ []));
   awaits = λ e. absurd (true≢false (sym e));
+  fits = λ p can e. (fits_on t hook step given.area old new (Some box) p one can e (h.fits p can e)).0;
 }
 
 -- the end

@@ -1,10 +1,11 @@
 -- Where alone an answer may be unclear, given a budget of steps.
-use Rattle.std.specs.Prelude.{◌≡◌, ◌≢◌, ◌⊎◌, ℕ, ◌*◌, ◌/◌, ◌<◌, ◌≤◌, Bool, IsTrue, List, length, All, Any, Contains}
+use Rattle.std.specs.Prelude.{◌≡◌, ◌≢◌, ◌⊎◌, ℕ, ◌*◌, ◌/◌, ◌<◌, ◌≤◌, Bool, IsTrue, List, length, All, Any}
 use Rattle.fields.specs.declared.packet.hook.Hook.{Hook}
 use Rattle.fields.specs.numbers.Spans.{SpanSet}
 use Rattle.fields.specs.packet.Packet.{PacketView as Packet}
 use Rattle.table.specs.chains.Table.{Table}
 use Rattle.table.specs.declared.verdict.Verdict.{Verdict}
+use Rattle.table.specs.declared.verdict.Verdict.TheVariants.{TooLong}
 use Rattle.table.specs.declared.walk.trail.Step.{Step}
 use Rattle.table.specs.walk.Walk.{Entry, end_verdict, walk}
 use Rattle.questions.specs.Ends.{IsRule}
@@ -26,22 +27,21 @@ use Rattle.questions.specs.steps.Searched.{HasCome, SearchesTo}
 use Rattle.questions.specs.steps.Taken.{IsFull, IsUnfinished}
 use Rattle.questions.specs.steps.Takers.{IsBoxAt}
 
--- no packet of the box shows that the rule can match: no packet line writes one, or some line writes one that doesn't have the rule
--- on its walk
-abbrev pub IsUnseen : Table → Step → Hook → List SpanSet → Type 0
-IsUnseen t step hook box =
-    HasNoneWritten hook box ⊎ ((words : List (List ℕ)) × (p : Packet) × IsSampleOf hook box words p × (Contains (walk t p).trail (entry_of t.chains step) → ⊥))
+-- no packet line writes a packet of the box, or some line writes one whose walk is too long
+abbrev pub IsUnseen : Table → Hook → List SpanSet → Type 0
+IsUnseen t hook box = HasNoneWritten hook box ⊎ ((words : List (List ℕ)) × (p : Packet) × IsSampleOf hook box words p × ((walk t p).verdict ≡ TooLong))
 
 -- so many steps use the budget up: they are as many, or looked at 50 times as many rules, of which a step sees each once at most
 abbrev pub IsUsedUp : Table → ℕ → ℕ → Type 0
 IsUsedUp t n budget = (n ≡ budget) ⊎ (budget ≤ n * rules_in t.chains / 50)
 
--- the packets that the rule's box has at the hook are searched, and of each box that came to the rule no packet shows it: the budget is used up
--- with a task left, a trail is full, or the search is at its end and some box came to the rule
+-- the packets that the rule's box has at the hook are searched, and each box that came to the rule has no packet that a line writes, or one whose
+-- walk is too long: the budget is used up with a task left, a trail is full, or the search is at its end and some box came to the rule, or a leaf
+-- has it on its trail
 abbrev pub MayLive : Table → Step → Hook → ℕ → Type 0
 MayLive t step hook budget =
     (given : Given) × IsBoxAt t step hook given × (n : ℕ) × (front : Front) × (came : List (List SpanSet))
-    × SearchesTo t hook step given.area n front came × All (IsUnseen t step hook) came
+    × SearchesTo t hook step given.area n front came × All (IsUnseen t hook) came
     × ((IsUsedUp t n budget × (0 < length front.tasks.items)) ⊎ (((n < budget) × IsFull front) ⊎ ((n ≤ budget) × HasCome step front came)))
 
 -- an answer about a rule at one hook is unclear only where `MayLive` holds

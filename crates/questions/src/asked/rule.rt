@@ -1,11 +1,14 @@
 //! Whether a rule can match at all.
 ghost use Rattle.std.specs.Prelude.{◌≡◌, ◌<◌, ◌≤◌, ◌↔◌, false, All, Any, Contains, length, IfOk, IsTrue, MatchOption};
+ghost use Rattle.fields.specs.packet.Packet.{PacketView};
 ghost use Rattle.table.specs.chains.Table.{chain_at};
 ghost use Rattle.questions.specs.Ends.{IsRule};
 ghost use Rattle.questions.specs.Leaves.{entry_of};
 ghost use Rattle.questions.specs.asked.Rule.{IsLiveAt, Says, SaysAt};
 ghost use Rattle.questions.specs.asked.Unclear.{IsUnclear, IsUnclearAt, IsUnseen};
 ghost use Rattle.questions.specs.declared.asked.rule.Life.TheVariants.{Dead};
+ghost use Rattle.questions.specs.boxes.Area.{IsAtHook, IsIn};
+ghost use Rattle.questions.specs.steps.Coming.{IsSought};
 ghost use Rattle.questions.specs.steps.Compared.{AreShort};
 ghost use Rattle.questions.specs.steps.Searched.{SaysEnd};
 
@@ -28,9 +31,9 @@ pub enum Life {
     Dead,
     /// These words write a packet, and the rule is on its walk.
     Live(Words),
-    /// Neither is known. Each hook at which the rule isn't dead is one where the budget is used up, a trail is full, or boxes
-    /// came to the rule, and each of these has no packet that a line writes, or one whose walk hasn't the rule. There is such a
-    /// hook.
+    /// Neither is known. Each hook at which the rule isn't dead is one where the budget is used up, a trail is full, boxes came
+    /// to the rule, or a leaf has it on its trail; and each box that came has no packet that a line writes, or one whose
+    /// walk is too long. There is such a hook.
     Unclear,
 }
 
@@ -44,7 +47,7 @@ pub(crate) fn is_on(trail: &[Step], step: Step) -> bool
     trail.contains(&step)
 }
 
-// A packet of a box, if the rule is on its trail.
+// A packet of a box that came to the rule, if its walk isn't too long.
 fn witness(
     alloc: Global,
     table: &Table,
@@ -52,9 +55,10 @@ fn witness(
     area: &Area,
     step: Step,
 ) -> Result<Option<Words>, AllocError>
-    requires { IsRule table.now.table step }
+    requires step { IsRule table.now.table step }
+    requires came { (p : PacketView) → IsAtHook p → p.hook ≡ hook → IsIn area.now p → IsSought table.now.table (entry_of table.now.table.chains step) p }
     ensures { IfOk result (λ found. MatchOption found
-        (IsUnseen table.now.table step hook area.now) (IsLiveAt table.now.table (entry_of table.now.table.chains step) hook)) }
+        (IsUnseen table.now.table hook area.now) (IsLiveAt table.now.table (entry_of table.now.table.chains step) hook)) }
 {
     let Some(sample) = sample_of(alloc, hook, area)? else {
         return Ok(None);

@@ -9,7 +9,7 @@ use Rattle.questions.specs.declared.walking.task.Task.{Task}
 use Rattle.questions.specs.steps.Searched.{IsSearchStep}
 use Rattle.questions.specs.steps.Taken.{IsFull, IsTakenUp}
 use Rattle.questions.specs.steps.Waiting.{AreThere}
-use Rattle.questions.proofs.laws.ComeLaws.{come_next, dead_at_end, looks_on, none_more, one_more, sets_out, short_at_end, unclear_at_end, unclear_full, unclear_used_up, used_by_looks}
+use Rattle.questions.proofs.laws.ComeLaws.{came_with, come_next, dead_at_end, looks_on, none_more, one_more, sets_out, short_at_end, unclear_at_end, unclear_full, unclear_used_up, used_by_looks}
 use Rattle.questions.proofs.asked.rule.life_at.Goals as goal
 use Rattle.questions.proofs.asked.rule.life_at.Goals.{in-Some-area+in_ok-words+in_default-2, in_default-area}
 
@@ -47,7 +47,7 @@ loop-taken-preserved c =
     elim c.match-area.branch [
       | in-Some-area+in_ok-words+in_default-2 w ↦ (
           let found : IsSearchStep t hook given.area step old new (Some w.in-Some-area.came) = rw w.in-Some-area.is at one in
-          let unseen : IsUnseen t step hook w.in-Some-area.came = rw w.in_default-2.is at w.in_ok-words.ensures in
+          let unseen : IsUnseen t hook w.in-Some-area.came = rw w.in_default-2.is at w.in_ok-words.ensures in
           rw w.clear-is (record {
             there = there;
             looks = looks;
@@ -130,3 +130,15 @@ returns-clause-unclear c =
     let searched = c.loop-taken.invariant.searched in
     unclear_at_end c.args.subject.now.table.table c.args.hook c.args.step searched.0 c.loop-taken.taken c.args.budget c.loop-taken.clear c.loop-taken.front c.at_end-2.result (omega arith) searched.2 none
     (rw c.as_slice-2.ensures.value at c.at_end-2.ensures)
+
+-- the packets of a box that came have the rule on their walks, or these are too long
+pub witness-requires-clause-came : goal.witness-requires-clause-came
+witness-requires-clause-came c =
+    let t = c.args.subject.now.table.table in
+    let old : Front = c.loop-taken.front in
+    let given = c.loop-taken.invariant.searched.0 in
+    let was = c.loop-taken.invariant.searched.1 in
+    let popped : Front = record { alloc = old.alloc; tasks = c.pop.new.self; leaves = old.leaves } in
+    let up : IsTakenUp t c.args.hook c.policy_at-policy.result c.in-Some.task old popped = record { ends = c.policy_at-policy.ensures.ends; tasks = c.in-Some.ensures.items; leaves = refl; room = omega arith } in
+    let one : IsSearchStep t c.args.hook given.area c.args.step old c.come.new.front c.in_ok-area.field-0.area = (c.policy_at-policy.result, c.in-Some.task, popped, up, c.in_ok-area.ensures.step given.area was) in
+    came_with t c.args.hook c.args.step given.area old c.come.new.front c.in-Some-area.came (rw c.in-Some-area.is at one) c.loop-taken.invariant.searched.2.fits
