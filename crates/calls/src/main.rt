@@ -66,6 +66,11 @@ fn run_of_answers<R: Print + AllocGlobal>(rt: &R, refusals: &mut Refusals, subje
     tell(rt, "lives", asked::lives(alloc, refusals, subject));
     tell(
         rt,
+        "lives under a condition",
+        asked::lives_under(alloc, refusals, subject),
+    );
+    tell(
+        rt,
         "rulesets compared",
         asked::compared(alloc, refusals, subject),
     );

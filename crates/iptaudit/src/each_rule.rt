@@ -134,7 +134,7 @@ fn ask_rule<R: Clock, E: Print + IsTerminal>(
         return Ok(Known::Covered);
     }
     match asking.life(subject, at)? {
-        Life::Live(words) => Ok(Known::Live(words)),
+        Life::Live(words, _) => Ok(Known::Live(words)),
         Life::Dead if form.has_reasons() => {
             let mut reason = asking.reason(subject, at)?;
             if let Some(reason) = &mut reason {

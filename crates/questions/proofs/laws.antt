@@ -2,6 +2,7 @@ pub mod AheadLaws
 pub mod AnswerLaws
 pub mod AreaLaws
 pub mod BoxesLaws
+pub mod BranchLaws
 pub mod CandidateLaws
 pub mod ChoiceLaws
 pub mod CollectLaws
@@ -15,6 +16,7 @@ pub mod EqualLaws
 pub mod ExactLaws
 pub mod ForeignLaws
 pub mod GroupLaws
+pub mod HeldLaws
 pub mod LeadLaws
 pub mod LeastNameLaws
 pub mod LineLaws
@@ -23,6 +25,7 @@ pub mod LookLaws
 pub mod MeetingLaws
 pub mod NeverLaws
 pub mod PacketLaws
+pub mod PlainLaws
 pub mod ReachLaws
 pub mod ResolvedLaws
 pub mod SharedLaws
@@ -33,4 +36,5 @@ pub mod VerdictLaws
 pub mod WaitLaws
 pub mod WayLaws
 pub mod WithoutLaws
+pub mod WitnessLaws
 pub mod WrittenLaws

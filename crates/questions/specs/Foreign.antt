@@ -8,7 +8,7 @@ use Rattle.rules.specs.declared.options.match_kind.MatchKind.TheVariants as kind
 use Rattle.rules.specs.declared.options.value.Value.TheVariants as value
 use Rattle.table.specs.chains.Table.{Chain, Table}
 use Rattle.questions.specs.declared.foreign.need.Need.{Need}
-use Rattle.questions.specs.declared.foreign.need.Answer.{Answer}
+use Rattle.questions.specs.declared.foreign.answers.Answer.{Answer}
 
 -- which conditions hold
 abbrev pub Assignment : Type 0

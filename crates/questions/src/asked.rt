@@ -14,3 +14,4 @@ pub(crate) mod rule;
 pub(crate) mod takers;
 pub(crate) mod verdicts;
 pub(crate) mod ways;
+pub(crate) mod witness;

@@ -6,8 +6,8 @@ use crate::trouble::{Trouble, expect};
 use crate::written::{Placed, are_words, has_listing, table_of};
 use fields::{Field, Hook, Interval, Spans};
 use questions::{
-    Area, BoxedTable, Given, Leaf, Life, Likeness, Reached, Reason, compare_at, dead, leaves,
-    reach, why_dead,
+    Area, BoxedTable, Given, Leaf, Life, Likeness, Need, Needs, Reached, Reason, Subject,
+    compare_at, dead, dead_under, leaves, reach, why_dead,
 };
 use rules::Work;
 use std::alloc::{AllocError, Global};
@@ -54,6 +54,20 @@ const DROPPED: &[&[u8]] = &[
     b"proto=6",
     b"sport=40000",
     b"dport=23",
+    b"flags=SYN",
+    b"ct=NEW",
+    b"ttl=64",
+];
+
+/// The words of a packet to the port of the rule before it.
+const DROPPED_FIRST: &[&[u8]] = &[
+    b"INPUT",
+    b"src=192.0.2.1",
+    b"dst=198.51.100.1",
+    b"in=eth0",
+    b"proto=6",
+    b"sport=40000",
+    b"dport=22",
     b"flags=SYN",
     b"ct=NEW",
     b"ttl=64",
@@ -106,7 +120,7 @@ pub fn lives(alloc: Global, refusals: &mut Refusals, subject: &BoxedTable) -> Re
     let (life, reason) = known_of(alloc, refusals, subject, LAST)?;
     expect(reason.is_none())?;
     match life {
-        Life::Live(words) => expect(are_words(&words, DROPPED))?,
+        Life::Live(words, _) => expect(are_words(&words, DROPPED))?,
         Life::Dead | Life::Unclear => return Err(Trouble::OtherAnswer),
     }
     let (life, reason) = known_of(alloc, refusals, subject, DEAD)?;
@@ -120,6 +134,61 @@ pub fn lives(alloc: Global, refusals: &mut Refusals, subject: &BoxedTable) -> Re
         }
         _ => Err(Trouble::OtherAnswer),
     }
+}
+
+/// What the rules of the table need: the first one, that a condition holds.
+fn needs_of_first(alloc: Global) -> Result<Needs, AllocError> {
+    let mut needs = Vec::new(alloc);
+    needs.push(Need {
+        condition: 7,
+        inverted: false,
+    })?;
+    let mut rules = Vec::new(alloc);
+    rules.push(needs)?;
+    let mut chains = Vec::new(alloc);
+    chains.push(rules)?;
+    Ok(Needs::of(chains))
+}
+
+/// Whether the rule that no packet comes to is live where the condition doesn't hold, and by which packet.
+fn is_live_without(life: &Life) -> bool {
+    let Life::Live(words, answers) = life else {
+        return false;
+    };
+    let mut others = answers.listed().iter();
+    match others.next() {
+        Some(answer) => {
+            are_words(words, DROPPED_FIRST)
+                && answer.condition == 7
+                && !answer.holds
+                && others.next().is_none()
+        }
+        None => false,
+    }
+}
+
+/// `dead_under`, where the first rule needs that a condition holds.
+pub fn lives_under(
+    alloc: Global,
+    refusals: &mut Refusals,
+    boxed: &BoxedTable,
+) -> Result<(), Trouble> {
+    let table = &boxed.table;
+    let needs = again!(refusals, needs_of_first(alloc), true);
+    let subject = Subject {
+        boxed,
+        needs: &needs,
+    };
+    let at = DEAD;
+    if at.chain < table.chain_count() && 0 < at.number && at.number <= table.rule_count(at.chain) {
+        let life = again!(
+            refusals,
+            dead_under(alloc, &subject, at.chain, at.number, BUDGET),
+            has_listing(alloc, table, REST)?
+        );
+        return expect(is_live_without(&life));
+    }
+    Err(Trouble::OtherAnswer)
 }
 
 /// Whether the table and another give the packets of INPUT the same verdicts; a refusal leaves both.

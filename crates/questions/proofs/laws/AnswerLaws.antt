@@ -3,17 +3,18 @@ use Rattle.std.proofs.Common.{◌≡◌, ◌≢◌, ◌⊎◌, inl, inr, ℕ, ze
 use Rattle.std.specs.Prelude.{nat_eq}
 use Rattle.std.specs.Option.{option_or}
 use Rattle.std.proofs.Math.Bool.{beq}
-use Rattle.std.proofs.lemmas.Bool.{cond-false, cond-true, true≢false}
+use Rattle.std.proofs.lemmas.Bool.{cases_Bool, cond-false, cond-true, true≢false}
 use Rattle.std.proofs.lemmas.Bool.Decides.{eqb_tells}
 use Rattle.std.proofs.lemmas.List.{get_or_append_left, get_or_default, length-append}
 use Rattle.std.proofs.lemmas.List.Elements.{All-contains, All-push, Contains-push}
 use Rattle.std.proofs.lemmas.List.Quantifiers.{all_pairs_push}
+use Rattle.std.proofs.lemmas.List.Folds.{list_all_at}
 use Rattle.std.proofs.lemmas.List.Sums.{list_all-from_AllPass}
-use Rattle.questions.specs.Foreign.{Agrees, AreConsistent, Assignment, IsUnanswered, need_holds}
+use Rattle.questions.specs.Foreign.{Agrees, AreConsistent, Assignment, IsUnanswered, all_hold, need_holds}
 use Rattle.questions.specs.declared.foreign.need.Need.{Need}
-use Rattle.questions.specs.declared.foreign.need.Answer.{Answer}
+use Rattle.questions.specs.declared.foreign.answers.Answer.{Answer}
 use Rattle.questions.specs.declared.foreign.need.Standing.TheVariants.{Holds, Open}
-use Rattle.questions.specs.steps.Answered.{IsMet, IsStanding}
+use Rattle.questions.specs.steps.Answered.{IsMet, IsStanding, MeetsNever}
 use Rattle.questions.proofs.laws.TrailLaws.{items_next}
 
 -- an answer
@@ -28,7 +29,7 @@ is_given a answers condition holds agrees on = All-contains (λ (answer : Answer
 pub agrees_with_one_more : (a : Assignment) (answers : List Answer) (condition : ℕ) (holds : Bool) → Agrees a answers → a condition ≡ holds → Agrees a (answers ++ about condition holds ∷ [])
 agrees_with_one_more a answers condition holds agrees is = All-push (λ (answer : Answer). a answer.condition ≡ answer.holds) answers (about condition holds) agrees is
 
-agrees_before : (a : Assignment) (answers more : List Answer) → Agrees a (answers ++ more) → Agrees a answers
+pub agrees_before : (a : Assignment) (answers more : List Answer) → Agrees a (answers ++ more) → Agrees a answers
 agrees_before a answers more agrees k d lt =
     let P : Answer → Type 0 = λ answer. a answer.condition ≡ answer.holds in
     subst P (get_or_append_left answers more d k lt) (agrees k d (omega (arith, lt, length-append answers more)))
@@ -123,3 +124,67 @@ all_are_met needs answers seen all met a agrees = list_all-from_AllPass (need_ho
 
 pub one_is_open : (needs : List Need) (answers : List Answer) (seen condition : ℕ) → length needs ≤ seen → IsSoFar needs answers seen (Some condition) → IsStanding needs answers (Open condition)
 one_is_open needs answers seen condition all (needed, unanswered, others) = record { needed = needed; unanswered = unanswered; others = λ k d lt. others k d (omega (arith, lt, all)) }
+
+-- ---- needs that are met by more answers
+
+-- each need holds where all do
+pub each_holds : (a : Assignment) (needs : List Need) → all_hold a needs ≡ true → (k : ℕ) (d : Need) → k < length needs → need_holds a (get_or needs k d) ≡ true
+each_holds a needs all k d lt =
+    elim (cases_Bool (need_holds a (get_or needs k d))) [
+      | inl h ↦ h
+      | inr un ↦ absurd (true≢false (sym all ∙ list_all_at (need_holds a) needs k d lt un))
+    ]
+
+unmet_by : (inverted value holds : Bool) → value ≡ holds → beq holds inverted ≡ true → cond inverted (not value) value ≡ false
+unmet_by true true true e h = refl
+unmet_by true true false e h = absurd (true≢false e)
+unmet_by true false true e h = absurd (true≢false (sym e))
+unmet_by true false false e h = absurd (true≢false (sym h))
+unmet_by false true true e h = absurd (true≢false (sym h))
+unmet_by false true false e h = absurd (true≢false e)
+unmet_by false false holds e h = refl
+
+needed : (inverted value : Bool) → cond inverted (not value) value ≡ true → value ≡ not inverted
+needed true true h = absurd (true≢false (sym h))
+needed true false h = refl
+needed false true h = refl
+needed false false h = absurd (true≢false (sym h))
+
+as_needed : (inverted value : Bool) → value ≡ not inverted → cond inverted (not value) value ≡ true
+as_needed true true h = absurd (true≢false h)
+as_needed true false h = refl
+as_needed false true h = refl
+as_needed false false h = absurd (true≢false (sym h))
+
+module _ (needs : List Need) (before answers : List Answer) (seen : ℕ) (d : Need) (within : seen < length needs)
+    (all : (a : Assignment) → Agrees a before → ((k : ℕ) (e : Need) → k < seen → need_holds a (get_or needs k e) ≡ true) → Agrees a answers) where
+  abbrev looked : Need
+  looked = get_or needs seen d
+
+  -- an answer is against it
+  pub never_met : (holds : Bool) → Contains answers (about looked.condition holds) → beq holds looked.inverted ≡ true → MeetsNever needs before
+  never_met holds on against a agrees =
+      elim (cases_Bool (all_hold a needs)) [
+        | inr un ↦ un
+        | inl held ↦ (
+            let each : (k : ℕ) (e : Need) → k < length needs → need_holds a (get_or needs k e) ≡ true = each_holds a needs held in
+            let given : Agrees a answers = all a agrees (λ k e lt. each k e (omega (arith, lt, within))) in
+            absurd (true≢false (sym (each seen d within) ∙ unmet_by looked.inverted (a looked.condition) holds (is_given a answers looked.condition holds given on) against)))
+      ]
+
+  -- where it holds, too, the answer that it wants is right
+  pub all_more : (a : Assignment) → Agrees a before → ((k : ℕ) (e : Need) → k < seen + 1 → need_holds a (get_or needs k e) ≡ true) → Agrees a (answers ++ about looked.condition (not looked.inverted) ∷ [])
+  all_more a agrees each =
+      agrees_with_one_more a answers looked.condition (not looked.inverted) (all a agrees (λ k e lt. each k e (omega (arith, lt))))
+      (needed looked.inverted (a looked.condition) (each seen d (omega arith)))
+
+-- it holds, and those before it do
+pub one_holds : (a : Assignment) (needs : List Need) (seen : ℕ) (d : Need) → seen < length needs → ((k : ℕ) (e : Need) → k < seen → need_holds a (get_or needs k e) ≡ true) → need_holds a (get_or needs seen d) ≡ true
+    → (k : ℕ) (e : Need) → k < seen + 1 → need_holds a (get_or needs k e) ≡ true
+one_holds a needs seen d within before here =
+    items_next (λ (x : Need). need_holds a x ≡ true) needs seen (get_or needs seen d) within (get_or_default needs seen d (get_or needs seen d) within) before here
+
+-- it holds where the answer that it wants is right
+pub wanted_holds : (a : Assignment) (need : Need) (answers : List Answer) → Agrees a (answers ++ about need.condition (not need.inverted) ∷ []) → need_holds a need ≡ true
+wanted_holds a need answers agrees =
+    as_needed need.inverted (a need.condition) (is_given a (answers ++ about need.condition (not need.inverted) ∷ []) need.condition (not need.inverted) agrees (Contains-push answers (about need.condition (not need.inverted))))

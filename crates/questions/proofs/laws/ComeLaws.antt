@@ -6,7 +6,7 @@ use Rattle.std.proofs.Math.Nat.{div-mul-le_self}
 use Rattle.std.proofs.Math.Numerals.{add-one}
 use Rattle.std.proofs.lemmas.Nat.{le-div}
 use Rattle.std.proofs.lemmas.Bool.{true≢false}
-use Rattle.std.proofs.lemmas.List.{get_or-map, length-append, length-map}
+use Rattle.std.proofs.lemmas.List.{length-append}
 use Rattle.std.proofs.lemmas.List.Elements.{All-contains, All-nil, All-pop, All-push, Contains-get_or, Contains-push_cases}
 use Rattle.std.proofs.lemmas.Option.{get_or_from_slice_get}
 use Rattle.fields.specs.declared.packet.hook.Hook.{Hook}
@@ -23,27 +23,37 @@ use Rattle.table.specs.walk.Cases.{Stage, Under}
 use Rattle.table.specs.walk.Walk.{Entry, Rest, Walked, end_verdict, walk}
 use Rattle.table.proofs.laws.chains.KeepLaws.{rules_by_name}
 use Rattle.questions.specs.Ends.{IsRule}
-use Rattle.questions.specs.asked.Rule.{SaysAt}
-use Rattle.questions.specs.asked.Unclear.{IsUnclearAt, IsUnseen, IsUsedUp, MayLive}
+use Rattle.questions.specs.Foreign.{Assignment}
+use Rattle.questions.specs.asked.Always.{IsAlwaysDeadAt, SaysAt}
+use Rattle.questions.specs.asked.Rule.{IsDeadAt}
+use Rattle.questions.specs.asked.Unclear.{IsUnclearAt, IsUnseen, IsUsedUp, MayLiveUnder}
+use Rattle.questions.specs.declared.foreign.answers.Answer.{Answer}
+use Rattle.questions.specs.declared.foreign.subject.Subject.{Subject}
 use Rattle.questions.specs.declared.asked.rule.Life.{Life}
 use Rattle.questions.specs.declared.asked.rule.Life.TheVariants as life
-use Rattle.questions.specs.steps.Searched.{AreSearchSteps, ComesBy, IsFoundIn, IsSearchStep, SaysEnd, SearchesTo, TakesLeaf, with_found}
+use Rattle.questions.specs.steps.Answered.{MeetsNever}
+use Rattle.questions.specs.steps.Searched.{AreSearchSteps, ComesBy, IsFound, IsSearchStep, SaysEnd, SearchesTo, TakesLeaf, needed_by, with_found}
 use Rattle.questions.specs.steps.Taken.{IsFirst, IsFull, IsFurther}
 use Rattle.questions.specs.steps.Coming.{Awaits, ComesOn, IsKept, IsSought}
 use Rattle.questions.specs.steps.Compared.{AreShort}
-use Rattle.questions.specs.steps.Takers.{IsBoxAt}
+use Rattle.questions.specs.steps.Takers.{IsBoxAt, IsMatchedAt}
 use Rattle.questions.specs.declared.asked.reach.Given.{Given}
-use Rattle.questions.specs.Leaves.{EndsIn, ShowsWalk, entries_of, entry_of, name_at, walked_of}
+use Rattle.questions.specs.Leaves.{entry_of, name_at}
+use Rattle.questions.specs.Scopes.{EndsUnder, IsOf, Known, ShowsUnder, answered, entries_by, is_met, known_by, scope_of, table_of, unasked, walked_by}
 use Rattle.questions.specs.boxes.Area.{IsAtHook, IsIn}
 use Rattle.questions.specs.boxes.Boxes.{rules_in}
 use Rattle.questions.specs.declared.walking.front.Front.{Front}
+use Rattle.questions.specs.declared.walking.scope.Scope.{Scope}
 use Rattle.questions.specs.declared.walking.task.Leaf.{Leaf}
 use Rattle.questions.specs.declared.walking.task.Pending.{Pending}
 use Rattle.questions.specs.declared.walking.task.Task.{Task}
-use Rattle.questions.specs.steps.Ahead.{IsApartIn, IsTakenAhead}
+use Rattle.questions.specs.steps.Ahead.{IsApartIn, IsTakenAhead, NeverComes}
 use Rattle.questions.specs.steps.Waiting.{Begins, Belongs, FitsTask, IsAccounted, IsFitting, IsAsked, IsThere, Moves, Reaches, WaitsIn, rest_of, rests_of, rule_ahead, stage_of}
 use Rattle.questions.proofs.laws.AheadLaws.{never_comes_to, passes_at_once, sought_from}
-use Rattle.questions.proofs.laws.TrailLaws.{on_leaf, rule_matches}
+use Rattle.questions.proofs.laws.ForeignLaws.{left_sound}
+use Rattle.questions.proofs.laws.HeldLaws.{few_entries, on_entries_by, step_by}
+use Rattle.questions.proofs.laws.ResolvedLaws.{matched_before, rule_left_there, there_left}
+use Rattle.questions.proofs.laws.TrailLaws.{rule_matches}
 use Rattle.questions.proofs.laws.WaitLaws.{rests_push}
 
 -- ---- the newest rest
@@ -63,74 +73,93 @@ split_last (x ∷ y ∷ zs) a e =
     let r = split_last (y ∷ zs) a (ap (slice_get (y ∷ zs)) j ∙ ap (slice_get (x ∷ y ∷ zs)) (sym i) ∙ e) in
     (x ∷ r.0, ap (λ (ys : List Pending). x ∷ ys) r.1)
 
-under : (cs : List Chain) (rests init : List Pending) (at : Pending) (es : List Entry) → rests ≡ init ++ at ∷ [] → Under (rests_of cs rests) es ≡ Under (rest_of cs at ∷ rests_of cs init) es
-under cs rests init at es e = ap (λ (rs : List Rest). Under rs es) (ap (rests_of cs) e ∙ rests_push cs init at)
+under_rest : (cs : List Chain) (rests init : List Pending) (at : Pending) (es : List Entry) → rests ≡ init ++ at ∷ [] → Under (rests_of cs rests) es ≡ Under (rest_of cs at ∷ rests_of cs init) es
+under_rest cs rests init at es e = ap (λ (rs : List Rest). Under rs es) (ap (rests_of cs) e ∙ rests_push cs init at)
 
 -- its chain is there
 pub last_there : (cs : List Chain) (rests : List Pending) (at : Pending) → slice_get rests (length rests - 1) ≡ Some at → All (IsThere cs) rests → IsThere cs at
 last_there cs rests at last all = let split = split_last rests at last in (All-pop (IsThere cs) rests split.0 (Some at) split.1 all).1
 
 -- a rule ahead of the newest rest takes a packet
-pub taken_in : (t : Table) (p : Packet) (task : Task) (at : Pending) (room : ℕ) (entry : Entry) → slice_get task.rests.items (length task.rests.items - 1) ≡ Some at → length task.trail.items + room ≤ 65536 → WaitsIn t p task
-    → IsTakenAhead t.chains p.values (rest_of t.chains at) room entry → IsSought t entry p → Contains (entries_of t.chains task.trail.items) entry
-taken_in t p task at room entry last few waits taken sought =
+pub taken_in : (t : Table) (known : Known) (p : Packet) (task : Task) (at : Pending) (room : ℕ) (entry : Entry) → slice_get task.rests.items (length task.rests.items - 1) ≡ Some at → length task.trail.items + room ≤ 65536 → WaitsIn t known p task
+    → IsTakenAhead t.chains p.values (rest_of t.chains at) room entry → IsSought t entry p → Contains (entries_by known t.chains task.trail.items) entry
+taken_in t known p task at room entry last few waits taken sought =
     let split = split_last task.rests.items at last in
+    let es : List Entry = entries_by known t.chains task.trail.items in
     let P : Stage → Type 0 = λ s. Reaches t p s in
-    let long : length (entries_of t.chains task.trail.items) ≡ length task.trail.items = length-map task.trail.items (entry_of t.chains) in
-    never_comes_to t p (rest_of t.chains at) (rests_of t.chains split.0) (entries_of t.chains task.trail.items) room entry
-    (subst P (under t.chains task.rests.items split.0 at (entries_of t.chains task.trail.items) split.1) waits.reaches) (omega (arith, few, long)) taken sought
+    never_comes_to t p (rest_of t.chains at) (rests_of t.chains split.0) es room entry
+    (subst P (under_rest t.chains task.rests.items split.0 at es split.1) waits.reaches) (omega (arith, few, few_entries known t.chains task.trail.items)) taken sought
 
 -- the newest rest goes on to a rule, past others that match no packet that the task's box and another one have
-pub advances : (t : Table) (start : List SpanSet) (p : Packet) (sound : IsSound t) (task next : Task) (init : List Pending) (at : Pending) (passed : ℕ) → IsThere t.chains at → IsAtHook p → IsIn start p → task.rests.items ≡ init ++ at ∷ []
-    → next.rests.items ≡ init ++ record { chain = at.chain; passed = passed } ∷ [] → next.area ≡ task.area → next.trail ≡ task.trail → at.passed ≤ passed → (passed ≡ at.passed) ⊎ (passed ≤ length (chain_at t at.chain).rules)
-    → ((k : ℕ) → at.passed ≤ k → k < passed → IsApartIn (rule_ahead t (record { chain = at.chain; passed = k })) start task.area) → WaitsIn t p task → WaitsIn t p next
-advances t start p sound task next init at passed there can inside before after area trail low high none waits =
+pub advances : (t : Table) (known : Known) (start : List SpanSet) (p : Packet) (sound : IsSound t) (task next : Task) (init : List Pending) (at : Pending) (passed : ℕ) → IsThere t.chains at → IsAtHook p → IsIn start p → task.rests.items ≡ init ++ at ∷ []
+    → next.rests.items ≡ init ++ record { chain = at.chain; passed = passed } ∷ [] → next.scope ≡ task.scope → next.trail ≡ task.trail → at.passed ≤ passed → (passed ≡ at.passed) ⊎ (passed ≤ length (chain_at t at.chain).rules)
+    → ((k : ℕ) → at.passed ≤ k → k < passed → IsApartIn (rule_ahead t (record { chain = at.chain; passed = k })) start task.scope.area) → WaitsIn t known p task → WaitsIn t known p next
+advances t known start p sound task next init at passed there can inside before after scope trail low high none waits =
     let own : List Rule = (chain_at t at.chain).rules in
     let same : rules_of t.chains (name_at t.chains at.chain) ≡ own = rules_by_name t (chain_at t at.chain) sound (Contains-get_or t.chains at.chain (empty_chain []) there) in
-    let es : List Entry = entries_of t.chains task.trail.items in
+    let es : List Entry = entries_by known t.chains task.trail.items in
     let P : Stage → Type 0 = λ s. Reaches t p s in
-    let Q : List SpanSet → Type 0 = λ b. IsIn b p in
+    let Q : Scope → Type 0 = λ b. IsOf known p b in
     let R : Rule → Type 0 = λ r. IsFalse (matches p.values r) in
     let apart : (k : ℕ) (rule : Rule) → at.passed ≤ k → k < passed → slice_get (rules_of t.chains (name_at t.chains at.chain)) k ≡ Some rule → IsFalse (matches p.values rule) =
     λ k rule lo hi found.
     (let is : get_or own k empty_rule ≡ rule = get_or_from_slice_get own k rule empty_rule (sym (ap (λ (rs : List Rule). slice_get rs k) same) ∙ found) in
-    subst R is (none k lo hi p.values can.packet.within inside waits.inside)) in
+    subst R is (none k lo hi p.values can.packet.within inside waits.own.inside)) in
     let moved : Reaches t p (Under (rest_of t.chains (record { chain = at.chain; passed = passed }) ∷ rests_of t.chains init) es) =
-    (let stands : Reaches t p (Under (rest_of t.chains at ∷ rests_of t.chains init) es) = subst P (under t.chains task.rests.items init at es before) waits.reaches in
+    (let stands : Reaches t p (Under (rest_of t.chains at ∷ rests_of t.chains init) es) = subst P (under_rest t.chains task.rests.items init at es before) waits.reaches in
     elim high [
       | inl still ↦
           (let S : ℕ → Type 0 = λ j. Reaches t p (Under (rest_of t.chains (record { chain = at.chain; passed = j }) ∷ rests_of t.chains init) es) in
           subst S (sym still) stands)
       | inr le ↦ passes_at_once t p (rest_of t.chains at) passed (rests_of t.chains init) es low (omega (arith, le, ap (λ (rs : List Rule). length rs) same)) apart stands
     ]) in
-    let there_now : Reaches t p (Under (rests_of t.chains next.rests.items) es) = subst P (sym (under t.chains next.rests.items init (record { chain = at.chain; passed = passed }) es after)) moved in
+    let there_now : Reaches t p (Under (rests_of t.chains next.rests.items) es) = subst P (sym (under_rest t.chains next.rests.items init (record { chain = at.chain; passed = passed }) es after)) moved in
     record {
-      inside = subst Q (sym area) waits.inside;
-      reaches = subst P (ap (λ (steps : List Step). Under (rests_of t.chains next.rests.items) (entries_of t.chains steps)) (sym (ap items_of trail))) there_now;
+      own = subst Q (sym scope) waits.own;
+      reaches = subst P (ap (λ (steps : List Step). Under (rests_of t.chains next.rests.items) (entries_by known t.chains steps)) (sym (ap items_of trail))) there_now;
     }
   where
     items_of : Vec Step Global → List Step
     items_of v = v.items
 
+pub high_left : (at passed count left : ℕ) → left ≡ count → (passed ≡ at) ⊎ (passed ≤ count) → (passed ≡ at) ⊎ (passed ≤ left)
+high_left at passed count left same (inl is) = inl is
+high_left at passed count left same (inr le) = inr (omega (arith, le, same))
+
 -- ---- a leaf that goes
 
 -- a packet in a leaf has no walk that is too long
-never_long : (t : Table) (p : Packet) (leaf : Leaf) → EndsIn t p leaf → (walk t p).verdict ≡ TooLong → ⊥
-never_long t p leaf ends long = leaf.short (sym (ap (λ (w : Walked). w.verdict) ends.walked) ∙ long)
+pub never_long : (t : Table) (known : Known) (p : Packet) (leaf : Leaf) → EndsUnder t known p leaf → (walk t p).verdict ≡ TooLong → ⊥
+never_long t known p leaf ends long = leaf.short (sym (ap (λ (w : Walked). w.verdict) ends.walked) ∙ long)
 
-pub leaf_gone : (t : Table) (step : Step) (old new : Front) (leaf : Leaf) → IsSound t → step.chain < length t.chains → new.tasks.items ≡ old.tasks.items → old.leaves.items ≡ new.leaves.items ++ leaf ∷ []
-    → (Contains leaf.trail.items step → ⊥) → IsKept t (entry_of t.chains step) old new
-leaf_gone t step old new leaf sound lt tasks leaves off p sought (inl a) = let Q : List Task → Type 0 = λ ts. Any (WaitsIn t p) ts in inl (subst Q (sym tasks) a)
-leaf_gone t step old new leaf sound lt tasks leaves off p sought (inr a) =
+-- nor has it a rule that doesn't come to its trail
+never_there : (t : Table) (known : Known) (p : Packet) (leaf : Leaf) (step : Step) → IsSound t → step.chain < length t.chains → (Contains leaf.trail.items step → MeetsNever (needed_by known step) leaf.answers) → EndsUnder t known p leaf
+    → Contains (walk t p).trail (entry_of t.chains step) → ⊥
+never_there t known p leaf step sound lt off ends on =
+    let P : Walked → Type 0 = λ (w : Walked). Contains w.trail (entry_of t.chains step) in
+    let (there, met) = step_by t known leaf.trail.items step sound lt (subst P ends.walked on) in
+    true≢false (sym met ∙ off there known.holds ends.own.agrees)
+
+pub leaf_gone : (t : Table) (known : Known) (step : Step) (old new : Front) (leaf : Leaf) → IsSound t → step.chain < length t.chains → new.tasks.items ≡ old.tasks.items → old.leaves.items ≡ new.leaves.items ++ leaf ∷ []
+    → (Contains leaf.trail.items step → MeetsNever (needed_by known step) leaf.answers) → IsKept t known (entry_of t.chains step) old new
+leaf_gone t known step old new leaf sound lt tasks leaves off p sought (inl a) = let Q : List Task → Type 0 = λ ts. Any (WaitsIn t known p) ts in inl (subst Q (sym tasks) a)
+leaf_gone t known step old new leaf sound lt tasks leaves off p sought (inr a) =
     let R : List Leaf → Type 0 = λ ls. Contains ls a.1 in
-    let S : Leaf → Type 0 = λ x. EndsIn t p x in
+    let S : Leaf → Type 0 = λ x. EndsUnder t known p x in
     elim (Contains-push_cases new.leaves.items leaf a.1 (subst R leaves (a.0, a.2, a.3))) [
       | inl c ↦ inr (c.0, a.1, c.1, c.2, a.4)
       | inr is ↦ absurd (elim sought [
-        | inl on ↦ off (on_leaf t p leaf step sound lt (subst S (sym is) a.4) on)
-        | inr long ↦ never_long t p a.1 a.4 long
+        | inl on ↦ never_there t known p leaf step sound lt off (subst S (sym is) a.4) on
+        | inr long ↦ never_long t known p a.1 a.4 long
       ])
     ]
+
+-- no packet of a task that a rule ahead takes comes to the rule of a step that isn't on its trail
+pub never_before : (t : Table) (known : Known) (box : List SpanSet) (step : Step) (task : Task) → IsSound t → step.chain < length t.chains → NeverComes t known box step task → (Contains task.trail.items step → MeetsNever (needed_by known step) task.scope.answers)
+    → (p : Packet) → IsAtHook p → IsIn box p → WaitsIn t known p task → IsSought t (entry_of t.chains step) p → ⊥
+never_before t known box step task sound lt never off p can inside waits sought =
+    let (there, met) = step_by t known task.trail.items step sound lt (never p can inside waits sought) in
+    true≢false (sym met ∙ off there known.holds waits.own.agrees)
 
 -- nothing is taken off an empty list
 pub nothing_popped : {X : Type 0} (xs ys : List X) → xs ≡ ys ++ [] → length xs ≡ 0 → (xs ≡ []) × (ys ≡ [])
@@ -138,98 +167,104 @@ nothing_popped xs [] e none = (e, refl)
 nothing_popped {X} xs (y ∷ ys) e none = absurd (omega (arith, none, ap (λ (l : List X). length l) e))
 
 -- a task that went one step
-pub stepped : (t : Table) (policy : Verdict) (start : List SpanSet) (entry : Entry) (task next : Task) (old mid new : Front) → IsFurther t start task next → Moves t policy next.area (stage_of t.chains next) old mid
-    → IsKept t entry mid new → ComesOn t policy start entry task old new
-stepped t policy start entry task next old mid new further moves kept p asked inside sought (inl w) = kept p sought (moves.moved p asked (further.waits p asked.at_hook inside w))
-stepped t policy start entry task next old mid new further moves kept p asked inside sought (inr a) = kept p sought (moves.keeps.kept p a)
+pub stepped : (t : Table) (known : Known) (policy : Verdict) (start : Scope) (entry : Entry) (task next : Task) (old mid new : Front) → IsFurther t known start task next → Moves t known policy next.scope (stage_of known t.chains next) old mid
+    → IsKept t known entry mid new → ComesOn t known policy start entry task old new
+stepped t known policy start entry task next old mid new further moves kept p asked own sought (inl w) = kept p sought (moves.moved p asked (further.waits p asked.at_hook own w))
+stepped t known policy start entry task next old mid new further moves kept p asked own sought (inr a) = kept p sought (moves.keeps.kept p a)
 
 -- one step of the loop
-pub come_next : (t : Table) (hook : Hook) (policy : Verdict) (start : List SpanSet) (entry : Entry) (left : List Task) (task : Task) (old popped new : Front) → ((p : Packet) → p.hook ≡ hook → end_verdict t p ≡ policy) → old.tasks.items ≡ left ++ task ∷ []
-    → popped.tasks.items ≡ left → popped.leaves.items ≡ old.leaves.items → Awaits t hook start entry old → ComesOn t policy start entry task popped new → Awaits t hook start entry new
-come_next t hook policy start entry left task old popped new ends tasks same leaves awaits on = λ p can e inside sought.
-    go p (record { at_hook = can; ends = ends p e }) inside sought (awaits p can e inside sought)
+pub come_next : (t : Table) (known : Known) (hook : Hook) (policy : Verdict) (start : Scope) (entry : Entry) (left : List Task) (task : Task) (old popped new : Front) → ((p : Packet) → p.hook ≡ hook → end_verdict t p ≡ policy) → old.tasks.items ≡ left ++ task ∷ []
+    → popped.tasks.items ≡ left → popped.leaves.items ≡ old.leaves.items → Awaits t known hook start entry old → ComesOn t known policy start entry task popped new → Awaits t known hook start entry new
+come_next t known hook policy start entry left task old popped new ends tasks same leaves awaits on = λ p can e own sought.
+    go p (record { at_hook = can; ends = ends p e }) own sought (awaits p can e own sought)
   where
-    go : (p : Packet) → IsAsked t policy p → IsIn start p → IsSought t entry p → IsAccounted t p old → IsAccounted t p new
-    go p asked inside sought (inr a) = let Q : List Leaf → Type 0 = λ ls. Any (EndsIn t p) ls in on p asked inside sought (inr (inr (subst Q (sym leaves) a)))
-    go p asked inside sought (inl a) =
+    go : (p : Packet) → IsAsked t policy p → IsOf known p start → IsSought t entry p → IsAccounted t known p old → IsAccounted t known p new
+    go p asked own sought (inr a) = let Q : List Leaf → Type 0 = λ ls. Any (EndsUnder t known p) ls in on p asked own sought (inr (inr (subst Q (sym leaves) a)))
+    go p asked own sought (inl a) =
         let R : List Task → Type 0 = λ ts. Contains ts a.1 in
-        let S : Task → Type 0 = λ x. WaitsIn t p x in
-        let Q : List Task → Type 0 = λ ts. Any (WaitsIn t p) ts in
+        let S : Task → Type 0 = λ x. WaitsIn t known p x in
+        let Q : List Task → Type 0 = λ ts. Any (WaitsIn t known p) ts in
         elim (Contains-push_cases left task a.1 (subst R tasks (a.0, a.2, a.3))) [
-          | inl d ↦ on p asked inside sought (inr (inl (subst Q (sym same) (d.0, a.1, d.1, d.2, a.4))))
-          | inr is ↦ on p asked inside sought (inl (subst S (sym is) a.4))
+          | inl d ↦ on p asked own sought (inr (inl (subst Q (sym same) (d.0, a.1, d.1, d.2, a.4))))
+          | inr is ↦ on p asked own sought (inl (subst S (sym is) a.4))
         ]
 
 -- no task is left, and no leaf has the rule on its trail: no packet is sought
-none_sought : (t : Table) (hook : Hook) (start : List SpanSet) (step : Step) (front : Front) → IsSound t → IsRule t step → Awaits t hook start (entry_of t.chains step) front → length front.tasks.items ≡ 0
-    → All (λ leaf. Contains leaf.trail.items step → ⊥) front.leaves.items → (p : Packet) → IsAtHook p → p.hook ≡ hook → IsIn start p → IsSought t (entry_of t.chains step) p → ⊥
-none_sought t hook start step front sound is awaits none off p can e inside sought = go (awaits p can e inside sought)
+none_sought : (t : Table) (known : Known) (hook : Hook) (start : Scope) (step : Step) (front : Front) → IsSound t → step.chain < length t.chains → Awaits t known hook start (entry_of t.chains step) front → length front.tasks.items ≡ 0
+    → All (λ leaf. Contains leaf.trail.items step → ⊥) front.leaves.items → (p : Packet) → IsAtHook p → p.hook ≡ hook → IsOf known p start → IsSought t (entry_of t.chains step) p → ⊥
+none_sought t known hook start step front sound lt awaits none off p can e own sought = go (awaits p can e own sought)
   where
-    go : IsAccounted t p front → ⊥
+    go : IsAccounted t known p front → ⊥
     go (inl a) = omega (arith, none, a.2)
     go (inr a) = elim sought [
-      | inl on ↦ All-contains (λ (l : Leaf). Contains l.trail.items step → ⊥) front.leaves.items a.1 off (a.0, a.2, a.3) (on_leaf t p a.1 step sound is.chain a.4 on)
-      | inr long ↦ never_long t p a.1 a.4 long
+      | inl on ↦ never_there t known p a.1 step sound lt (λ there. absurd (All-contains (λ (l : Leaf). Contains l.trail.items step → ⊥) front.leaves.items a.1 off (a.0, a.2, a.3) there)) a.4 on
+      | inr long ↦ never_long t known p a.1 a.4 long
     ]
 
--- ---- the packets of a box that came
+-- ---- the packets of a scope that came
 
--- what a box that came says of a packet: if it is in the box, its walk has the rule or is too long
-abbrev CameWith : Table → Step → Packet → Option (List SpanSet) → Type 0
-CameWith t step p found = IfSome found (λ area. IsIn area p → IsSought t (entry_of t.chains step) p)
+-- what a scope that came says of a packet: if it is one of the scope, its walk has the rule or is too long
+abbrev CameWith : Table → Known → Step → Packet → Option Scope → Type 0
+CameWith t known step p found = IfSome found (λ came. IsOf known p came → IsSought t (entry_of t.chains step) p)
 
-on_entries : (cs : List Chain) (steps : List Step) (step : Step) → Contains steps step → Contains (entries_of cs steps) (entry_of cs step)
-on_entries cs steps step c = (c.0, omega (arith, c.1, length-map steps (entry_of cs)), get_or-map (entry_of cs) steps c.0 step (entry_of cs step) c.1 ∙ ap (entry_of cs) c.2)
+-- it is one of the scope that the trail belongs to, and all holds that the rule needs
+came_from : (known : Known) (step : Step) (scope came : Scope) (trail : List Step) (p : Packet) → IsFound (needed_by known step) step scope trail (Some came) → IsOf known p came → IsOf known p scope × (is_met known step ≡ true)
+came_from known step scope came trail p (on, same, meeting) own =
+    let B : List SpanSet → Type 0 = λ b. IsIn b p in
+    let agrees = meeting.own known.holds own.agrees in
+    (record { inside = subst B same own.inside; agrees = agrees.0 }, agrees.1)
 
--- a packet that is only in boxes that fit it still is after one step
-comes_fitting : (t : Table) (policy : Verdict) (start : List SpanSet) (step : Step) (task : Task) (old new : Front) (found : Option (List SpanSet)) (p : Packet) → ComesBy t policy start step task old new found → IsAsked t policy p → FitsTask t start p task
-    → IsFitting t start p old → IsFitting t start p new × CameWith t step p found
-comes_fitting t policy start step task old new found p (inl (on, is, same)) asked own fits =
-    let Q : Front → Type 0 = λ f. IsFitting t start p f in
-    let here : CameWith t step p (Some task.area) = λ inside. sought_from t p (rests_of t.chains task.rests.items) (entries_of t.chains task.trail.items) (entry_of t.chains step) (own inside).1 (on_entries t.chains task.trail.items step on) in
-    (subst Q (sym same) fits, subst (CameWith t step p) (sym is) here)
-comes_fitting t policy start step task old new found p (inr (inl (never, none, same))) asked own fits =
-    let Q : Front → Type 0 = λ f. IsFitting t start p f in
-    (subst Q (sym same) fits, subst (CameWith t step p) (sym none) tt)
-comes_fitting t policy start step task old new found p (inr (inr (mid, (next, further, moves), taken))) asked own fits = by_leaf (moves.fits start p asked further_fits fits) taken
+-- a packet that is only in scopes that fit it still is after one step
+comes_fitting : (t : Table) (known : Known) (policy : Verdict) (start : Scope) (step : Step) (task : Task) (old new : Front) (found : Option Scope) (p : Packet) → ComesBy t known policy start step task old new found → IsAsked t policy p
+    → FitsTask t known start p task → IsFitting t known start p old → IsFitting t known start p new × CameWith t known step p found
+comes_fitting t known policy start step task old new found p (inl ((came, is, itself), same)) asked own fits =
+    let Q : Front → Type 0 = λ f. IsFitting t known start p f in
+    let here : CameWith t known step p (Some came) = λ inside.
+    (let (of, met) = came_from known step task.scope came task.trail.items p itself inside in
+    sought_from t p (rests_of t.chains task.rests.items) (entries_by known t.chains task.trail.items) (entry_of t.chains step) (own of).1 (on_entries_by known t.chains task.trail.items step itself.0 met)) in
+    (subst Q (sym same) fits, subst (CameWith t known step p) (sym is) here)
+comes_fitting t known policy start step task old new found p (inr (inl (never, none, same))) asked own fits =
+    let Q : Front → Type 0 = λ f. IsFitting t known start p f in
+    (subst Q (sym same) fits, subst (CameWith t known step p) (sym none) tt)
+comes_fitting t known policy start step task old new found p (inr (inr (mid, (next, further, moves), taken))) asked own fits = by_leaf (moves.fits start p asked further_fits fits) taken
   where
-    further_fits : IsIn next.area p → Belongs t start p (stage_of t.chains next)
+    further_fits : IsOf known p next.scope → Belongs t known start p (stage_of known t.chains next)
     further_fits inside =
-        let B : List SpanSet → Type 0 = λ b. IsIn b p in
-        let there = subst B further.area inside in
+        let B : Scope → Type 0 = λ b. IsOf known p b in
+        let there = subst B further.same inside in
         let belongs = own there in
-        (belongs.0, (further.waits p asked.at_hook belongs.0 (record { inside = there; reaches = belongs.1 })).reaches)
+        (belongs.0, (further.waits p asked.at_hook belongs.0 (record { own = there; reaches = belongs.1 })).reaches)
 
-    tasks_kept : IsFitting t start p mid → new.tasks ≡ mid.tasks → All (FitsTask t start p) new.tasks.items
-    tasks_kept all same = let T : Vec Task Global → Type 0 = λ ts. All (FitsTask t start p) ts.items in subst T (sym same) all.tasks
+    tasks_kept : IsFitting t known start p mid → new.tasks ≡ mid.tasks → All (FitsTask t known start p) new.tasks.items
+    tasks_kept all same = let T : Vec Task Global → Type 0 = λ ts. All (FitsTask t known start p) ts.items in subst T (sym same) all.tasks
 
-    on_walk : (leaf : Leaf) (o : Option (List SpanSet)) → ShowsWalk t start p leaf → IsFoundIn step leaf o → CameWith t step p o
+    on_walk : (leaf : Leaf) (o : Option Scope) → ShowsUnder t known start p leaf → IsFound (needed_by known step) step (scope_of leaf) leaf.trail.items o → CameWith t known step p o
     on_walk leaf None shows is = tt
-    on_walk leaf (Some area) shows (c, same) = λ inside.
-        let B : List SpanSet → Type 0 = λ b. IsIn b p in
+    on_walk leaf (Some came) shows is = λ inside.
+        let (of, met) = came_from known step (scope_of leaf) came leaf.trail.items p is inside in
         let P : Walked → Type 0 = λ (w : Walked). Contains w.trail (entry_of t.chains step) in
-        let shown : walk t p ≡ walked_of t.chains leaf = (shows (subst B same inside)).1 in
-        inl (subst P (sym shown) (on_entries t.chains leaf.trail.items step c))
+        let shown : walk t p ≡ walked_by known t.chains leaf = (shows of).1 in
+        inl (subst P (sym shown) (on_entries_by known t.chains leaf.trail.items step is.0 met))
 
-    by_leaf : IsFitting t start p mid → TakesLeaf step mid new found → IsFitting t start p new × CameWith t step p found
+    by_leaf : IsFitting t known start p mid → TakesLeaf (needed_by known step) step mid new found → IsFitting t known start p new × CameWith t known step p found
     by_leaf all (inl (bare, gone, same, none)) =
-        let L : List Leaf → Type 0 = λ ls. All (ShowsWalk t start p) ls in
-        (record { tasks = tasks_kept all same; leaves = subst L (sym gone) (All-nil (ShowsWalk t start p)) }, subst (CameWith t step p) (sym none) tt)
+        let L : List Leaf → Type 0 = λ ls. All (ShowsUnder t known start p) ls in
+        (record { tasks = tasks_kept all same; leaves = subst L (sym gone) (All-nil (ShowsUnder t known start p)) }, subst (CameWith t known step p) (sym none) tt)
     by_leaf all (inr (leaf, leaves, same, is)) =
-        let split = All-pop (ShowsWalk t start p) mid.leaves.items new.leaves.items (Some leaf) leaves all.leaves in
+        let split = All-pop (ShowsUnder t known start p) mid.leaves.items new.leaves.items (Some leaf) leaves all.leaves in
         (record { tasks = tasks_kept all same; leaves = split.0 }, on_walk leaf found split.1 is)
 
 -- so it is after one step of the search
-fits_on : (t : Table) (hook : Hook) (step : Step) (box : List SpanSet) (old new : Front) (found : Option (List SpanSet)) (p : Packet) → IsSearchStep t hook box step old new found → IsAtHook p → p.hook ≡ hook → IsFitting t box p old
-    → IsFitting t box p new × CameWith t step p found
-fits_on t hook step box old new found p (policy, task, left, up, by) can e before =
-    let split = All-pop (FitsTask t box p) old.tasks.items left.tasks.items (Some task) up.tasks before.tasks in
-    let L : List Leaf → Type 0 = λ ls. All (ShowsWalk t box p) ls in
-    comes_fitting t policy box step task left new found p by (record { at_hook = can; ends = up.ends p e }) split.1 (record { tasks = split.0; leaves = subst L (sym up.leaves) before.leaves })
+fits_on : (t : Table) (known : Known) (hook : Hook) (step : Step) (scope : Scope) (old new : Front) (found : Option Scope) (p : Packet) → IsSearchStep t known hook scope step old new found → IsAtHook p → p.hook ≡ hook → IsFitting t known scope p old
+    → IsFitting t known scope p new × CameWith t known step p found
+fits_on t known hook step scope old new found p (policy, task, left, up, by) can e before =
+    let split = All-pop (FitsTask t known scope p) old.tasks.items left.tasks.items (Some task) up.tasks before.tasks in
+    let L : List Leaf → Type 0 = λ ls. All (ShowsUnder t known scope p) ls in
+    comes_fitting t known policy scope step task left new found p by (record { at_hook = can; ends = up.ends p e }) split.1 (record { tasks = split.0; leaves = subst L (sym up.leaves) before.leaves })
 
-pub came_with : (t : Table) (hook : Hook) (step : Step) (box : List SpanSet) (old new : Front) (area : List SpanSet) → IsSearchStep t hook box step old new (Some area) → ((p : Packet) → IsAtHook p → p.hook ≡ hook → IsFitting t box p old)
-    → (p : Packet) → IsAtHook p → p.hook ≡ hook → IsIn area p → IsSought t (entry_of t.chains step) p
-came_with t hook step box old new area one fits p can e = (fits_on t hook step box old new (Some area) p one can e (fits p can e)).1
+pub came_with : (t : Table) (known : Known) (hook : Hook) (step : Step) (scope : Scope) (old new : Front) (came : Scope) → IsSearchStep t known hook scope step old new (Some came) → ((p : Packet) → IsAtHook p → p.hook ≡ hook → IsFitting t known scope p old)
+    → (p : Packet) → IsAtHook p → p.hook ≡ hook → IsOf known p came → IsSought t (entry_of t.chains step) p
+came_with t known hook step scope old new came one fits p can e = (fits_on t known hook step scope old new (Some came) p one can e (fits p can e)).1
 
 -- ---- rules looked at
 
@@ -255,85 +290,108 @@ used_by_looks looks all budget le below =
 -- ---- the search, step by step
 
 -- one step more
-pub searches_on : (t : Table) (hook : Hook) (step : Step) (box : List SpanSet) (n : ℕ) (old new : Front) (came : List (List SpanSet)) (found : Option (List SpanSet)) → SearchesTo t hook step box n old came → IsSearchStep t hook box step old new found
-    → SearchesTo t hook step box (n + 1) new (with_found came found)
-searches_on t hook step box n old new came found to one =
-    let P : ℕ → Type 0 = λ k. AreSearchSteps k t hook box step to.first new (with_found came found) in
+pub searches_on : (t : Table) (known : Known) (hook : Hook) (step : Step) (scope : Scope) (n : ℕ) (old new : Front) (came : List Scope) (found : Option Scope) → SearchesTo t known hook step scope n old came → IsSearchStep t known hook scope step old new found
+    → SearchesTo t known hook step scope (n + 1) new (with_found came found)
+searches_on t known hook step scope n old new came found to one =
+    let P : ℕ → Type 0 = λ k. AreSearchSteps k t known hook scope step to.first new (with_found came found) in
     record { first = to.first; begins = to.begins; takes = subst P (sym (add-one n)) (old, came, found, to.takes, one, refl) }
 
--- where the search for the packets of the rule's box stands, and that no packet of a box that came to the rule shows it, and how its boxes fit
-pub record HasSearched (t : Table) (step : Step) (hook : Hook) (given : Given) (n : ℕ) (clear : Bool) (front : Front) : Type 0 where
-  pub box : IsBoxAt t step hook given
-  pub came : List (List SpanSet)
-  pub there : SearchesTo t hook step given.area n front came
-  pub unseen : All (IsUnseen t hook) came
+-- where the search for the packets of the rule's box stands, and that no packet of a scope that came to the rule shows it, and how its scopes fit
+pub record HasSearched (t : Table) (known : Known) (step : Step) (hook : Hook) (given : Given) (budget n : ℕ) (clear : Bool) (front : Front) : Type 0 where
+  pub came : List Scope
+  pub there : SearchesTo t known hook step (unasked given.area) n front came
+  pub unseen : All (IsUnseen t known hook budget) came
   pub some : clear ≡ false → 0 < length came
-  pub awaits : clear ≡ true → Awaits t hook given.area (entry_of t.chains step) front
-  pub fits : (p : Packet) → IsAtHook p → p.hook ≡ hook → IsFitting t given.area p front
+  pub awaits : clear ≡ true → Awaits t known hook (unasked given.area) (entry_of t.chains step) front
+  pub fits : (p : Packet) → IsAtHook p → p.hook ≡ hook → IsFitting t known (unasked given.area) p front
 
-pub sets_out : (t : Table) (hook : Hook) (step : Step) (given : Given) (front : Front) → IsBoxAt t step hook given → Begins t hook given.area front → IsFirst hook given.area front → HasSearched t step hook given 0 true front
-sets_out t hook step given front box begins first = record {
-  box = box;
+pub sets_out : (t : Table) (known : Known) (hook : Hook) (step : Step) (given : Given) (budget : ℕ) (front : Front) → Begins t known hook (unasked given.area) front → IsFirst hook (unasked given.area) front → HasSearched t known step hook given budget 0 true front
+sets_out t known hook step given budget front begins first = record {
   came = [];
   there = record { first = front; begins = first; takes = (refl, refl) };
-  unseen = All-nil (IsUnseen t hook);
+  unseen = All-nil (IsUnseen t known hook budget);
   some = λ e. absurd (true≢false e);
-  awaits = λ _ p can e inside _. begins.all p can e inside;
+  awaits = λ _ p can e own _. begins.all p can e own;
   fits = begins.fits;
 }
 
-pub none_more : (t : Table) (step : Step) (hook : Hook) (given : Given) (n : ℕ) (clear : Bool) (old new : Front) → HasSearched t step hook given n clear old → IsSearchStep t hook given.area step old new None
-    → (Awaits t hook given.area (entry_of t.chains step) old → Awaits t hook given.area (entry_of t.chains step) new) → HasSearched t step hook given (n + 1) clear new
-none_more t step hook given n clear old new h one on = record {
-  box = h.box;
+pub none_more : (t : Table) (known : Known) (step : Step) (hook : Hook) (given : Given) (budget n : ℕ) (clear : Bool) (old new : Front) → HasSearched t known step hook given budget n clear old → IsSearchStep t known hook (unasked given.area) step old new None
+    → (Awaits t known hook (unasked given.area) (entry_of t.chains step) old → Awaits t known hook (unasked given.area) (entry_of t.chains step) new) → HasSearched t known step hook given budget (n + 1) clear new
+none_more t known step hook given budget n clear old new h one on = record {
   came = h.came;
-  there = searches_on t hook step given.area n old new h.came None h.there one;
+  there = searches_on t known hook step (unasked given.area) n old new h.came None h.there one;
   unseen = h.unseen;
   some = h.some;
   awaits = λ e. on (h.awaits e);
-  fits = λ p can e. (fits_on t hook step given.area old new None p one can e (h.fits p can e)).0;
+  fits = λ p can e. (fits_on t known hook step (unasked given.area) old new None p one can e (h.fits p can e)).0;
 }
 
-pub one_more : (t : Table) (step : Step) (hook : Hook) (given : Given) (n : ℕ) (clear : Bool) (old new : Front) (box : List SpanSet) → HasSearched t step hook given n clear old → IsSearchStep t hook given.area step old new (Some box)
-    → IsUnseen t hook box → HasSearched t step hook given (n + 1) false new
-one_more t step hook given n clear old new box h one unseen = record {
-  box = h.box;
-  came = h.came ++ box ∷ [];
-  there = searches_on t hook step given.area n old new h.came (Some box) h.there one;
-  unseen = All-push (IsUnseen t hook) h.came box h.unseen unseen;
-  some = λ _. omega (arith, length-append h.came (box ∷ []));
+pub one_more : (t : Table) (known : Known) (step : Step) (hook : Hook) (given : Given) (budget n : ℕ) (clear : Bool) (old new : Front) (came : Scope) → HasSearched t known step hook given budget n clear old → IsSearchStep t known hook (unasked given.area) step old new (Some came)
+    → IsUnseen t known hook budget came → HasSearched t known step hook given budget (n + 1) false new
+one_more t known step hook given budget n clear old new came h one unseen = record {
+  came = h.came ++ came ∷ [];
+  there = searches_on t known hook step (unasked given.area) n old new h.came (Some came) h.there one;
+  unseen = All-push (IsUnseen t known hook budget) h.came came h.unseen unseen;
+  some = λ _. omega (arith, length-append h.came (came ∷ []));
   awaits = λ e. absurd (true≢false (sym e));
-  fits = λ p can e. (fits_on t hook step given.area old new (Some box) p one can e (h.fits p can e)).0;
+  fits = λ p can e. (fits_on t known hook step (unasked given.area) old new (Some came) p one can e (h.fits p can e)).0;
 }
 
--- the end
-pub dead_at_end : (t : Table) (hook : Hook) (step : Step) (given : Given) (n : ℕ) (clear : Bool) (front : Front) (said : Life) → IsSound t → IsRule t step → HasSearched t step hook given n clear front → length front.tasks.items ≡ 0
-    → SaysEnd clear front.leaves.items step said → SaysAt t (entry_of t.chains step) hook said
-dead_at_end t hook step given n clear front life.Dead sound is h none says = λ p can e on.
-    none_sought t hook given.area step front sound is (h.awaits says.0) none says.1 p can e (h.box.all p (record { can = can; there = e; matched = rule_matches t p step sound is on })) (inl on)
-dead_at_end t hook step given n clear front (life.Live words) sound is h none says = absurd says
-dead_at_end t hook step given n clear front life.Unclear sound is h none says = tt
+-- ---- the end
 
-pub short_at_end : (t : Table) (hook : Hook) (step : Step) (given : Given) (n : ℕ) (clear : Bool) (front : Front) (said : Life) → IsSound t → IsRule t step → HasSearched t step hook given n clear front → length front.tasks.items ≡ 0
-    → SaysEnd clear front.leaves.items step said → said ≡ life.Dead → AreShort t step hook
-short_at_end t hook step given n clear front said sound is h none says dead p at long =
-    let P : Life → Type 0 = λ l. SaysEnd clear front.leaves.items step l in
-    let end : (clear ≡ true) × All (λ (leaf : Leaf). Contains leaf.trail.items step → ⊥) front.leaves.items = subst P dead says in
-    none_sought t hook given.area step front sound is (h.awaits end.0) none end.1 p at.can at.there (h.box.all p at) (inr long)
+-- the box has the packets at the hook that the rule matches, and they are searched
+module _ (s : Subject) (step : Step) (hook : Hook) (given : Given) (sound : IsSound (table_of s)) (is : IsRule (table_of s) step) (box : IsBoxAt (table_of s) step hook given) where
+  -- an assignment leaves of the table
+  module _ (a : Assignment) (budget n : ℕ) (clear : Bool) (front : Front) (h : HasSearched (answered s a) (known_by s a) step hook given budget n clear front) where
+    abbrev t : Table
+    t = answered s a
 
-pub unclear_at_end : (t : Table) (hook : Hook) (step : Step) (given : Given) (n budget : ℕ) (clear : Bool) (front : Front) (said : Life) → n ≤ budget → HasSearched t step hook given n clear front → length front.tasks.items ≡ 0
-    → SaysEnd clear front.leaves.items step said → IsUnclearAt t step hook budget said
-unclear_at_end t hook step given n budget clear front life.Dead le h none says = tt
-unclear_at_end t hook step given n budget clear front (life.Live words) le h none says = absurd says
-unclear_at_end t hook step given n budget clear front life.Unclear le h none says =
-    (given, h.box, n, front, h.came, h.there, h.unseen, inr (inr (le, record { ended = none; some = come says })))
-  where
-    come : (clear ≡ false) ⊎ Any (λ (leaf : Leaf). Contains leaf.trail.items step) front.leaves.items → (0 < length h.came) ⊎ ((leaf : Leaf) × Contains front.leaves.items leaf × Contains leaf.trail.items step)
-    come (inl off) = inl (h.some off)
-    come (inr a) = inr (a.1, (a.0, a.2, a.3), a.4)
+    still_sound : IsSound t
+    still_sound = left_sound s.needs.now a (table_of s) sound
 
-pub unclear_used_up : (t : Table) (hook : Hook) (step : Step) (given : Given) (n budget : ℕ) (clear : Bool) (front : Front) → IsUsedUp t n budget → HasSearched t step hook given n clear front → 0 < length front.tasks.items → MayLive t step hook budget
-unclear_used_up t hook step given n budget clear front all h some = (given, h.box, n, front, h.came, h.there, h.unseen, inl (all, some))
+    lt : step.chain < length t.chains
+    lt = there_left s.needs.now a (table_of s) step.chain is.chain
 
-pub unclear_full : (t : Table) (hook : Hook) (step : Step) (given : Given) (n budget : ℕ) (clear : Bool) (front : Front) → n < budget → HasSearched t step hook given n clear front → IsFull front → MayLive t step hook budget
-unclear_full t hook step given n budget clear front lt h full = (given, h.box, n, front, h.came, h.there, h.unseen, inr (inl (lt, full)))
+    -- a packet that the rule still matches is in the box
+    in_box : (p : Packet) → IsMatchedAt t step hook p → IsOf (known_by s a) p (unasked given.area)
+    in_box p at = record { inside = box.all p (matched_before s.needs.now a (table_of s) step hook p is at); agrees = All-nil (λ (answer : Answer). a answer.condition ≡ answer.holds) }
+
+    module _ (none : length front.tasks.items ≡ 0) where
+      pub dead_at_end : (said : Life) → SaysEnd clear front.leaves.items step said → said ≡ life.Dead → IsDeadAt t (entry_of t.chains step) hook
+      dead_at_end said says dead p can e on =
+          let P : Life → Type 0 = λ l. SaysEnd clear front.leaves.items step l in
+          let end : (clear ≡ true) × All (λ (leaf : Leaf). Contains leaf.trail.items step → ⊥) front.leaves.items = subst P dead says in
+          none_sought t (known_by s a) hook (unasked given.area) step front still_sound lt (h.awaits end.0) none end.1 p can e
+          (in_box p (record { can = can; there = e; matched = rule_matches t p step still_sound (rule_left_there s.needs.now a (table_of s) step is) on })) (inl on)
+
+      pub short_at_end : (said : Life) → SaysEnd clear front.leaves.items step said → said ≡ life.Dead → AreShort t step hook
+      short_at_end said says dead p at long =
+          let P : Life → Type 0 = λ l. SaysEnd clear front.leaves.items step l in
+          let end : (clear ≡ true) × All (λ (leaf : Leaf). Contains leaf.trail.items step → ⊥) front.leaves.items = subst P dead says in
+          none_sought t (known_by s a) hook (unasked given.area) step front still_sound lt (h.awaits end.0) none end.1 p at.can at.there (in_box p at) (inr long)
+
+      pub unclear_at_end : (said : Life) → n ≤ budget → SaysEnd clear front.leaves.items step said → said ≡ life.Unclear → MayLiveUnder (table_of s) t (known_by s a) step hook budget
+      unclear_at_end said le says unclear =
+          let P : Life → Type 0 = λ l. SaysEnd clear front.leaves.items step l in
+          (given, box, n, front, h.came, h.there, h.unseen, inr (inr (le, record { ended = none; some = come (subst P unclear says) })))
+        where
+          come : (clear ≡ false) ⊎ Any (λ (leaf : Leaf). Contains leaf.trail.items step) front.leaves.items → (0 < length h.came) ⊎ ((leaf : Leaf) × Contains front.leaves.items leaf × Contains leaf.trail.items step)
+          come (inl off) = inl (h.some off)
+          come (inr a) = inr (a.1, (a.0, a.2, a.3), a.4)
+
+    pub unclear_used_up : IsUsedUp t n budget → 0 < length front.tasks.items → MayLiveUnder (table_of s) t (known_by s a) step hook budget
+    unclear_used_up all some = (given, box, n, front, h.came, h.there, h.unseen, inl (all, some))
+
+    pub unclear_full : n < budget → IsFull front → MayLiveUnder (table_of s) t (known_by s a) step hook budget
+    unclear_full lt full = (given, box, n, front, h.came, h.there, h.unseen, inr (inl (lt, full)))
+
+-- what is said at the end, by the answer
+pub says_at_end : (s : Subject) (step : Step) (hook : Hook) (said : Life) (clear : Bool) (leaves : List Leaf) → SaysEnd clear leaves step said → (said ≡ life.Dead → IsAlwaysDeadAt s step hook) → SaysAt s step hook said
+says_at_end s step hook life.Dead clear leaves says dead = dead refl
+says_at_end s step hook (life.Live words answers) clear leaves says dead = absurd says
+says_at_end s step hook life.Unclear clear leaves says dead = tt
+
+pub unclear_by_end : (may : Type 0) (step : Step) (said : Life) (clear : Bool) (leaves : List Leaf) → SaysEnd clear leaves step said → (said ≡ life.Unclear → may) → IsUnclearAt may said
+unclear_by_end may step life.Dead clear leaves says unclear = tt
+unclear_by_end may step (life.Live words answers) clear leaves says unclear = absurd says
+unclear_by_end may step life.Unclear clear leaves says unclear = unclear refl

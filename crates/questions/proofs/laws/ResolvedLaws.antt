@@ -1,15 +1,28 @@
 -- Chains and rules once it is known which conditions hold: each keeps its place, and without needs nothing changes.
-use Rattle.std.proofs.Common.{◌≡◌, inl, inr, ℕ, zero, suc, ◌+◌, ◌-◌, ◌<◌, Bool, true, false, cond, ◌||◌, ◌⊎◌, List, [], ◌∷◌, length, get_or, refl, sym, ◌∙◌, ap, arith, All, Contains}
-use Rattle.std.specs.List.{list_any}
-use Rattle.std.proofs.lemmas.Bool.{cases_Bool, cond-false, cond-true}
-use Rattle.rules.specs.rule.Rules.{Rule}
+use Rattle.std.proofs.Common.{◌≡◌, inl, inr, ℕ, zero, suc, ◌+◌, ◌-◌, ◌<◌, Bool, true, false, cond, not, ◌||◌, ◌⊎◌, List, [], ◌∷◌, length, get_or, drop, refl, sym, ◌∙◌, ap, arith, subst, Some, None, All, Contains}
+use Rattle.std.specs.List.{list_any, position, position_or_len}
+use Rattle.std.specs.Str.{bytes_eq}
+use Rattle.std.proofs.Math.Dec.{ltb}
+use Rattle.std.proofs.lemmas.Bool.{cases_Bool, cond-false, cond-true, true≢false}
+use Rattle.std.proofs.lemmas.List.{length-map}
+use Rattle.fields.specs.declared.packet.hook.Hook.{Hook}
+use Rattle.fields.specs.packet.Packet.{PacketView as Packet}
+use Rattle.rules.specs.rule.Allows.{matches}
+use Rattle.rules.specs.rule.Rules.{Rule, empty_rule}
 use Rattle.table.specs.chains.Table.{Chain, Table, chain_at, empty_chain, is_named, is_user, names_of, rules_of, user_chains}
+use Rattle.table.specs.declared.walk.trail.Step.{Step}
+use Rattle.questions.specs.Ends.{IsRule, rule_at}
+use Rattle.questions.specs.boxes.Boxes.{rules_in}
 use Rattle.questions.specs.Foreign.{AreWithoutNeeds, Assignment, all_hold, needs_at, never, resolved, resolved_chains, resolved_rule, resolved_rules}
+use Rattle.table.specs.walk.Walk.{Entry}
+use Rattle.questions.specs.Leaves.{entry_of}
 use Rattle.questions.specs.asked.Resolved.{ChainsKeepPlaces}
 use Rattle.questions.specs.declared.foreign.need.Need.{Need}
 use Rattle.questions.specs.declared.walking.front.Front.{Front}
 use Rattle.questions.specs.declared.walking.task.Pending.{Pending}
+use Rattle.questions.specs.steps.Takers.{IsMatchedAt}
 use Rattle.questions.specs.steps.Waiting.{AllThere, IsThere}
+use Rattle.questions.proofs.laws.NeverLaws.{never_matches}
 
 -- ---- a rule
 
@@ -183,3 +196,80 @@ chain_left needs a t place there = record {
   count = count_left needs a t place there;
   rules = λ k other within. rule_left needs a t place k there within other;
 }
+
+-- as many rules
+pub rules_same : (needs : List (List (List Need))) (a : Assignment) (chains : List Chain) → rules_in (resolved_chains a needs chains) ≡ rules_in chains
+rules_same needs a [] = refl
+rules_same [] a (c ∷ chains) = ap (λ (n : ℕ). length c.rules + n) (rules_same [] a chains)
+rules_same (own ∷ needs) a (c ∷ chains) =
+    ap (λ (n : ℕ). n + rules_in (resolved_chains a needs chains)) (rules_length own a c.rules) ∙ ap (λ (n : ℕ). length c.rules + n) (rules_same needs a chains)
+
+-- ---- names
+
+place_or_end : (name : List ℕ) (cs ds : List Chain) → names_of cs ≡ names_of ds → position_or_len (is_named name) cs ≡ position_or_len (is_named name) ds
+place_or_end name [] [] same = refl
+place_or_end name [] (d ∷ ds) same = absurd (omega (arith, ap (λ (ns : List (List ℕ)). length ns) same))
+place_or_end name (c ∷ cs) [] same = absurd (omega (arith, ap (λ (ns : List (List ℕ)). length ns) same))
+place_or_end name (c ∷ cs) (d ∷ ds) same =
+    let first : c.name ≡ d.name = ap (λ (ns : List (List ℕ)). get_or ns 0 []) same in
+    ap (λ (n : List ℕ). cond (not (bytes_eq n name)) (1 + position_or_len (is_named name) cs) 0) first
+    ∙ ap (λ (k : ℕ). cond (not (bytes_eq d.name name)) (1 + k) 0) (place_or_end name cs ds (ap (λ (ns : List (List ℕ)). drop 1 ns) same))
+
+-- in chains of the same names each is at the same place
+pub same_position : (name : List ℕ) (cs ds : List Chain) → names_of cs ≡ names_of ds → position (is_named name) cs ≡ position (is_named name) ds
+same_position name cs ds same =
+    let long : length cs ≡ length ds = sym (length-map cs (λ (c : Chain). c.name)) ∙ ap (λ (ns : List (List ℕ)). length ns) same ∙ length-map ds (λ (c : Chain). c.name) in
+    ap (λ (n : ℕ). cond (ltb n (length cs)) (Some n) None) (place_or_end name cs ds same)
+    ∙ ap (λ (m : ℕ). cond (ltb (position_or_len (is_named name) ds) m) (Some (position_or_len (is_named name) ds)) None) long
+
+-- ---- rules that match no more
+
+-- a rule that matches nothing of a box still matches nothing
+pub resolved_apart : (a : Assignment) (needs : List Need) (rule : Rule) (numbers : List ℕ) → matches numbers rule ≡ false → matches numbers (resolved_rule a needs rule) ≡ false
+resolved_apart a needs rule numbers un =
+    let P : Rule → Type 0 = λ r. matches numbers r ≡ false in
+    elim (is_or_never a needs rule) [
+      | inl same ↦ subst P (sym same) un
+      | inr gone ↦ subst P (sym gone) (never_matches numbers)
+    ]
+
+-- one that matches is the rule itself, and all holds that it needs
+pub resolved_matches : (a : Assignment) (needs : List Need) (rule : Rule) (numbers : List ℕ) → matches numbers (resolved_rule a needs rule) ≡ true → resolved_rule a needs rule ≡ rule
+resolved_matches a needs rule numbers m =
+    let P : Rule → Type 0 = λ r. matches numbers r ≡ true in
+    elim (is_or_never a needs rule) [
+      | inl same ↦ same
+      | inr gone ↦ absurd (true≢false (sym (subst P gone m) ∙ never_matches numbers))
+    ]
+
+-- ---- the rule of a step
+
+module _ (needs : List (List (List Need))) (a : Assignment) (t : Table) (step : Step) (is : IsRule t step) where
+  within : step.number - 1 < length (chain_at t step.chain).rules
+  within = omega (arith, is.first, is.last)
+
+  -- it is still there
+  pub rule_left_there : IsRule (resolved needs a t) step
+  rule_left_there = record {
+    chain = there_left needs a t step.chain is.chain;
+    first = is.first;
+    last = omega (arith, count_left needs a t step.chain is.chain, is.last);
+  }
+
+  -- by what it needs
+  pub rule_at_left : rule_at (resolved needs a t) step ≡ resolved_rule a (needs_at needs step.chain (step.number - 1)) (rule_at t step)
+  rule_at_left = rule_left needs a t step.chain (step.number - 1) is.chain within empty_rule
+
+-- and its entry is the same
+pub entry_left : (needs : List (List (List Need))) (a : Assignment) (t : Table) (step : Step) → entry_of (resolved needs a t).chains step ≡ entry_of t.chains step
+entry_left needs a t step =
+    let make : List ℕ → Entry = λ n. record { chain = n; number = step.number } in
+    ap make (chain_named needs a t.chains step.chain (empty_chain []))
+
+-- what it still matches it matched
+pub matched_before : (needs : List (List (List Need))) (a : Assignment) (t : Table) (step : Step) (hook : Hook) (p : Packet) → IsRule t step → IsMatchedAt (resolved needs a t) step hook p → IsMatchedAt t step hook p
+matched_before needs a t step hook p is at =
+    let P : Rule → Type 0 = λ r. matches p.values r ≡ true in
+    let own : List Need = needs_at needs step.chain (step.number - 1) in
+    let m : matches p.values (resolved_rule a own (rule_at t step)) ≡ true = subst P (rule_at_left needs a t step is) at.matched in
+    record { can = at.can; there = at.there; matched = subst P (resolved_matches a own (rule_at t step) p.values m) m }

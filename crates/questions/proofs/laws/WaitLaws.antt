@@ -1,10 +1,10 @@
 -- Nobody is lost on the way through the table.
-use Rattle.std.proofs.Common.{◌≡◌, inl, inr, ◌⊎◌, ℕ, zero, suc, ◌+◌, ◌-◌, ◌<◌, ◌≤◌, true, false, List, [], ◌∷◌, ◌++◌, length, get_or, take, map, refl, sym, ◌∙◌, ap, arith, subst, Option, Some, None, All, Contains}
+use Rattle.std.proofs.Common.{◌≡◌, inl, inr, ◌⊎◌, ℕ, zero, suc, ◌+◌, ◌-◌, ◌<◌, ◌≤◌, Bool, true, false, List, [], ◌∷◌, ◌++◌, length, get_or, take, map, refl, sym, ◌∙◌, ap, arith, subst, Option, Some, None, All, Contains}
 use Rattle.std.specs.Prelude.{Any, slice_get}
 use Rattle.std.specs.List.{list_any, position}
 use Rattle.std.proofs.Math.Numerals.{add-one}
-use Rattle.std.proofs.lemmas.Bool.{cases_Bool, cond-false, or_parts}
-use Rattle.std.proofs.lemmas.List.{reverse-append, map-append}
+use Rattle.std.proofs.lemmas.Bool.{cases_Bool, cond-false, or_parts, true≢false}
+use Rattle.std.proofs.lemmas.List.{reverse-append}
 use Rattle.std.proofs.lemmas.List.Elements.{All-nil, All-cons, All-pop, All-push, Contains-append_left, Contains-push, Contains-push_cases, Contains-get_or}
 use Rattle.std.proofs.lemmas.Option.{slice_get_past, slice_get-get_or}
 use Rattle.fields.specs.declared.packet.hook.Hook.{Hook}
@@ -27,16 +27,23 @@ use Rattle.table.specs.walk.Walk.{Rest, Entry, after_match, end_verdict, whole}
 use Rattle.table.proofs.laws.chains.KeepLaws.{rules_by_name}
 use Rattle.table.proofs.laws.chains.PlaceLaws.{IsPlaced, placed_at, any_none}
 use Rattle.table.proofs.laws.walk.CaseLaws.{walk_is}
-use Rattle.questions.specs.Leaves.{name_at, entry_of, entries_of, walked_of, EndsIn, ShowsWalk, AreExactOn, AreLeavesOf}
-use Rattle.questions.specs.boxes.Area.{Has, IsAtHook, IsIn}
+use Rattle.classify.specs.classifier.Classifier.{IsPoint}
+use Rattle.questions.specs.Leaves.{name_at}
+use Rattle.questions.specs.Foreign.{Agrees, never}
+use Rattle.questions.specs.Scopes.{AreExactUnder, AreLeavesUnder, EndsUnder, IsOf, Known, ShowsUnder, entries_by, scope_of, under, walked_by}
+use Rattle.questions.specs.boxes.Area.{Has, IsAtHook}
 use Rattle.questions.specs.boxes.Cut.{IsInSome, IsCut, IsPartedFor, IsApart}
 use Rattle.questions.specs.steps.Taken.{GetsTo, IsStep, AreSteps}
-use Rattle.questions.specs.steps.Waiting.{rest_of, rests_of, behind, Reaches, stage_of, WaitsIn, IsAccounted, Belongs, FitsTask, IsThere, AreThere, IsAsked, Keeps, Moves, PassesOver, Begins, entry_before}
+use Rattle.questions.specs.steps.Waiting.{rest_of, rests_of, behind, Reaches, stage_of, WaitsIn, IsAccounted, Belongs, FitsTask, IsThere, AreThere, IsAsked, IsOfSome, Keeps, Moves, PassesOver, Begins, entry_before}
+use Rattle.questions.specs.declared.foreign.answers.Answer.{Answer}
 use Rattle.questions.specs.declared.walking.front.Front.{Front}
+use Rattle.questions.specs.declared.walking.scope.Scope.{Scope}
 use Rattle.questions.specs.declared.walking.task.Leaf.{Leaf}
 use Rattle.questions.specs.declared.walking.task.Pending.{Pending}
 use Rattle.questions.specs.declared.walking.task.Task.{Task}
+use Rattle.questions.proofs.laws.AnswerLaws.{agrees_before, agrees_with_one_more}
 use Rattle.questions.proofs.laws.AreaLaws.{some_left}
+use Rattle.questions.proofs.laws.NeverLaws.{never_matches}
 
 -- ---- one step more
 
@@ -66,18 +73,18 @@ any_same {X} P xs zs e a = let Q : List X → Type 0 = λ l. Any P l in subst Q 
 
 -- ---- a task more, a leaf more
 
-module _ (t : Table) (policy : Verdict) (old new : Front) where
+module _ (t : Table) (known : Known) (policy : Verdict) (old new : Front) where
   module _ (task : Task) (tasks : new.tasks.items ≡ old.tasks.items ++ task ∷ []) (leaves : new.leaves.items ≡ old.leaves.items) where
-    kept_task : (p : Packet) → IsAccounted t p old → IsAccounted t p new
-    kept_task p (inl a) = inl (any_kept (WaitsIn t p) old.tasks.items (task ∷ []) new.tasks.items tasks a)
-    kept_task p (inr a) = inr (any_same (EndsIn t p) old.leaves.items new.leaves.items leaves a)
+    kept_task : (p : Packet) → IsAccounted t known p old → IsAccounted t known p new
+    kept_task p (inl a) = inl (any_kept (WaitsIn t known p) old.tasks.items (task ∷ []) new.tasks.items tasks a)
+    kept_task p (inr a) = inr (any_same (EndsUnder t known p) old.leaves.items new.leaves.items leaves a)
 
-    pub task_moves : AreThere t.chains task → Moves t policy task.area (stage_of t.chains task) old new
+    pub task_moves : AreThere t.chains task → Moves t known policy task.scope (stage_of known t.chains task) old new
     task_moves there = record {
-      moved = λ p asked stands. inl (any_last (WaitsIn t p) old.tasks.items task new.tasks.items tasks stands);
+      moved = λ p asked stands. inl (any_last (WaitsIn t known p) old.tasks.items task new.tasks.items tasks stands);
       fits = λ start p asked fit all. record {
-        tasks = (let Q : List Task → Type 0 = λ ts. All (FitsTask t start p) ts in subst Q (sym tasks) (All-push (FitsTask t start p) old.tasks.items task all.tasks fit));
-        leaves = (let Q : List Leaf → Type 0 = λ ls. All (ShowsWalk t start p) ls in subst Q (sym leaves) all.leaves);
+        tasks = (let Q : List Task → Type 0 = λ ts. All (FitsTask t known start p) ts in subst Q (sym tasks) (All-push (FitsTask t known start p) old.tasks.items task all.tasks fit));
+        leaves = (let Q : List Leaf → Type 0 = λ ls. All (ShowsUnder t known start p) ls in subst Q (sym leaves) all.leaves);
       };
       keeps = record {
         kept = kept_task;
@@ -86,17 +93,17 @@ module _ (t : Table) (policy : Verdict) (old new : Front) where
     }
 
   module _ (leaf : Leaf) (tasks : new.tasks.items ≡ old.tasks.items) (leaves : new.leaves.items ≡ old.leaves.items ++ leaf ∷ []) where
-    kept_leaf : (p : Packet) → IsAccounted t p old → IsAccounted t p new
-    kept_leaf p (inl a) = inl (any_same (WaitsIn t p) old.tasks.items new.tasks.items tasks a)
-    kept_leaf p (inr a) = inr (any_kept (EndsIn t p) old.leaves.items (leaf ∷ []) new.leaves.items leaves a)
+    kept_leaf : (p : Packet) → IsAccounted t known p old → IsAccounted t known p new
+    kept_leaf p (inl a) = inl (any_same (WaitsIn t known p) old.tasks.items new.tasks.items tasks a)
+    kept_leaf p (inr a) = inr (any_kept (EndsUnder t known p) old.leaves.items (leaf ∷ []) new.leaves.items leaves a)
 
-    pub leaf_moves : Moves t policy leaf.area (Over (walked_of t.chains leaf)) old new
+    pub leaf_moves : Moves t known policy (scope_of leaf) (Over (walked_by known t.chains leaf)) old new
     leaf_moves = record {
-      moved = λ p asked stands. inr (any_last (EndsIn t p) old.leaves.items leaf new.leaves.items leaves (record { inside = stands.inside; walked = walk_is t p (walked_of t.chains leaf) stands.reaches }));
+      moved = λ p asked stands. inr (any_last (EndsUnder t known p) old.leaves.items leaf new.leaves.items leaves (record { own = stands.own; walked = walk_is t p (walked_by known t.chains leaf) stands.reaches }));
       fits = λ start p asked fit all. record {
-        tasks = (let Q : List Task → Type 0 = λ ts. All (FitsTask t start p) ts in subst Q (sym tasks) all.tasks);
-        leaves = (let Q : List Leaf → Type 0 = λ ls. All (ShowsWalk t start p) ls in
-            subst Q (sym leaves) (All-push (ShowsWalk t start p) old.leaves.items leaf all.leaves (λ inside. let own = fit inside in (own.0, walk_is t p (walked_of t.chains leaf) own.1))));
+        tasks = (let Q : List Task → Type 0 = λ ts. All (FitsTask t known start p) ts in subst Q (sym tasks) all.tasks);
+        leaves = (let Q : List Leaf → Type 0 = λ ls. All (ShowsUnder t known start p) ls in
+            subst Q (sym leaves) (All-push (ShowsUnder t known start p) old.leaves.items leaf all.leaves (λ of. let own = fit of in (own.0, walk_is t p (walked_by known t.chains leaf) own.1))));
       };
       keeps = record {
         kept = kept_leaf;
@@ -111,21 +118,21 @@ rests_push cs waiting at = ap (map (rest_of cs)) (reverse-append waiting (at ∷
 
 -- ---- stages
 
-module _ (t : Table) (policy : Verdict) (box : List SpanSet) (old new : Front) where
+module _ (t : Table) (known : Known) (policy : Verdict) (scope : Scope) (old new : Front) where
   -- the same stage, written otherwise
-  pub moves_same : (one two : Stage) → one ≡ two → Moves t policy box one old new → Moves t policy box two old new
-  moves_same one two e h = let P : Stage → Type 0 = λ s. Moves t policy box s old new in subst P e h
+  pub moves_same : (one two : Stage) → one ≡ two → Moves t known policy scope one old new → Moves t known policy scope two old new
+  moves_same one two e h = let P : Stage → Type 0 = λ s. Moves t known policy scope s old new in subst P e h
 
   -- a step that every walk takes
-  pub moves_step : (one two : Stage) → ((p : Packet) → StepsTo t.chains (end_verdict t p) p.values one two) → Moves t policy box two old new → Moves t policy box one old new
+  pub moves_step : (one two : Stage) → ((p : Packet) → StepsTo t.chains (end_verdict t p) p.values one two) → Moves t known policy scope two old new → Moves t known policy scope one old new
   moves_step one two s h = record {
-    moved = λ p asked stands. h.moved p asked (record { inside = stands.inside; reaches = reaches_more t p one two stands.reaches (s p) });
-    fits = λ start p asked fit. h.fits start p asked (λ inside. let own = fit inside in (own.0, reaches_more t p one two own.1 (s p)));
+    moved = λ p asked stands. h.moved p asked (record { own = stands.own; reaches = reaches_more t p one two stands.reaches (s p) });
+    fits = λ start p asked fit. h.fits start p asked (λ of. let own = fit of in (own.0, reaches_more t p one two own.1 (s p)));
     keeps = h.keeps;
   }
 
   pub pushed_moves : (rests more : List Pending) (at : Pending) (es : List Entry) → more ≡ rests ++ at ∷ [] → IsThere t.chains at → All (IsThere t.chains) rests
-      → (All (IsThere t.chains) more → Moves t policy box (Under (rests_of t.chains more) es) old new) → Moves t policy box (Under (rest_of t.chains at ∷ rests_of t.chains rests) es) old new
+      → (All (IsThere t.chains) more → Moves t known policy scope (Under (rests_of t.chains more) es) old new) → Moves t known policy scope (Under (rest_of t.chains at ∷ rests_of t.chains rests) es) old new
   pushed_moves rests more at es e there all h =
       let Q : List Pending → Type 0 = λ ps. All (IsThere t.chains) ps in
       let there_now : All (IsThere t.chains) more = subst Q (sym e) (All-push (IsThere t.chains) rests at all there) in
@@ -133,20 +140,20 @@ module _ (t : Table) (policy : Verdict) (box : List SpanSet) (old new : Front) w
 
   -- below another rest
   pub pushed_below : (top : Rest) (rests more : List Pending) (at : Pending) (es : List Entry) → more ≡ rests ++ at ∷ [] → IsThere t.chains at → All (IsThere t.chains) rests
-      → (All (IsThere t.chains) more → Moves t policy box (Under (top ∷ rests_of t.chains more) es) old new) → Moves t policy box (Under (top ∷ rest_of t.chains at ∷ rests_of t.chains rests) es) old new
+      → (All (IsThere t.chains) more → Moves t known policy scope (Under (top ∷ rests_of t.chains more) es) old new) → Moves t known policy scope (Under (top ∷ rest_of t.chains at ∷ rests_of t.chains rests) es) old new
   pushed_below top rests more at es e there all h =
       let Q : List Pending → Type 0 = λ ps. All (IsThere t.chains) ps in
       let there_now : All (IsThere t.chains) more = subst Q (sym e) (All-push (IsThere t.chains) rests at all there) in
       moves_same (Under (top ∷ rests_of t.chains more) es) (Under (top ∷ rest_of t.chains at ∷ rests_of t.chains rests) es) (ap (λ (rs : List Rest). Under (top ∷ rs) es) (ap (rests_of t.chains) e ∙ rests_push t.chains rests at)) (h there_now)
 
   -- by what the target is
-  pub turned : (target to : Option Target) (own : Rest) (waiting : List Rest) (es : List Entry) → target ≡ to → Moves t policy box (on_by (after_match to own waiting) es) old new → Moves t policy box (on_by (after_match target own waiting) es) old new
+  pub turned : (target to : Option Target) (own : Rest) (waiting : List Rest) (es : List Entry) → target ≡ to → Moves t known policy scope (on_by (after_match to own waiting) es) old new → Moves t known policy scope (on_by (after_match target own waiting) es) old new
   turned target to own waiting es e h = moves_same (on_by (after_match to own waiting) es) (on_by (after_match target own waiting) es) (ap (λ (o : Option Target). on_by (after_match o own waiting) es) (sym e)) h
 
   -- a chain that is there
   pub entered : (name bytes : List ℕ) (i : ℕ) (rs : List Rest) (es : List Entry) → Some i ≡ position (is_named bytes) t.chains → bytes ≡ name
-      → (IsThere t.chains (record { chain = i; passed = 0 }) → Moves t policy box (Under (rest_of t.chains (record { chain = i; passed = 0 }) ∷ rs) es) old new)
-      → Moves t policy box (Under (whole name ∷ rs) es) old new
+      → (IsThere t.chains (record { chain = i; passed = 0 }) → Moves t known policy scope (Under (rest_of t.chains (record { chain = i; passed = 0 }) ∷ rs) es) old new)
+      → Moves t known policy scope (Under (whole name ∷ rs) es) old new
   entered name bytes i rs es e same h =
       let placed : IsPlaced t bytes i = placed_at t bytes i (sym e) in
       let named : name_at t.chains i ≡ name = placed.named (empty_chain []) ∙ same in
@@ -161,36 +168,29 @@ module _ (t : Table) (policy : Verdict) (box : List SpanSet) (old new : Front) w
 
   -- and one that isn't
   pub not_entered : (name bytes : List ℕ) (rs : List Rest) (es : List Entry) → None ≡ position (is_named bytes) t.chains → bytes ≡ name
-      → Moves t policy box (Under rs es) old new → Moves t policy box (Under (whole name ∷ rs) es) old new
+      → Moves t known policy scope (Under rs es) old new → Moves t known policy scope (Under (whole name ∷ rs) es) old new
   not_entered name bytes rs es e same h =
       let none : rules_of t.chains name ≡ [] = ap (rules_of t.chains) (sym same) ∙ no_rules t.chains bytes (any_none (is_named bytes) t.chains (sym e)) in
       let ends : next_rule t.chains (whole name) ≡ None = ap (λ (rules : List Rule). slice_get rules 0) none in
       moves_step (Under (whole name ∷ rs) es) (Under rs es) (λ p. inr (inr (inr (ends, refl)))) h
 
-  -- a rule that is put on the trail
-  pub trailed : (more trail : List Step) (at : Pending) (stage : List Entry → Stage) → more ≡ trail ++ record { chain = at.chain; number = at.passed } ∷ [] → Moves t policy box (stage (entries_of t.chains more)) old new
-      → Moves t policy box (stage (entries_of t.chains trail ++ entry_before t.chains at ∷ [])) old new
-  trailed more trail at stage e h =
-      moves_same (stage (entries_of t.chains more)) (stage (entries_of t.chains trail ++ entry_before t.chains at ∷ []))
-      (ap stage (ap (entries_of t.chains) e ∙ map-append (entry_of t.chains) trail (record { chain = at.chain; number = at.passed } ∷ []))) h
-
 -- ---- what is kept
 
-pub keeps_all : (t : Table) (front : Front) → Keeps t front front
-keeps_all t front = record { kept = λ p a. a; there = λ a. a }
+pub keeps_all : (t : Table) (known : Known) (front : Front) → Keeps t known front front
+keeps_all t known front = record { kept = λ p a. a; there = λ a. a }
 
-pub keeps_then : (t : Table) (one two three : Front) → Keeps t one two → Keeps t two three → Keeps t one three
-keeps_then t one two three a b = record { kept = λ p h. b.kept p (a.kept p h); there = λ h. b.there (a.there h) }
+pub keeps_then : (t : Table) (known : Known) (one two three : Front) → Keeps t known one two → Keeps t known two three → Keeps t known one three
+keeps_then t known one two three a b = record { kept = λ p h. b.kept p (a.kept p h); there = λ h. b.there (a.there h) }
 
 -- ---- boxes that go on behind a rule, one after another
 
-pub passed_next : (t : Table) (policy : Verdict) (p : Packet) (boxes left : List (List SpanSet)) (box : List SpanSet) (stage : Stage) (old new : Front) → boxes ≡ left ++ box ∷ [] → IsAsked t policy p → Reaches t p stage
-    → Moves t policy box stage old new → IsInSome boxes p.values ⊎ IsAccounted t p old → IsInSome left p.values ⊎ IsAccounted t p new
-passed_next t policy p boxes left box stage old new e asked reaches h (inr a) = inr (h.keeps.kept p a)
-passed_next t policy p boxes left box stage old new e asked reaches h (inl is) =
-    elim (some_left boxes left box p.values e is) [
-      | inl there ↦ inl there
-      | inr here ↦ inr (h.moved p asked (record { inside = here; reaches = reaches }))
+pub passed_next : (t : Table) (known : Known) (policy : Verdict) (p : Packet) (boxes left : List (List SpanSet)) (scope : Scope) (stage : Stage) (old new : Front) → boxes ≡ left ++ scope.area ∷ [] → IsAsked t policy p → Reaches t p stage
+    → Moves t known policy scope stage old new → IsOfSome known p boxes scope.answers ⊎ IsAccounted t known p old → IsOfSome known p left scope.answers ⊎ IsAccounted t known p new
+passed_next t known policy p boxes left scope stage old new e asked reaches h (inr a) = inr (h.keeps.kept p a)
+passed_next t known policy p boxes left scope stage old new e asked reaches h (inl is) =
+    elim (some_left boxes left scope.area p.values e is.inside) [
+      | inl there ↦ inl (record { inside = there; agrees = is.agrees })
+      | inr here ↦ inr (h.moved p asked (record { own = record { inside = here; agrees = is.agrees }; reaches = reaches }))
     ]
 
 -- a box that is taken out of some was one of them, and the others were, too
@@ -202,18 +202,27 @@ some_before boxes left box numbers e h =
       | inr here ↦ (box, Contains-push left box, here)
     ])
 
+-- the only box
+pub only_one : (box : List SpanSet) (numbers : List ℕ) → IsInSome (box ∷ []) numbers → Has box numbers
+only_one box numbers (other, on, has) =
+    let P : List SpanSet → Type 0 = λ b. Has b numbers in
+    elim (Contains-push_cases [] box other on) [
+      | inl none ↦ absurd (omega (arith, none.1))
+      | inr same ↦ subst P (sym same) has
+    ]
+
 -- ---- the next rule
 
-module _ (t : Table) (sound : IsSound t) (policy : Verdict) (at : Pending) (there : IsThere t.chains at) where
+module _ (t : Table) (known : Known) (sound : IsSound t) (policy : Verdict) (at : Pending) (there : IsThere t.chains at) where
   own_rules : rules_of t.chains (name_at t.chains at.chain) ≡ (chain_at t at.chain).rules
   own_rules = rules_by_name t (chain_at t at.chain) sound (Contains-get_or t.chains at.chain (empty_chain []) there)
 
   -- none is left: the walks come back
-  pub comes_back : (box : List SpanSet) (waiting : List Rest) (es : List Entry) (old new : Front) → length (chain_at t at.chain).rules ≤ at.passed
-      → Moves t policy box (Under waiting es) old new → Moves t policy box (Under (rest_of t.chains at ∷ waiting) es) old new
-  comes_back box waiting es old new le h =
+  pub comes_back : (scope : Scope) (waiting : List Rest) (es : List Entry) (old new : Front) → length (chain_at t at.chain).rules ≤ at.passed
+      → Moves t known policy scope (Under waiting es) old new → Moves t known policy scope (Under (rest_of t.chains at ∷ waiting) es) old new
+  comes_back scope waiting es old new le h =
       let none : next_rule t.chains (rest_of t.chains at) ≡ None = ap (λ (rs : List Rule). slice_get rs at.passed) own_rules ∙ slice_get_past (chain_at t at.chain).rules at.passed le in
-      moves_step t policy box old new (Under (rest_of t.chains at ∷ waiting) es) (Under waiting es) (λ p. inr (inr (inr (none, refl)))) h
+      moves_step t known policy scope old new (Under (rest_of t.chains at ∷ waiting) es) (Under waiting es) (λ p. inr (inr (inr (none, refl)))) h
 
   module _ (rule : Rule) (passed : at.passed < length (chain_at t at.chain).rules) (is : rule ≡ get_or (chain_at t at.chain).rules (at.passed + 1 - 1) rule) (waiting : List Rest) (es : List Entry) where
     next_is : next_rule t.chains (rest_of t.chains at) ≡ Some rule
@@ -231,83 +240,171 @@ module _ (t : Table) (sound : IsSound t) (policy : Verdict) (at : Pending) (ther
     goes_past p un reaches = reaches_more t p here after reaches (inl (rule, next_is, un, refl))
 
     -- it goes past where the rule doesn't match
-    passes : (start box : List SpanSet) (p : Packet) (X : Type 0) → (IsIn box p → Belongs t start p here) → (X → IsIn box p × (matches p.values rule ≡ false)) → X → Belongs t start p after
-    passes start box p X fit rest some =
-        let own = rest some in
-        let belongs = fit own.0 in
+    passes : (start scope : Scope) (p : Packet) (boxes : List (List SpanSet)) → (IsOf known p scope → Belongs t known start p here) → (IsInSome boxes p.values → Has scope.area p.values × (matches p.values rule ≡ false))
+        → IsOfSome known p boxes scope.answers → Belongs t known start p after
+    passes start scope p boxes fit rest some =
+        let own = rest some.inside in
+        let belongs = fit (record { inside = own.0; agrees = some.agrees }) in
         (belongs.0, goes_past p own.1 belongs.1)
 
-    pub apart_moves : (box : List SpanSet) (old new : Front) → IsApart rule box → Moves t policy box after old new → Moves t policy box here old new
-    apart_moves box old new apart h = record {
+    pub apart_moves : (scope : Scope) (old new : Front) → IsApart rule scope.area → Moves t known policy scope after old new → Moves t known policy scope here old new
+    apart_moves scope old new apart h = record {
       moved = λ p asked stands. h.moved p asked (record {
-        inside = stands.inside;
-        reaches = goes_past p (apart.none p.values asked.at_hook.packet.within stands.inside) stands.reaches;
+        own = stands.own;
+        reaches = goes_past p (apart.none p.values asked.at_hook.packet.within stands.own.inside) stands.reaches;
       });
-      fits = λ start p asked fit. h.fits start p asked (λ inside. let own = fit inside in (own.0, goes_past p (apart.none p.values asked.at_hook.packet.within inside) own.1));
+      fits = λ start p asked fit. h.fits start p asked (λ of. let own = fit of in (own.0, goes_past p (apart.none p.values asked.at_hook.packet.within of.inside) own.1));
       keeps = h.keeps;
     }
 
-    pub cut_moves : (box inside : List SpanSet) (outside : List (List SpanSet)) (old mid new : Front) → IsCut rule box inside outside → length es < 65536 → PassesOver t policy outside after old mid
-        → Moves t policy inside (on_by (after_match (target_of rule) (rest_of t.chains (behind at)) waiting) (es ++ entry_before t.chains (behind at) ∷ [])) mid new → Moves t policy box here old new
-    cut_moves box inside outside old mid new cut room over h = record {
+    pub cut_moves : (box inside : List SpanSet) (answers : List Answer) (outside : List (List SpanSet)) (old mid new : Front) → IsCut rule box inside outside → length es < 65536 → PassesOver t known policy outside answers after old mid
+        → Moves t known policy (under inside answers) (on_by (after_match (target_of rule) (rest_of t.chains (behind at)) waiting) (es ++ entry_before t.chains (behind at) ∷ [])) mid new → Moves t known policy (under box answers) here old new
+    cut_moves box inside answers outside old mid new cut room over h = record {
       moved = λ p asked stands.
           elim (cases_Bool (matches p.values rule)) [
             | inl m ↦ h.moved p asked (record {
-              inside = cut.matched p.values asked.at_hook.packet.within stands.inside m;
+              own = record { inside = cut.matched p.values asked.at_hook.packet.within stands.own.inside m; agrees = stands.own.agrees };
               reaches = reaches_more t p here (on_by (after_match (target_of rule) (rest_of t.chains (behind at)) waiting) (es ++ entry_before t.chains (behind at) ∷ [])) stands.reaches (inr (inr (inl (rule, next_is, m, room, refl))));
             })
-            | inr un ↦ h.keeps.kept p (over.passed p asked (cut.others p.values asked.at_hook.packet.within stands.inside un) (goes_past p un stands.reaches))
+            | inr un ↦ h.keeps.kept p (over.passed p asked (record { inside = cut.others p.values asked.at_hook.packet.within stands.own.inside un; agrees = stands.own.agrees }) (goes_past p un stands.reaches))
           ];
       fits = λ start p asked fit all.
           (let point = asked.at_hook.packet.within in
-          h.fits start p asked (λ inside.
-          let own = cut.only p.values point inside in
-          let fits_here = fit own.0 in
+          h.fits start p asked (λ of.
+          let own = cut.only p.values point of.inside in
+          let fits_here = fit (record { inside = own.0; agrees = of.agrees }) in
           (fits_here.0, reaches_more t p here (on_by (after_match (target_of rule) (rest_of t.chains (behind at)) waiting) (es ++ entry_before t.chains (behind at) ∷ [])) fits_here.1 (inr (inr (inl (rule, next_is, own.1, room, refl))))))
-          (over.fits start p asked (passes start box p (IsInSome outside p.values) fit (cut.rest p.values point)) all));
-      keeps = keeps_then t old mid new over.keeps h.keeps;
+          (over.fits start p asked (passes start (under box answers) p outside fit (cut.rest p.values point)) all));
+      keeps = keeps_then t known old mid new over.keeps h.keeps;
     }
 
-    pub parted_moves : (box : List SpanSet) (again outside : List (List SpanSet)) (old mid new : Front) → IsPartedFor rule box again outside → PassesOver t policy outside after old mid → PassesOver t policy again here mid new
-        → Moves t policy box here old new
-    parted_moves box again outside old mid new parted over once = record {
+    pub parted_moves : (box : List SpanSet) (answers : List Answer) (again outside : List (List SpanSet)) (old mid new : Front) → IsPartedFor rule box again outside → PassesOver t known policy outside answers after old mid → PassesOver t known policy again answers here mid new
+        → Moves t known policy (under box answers) here old new
+    parted_moves box answers again outside old mid new parted over once = record {
       moved = λ p asked stands.
           elim (cases_Bool (matches p.values rule)) [
-            | inl m ↦ once.passed p asked (parted.matched p.values asked.at_hook.packet.within stands.inside m) stands.reaches
-            | inr un ↦ elim (parted.others p.values asked.at_hook.packet.within stands.inside un) [
-              | inl here ↦ once.passed p asked here stands.reaches
-              | inr out ↦ once.keeps.kept p (over.passed p asked out (goes_past p un stands.reaches))
+            | inl m ↦ once.passed p asked (record { inside = parted.matched p.values asked.at_hook.packet.within stands.own.inside m; agrees = stands.own.agrees }) stands.reaches
+            | inr un ↦ elim (parted.others p.values asked.at_hook.packet.within stands.own.inside un) [
+              | inl here ↦ once.passed p asked (record { inside = here; agrees = stands.own.agrees }) stands.reaches
+              | inr out ↦ once.keeps.kept p (over.passed p asked (record { inside = out; agrees = stands.own.agrees }) (goes_past p un stands.reaches))
             ]
           ];
       fits = λ start p asked fit all.
           (let point = asked.at_hook.packet.within in
-          once.fits start p asked (λ some. fit (parted.only p.values point some)) (over.fits start p asked (passes start box p (IsInSome outside p.values) fit (parted.rest p.values point)) all));
-      keeps = keeps_then t old mid new over.keeps once.keeps;
+          once.fits start p asked (λ some. fit (record { inside = parted.only p.values point some.inside; agrees = some.agrees }))
+          (over.fits start p asked (passes start (under box answers) p outside fit (parted.rest p.values point)) all));
+      keeps = keeps_then t known old mid new over.keeps once.keeps;
     }
+
+    -- where the rule matches no packet at all, both go on behind it
+    pub handed_moves : (box inside : List SpanSet) (answers : List Answer) (outside : List (List SpanSet)) (old mid new : Front) → ((numbers : List ℕ) → matches numbers rule ≡ false) → IsPartedFor rule box (inside ∷ []) outside
+        → PassesOver t known policy outside answers after old mid → Moves t known policy (under inside answers) after mid new → Moves t known policy (under box answers) here old new
+    handed_moves box inside answers outside old mid new none parted over h = record {
+      moved = λ p asked stands.
+          (let reaches = goes_past p (none p.values) stands.reaches in
+          elim (parted.others p.values asked.at_hook.packet.within stands.own.inside (none p.values)) [
+            | inl here ↦ h.moved p asked (record { own = record { inside = only_one inside p.values here; agrees = stands.own.agrees }; reaches = reaches })
+            | inr out ↦ h.keeps.kept p (over.passed p asked (record { inside = out; agrees = stands.own.agrees }) reaches)
+          ]);
+      fits = λ start p asked fit all.
+          (let point = asked.at_hook.packet.within in
+          h.fits start p asked (λ of.
+          let belongs = fit (record { inside = parted.only p.values point (inside, Contains-push [] inside, of.inside); agrees = of.agrees }) in
+          (belongs.0, goes_past p (none p.values) belongs.1))
+          (over.fits start p asked (passes start (under box answers) p outside fit (parted.rest p.values point)) all));
+      keeps = keeps_then t known old mid new over.keeps h.keeps;
+    }
+
+-- ---- a condition that is answered
+
+module _ (t : Table) (known : Known) (policy : Verdict) (box : List SpanSet) (answers : List Answer) (condition : ℕ) (stage : Stage) where
+  -- the answers, and one more
+  abbrev more : Bool → List Answer
+  more holds = answers ++ record { condition = condition; holds = holds } ∷ []
+
+  fewer : (holds : Bool) (p : Packet) (boxes : List (List SpanSet)) → (IsInSome boxes p.values → Has box p.values) → IsOfSome known p boxes (more holds) → IsOf known p (under box answers)
+  fewer holds p boxes own some = record { inside = own some.inside; agrees = agrees_before known.holds answers (record { condition = condition; holds = holds } ∷ []) some.agrees }
+
+  -- those for which it doesn't hold, and those for which it holds
+  pub parts_by : (boxes : List (List SpanSet)) (old mid new : Front) → ((numbers : List ℕ) → IsPoint numbers → Has box numbers → IsInSome boxes numbers) → ((numbers : List ℕ) → IsPoint numbers → IsInSome boxes numbers → Has box numbers)
+      → PassesOver t known policy boxes (more false) stage old mid → Moves t known policy (under box (more true)) stage mid new → Moves t known policy (under box answers) stage old new
+  parts_by boxes old mid new all only over h = record {
+    moved = λ p asked stands.
+        (let more_agrees : (holds : Bool) → known.holds condition ≡ holds → Agrees known.holds (more holds) = λ holds is. agrees_with_one_more known.holds answers condition holds stands.own.agrees is in
+        elim (cases_Bool (known.holds condition)) [
+          | inl held ↦ h.moved p asked (record { own = record { inside = stands.own.inside; agrees = more_agrees true held }; reaches = stands.reaches })
+          | inr fails ↦ h.keeps.kept p (over.passed p asked (record { inside = all p.values asked.at_hook.packet.within stands.own.inside; agrees = more_agrees false fails }) stands.reaches)
+        ]);
+    fits = λ start p asked fit before.
+        h.fits start p asked (λ of. fit (record { inside = of.inside; agrees = agrees_before known.holds answers (record { condition = condition; holds = true } ∷ []) of.agrees }))
+        (over.fits start p asked (λ some. fit (fewer false p boxes (only p.values asked.at_hook.packet.within) some)) before);
+    keeps = keeps_then t known old mid new over.keeps h.keeps;
+  }
+
+-- ---- answers that aren't right
+
+-- nothing is said of the packets of a scope whose answers aren't right
+pub wrong_moves : (t : Table) (known : Known) (policy : Verdict) (scope other : Scope) (stage next : Stage) (old new : Front) → (Agrees known.holds scope.answers → ⊥) → (Agrees known.holds other.answers → ⊥) → Moves t known policy other next old new → Moves t known policy scope stage old new
+wrong_moves t known policy scope other stage next old new wrong bad h = record {
+  moved = λ p asked stands. absurd (wrong stands.own.agrees);
+  fits = λ start p asked fit. h.fits start p asked (λ of. absurd (bad of.agrees));
+  keeps = h.keeps;
+}
+
+pub wrong_passes : (t : Table) (known : Known) (policy : Verdict) (scope other : Scope) (boxes : List (List SpanSet)) (stage over next : Stage) (old mid new : Front) → (Agrees known.holds scope.answers → ⊥) → (Agrees known.holds other.answers → ⊥)
+    → PassesOver t known policy boxes other.answers over old mid → Moves t known policy other next mid new → Moves t known policy scope stage old new
+wrong_passes t known policy scope other boxes stage over next old mid new wrong bad passes h = record {
+  moved = λ p asked stands. absurd (wrong stands.own.agrees);
+  fits = λ start p asked fit before. h.fits start p asked (λ of. absurd (bad of.agrees)) (passes.fits start p asked (λ some. absurd (bad some.agrees)) before);
+  keeps = keeps_then t known old mid new passes.keeps h.keeps;
+}
+
+-- ---- parts of a box for a rule that matches nothing
+
+-- what a rule matches of a box, and the others, are parts for any rule that matches no more
+pub cut_parts : (rule : Rule) (box inside : List SpanSet) (outside : List (List SpanSet)) → IsCut rule box inside outside → IsPartedFor rule box (inside ∷ []) outside
+cut_parts rule box inside outside cut = record {
+  matched = λ numbers point has m. (inside, Contains-push [] inside, cut.matched numbers point has m);
+  others = λ numbers point has un. inr (cut.others numbers point has un);
+  only = λ numbers point some. (cut.only numbers point (only_one inside numbers some)).0;
+  rest = cut.rest;
+}
+
+pub never_parts : (rule : Rule) (box : List SpanSet) (again outside : List (List SpanSet)) → IsPartedFor rule box again outside → IsPartedFor never box again outside
+never_parts rule box again outside parted = record {
+  matched = λ numbers point has m. absurd (true≢false (sym m ∙ never_matches numbers));
+  others = λ numbers point has un. by_rule numbers point has (cases_Bool (matches numbers rule));
+  only = parted.only;
+  rest = λ numbers point some. ((parted.rest numbers point some).0, never_matches numbers);
+}
+  where
+    by_rule : (numbers : List ℕ) → IsPoint numbers → Has box numbers → (matches numbers rule ≡ true) ⊎ (matches numbers rule ≡ false) → IsInSome again numbers ⊎ IsInSome outside numbers
+    by_rule numbers point has (inl m) = inl (parted.matched numbers point has m)
+    by_rule numbers point has (inr un) = parted.others numbers point has un
 
 -- ---- the end of all chains, and of the trail
 
-module _ (t : Table) (policy : Verdict) (box : List SpanSet) (old new : Front) where
-  pub ended : (es : List Entry) → Moves t policy box (Over (record { trail = es; verdict = policy; by_policy = true })) old new → Moves t policy box (Under [] es) old new
+module _ (t : Table) (known : Known) (policy : Verdict) (scope : Scope) (old new : Front) where
+  pub ended : (es : List Entry) → Moves t known policy scope (Over (record { trail = es; verdict = policy; by_policy = true })) old new → Moves t known policy scope (Under [] es) old new
   ended es h =
       let over : Verdict → Stage = λ v. Over (record { trail = es; verdict = v; by_policy = true }) in
       record {
         moved = λ p asked stands. h.moved p asked (record {
-          inside = stands.inside;
+          own = stands.own;
           reaches = reaches_more t p (Under [] es) (over policy) stands.reaches (sym (ap over asked.ends));
         });
-        fits = λ start p asked fit. h.fits start p asked (λ inside. let own = fit inside in (own.0, reaches_more t p (Under [] es) (over policy) own.1 (sym (ap over asked.ends))));
+        fits = λ start p asked fit. h.fits start p asked (λ of. let own = fit of in (own.0, reaches_more t p (Under [] es) (over policy) own.1 (sym (ap over asked.ends))));
         keeps = h.keeps;
       }
 
   -- the newest rest
-  pub at_rest : (rests left : List Pending) (at : Pending) (es : List Entry) → rests ≡ left ++ at ∷ [] → Moves t policy box (Under (rest_of t.chains at ∷ rests_of t.chains left) es) old new → Moves t policy box (Under (rests_of t.chains rests) es) old new
+  pub at_rest : (rests left : List Pending) (at : Pending) (es : List Entry) → rests ≡ left ++ at ∷ [] → Moves t known policy scope (Under (rest_of t.chains at ∷ rests_of t.chains left) es) old new → Moves t known policy scope (Under (rests_of t.chains rests) es) old new
   at_rest rests left at es e h =
-      moves_same t policy box old new (Under (rest_of t.chains at ∷ rests_of t.chains left) es) (Under (rests_of t.chains rests) es) (ap (λ (rs : List Rest). Under rs es) (sym (ap (rests_of t.chains) e ∙ rests_push t.chains left at))) h
+      moves_same t known policy scope old new (Under (rest_of t.chains at ∷ rests_of t.chains left) es) (Under (rests_of t.chains rests) es) (ap (λ (rs : List Rest). Under rs es) (sym (ap (rests_of t.chains) e ∙ rests_push t.chains left at))) h
 
   -- none
-  pub at_no_rest : (rests : List Pending) (es : List Entry) → rests ≡ [] → Moves t policy box (Under [] es) old new → Moves t policy box (Under (rests_of t.chains rests) es) old new
-  at_no_rest rests es e h = moves_same t policy box old new (Under [] es) (Under (rests_of t.chains rests) es) (ap (λ (ps : List Pending). Under (rests_of t.chains ps) es) (sym e)) h
+  pub at_no_rest : (rests : List Pending) (es : List Entry) → rests ≡ [] → Moves t known policy scope (Under [] es) old new → Moves t known policy scope (Under (rests_of t.chains rests) es) old new
+  at_no_rest rests es e h = moves_same t known policy scope old new (Under [] es) (Under (rests_of t.chains rests) es) (ap (λ (ps : List Pending). Under (rests_of t.chains ps) es) (sym e)) h
 
 -- ---- the first rule of a hook's chain
 
@@ -319,9 +416,9 @@ named_first (a ∷ b ∷ c ∷ cs) Input e = (ap (λ (ns : List (List ℕ)). get
 named_first (a ∷ b ∷ c ∷ cs) Forward e = (ap (λ (ns : List (List ℕ)). get_or ns 1 []) e, omega arith)
 named_first (a ∷ b ∷ c ∷ cs) Output e = (ap (λ (ns : List (List ℕ)). get_or ns 2 []) e, omega arith)
 
-pub begun : (t : Table) (hook : Hook) (box : List SpanSet) (rests empty : List Pending) (trail : List Step) (k : ℕ) (old new : Front) → IsSound t → k ≡ hook_index hook → rests ≡ empty ++ record { chain = k; passed = 0 } ∷ [] → empty ≡ [] → trail ≡ [] → old.tasks.items ≡ [] → old.leaves.items ≡ []
-    → ((policy : Verdict) → All (IsThere t.chains) rests → Moves t policy box (Under (rests_of t.chains rests) (entries_of t.chains trail)) old new) → Begins t hook box new
-begun t hook box rests empty trail k old new sound at is none bare no_task no_leaf h =
+pub begun : (t : Table) (known : Known) (hook : Hook) (scope : Scope) (rests empty : List Pending) (trail : List Step) (k : ℕ) (old new : Front) → IsSound t → k ≡ hook_index hook → rests ≡ empty ++ record { chain = k; passed = 0 } ∷ [] → empty ≡ [] → trail ≡ [] → old.tasks.items ≡ [] → old.leaves.items ≡ []
+    → ((policy : Verdict) → All (IsThere t.chains) rests → Moves t known policy scope (Under (rests_of t.chains rests) (entries_by known t.chains trail)) old new) → Begins t known hook scope new
+begun t known hook scope rests empty trail k old new sound at is none bare no_task no_leaf h =
     let first : ℕ → Pending = λ j. record { chain = j; passed = 0 } in
     let named = named_first t.chains hook sound.listed.built_in in
     let one : rests ≡ first (hook_index hook) ∷ [] = is ∙ ap (λ (ps : List Pending). ps ++ first k ∷ []) none ∙ ap (λ j. first j ∷ []) at in
@@ -329,65 +426,65 @@ begun t hook box rests empty trail k old new sound at is none bare no_task no_le
     let Q : List Task → Type 0 = λ ts. All (AreThere t.chains) ts in
     let there : All (IsThere t.chains) rests = subst P (sym one) (All-cons (IsThere t.chains) (first (hook_index hook)) [] named.1 (All-nil (IsThere t.chains))) in
     let rest : List ℕ → Rest = λ n. record { chain = n; passed = 0 } in
-    let stage : (p : Packet) → p.hook ≡ hook → Under (whole (hook_name p.hook) ∷ []) [] ≡ Under (rests_of t.chains rests) (entries_of t.chains trail) =
+    let stage : (p : Packet) → p.hook ≡ hook → Under (whole (hook_name p.hook) ∷ []) [] ≡ Under (rests_of t.chains rests) (entries_by known t.chains trail) =
     λ p e. ap (λ g. Under (rest (hook_name g) ∷ []) []) e
     ∙ ap (λ n. Under (rest n ∷ []) []) (sym named.0)
     ∙ ap (λ (ps : List Pending). Under (rests_of t.chains ps) []) (sym one)
-    ∙ ap (λ (ss : List Step). Under (rests_of t.chains rests) (entries_of t.chains ss)) (sym bare) in
+    ∙ ap (λ (ss : List Step). Under (rests_of t.chains rests) (entries_by known t.chains ss)) (sym bare) in
     record {
-      all = λ p can e inside. (h (end_verdict t p) there).moved p (record { at_hook = can; ends = refl }) (record { inside = inside; reaches = (0, stage p e) });
+      all = λ p can e own. (h (end_verdict t p) there).moved p (record { at_hook = can; ends = refl }) (record { own = own; reaches = (0, stage p e) });
       fits = λ p can e.
-          (let T : List Task → Type 0 = λ ts. All (FitsTask t box p) ts in
-          let L : List Leaf → Type 0 = λ ls. All (ShowsWalk t box p) ls in
-          (h (end_verdict t p) there).fits box p (record { at_hook = can; ends = refl }) (λ inside. (inside, (0, stage p e)))
-          (record { tasks = subst T (sym no_task) (All-nil (FitsTask t box p)); leaves = subst L (sym no_leaf) (All-nil (ShowsWalk t box p)) }));
+          (let T : List Task → Type 0 = λ ts. All (FitsTask t known scope p) ts in
+          let L : List Leaf → Type 0 = λ ls. All (ShowsUnder t known scope p) ls in
+          (h (end_verdict t p) there).fits scope p (record { at_hook = can; ends = refl }) (λ own. (own, (0, stage p e)))
+          (record { tasks = subst T (sym no_task) (All-nil (FitsTask t known scope p)); leaves = subst L (sym no_leaf) (All-nil (ShowsUnder t known scope p)) }));
       there = (h Accept there).keeps.there (subst Q (sym no_task) (All-nil (AreThere t.chains)));
     }
 
 -- one step of the loop
-pub begun_next : (t : Table) (hook : Hook) (box : List SpanSet) (old new : Front) → Begins t hook box old → IsStep t hook box old new → Begins t hook box new
-begun_next t hook box old new begins (policy, task, left, up, (next, further, moves)) = record {
-  all = λ p can e inside. by_case p can e inside (begins.all p can e inside);
+pub begun_next : (t : Table) (known : Known) (hook : Hook) (scope : Scope) (old new : Front) → Begins t known hook scope old → IsStep t known hook scope old new → Begins t known hook scope new
+begun_next t known hook scope old new begins (policy, task, left, up, (next, further, moves)) = record {
+  all = λ p can e own. by_case p can e own (begins.all p can e own);
   fits = λ p can e.
       (let before = begins.fits p can e in
-      let split = All-pop (FitsTask t box p) old.tasks.items left.tasks.items (Some task) up.tasks before.tasks in
-      let L : List Leaf → Type 0 = λ ls. All (ShowsWalk t box p) ls in
-      let B : List SpanSet → Type 0 = λ b. IsIn b p in
-      moves.fits box p (record { at_hook = can; ends = up.ends p e })
+      let split = All-pop (FitsTask t known scope p) old.tasks.items left.tasks.items (Some task) up.tasks before.tasks in
+      let L : List Leaf → Type 0 = λ ls. All (ShowsUnder t known scope p) ls in
+      let B : Scope → Type 0 = λ b. IsOf known p b in
+      moves.fits scope p (record { at_hook = can; ends = up.ends p e })
       (λ own.
-      let there = subst B further.area own in
+      let there = subst B further.same own in
       let belongs = split.1 there in
-      (belongs.0, (further.waits p can belongs.0 (record { inside = there; reaches = belongs.1 })).reaches))
+      (belongs.0, (further.waits p can belongs.0 (record { own = there; reaches = belongs.1 })).reaches))
       (record { tasks = split.0; leaves = subst L (sym up.leaves) before.leaves }));
   there = moves.keeps.there (All-pop (AreThere t.chains) old.tasks.items left.tasks.items (Some task) up.tasks begins.there).0;
 }
   where
-    by_case : (p : Packet) → IsAtHook p → p.hook ≡ hook → IsIn box p → IsAccounted t p old → IsAccounted t p new
-    by_case p can e inside (inr a) = moves.keeps.kept p (inr (any_same (EndsIn t p) old.leaves.items left.leaves.items up.leaves a))
-    by_case p can e inside (inl a) =
+    by_case : (p : Packet) → IsAtHook p → p.hook ≡ hook → IsOf known p scope → IsAccounted t known p old → IsAccounted t known p new
+    by_case p can e own (inr a) = moves.keeps.kept p (inr (any_same (EndsUnder t known p) old.leaves.items left.leaves.items up.leaves a))
+    by_case p can e own (inl a) =
         let R : List Task → Type 0 = λ ts. Contains ts a.1 in
-        let S : Task → Type 0 = λ x. WaitsIn t p x in
+        let S : Task → Type 0 = λ x. WaitsIn t known p x in
         elim (Contains-push_cases left.tasks.items task a.1 (subst R up.tasks (a.0, a.2, a.3))) [
           | inl c ↦ moves.keeps.kept p (inl (c.0, a.1, c.1, c.2, a.4))
-          | inr is ↦ moves.moved p (record { at_hook = can; ends = up.ends p e }) (further.waits p can inside (subst S (sym is) a.4))
+          | inr is ↦ moves.moved p (record { at_hook = can; ends = up.ends p e }) (further.waits p can own (subst S (sym is) a.4))
         ]
 
 -- no task is left
-pub all_leaves : (t : Table) (hook : Hook) (box : List SpanSet) (front : Front) → Begins t hook box front → length front.tasks.items ≡ 0 → AreLeavesOf t hook box front.leaves.items
-all_leaves t hook box front begins none = λ p can e inside.
-    elim (begins.all p can e inside) [
+pub all_leaves : (t : Table) (known : Known) (hook : Hook) (scope : Scope) (front : Front) → Begins t known hook scope front → length front.tasks.items ≡ 0 → AreLeavesUnder t known hook scope front.leaves.items
+all_leaves t known hook scope front begins none = λ p can e own.
+    elim (begins.all p can e own) [
       | inl a ↦ absurd (omega (arith, none, a.2))
       | inr a ↦ a
     ]
 
 -- and these are exact
-pub all_exact : (t : Table) (hook : Hook) (box : List SpanSet) (front : Front) → Begins t hook box front → AreExactOn t hook box front.leaves.items
-all_exact t hook box front begins = λ p can e. (begins.fits p can e).leaves
+pub all_exact : (t : Table) (known : Known) (hook : Hook) (scope : Scope) (front : Front) → Begins t known hook scope front → AreExactUnder t known hook scope front.leaves.items
+all_exact t known hook scope front begins = λ p can e. (begins.fits p can e).leaves
 
 -- ---- steps
 
 -- one step more
-pub gets_on : (t : Table) (hook : Hook) (box : List SpanSet) (n : ℕ) (old new : Front) → GetsTo t hook box n old → IsStep t hook box old new → GetsTo t hook box (n + 1) new
-gets_on t hook box n old new gets step =
-    let P : ℕ → Type 0 = λ k. AreSteps k t hook box gets.first new in
+pub gets_on : (t : Table) (known : Known) (hook : Hook) (scope : Scope) (n : ℕ) (old new : Front) → GetsTo t known hook scope n old → IsStep t known hook scope old new → GetsTo t known hook scope (n + 1) new
+gets_on t known hook scope n old new gets step =
+    let P : ℕ → Type 0 = λ k. AreSteps k t known hook scope gets.first new in
     record { first = gets.first; begins = gets.begins; takes = subst P (sym (add-one n)) (old, gets.takes, step) }

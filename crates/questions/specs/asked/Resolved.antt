@@ -6,7 +6,7 @@ use Rattle.table.specs.chains.Sound.{IsSound}
 use Rattle.table.specs.chains.Table.{Chain, Table, chain_at}
 use Rattle.questions.specs.Foreign.{Agrees, AreConsistent, AreWithoutNeeds, Assignment, IsUnanswered, never, resolved, resolved_rule}
 use Rattle.questions.specs.declared.foreign.need.Need.{Need}
-use Rattle.questions.specs.declared.foreign.need.Answer.{Answer}
+use Rattle.questions.specs.declared.foreign.answers.Answer.{Answer}
 
 -- what is left of a table is a table like any other
 abbrev pub ResolvedIsSound : Type 0

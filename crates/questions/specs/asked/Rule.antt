@@ -27,11 +27,11 @@ IsLiveAt t entry hook words = (p : Packet) × (packet_of words ≡ Ok p) × (p.h
 -- what an answer says of a rule, for the packets at one hook; an unclear one says nothing
 abbrev pub SaysAt : Table → Entry → Hook → Life → Type 0
 SaysAt t entry hook Dead = IsDeadAt t entry hook
-SaysAt t entry hook (Live words) = IsLiveAt t entry hook words
+SaysAt t entry hook (Live words answers) = IsLiveAt t entry hook words
 SaysAt t entry hook Unclear = Unit {0}
 
 -- what an answer says of a rule; an unclear one says nothing
 abbrev pub Says : Table → Entry → Life → Type 0
 Says t entry Dead = IsDead t entry
-Says t entry (Live words) = IsLive t entry words
+Says t entry (Live words answers) = IsLive t entry words
 Says t entry Unclear = Unit {0}

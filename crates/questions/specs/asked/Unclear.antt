@@ -1,5 +1,5 @@
 -- Where alone an answer may be unclear, given a budget of steps.
-use Rattle.std.specs.Prelude.{◌≡◌, ◌≢◌, ◌⊎◌, ℕ, ◌*◌, ◌/◌, ◌<◌, ◌≤◌, Bool, IsTrue, List, length, All, Any}
+use Rattle.std.specs.Prelude.{◌≡◌, ◌≢◌, ◌⊎◌, ℕ, ◌*◌, ◌/◌, ◌<◌, ◌≤◌, Bool, IsTrue, List, [], length, All, Any}
 use Rattle.fields.specs.declared.packet.hook.Hook.{Hook}
 use Rattle.fields.specs.numbers.Spans.{SpanSet}
 use Rattle.fields.specs.packet.Packet.{PacketView as Packet}
@@ -10,52 +10,72 @@ use Rattle.table.specs.declared.walk.trail.Step.{Step}
 use Rattle.table.specs.walk.Walk.{Entry, end_verdict, walk}
 use Rattle.questions.specs.Ends.{IsRule}
 use Rattle.questions.specs.Leaves.{AreLeavesOf, entry_of}
+use Rattle.questions.specs.Scopes.{Known, needless, unasked}
 use Rattle.questions.specs.Written.{HasNoneWritten, IsSampleOf}
 use Rattle.questions.specs.asked.Changes.{ShareOthers}
 use Rattle.questions.specs.asked.Rule.{IsDeadAt}
 use Rattle.questions.specs.asked.Verdicts.{IsSameAt}
 use Rattle.questions.specs.boxes.Area.{IsAtHook, IsBoth, IsIn}
 use Rattle.questions.specs.boxes.Boxes.{rules_in}
+use Rattle.questions.specs.declared.foreign.answers.Answer.{Answer}
 use Rattle.questions.specs.declared.asked.reach.Given.{Given}
 use Rattle.questions.specs.declared.asked.rule.Life.{Life}
 use Rattle.questions.specs.declared.asked.rule.Life.TheVariants as life
 use Rattle.questions.specs.declared.asked.verdicts.Likeness.{Likeness}
 use Rattle.questions.specs.declared.asked.verdicts.Likeness.TheVariants as likeness
 use Rattle.questions.specs.declared.walking.front.Front.{Front}
+use Rattle.questions.specs.declared.walking.scope.Scope.{Scope}
 use Rattle.questions.specs.declared.walking.task.Leaf.{Leaf}
 use Rattle.questions.specs.steps.Searched.{HasCome, SearchesTo}
-use Rattle.questions.specs.steps.Taken.{IsFull, IsUnfinished}
+use Rattle.questions.specs.steps.Taken.{IsFull, IsUnfinished, IsUnfinishedUnder}
 use Rattle.questions.specs.steps.Takers.{IsBoxAt}
 
--- no packet line writes a packet of the box, or some line writes one whose walk is too long
-abbrev pub IsUnseen : Table → Hook → List SpanSet → Type 0
-IsUnseen t hook box = HasNoneWritten hook box ⊎ ((words : List (List ℕ)) × (p : Packet) × IsSampleOf hook box words p × ((walk t p).verdict ≡ TooLong))
+-- the walks of a box that has the packet aren't finished within the budget, under some answers
+abbrev pub IsUnended : Table → Known → Hook → ℕ → List Answer → Packet → Type 0
+IsUnended t known hook budget answers p = (own : Scope) × IsIn own.area p × (own.answers ≡ answers) × IsUnfinishedUnder t known hook own budget
+
+-- a packet's walk is too long, or isn't known to end where rules need something
+abbrev pub MayBeTooLong : Table → Known → Hook → ℕ → List Answer → Packet → Type 0
+MayBeTooLong t known hook budget answers p = ((walk t p).verdict ≡ TooLong) ⊎ ((known.needs ≢ []) × IsUnended t known hook budget answers p)
+
+-- no packet line writes a packet of the scope's box, or some line writes one whose walk may be too long
+abbrev pub IsUnseen : Table → Known → Hook → ℕ → Scope → Type 0
+IsUnseen t known hook budget scope =
+    HasNoneWritten hook scope.area
+    ⊎ ((words : List (List ℕ)) × (p : Packet) × IsSampleOf hook scope.area words p × MayBeTooLong t known hook budget scope.answers p)
 
 -- so many steps use the budget up: they are as many, or looked at 50 times as many rules, of which a step sees each once at most
 abbrev pub IsUsedUp : Table → ℕ → ℕ → Type 0
 IsUsedUp t n budget = (n ≡ budget) ⊎ (budget ≤ n * rules_in t.chains / 50)
 
--- the packets that the rule's box has at the hook are searched, and each box that came to the rule has no packet that a line writes, or one whose
--- walk is too long: the budget is used up with a task left, a trail is full, or the search is at its end and some box came to the rule, or a leaf
--- has it on its trail
-abbrev pub MayLive : Table → Step → Hook → ℕ → Type 0
-MayLive t step hook budget =
-    (given : Given) × IsBoxAt t step hook given × (n : ℕ) × (front : Front) × (came : List (List SpanSet))
-    × SearchesTo t hook step given.area n front came × All (IsUnseen t hook) came
+-- the packets that the rule's box has at the hook are searched in the table that is left, and each scope that came to the rule has no packet that a line writes, or one whose
+-- walk may be too long: the budget is used up with a task left, a trail is full, or the search is at its end and some scope came to the rule, or a
+-- leaf has it on its trail
+abbrev pub MayLiveUnder : Table → Table → Known → Step → Hook → ℕ → Type 0
+MayLiveUnder own t known step hook budget =
+    (given : Given) × IsBoxAt own step hook given × (n : ℕ) × (front : Front) × (came : List Scope)
+    × SearchesTo t known hook step (unasked given.area) n front came × All (IsUnseen t known hook budget) came
     × ((IsUsedUp t n budget × (0 < length front.tasks.items)) ⊎ (((n < budget) × IsFull front) ⊎ ((n ≤ budget) × HasCome step front came)))
 
--- an answer about a rule at one hook is unclear only where `MayLive` holds
-abbrev pub IsUnclearAt : Table → Step → Hook → ℕ → Life → Type 0
-IsUnclearAt t step hook budget life.Dead = Unit {0}
-IsUnclearAt t step hook budget (life.Live words) = Unit {0}
-IsUnclearAt t step hook budget life.Unclear = MayLive t step hook budget
+-- the same where no rule needs anything
+abbrev pub MayLive : Table → Step → Hook → ℕ → Type 0
+MayLive t step hook budget = MayLiveUnder t t needless step hook budget
+
+-- an answer about a rule at one hook is unclear only where this fact holds
+abbrev pub IsUnclearAt : Type 0 → Life → Type 0
+IsUnclearAt may life.Dead = Unit {0}
+IsUnclearAt may (life.Live words answers) = Unit {0}
+IsUnclearAt may life.Unclear = may
+
+-- an answer about a rule is unclear only where one of two facts holds at each hook, and the second one at one hook at least
+abbrev pub IsUnclearBy : (Hook → Type 0) → (Hook → Type 0) → Life → Type 0
+IsUnclearBy dead may life.Dead = Unit {0}
+IsUnclearBy dead may (life.Live words answers) = Unit {0}
+IsUnclearBy dead may life.Unclear = ((hook : Hook) → dead hook ⊎ may hook) × ((hook : Hook) × may hook)
 
 -- an answer about a rule is unclear only where `MayLive` holds at each hook at which the rule isn't dead, and at one hook at least
 abbrev pub IsUnclear : Table → Step → ℕ → Life → Type 0
-IsUnclear t step budget life.Dead = Unit {0}
-IsUnclear t step budget (life.Live words) = Unit {0}
-IsUnclear t step budget life.Unclear =
-    ((hook : Hook) → IsDeadAt t (entry_of t.chains step) hook ⊎ MayLive t step hook budget) × ((hook : Hook) × MayLive t step hook budget)
+IsUnclear t step budget life = IsUnclearBy (IsDeadAt t (entry_of t.chains step)) (λ hook. MayLive t step hook budget) life
 
 -- if the leaf has another verdict, no packet line writes a packet of its box
 abbrev pub IsUnwritten : Hook → Verdict → Leaf → Type 0

@@ -2,7 +2,7 @@
 use Rattle.std.specs.Prelude.{◌≡◌, ◌⊎◌, ℕ, List, All, Any, IsTrue, IsFalse}
 use Rattle.questions.specs.Foreign.{Agrees, Assignment, IsUnanswered, all_hold, need_holds}
 use Rattle.questions.specs.declared.foreign.need.Need.{Need}
-use Rattle.questions.specs.declared.foreign.need.Answer.{Answer}
+use Rattle.questions.specs.declared.foreign.answers.Answer.{Answer}
 use Rattle.questions.specs.declared.foreign.need.Standing.{Standing}
 use Rattle.questions.specs.declared.foreign.need.Standing.TheVariants.{Holds, Fails, Open}
 
@@ -21,3 +21,12 @@ abbrev pub IsStanding : List Need → List Answer → Standing → Type 0
 IsStanding needs answers Holds = (a : Assignment) → Agrees a answers → IsTrue (all_hold a needs)
 IsStanding needs answers Fails = (a : Assignment) → Agrees a answers → IsFalse (all_hold a needs)
 IsStanding needs answers (Open condition) = IsOpen needs answers condition
+
+-- no assignment that gives the answers meets all needs
+abbrev pub MeetsNever : List Need → List Answer → Type 0
+MeetsNever needs answers = (a : Assignment) → Agrees a answers → IsFalse (all_hold a needs)
+
+-- an assignment gives these answers just if it gives the others and meets all needs
+pub record IsMeeting (needs : List Need) (answers more : List Answer) : Type 0 where
+  pub all : (a : Assignment) → Agrees a answers → IsTrue (all_hold a needs) → Agrees a more
+  pub own : (a : Assignment) → Agrees a more → Agrees a answers × IsTrue (all_hold a needs)

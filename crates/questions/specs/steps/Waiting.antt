@@ -5,14 +5,18 @@ use Rattle.fields.specs.numbers.Spans.{SpanSet}
 use Rattle.fields.specs.packet.Hook.{name as hook_name}
 use Rattle.fields.specs.packet.Packet.{PacketView as Packet}
 use Rattle.rules.specs.rule.Rules.{Rule, empty_rule}
-use Rattle.table.specs.chains.Table.{Chain, Table, chain_at}
+use Rattle.table.specs.chains.Table.{Chain, Table, chain_at, names_of}
 use Rattle.table.specs.declared.verdict.Verdict.{Verdict}
 use Rattle.table.specs.walk.Cases.{Stage, Under, GoesTo}
 use Rattle.table.specs.walk.Walk.{Rest, Entry, end_verdict, whole}
-use Rattle.questions.specs.boxes.Area.{IsAtHook, IsIn}
+use Rattle.questions.specs.boxes.Area.{IsAtHook}
 use Rattle.questions.specs.boxes.Cut.{IsInSome}
-use Rattle.questions.specs.Leaves.{name_at, entries_of, EndsIn, ShowsWalk}
+use Rattle.questions.specs.Foreign.{Agrees}
+use Rattle.questions.specs.declared.foreign.answers.Answer.{Answer}
+use Rattle.questions.specs.Leaves.{name_at}
+use Rattle.questions.specs.Scopes.{EndsUnder, IsOf, Known, ShowsUnder, entries_by}
 use Rattle.questions.specs.declared.walking.task.Pending.{Pending}
+use Rattle.questions.specs.declared.walking.scope.Scope.{Scope}
 use Rattle.questions.specs.declared.walking.task.Task.{Task}
 use Rattle.questions.specs.declared.walking.front.Front.{Front}
 
@@ -37,35 +41,43 @@ abbrev pub Reaches : Table → Packet → Stage → Type 0
 Reaches t p stage =
     (n : ℕ) × GoesTo n t.chains (end_verdict t p) p.values (Under (whole (hook_name p.hook) ∷ []) []) stage
 
--- the packet is one of the box, and its walk gets to a stage
-pub record Stands (t : Table) (p : Packet) (box : List SpanSet) (stage : Stage) : Type 0 where
-  pub inside : IsIn box p
+-- the packet is one of the scope, and its walk gets to a stage
+pub record Stands (t : Table) (known : Known) (p : Packet) (scope : Scope) (stage : Stage) : Type 0 where
+  pub own : IsOf known p scope
   pub reaches : Reaches t p stage
 
 -- where the walks of a task are
-abbrev pub stage_of : List Chain → Task → Stage
-stage_of chains task = Under (rests_of chains task.rests.items) (entries_of chains task.trail.items)
+abbrev pub stage_of : Known → List Chain → Task → Stage
+stage_of known chains task = Under (rests_of chains task.rests.items) (entries_by known chains task.trail.items)
+
+-- where they are with what is left of one more chain
+abbrev pub stage_at : Known → List Chain → Pending → Task → Stage
+stage_at known chains at task = Under (rest_of chains at ∷ rests_of chains task.rests.items) (entries_by known chains task.trail.items)
 
 -- the packet is in a task
-abbrev pub WaitsIn : Table → Packet → Task → Type 0
-WaitsIn t p task = Stands t p task.area (stage_of t.chains task)
+abbrev pub WaitsIn : Table → Known → Packet → Task → Type 0
+WaitsIn t known p task = Stands t known p task.scope (stage_of known t.chains task)
 
 -- the packet is in a task, with its walk at the task's stage, or in a leaf, with the leaf's walk
-abbrev pub IsAccounted : Table → Packet → Front → Type 0
-IsAccounted t p front = Any (WaitsIn t p) front.tasks.items ⊎ Any (EndsIn t p) front.leaves.items
+abbrev pub IsAccounted : Table → Known → Packet → Front → Type 0
+IsAccounted t known p front = Any (WaitsIn t known p) front.tasks.items ⊎ Any (EndsUnder t known p) front.leaves.items
 
--- the packet is in the box from which all others come, and its walk gets to a stage
-abbrev pub Belongs : Table → List SpanSet → Packet → Stage → Type 0
-Belongs t start p stage = IsIn start p × Reaches t p stage
+-- the packet is one of the scope from which all others come, and its walk gets to a stage
+abbrev pub Belongs : Table → Known → Scope → Packet → Stage → Type 0
+Belongs t known start p stage = IsOf known p start × Reaches t p stage
 
--- if it is in a task's box, it fits the task's stage
-abbrev pub FitsTask : Table → List SpanSet → Packet → Task → Type 0
-FitsTask t start p task = IsIn task.area p → Belongs t start p (stage_of t.chains task)
+-- if it is one of a task's scope, it fits the task's stage
+abbrev pub FitsTask : Table → Known → Scope → Packet → Task → Type 0
+FitsTask t known start p task = IsOf known p task.scope → Belongs t known start p (stage_of known t.chains task)
 
--- the packet is only in boxes of tasks whose stages it fits, and of leaves that show its walk
-pub record IsFitting (t : Table) (start : List SpanSet) (p : Packet) (front : Front) : Type 0 where
-  pub tasks : All (FitsTask t start p) front.tasks.items
-  pub leaves : All (ShowsWalk t start p) front.leaves.items
+-- the packet is only in scopes of tasks whose stages it fits, and of leaves that show its walk
+pub record IsFitting (t : Table) (known : Known) (start : Scope) (p : Packet) (front : Front) : Type 0 where
+  pub tasks : All (FitsTask t known start p) front.tasks.items
+  pub leaves : All (ShowsUnder t known start p) front.leaves.items
+
+-- the chains of two tables have the same names
+abbrev pub AreNamedAlike : Table → Table → Type 0
+AreNamedAlike t other = names_of t.chains ≡ names_of other.chains
 
 -- the chain is there
 abbrev pub IsThere : List Chain → Pending → Type 0
@@ -85,29 +97,34 @@ pub record IsAsked (t : Table) (policy : Verdict) (p : Packet) : Type 0 where
   pub ends : end_verdict t p ≡ policy
 
 -- each packet that was accounted for still is
-pub record Keeps (t : Table) (old new : Front) : Type 0 where
-  pub kept : (p : Packet) → IsAccounted t p old → IsAccounted t p new
+pub record Keeps (t : Table) (known : Known) (old new : Front) : Type 0 where
+  pub kept : (p : Packet) → IsAccounted t known p old → IsAccounted t known p new
   pub there : AllThere t.chains old → AllThere t.chains new
 
--- each packet of the box whose walk gets to the stage is accounted for, and so is each that was before; and a packet that was only in boxes
+-- each packet of the scope whose walk gets to the stage is accounted for, and so is each that was before; and a packet that was only in scopes
 -- that fit it still is
-pub record Moves (t : Table) (policy : Verdict) (box : List SpanSet) (stage : Stage) (old new : Front) : Type 0 where
-  pub moved : (p : Packet) → IsAsked t policy p → Stands t p box stage → IsAccounted t p new
-  pub fits : (start : List SpanSet) (p : Packet) → IsAsked t policy p → (IsIn box p → Belongs t start p stage) → IsFitting t start p old → IsFitting t start p new
-  pub keeps : Keeps t old new
+pub record Moves (t : Table) (known : Known) (policy : Verdict) (scope : Scope) (stage : Stage) (old new : Front) : Type 0 where
+  pub moved : (p : Packet) → IsAsked t policy p → Stands t known p scope stage → IsAccounted t known p new
+  pub fits : (start : Scope) (p : Packet) → IsAsked t policy p → (IsOf known p scope → Belongs t known start p stage) → IsFitting t known start p old → IsFitting t known start p new
+  pub keeps : Keeps t known old new
+
+-- the packet is in one of some boxes, and the answers are right
+pub record IsOfSome (known : Known) (p : Packet) (boxes : List (List SpanSet)) (answers : List Answer) : Type 0 where
+  pub inside : IsInSome boxes p.values
+  pub agrees : Agrees known.holds answers
 
 -- the same of the packets in some boxes
-pub record PassesOver (t : Table) (policy : Verdict) (boxes : List (List SpanSet)) (stage : Stage) (old new : Front) : Type 0 where
-  pub passed : (p : Packet) → IsAsked t policy p → IsInSome boxes p.values → Reaches t p stage → IsAccounted t p new
-  pub fits : (start : List SpanSet) (p : Packet) → IsAsked t policy p → (IsInSome boxes p.values → Belongs t start p stage) → IsFitting t start p old → IsFitting t start p new
-  pub keeps : Keeps t old new
+pub record PassesOver (t : Table) (known : Known) (policy : Verdict) (boxes : List (List SpanSet)) (answers : List Answer) (stage : Stage) (old new : Front) : Type 0 where
+  pub passed : (p : Packet) → IsAsked t policy p → IsOfSome known p boxes answers → Reaches t p stage → IsAccounted t known p new
+  pub fits : (start : Scope) (p : Packet) → IsAsked t policy p → (IsOfSome known p boxes answers → Belongs t known start p stage) → IsFitting t known start p old → IsFitting t known start p new
+  pub keeps : Keeps t known old new
 
 -- the rule just before a place, as an entry of the trail
 abbrev pub entry_before : List Chain → Pending → Entry
 entry_before chains at = record { chain = name_at chains at.chain; number = at.passed }
 
--- each packet of a box that can be at the hook is accounted for, and only in boxes that fit it
-pub record Begins (t : Table) (hook : Hook) (box : List SpanSet) (front : Front) : Type 0 where
-  pub all : (p : Packet) → IsAtHook p → p.hook ≡ hook → IsIn box p → IsAccounted t p front
-  pub fits : (p : Packet) → IsAtHook p → p.hook ≡ hook → IsFitting t box p front
+-- each packet of a scope that can be at the hook is accounted for, and only in scopes that fit it
+pub record Begins (t : Table) (known : Known) (hook : Hook) (scope : Scope) (front : Front) : Type 0 where
+  pub all : (p : Packet) → IsAtHook p → p.hook ≡ hook → IsOf known p scope → IsAccounted t known p front
+  pub fits : (p : Packet) → IsAtHook p → p.hook ≡ hook → IsFitting t known scope p front
   pub there : AllThere t.chains front

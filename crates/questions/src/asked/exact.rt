@@ -28,9 +28,11 @@ fn part_of(leaf: &Leaf, area: &Area) -> Result<Option<Leaf>, AllocError>
     if part.is_empty() {
         return Ok(None);
     }
+    let answers = leaf.answers.copy(alloc)?;
     let trail = copy_trail(alloc, leaf.trail.as_slice())?;
     Ok(Some(Leaf {
         area: part,
+        answers,
         trail,
         verdict: leaf.verdict,
         by_policy: leaf.by_policy,

@@ -1,39 +1,41 @@
 //! Whether a rule can match at all.
-ghost use Rattle.std.specs.Prelude.{◌≡◌, ◌<◌, ◌≤◌, ◌↔◌, false, All, Any, Contains, length, IfOk, IsTrue, MatchOption};
-ghost use Rattle.fields.specs.packet.Packet.{PacketView};
+ghost use Rattle.std.specs.Prelude.{◌≡◌, ◌<◌, ◌≤◌, ◌↔◌, false, All, Any, Contains, length, IfOk, IsTrue};
 ghost use Rattle.table.specs.chains.Table.{chain_at};
 ghost use Rattle.questions.specs.Ends.{IsRule};
 ghost use Rattle.questions.specs.Leaves.{entry_of};
-ghost use Rattle.questions.specs.asked.Rule.{IsLiveAt, Says, SaysAt};
-ghost use Rattle.questions.specs.asked.Unclear.{IsUnclear, IsUnclearAt, IsUnseen};
+ghost use Rattle.questions.specs.Scopes.{table_of};
+ghost use Rattle.questions.specs.asked.Always.{AreAlwaysShort, IsUnclear as IsUnclearUnder, MayLive, Says as SaysUnder, SaysAt};
+ghost use Rattle.questions.specs.asked.Rule.{IsDeadAt, Says};
+ghost use Rattle.questions.specs.asked.Unclear.{IsUnclear, IsUnclearAt};
 ghost use Rattle.questions.specs.declared.asked.rule.Life.TheVariants.{Dead};
-ghost use Rattle.questions.specs.boxes.Area.{IsAtHook, IsIn};
-ghost use Rattle.questions.specs.steps.Coming.{IsSought};
 ghost use Rattle.questions.specs.steps.Compared.{AreShort};
 ghost use Rattle.questions.specs.steps.Searched.{SaysEnd};
 
 use crate::asked::coming::{Found, come};
 use crate::asked::matching::packets_of;
-use crate::boxes::area::Area;
+use crate::asked::witness::witness;
 use crate::boxes::boxed_table::BoxedTable;
 use crate::boxes::candidates::Candidates;
-use crate::sampling::sample::{Sample, sample_of};
+use crate::foreign::answers::Answers;
+use crate::foreign::need::Needs;
+use crate::foreign::subject::Subject;
 use crate::walking::engine::{LIMIT, begin, policy_at};
+use crate::walking::scope::Scope;
 use crate::walking::task::Leaf;
 use fields::{Hook, Words};
 use std::alloc::{AllocError, Global};
-use table::{Step, Table};
+use table::Step;
 
 /// What is known of a rule.
 #[derive(Drop)]
 pub enum Life {
     /// The rule is on the walk of no packet that can be at its hook.
     Dead,
-    /// These words write a packet, and the rule is on its walk.
-    Live(Words),
+    /// These words write a packet, and the rule is on its walk where the answers are right; where no rule needs anything, there are none.
+    Live(Words, Answers),
     /// Neither is known. Each hook at which the rule isn't dead is one where the budget is used up, a trail is full, boxes came
     /// to the rule, or a leaf has it on its trail; and each box that came has no packet that a line writes, or one whose
-    /// walk is too long. There is such a hook.
+    /// walk is too long, or isn't known to end. There is such a hook.
     Unclear,
 }
 
@@ -45,31 +47,6 @@ pub(crate) fn is_on(trail: &[Step], step: Step) -> bool
     ensures { IsTrue result ↔ Contains trail.now step }
 {
     trail.contains(&step)
-}
-
-// A packet of a box that came to the rule, if its walk isn't too long.
-fn witness(
-    alloc: Global,
-    table: &Table,
-    hook: Hook,
-    area: &Area,
-    step: Step,
-) -> Result<Option<Words>, AllocError>
-    requires step { IsRule table.now.table step }
-    requires came { (p : PacketView) → IsAtHook p → p.hook ≡ hook → IsIn area.now p → IsSought table.now.table (entry_of table.now.table.chains step) p }
-    ensures { IfOk result (λ found. MatchOption found
-        (IsUnseen table.now.table hook area.now) (IsLiveAt table.now.table (entry_of table.now.table.chains step) hook)) }
-{
-    let Some(sample) = sample_of(alloc, hook, area)? else {
-        return Ok(None);
-    };
-    let Sample { words, packet } = sample;
-    table.stands();
-    let trail = table.trail(&packet)?;
-    if is_on(trail.steps(), step) {
-        return Ok(Some(words));
-    }
-    Ok(None)
 }
 
 // Whether no leaf has the rule on its trail.
@@ -98,21 +75,25 @@ fn at_end(clear: bool, leaves: &[Leaf], step: Step) -> Life
 // What is said of a rule, for the packets at one hook: those that its box has are searched for one that comes to it.
 pub(crate) fn life_at(
     alloc: Global,
-    subject: &BoxedTable,
+    subject: &Subject<'_>,
     hook: Hook,
     step: Step,
     budget: usize,
 ) -> Result<Life, AllocError>
-    requires { IsRule subject.now.table.table step }
-    ensures says { IfOk result (SaysAt subject.now.table.table (entry_of subject.now.table.table.chains step) hook) }
-    ensures unclear { IfOk result (IsUnclearAt subject.now.table.table step hook budget) }
-    ensures short { IfOk result (λ life. life ≡ Dead → AreShort subject.now.table.table step hook) }
+    requires { IsRule (table_of subject.now) step }
+    ensures says { IfOk result (SaysAt subject.now step hook) }
+    ensures unclear { IfOk result (IsUnclearAt (MayLive subject.now step budget hook)) }
+    ensures short { IfOk result (λ life. life ≡ Dead → AreAlwaysShort subject.now step hook) }
 {
-    subject.table.stands();
-    let policy = policy_at(&subject.table, hook);
-    let given = packets_of(alloc, subject, hook, step)?;
+    subject.boxed.table.stands();
+    let policy = policy_at(&subject.boxed.table, hook);
+    let given = packets_of(alloc, subject.boxed, hook, step)?;
     let mut candidates = Candidates::all(alloc, &given.area)?;
-    let mut front = begin(alloc, &subject.table, hook, given.area)?;
+    let start = Scope {
+        area: given.area,
+        answers: Answers::none(alloc),
+    };
+    let mut front = begin(alloc, subject, hook, start)?;
     let mut clear = true;
     let mut looks: usize = 0;
     for taken in 0..budget {
@@ -125,7 +106,7 @@ pub(crate) fn life_at(
         if task.trail.len() >= LIMIT {
             return Ok(Life::Unclear);
         }
-        let Found { area, looks: more } = come(
+        let Found { scope, looks: more } = come(
             subject,
             &mut candidates,
             policy,
@@ -134,9 +115,10 @@ pub(crate) fn life_at(
             step,
         )?;
         looks = looks.saturating_add(more);
-        if let Some(came) = area {
-            if let Some(words) = witness(alloc, &subject.table, hook, &came, step)? {
-                return Ok(Life::Live(words));
+        if let Some(came) = scope {
+            if let Some(words) = witness(alloc, subject, hook, &came, step, budget)? {
+                came.answers.stand();
+                return Ok(Life::Live(words, came.answers));
             }
             clear = false;
         }
@@ -145,6 +127,30 @@ pub(crate) fn life_at(
         return Ok(Life::Unclear);
     }
     Ok(at_end(clear, front.leaves.as_slice(), step))
+}
+
+// Whether a rule of a table in which none needs anything is known to be dead, for the packets at one hook; and then no packet there that it matches
+// has a walk that is too long.
+pub(crate) fn is_dead_at(
+    alloc: Global,
+    subject: &BoxedTable,
+    hook: Hook,
+    step: Step,
+    budget: usize,
+) -> Result<bool, AllocError>
+    requires { IsRule subject.now.table.table step }
+    ensures { IfOk result (λ is. IsTrue is
+        → IsDeadAt subject.now.table.table (entry_of subject.now.table.table.chains step) hook × AreShort subject.now.table.table step hook) }
+{
+    let needs = Needs::none(alloc);
+    let subject = Subject {
+        boxed: subject,
+        needs: &needs,
+    };
+    match life_at(alloc, &subject, hook, step, budget)? {
+        Life::Dead => Ok(true),
+        Life::Live(_, _) | Life::Unclear => Ok(false),
+    }
 }
 
 /// Whether rule `number` of the chain at a place, both of which have to be there, can match at all. Rules count from 1.
@@ -170,6 +176,36 @@ pub fn dead(
     ensures says { IfOk result (Says subject.now.table.table (record { chain = (chain_at subject.now.table.table place).name; number = number })) }
     ensures unclear { IfOk result (IsUnclear subject.now.table.table (record { chain = place; number = number }) budget) }
 {
+    let needs = Needs::none(alloc);
+    let subject = Subject {
+        boxed: subject,
+        needs: &needs,
+    };
+    dead_under(alloc, &subject, place, number, budget)
+}
+
+/// The same of a table whose rules need something: whether the rule is dead whatever holds; or a packet line and answers, such that the rule is
+/// on the packet's walk where they are right, whatever else holds.
+///
+/// A step of the search is also one box that parts by a condition. A rule that hands over parts no box: the answers for it are given at the
+/// end. A packet is offered if its walks, for all assignments that give the answers, are known to end with `budget` steps more.
+///
+/// # Errors
+///
+/// `AllocError` where memory was refused.
+pub fn dead_under(
+    alloc: Global,
+    subject: &Subject<'_>,
+    place: usize,
+    number: usize,
+    budget: usize,
+) -> Result<Life, AllocError>
+    requires place { place < length (table_of subject.now).chains }
+    requires first { 0 < number }
+    requires last { number ≤ length (chain_at (table_of subject.now) place).rules }
+    ensures says { IfOk result (SaysUnder subject.now (record { chain = (chain_at (table_of subject.now) place).name; number = number })) }
+    ensures unclear { IfOk result (IsUnclearUnder subject.now (record { chain = place; number = number }) budget) }
+{
     let step = Step {
         chain: place,
         number,
@@ -178,7 +214,7 @@ pub fn dead(
     for hook in Hook::ALL {
         match life_at(alloc, subject, hook, step, budget)? {
             Life::Dead => {}
-            Life::Live(words) => return Ok(Life::Live(words)),
+            Life::Live(words, answers) => return Ok(Life::Live(words, answers)),
             Life::Unclear => clear = false,
         }
     }

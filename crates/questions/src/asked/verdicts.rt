@@ -14,7 +14,7 @@ use crate::asked::changes::{Changes, changes_of};
 use crate::asked::equal::are_equal;
 use crate::asked::matching::packets_of;
 use crate::asked::reach::Given;
-use crate::asked::rule::{Life, life_at};
+use crate::asked::rule::is_dead_at;
 use crate::boxes::area::Area;
 use crate::boxes::boxed_table::BoxedTable;
 use crate::sampling::sample::sample_of;
@@ -159,7 +159,7 @@ fn likeness_of(
     if area.is_empty() {
         return Ok(Likeness::Same);
     }
-    if let Life::Dead = life_at(course.alloc, owner, course.hook, step, course.budget)? {
+    if is_dead_at(course.alloc, owner, course.hook, step, course.budget)? {
         return Ok(Likeness::Same);
     }
     likeness_on(old, new, course, area)

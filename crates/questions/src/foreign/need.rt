@@ -1,9 +1,11 @@
-//! What rules need of conditions that this program doesn't know, and how these are answered.
-ghost use Rattle.std.specs.Prelude.{◌≡◌, [], ◌∷◌, ◌++◌, Contains, IfNone, IfOk, IfSome};
-ghost use Rattle.questions.specs.Foreign.{AreConsistent, IsUnanswered};
-ghost use Rattle.questions.specs.steps.Answered.{IsStanding};
+//! What rules need of conditions that this program doesn't know.
+ghost use Rattle.std.specs.Prelude.{◌≡◌, ◌↔◌, [], IfOk, IsTrue, MatchOption};
+ghost use Rattle.questions.specs.Foreign.{needs_at, needs_listed};
+ghost use Rattle.questions.specs.steps.Answered.{IsMeeting, IsStanding, MeetsNever};
 
+use crate::foreign::answers::Answers;
 use std::alloc::{AllocError, Global};
+use std::marker::Model;
 
 /// What a rule needs of a condition, which is told by its number: that it holds or, inverted, that it doesn't.
 #[derive(Clone, Copy)]
@@ -14,13 +16,58 @@ pub struct Need {
     pub inverted: bool,
 }
 
-/// Whether a condition, told by its number, holds.
-#[derive(Clone, Copy)]
-pub struct Answer {
-    /// The number of the condition.
-    pub condition: usize,
-    /// Whether the condition holds.
-    pub holds: bool,
+/// What the rules of a table need beyond what they match.
+#[derive(Drop)]
+pub struct Needs {
+    chains: Vec<Vec<Vec<Need>>>,
+}
+
+impl Model for Needs {
+    ghost use Rattle.std.specs.Prelude.{List};
+    ghost use Rattle.questions.specs.Foreign.{needs_listed};
+    ghost use Rattle.questions.specs.declared.foreign.need.Need.{Need};
+
+    ghost Value = { List (List (List Need)) };
+
+    ghost view = { λ needs. needs_listed needs.chains };
+}
+
+impl Needs {
+    /// None of them needs anything.
+    pub fn none(alloc: Global) -> Needs
+        ensures { result ≡ [] }
+    {
+        Needs {
+            chains: Vec::new(alloc),
+        }
+    }
+
+    /// What is listed, chain by chain in the order of a listing of the table, and rule by rule. A rule for which nothing is listed needs nothing.
+    pub fn of(chains: Vec<Vec<Vec<Need>>>) -> Needs
+        ensures { result ≡ needs_listed chains }
+    {
+        Needs { chains }
+    }
+
+    // Whether no chain is listed.
+    pub(crate) fn are_none(&self) -> bool
+        ensures { IsTrue result ↔ (self.now ≡ []) }
+    {
+        self.chains.is_empty()
+    }
+
+    // What the rule at a place of the chain at a place needs, both from 0; it is lent.
+    pub(crate) fn at(&self, place: usize, passed: usize) -> &[Need]
+        ensures { result.now ≡ needs_at self.now place passed }
+    {
+        let Some(chain) = self.chains.get(place) else {
+            return &[];
+        };
+        match chain.get(passed) {
+            Some(needs) => needs.as_slice(),
+            None => &[],
+        }
+    }
 }
 
 // What is known of all that a rule needs.
@@ -34,26 +81,13 @@ pub(crate) enum Standing {
     Open(usize),
 }
 
-// What a condition was answered, if it was.
-fn answer_to(answers: &[Answer], condition: usize) -> Option<bool>
-    ensures answered { IfSome result (λ holds. Contains answers.now (record { condition = condition; holds = holds })) }
-    ensures unanswered { IfNone result (IsUnanswered answers.now condition) }
-{
-    for answer in answers {
-        if answer.condition == condition {
-            return Some(answer.holds);
-        }
-    }
-    None
-}
-
 // What is known of a rule's needs by the answers: one fails, or all hold, or else it hangs on the first condition that has no answer.
-pub(crate) fn known_of(needs: &[Need], answers: &[Answer]) -> Standing
+pub(crate) fn known_of(needs: &[Need], answers: &Answers) -> Standing
     ensures { IsStanding needs.now answers.now result }
 {
     let mut found = None;
     for need in needs {
-        match answer_to(answers, need.condition) {
+        match answers.to(need.condition) {
             None => found = found.or(Some(need.condition)),
             Some(holds) => {
                 if holds == need.inverted {
@@ -68,26 +102,19 @@ pub(crate) fn known_of(needs: &[Need], answers: &[Answer]) -> Standing
     }
 }
 
-// The answers again.
-pub(crate) fn copy_answers(alloc: Global, answers: &[Answer]) -> Result<Vec<Answer>, AllocError>
-    ensures { IfOk result (λ copy. copy.items ≡ answers.now) }
+// The answers, with more that meet the needs which they leave open; none where some need can't be met.
+pub(crate) fn meeting(needs: &[Need], mut answers: Answers) -> Result<Option<Answers>, AllocError>
+    ensures { IfOk result (λ found. MatchOption found (MeetsNever needs.now answers) (IsMeeting needs.now answers)) }
 {
-    let mut copy = Vec::new(alloc);
-    copy.extend_from_slice(answers)?;
-    Ok(copy)
-}
-
-// The answers, with one more about a condition.
-pub(crate) fn with_answer(
-    alloc: Global,
-    answers: &[Answer],
-    condition: usize,
-    holds: bool,
-) -> Result<Vec<Answer>, AllocError>
-    ensures items { IfOk result (λ more. more.items ≡ answers.now ++ record { condition = condition; holds = holds } ∷ []) }
-    ensures consistent { IfOk result (λ more. AreConsistent answers.now → IsUnanswered answers.now condition → AreConsistent more.items) }
-{
-    let mut more = copy_answers(alloc, answers)?;
-    more.push(Answer { condition, holds })?;
-    Ok(more)
+    for wanted in needs {
+        match answers.to(wanted.condition) {
+            None => answers.add(wanted.condition, !wanted.inverted)?,
+            Some(holds) => {
+                if holds == wanted.inverted {
+                    return Ok(None);
+                }
+            }
+        }
+    }
+    Ok(Some(answers))
 }

@@ -1,21 +1,25 @@
 //! The rules ahead of a box in a chain: which are passed at once, and whether one takes all of its packets.
-ghost use Rattle.std.specs.Prelude.{◌≡◌, ◌+◌, ◌<◌, ◌≤◌, ◌⊎◌, ℕ, List, true, length, Contains, IfOk, IsTrue};
+ghost use Rattle.std.specs.Prelude.{◌≡◌, ◌+◌, ◌<◌, ◌≤◌, ◌⊎◌, ℕ, List, true, length, IfOk, IsTrue};
 ghost use Rattle.fields.specs.numbers.Spans.{SpanSet};
-ghost use Rattle.fields.specs.packet.Packet.{PacketView};
 ghost use Rattle.rules.specs.boxing.Boxed.{IsBoxOf};
 ghost use Rattle.rules.specs.rule.Allows.{matches};
+ghost use Rattle.rules.specs.rule.Rules.{Rule as RuleView};
 ghost use Rattle.classify.specs.classifier.Classifier.{IsPoint};
 ghost use Rattle.table.specs.chains.Table.{chain_at};
 ghost use Rattle.questions.specs.Ends.{IsRule};
-ghost use Rattle.questions.specs.Leaves.{entries_of, entry_of};
-ghost use Rattle.questions.specs.boxes.Area.{Has, IsAtHook, IsIn};
+ghost use Rattle.questions.specs.Foreign.{Assignment, needs_at};
+ghost use Rattle.questions.specs.Scopes.{answered, known_by, table_of};
+ghost use Rattle.questions.specs.boxes.Area.{Has};
 ghost use Rattle.questions.specs.boxes.Boxes.{rules_in};
-ghost use Rattle.questions.specs.steps.Ahead.{IsApartIn, IsManner, SaysRule, TakesBefore};
+ghost use Rattle.questions.specs.declared.foreign.need.Standing.TheVariants.{Holds};
+ghost use Rattle.questions.specs.declared.walking.ahead.Look.TheVariants.{Takes};
+ghost use Rattle.questions.specs.declared.walking.scope.Scope.{Scope};
+ghost use Rattle.questions.specs.steps.Ahead.{IsApartIn, IsManner, NeverComes, SaysRule, TakesBefore};
+ghost use Rattle.questions.specs.steps.Answered.{IsStanding};
 ghost use Rattle.questions.specs.steps.Candidates.{AreFor, AreKept};
-ghost use Rattle.questions.specs.steps.Coming.{IsSought};
 ghost use Rattle.questions.specs.steps.Outlines.{IsOutlined};
 ghost use Rattle.questions.specs.steps.Taken.{IsFurther};
-ghost use Rattle.questions.specs.steps.Waiting.{AreThere, IsThere, WaitsIn, rule_ahead};
+ghost use Rattle.questions.specs.steps.Waiting.{AreThere, IsThere, rule_ahead};
 
 use crate::boxes::area::Area;
 use crate::boxes::boxed_table::BoxedTable;
@@ -23,7 +27,11 @@ use crate::boxes::candidates::Candidates;
 use crate::boxes::ends::{Outline, outline_of};
 use crate::boxes::lying::lies_in;
 use crate::boxes::rule_box::RuleBox;
+use crate::foreign::answers::Answers;
+use crate::foreign::need::{Need, Standing, known_of};
+use crate::foreign::subject::Subject;
 use crate::walking::engine::LIMIT;
+use crate::walking::scope::Scope;
 use crate::walking::task::{Pending, Task};
 use rules::{Boxed, Rule, Target};
 use std::alloc::AllocError;
@@ -91,21 +99,39 @@ fn done_by(rule: &Rule, own: &RuleBox, area: &Area, outline: &Outline) -> Look
     }
 }
 
-// What the next rule does with the packets of a box.
-fn looked_at(subject: &BoxedTable, area: &Area, outline: &Outline, at: Pending) -> Look
-    requires outline { IsOutlined area.now outline.now }
-    requires there { IsThere subject.now.table.table.chains at }
-    requires passed { at.passed < length (chain_at subject.now.table.table at.chain).rules }
-    ensures { SaysRule (rule_ahead subject.now.table.table at) area.now result }
+// What a rule whose needs may be open or fail does with the packets of a box that it matches: it takes them only if the needs hold.
+fn under(look: Look, needs: &[Need], answers: &Answers) -> Look
+    ensures taken { result ≡ Takes → IsStanding needs.now answers.now Holds }
+    ensures says { (rule : RuleView) (box : List SpanSet) → SaysRule rule box look → SaysRule rule box result }
 {
-    let count = subject.table.rule_count(at.chain);
+    match look {
+        Look::Passes => Look::Passes,
+        Look::Stops => Look::Stops,
+        Look::Takes => match known_of(needs, answers) {
+            Standing::Holds => Look::Takes,
+            Standing::Fails | Standing::Open(_) => Look::Passes,
+        },
+    }
+}
+
+// What the next rule does with the packets of a box, where these answers are right.
+fn looked_at(subject: &Subject<'_>, scope: &Scope, outline: &Outline, at: Pending) -> Look
+    requires outline { IsOutlined scope.now.area outline.now }
+    requires there { IsThere (table_of subject.now).chains at }
+    requires passed { at.passed < length (chain_at (table_of subject.now) at.chain).rules }
+    ensures says { SaysRule (rule_ahead (table_of subject.now) at) scope.now.area result }
+    ensures taken { result ≡ Takes → IsStanding (needs_at subject.now.needs.now at.chain at.passed) scope.now.answers Holds }
+{
+    let table = &subject.boxed.table;
+    let count = table.rule_count(at.chain);
     prove!(at.passed < count);
-    let own = subject.own_at(at.chain, at.passed + 1);
+    let own = subject.boxed.own_at(at.chain, at.passed + 1);
     if own.is_outside(outline) {
         return Look::Passes;
     }
-    let rule = subject.table.rule(at.chain, at.passed + 1);
-    done_by(rule, own, area, outline)
+    let rule = table.rule(at.chain, at.passed + 1);
+    let look = done_by(rule, own, &scope.area, outline);
+    under(look, subject.needs.at(at.chain, at.passed), &scope.answers)
 }
 
 // The place in a chain up to which rules are looked at ahead: the chain's end, or the rule of a step where that is ahead; and so many at most.
@@ -132,21 +158,21 @@ pub(crate) struct Ahead {
     pub looks: usize,
 }
 
-// Whether a rule ahead, before an end, takes all packets of a box before any may leave the chain. Only candidates are looked at.
+// Whether a rule ahead, before an end, takes all packets of a scope before any may leave the chain. Only candidates are looked at.
 fn takes_all(
-    subject: &BoxedTable,
+    subject: &Subject<'_>,
     candidates: &Candidates,
-    area: &Area,
+    scope: &Scope,
     at: Pending,
     end: usize,
 ) -> Ahead
-    requires there { IsThere subject.now.table.table.chains at }
-    requires end { at.passed < end → end ≤ length (chain_at subject.now.table.table at.chain).rules }
-    ensures taken { (start : List SpanSet) → AreFor subject.now.table.table start candidates.now → IsTrue result.is_taken
-        → TakesBefore subject.now.table.table start area.now at end }
-    ensures looks { result.looks ≤ length (chain_at subject.now.table.table at.chain).rules }
+    requires there { IsThere (table_of subject.now).chains at }
+    requires end { at.passed < end → end ≤ length (chain_at (table_of subject.now) at.chain).rules }
+    ensures taken { (start : List SpanSet) → AreFor (table_of subject.now) start candidates.now → IsTrue result.is_taken
+        → TakesBefore (table_of subject.now) subject.now.needs.now start scope.now at end }
+    ensures looks { result.looks ≤ length (chain_at (table_of subject.now) at.chain).rules }
 {
-    let outline = outline_of(area.sets());
+    let outline = outline_of(scope.area.sets());
     let mut looks = 0;
     let mut passed = candidates.next_of(at.chain, at.passed);
     while passed < end {
@@ -155,7 +181,7 @@ fn takes_all(
             chain: at.chain,
             passed,
         };
-        match looked_at(subject, area, &outline, next) {
+        match looked_at(subject, scope, &outline, next) {
             Look::Passes => {}
             Look::Takes => {
                 return Ahead {
@@ -175,18 +201,16 @@ fn takes_all(
 
 // Whether a rule ahead takes all packets of a task, so that they come to the rule of a step only if they did before.
 pub(crate) fn ahead_of(
-    subject: &BoxedTable,
+    subject: &Subject<'_>,
     candidates: &Candidates,
     task: &Task,
     step: Step,
 ) -> Ahead
-    requires there { AreThere subject.now.table.table.chains task.now }
-    requires step { IsRule subject.now.table.table step }
-    ensures taken { (start : List SpanSet) → AreFor subject.now.table.table start candidates.now → IsTrue result.is_taken
-        → (p : PacketView) → IsAtHook p → IsIn start p → WaitsIn subject.now.table.table p task.now
-        → IsSought subject.now.table.table (entry_of subject.now.table.table.chains step) p
-        → Contains (entries_of subject.now.table.table.chains task.now.trail.items) (entry_of subject.now.table.table.chains step) }
-    ensures looks { result.looks ≤ rules_in subject.now.table.table.chains }
+    requires there { AreThere (table_of subject.now).chains task.now }
+    requires step { IsRule (table_of subject.now) step }
+    ensures taken { (start : List SpanSet) → AreFor (table_of subject.now) start candidates.now → IsTrue result.is_taken
+        → (a : Assignment) → NeverComes (answered subject.now a) (known_by subject.now a) start step task.now }
+    ensures looks { result.looks ≤ rules_in (table_of subject.now).chains }
 {
     match task.rests.last() {
         None => Ahead {
@@ -194,10 +218,11 @@ pub(crate) fn ahead_of(
             looks: 0,
         },
         Some(at) => {
-            subject.table.stands();
+            let table = &subject.boxed.table;
+            table.stands();
             let room = LIMIT.saturating_sub(task.trail.len());
-            let end = end_of(&subject.table, *at, step, room);
-            takes_all(subject, candidates, &task.area, *at, end)
+            let end = end_of(table, *at, step, room);
+            takes_all(subject, candidates, &task.scope, *at, end)
         }
     }
 }
@@ -224,32 +249,40 @@ fn next_place(subject: &BoxedTable, candidates: &Candidates, area: &Area, at: Pe
 
 // The task at the next rule that may match some of its packets.
 pub(crate) fn advanced(
-    subject: &BoxedTable,
+    subject: &Subject<'_>,
     candidates: &mut Candidates,
     task: Task,
 ) -> Result<Task, AllocError>
-    requires { AreThere subject.now.table.table.chains task }
-    ensures there { IfOk result (AreThere subject.now.table.table.chains) }
+    requires { AreThere (table_of subject.now).chains task }
+    ensures there { IfOk result (AreThere (table_of subject.now).chains) }
     ensures trail { IfOk result (λ next. next.trail ≡ task.trail) }
-    ensures kept { IfOk result (λ next. AreKept subject.now.table.table candidates.old candidates.new) }
-    ensures further { IfOk result (λ next. (start : List SpanSet) → AreFor subject.now.table.table start candidates.old
-        → IsFurther subject.now.table.table start task next) }
+    ensures kept { IfOk result (λ next. AreKept (table_of subject.now) candidates.old candidates.new) }
+    ensures further { IfOk result (λ next. (start : Scope) → AreFor (table_of subject.now) start.area candidates.old
+        → (a : Assignment) → IsFurther (answered subject.now a) (known_by subject.now a) start task next) }
 {
     let Task {
-        area,
+        scope,
         mut rests,
         trail,
     } = task;
-    subject.table.stands();
+    subject.boxed.table.stands();
     let Some(at) = rests.pop() else {
-        return Ok(Task { area, rests, trail });
+        return Ok(Task {
+            scope,
+            rests,
+            trail,
+        });
     };
-    candidates.find(*trail.allocator(), subject)?;
-    let passed = next_place(subject, candidates, &area, at);
+    candidates.find(*trail.allocator(), subject.boxed)?;
+    let passed = next_place(subject.boxed, candidates, &scope.area, at);
     candidates.count(passed.saturating_sub(at.passed));
     rests.push(Pending {
         chain: at.chain,
         passed,
     })?;
-    Ok(Task { area, rests, trail })
+    Ok(Task {
+        scope,
+        rests,
+        trail,
+    })
 }

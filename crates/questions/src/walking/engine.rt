@@ -5,16 +5,21 @@ ghost use Rattle.table.specs.declared.verdict.Verdict.{Verdict};
 ghost use Rattle.table.specs.declared.verdict.Verdict.TheVariants.{TooLong};
 ghost use Rattle.table.specs.steps.Kept.{hook_index};
 ghost use Rattle.table.specs.walk.Walk.{end_verdict};
+ghost use Rattle.questions.specs.Foreign.{Assignment};
 ghost use Rattle.questions.specs.Leaves.{AreExactOn, AreLeavesOf};
-ghost use Rattle.questions.specs.steps.Candidates.{AreFor, AreKept};
-ghost use Rattle.questions.specs.steps.Taken.{IsFinished, IsFirst, IsUnfinished};
+ghost use Rattle.questions.specs.Scopes.{AreExactUnder, AreLeavesUnder, answered, known_by, table_of};
+ghost use Rattle.questions.specs.steps.Taken.{IsFinished, IsFinishedUnder, IsFirst, IsUnfinished, IsUnfinishedUnder};
 ghost use Rattle.questions.specs.steps.Waiting.{AreThere, Begins, Moves, stage_of};
 
 use crate::boxes::area::Area;
 use crate::boxes::boxed_table::BoxedTable;
 use crate::boxes::candidates::Candidates;
+use crate::foreign::answers::Answers;
+use crate::foreign::need::Needs;
+use crate::foreign::subject::Subject;
 use crate::walking::ahead::advanced;
 use crate::walking::front::Front;
+use crate::walking::scope::Scope;
 use crate::walking::task::{Leaf, Pending, Task};
 use crate::walking::turn::ask;
 use fields::Hook;
@@ -26,27 +31,40 @@ pub(crate) const LIMIT: usize = 65536;
 
 // One step of the walks of a task: the policy decides them, a chain comes back, or a rule is asked.
 pub(crate) fn step(
-    subject: &BoxedTable,
+    subject: &Subject<'_>,
     policy: Verdict,
     front: &mut Front,
     task: Task,
 ) -> Result<(), AllocError>
-    requires there { AreThere subject.now.table.table.chains task }
+    requires there { AreThere (table_of subject.now).chains task }
     requires room { length task.trail.items < 65536 }
     requires short { policy ≢ TooLong }
-    ensures { OnOk result (Moves subject.now.table.table policy task.area (stage_of subject.now.table.table.chains task) front.old front.new) }
+    ensures { OnOk result ((a : Assignment) → Moves (answered subject.now a) (known_by subject.now a) policy task.scope
+        (stage_of (known_by subject.now a) (answered subject.now a).chains task) front.old front.new) }
 {
     let Task {
-        area,
+        scope,
         mut rests,
         trail,
     } = task;
     match rests.pop() {
-        None => front.add_leaf(Task { area, rests, trail }, policy, true),
+        None => front.add_leaf(
+            Task {
+                scope,
+                rests,
+                trail,
+            },
+            policy,
+            true,
+        ),
         Some(at) => {
-            let task = Task { area, rests, trail };
-            subject.table.stands();
-            if at.passed >= subject.table.rule_count(at.chain) {
+            let task = Task {
+                scope,
+                rests,
+                trail,
+            };
+            subject.boxed.table.stands();
+            if at.passed >= subject.boxed.table.rule_count(at.chain) {
                 return front.add_task(task);
             }
             ask(subject, front, task, at)
@@ -76,17 +94,17 @@ pub(crate) fn policy_at(table: &Table, hook: Hook) -> Verdict
     }
 }
 
-// A box at the first rule of a hook's chain.
+// A scope at the first rule of a hook's chain.
 pub(crate) fn begin(
     alloc: Global,
-    table: &Table,
+    subject: &Subject<'_>,
     hook: Hook,
-    start: Area,
+    start: Scope,
 ) -> Result<Front, AllocError>
-    ensures begins { IfOk result (Begins table.now.table hook start) }
+    ensures begins { IfOk result (λ front. (a : Assignment) → Begins (answered subject.now a) (known_by subject.now a) hook start front) }
     ensures first { IfOk result (IsFirst hook start) }
 {
-    table.stands();
+    subject.boxed.table.stands();
     let mut front = Front {
         alloc,
         tasks: Vec::new(alloc),
@@ -98,7 +116,7 @@ pub(crate) fn begin(
         passed: 0,
     })?;
     front.tasks.push(Task {
-        area: start,
+        scope: start,
         rests,
         trail: Vec::new(alloc),
     })?;
@@ -106,13 +124,13 @@ pub(crate) fn begin(
 }
 
 /// The walk of a box, from the first rule of a hook's chain: leaves, such that every packet of the box that can be at
-/// the hook is in one of them, and no other is; it has the walk that the leaf shows. There are none only where the whole budget was used up
-/// with a box left, or a trail was full, with 65,536 rules, before.
+/// the hook is in one of them, and no other packet that can be at the hook is; it has the walk that the leaf shows. There are none only where
+/// the whole budget was used up with a box left, or a trail was full, with 65,536 rules, before.
 ///
 /// A step of the budget is one rule tested on one box, or one chain at its end; rules that share no packet with the box are
 /// passed without a step. Those that share none with the first box are set aside after many looks, with one at each rule and eight
-/// bytes for it. A step takes the memory of a copy of the box, of the rests that wait and of the trail for each field on which the rule
-/// leaves numbers out.
+/// bytes for it. A step takes the memory of a copy of the box, of the rests that wait and of the trail for each field on which the
+/// rule leaves numbers out.
 ///
 /// # Errors
 ///
@@ -129,28 +147,43 @@ pub fn leaves(
     ensures steps { IfOk result (λ found. MatchOption found
         (IsUnfinished subject.now.table.table hook start budget) (λ leaves. IsFinished subject.now.table.table hook start budget leaves.items)) }
 {
-    let mut candidates = Candidates::all(alloc, &start)?;
-    leaves_among(alloc, subject, &mut candidates, hook, start, budget)
+    let needs = Needs::none(alloc);
+    let subject = Subject {
+        boxed: subject,
+        needs: &needs,
+    };
+    let start = Scope {
+        area: start,
+        answers: Answers::none(alloc),
+    };
+    leaves_under(alloc, &subject, hook, start, budget)
 }
 
-// The same, with candidates for the box, which are found after many looks.
-pub(crate) fn leaves_among(
+/// The same of a box under answers, whatever holds beside them: every packet of the box that can be at the hook, and every assignment that gives
+/// the answers, is in a leaf whose answers it gives, too; and each leaf has no others. Then the packet has the walk that the leaf shows in
+/// the table that is left by the assignment. The walk is the one of each assignment, so a step is also one box that parts by a condition.
+///
+/// # Errors
+///
+/// `AllocError` where memory was refused.
+pub fn leaves_under(
     alloc: Global,
-    subject: &BoxedTable,
-    candidates: &mut Candidates,
+    subject: &Subject<'_>,
     hook: Hook,
-    start: Area,
+    start: Scope,
     budget: usize,
 ) -> Result<Option<Vec<Leaf>>, AllocError>
-    requires { AreFor subject.now.table.table start candidates.old }
-    ensures kept { IfOk result (λ found. AreKept subject.now.table.table candidates.old candidates.new) }
-    ensures leaves { IfOk result (λ found. IfSome found (λ leaves. AreLeavesOf subject.now.table.table hook start leaves.items)) }
-    ensures exact { IfOk result (λ found. IfSome found (λ leaves. AreExactOn subject.now.table.table hook start leaves.items)) }
-    ensures steps { IfOk result (λ found. MatchOption found
-        (IsUnfinished subject.now.table.table hook start budget) (λ leaves. IsFinished subject.now.table.table hook start budget leaves.items)) }
+    ensures leaves { IfOk result (λ found. IfSome found (λ leaves. (a : Assignment)
+        → AreLeavesUnder (answered subject.now a) (known_by subject.now a) hook start leaves.items)) }
+    ensures exact { IfOk result (λ found. IfSome found (λ leaves. (a : Assignment)
+        → AreExactUnder (answered subject.now a) (known_by subject.now a) hook start leaves.items)) }
+    ensures steps { IfOk result (λ found. (a : Assignment) → MatchOption found
+        (IsUnfinishedUnder (answered subject.now a) (known_by subject.now a) hook start budget)
+        (λ leaves. IsFinishedUnder (answered subject.now a) (known_by subject.now a) hook start budget leaves.items)) }
 {
-    let policy = policy_at(&subject.table, hook);
-    let mut front = begin(alloc, &subject.table, hook, start)?;
+    let mut candidates = Candidates::all(alloc, &start.area)?;
+    let policy = policy_at(&subject.boxed.table, hook);
+    let mut front = begin(alloc, subject, hook, start)?;
     for taken in 0..budget {
         match front.tasks.pop() {
             None => return Ok(Some(front.leaves)),
@@ -158,7 +191,7 @@ pub(crate) fn leaves_among(
                 if task.trail.len() >= LIMIT {
                     return Ok(None);
                 }
-                let next = advanced(subject, candidates, task)?;
+                let next = advanced(subject, &mut candidates, task)?;
                 step(subject, policy, &mut front, next)?;
             }
         }

@@ -4,8 +4,9 @@ ghost use Rattle.table.specs.chains.Table.{Table as Filter};
 ghost use Rattle.table.specs.declared.verdict.Verdict.{Verdict};
 ghost use Rattle.table.specs.declared.verdict.Verdict.TheVariants.{TooLong};
 ghost use Rattle.table.specs.walk.Cases.{Over};
-ghost use Rattle.questions.specs.Leaves.{entries_of};
+ghost use Rattle.questions.specs.Scopes.{Known, entries_by};
 
+use crate::walking::scope::Scope;
 use crate::walking::task::{Leaf, Task};
 use std::alloc::{AllocError, Global};
 use table::Verdict;
@@ -23,8 +24,8 @@ impl Front {
 
     // One task more.
     pub(crate) fn add_task(&mut self, task: Task) -> Result<(), AllocError>
-        ensures { OnOk result ((t : Filter) (policy : Verdict) → AreThere t.chains task
-            → Moves t policy task.area (stage_of t.chains task) self.old self.new) }
+        ensures { OnOk result ((t : Filter) (known : Known) (policy : Verdict) → AreThere t.chains task
+            → Moves t known policy task.scope (stage_of known t.chains task) self.old self.new) }
     {
         self.tasks.push(task)?;
         Ok(())
@@ -39,16 +40,18 @@ impl Front {
     ) -> Result<(), AllocError>
         requires short { verdict ≢ TooLong }
         requires decided { by_policy ≡ false → 0 < length task.trail.items }
-        ensures { OnOk result ((t : Filter) (policy : Verdict)
-            → Moves t policy task.area (Over (record { trail = entries_of t.chains task.trail.items; verdict = verdict; by_policy = by_policy })) self.old self.new) }
+        ensures { OnOk result ((t : Filter) (known : Known) (policy : Verdict)
+            → Moves t known policy task.scope (Over (record { trail = entries_by known t.chains task.trail.items; verdict = verdict; by_policy = by_policy })) self.old self.new) }
     {
         let Task {
-            area,
+            scope,
             rests: _,
             trail,
         } = task;
+        let Scope { area, answers } = scope;
         let leaf = Leaf {
             area,
+            answers,
             trail,
             verdict,
             by_policy,

@@ -2,8 +2,11 @@
 //! of their walks.
 ghost use Rattle.std.specs.Prelude.{◌≡◌, ◌≢◌, ◌<◌, false, length, IfOk};
 ghost use Rattle.table.specs.declared.verdict.Verdict.TheVariants.{TooLong};
+ghost use Rattle.questions.specs.Foreign.{AreConsistent};
 
 use crate::boxes::area::Area;
+use crate::foreign::answers::Answers;
+use crate::walking::scope::Scope;
 use std::alloc::{AllocError, Global};
 use table::{Step, Verdict};
 
@@ -14,25 +17,29 @@ pub(crate) struct Pending {
     pub passed: usize,
 }
 
-// Packets whose walks are at one place: what is left of the chains there, the newest last, and the trail so far.
+// Packets whose walks are at one place: what is left of the chains there, the newest last, and the trail so far. Where a rule of the trail
+// hands over, some of what it needs may be open.
 #[derive(Drop)]
 pub(crate) struct Task {
-    pub area: Area,
+    pub scope: Scope,
     pub rests: Vec<Pending>,
     pub trail: Vec<Step>,
 }
 
-/// A box with a walk that isn't too long: its trail, its verdict, and whether the policy gave it.
+/// A box with a walk that isn't too long, where these answers are right: its trail, its verdict, and whether the policy gave it.
 #[derive(Drop)]
 pub struct Leaf {
     /// The box.
     pub area: Area,
-    /// The rules that match, in turn.
+    /// The answers.
+    pub answers: Answers,
+    /// The rules that match, in turn. One that hands over may be there while something that it needs is open: then it matches if that holds.
     pub trail: Vec<Step>,
     /// The verdict.
     pub verdict: Verdict,
     /// Whether the policy gives the verdict.
     pub by_policy: bool,
+    ghost consistent: { AreConsistent answers },
     ghost short: { verdict ≢ TooLong },
     ghost decided: { by_policy ≡ false → 0 < length trail.items },
 }

@@ -5,13 +5,18 @@ ghost use Rattle.table.specs.chains.Table.{Table as Filter, chain_at};
 ghost use Rattle.table.specs.declared.verdict.Verdict.{Verdict};
 ghost use Rattle.table.specs.walk.Cases.{Under, on_by};
 ghost use Rattle.table.specs.walk.Walk.{after_match, whole};
-ghost use Rattle.questions.specs.Leaves.{entries_of};
-ghost use Rattle.questions.specs.steps.Waiting.{AreThere, IsThere, Moves, PassesOver, behind, entry_before, rest_of, rests_of};
+ghost use Rattle.questions.specs.Foreign.{Assignment, IsUnanswered, needs_at};
+ghost use Rattle.questions.specs.Scopes.{Known, answered, entries_by, known_by, table_of};
+ghost use Rattle.questions.specs.steps.Branches.{CanAsk, IsBranch, target_at};
+ghost use Rattle.questions.specs.steps.Waiting.{AreNamedAlike, AreThere, IsThere, Moves, PassesOver, behind, entry_before, rest_of, rests_of, stage_at};
 
 use crate::boxes::area::Area;
-use crate::boxes::boxed_table::BoxedTable;
 use crate::boxes::cut::{Cut, cut_by};
+use crate::foreign::answers::Answers;
+use crate::foreign::need::{Need, Standing, known_of};
+use crate::foreign::subject::Subject;
 use crate::walking::front::Front;
+use crate::walking::scope::Scope;
 use crate::walking::task::{Pending, Task, copy_rests, copy_trail};
 use fields::Name;
 use rules::{Rule, Target};
@@ -20,25 +25,27 @@ use table::{Step, Table, Verdict};
 
 // The walks go on with one more rest.
 fn go_on(front: &mut Front, task: Task, at: Pending) -> Result<(), AllocError>
-    ensures { OnOk result ((t : Filter) (policy : Verdict) → IsThere t.chains at → AreThere t.chains task
-        → Moves t policy task.area
-        (Under (rest_of t.chains at ∷ rests_of t.chains task.rests.items) (entries_of t.chains task.trail.items)) front.old front.new) }
+    ensures { OnOk result ((t : Filter) (known : Known) (policy : Verdict) → IsThere t.chains at → AreThere t.chains task
+        → Moves t known policy task.scope (stage_at known t.chains at task) front.old front.new) }
 {
     let Task {
-        area,
+        scope,
         mut rests,
         trail,
     } = task;
     rests.push(at)?;
-    front.add_task(Task { area, rests, trail })
+    front.add_task(Task {
+        scope,
+        rests,
+        trail,
+    })
 }
 
 // The walks go on in a chain. One that isn't there has no rules.
 fn enter(table: &Table, front: &mut Front, task: Task, name: &Name) -> Result<(), AllocError>
-    ensures { OnOk result ((policy : Verdict) → AreThere table.now.table.chains task
-        → Moves table.now.table policy task.area
-        (Under (whole name.now ∷ rests_of table.now.table.chains task.rests.items) (entries_of table.now.table.chains task.trail.items))
-        front.old front.new) }
+    ensures { OnOk result ((t : Filter) (known : Known) (policy : Verdict) → AreNamedAlike t table.now.table → AreThere t.chains task
+        → Moves t known policy task.scope
+        (Under (whole name.now ∷ rests_of t.chains task.rests.items) (entries_by known t.chains task.trail.items)) front.old front.new) }
 {
     match table.index_of(name.bytes()) {
         Some(chain) => go_on(front, task, Pending { chain, passed: 0 }),
@@ -54,19 +61,23 @@ fn jump(
     behind: Pending,
     name: &Name,
 ) -> Result<(), AllocError>
-    ensures { OnOk result ((policy : Verdict) → IsThere table.now.table.chains behind → AreThere table.now.table.chains task
-        → Moves table.now.table policy task.area
-        (Under (whole name.now ∷ rest_of table.now.table.chains behind ∷ rests_of table.now.table.chains task.rests.items)
-        (entries_of table.now.table.chains task.trail.items))
+    ensures { OnOk result ((t : Filter) (known : Known) (policy : Verdict) → AreNamedAlike t table.now.table → IsThere t.chains behind → AreThere t.chains task
+        → Moves t known policy task.scope
+        (Under (whole name.now ∷ rest_of t.chains behind ∷ rests_of t.chains task.rests.items) (entries_by known t.chains task.trail.items))
         front.old front.new) }
 {
     let Task {
-        area,
+        scope,
         mut rests,
         trail,
     } = task;
     rests.push(behind)?;
-    enter(table, front, Task { area, rests, trail }, name)
+    let task = Task {
+        scope,
+        rests,
+        trail,
+    };
+    enter(table, front, task, name)
 }
 
 // The walks go where a target says, from behind its rule.
@@ -78,10 +89,9 @@ fn turn(
     target: Option<Target>,
 ) -> Result<(), AllocError>
     requires { 0 < length task.trail.items }
-    ensures { OnOk result ((policy : Verdict) → IsThere table.now.table.chains behind → AreThere table.now.table.chains task
-        → Moves table.now.table policy task.area
-        (on_by (after_match target (rest_of table.now.table.chains behind) (rests_of table.now.table.chains task.rests.items))
-        (entries_of table.now.table.chains task.trail.items))
+    ensures { OnOk result ((t : Filter) (known : Known) (policy : Verdict) → AreNamedAlike t table.now.table → IsThere t.chains behind → AreThere t.chains task
+        → Moves t known policy task.scope
+        (on_by (after_match target (rest_of t.chains behind) (rests_of t.chains task.rests.items)) (entries_by known t.chains task.trail.items))
         front.old front.new) }
 {
     match target {
@@ -104,14 +114,14 @@ fn follow(
     behind: Pending,
     rule: &Rule,
 ) -> Result<(), AllocError>
-    ensures { OnOk result ((policy : Verdict) → IsThere table.now.table.chains behind → AreThere table.now.table.chains task
-        → Moves table.now.table policy task.area
-        (on_by (after_match (target_of rule.now) (rest_of table.now.table.chains behind) (rests_of table.now.table.chains task.rests.items))
-        (entries_of table.now.table.chains task.trail.items ++ entry_before table.now.table.chains behind ∷ []))
+    ensures { OnOk result ((t : Filter) (known : Known) (policy : Verdict) → AreNamedAlike t table.now.table → IsThere t.chains behind → AreThere t.chains task
+        → Moves t known policy task.scope
+        (on_by (after_match (target_of rule.now) (rest_of t.chains behind) (rests_of t.chains task.rests.items))
+        (entries_by known t.chains (task.trail.items ++ record { chain = behind.chain; number = behind.passed } ∷ [])))
         front.old front.new) }
 {
     let Task {
-        area,
+        scope,
         rests,
         mut trail,
     } = task;
@@ -119,29 +129,31 @@ fn follow(
         chain: behind.chain,
         number: behind.passed,
     })?;
-    turn(
-        table,
-        front,
-        Task { area, rests, trail },
-        behind,
-        rule.target(),
-    )
+    let task = Task {
+        scope,
+        rests,
+        trail,
+    };
+    turn(table, front, task, behind, rule.target())
 }
 
-// The walks of some boxes go on at one place, with one trail.
+// The walks of some boxes go on at one place, with one trail and the same answers.
 fn pass_over(
     front: &mut Front,
     mut outside: Vec<Area>,
+    answers: &Answers,
     behind: Pending,
     rests: &[Pending],
     trail: &[Step],
 ) -> Result<(), AllocError>
-    ensures { OnOk result ((t : Filter) (policy : Verdict) → IsThere t.chains behind → All (IsThere t.chains) rests.now
-        → PassesOver t policy outside.items (Under (rest_of t.chains behind ∷ rests_of t.chains rests.now) (entries_of t.chains trail.now)) front.old front.new) }
+    ensures { OnOk result ((t : Filter) (known : Known) (policy : Verdict) → IsThere t.chains behind → All (IsThere t.chains) rests.now
+        → PassesOver t known policy outside.items answers.now
+        (Under (rest_of t.chains behind ∷ rests_of t.chains rests.now) (entries_by known t.chains trail.now)) front.old front.new) }
 {
     while let Some(area) = outside.pop() {
+        let answers = answers.copy(front.alloc)?;
         let task = Task {
-            area,
+            scope: Scope { area, answers },
             rests: copy_rests(front.alloc, rests)?,
             trail: copy_trail(front.alloc, trail)?,
         };
@@ -150,49 +162,177 @@ fn pass_over(
     Ok(())
 }
 
-// Cuts a box by the next rule of a chain: the packets that it matches follow its target, the others go on behind it. Where
-// that depends on both ports, the box is parted by ports first, and the rule is tested again on its parts.
-pub(crate) fn ask(
-    subject: &BoxedTable,
+// The walks part by whether a condition holds, and go on at one place.
+fn part(front: &mut Front, task: Task, at: Pending, condition: usize) -> Result<(), AllocError>
+    requires { IsUnanswered task.scope.answers condition }
+    ensures { OnOk result ((t : Filter) (known : Known) (policy : Verdict) → IsThere t.chains at → AreThere t.chains task
+        → Moves t known policy task.scope (stage_at known t.chains at task) front.old front.new) }
+{
+    let alloc = front.alloc;
+    let Task {
+        scope,
+        rests,
+        trail,
+    } = task;
+    let Scope { area, mut answers } = scope;
+    let mut others = answers.copy(alloc)?;
+    others.add(condition, false)?;
+    answers.add(condition, true)?;
+    let mut same = Vec::new(alloc);
+    same.push(area.copy(alloc)?)?;
+    pass_over(front, same, &others, at, rests.as_slice(), trail.as_slice())?;
+    let task = Task {
+        scope: Scope { area, answers },
+        rests,
+        trail,
+    };
+    go_on(front, task, at)
+}
+
+// What becomes of the packets that a rule's box has.
+enum Branch {
+    // The rule doesn't match them.
+    Passed,
+    // It matches them; or it hands them over, if it matches them.
+    Followed,
+    // That hangs on this condition.
+    Parted(usize),
+}
+
+// What becomes of the packets that a rule's box has, by what the rule needs and what is answered.
+fn branch_of(needs: &[Need], answers: &Answers, rule: &Rule) -> Branch
+    ensures { IsBranch needs.now answers.now (target_of rule.now) result }
+{
+    match known_of(needs, answers) {
+        Standing::Fails => Branch::Passed,
+        Standing::Holds => Branch::Followed,
+        Standing::Open(condition) => match rule.target() {
+            None | Some(Target::Log) => Branch::Followed,
+            _ => Branch::Parted(condition),
+        },
+    }
+}
+
+// Cuts a box by the next rule of a chain: the packets that the rule's box has follow its target, or part by an open condition; the others
+// go on behind it. Where that depends on both ports, the box is parted by ports first, and the rule is tested again on its parts.
+fn cut(
+    subject: &Subject<'_>,
     front: &mut Front,
     task: Task,
     at: Pending,
+    parted: Option<usize>,
 ) -> Result<(), AllocError>
-    requires there { IsThere subject.now.table.table.chains at }
-    requires passed { at.passed < length (chain_at subject.now.table.table at.chain).rules }
-    requires rests { AreThere subject.now.table.table.chains task }
+    requires there { IsThere (table_of subject.now).chains at }
+    requires passed { at.passed < length (chain_at (table_of subject.now) at.chain).rules }
+    requires rests { AreThere (table_of subject.now).chains task }
     requires room { length task.trail.items < 65536 }
-    ensures { OnOk result ((policy : Verdict)
-        → Moves subject.now.table.table policy task.area
-        (Under (rest_of subject.now.table.table.chains at ∷ rests_of subject.now.table.table.chains task.rests.items)
-        (entries_of subject.now.table.table.chains task.trail.items))
-        front.old front.new) }
+    requires parted { CanAsk (needs_at subject.now.needs.now at.chain at.passed) task.scope.answers (target_at (table_of subject.now) at) parted }
+    ensures { OnOk result ((a : Assignment) (policy : Verdict)
+        → Moves (answered subject.now a) (known_by subject.now a) policy task.scope
+        (stage_at (known_by subject.now a) (answered subject.now a).chains at task) front.old front.new) }
 {
-    let table = &subject.table;
+    let table = &subject.boxed.table;
     table.stands();
     let count = table.rule_count(at.chain);
     prove!(at.passed < count);
     let rule = table.rule(at.chain, at.passed + 1);
-    let boxed = subject.at(at.chain, at.passed + 1);
+    let boxed = subject.boxed.at(at.chain, at.passed + 1);
     let behind = Pending {
         chain: at.chain,
         passed: at.passed + 1,
     };
-    let Task { area, rests, trail } = task;
+    let Task {
+        scope,
+        rests,
+        trail,
+    } = task;
+    let Scope { area, answers } = scope;
     match cut_by(front.alloc, rule, boxed, area)? {
-        Cut::Apart(area) => go_on(front, Task { area, rests, trail }, behind),
+        Cut::Apart(area) => {
+            let scope = Scope { area, answers };
+            go_on(
+                front,
+                Task {
+                    scope,
+                    rests,
+                    trail,
+                },
+                behind,
+            )
+        }
         Cut::Parts(inside, outside) => {
-            pass_over(front, outside, behind, rests.as_slice(), trail.as_slice())?;
+            pass_over(
+                front,
+                outside,
+                &answers,
+                behind,
+                rests.as_slice(),
+                trail.as_slice(),
+            )?;
             let task = Task {
-                area: inside,
+                scope: Scope {
+                    area: inside,
+                    answers,
+                },
                 rests,
                 trail,
             };
-            follow(table, front, task, behind, rule)
+            match parted {
+                None => follow(table, front, task, behind, rule),
+                Some(condition) => part(front, task, at, condition),
+            }
         }
         Cut::ByPorts(again, outside) => {
-            pass_over(front, outside, behind, rests.as_slice(), trail.as_slice())?;
-            pass_over(front, again, at, rests.as_slice(), trail.as_slice())
+            pass_over(
+                front,
+                outside,
+                &answers,
+                behind,
+                rests.as_slice(),
+                trail.as_slice(),
+            )?;
+            pass_over(
+                front,
+                again,
+                &answers,
+                at,
+                rests.as_slice(),
+                trail.as_slice(),
+            )
         }
+    }
+}
+
+// The next rule of a chain is tested on a box. Where something that it needs doesn't hold, the box goes on behind it.
+pub(crate) fn ask(
+    subject: &Subject<'_>,
+    front: &mut Front,
+    task: Task,
+    at: Pending,
+) -> Result<(), AllocError>
+    requires there { IsThere (table_of subject.now).chains at }
+    requires passed { at.passed < length (chain_at (table_of subject.now) at.chain).rules }
+    requires rests { AreThere (table_of subject.now).chains task }
+    requires room { length task.trail.items < 65536 }
+    ensures { OnOk result ((a : Assignment) (policy : Verdict)
+        → Moves (answered subject.now a) (known_by subject.now a) policy task.scope
+        (stage_at (known_by subject.now a) (answered subject.now a).chains at task) front.old front.new) }
+{
+    let table = &subject.boxed.table;
+    table.stands();
+    let count = table.rule_count(at.chain);
+    prove!(at.passed < count);
+    let needs = subject.needs.at(at.chain, at.passed);
+    let rule = table.rule(at.chain, at.passed + 1);
+    match branch_of(needs, &task.scope.answers, rule) {
+        Branch::Passed => {
+            let behind = Pending {
+                chain: at.chain,
+                passed: at.passed + 1,
+            };
+            go_on(front, task, behind)
+        }
+        Branch::Followed => cut(subject, front, task, at, None),
+        Branch::Parted(condition) => cut(subject, front, task, at, Some(condition)),
     }
 }

@@ -1,39 +1,56 @@
-use Rattle.std.proofs.Common.{inl, inr, refl, sym, ◌∙◌}
-use Rattle.std.proofs.lemmas.Bool.{true≢false}
+use Rattle.std.proofs.Common.{inl, inr, false, refl}
+use Rattle.questions.specs.Foreign.{Assignment}
 use Rattle.questions.specs.Leaves.{entry_of}
-use Rattle.questions.proofs.laws.ComeLaws.{stepped}
-use Rattle.questions.proofs.laws.TrailLaws.{step_in}
+use Rattle.questions.specs.Scopes.{answered, known_by, table_of}
+use Rattle.questions.proofs.laws.ComeLaws.{never_before, stepped}
+use Rattle.questions.proofs.laws.ForeignLaws.{left_sound}
+use Rattle.questions.proofs.laws.ResolvedLaws.{front_back, front_left, there_left}
 use Rattle.questions.proofs.asked.coming.come.Goals as goal
 
+pub returns-in-Some-clause-step : goal.returns-in-Some-clause-step
+returns-in-Some-clause-step c = λ start are a.
+    let found = rw (c.in-Some.is, c.at-needs.ensures, c.as_slice.ensures.value) at c.in_ok-answers.ensures in
+    inl ((record { area = c.args.task.scope.area; answers = c.in-Some.answers }, refl, (found.0, refl, found.1)), refl)
+
 pub returns-then-ahead-clause-kept : goal.returns-then-ahead-clause-kept
-returns-then-ahead-clause-kept c = λ _ start are p asked inside sought w.
-    let t = c.args.subject.now.table.table in
+returns-then-ahead-clause-kept c = λ _ start are a p asked of sought w.
+    let s = c.args.subject.now in
+    let own = table_of s in
+    let off = rw (c.in_default.is, c.at-needs.ensures, c.as_slice.ensures.value) at c.in_ok-answers.ensures in
     elim w [
-      | inr a ↦ a
-      | inl waits ↦ absurd (true≢false
-          (sym (c.is_on.ensures.1 (rw c.as_slice.ensures.value (step_in t c.args.task.trail.items c.args.wanted c.stands.ensures.sound c.requires.wanted.chain (c.ahead_of-ahead.ensures.taken start are c.if-ahead.true p asked.at_hook inside waits sought)))) ∙ c.if-is_on.false))
+      | inr there ↦ there
+      | inl waits ↦ absurd (never_before (answered s a) (known_by s a) start.area c.args.wanted c.args.task (left_sound s.needs.now a own c.stands.ensures.sound) (there_left s.needs.now a own c.args.wanted.chain c.requires.wanted.chain)
+          (c.ahead_of-ahead.ensures.taken start.area are c.if-ahead.true a) off p asked.at_hook of.inside waits sought)
     ]
 
-pub returns-clause-kept : goal.returns-clause-kept
-returns-clause-kept c = λ none start are.
-    let t = c.args.subject.now.table.table in
-    stepped t c.args.policy start (entry_of t.chains c.args.wanted) c.args.task c.in_ok-next.next c.args.front.now c.step.new.front c.came.new.front (c.in_ok-next.ensures.further start (c.count.ensures t start are)) c.in_ok-step.ensures (c.came.ensures.kept none)
-
-pub returns-then-is_on-clause-step : goal.returns-then-is_on-clause-step
-returns-then-is_on-clause-step c = λ start are. inl (rw c.as_slice.ensures.value at (c.is_on.ensures.0 c.if-is_on.true), refl, refl)
-
 pub returns-then-ahead-clause-step : goal.returns-then-ahead-clause-step
-returns-then-ahead-clause-step c = λ start are.
-    let t = c.args.subject.now.table.table in
+returns-then-ahead-clause-step c = λ start are a.
+    let s = c.args.subject.now in
+    let own = table_of s in
+    let off = rw (c.in_default.is, c.at-needs.ensures, c.as_slice.ensures.value) at c.in_ok-answers.ensures in
     inr (inl (
-      λ p can inside waits on. true≢false
-          (sym (c.is_on.ensures.1 (rw c.as_slice.ensures.value (step_in t c.args.task.trail.items c.args.wanted c.stands.ensures.sound c.requires.wanted.chain (c.ahead_of-ahead.ensures.taken start are c.if-ahead.true p can inside waits (inl on))))) ∙ c.if-is_on.false),
+      λ p can of waits on. never_before (answered s a) (known_by s a) start.area c.args.wanted c.args.task (left_sound s.needs.now a own c.stands.ensures.sound) (there_left s.needs.now a own c.args.wanted.chain c.requires.wanted.chain)
+          (c.ahead_of-ahead.ensures.taken start.area are c.if-ahead.true a) off p can of.inside waits (inl on),
       refl,
       refl,
     ))
 
+pub returns-clause-kept : goal.returns-clause-kept
+returns-clause-kept c = λ none start are a.
+    let s = c.args.subject.now in
+    let t = answered s a in
+    stepped t (known_by s a) c.args.policy start (entry_of t.chains c.args.wanted) c.args.task c.in_ok-next.next c.args.front.now c.step.new.front c.came.new.front (c.in_ok-next.ensures.further start (c.count.ensures (table_of s) start.area are) a) (c.in_ok-step.ensures a) (c.in_ok-scope.ensures.kept none a)
+
 pub returns-clause-step : goal.returns-clause-step
-returns-clause-step c = λ start are. inr (inr (c.step.new.front, (c.in_ok-next.next, c.in_ok-next.ensures.further start (c.count.ensures c.args.subject.now.table.table start are), c.in_ok-step.ensures), c.came.ensures.leaf))
+returns-clause-step c = λ start are a. inr (inr (c.step.new.front, (c.in_ok-next.next, c.in_ok-next.ensures.further start (c.count.ensures (table_of c.args.subject.now) start.area are) a, c.in_ok-step.ensures a), c.in_ok-scope.ensures.leaf))
 
 pub returns-clause-fit : goal.returns-clause-fit
-returns-clause-fit c = λ box are. c.in_ok-next.ensures.kept box (c.count.ensures c.args.subject.now.table.table box are)
+returns-clause-fit c = λ box are. c.in_ok-next.ensures.kept box (c.count.ensures (table_of c.args.subject.now) box are)
+
+pub returns-clause-there : goal.returns-clause-there
+returns-clause-there c = λ all.
+    let s = c.args.subject.now in
+    let own = table_of s in
+    let any : Assignment = λ _. false in
+    let moved = (c.in_ok-step.ensures any).keeps.there (front_left s.needs.now any own c.args.front.now all) in
+    c.in_ok-scope.ensures.there (front_back s.needs.now any own c.step.new.front moved)

@@ -6,7 +6,7 @@ use Rattle.questions.proofs.foreign.need.known_of.Goals.{in-None, in-Some+else-h
 pub loop-need-preserved : goal.loop-need-preserved
 loop-need-preserved c =
     let Next : Option ℕ → Type 0 = IsSoFar c.args.needs.now c.args.answers.now (c.loop-need.need-index + 1) in
-    elim c.match-answer_to.branch [
+    elim c.match-to.branch [
       | in-None w ↦ subst Next (sym (w.found-is ∙ w.or-found.ensures)) (open_so_far c.args.needs.now c.args.answers.now c.loop-need.need-index _ c.loop-need-test.true c.loop-need.found c.loop-need.invariant w.in-None.ensures.unanswered)
       | in-Some+else-holds-need w ↦ subst Next (sym w.found-is)
           (met_so_far c.args.needs.now c.args.answers.now c.loop-need.need-index _ c.loop-need-test.true c.loop-need.found c.loop-need.invariant (is_met c.args.answers.now _ w.in-Some.holds w.in-Some.ensures.answered w.if-holds-need.false))

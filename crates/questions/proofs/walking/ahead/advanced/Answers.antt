@@ -1,21 +1,37 @@
-use Rattle.std.proofs.Common.{refl}
+use Rattle.std.proofs.Common.{length, inl, inr, refl, arith}
 use Rattle.std.proofs.lemmas.List.Elements.{All-pop}
+use Rattle.table.specs.chains.Table.{chain_at}
+use Rattle.questions.specs.Scopes.{answered, known_by, table_of}
 use Rattle.questions.specs.steps.Waiting.{IsThere}
-use Rattle.questions.proofs.laws.ComeLaws.{advances}
+use Rattle.questions.proofs.laws.ComeLaws.{advances, high_left}
+use Rattle.questions.proofs.laws.ForeignLaws.{left_sound}
+use Rattle.questions.proofs.laws.LookLaws.{still_apart}
+use Rattle.questions.proofs.laws.ResolvedLaws.{count_left, there_left}
 use Rattle.questions.proofs.walking.ahead.advanced.Goals as goal
 
 pub returns-clause-further : goal.returns-clause-further
-returns-clause-further c = λ start are.
-    let t = c.args.subject.now.table.table in
-    let all = All-pop (IsThere t.chains) c.args.task.rests.items c.pop.new.self.items c.pop.result c.pop.ensures.items c.requires in
+returns-clause-further c = λ start are a.
+    let s = c.args.subject.now in
+    let own = table_of s in
+    let t = answered s a in
+    let at = c.in-Some.at in
+    let passed = c.next_place-passed.result in
+    let all = All-pop (IsThere own.chains) c.args.task.rests.items c.pop.new.self.items c.pop.result c.pop.ensures.items c.requires in
     let there = rw c.in-Some.is at all.1 in
+    let none = c.next_place-passed.ensures.none start.area (c.in_ok-find.ensures start.area are) in
     record {
-      area = refl;
+      same = refl;
       trail = refl;
-      waits = λ p can inside waits.
-          advances t start p c.stands.ensures.sound c.args.task (record { area = c.args.task.area; rests = c.push.new.self; trail = c.args.task.trail }) c.pop.new.self.items c.in-Some.at c.next_place-passed.result there can inside
-          c.in-Some.ensures.items c.in_ok-push.ensures.items refl refl c.next_place-passed.ensures.low c.next_place-passed.ensures.high (c.next_place-passed.ensures.none start (c.in_ok-find.ensures start are)) waits;
+      waits = λ p can of waits.
+          advances t (known_by s a) start.area p (left_sound s.needs.now a own c.stands.ensures.sound) c.args.task (record { scope = c.args.task.scope; rests = c.push.new.self; trail = c.args.task.trail }) c.pop.new.self.items at passed
+          (there_left s.needs.now a own at.chain there) can of.inside c.in-Some.ensures.items c.in_ok-push.ensures.items refl refl c.next_place-passed.ensures.low
+          (high_left at.passed passed (length (chain_at own at.chain).rules) (length (chain_at t at.chain).rules) (count_left s.needs.now a own at.chain there) c.next_place-passed.ensures.high)
+          (λ k lo hi. still_apart s.needs.now a own at c.stands.ensures.sound there start.area c.args.task.scope.area k
+          (elim c.next_place-passed.ensures.high [
+            | inl stays ↦ absurd (omega (arith, stays, lo, hi))
+            | inr within ↦ omega (arith, within, hi)
+          ]) (none k lo hi)) waits;
     }
 
 pub returns-clause-kept : goal.returns-clause-kept
-returns-clause-kept c = λ box are. c.count.ensures c.args.subject.now.table.table box (c.in_ok-find.ensures box are)
+returns-clause-kept c = λ box are. c.count.ensures (table_of c.args.subject.now) box (c.in_ok-find.ensures box are)

@@ -2,29 +2,42 @@ use Rattle.std.proofs.Common.{arith}
 use Rattle.std.proofs.lemmas.List.{nil_from_length}
 use Rattle.std.proofs.lemmas.List.Elements.{All-pop}
 use Rattle.std.proofs.lemmas.Result.{on_ok_weaker}
-use Rattle.questions.specs.Leaves.{entries_of}
+use Rattle.questions.specs.Scopes.{answered, entries_by, known_by, table_of}
 use Rattle.questions.specs.steps.Waiting.{IsThere, rests_of}
+use Rattle.questions.proofs.laws.ForeignLaws.{left_sound}
+use Rattle.questions.proofs.laws.ResolvedLaws.{all_left, count_left, there_left}
 use Rattle.questions.proofs.laws.WaitLaws.{at_rest, at_no_rest, comes_back, ended}
 use Rattle.questions.proofs.walking.engine.step.Goals as goal
 
 pub returns-then-at-rule_count : goal.returns-then-at-rule_count
 returns-then-at-rule_count c =
-    let t = c.args.subject.now.table.table in
-    let es = entries_of t.chains c.args.task.trail.items in
-    let all = All-pop (IsThere t.chains) c.args.task.rests.items c.pop.new.self.items c.pop.result c.pop.ensures.items c.requires.there in
+    let s = c.args.subject.now in
+    let own = table_of s in
+    let all = All-pop (IsThere own.chains) c.args.task.rests.items c.pop.new.self.items c.pop.result c.pop.ensures.items c.requires.there in
     let there = rw c.in-Some.is at all.1 in
-    on_ok_weaker c.add_task.result (λ h. at_rest t c.args.policy c.args.task.area c.args.front.now c.add_task.new.self c.args.task.rests.items c.pop.new.self.items c.in-Some.at es c.in-Some.ensures.items
-    (comes_back t c.stands.ensures.sound c.args.policy c.in-Some.at there c.args.task.area (rests_of t.chains c.pop.new.self.items) es c.args.front.now c.add_task.new.self (omega (arith, c.rule_count.ensures, c.if-at-rule_count.true)) (h t c.args.policy all.0))) c.add_task.ensures
+    on_ok_weaker c.add_task.result (λ h a.
+    let t = answered s a in
+    let known = known_by s a in
+    let es = entries_by known t.chains c.args.task.trail.items in
+    at_rest t known c.args.policy c.args.task.scope c.args.front.now c.add_task.new.self c.args.task.rests.items c.pop.new.self.items c.in-Some.at es c.in-Some.ensures.items
+    (comes_back t known (left_sound s.needs.now a own c.stands.ensures.sound) c.args.policy c.in-Some.at (there_left s.needs.now a own c.in-Some.at.chain there) c.args.task.scope (rests_of t.chains c.pop.new.self.items) es c.args.front.now c.add_task.new.self
+    (omega (arith, c.rule_count.ensures, c.if-at-rule_count.true, count_left s.needs.now a own c.in-Some.at.chain there)) (h t known c.args.policy (all_left s.needs.now a own c.pop.new.self.items all.0)))) c.add_task.ensures
 
 pub returns-in-None : goal.returns-in-None
 returns-in-None c =
-    let t = c.args.subject.now.table.table in
-    let es = entries_of t.chains c.args.task.trail.items in
-    on_ok_weaker c.add_leaf.result (λ h. at_no_rest t c.args.policy c.args.task.area c.args.front.now c.add_leaf.new.self c.args.task.rests.items es (nil_from_length c.args.task.rests.items (omega (arith, c.in-None.ensures.cases.0, c.args.task.rests.ok.0)))
-    (ended t c.args.policy c.args.task.area c.args.front.now c.add_leaf.new.self es (h t c.args.policy))) c.add_leaf.ensures
+    let s = c.args.subject.now in
+    on_ok_weaker c.add_leaf.result (λ h a.
+    let t = answered s a in
+    let known = known_by s a in
+    let es = entries_by known t.chains c.args.task.trail.items in
+    at_no_rest t known c.args.policy c.args.task.scope c.args.front.now c.add_leaf.new.self c.args.task.rests.items es (nil_from_length c.args.task.rests.items (omega (arith, c.in-None.ensures.cases.0, c.args.task.rests.ok.0)))
+    (ended t known c.args.policy c.args.task.scope c.args.front.now c.add_leaf.new.self es (h t known c.args.policy))) c.add_leaf.ensures
 
 pub returns-else-at-rule_count : goal.returns-else-at-rule_count
 returns-else-at-rule_count c =
-    let t = c.args.subject.now.table.table in
-    let es = entries_of t.chains c.args.task.trail.items in
-    on_ok_weaker c.ask.result (λ h. at_rest t c.args.policy c.args.task.area c.args.front.now c.ask.new.front c.args.task.rests.items c.pop.new.self.items c.in-Some.at es c.in-Some.ensures.items (h c.args.policy)) c.ask.ensures
+    let s = c.args.subject.now in
+    on_ok_weaker c.ask.result (λ h a.
+    let t = answered s a in
+    let known = known_by s a in
+    let es = entries_by known t.chains c.args.task.trail.items in
+    at_rest t known c.args.policy c.args.task.scope c.args.front.now c.ask.new.front c.args.task.rests.items c.pop.new.self.items c.in-Some.at es c.in-Some.ensures.items (h a c.args.policy)) c.ask.ensures

@@ -1,0 +1,63 @@
+use Rattle.std.proofs.Common.{◌⊎◌, get_or, refl, arith, sym, ◌∙◌, inl, inr, subst, Contains}
+use Rattle.std.proofs.lemmas.Bool.{true≢false}
+use Rattle.fields.specs.declared.packet.hook.Hook.{Hook}
+use Rattle.fields.specs.declared.packet.hook.Hook.TheVariants.{Input}
+use Rattle.fields.specs.packet.Hook.{all_hooks}
+use Rattle.table.specs.declared.walk.trail.Step.{Step}
+use Rattle.table.specs.walk.Walk.{Entry, walk}
+use Rattle.questions.specs.Scopes.{answered, table_of}
+use Rattle.questions.specs.asked.Always.{IsAlwaysDeadAt, MayLive}
+use Rattle.questions.proofs.laws.ResolvedLaws.{entry_left}
+use Rattle.questions.proofs.laws.VerdictLaws.{each_hook, hooks_next}
+use Rattle.questions.proofs.asked.rule.dead_under.Goals as goal
+use Rattle.questions.proofs.asked.rule.dead_under.Goals.{in-Dead, in-Unclear}
+
+pub loop-hook-preserved : goal.loop-hook-preserved
+loop-hook-preserved c =
+    let s = c.args.subject.now in
+    let step : Step = record { chain = c.args.place; number = c.args.number } in
+    let Dead : Hook → Type 0 = λ h. IsAlwaysDeadAt s step h in
+    let Each : Hook → Type 0 = λ h. Dead h ⊎ MayLive s step c.args.budget h in
+    elim c.match-branch-2.branch [
+      | in-Dead w ↦ (
+          let here : Dead (get_or all_hooks c.loop-hook.hook-index Input) = rw w.in-Dead.is at c.in_ok-life_at.ensures.says in
+          record {
+            dead = λ clear. hooks_next Dead c.loop-hook.hook-index (omega arith) here (c.loop-hook.invariant.dead (sym w.clear-is ∙ clear));
+            each = hooks_next Each c.loop-hook.hook-index (omega arith) (inl here) c.loop-hook.invariant.each;
+            some = λ off. c.loop-hook.invariant.some (sym w.clear-is ∙ off);
+          })
+      | in-Unclear w ↦ (
+          let here : MayLive s step c.args.budget (get_or all_hooks c.loop-hook.hook-index Input) = rw w.in-Unclear.is at c.in_ok-life_at.ensures.unclear in
+          record {
+            dead = λ clear. absurd (true≢false (sym clear ∙ w.clear-is));
+            each = hooks_next Each c.loop-hook.hook-index (omega arith) (inr here) c.loop-hook.invariant.each;
+            some = λ _. (get_or all_hooks c.loop-hook.hook-index Input, here);
+          })
+    ]
+
+pub returns-then-clear-clause-says : goal.returns-then-clear-clause-says
+returns-then-clear-clause-says c = λ a p can on.
+    let s = c.args.subject.now in
+    let step : Step = record { chain = c.args.place; number = c.args.number } in
+    let P : Entry → Type 0 = λ entry. Contains (walk (answered s a) p).trail entry in
+    each_hook (λ h. IsAlwaysDeadAt s step h) c.loop-hook.hook-index (omega arith) (c.loop-hook.invariant.dead c.if-clear.true) p.hook a p can refl (subst P (sym (entry_left s.needs.now a (table_of s) step)) on)
+
+pub returns-clause-unclear : goal.returns-clause-unclear
+returns-clause-unclear c =
+    let s = c.args.subject.now in
+    let step : Step = record { chain = c.args.place; number = c.args.number } in
+    let Each : Hook → Type 0 = λ h. IsAlwaysDeadAt s step h ⊎ MayLive s step c.args.budget h in
+    (each_hook Each c.loop-hook.hook-index (omega arith) c.loop-hook.invariant.each, c.loop-hook.invariant.some c.if-clear.false)
+
+pub returns-in-Live-clause-says : goal.returns-in-Live-clause-says
+returns-in-Live-clause-says c =
+    let s = c.args.subject.now in
+    let step : Step = record { chain = c.args.place; number = c.args.number } in
+    let (consistent, live) = rw c.in-Live.is at c.in_ok-life_at.ensures.says in
+    record {
+      consistent = consistent;
+      live = λ a agrees.
+          (let (p, writes, there, on) = live a agrees in
+          let P : Entry → Type 0 = λ entry. Contains (walk (answered s a) p).trail entry in
+          (p, writes, subst P (entry_left s.needs.now a (table_of s) step) on));
+    }

@@ -1,0 +1,58 @@
+use Rattle.std.proofs.Common.{◌≡◌, ◌≢◌, inl, inr, sym, ◌∙◌, Bool, Contains, IsTrue}
+use Rattle.std.specs.Prelude.{IsFalse}
+use Rattle.std.proofs.lemmas.Bool.{true≢false}
+use Rattle.std.proofs.lemmas.Result.{IfOk-weaker}
+use Rattle.table.specs.declared.verdict.Verdict.TheVariants.{TooLong}
+use Rattle.table.specs.walk.Walk.{walk}
+use Rattle.questions.specs.Foreign.{Agrees, Assignment}
+use Rattle.questions.specs.Leaves.{entry_of}
+use Rattle.questions.specs.Scopes.{answered, known_by, table_of}
+use Rattle.questions.specs.asked.Unclear.{IsUnended, MayBeTooLong}
+use Rattle.questions.specs.steps.Coming.{IsSought}
+use Rattle.questions.proofs.laws.AnswerLaws.{some_assignment_gives}
+use Rattle.questions.proofs.laws.PlainLaws.{from_plain, to_plain}
+use Rattle.questions.proofs.laws.WitnessLaws.{sought_on}
+use Rattle.questions.proofs.asked.witness.is_shown.Goals as goal
+
+pub is_walked-requires-clause-came : goal.is_walked-requires-clause-came
+is_walked-requires-clause-came c =
+    let (a, agrees) = some_assignment_gives c.args.scope.now.answers c.stand.ensures in
+    to_plain c.args.subject.now (c.are_none.ensures.0 c.if-are_none.true) (λ t. IsSought t (entry_of t.chains c.args.step) c.args.packet.now) a (c.requires.came a agrees)
+
+pub returns-then-are_none-clause-on : goal.returns-then-are_none-clause-on
+returns-then-are_none-clause-on c =
+    let s = c.args.subject.now in
+    let p = c.args.packet.now in
+    let step = c.args.step in
+    let own = table_of s in
+    IfOk-weaker c.is_walked.result (λ (is : Bool). IsTrue is → Contains (walk own p).trail (entry_of own.chains step))
+    (λ (is : Bool). IsTrue is → (a : Assignment) → Agrees a c.args.scope.now.answers → Contains (walk (answered s a) p).trail (entry_of (answered s a).chains step))
+    (λ is h on a agrees. from_plain s (c.are_none.ensures.0 c.if-are_none.true) (λ t. Contains (walk t p).trail (entry_of t.chains step)) a (h on)) c.is_walked.ensures.on
+
+pub returns-then-are_none-clause-long : goal.returns-then-are_none-clause-long
+returns-then-are_none-clause-long c =
+    let s = c.args.subject.now in
+    let p = c.args.packet.now in
+    let own = table_of s in
+    IfOk-weaker c.is_walked.result (λ (is : Bool). IsFalse is → (walk own p).verdict ≡ TooLong)
+    (λ (is : Bool). IsFalse is → (a : Assignment) → MayBeTooLong (answered s a) (known_by s a) p.hook c.args.budget c.args.scope.now.answers p)
+    (λ is h un a. inl (from_plain s (c.are_none.ensures.0 c.if-are_none.true) (λ t. (walk t p).verdict ≡ TooLong) a (h un))) c.is_walked.ensures.long
+
+pub returns-clause-on : goal.returns-clause-on
+returns-clause-on c =
+    let s = c.args.subject.now in
+    let p = c.args.packet.now in
+    let step = c.args.step in
+    let answers = c.args.scope.now.answers in
+    IfOk-weaker c.are_ended.result (λ (is : Bool). IsTrue is → (a : Assignment) → Agrees a answers → (walk (answered s a) p).verdict ≢ TooLong)
+    (λ (is : Bool). IsTrue is → (a : Assignment) → Agrees a answers → Contains (walk (answered s a) p).trail (entry_of (answered s a).chains step))
+    (λ is h on a agrees. sought_on (answered s a) (entry_of (answered s a).chains step) p (c.requires.came a agrees) (h on a agrees)) c.are_ended.ensures.short
+
+pub returns-clause-long : goal.returns-clause-long
+returns-clause-long c =
+    let s = c.args.subject.now in
+    let p = c.args.packet.now in
+    let answers = c.args.scope.now.answers in
+    IfOk-weaker c.are_ended.result (λ (is : Bool). IsFalse is → (a : Assignment) → IsUnended (answered s a) (known_by s a) p.hook c.args.budget answers p)
+    (λ (is : Bool). IsFalse is → (a : Assignment) → MayBeTooLong (answered s a) (known_by s a) p.hook c.args.budget answers p)
+    (λ is h un a. inr ((λ none. true≢false (sym (c.are_none.ensures.1 none) ∙ c.if-are_none.false)), h un a)) c.are_ended.ensures.long

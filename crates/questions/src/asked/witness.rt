@@ -1,0 +1,126 @@
+//! A packet that shows that a rule isn't dead.
+ghost use Rattle.std.specs.Prelude.{◌≡◌, ◌≢◌, Contains, IfOk, IsFalse, IsTrue, MatchOption};
+ghost use Rattle.fields.specs.packet.Packet.{PacketView, IsPacket};
+ghost use Rattle.table.specs.declared.verdict.Verdict.TheVariants.{TooLong};
+ghost use Rattle.table.specs.walk.Walk.{walk};
+ghost use Rattle.questions.specs.Ends.{IsRule};
+ghost use Rattle.questions.specs.Foreign.{Agrees, Assignment};
+ghost use Rattle.questions.specs.Leaves.{entry_of};
+ghost use Rattle.questions.specs.Scopes.{IsOf, answered, known_by, table_of};
+ghost use Rattle.questions.specs.asked.Rule.{IsLiveAt};
+ghost use Rattle.questions.specs.asked.Unclear.{IsUnended, IsUnseen, MayBeTooLong};
+ghost use Rattle.questions.specs.boxes.Area.{IsAtHook, IsIn};
+ghost use Rattle.questions.specs.steps.Coming.{IsSought};
+
+use crate::asked::rule::is_on;
+use crate::boxes::area::Area;
+use crate::foreign::answers::Answers;
+use crate::foreign::subject::Subject;
+use crate::sampling::sample::{Sample, sample_of};
+use crate::walking::engine::leaves_under;
+use crate::walking::scope::Scope;
+use fields::{Field, Hook, Packet, Spans, Words};
+use std::alloc::{AllocError, Global};
+use table::{Step, Table};
+
+// The box of one packet of a box.
+fn box_of(alloc: Global, area: &Area, packet: &Packet) -> Result<Area, AllocError>
+    requires packet { IsPacket packet.now }
+    requires inside { IsIn area.now packet.now }
+    ensures { IfOk result (λ own. IsIn own packet.now) }
+{
+    let mut own = area.copy(alloc)?;
+    for field in Field::ALL {
+        let number = packet.point(field);
+        let set = Spans::one(alloc, field.top(), number, number)?;
+        own = own.narrow(alloc, field, &set)?;
+    }
+    Ok(own)
+}
+
+// Whether a rule is on the walk of a packet that comes to it if its walk isn't too long.
+fn is_walked(table: &Table, packet: &Packet, step: Step) -> Result<bool, AllocError>
+    requires step { IsRule table.now.table step }
+    requires came { IsSought table.now.table (entry_of table.now.table.chains step) packet.now }
+    ensures on { IfOk result (λ is. IsTrue is → Contains (walk table.now.table packet.now).trail (entry_of table.now.table.chains step)) }
+    ensures long { IfOk result (λ is. IsFalse is → (walk table.now.table packet.now).verdict ≡ TooLong) }
+{
+    table.stands();
+    let trail = table.trail(packet)?;
+    Ok(is_on(trail.steps(), step))
+}
+
+// Whether the walks of a packet of a scope are known to end, for all assignments that give the answers: its box walks.
+fn are_ended(
+    alloc: Global,
+    subject: &Subject<'_>,
+    scope: &Scope,
+    packet: &Packet,
+    budget: usize,
+) -> Result<bool, AllocError>
+    requires can { IsAtHook packet.now }
+    requires inside { IsIn scope.now.area packet.now }
+    ensures short { IfOk result (λ are. IsTrue are → (a : Assignment) → Agrees a scope.now.answers → (walk (answered subject.now a) packet.now).verdict ≢ TooLong) }
+    ensures long { IfOk result (λ are. IsFalse are → (a : Assignment)
+        → IsUnended (answered subject.now a) (known_by subject.now a) packet.now.hook budget scope.now.answers packet.now) }
+{
+    let answers = scope.answers.copy(alloc)?;
+    let area = box_of(alloc, &scope.area, packet)?;
+    let start = Scope { area, answers };
+    let found = leaves_under(alloc, subject, packet.hook(), start, budget)?;
+    Ok(found.is_some())
+}
+
+// Whether a rule is known to be on the walks of a packet that comes to it if they aren't too long. Where no rule needs anything the packet walks the
+// table; else its box does, for all assignments that give the answers.
+fn is_shown(
+    alloc: Global,
+    subject: &Subject<'_>,
+    scope: &Scope,
+    packet: &Packet,
+    step: Step,
+    budget: usize,
+) -> Result<bool, AllocError>
+    requires step { IsRule (table_of subject.now) step }
+    requires can { IsAtHook packet.now }
+    requires inside { IsIn scope.now.area packet.now }
+    requires came { (a : Assignment) → Agrees a scope.now.answers
+        → IsSought (answered subject.now a) (entry_of (answered subject.now a).chains step) packet.now }
+    ensures on { IfOk result (λ is. IsTrue is → (a : Assignment) → Agrees a scope.now.answers
+        → Contains (walk (answered subject.now a) packet.now).trail (entry_of (answered subject.now a).chains step)) }
+    ensures long { IfOk result (λ is. IsFalse is → (a : Assignment)
+        → MayBeTooLong (answered subject.now a) (known_by subject.now a) packet.now.hook budget scope.now.answers packet.now) }
+{
+    scope.answers.stand();
+    if subject.needs.are_none() {
+        return is_walked(&subject.boxed.table, packet, step);
+    }
+    are_ended(alloc, subject, scope, packet, budget)
+}
+
+// A packet of a scope that came to the rule, if its walks are known not to be too long.
+pub(crate) fn witness(
+    alloc: Global,
+    subject: &Subject<'_>,
+    hook: Hook,
+    scope: &Scope,
+    step: Step,
+    budget: usize,
+) -> Result<Option<Words>, AllocError>
+    requires step { IsRule (table_of subject.now) step }
+    requires came { (a : Assignment) (p : PacketView) → IsAtHook p → p.hook ≡ hook → IsOf (known_by subject.now a) p scope.now
+        → IsSought (answered subject.now a) (entry_of (answered subject.now a).chains step) p }
+    ensures { IfOk result (λ found. MatchOption found
+        ((a : Assignment) → IsUnseen (answered subject.now a) (known_by subject.now a) hook budget scope.now)
+        (λ words. (a : Assignment) → Agrees a scope.now.answers
+        → IsLiveAt (answered subject.now a) (entry_of (answered subject.now a).chains step) hook words)) }
+{
+    let Some(sample) = sample_of(alloc, hook, &scope.area)? else {
+        return Ok(None);
+    };
+    let Sample { words, packet } = sample;
+    if is_shown(alloc, subject, scope, &packet, step, budget)? {
+        return Ok(Some(words));
+    }
+    Ok(None)
+}
