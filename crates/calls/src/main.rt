@@ -6,6 +6,8 @@
 //! first two are made for runs in which one allocation is refused. What is printed is the same whether one of the cases' was refused or
 //! not. The status is 0 where no call was refused, and 4 where one was.
 //!
+//! With the word `conditions` it reads a dump whose comments say what rules need beyond the profile, and prints which rules are dead.
+//!
 //! With the word `free` and no input it prints cases of calls that promise to take no memory. With a case and a number as its
 //! input, as `spans 1000`, it makes the calls of the case so often. After them it takes memory and gives it back until that is
 //! refused once, and prints how often it got it. So where one allocation of the run is refused, a late one, this number says
@@ -15,6 +17,7 @@
 mod again;
 mod ample;
 mod bit_lists;
+mod conditions;
 mod free;
 mod intervals;
 mod refused;
@@ -29,9 +32,9 @@ use crate::refused::{asked, bit_rows, planted, port_sets, sets};
 use crate::tables::{commands, lent, sections, taps};
 use crate::trouble::Trouble;
 use questions::BoxedTable;
-use std::env;
 use std::process::ExitCode;
 use std::rt::Env;
+use std::{env, io};
 
 /// The names of the groups, in the order in which they are made.
 const GROUPS: &[&str] = &[
@@ -178,6 +181,10 @@ fn main(rt: HostRuntime) -> ExitCode {
     if word == Some("free") {
         free::job::done(&rt, &mut rt.reader());
         return ExitCode::from(0);
+    }
+    if word == Some("conditions") {
+        let ended = conditions::answer(rt.alloc(), &mut rt.reader(), io::writer(&rt));
+        return ExitCode::from(if ended.is_ok() { 0 } else { 2 });
     }
     let mut refusals = Refusals::new();
     run(&rt, &mut refusals, word);
