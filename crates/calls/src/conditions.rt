@@ -3,13 +3,18 @@
 //! The input is a dump of iptables-save. A line `# needs CHAIN NUMBER CONDITION..` of it says what a rule of that number needs: that a
 //! condition, told by a number, holds, or after `!` that it doesn't. For each rule a line is printed: `dead CHAIN NUMBER`, `unclear CHAIN
 //! NUMBER`, or `live CHAIN NUMBER CONDITION..: WORDS`, with the answers under which a packet line shows the rule, and the words of that line.
+//!
+//! Or two dumps are read, of which the second begins with a line `# next`. Then one line says whether they give each packet at INPUT the
+//! same verdict, whatever holds: `same`, `unclear`, or `differs CONDITION..: WORDS`, with a packet and the answers under which it shows that.
 ghost use Rattle.std.specs.Prelude.{◌<◌, ◌≤◌, length};
 ghost use Rattle.table.specs.chains.Table.{chain_at};
 
 use crate::trouble::Trouble;
 use crate::written::words_of;
-use fields::{Tap, Words, read_number};
-use questions::{Answers, BoxedTable, Life, Need, Needs, Subject, dead_under};
+use fields::{Hook, Tap, Words, read_number};
+use questions::{
+    Alike, Answers, BoxedTable, Life, Need, Needs, Subject, compare_under, dead_under,
+};
 use rules::Work;
 use sessions::Session;
 use std::alloc::{AllocError, Global};
@@ -18,6 +23,9 @@ use table::Table;
 
 /// How many steps each question has.
 const STEPS: usize = 20_000;
+
+/// What begins a second dump.
+const NEXT: &[u8] = b"\n# next\n";
 
 /// What the rules of a table need, chain by chain.
 type Listed = Vec<Vec<Vec<Need>>>;
@@ -184,23 +192,68 @@ fn put_chain<W: Write>(
     Ok(())
 }
 
-/// Reads a dump, and prints what is known of each of its rules.
+/// A table that is asked about, and what its rules need.
+fn subject_of(alloc: Global, dump: &[u8]) -> Result<(BoxedTable, Needs), Trouble> {
+    let table = restored(alloc, dump)?;
+    let needs = needs_of(alloc, &table, dump)?;
+    Ok((BoxedTable::of(alloc, table, &mut Work::new())?, needs))
+}
+
+/// Prints what is known of each rule of a dump.
+fn put_lives<W: Write>(alloc: Global, output: &mut Tap<W>, dump: &[u8]) -> Result<(), Trouble> {
+    let (boxed, needs) = subject_of(alloc, dump)?;
+    let subject = Subject {
+        boxed: &boxed,
+        needs: &needs,
+    };
+    for place in 0..boxed.table.chain_count() {
+        put_chain(alloc, output, &subject, place)?;
+    }
+    Ok(())
+}
+
+/// Prints what is known of two dumps, for the packets at INPUT.
+fn put_likeness<W: Write>(
+    alloc: Global,
+    output: &mut Tap<W>,
+    old: &[u8],
+    new: &[u8],
+) -> Result<(), Trouble> {
+    let (old, old_needs) = subject_of(alloc, old)?;
+    let (new, new_needs) = subject_of(alloc, new)?;
+    let first = Subject {
+        boxed: &old,
+        needs: &old_needs,
+    };
+    let second = Subject {
+        boxed: &new,
+        needs: &new_needs,
+    };
+    match compare_under(alloc, &first, &second, Hook::Input, STEPS)? {
+        Alike::Same => put(output, b"same\n"),
+        Alike::Unclear => put(output, b"unclear\n"),
+        Alike::Differ(words, answers) => {
+            put(output, b"differs")?;
+            put_answers(alloc, output, &answers)?;
+            put(output, b":")?;
+            put_words(output, &words)?;
+            put(output, b"\n")
+        }
+    }
+}
+
+/// Reads a dump and prints what is known of each of its rules; or two, and whether they give each packet the same verdict.
 pub fn answer<R: Read, W: Write + Drop>(
     alloc: Global,
     input: &mut R,
     writer: W,
 ) -> Result<(), Trouble> {
-    let dump = read_all(alloc, input)?;
-    let table = restored(alloc, dump.as_slice())?;
-    let needs = needs_of(alloc, &table, dump.as_slice())?;
-    let boxed = BoxedTable::of(alloc, table, &mut Work::new())?;
-    let subject = Subject {
-        boxed: &boxed,
-        needs: &needs,
-    };
+    let bytes = read_all(alloc, input)?;
+    let bytes = bytes.as_slice();
     let mut output = Tap::new(writer);
-    for place in 0..boxed.table.chain_count() {
-        put_chain(alloc, &mut output, &subject, place)?;
+    match bytes.windows(NEXT.len()).position(|window| window == NEXT) {
+        None => put_lives(alloc, &mut output, bytes)?,
+        Some(at) => put_likeness(alloc, &mut output, &bytes[..at], &bytes[at..])?,
     }
     output.flush().or(Err(Trouble::OtherAnswer))
 }

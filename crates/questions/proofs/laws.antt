@@ -1,4 +1,5 @@
 pub mod AheadLaws
+pub mod AlikeLaws
 pub mod AnswerLaws
 pub mod AreaLaws
 pub mod BoxesLaws

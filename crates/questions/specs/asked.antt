@@ -1,3 +1,4 @@
+pub mod Alike
 pub mod Always
 pub mod Changes
 pub mod Laws

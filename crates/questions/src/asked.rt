@@ -1,4 +1,5 @@
 //! The questions about all packets, and their answers.
+pub(crate) mod alike;
 pub(crate) mod changes;
 pub(crate) mod coming;
 pub(crate) mod equal;

@@ -9,6 +9,7 @@ mod foreign;
 mod sampling;
 mod walking;
 
+pub use asked::alike::{Alike, compare_under};
 pub use asked::changes::{Changes, changes_of};
 pub use asked::laws::{
     answers_exclude_each_other, changes_elsewhere, changes_off_the_walk, dead_rules_can_go,

@@ -6,8 +6,8 @@ use crate::trouble::{Trouble, expect};
 use crate::written::{Placed, are_words, has_listing, table_of};
 use fields::{Field, Hook, Interval, Spans};
 use questions::{
-    Area, BoxedTable, Given, Leaf, Life, Likeness, Need, Needs, Reached, Reason, Subject,
-    compare_at, dead, dead_under, leaves, reach, why_dead,
+    Alike, Area, BoxedTable, Given, Leaf, Life, Likeness, Need, Needs, Reached, Reason, Subject,
+    compare_at, compare_under, dead, dead_under, leaves, reach, why_dead,
 };
 use rules::Work;
 use std::alloc::{AllocError, Global};
@@ -167,7 +167,7 @@ fn is_live_without(life: &Life) -> bool {
     }
 }
 
-/// `dead_under`, where the first rule needs that a condition holds.
+/// `dead_under` and `compare_under`, where the first rule needs that a condition holds.
 pub fn lives_under(
     alloc: Global,
     refusals: &mut Refusals,
@@ -186,7 +186,13 @@ pub fn lives_under(
             dead_under(alloc, &subject, at.chain, at.number, BUDGET),
             has_listing(alloc, table, REST)?
         );
-        return expect(is_live_without(&life));
+        expect(is_live_without(&life))?;
+        let alike = again!(
+            refusals,
+            compare_under(alloc, &subject, &subject, Hook::Input, BUDGET),
+            has_listing(alloc, table, REST)?
+        );
+        return expect(matches!(&alike, Alike::Same));
     }
     Err(Trouble::OtherAnswer)
 }

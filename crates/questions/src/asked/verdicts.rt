@@ -46,7 +46,7 @@ pub(crate) struct Course {
 }
 
 // Whether all leaves have this verdict.
-fn all_give(found: &[Leaf], verdict: Verdict) -> bool
+pub(crate) fn all_give(found: &[Leaf], verdict: Verdict) -> bool
     ensures all { IsTrue result → All (λ leaf. leaf.verdict ≡ verdict) found.now }
     ensures some { result ≡ false → Any (λ leaf. leaf.verdict ≢ verdict) found.now }
 {
