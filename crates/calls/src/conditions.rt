@@ -13,7 +13,7 @@ use crate::trouble::Trouble;
 use crate::written::words_of;
 use fields::{Hook, Tap, Words, read_number};
 use questions::{
-    Alike, Answers, BoxedTable, Life, Need, Needs, Subject, compare_under, dead_under,
+    Answers, BoxedTable, Life, Likeness, Need, Needs, Subject, compare_at_under, dead_under,
 };
 use rules::Work;
 use sessions::Session;
@@ -229,10 +229,10 @@ fn put_likeness<W: Write>(
         boxed: &new,
         needs: &new_needs,
     };
-    match compare_under(alloc, &first, &second, Hook::Input, STEPS)? {
-        Alike::Same => put(output, b"same\n"),
-        Alike::Unclear => put(output, b"unclear\n"),
-        Alike::Differ(words, answers) => {
+    match compare_at_under(alloc, &first, &second, Hook::Input, STEPS)? {
+        Likeness::Same => put(output, b"same\n"),
+        Likeness::Unclear => put(output, b"unclear\n"),
+        Likeness::Differ(words, answers) => {
             put(output, b"differs")?;
             put_answers(alloc, output, &answers)?;
             put(output, b":")?;

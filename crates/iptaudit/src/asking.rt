@@ -118,7 +118,7 @@ impl<'a, R: Clock, E: Print + IsTerminal> Asking<'a, R, E> {
         old: &BoxedTable,
         new: &BoxedTable,
     ) -> Result<Changes, AllocError> {
-        changes_of(self.alloc, &old.table, &new.table)
+        changes_of(self.alloc, old, new)
     }
 
     /// The verdicts of a set of packets, grouped by a field (`reach`), by their deciders in the order of a listing; those that a policy

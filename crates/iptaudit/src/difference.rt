@@ -69,7 +69,7 @@ pub(crate) fn difference_status(found: &Difference) -> u8 {
     for entry in found.hooks.as_slice() {
         match entry.likeness {
             Likeness::Same => {}
-            Likeness::Differ(_) => differ = true,
+            Likeness::Differ(_, _) => differ = true,
             Likeness::Unclear => unclear = true,
         }
     }
@@ -120,7 +120,7 @@ pub(crate) fn put_differences<'a, W: Write>(
         output.put(entry.hook.name())?;
         match &entry.likeness {
             Likeness::Same => output.put(b" same\n")?,
-            Likeness::Differ(words) => {
+            Likeness::Differ(words, _) => {
                 output.put(b" differs\n")?;
                 put_difference(old, new, words, output)?;
             }

@@ -84,7 +84,7 @@ pub(crate) fn differences_answer(
     for entry in found.hooks.as_slice() {
         hooks.push(match &entry.likeness {
             Likeness::Same => bare_entry(alloc, entry.hook, LikenessWord::Same)?,
-            Likeness::Differ(words) => difference_entry(alloc, old, new, entry.hook, words)?,
+            Likeness::Differ(words, _) => difference_entry(alloc, old, new, entry.hook, words)?,
             Likeness::Unclear => bare_entry(alloc, entry.hook, LikenessWord::Unclear)?,
         })?;
     }

@@ -26,6 +26,7 @@ pub mod LookLaws
 pub mod MeetingLaws
 pub mod NeverLaws
 pub mod PacketLaws
+pub mod PlainCompareLaws
 pub mod PlainLaws
 pub mod ReachLaws
 pub mod ResolvedLaws

@@ -82,3 +82,17 @@ AreLeavesUnder t known hook scope leaves = (p : Packet) → IsAtHook p → p.hoo
 -- each packet of a leaf's box that can be at the hook is in the scope, if the leaf's answers are right, and its walk is the one that the leaf shows
 abbrev pub AreExactUnder : Table → Known → Hook → Scope → List Leaf → Type 0
 AreExactUnder t known hook scope leaves = (p : Packet) → IsAtHook p → p.hook ≡ hook → All (ShowsUnder t known scope p) leaves
+
+-- A table as it is, what is left of it once it is known which conditions hold, and what is known.
+pub record Left : Type 0 where
+  pub whole : Table
+  pub table : Table
+  pub known : Known
+
+-- what is left of it under an assignment
+abbrev pub left_of : Subject → Assignment → Left
+left_of subject a = record { whole = table_of subject; table = answered subject a; known = known_by subject a }
+
+-- all of it, where no rule needs anything
+abbrev pub all_of : Table → Left
+all_of t = record { whole = t; table = t; known = needless }

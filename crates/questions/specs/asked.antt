@@ -1,6 +1,7 @@
 pub mod Alike
 pub mod Always
 pub mod Changes
+pub mod Differing
 pub mod Laws
 pub mod Reach
 pub mod Reason

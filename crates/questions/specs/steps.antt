@@ -10,6 +10,7 @@ pub mod Exact
 pub mod Groups
 pub mod Leading
 pub mod Lines
+pub mod Meant
 pub mod Outlines
 pub mod Sampled
 pub mod Searched

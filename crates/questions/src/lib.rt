@@ -9,17 +9,17 @@ mod foreign;
 mod sampling;
 mod walking;
 
-pub use asked::alike::{Alike, compare_under};
-pub use asked::changes::{Changes, changes_of};
+pub use asked::changes::{Changes, changes_of, changes_under};
+pub use asked::compare::{compare, compare_at, compare_at_under, compare_under};
 pub use asked::laws::{
     answers_exclude_each_other, changes_elsewhere, changes_off_the_walk, dead_rules_can_go,
 };
+pub use asked::likeness::Likeness;
 pub use asked::reach::{Given, reach};
 pub use asked::reached::Reached;
 pub use asked::reason::{Reason, why_dead};
 pub use asked::rule::{Life, dead, dead_under};
 pub use asked::takers::Takers;
-pub use asked::verdicts::{Likeness, compare, compare_at};
 pub use boxes::area::Area;
 pub use boxes::boxed_table::BoxedTable;
 pub use boxes::transport::carrying;

@@ -4,10 +4,10 @@ ghost use Rattle.std.specs.Prelude.{◌<◌, ◌≤◌, length};
 use crate::again::{Refusals, again, expect_kept};
 use crate::trouble::{Trouble, expect};
 use crate::written::{Placed, are_words, has_listing, table_of};
-use fields::{Field, Hook, Interval, Spans};
+use fields::{Field, Hook, Interval, Spans, Words};
 use questions::{
-    Alike, Area, BoxedTable, Given, Leaf, Life, Likeness, Need, Needs, Reached, Reason, Subject,
-    compare_at, compare_under, dead, dead_under, leaves, reach, why_dead,
+    Area, BoxedTable, Given, Leaf, Life, Likeness, Need, Needs, Reached, Reason, Subject,
+    compare_at, compare_at_under, dead, dead_under, leaves, reach, why_dead,
 };
 use rules::Work;
 use std::alloc::{AllocError, Global};
@@ -45,33 +45,27 @@ const LAST: Step = Step {
 /// More steps than any question takes.
 const BUDGET: usize = 1000;
 
-/// The words of a packet to the port of the last rule.
-const DROPPED: &[&[u8]] = &[
-    b"INPUT",
-    b"src=192.0.2.1",
-    b"dst=198.51.100.1",
-    b"in=eth0",
-    b"proto=6",
-    b"sport=40000",
-    b"dport=23",
-    b"flags=SYN",
-    b"ct=NEW",
-    b"ttl=64",
-];
+/// The words of the ports of the last two rules.
+const FIRST_PORT: &[u8] = b"dport=22";
 
-/// The words of a packet to the port of the rule before it.
-const DROPPED_FIRST: &[&[u8]] = &[
-    b"INPUT",
-    b"src=192.0.2.1",
-    b"dst=198.51.100.1",
-    b"in=eth0",
-    b"proto=6",
-    b"sport=40000",
-    b"dport=22",
-    b"flags=SYN",
-    b"ct=NEW",
-    b"ttl=64",
-];
+const LAST_PORT: &[u8] = b"dport=23";
+
+/// Whether the words are those of the packet that questions offer to a port.
+fn are_to(words: &Words, port: &'static [u8]) -> bool {
+    let expected: [&'static [u8]; 10] = [
+        b"INPUT",
+        b"src=192.0.2.1",
+        b"dst=198.51.100.1",
+        b"in=eth0",
+        b"proto=6",
+        b"sport=40000",
+        port,
+        b"flags=SYN",
+        b"ct=NEW",
+        b"ttl=64",
+    ];
+    are_words(words, expected.as_slice())
+}
 
 /// A table with the boxes of its rules.
 fn boxed(alloc: Global, table: &Table) -> Result<BoxedTable, AllocError> {
@@ -120,7 +114,7 @@ pub fn lives(alloc: Global, refusals: &mut Refusals, subject: &BoxedTable) -> Re
     let (life, reason) = known_of(alloc, refusals, subject, LAST)?;
     expect(reason.is_none())?;
     match life {
-        Life::Live(words, _) => expect(are_words(&words, DROPPED))?,
+        Life::Live(words, _) => expect(are_to(&words, LAST_PORT))?,
         Life::Dead | Life::Unclear => return Err(Trouble::OtherAnswer),
     }
     let (life, reason) = known_of(alloc, refusals, subject, DEAD)?;
@@ -158,7 +152,7 @@ fn is_live_without(life: &Life) -> bool {
     let mut others = answers.listed().iter();
     match others.next() {
         Some(answer) => {
-            are_words(words, DROPPED_FIRST)
+            are_to(words, FIRST_PORT)
                 && answer.condition == 7
                 && !answer.holds
                 && others.next().is_none()
@@ -167,7 +161,7 @@ fn is_live_without(life: &Life) -> bool {
     }
 }
 
-/// `dead_under` and `compare_under`, where the first rule needs that a condition holds.
+/// `dead_under` and `compare_at_under`, where the first rule needs that a condition holds.
 pub fn lives_under(
     alloc: Global,
     refusals: &mut Refusals,
@@ -187,12 +181,12 @@ pub fn lives_under(
             has_listing(alloc, table, REST)?
         );
         expect(is_live_without(&life))?;
-        let alike = again!(
+        let likeness = again!(
             refusals,
-            compare_under(alloc, &subject, &subject, Hook::Input, BUDGET),
+            compare_at_under(alloc, &subject, &subject, Hook::Input, BUDGET),
             has_listing(alloc, table, REST)?
         );
-        return expect(matches!(&alike, Alike::Same));
+        return expect(matches!(&likeness, Likeness::Same));
     }
     Err(Trouble::OtherAnswer)
 }
@@ -222,7 +216,7 @@ pub fn compared(
     let itself = likeness_to(alloc, refusals, subject, subject)?;
     expect(matches!(itself, Likeness::Same))?;
     match likeness_to(alloc, refusals, subject, &other)? {
-        Likeness::Differ(words) => expect(are_words(&words, DROPPED)),
+        Likeness::Differ(words, _) => expect(are_to(&words, LAST_PORT)),
         Likeness::Same | Likeness::Unclear => Err(Trouble::OtherAnswer),
     }
 }

@@ -1,22 +1,32 @@
 -- What two tables have in common, whatever holds that their rules need.
-use Rattle.std.proofs.Common.{◌≡◌, List, [], sym, ◌∙◌, ap, subst, All}
-use Rattle.std.proofs.lemmas.List.Elements.{All-contains, All-nil}
+use Rattle.std.proofs.Common.{◌≡◌, ℕ, List, [], inl, sym, ◌∙◌, ap, subst, All}
+use Rattle.std.proofs.lemmas.Bool.{true≢false}
+use Rattle.std.proofs.lemmas.List.Elements.{All-contains}
 use Rattle.fields.specs.declared.packet.hook.Hook.{Hook}
-use Rattle.fields.specs.packet.Packet.{PacketView as Packet}
+use Rattle.fields.specs.numbers.Spans.{SpanSet}
+use Rattle.table.specs.declared.walk.trail.Step.{Step}
 use Rattle.table.specs.walk.Walk.{Walked}
+use Rattle.questions.specs.Ends.{IsRule}
 use Rattle.questions.specs.Foreign.{Agrees, AreConsistent, Assignment}
 use Rattle.questions.specs.asked.Verdicts.{IsOtherAt}
-use Rattle.questions.specs.Scopes.{AreExactUnder, AreLeavesUnder, IsOf, ShowsUnder, answered, known_by, scope_of}
-use Rattle.questions.specs.asked.Alike.{IsAlwaysSameAt, IsGivenBy, IsOfOther, IsOtherWith, IsSameIn, IsUnclearIf, SaysIf}
+use Rattle.questions.specs.Scopes.{AreExactUnder, AreLeavesUnder, IsOf, ShowsUnder, answered, known_by, left_of, scope_of, table_of}
+use Rattle.questions.specs.asked.Alike.{HoldsWith, IsAlwaysSettled, IsGivenBy, IsOfOther, IsSameIn, IsSameOn, SaysIf}
+use Rattle.questions.specs.asked.Differing.{IsUnclearIf, MayDifferOn}
 use Rattle.questions.specs.boxes.Area.{IsAtHook, IsBoth, IsIn}
-use Rattle.questions.specs.declared.asked.alike.Alike.{Alike}
-use Rattle.questions.specs.declared.asked.alike.Alike.TheVariants as alike
-use Rattle.questions.specs.declared.asked.alike.Shown.{Shown}
+use Rattle.questions.specs.declared.asked.likeness.Likeness.{Likeness}
+use Rattle.questions.specs.declared.asked.likeness.Likeness.TheVariants as likeness
+use Rattle.questions.specs.declared.asked.other.Shown.{Shown}
 use Rattle.questions.specs.declared.foreign.answers.Answer.{Answer}
 use Rattle.questions.specs.declared.foreign.subject.Subject.{Subject}
 use Rattle.questions.specs.declared.walking.scope.Scope.{Scope}
 use Rattle.questions.specs.declared.walking.task.Leaf.{Leaf}
+use Rattle.questions.specs.steps.Answered.{MeetsNever}
+use Rattle.questions.specs.steps.Compared.{MayDifferOf}
+use Rattle.questions.specs.steps.Meant.{IsScopeAt, needs_of}
+use Rattle.questions.specs.steps.Takers.{IsMatchedAt}
 use Rattle.questions.proofs.laws.PacketLaws.{written_at_hooks}
+use Rattle.questions.proofs.laws.PlainLaws.{gives_none}
+use Rattle.questions.proofs.laws.ResolvedLaws.{held_before, matched_before}
 
 -- exact leaves give their verdicts
 pub given_all : (s : Subject) (hook : Hook) (start : Scope) (found : List Leaf) → ((a : Assignment) → AreExactUnder (answered s a) (known_by s a) hook start found) → All (IsGivenBy s hook) found
@@ -32,12 +42,12 @@ same_in old new hook leaf start found copy same given cover alike a p can there 
 
 -- a packet that a line writes, of a leaf there with another verdict, gets two verdicts
 pub other_in : (old new : Subject) (hook : Hook) (leaf : Leaf) (start : Scope) (found : List Leaf) (shown : Shown) → IsBoth leaf.area leaf.area start.area → start.answers ≡ leaf.answers → IsGivenBy old hook leaf
-    → ((a : Assignment) → AreExactUnder (answered new a) (known_by new a) hook start found) → IsOfOther hook leaf.verdict found shown → IsOtherWith old new hook shown.words shown.answers
+    → ((a : Assignment) → AreExactUnder (answered new a) (known_by new a) hook start found) → IsOfOther hook leaf.verdict found shown → HoldsWith shown.answers (λ a. IsOtherAt (answered old a) (answered new a) hook shown.words)
 other_in old new hook leaf start found shown copy same given exact (k, other, lt, is, (differs, answers, (p, sample))) =
     let P : List Answer → Type 0 = λ l. (a : Assignment) → Agrees a l → IsOtherAt (answered old a) (answered new a) hook shown.words in
     record {
       consistent = (let C : List Answer → Type 0 = λ l. AreConsistent l in subst C (sym answers) other.consistent);
-      other = subst P (sym answers) (λ a agrees.
+      each = subst P (sym answers) (λ a agrees.
           let can : IsAtHook p = written_at_hooks shown.words p sample.writes in
           let shows : ShowsUnder (answered new a) (known_by new a) start p other = All-contains (ShowsUnder (answered new a) (known_by new a) start p) found other (exact a p can sample.there) (k, lt, is) in
           let A : List Answer → Type 0 = λ l. Agrees a l in
@@ -46,21 +56,41 @@ other_in old new hook leaf start found shown copy same given exact (k, other, lt
           (p, sample.writes, sample.there, λ one. differs (sym (ap (λ (w : Walked). w.verdict) walked) ∙ sym one ∙ given a p can sample.there before)));
     }
 
--- each packet of a box that has all is in some leaf of the first table
-pub same_at : (old new : Subject) (hook : Hook) (start : Scope) (found : List Leaf) → ((p : Packet) → IsAtHook p → p.hook ≡ hook → IsIn start.area p) → start.answers ≡ []
-    → ((a : Assignment) → AreLeavesUnder (answered old a) (known_by old a) hook start found) → All (IsSameIn old new hook) found → IsAlwaysSameAt old new hook
-same_at old new hook start found all none cover same a p can there =
-    let P : List Answer → Type 0 = λ answers. Agrees a answers in
-    let (k, leaf, lt, is, ends) = cover a p can there (record { inside = all p can there; agrees = subst P (sym none) (All-nil (λ (answer : Answer). a answer.condition ≡ answer.holds)) }) in
+-- each packet of a scope is in some leaf of the first table, so what is said of all leaves is said of it
+pub same_on : (old new : Subject) (hook : Hook) (start : Scope) (found : List Leaf) → ((a : Assignment) → AreLeavesUnder (answered old a) (known_by old a) hook start found) → All (IsSameIn old new hook) found → IsSameOn old new hook start
+same_on old new hook start found cover same a p can there own =
+    let (k, leaf, lt, is, ends) = cover a p can there own in
     All-contains (IsSameIn old new hook) found leaf same (k, lt, is) a p can there ends.own
 
--- the same answer, with another fact for "the same"
-pub said_as : (P Q : Type 0) (old new : Subject) (hook : Hook) (said : Alike) → (P → Q) → SaysIf P old new hook said → SaysIf Q old new hook said
-said_as P Q old new hook alike.Same f h = f h
-said_as P Q old new hook (alike.Differ words answers) f h = h
-said_as P Q old new hook alike.Unclear f h = tt
+-- ---- one answer for another
 
-pub unclear_as : (P Q : Type 0) (said : Alike) → (P → Q) → IsUnclearIf P said → IsUnclearIf Q said
-unclear_as P Q alike.Same f h = tt
-unclear_as P Q (alike.Differ words answers) f h = tt
-unclear_as P Q alike.Unclear f h = f h
+-- what is said with one fact for "the same" is said with any that follows from it
+pub said_as : (P Q : Type 0) (old new : Subject) (hook : Hook) (said : Likeness) → (P → Q) → SaysIf P old new hook said → SaysIf Q old new hook said
+said_as P Q old new hook likeness.Same f h = f h
+said_as P Q old new hook (likeness.Differ words answers) f h = h
+said_as P Q old new hook likeness.Unclear f h = tt
+
+-- so is where alone it may be unclear
+pub unclear_as : (P Q : Type 0) (said : Likeness) → (P → Q) → IsUnclearIf P said → IsUnclearIf Q said
+unclear_as P Q likeness.Same f h = tt
+unclear_as P Q (likeness.Differ words answers) f h = tt
+unclear_as P Q likeness.Unclear f h = f h
+
+-- ---- the packets that a rule matches
+
+-- where the packets of its scope get the same verdict, those that it matches do
+pub settled_on : (own old new : Subject) (hook : Hook) (step : Step) (scope : Scope) → IsRule (table_of own) step → IsScopeAt (table_of own) own.needs.now step hook scope → IsSameOn old new hook scope → IsAlwaysSettled own old new hook step
+settled_on own old new hook step scope is (given, boxed, same, meets) on a =
+    inl (λ p at.
+    let before : IsMatchedAt (table_of own) step hook p = matched_before own.needs.now a (table_of own) step hook p is at in
+    let P : List SpanSet → Type 0 = λ box. IsIn box p in
+    on a p at.can at.there (record { inside = subst P same (boxed.all p before); agrees = meets.all a (gives_none a) (held_before own.needs.now a (table_of own) step hook p is at) }))
+
+-- where no assignment meets what it needs, it matches none
+pub settled_never : (own old new : Subject) (hook : Hook) (step : Step) → IsRule (table_of own) step → MeetsNever (needs_of own.needs.now step) [] → IsAlwaysSettled own old new hook step
+settled_never own old new hook step is never a =
+    inl (λ p at. absurd (true≢false (sym (held_before own.needs.now a (table_of own) step hook p is at) ∙ never a (gives_none a))))
+
+pub unclear_on : (own old new : Subject) (hook : Hook) (budget : ℕ) (step : Step) (scope : Scope) → IsScopeAt (table_of own) own.needs.now step hook scope
+    → ((a : Assignment) → MayDifferOn (left_of old a) (left_of new a) hook budget scope) → (a : Assignment) → MayDifferOf (left_of own a) (left_of old a) (left_of new a) hook budget step
+unclear_on own old new hook budget step scope is may a = (scope, is, may a)

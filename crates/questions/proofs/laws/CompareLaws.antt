@@ -1,32 +1,31 @@
 -- Two tables compared by the rules in which they differ.
-use Rattle.std.proofs.Common.{◌≡◌, ◌≢◌, ◌⊎◌, inl, inr, ℕ, zero, suc, Bool, ◌<◌, true, List, [], ◌∷◌, length, get_or, refl, sym, ◌∙◌, ap, arith, subst, Contains}
+use Rattle.std.proofs.Common.{◌≡◌, ◌≢◌, ◌⊎◌, inl, inr, ℕ, zero, suc, Bool, true, List, [], ◌∷◌, get_or, refl, sym, ◌∙◌, arith, subst, Contains}
 use Rattle.std.specs.Prelude.{All, Any, IsFalse}
 use Rattle.std.proofs.lemmas.Bool.{cases_Bool, true≢false}
 use Rattle.std.proofs.lemmas.List.Elements.{All-contains, Contains-get_or}
 use Rattle.fields.specs.declared.packet.hook.Hook.{Hook}
-use Rattle.fields.specs.numbers.Spans.{SpanSet}
 use Rattle.fields.specs.packet.Packet.{PacketView as Packet}
 use Rattle.rules.specs.rule.Allows.{matches}
 use Rattle.table.specs.chains.Table.{Table}
 use Rattle.table.specs.declared.walk.trail.Step.{Step}
 use Rattle.table.specs.declared.verdict.Verdict.TheVariants.{TooLong}
-use Rattle.table.specs.declared.verdict.Verdict.{Verdict}
-use Rattle.table.specs.walk.Walk.{Entry, Walked, end_verdict, walk}
+use Rattle.table.specs.walk.Walk.{Entry, end_verdict, walk}
 use Rattle.questions.specs.Ends.{IsRule, rule_at}
-use Rattle.questions.specs.asked.Unclear.{IsOfRule, IsUnclearIf, MayDiffer, MayDifferOn}
-use Rattle.questions.specs.Leaves.{AreExactOn, AreLeavesOf, IsShownBy, ShowsWalk, entry_of}
-use Rattle.questions.specs.Written.{IsSampleOf}
+use Rattle.questions.specs.Foreign.{Assignment}
+use Rattle.questions.specs.Leaves.{entry_of}
+use Rattle.questions.specs.Scopes.{Left, answered, left_of, table_of}
+use Rattle.questions.specs.asked.Alike.{IsAlwaysSameAt, IsAlwaysSettled}
 use Rattle.questions.specs.asked.Changes.{AreChanges, AreThese, IsUntouched}
-use Rattle.questions.specs.asked.Verdicts.{IsAlike, IsOtherAt, IsSameAt, IsSameIn, SaysIf}
-use Rattle.questions.specs.boxes.Area.{IsAtHook, IsBoth}
+use Rattle.questions.specs.asked.Differing.{IsOfRule, MayDiffer, MayDifferOn}
+use Rattle.questions.specs.asked.Verdicts.{IsAlike, IsSameAt}
+use Rattle.questions.specs.boxes.Area.{IsAtHook}
 use Rattle.questions.specs.declared.asked.changes.Changes.{Changes}
-use Rattle.questions.specs.declared.asked.verdicts.Likeness.{Likeness}
-use Rattle.questions.specs.declared.asked.verdicts.Likeness.TheVariants as likeness
-use Rattle.questions.specs.declared.walking.task.Leaf.{Leaf}
-use Rattle.questions.specs.steps.Compared.{IsOfOther, IsSameOn, IsSettled, MayDifferOf}
+use Rattle.questions.specs.declared.foreign.subject.Subject.{Subject}
+use Rattle.questions.specs.declared.walking.scope.Scope.{Scope}
+use Rattle.questions.specs.steps.Compared.{IsSettled, MayDifferOf}
 use Rattle.questions.specs.steps.Takers.{IsMatchedAt}
 use Rattle.questions.proofs.laws.ElsewhereLaws.{off_the_walk}
-use Rattle.questions.proofs.laws.PacketLaws.{written_at_hooks}
+use Rattle.questions.proofs.laws.ResolvedLaws.{rule_back}
 use Rattle.questions.proofs.laws.SharedLaws.{are_off, matches_none}
 
 -- some of the rules matches the packet, or none does
@@ -92,7 +91,7 @@ settled t old new these hook steps p are all can there =
         by_place step (suc k, lt, e) here later = later step (k, omega (arith, lt), e)
 
 -- what is said of each changed rule is so, and so all packets at the hook get the same verdict
-pub same_at : (old new : Table) (hook : Hook) (changes : Changes) → AreChanges old new changes → ((p : Packet) → p.hook ≡ hook → end_verdict old p ≡ end_verdict new p)
+same_at : (old new : Table) (hook : Hook) (changes : Changes) → AreChanges old new changes → ((p : Packet) → p.hook ≡ hook → end_verdict old p ≡ end_verdict new p)
     → All (IsSettled old old new hook) changes.went.items → All (IsSettled new old new hook) changes.came.items → IsSameAt old new hook
 same_at old new hook changes are ends went came p can there =
     elim (settled old old new are.went hook changes.went.items p are.first went can there) [
@@ -103,79 +102,31 @@ same_at old new hook changes are ends went came p can there =
       ]
     ]
 
--- the box of a changed rule whose packets may get two verdicts
-changed : (t old new : Table) (these : Entry → Bool) (hook : Hook) (budget : ℕ) (steps : List Step) → AreThese t these steps → Any (MayDifferOf t old new hook budget) steps
-    → (box : _) × IsOfRule t these hook box × MayDifferOn old new hook budget box
-changed t old new these hook budget steps are may =
-    let this = are.only may.1 (may.0, may.2, may.3) in
-    let w = may.4 in
-    (w.0.area, (may.1, this.0, this.1, w.0, w.1, refl), w.2)
+-- so they do, whatever holds
+pub same_always : (old new : Subject) (hook : Hook) (changes : Changes) → ((a : Assignment) → AreChanges (answered old a) (answered new a) changes)
+    → ((p : Packet) → p.hook ≡ hook → end_verdict (table_of old) p ≡ end_verdict (table_of new) p) → All (IsAlwaysSettled old old new hook) changes.went.items → All (IsAlwaysSettled new old new hook) changes.came.items → IsAlwaysSameAt old new hook
+same_always old new hook changes are ends went came a =
+    same_at (answered old a) (answered new a) hook changes (are a) ends (λ k d lt. went k d lt a) (λ k d lt. came k d lt a)
 
-pub went_differs : (old new : Table) (hook : Hook) (budget : ℕ) (changes : Changes) → AreChanges old new changes → Any (MayDifferOf old old new hook budget) changes.went.items → MayDiffer old new hook budget
-went_differs old new hook budget changes are may =
-    let w = changed old old new are.went hook budget changes.went.items are.first may in
-    (w.0, inr (are.went, are.came, are.shared, inl w.1), w.2)
+-- the scope of a changed rule whose packets may get two verdicts
+changed : (own old new : Left) (these : Entry → Bool) (hook : Hook) (budget : ℕ) (steps : List Step) → AreThese own.table these steps → Any (MayDifferOf own old new hook budget) steps
+    → (scope : Scope) × IsOfRule own these hook scope × MayDifferOn old new hook budget scope
+changed own old new these hook budget steps are (k, step, lt, at, (scope, boxed, may)) =
+    let (rule, this) = are.only step (k, lt, at) in
+    (scope, (step, rule, this, boxed), may)
 
-pub came_differs : (old new : Table) (hook : Hook) (budget : ℕ) (changes : Changes) → AreChanges old new changes → Any (MayDifferOf new old new hook budget) changes.came.items → MayDiffer old new hook budget
-came_differs old new hook budget changes are may =
-    let w = changed new old new are.came hook budget changes.came.items are.second may in
-    (w.0, inr (are.went, are.came, are.shared, inr w.1), w.2)
+pub went_differs : (old new : Subject) (hook : Hook) (budget : ℕ) (changes : Changes) → ((a : Assignment) → AreChanges (answered old a) (answered new a) changes)
+    → Any (λ (step : Step). (a : Assignment) → MayDifferOf (left_of old a) (left_of old a) (left_of new a) hook budget step) changes.went.items → (a : Assignment) → MayDiffer (left_of old a) (left_of new a) hook budget
+went_differs old new hook budget changes are (k, step, lt, at, may) a =
+    let (scope, of, differs) = changed (left_of old a) (left_of old a) (left_of new a) (are a).went hook budget changes.went.items (are a).first (k, step, lt, at, may a) in
+    (scope, inr ((are a).went, (are a).came, (are a).shared, inl of), differs)
+
+pub came_differs : (old new : Subject) (hook : Hook) (budget : ℕ) (changes : Changes) → ((a : Assignment) → AreChanges (answered old a) (answered new a) changes)
+    → Any (λ (step : Step). (a : Assignment) → MayDifferOf (left_of new a) (left_of old a) (left_of new a) hook budget step) changes.came.items → (a : Assignment) → MayDiffer (left_of old a) (left_of new a) hook budget
+came_differs old new hook budget changes are (k, step, lt, at, may) a =
+    let (scope, of, differs) = changed (left_of new a) (left_of old a) (left_of new a) (are a).came hook budget changes.came.items (are a).second (k, step, lt, at, may a) in
+    (scope, inr ((are a).went, (are a).came, (are a).shared, inr of), differs)
 
 -- the changed rules are rules of their table
-pub are_rules : (t : Table) (these : Entry → Bool) (steps : List Step) → AreThese t these steps → All (IsRule t) steps
-are_rules t these steps are = λ k d lt. (are.only (get_or steps k d) (Contains-get_or steps k d lt)).0
-
--- ---- one answer for another
-
--- what is said with one fact for "the same" is said with any that follows from it
-pub said_as : (one two : Type 0) (old new : Table) (hook : Hook) (likeness : Likeness) → (one → two) → SaysIf one old new hook likeness → SaysIf two old new hook likeness
-said_as one two old new hook likeness.Same f h = f h
-said_as one two old new hook (likeness.Differ words) f h = h
-said_as one two old new hook likeness.Unclear f h = tt
-
--- so is where alone it may be unclear
-pub unclear_as : (one two : Type 0) (likeness : Likeness) → (one → two) → IsUnclearIf one likeness → IsUnclearIf two likeness
-unclear_as one two likeness.Same f h = tt
-unclear_as one two (likeness.Differ words) f h = tt
-unclear_as one two likeness.Unclear f h = f h
-
--- ---- leaves of both tables
-
--- one of some leaves that are shown
-pub shown_here : (t : Table) (hook : Hook) (found : List Leaf) (i : ℕ) (leaf : Leaf) → i < length found → leaf ≡ get_or found i leaf → All (IsShownBy t hook) found → IsShownBy t hook leaf
-shown_here t hook found i leaf lt is shown = subst (IsShownBy t hook) (sym is) (shown i leaf lt)
-
--- exact leaves are shown
-pub shown_all : (t : Table) (hook : Hook) (box : List SpanSet) (found : List Leaf) → AreExactOn t hook box found → All (IsShownBy t hook) found
-shown_all t hook box found exact k d lt p can there inside = (exact p can there k d lt inside).1
-
--- each packet of the box is in some leaf of the first table, so what is said of all leaves is said of it
-pub same_on : (old new : Table) (hook : Hook) (start : List SpanSet) (found : List Leaf) → AreLeavesOf old hook start found → All (IsSameIn old new hook) found → IsSameOn old new hook start
-same_on old new hook start found cover same p can there inside =
-    let w = cover p can there inside in
-    All-contains (IsSameIn old new hook) found w.1 same (w.0, w.2, w.3) p can there w.4
-
--- a packet of a leaf of the first table gets from the second table the verdict that all leaves there have
-pub same_in : (old new : Table) (hook : Hook) (leaf : Leaf) (start : List SpanSet) (found : List Leaf) → IsBoth leaf.area leaf.area start → AreLeavesOf new hook start found → All (λ other. other.verdict ≡ leaf.verdict) found → IsSameIn old new hook leaf
-same_in old new hook leaf start found copy cover alike p can there ends =
-    let w = cover p can there (copy.all p.values can.packet.within ends.inside ends.inside) in
-    ap verdict_of ends.walked ∙ sym (All-contains (λ (other : Leaf). other.verdict ≡ leaf.verdict) found w.1 alike (w.0, w.2, w.3)) ∙ sym (ap verdict_of w.4.walked)
-  where
-    verdict_of : Walked → Verdict
-    verdict_of walked = walked.verdict
-
--- a packet that a line writes, of a leaf there with another verdict, gets two verdicts
-pub other_in : (old new : Table) (hook : Hook) (leaf : Leaf) (start : List SpanSet) (found : List Leaf) (words : List (List ℕ)) → IsBoth leaf.area leaf.area start → AreExactOn new hook start found → IsShownBy old hook leaf → IsOfOther hook leaf.verdict found words → IsOtherAt old new hook words
-other_in old new hook leaf start found words copy exact shown w =
-    let other : Leaf = w.1 in
-    let p : Packet = w.4.1.0 in
-    let sample : IsSampleOf hook other.area words p = w.4.1.1 in
-    let can : IsAtHook p = written_at_hooks words p sample.writes in
-    let P : Leaf → Type 0 = λ l. ShowsWalk new start p l in
-    let own = subst P w.3 (exact p can sample.there w.0 other w.2) sample.inside in
-    let first : (walk old p).verdict ≡ leaf.verdict = ap verdict_of (shown p can sample.there (copy.first p.values can.packet.within own.0)) in
-    let second : (walk new p).verdict ≡ other.verdict = ap verdict_of own.1 in
-    (p, sample.writes, sample.there, λ same. w.4.0 (sym second ∙ sym same ∙ first))
-  where
-    verdict_of : Walked → Verdict
-    verdict_of walked = walked.verdict
+pub are_rules : (s : Subject) (a : Assignment) (these : Entry → Bool) (steps : List Step) → AreThese (answered s a) these steps → All (IsRule (table_of s)) steps
+are_rules s a these steps are = λ k d lt. rule_back s.needs.now a (table_of s) (get_or steps k d) (are.only (get_or steps k d) (Contains-get_or steps k d lt)).0

@@ -273,3 +273,19 @@ matched_before needs a t step hook p is at =
     let own : List Need = needs_at needs step.chain (step.number - 1) in
     let m : matches p.values (resolved_rule a own (rule_at t step)) ≡ true = subst P (rule_at_left needs a t step is) at.matched in
     record { can = at.can; there = at.there; matched = subst P (resolved_matches a own (rule_at t step) p.values m) m }
+
+-- and then all holds that it needs
+pub held_before : (needs : List (List (List Need))) (a : Assignment) (t : Table) (step : Step) (hook : Hook) (p : Packet) → IsRule t step → IsMatchedAt (resolved needs a t) step hook p → all_hold a (needs_at needs step.chain (step.number - 1)) ≡ true
+held_before needs a t step hook p is at =
+    let P : Rule → Type 0 = λ r. matches p.values r ≡ true in
+    let own : List Need = needs_at needs step.chain (step.number - 1) in
+    elim (cases_Bool (all_hold a own)) [
+      | inl held ↦ held
+      | inr not_held ↦ absurd (true≢false (sym (subst P (rule_at_left needs a t step is ∙ resolved_not a own (rule_at t step) not_held) at.matched) ∙ never_matches p.values))
+    ]
+
+-- a rule that is still there was there
+pub rule_back : (needs : List (List (List Need))) (a : Assignment) (t : Table) (step : Step) → IsRule (resolved needs a t) step → IsRule t step
+rule_back needs a t step is =
+    let there : step.chain < length t.chains = omega (arith, is.chain, length_same needs a t.chains) in
+    record { chain = there; first = is.first; last = omega (arith, is.last, count_left needs a t step.chain there) }

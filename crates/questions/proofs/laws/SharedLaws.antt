@@ -1,5 +1,5 @@
 -- Chains of one name beside each other, and the rules that both have.
-use Rattle.std.proofs.Common.{◌≡◌, ◌≢◌, inl, inr, ℕ, zero, suc, ◌+◌, ◌-◌, ◌<◌, Bool, true, false, List, [], ◌∷◌, ◌++◌, length, get_or, refl, sym, ◌∙◌, ap, ap₂, arith, subst, Option, Some, None, Contains}
+use Rattle.std.proofs.Common.{◌≡◌, ◌≢◌, inl, inr, ℕ, zero, suc, ◌+◌, ◌-◌, ◌<◌, Bool, true, false, List, [], ◌∷◌, ◌++◌, cond, length, get_or, refl, sym, ◌∙◌, ap, ap₂, arith, subst, Option, Some, None, Contains}
 use Rattle.std.specs.List.{AllByRecursion}
 use Rattle.std.specs.Prelude.{All, IsFalse, IsTrue, slice_get}
 use Rattle.std.specs.Str.{bytes_eq}
@@ -19,8 +19,12 @@ use Rattle.table.specs.walk.Walk.{Entry, walk}
 use Rattle.table.proofs.laws.chains.KeepLaws.{rules_by_name}
 use Rattle.questions.specs.Ends.{rule_at}
 use Rattle.questions.specs.Leaves.{entry_of, name_at}
+use Rattle.questions.specs.Foreign.{Assignment, resolved}
+use Rattle.questions.specs.Scopes.{answered, table_of}
 use Rattle.questions.specs.asked.Changes.{AreOff, AreThese, IsThis, MatchesNone, ShareOthers}
 use Rattle.questions.specs.asked.Without.{staying}
+use Rattle.questions.specs.declared.foreign.need.Need.{Need}
+use Rattle.questions.specs.declared.foreign.subject.Subject.{Subject}
 use Rattle.questions.specs.declared.asked.pairs.Next.{Next}
 use Rattle.questions.specs.declared.asked.pairs.Next.TheVariants as next
 use Rattle.questions.specs.declared.asked.pairs.Pair.{Pair}
@@ -30,6 +34,8 @@ use Rattle.questions.specs.declared.asked.pairs.Side.TheVariants as side
 use Rattle.questions.specs.steps.Collected.{AddsRules}
 use Rattle.questions.specs.steps.Shared.{Adds, AreThere, HasPlace, IsBeside, IsMarkedRule, IsPaired, is_marked, marks_on, name_of, pair_named, unmarked, unshared}
 use Rattle.questions.proofs.laws.CollectLaws.{adds_as}
+use Rattle.questions.proofs.laws.ForeignLaws.{left_sound}
+use Rattle.questions.proofs.laws.ResolvedLaws.{chain_named, entry_left, length_same, rule_back, rule_left_there, there_left}
 use Rattle.questions.proofs.laws.TrailLaws.{IsMatched, trail_matches}
 
 -- ---- one more mark
@@ -133,8 +139,52 @@ unshared_in t own chains pairs marks place before after are adds =
     (λ by at h. (h.0, ap (number by.number) (ap named at ∙ sym are) ∙ h.1))
     (λ by at h. (h.0, ap (number by.number) (are ∙ ap named (sym at)) ∙ h.1)) adds
 
-pub all_placed : (old new : Table) (pairs : List Pair) → All (IsPaired old new) pairs → All (HasPlace old) pairs
-all_placed old new pairs all = λ k d lt. (all k d lt).placed
+-- ---- what is left of the tables
+
+-- the chains of a name are found by it, whatever their rules
+pair_kept : (cs ds : List Chain) (pairs : List Pair) (name : List ℕ) → ((place : ℕ) → name_at cs place ≡ name_at ds place) → pair_named cs pairs name ≡ pair_named ds pairs name
+pair_kept cs ds [] name same = refl
+pair_kept cs ds (pair ∷ pairs) name same =
+    ap (λ (n : List ℕ). cond (bytes_eq n name) (Some pair) (pair_named cs pairs name)) (same pair.place)
+    ∙ ap (λ (found : Option Pair). cond (bytes_eq (name_of ds pair) name) (Some pair) found) (pair_kept cs ds pairs name same)
+
+module _ (needs : List (List (List Need))) (a : Assignment) where
+  unshared_kept : (t : Table) (own : Side) (pairs : List Pair) (entry : Entry) → unshared own t.chains pairs entry ≡ unshared own (resolved needs a t).chains pairs entry
+  unshared_kept t own pairs entry =
+      ap (λ (found : Option Pair). is_marked (marks_on own found) entry.number)
+      (pair_kept t.chains (resolved needs a t).chains pairs entry.chain (λ place. sym (chain_named needs a t.chains place (empty_chain []))))
+
+-- the rules that one table lacks are those that are lacking in what is left of it
+pub lacking : (s old : Subject) (a : Assignment) (own : Side) (pairs : List Pair) (steps : List Step) → AreThese (table_of s) (unshared own (table_of old).chains pairs) steps → AreThese (answered s a) (unshared own (answered old a).chains pairs) steps
+lacking s old a own pairs steps are =
+    let t : Table = table_of s in
+    let needs : List (List (List Need)) = s.needs.now in
+    let these : Entry → Bool = unshared own (table_of old).chains pairs in
+    let those : Entry → Bool = unshared own (answered old a).chains pairs in
+    let same : (entry : Entry) → these entry ≡ those entry = unshared_kept old.needs.now a (table_of old) own pairs in
+    record {
+      all = λ step (rule, is). are.all step (rule_back needs a t step rule, same (entry_of t.chains step) ∙ ap those (sym (entry_left needs a t step)) ∙ is);
+      only = λ step c. (let (rule, is) = are.only step c in (rule_left_there needs a t step rule, ap those (entry_left needs a t step) ∙ sym (same (entry_of t.chains step)) ∙ is));
+    }
+
+-- chains of one name beside each other, in what is left
+pub paired_left : (old new : Subject) (chains : Places) (pair : Pair) → IsSound (table_of old) → IsSound (table_of new) → AreThere (table_of old) (table_of new) chains
+    → name_at (table_of new).chains chains.new ≡ name_at (table_of old).chains chains.old → ((a : Assignment) → IsBeside (answered old a) (answered new a) chains pair) → (a : Assignment) → IsPaired (answered old a) (answered new a) pair
+paired_left old new chains pair s s' there named is a =
+    let t : Table = table_of old in
+    let u : Table = table_of new in
+    paired (answered old a) (answered new a) chains pair (left_sound old.needs.now a t s) (left_sound new.needs.now a u s')
+    (record { first = there_left old.needs.now a t chains.old there.first; second = there_left new.needs.now a u chains.new there.second })
+    (chain_named new.needs.now a u.chains chains.new (empty_chain []) ∙ named ∙ sym (chain_named old.needs.now a t.chains chains.old (empty_chain []))) (is a)
+
+-- the pairs of what is left, for one assignment
+pub pairs_under : (old new : Subject) (a : Assignment) (pairs : List Pair) → All (λ pair. (b : Assignment) → IsPaired (answered old b) (answered new b) pair) pairs → All (IsPaired (answered old a) (answered new a)) pairs
+pairs_under old new a pairs all k d lt = all k d lt a
+
+pub all_placed : (old new : Subject) (pairs : List Pair) → All (λ pair. (a : Assignment) → IsPaired (answered old a) (answered new a) pair) pairs → All (HasPlace (table_of old)) pairs
+all_placed old new pairs all k d lt =
+    let a : Assignment = λ condition. false in
+    omega (arith, (all k d lt a).placed, length_same old.needs.now a (table_of old).chains)
 
 -- ---- a packet that matches none of them
 

@@ -317,28 +317,28 @@ module _ (t : Table) (known : Known) (sound : IsSound t) (policy : Verdict) (at 
 
 -- ---- a condition that is answered
 
-module _ (t : Table) (known : Known) (policy : Verdict) (box : List SpanSet) (answers : List Answer) (condition : ℕ) (stage : Stage) where
+module _ (t : Table) (known : Known) (policy : Verdict) (box same : List SpanSet) (answers : List Answer) (condition : ℕ) (stage : Stage) where
   -- the answers, and one more
   abbrev more : Bool → List Answer
   more holds = answers ++ record { condition = condition; holds = holds } ∷ []
 
-  fewer : (holds : Bool) (p : Packet) (boxes : List (List SpanSet)) → (IsInSome boxes p.values → Has box p.values) → IsOfSome known p boxes (more holds) → IsOf known p (under box answers)
-  fewer holds p boxes own some = record { inside = own some.inside; agrees = agrees_before known.holds answers (record { condition = condition; holds = holds } ∷ []) some.agrees }
+  fewer : (holds : Bool) → Agrees known.holds (more holds) → Agrees known.holds answers
+  fewer holds agrees = agrees_before known.holds answers (record { condition = condition; holds = holds } ∷ []) agrees
 
-  -- those for which it doesn't hold, and those for which it holds
-  pub parts_by : (boxes : List (List SpanSet)) (old mid new : Front) → ((numbers : List ℕ) → IsPoint numbers → Has box numbers → IsInSome boxes numbers) → ((numbers : List ℕ) → IsPoint numbers → IsInSome boxes numbers → Has box numbers)
-      → PassesOver t known policy boxes (more false) stage old mid → Moves t known policy (under box (more true)) stage mid new → Moves t known policy (under box answers) stage old new
-  parts_by boxes old mid new all only over h = record {
+  -- those for which it doesn't hold, in a box with the same packets, and those for which it holds
+  pub parts_by : (old mid new : Front) → ((numbers : List ℕ) → IsPoint numbers → Has box numbers → Has same numbers) → ((numbers : List ℕ) → IsPoint numbers → Has same numbers → Has box numbers)
+      → Moves t known policy (under same (more false)) stage old mid → Moves t known policy (under box (more true)) stage mid new → Moves t known policy (under box answers) stage old new
+  parts_by old mid new all only other h = record {
     moved = λ p asked stands.
         (let more_agrees : (holds : Bool) → known.holds condition ≡ holds → Agrees known.holds (more holds) = λ holds is. agrees_with_one_more known.holds answers condition holds stands.own.agrees is in
         elim (cases_Bool (known.holds condition)) [
           | inl held ↦ h.moved p asked (record { own = record { inside = stands.own.inside; agrees = more_agrees true held }; reaches = stands.reaches })
-          | inr fails ↦ h.keeps.kept p (over.passed p asked (record { inside = all p.values asked.at_hook.packet.within stands.own.inside; agrees = more_agrees false fails }) stands.reaches)
+          | inr fails ↦ h.keeps.kept p (other.moved p asked (record { own = record { inside = all p.values asked.at_hook.packet.within stands.own.inside; agrees = more_agrees false fails }; reaches = stands.reaches }))
         ]);
     fits = λ start p asked fit before.
-        h.fits start p asked (λ of. fit (record { inside = of.inside; agrees = agrees_before known.holds answers (record { condition = condition; holds = true } ∷ []) of.agrees }))
-        (over.fits start p asked (λ some. fit (fewer false p boxes (only p.values asked.at_hook.packet.within) some)) before);
-    keeps = keeps_then t known old mid new over.keeps h.keeps;
+        h.fits start p asked (λ of. fit (record { inside = of.inside; agrees = fewer true of.agrees }))
+        (other.fits start p asked (λ of. fit (record { inside = only p.values asked.at_hook.packet.within of.inside; agrees = fewer false of.agrees })) before);
+    keeps = keeps_then t known old mid new other.keeps h.keeps;
   }
 
 -- ---- answers that aren't right

@@ -1,21 +1,29 @@
 -- A packet that shows that a rule isn't dead.
-use Rattle.std.proofs.Common.{◌≡◌, ◌≢◌, inl, inr, ℕ, Bool, ◌&&◌, true, sym, ◌∙◌, ap, arith, Option, Some, None, Contains, Vec, Global}
+use Rattle.std.proofs.Common.{◌≡◌, ◌≢◌, inl, inr, ℕ, zero, suc, ◌+◌, ◌<◌, Bool, ◌&&◌, true, List, [], ◌∷◌, ◌++◌, length, get_or, take, refl, sym, ◌∙◌, ap, arith, subst, Option, Some, None, All, Contains, Vec, Global}
 use Rattle.std.specs.Prelude.{IfSome, IsFalse, IsTrue, MatchOption, is_some, nat_le}
 use Rattle.std.proofs.lemmas.Bool.{true≢false}
+use Rattle.std.proofs.lemmas.List.{get_or-take, get_or_default, length-take}
+use Rattle.std.proofs.lemmas.List.Elements.{All-contains}
 use Rattle.std.proofs.lemmas.Bool.Decides.{leb_tells}
 use Rattle.fields.specs.declared.packet.hook.Hook.{Hook}
 use Rattle.fields.specs.packet.Packet.{PacketView as Packet}
 use Rattle.table.specs.chains.Table.{Table}
+use Rattle.table.specs.declared.walk.trail.Step.{Step}
 use Rattle.table.specs.declared.verdict.Verdict.TheVariants.{TooLong}
-use Rattle.table.specs.walk.Walk.{Entry, walk}
-use Rattle.questions.specs.Foreign.{Assignment}
-use Rattle.questions.specs.Scopes.{AreLeavesUnder, IsOf, answered, known_by}
+use Rattle.table.specs.walk.Walk.{Entry, Walked, walk}
+use Rattle.questions.specs.Foreign.{AreConsistent, Assignment, IsUnanswered}
+use Rattle.questions.specs.Scopes.{AreLeavesUnder, IsOf, answered, entries_by, known_by, table_of}
+use Rattle.questions.specs.Leaves.{entry_of}
 use Rattle.questions.specs.boxes.Area.{IsAtHook}
+use Rattle.questions.specs.declared.foreign.answers.Answer.{Answer}
 use Rattle.questions.specs.declared.foreign.subject.Subject.{Subject}
 use Rattle.questions.specs.declared.walking.scope.Scope.{Scope}
 use Rattle.questions.specs.declared.walking.task.Leaf.{Leaf}
 use Rattle.questions.specs.steps.Coming.{IsSought}
+use Rattle.questions.specs.steps.Meant.{IsSurelyOn, needs_of}
 use Rattle.questions.proofs.laws.ComeLaws.{never_long}
+use Rattle.questions.proofs.laws.HeldLaws.{on_entries_by}
+use Rattle.questions.proofs.laws.ResolvedLaws.{entry_left}
 
 -- a packet of leaves has no walk that is too long
 pub ended_short : (s : Subject) (hook : Hook) (start : Scope) (found : Option (Vec Leaf Global)) (p : Packet) → IsTrue (is_some found) → IfSome found (λ leaves. (a : Assignment) → AreLeavesUnder (answered s a) (known_by s a) hook start leaves.items) → IsAtHook p
@@ -32,6 +40,37 @@ ended_long (Some found) U F un h = absurd (true≢false un)
 pub sought_on : (t : Table) (entry : Entry) (p : Packet) → IsSought t entry p → (walk t p).verdict ≢ TooLong → Contains (walk t p).trail entry
 sought_on t entry p (inl on) short = on
 sought_on t entry p (inr long) short = absurd (short long)
+
+-- a rule that is surely on each leaf is on the walk of a packet of these, where the answers are right
+pub surely_on : (s : Subject) (hook : Hook) (start : Scope) (found : List Leaf) (p : Packet) (step : Step) → ((a : Assignment) → AreLeavesUnder (answered s a) (known_by s a) hook start found) → All (IsSurelyOn (needs_of s.needs.now step) step) found → IsAtHook p
+    → p.hook ≡ hook → (a : Assignment) → IsOf (known_by s a) p start → Contains (walk (answered s a) p).trail (entry_of (table_of s).chains step)
+surely_on s hook start found p step leaves all can e a own =
+    let (k, leaf, lt, is, ends) = leaves a p can e own in
+    let (on, held) = All-contains (IsSurelyOn (needs_of s.needs.now step) step) found leaf all (k, lt, is) in
+    let here : Contains (entries_by (known_by s a) (answered s a).chains leaf.trail.items) (entry_of (answered s a).chains step) = on_entries_by (known_by s a) (answered s a).chains leaf.trail.items step on (held a ends.own.agrees) in
+    let P : Walked → Type 0 = λ w. Contains w.trail (entry_of (answered s a).chains step) in
+    let Q : Entry → Type 0 = λ entry. Contains (walk (answered s a) p).trail entry in
+    subst Q (entry_left s.needs.now a (table_of s) step) (subst P (sym ends.walked) here)
+
+-- ---- the first of some answers
+
+take_more : {X : Type 0} (xs : List X) (i : ℕ) (d : X) → i < length xs → take (suc i) xs ≡ take i xs ++ get_or xs i d ∷ []
+take_more [] i d lt = absurd (omega (arith, lt))
+take_more (x ∷ xs) zero d lt = refl
+take_more {X} (x ∷ xs) (suc i) d lt = ap (λ (l : List X). x ∷ l) (take_more xs i d (omega (arith, lt)))
+
+-- one more of them
+pub take_next : {X : Type 0} (xs : List X) (i : ℕ) (d : X) → i < length xs → take (i + 1) xs ≡ take i xs ++ get_or xs i d ∷ []
+take_next xs i d lt =
+    let same : i + 1 ≡ suc i = omega arith in
+    ap (λ (k : ℕ). take k xs) same ∙ take_more xs i d lt
+
+-- the next one is about another condition than those before it
+pub next_unanswered : (answers : List Answer) (i : ℕ) (d : Answer) → AreConsistent answers → i < length answers → IsUnanswered (take i answers) (get_or answers i d).condition
+next_unanswered answers i d apart lt k e less =
+    let before : k < i = omega (arith, less, length-take i answers) in
+    let C : Answer → Type 0 = λ answer. answer.condition ≢ (get_or answers i d).condition in
+    subst C (sym (get_or-take i answers k e before)) (subst (λ (answer : Answer). (get_or answers k e).condition ≢ answer.condition) (get_or_default answers i e d lt) (apart k i e before lt))
 
 -- a number is from itself to itself
 pub within_itself : (n x : ℕ) → n ≡ x → (nat_le n x && nat_le x n) ≡ true

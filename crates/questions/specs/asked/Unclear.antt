@@ -1,33 +1,25 @@
 -- Where alone an answer may be unclear, given a budget of steps.
-use Rattle.std.specs.Prelude.{◌≡◌, ◌≢◌, ◌⊎◌, ℕ, ◌*◌, ◌/◌, ◌<◌, ◌≤◌, Bool, IsTrue, List, [], length, All, Any}
+use Rattle.std.specs.Prelude.{◌≡◌, ◌≢◌, ◌⊎◌, ℕ, ◌*◌, ◌/◌, ◌<◌, ◌≤◌, List, [], length, All}
 use Rattle.fields.specs.declared.packet.hook.Hook.{Hook}
-use Rattle.fields.specs.numbers.Spans.{SpanSet}
 use Rattle.fields.specs.packet.Packet.{PacketView as Packet}
 use Rattle.table.specs.chains.Table.{Table}
-use Rattle.table.specs.declared.verdict.Verdict.{Verdict}
 use Rattle.table.specs.declared.verdict.Verdict.TheVariants.{TooLong}
 use Rattle.table.specs.declared.walk.trail.Step.{Step}
-use Rattle.table.specs.walk.Walk.{Entry, end_verdict, walk}
-use Rattle.questions.specs.Ends.{IsRule}
-use Rattle.questions.specs.Leaves.{AreLeavesOf, entry_of}
+use Rattle.table.specs.walk.Walk.{walk}
+use Rattle.questions.specs.Leaves.{entry_of}
 use Rattle.questions.specs.Scopes.{Known, needless, unasked}
 use Rattle.questions.specs.Written.{HasNoneWritten, IsSampleOf}
-use Rattle.questions.specs.asked.Changes.{ShareOthers}
 use Rattle.questions.specs.asked.Rule.{IsDeadAt}
-use Rattle.questions.specs.asked.Verdicts.{IsSameAt}
-use Rattle.questions.specs.boxes.Area.{IsAtHook, IsBoth, IsIn}
+use Rattle.questions.specs.boxes.Area.{IsIn}
 use Rattle.questions.specs.boxes.Boxes.{rules_in}
 use Rattle.questions.specs.declared.foreign.answers.Answer.{Answer}
 use Rattle.questions.specs.declared.asked.reach.Given.{Given}
 use Rattle.questions.specs.declared.asked.rule.Life.{Life}
 use Rattle.questions.specs.declared.asked.rule.Life.TheVariants as life
-use Rattle.questions.specs.declared.asked.verdicts.Likeness.{Likeness}
-use Rattle.questions.specs.declared.asked.verdicts.Likeness.TheVariants as likeness
 use Rattle.questions.specs.declared.walking.front.Front.{Front}
 use Rattle.questions.specs.declared.walking.scope.Scope.{Scope}
-use Rattle.questions.specs.declared.walking.task.Leaf.{Leaf}
 use Rattle.questions.specs.steps.Searched.{HasCome, SearchesTo}
-use Rattle.questions.specs.steps.Taken.{IsFull, IsUnfinished, IsUnfinishedUnder}
+use Rattle.questions.specs.steps.Taken.{IsFull, IsUnfinishedUnder}
 use Rattle.questions.specs.steps.Takers.{IsBoxAt}
 
 -- the walks of a box that has the packet aren't finished within the budget, under some answers
@@ -76,53 +68,3 @@ IsUnclearBy dead may life.Unclear = ((hook : Hook) → dead hook ⊎ may hook) �
 -- an answer about a rule is unclear only where `MayLive` holds at each hook at which the rule isn't dead, and at one hook at least
 abbrev pub IsUnclear : Table → Step → ℕ → Life → Type 0
 IsUnclear t step budget life = IsUnclearBy (IsDeadAt t (entry_of t.chains step)) (λ hook. MayLive t step hook budget) life
-
--- if the leaf has another verdict, no packet line writes a packet of its box
-abbrev pub IsUnwritten : Hook → Verdict → Leaf → Type 0
-IsUnwritten hook verdict leaf = leaf.verdict ≢ verdict → HasNoneWritten hook leaf.area
-
--- the packets of a leaf of the first table can't all be walked through the second table within the budget; or some leaves there
--- have another verdict, and no packet line writes a packet of one of these
-abbrev pub MayDifferIn : Table → Hook → ℕ → Leaf → Type 0
-MayDifferIn new hook budget leaf =
-    (box : List SpanSet) × IsBoth leaf.area leaf.area box
-    × (IsUnfinished new hook box budget
-    ⊎ ((leaves : List Leaf) × AreLeavesOf new hook box leaves × Any (λ (other : Leaf). other.verdict ≢ leaf.verdict) leaves
-    × All (IsUnwritten hook leaf.verdict) leaves))
-
--- the packets of the box can't all be walked through the first table within the budget, or those of one of its leaves may get
--- different verdicts
-abbrev pub MayDifferOn : Table → Table → Hook → ℕ → List SpanSet → Type 0
-MayDifferOn old new hook budget box =
-    IsUnfinished old hook box budget ⊎ ((leaves : List Leaf) × AreLeavesOf old hook box leaves × Any (MayDifferIn new hook budget) leaves)
-
--- the tables have different policies at the hook, and the box has all packets there
-abbrev pub IsOfPolicy : Table → Table → Hook → List SpanSet → Type 0
-IsOfPolicy old new hook box =
-    ((p : Packet) → p.hook ≡ hook → end_verdict old p ≢ end_verdict new p) × ((p : Packet) → IsAtHook p → p.hook ≡ hook → IsIn box p)
-
--- the box has the packets at the hook that the box of one of these rules has
-abbrev pub IsOfRule : Table → (Entry → Bool) → Hook → List SpanSet → Type 0
-IsOfRule t these hook box =
-    (step : Step) × IsRule t step × IsTrue (these (entry_of t.chains step)) × (given : Given) × IsBoxAt t step hook given × (given.area ≡ box)
-
--- the same of one of the rules by which the tables differ: one of the first table that went, or one of the second table that came
-abbrev pub IsOfChange : Table → Table → Hook → List SpanSet → Type 0
-IsOfChange old new hook box =
-    (went : Entry → Bool) × (came : Entry → Bool) × ShareOthers old went new came × (IsOfRule old went hook box ⊎ IsOfRule new came hook box)
-
--- there is such a box whose packets may get different verdicts
-abbrev pub MayDiffer : Table → Table → Hook → ℕ → Type 0
-MayDiffer old new hook budget =
-    (box : List SpanSet) × (IsOfPolicy old new hook box ⊎ IsOfChange old new hook box) × MayDifferOn old new hook budget box
-
--- an answer about two tables is unclear only where this fact holds
-abbrev pub IsUnclearIf : Type 0 → Likeness → Type 0
-IsUnclearIf may likeness.Same = Unit {0}
-IsUnclearIf may (likeness.Differ words) = Unit {0}
-IsUnclearIf may likeness.Unclear = may
-
--- `MayDiffer` holds at each hook at which the tables aren't the same, and at one hook at least
-abbrev pub MayDifferSomewhere : Table → Table → ℕ → Type 0
-MayDifferSomewhere old new budget =
-    ((hook : Hook) → IsSameAt old new hook ⊎ MayDiffer old new hook budget) × ((hook : Hook) × MayDiffer old new hook budget)

@@ -38,6 +38,6 @@ pub record IsPartedFor (rule : Rule) (box : List SpanSet) (again outside : List 
 -- what a cut says of the box: the rule matches none of it; the part that it matches, and the others; or parts by their ports, some
 -- of which are cut again
 abbrev pub IsCutBy : Rule → List SpanSet → Cut → Type 0
-IsCutBy rule box (Apart same) = (same ≡ box) × IsApart rule box
+IsCutBy rule box Apart = IsApart rule box
 IsCutBy rule box (Parts inside outside) = IsCut rule box inside outside.items
 IsCutBy rule box (ByPorts again outside) = IsPartedFor rule box again.items outside.items

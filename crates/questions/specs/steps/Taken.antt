@@ -79,5 +79,6 @@ IsFinishedUnder t known hook scope budget leaves =
 abbrev pub IsUnfinished : Table → Hook → List SpanSet → ℕ → Type 0
 IsUnfinished t hook box budget = IsUnfinishedUnder t needless hook (unasked box) budget
 
+-- the same of a walk that is finished
 abbrev pub IsFinished : Table → Hook → List SpanSet → ℕ → List Leaf → Type 0
 IsFinished t hook box budget leaves = IsFinishedUnder t needless hook (unasked box) budget leaves

@@ -1,10 +1,15 @@
 //! The rules by which two tables differ.
 ghost use Rattle.std.specs.Prelude.{◌≡◌, ◌+◌, ◌<◌, All, IfOk, OnOk, length};
+ghost use Rattle.questions.specs.Foreign.{Assignment};
+ghost use Rattle.questions.specs.Scopes.{answered};
 ghost use Rattle.questions.specs.asked.Changes.{AreChanges, AreThese};
 ghost use Rattle.questions.specs.steps.Collected.{AddsRules};
 ghost use Rattle.questions.specs.steps.Shared.{HasPlace, IsMarkedRule, is_marked, unshared};
 
 use crate::asked::pairs::{Pair, Side, marks_of, pairs_of};
+use crate::boxes::boxed_table::BoxedTable;
+use crate::foreign::need::Needs;
+use crate::foreign::subject::Subject;
 use std::alloc::{AllocError, Global};
 use table::{Step, Table};
 
@@ -70,11 +75,37 @@ fn unshared_of(
 /// # Errors
 ///
 /// `AllocError` where memory was refused.
-pub fn changes_of(alloc: Global, old: &Table, new: &Table) -> Result<Changes, AllocError>
-    ensures { IfOk result (AreChanges old.now.table new.now.table) }
+pub fn changes_of(alloc: Global, old: &BoxedTable, new: &BoxedTable) -> Result<Changes, AllocError>
+    ensures { IfOk result (AreChanges old.now.table.table new.now.table.table) }
+{
+    let needs = Needs::none(alloc);
+    let old = Subject {
+        boxed: old,
+        needs: &needs,
+    };
+    let new = Subject {
+        boxed: new,
+        needs: &needs,
+    };
+    changes_under(alloc, &old, &new)
+}
+
+/// The same of tables whose rules need something: rules are equal if they need the same, too. So without the changes each chain has the same rules in
+/// what is left of both tables, whatever holds.
+///
+/// # Errors
+///
+/// `AllocError` where memory was refused.
+pub fn changes_under(
+    alloc: Global,
+    old: &Subject<'_>,
+    new: &Subject<'_>,
+) -> Result<Changes, AllocError>
+    ensures { IfOk result (λ changes. (a : Assignment) → AreChanges (answered old.now a) (answered new.now a) changes) }
 {
     let pairs = pairs_of(alloc, old, new)?;
-    let went = unshared_of(alloc, old, old, pairs.as_slice(), Side::Went)?;
-    let came = unshared_of(alloc, new, old, pairs.as_slice(), Side::Came)?;
+    let (first, second) = (&old.boxed.table, &new.boxed.table);
+    let went = unshared_of(alloc, first, first, pairs.as_slice(), Side::Went)?;
+    let came = unshared_of(alloc, second, first, pairs.as_slice(), Side::Came)?;
     Ok(Changes { went, came })
 }

@@ -1,9 +1,13 @@
 //! Chains of one name in two tables, beside each other: which of their rules both have.
 ghost use Rattle.std.specs.Prelude.{◌≡◌, ◌<◌, All, IfOk, IsTrue, OnOk, length};
 ghost use Rattle.table.specs.chains.Table.{chain_at};
+ghost use Rattle.questions.specs.Foreign.{Assignment};
+ghost use Rattle.questions.specs.Scopes.{answered, table_of};
 ghost use Rattle.questions.specs.declared.asked.pairs.Next.TheVariants.{Shared as IsShared};
 ghost use Rattle.questions.specs.steps.Shared.{AreEqualAt, AreThere, HaveNext, IsBeside, IsPaired, HasPlace, marks_on, pair_named};
 
+use crate::foreign::need::are_same;
+use crate::foreign::subject::Subject;
 use std::alloc::{AllocError, Global};
 use table::Table;
 
@@ -63,29 +67,37 @@ impl Pair {
     }
 }
 
-// Whether the next rules are equal.
-fn are_equal_at(old: &Table, new: &Table, chains: Places, passed: Places) -> bool
-    requires { HaveNext old.now.table new.now.table chains passed }
-    ensures { IsTrue result → AreEqualAt old.now.table new.now.table chains passed }
+// Whether the next rules are equal, and need the same.
+fn are_equal_at(old: &Subject<'_>, new: &Subject<'_>, chains: Places, passed: Places) -> bool
+    requires { HaveNext (table_of old.now) (table_of new.now) chains passed }
+    ensures { IsTrue result → (a : Assignment) → AreEqualAt (answered old.now a) (answered new.now a) chains passed }
 {
-    let count = old.rule_count(chains.old);
+    let (first, second) = (&old.boxed.table, &new.boxed.table);
+    let count = first.rule_count(chains.old);
     prove!(passed.old < count);
-    let other = new.rule_count(chains.new);
+    let other = second.rule_count(chains.new);
     prove!(passed.new < other);
-    old.rule(chains.old, passed.old + 1)
-        .equals(new.rule(chains.new, passed.new + 1))
+    let rule = first.rule(chains.old, passed.old + 1);
+    if !rule.equals(second.rule(chains.new, passed.new + 1)) {
+        return false;
+    }
+    are_same(
+        old.needs.at(chains.old, passed.old),
+        new.needs.at(chains.new, passed.new),
+    )
 }
 
 // Which of the next rules is passed: both where they are equal, else the one after which, or within a few more, an equal one comes.
-fn next_of(old: &Table, new: &Table, chains: Places, passed: Places) -> Next
-    requires { HaveNext old.now.table new.now.table chains passed }
-    ensures { result ≡ IsShared → AreEqualAt old.now.table new.now.table chains passed }
+fn next_of(old: &Subject<'_>, new: &Subject<'_>, chains: Places, passed: Places) -> Next
+    requires { HaveNext (table_of old.now) (table_of new.now) chains passed }
+    ensures { result ≡ IsShared → (a : Assignment) → AreEqualAt (answered old.now a) (answered new.now a) chains passed }
 {
     if are_equal_at(old, new, chains, passed) {
         return Next::Shared;
     }
+    let (first, second) = (&old.boxed.table, &new.boxed.table);
     for ahead in 1..AHEAD {
-        if ahead < old.rule_count(chains.old) - passed.old {
+        if ahead < first.rule_count(chains.old) - passed.old {
             let further = Places {
                 old: passed.old + ahead,
                 new: passed.new,
@@ -94,7 +106,7 @@ fn next_of(old: &Table, new: &Table, chains: Places, passed: Places) -> Next
                 return Next::Went;
             }
         }
-        if ahead < new.rule_count(chains.new) - passed.new {
+        if ahead < second.rule_count(chains.new) - passed.new {
             let further = Places {
                 old: passed.old,
                 new: passed.new + ahead,
@@ -108,13 +120,18 @@ fn next_of(old: &Table, new: &Table, chains: Places, passed: Places) -> Next
 }
 
 // Two chains beside each other.
-fn pair_of(alloc: Global, old: &Table, new: &Table, chains: Places) -> Result<Pair, AllocError>
-    requires { AreThere old.now.table new.now.table chains }
-    ensures { IfOk result (IsBeside old.now.table new.now.table chains) }
+fn pair_of(
+    alloc: Global,
+    old: &Subject<'_>,
+    new: &Subject<'_>,
+    chains: Places,
+) -> Result<Pair, AllocError>
+    requires { AreThere (table_of old.now) (table_of new.now) chains }
+    ensures { IfOk result (λ pair. (a : Assignment) → IsBeside (answered old.now a) (answered new.now a) chains pair) }
 {
     let count = Places {
-        old: old.rule_count(chains.old),
-        new: new.rule_count(chains.new),
+        old: old.boxed.table.rule_count(chains.old),
+        new: new.boxed.table.rule_count(chains.new),
     };
     let mut pair = Pair {
         place: chains.old,
@@ -135,14 +152,19 @@ fn pair_of(alloc: Global, old: &Table, new: &Table, chains: Places) -> Result<Pa
 }
 
 // The chains that both tables have.
-pub(crate) fn pairs_of(alloc: Global, old: &Table, new: &Table) -> Result<Vec<Pair>, AllocError>
-    ensures { IfOk result (λ pairs. All (IsPaired old.now.table new.now.table) pairs.items) }
+pub(crate) fn pairs_of(
+    alloc: Global,
+    old: &Subject<'_>,
+    new: &Subject<'_>,
+) -> Result<Vec<Pair>, AllocError>
+    ensures { IfOk result (λ pairs. All (λ pair. (a : Assignment) → IsPaired (answered old.now a) (answered new.now a) pair) pairs.items) }
 {
-    old.stands();
-    new.stands();
+    let (first, second) = (&old.boxed.table, &new.boxed.table);
+    first.stands();
+    second.stands();
     let mut pairs = Vec::new(alloc);
-    for place in 0..old.chain_count() {
-        if let Some(other) = new.index_of(old.chain_name(place)) {
+    for place in 0..first.chain_count() {
+        if let Some(other) = second.index_of(first.chain_name(place)) {
             let chains = Places {
                 old: place,
                 new: other,

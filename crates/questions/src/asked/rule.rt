@@ -13,6 +13,7 @@ ghost use Rattle.questions.specs.steps.Searched.{SaysEnd};
 
 use crate::asked::coming::{Found, come};
 use crate::asked::matching::packets_of;
+use crate::asked::shortest::enough_of;
 use crate::asked::witness::witness;
 use crate::boxes::boxed_table::BoxedTable;
 use crate::boxes::candidates::Candidates;
@@ -129,30 +130,6 @@ pub(crate) fn life_at(
     Ok(at_end(clear, front.leaves.as_slice(), step))
 }
 
-// Whether a rule of a table in which none needs anything is known to be dead, for the packets at one hook; and then no packet there that it matches
-// has a walk that is too long.
-pub(crate) fn is_dead_at(
-    alloc: Global,
-    subject: &BoxedTable,
-    hook: Hook,
-    step: Step,
-    budget: usize,
-) -> Result<bool, AllocError>
-    requires { IsRule subject.now.table.table step }
-    ensures { IfOk result (λ is. IsTrue is
-        → IsDeadAt subject.now.table.table (entry_of subject.now.table.table.chains step) hook × AreShort subject.now.table.table step hook) }
-{
-    let needs = Needs::none(alloc);
-    let subject = Subject {
-        boxed: subject,
-        needs: &needs,
-    };
-    match life_at(alloc, &subject, hook, step, budget)? {
-        Life::Dead => Ok(true),
-        Life::Live(_, _) | Life::Unclear => Ok(false),
-    }
-}
-
 /// Whether rule `number` of the chain at a place, both of which have to be there, can match at all. Rules count from 1.
 ///
 /// At each hook the packets of the rule's box are searched for one that comes to the rule, with `budget` steps. Rules that share no
@@ -214,7 +191,10 @@ pub fn dead_under(
     for hook in Hook::ALL {
         match life_at(alloc, subject, hook, step, budget)? {
             Life::Dead => {}
-            Life::Live(words, answers) => return Ok(Life::Live(words, answers)),
+            Life::Live(words, answers) => {
+                let enough = enough_of(alloc, subject, &words, answers, step, budget)?;
+                return Ok(Life::Live(words, enough));
+            }
             Life::Unclear => clear = false,
         }
     }

@@ -24,7 +24,7 @@ use std::alloc::{AllocError, Global};
 use table::{Step, Table};
 
 // The box of one packet of a box.
-fn box_of(alloc: Global, area: &Area, packet: &Packet) -> Result<Area, AllocError>
+pub(crate) fn box_of(alloc: Global, area: &Area, packet: &Packet) -> Result<Area, AllocError>
     requires packet { IsPacket packet.now }
     requires inside { IsIn area.now packet.now }
     ensures { IfOk result (λ own. IsIn own packet.now) }

@@ -19,8 +19,8 @@ use std::alloc::{AllocError, Global};
 // What a rule makes of a box.
 #[derive(Drop)]
 pub(crate) enum Cut {
-    // The rule matches no packet of the box, which is as it was.
-    Apart(Area),
+    // The rule matches no packet of the box.
+    Apart,
     // The packets that it matches are in the first, each other in one of those after it.
     Parts(Area, Vec<Area>),
     // The rule is to be asked again of the first boxes, which differ by the ports of one field: the packets that it matches
@@ -109,23 +109,23 @@ pub(crate) fn cut_by(
     alloc: Global,
     rule: &Rule,
     boxed: &Boxed,
-    area: Area,
+    area: &Area,
 ) -> Result<Cut, AllocError>
     requires { IsBoxOf rule.now boxed.now }
-    ensures { IfOk result (IsCutBy rule.now area) }
+    ensures { IfOk result (IsCutBy rule.now area.now) }
 {
     if !meet(area.sets(), boxed.spans()) {
-        return Ok(Cut::Apart(area));
+        return Ok(Cut::Apart);
     }
     let inside = area.within(alloc, boxed.spans())?;
     let (from, to) = (Field::SourcePort, Field::DestinationPort);
     match cross_ports(alloc, rule, inside.on(from), inside.on(to))? {
-        Crossing::Fails => Ok(Cut::Apart(area)),
+        Crossing::Fails => Ok(Cut::Apart),
         Crossing::Holds => {
             let others = outside(alloc, area.sets(), boxed.spans())?;
             Ok(Cut::Parts(inside, others))
         }
-        Crossing::BySource(listed) => cut_apart(alloc, boxed, &area, inside, from, &listed),
-        Crossing::ByDestination(listed) => cut_apart(alloc, boxed, &area, inside, to, &listed),
+        Crossing::BySource(listed) => cut_apart(alloc, boxed, area, inside, from, &listed),
+        Crossing::ByDestination(listed) => cut_apart(alloc, boxed, area, inside, to, &listed),
     }
 }

@@ -8,7 +8,7 @@ use std::alloc::{AllocError, Global};
 use std::marker::Model;
 
 /// What a rule needs of a condition, which is told by its number: that it holds or, inverted, that it doesn't.
-#[derive(Clone, Copy)]
+#[derive(Clone, Copy, PartialEq, Eq)]
 pub struct Need {
     /// The number of the condition.
     pub condition: usize,
@@ -68,6 +68,13 @@ impl Needs {
             None => &[],
         }
     }
+}
+
+// Whether rules that need these need the same.
+pub(crate) fn are_same(needs: &[Need], others: &[Need]) -> bool
+    ensures { IsTrue result → needs.now ≡ others.now }
+{
+    needs == others
 }
 
 // What is known of all that a rule needs.

@@ -34,7 +34,7 @@ pub(crate) fn step(
     subject: &Subject<'_>,
     policy: Verdict,
     front: &mut Front,
-    task: Task,
+    mut task: Task,
 ) -> Result<(), AllocError>
     requires there { AreThere (table_of subject.now).chains task }
     requires room { length task.trail.items < 65536 }
@@ -42,27 +42,9 @@ pub(crate) fn step(
     ensures { OnOk result ((a : Assignment) → Moves (answered subject.now a) (known_by subject.now a) policy task.scope
         (stage_of (known_by subject.now a) (answered subject.now a).chains task) front.old front.new) }
 {
-    let Task {
-        scope,
-        mut rests,
-        trail,
-    } = task;
-    match rests.pop() {
-        None => front.add_leaf(
-            Task {
-                scope,
-                rests,
-                trail,
-            },
-            policy,
-            true,
-        ),
+    match task.rests.pop() {
+        None => front.add_leaf(task, policy, true),
         Some(at) => {
-            let task = Task {
-                scope,
-                rests,
-                trail,
-            };
             subject.boxed.table.stands();
             if at.passed >= subject.boxed.table.rule_count(at.chain) {
                 return front.add_task(task);

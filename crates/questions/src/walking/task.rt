@@ -58,15 +58,6 @@ impl Leaf {
     }
 }
 
-// The rests again.
-pub(crate) fn copy_rests(alloc: Global, rests: &[Pending]) -> Result<Vec<Pending>, AllocError>
-    ensures { IfOk result (λ copy. copy.items ≡ rests.now) }
-{
-    let mut copy = Vec::new(alloc);
-    copy.extend_from_slice(rests)?;
-    Ok(copy)
-}
-
 // The trail again.
 pub(crate) fn copy_trail(alloc: Global, trail: &[Step]) -> Result<Vec<Step>, AllocError>
     ensures { IfOk result (λ copy. copy.items ≡ trail.now) }
@@ -74,4 +65,21 @@ pub(crate) fn copy_trail(alloc: Global, trail: &[Step]) -> Result<Vec<Step>, All
     let mut copy = Vec::new(alloc);
     copy.extend_from_slice(trail)?;
     Ok(copy)
+}
+
+// A task of another box beside this one, with the same answers, rests and trail.
+pub(crate) fn beside(alloc: Global, task: &Task, area: Area) -> Result<Task, AllocError>
+    ensures scope { IfOk result (λ other. other.scope ≡ record { area = area; answers = task.now.scope.answers }) }
+    ensures rests { IfOk result (λ other. other.rests.items ≡ task.now.rests.items) }
+    ensures trail { IfOk result (λ other. other.trail.items ≡ task.now.trail.items) }
+{
+    let answers = task.scope.answers.copy(alloc)?;
+    let mut rests = Vec::new(alloc);
+    rests.extend_from_slice(task.rests.as_slice())?;
+    let trail = copy_trail(alloc, task.trail.as_slice())?;
+    Ok(Task {
+        scope: Scope { area, answers },
+        rests,
+        trail,
+    })
 }

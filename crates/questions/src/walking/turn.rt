@@ -1,5 +1,5 @@
 //! Where the next rule sends the parts of a box.
-ghost use Rattle.std.specs.Prelude.{◌≡◌, ◌+◌, ◌<◌, ◌∷◌, [], ◌++◌, All, length, OnOk};
+ghost use Rattle.std.specs.Prelude.{◌+◌, ◌<◌, ◌∷◌, [], ◌++◌, length, OnOk};
 ghost use Rattle.rules.specs.rule.Actions.{target_of};
 ghost use Rattle.table.specs.chains.Table.{Table as Filter, chain_at};
 ghost use Rattle.table.specs.declared.verdict.Verdict.{Verdict};
@@ -8,7 +8,7 @@ ghost use Rattle.table.specs.walk.Walk.{after_match, whole};
 ghost use Rattle.questions.specs.Foreign.{Assignment, IsUnanswered, needs_at};
 ghost use Rattle.questions.specs.Scopes.{Known, answered, entries_by, known_by, table_of};
 ghost use Rattle.questions.specs.steps.Branches.{CanAsk, IsBranch, target_at};
-ghost use Rattle.questions.specs.steps.Waiting.{AreNamedAlike, AreThere, IsThere, Moves, PassesOver, behind, entry_before, rest_of, rests_of, stage_at};
+ghost use Rattle.questions.specs.steps.Waiting.{AreNamedAlike, AreThere, IsThere, Moves, PassesOver, rest_of, rests_of, stage_at};
 
 use crate::boxes::area::Area;
 use crate::boxes::cut::{Cut, cut_by};
@@ -16,29 +16,19 @@ use crate::foreign::answers::Answers;
 use crate::foreign::need::{Need, Standing, known_of};
 use crate::foreign::subject::Subject;
 use crate::walking::front::Front;
-use crate::walking::scope::Scope;
-use crate::walking::task::{Pending, Task, copy_rests, copy_trail};
+use crate::walking::task::{Pending, Task, beside};
 use fields::Name;
 use rules::{Rule, Target};
 use std::alloc::AllocError;
 use table::{Step, Table, Verdict};
 
 // The walks go on with one more rest.
-fn go_on(front: &mut Front, task: Task, at: Pending) -> Result<(), AllocError>
+fn go_on(front: &mut Front, mut task: Task, at: Pending) -> Result<(), AllocError>
     ensures { OnOk result ((t : Filter) (known : Known) (policy : Verdict) → IsThere t.chains at → AreThere t.chains task
         → Moves t known policy task.scope (stage_at known t.chains at task) front.old front.new) }
 {
-    let Task {
-        scope,
-        mut rests,
-        trail,
-    } = task;
-    rests.push(at)?;
-    front.add_task(Task {
-        scope,
-        rests,
-        trail,
-    })
+    task.rests.push(at)?;
+    front.add_task(task)
 }
 
 // The walks go on in a chain. One that isn't there has no rules.
@@ -57,7 +47,7 @@ fn enter(table: &Table, front: &mut Front, task: Task, name: &Name) -> Result<()
 fn jump(
     table: &Table,
     front: &mut Front,
-    task: Task,
+    mut task: Task,
     behind: Pending,
     name: &Name,
 ) -> Result<(), AllocError>
@@ -66,17 +56,7 @@ fn jump(
         (Under (whole name.now ∷ rest_of t.chains behind ∷ rests_of t.chains task.rests.items) (entries_by known t.chains task.trail.items))
         front.old front.new) }
 {
-    let Task {
-        scope,
-        mut rests,
-        trail,
-    } = task;
-    rests.push(behind)?;
-    let task = Task {
-        scope,
-        rests,
-        trail,
-    };
+    task.rests.push(behind)?;
     enter(table, front, task, name)
 }
 
@@ -110,7 +90,7 @@ fn turn(
 fn follow(
     table: &Table,
     front: &mut Front,
-    task: Task,
+    mut task: Task,
     behind: Pending,
     rule: &Rule,
 ) -> Result<(), AllocError>
@@ -120,72 +100,41 @@ fn follow(
         (entries_by known t.chains (task.trail.items ++ record { chain = behind.chain; number = behind.passed } ∷ [])))
         front.old front.new) }
 {
-    let Task {
-        scope,
-        rests,
-        mut trail,
-    } = task;
-    trail.push(Step {
+    task.trail.push(Step {
         chain: behind.chain,
         number: behind.passed,
     })?;
-    let task = Task {
-        scope,
-        rests,
-        trail,
-    };
     turn(table, front, task, behind, rule.target())
 }
 
-// The walks of some boxes go on at one place, with one trail and the same answers.
+// The walks of some boxes go on at one place, each box in a task beside this one.
 fn pass_over(
     front: &mut Front,
-    mut outside: Vec<Area>,
-    answers: &Answers,
-    behind: Pending,
-    rests: &[Pending],
-    trail: &[Step],
+    mut boxes: Vec<Area>,
+    task: &Task,
+    at: Pending,
 ) -> Result<(), AllocError>
-    ensures { OnOk result ((t : Filter) (known : Known) (policy : Verdict) → IsThere t.chains behind → All (IsThere t.chains) rests.now
-        → PassesOver t known policy outside.items answers.now
-        (Under (rest_of t.chains behind ∷ rests_of t.chains rests.now) (entries_by known t.chains trail.now)) front.old front.new) }
+    ensures { OnOk result ((t : Filter) (known : Known) (policy : Verdict) → IsThere t.chains at → AreThere t.chains task.now
+        → PassesOver t known policy boxes.items task.now.scope.answers (stage_at known t.chains at task.now) front.old front.new) }
 {
-    while let Some(area) = outside.pop() {
-        let answers = answers.copy(front.alloc)?;
-        let task = Task {
-            scope: Scope { area, answers },
-            rests: copy_rests(front.alloc, rests)?,
-            trail: copy_trail(front.alloc, trail)?,
-        };
-        go_on(front, task, behind)?;
+    while let Some(area) = boxes.pop() {
+        let next = beside(front.alloc, task, area)?;
+        go_on(front, next, at)?;
     }
     Ok(())
 }
 
 // The walks part by whether a condition holds, and go on at one place.
-fn part(front: &mut Front, task: Task, at: Pending, condition: usize) -> Result<(), AllocError>
+fn part(front: &mut Front, mut task: Task, at: Pending, condition: usize) -> Result<(), AllocError>
     requires { IsUnanswered task.scope.answers condition }
     ensures { OnOk result ((t : Filter) (known : Known) (policy : Verdict) → IsThere t.chains at → AreThere t.chains task
         → Moves t known policy task.scope (stage_at known t.chains at task) front.old front.new) }
 {
-    let alloc = front.alloc;
-    let Task {
-        scope,
-        rests,
-        trail,
-    } = task;
-    let Scope { area, mut answers } = scope;
-    let mut others = answers.copy(alloc)?;
-    others.add(condition, false)?;
-    answers.add(condition, true)?;
-    let mut same = Vec::new(alloc);
-    same.push(area.copy(alloc)?)?;
-    pass_over(front, same, &others, at, rests.as_slice(), trail.as_slice())?;
-    let task = Task {
-        scope: Scope { area, answers },
-        rests,
-        trail,
-    };
+    let same = task.scope.area.copy(front.alloc)?;
+    let mut other = beside(front.alloc, &task, same)?;
+    other.scope.answers.add(condition, false)?;
+    go_on(front, other, at)?;
+    task.scope.answers.add(condition, true)?;
     go_on(front, task, at)
 }
 
@@ -218,7 +167,7 @@ fn branch_of(needs: &[Need], answers: &Answers, rule: &Rule) -> Branch
 fn cut(
     subject: &Subject<'_>,
     front: &mut Front,
-    task: Task,
+    mut task: Task,
     at: Pending,
     parted: Option<usize>,
 ) -> Result<(), AllocError>
@@ -241,64 +190,19 @@ fn cut(
         chain: at.chain,
         passed: at.passed + 1,
     };
-    let Task {
-        scope,
-        rests,
-        trail,
-    } = task;
-    let Scope { area, answers } = scope;
-    match cut_by(front.alloc, rule, boxed, area)? {
-        Cut::Apart(area) => {
-            let scope = Scope { area, answers };
-            go_on(
-                front,
-                Task {
-                    scope,
-                    rests,
-                    trail,
-                },
-                behind,
-            )
-        }
+    match cut_by(front.alloc, rule, boxed, &task.scope.area)? {
+        Cut::Apart => go_on(front, task, behind),
         Cut::Parts(inside, outside) => {
-            pass_over(
-                front,
-                outside,
-                &answers,
-                behind,
-                rests.as_slice(),
-                trail.as_slice(),
-            )?;
-            let task = Task {
-                scope: Scope {
-                    area: inside,
-                    answers,
-                },
-                rests,
-                trail,
-            };
+            pass_over(front, outside, &task, behind)?;
+            task.scope.area = inside;
             match parted {
                 None => follow(table, front, task, behind, rule),
                 Some(condition) => part(front, task, at, condition),
             }
         }
         Cut::ByPorts(again, outside) => {
-            pass_over(
-                front,
-                outside,
-                &answers,
-                behind,
-                rests.as_slice(),
-                trail.as_slice(),
-            )?;
-            pass_over(
-                front,
-                again,
-                &answers,
-                at,
-                rests.as_slice(),
-                trail.as_slice(),
-            )
+            pass_over(front, outside, &task, behind)?;
+            pass_over(front, again, &task, at)
         }
     }
 }

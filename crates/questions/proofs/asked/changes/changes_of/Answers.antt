@@ -1,23 +1,10 @@
-use Rattle.questions.specs.declared.asked.pairs.Side.TheVariants as side
-use Rattle.questions.specs.steps.Shared.{unshared}
-use Rattle.questions.proofs.laws.SharedLaws.{all_placed, share_others}
+use Rattle.std.proofs.lemmas.Result.{IfOk-weaker}
+use Rattle.questions.specs.asked.Changes.{AreChanges}
+use Rattle.questions.specs.declared.asked.changes.Changes.{Changes}
+use Rattle.questions.proofs.laws.PlainCompareLaws.{changes_plain, subject_of}
 use Rattle.questions.proofs.asked.changes.changes_of.Goals as goal
-
-pub unshared_of-requires : goal.unshared_of-requires
-unshared_of-requires c = rw c.as_slice.ensures.value (all_placed c.args.old.now.table c.args.new.now.table c.in_ok-pairs.pairs.items c.in_ok-pairs.ensures)
-
-pub unshared_of-requires-2 : goal.unshared_of-requires-2
-unshared_of-requires-2 c = rw c.as_slice-2.ensures.value (all_placed c.args.old.now.table c.args.new.now.table c.in_ok-pairs.pairs.items c.in_ok-pairs.ensures)
 
 pub returns : goal.returns
 returns c =
-    let old = c.args.old.now.table in
-    let new = c.args.new.now.table in
-    let pairs = c.in_ok-pairs.pairs.items in
-    record {
-      went = unshared side.Went old.chains pairs;
-      came = unshared side.Came old.chains pairs;
-      shared = share_others old new pairs c.in_ok-pairs.ensures;
-      first = rw c.as_slice.ensures.value at c.in_ok-went.ensures;
-      second = rw c.as_slice-2.ensures.value at c.in_ok-came.ensures;
-    }
+    IfOk-weaker c.changes_under.result _ (λ (changes : Changes). AreChanges c.args.old.now.table.table c.args.new.now.table.table changes)
+    (λ changes. changes_plain (subject_of c.args.old c.none-needs.result) (subject_of c.args.new c.none-needs.result) c.none-needs.ensures c.none-needs.ensures changes) c.changes_under.ensures

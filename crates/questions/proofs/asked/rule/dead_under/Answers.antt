@@ -54,10 +54,10 @@ returns-in-Live-clause-says c =
     let s = c.args.subject.now in
     let step : Step = record { chain = c.args.place; number = c.args.number } in
     let (consistent, live) = rw c.in-Live.is at c.in_ok-life_at.ensures.says in
-    record {
+    c.in_ok-enough-in-Live.ensures (record {
       consistent = consistent;
       live = λ a agrees.
           (let (p, writes, there, on) = live a agrees in
           let P : Entry → Type 0 = λ entry. Contains (walk (answered s a) p).trail entry in
           (p, writes, subst P (entry_left s.needs.now a (table_of s) step) on));
-    }
+    })

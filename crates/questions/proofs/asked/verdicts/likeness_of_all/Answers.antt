@@ -2,7 +2,7 @@ use Rattle.std.proofs.Common.{get_or, sym, ◌∙◌, arith}
 use Rattle.table.specs.declared.walk.trail.Step.{Step}
 use Rattle.std.proofs.lemmas.Bool.{true≢false}
 use Rattle.std.proofs.lemmas.List.{get_or_default}
-use Rattle.questions.specs.steps.Compared.{IsSettled}
+use Rattle.questions.specs.asked.Alike.{IsAlwaysSettled}
 use Rattle.questions.proofs.laws.TrailLaws.{items_next}
 use Rattle.questions.proofs.asked.verdicts.likeness_of_all.Goals as goal
 use Rattle.questions.proofs.asked.verdicts.likeness_of_all.Goals.{in-Same, in-Unclear}
@@ -14,7 +14,7 @@ pub loop-step-preserved : goal.loop-step-preserved
 loop-step-preserved c =
     elim c.match-branch-2.branch [
       | in-Same w ↦ record {
-        same = λ clear. items_next (IsSettled c.args.owner.now.table.table c.args.old.now.table.table c.args.new.now.table.table c.args.course.hook) c.args.steps.now c.loop-step.step-index (get_or c.args.steps.now c.loop-step.step-index no_step) (omega arith) (get_or_default c.args.steps.now c.loop-step.step-index no_step _ (omega arith)) (c.loop-step.invariant.same (sym w.clear-is ∙ clear)) (rw w.in-Same.is at c.in_ok-likeness_of.ensures.says);
+        same = λ clear. items_next (IsAlwaysSettled c.args.own.now c.args.old.now c.args.new.now c.args.course.hook) c.args.steps.now c.loop-step.step-index (get_or c.args.steps.now c.loop-step.step-index no_step) (omega arith) (get_or_default c.args.steps.now c.loop-step.step-index no_step _ (omega arith)) (c.loop-step.invariant.same (sym w.clear-is ∙ clear)) (rw w.in-Same.is at c.in_ok-likeness_of.ensures.says);
         some = λ off. c.loop-step.invariant.some (sym w.clear-is ∙ off);
       }
       | in-Unclear w ↦ record {

@@ -21,18 +21,18 @@ pub returns-in-Apart : goal.returns-in-Apart
 returns-in-Apart c =
     let s = c.args.subject.now in
     let own = table_of s in
-    let cut = rw c.in-Apart.is at c.in_ok-area.ensures in
+    let apart = rw c.in-Apart.is at c.in_ok-cut_by.ensures in
     on_ok_weaker c.go_on.result (λ h a policy.
     apart_on s a c.stands.ensures.sound policy c.args.at c.requires.there c.rule-rule.result.now c.requires.passed c.rule-rule.ensures (rests_of (answered s a).chains c.args.task.rests.items) c.args.task.trail.items
-    c.args.task.scope c.args.front.now c.go_on.new.front cut.1
-    (rw cut.0 at (h (answered s a) (known_by s a) policy (there_left s.needs.now a own c.args.at.chain c.requires.there) (all_left s.needs.now a own c.args.task.rests.items c.requires.rests)))) c.go_on.ensures
+    c.args.task.scope c.args.front.now c.go_on.new.front apart
+    (h (answered s a) (known_by s a) policy (there_left s.needs.now a own c.args.at.chain c.requires.there) (all_left s.needs.now a own c.args.task.rests.items c.requires.rests))) c.go_on.ensures
 
 pub returns-in-None : goal.returns-in-None
 returns-in-None c =
     let s = c.args.subject.now in
     let own = table_of s in
     let rule = c.rule-rule.result.now in
-    let cut = rw c.in-Parts.is at c.in_ok-area.ensures in
+    let cut = rw c.in-Parts.is at c.in_ok-cut_by.ensures in
     let P : Rule → Type 0 = λ r. CanFollow (needs_at s.needs.now c.args.at.chain c.args.at.passed) c.args.task.scope.answers (target_of r) in
     let can = subst P (sym (rule_here own c.args.at rule c.requires.passed c.rule-rule.ensures)) (rw c.in-None.is at c.requires.parted) in
     on_ok_weaker c.follow.result (λ h a policy.
@@ -42,14 +42,14 @@ returns-in-None c =
     let all = all_left s.needs.now a own c.args.task.rests.items c.requires.rests in
     followed_on s a c.stands.ensures.sound policy c.args.at c.requires.there rule c.requires.passed c.rule-rule.ensures (rests_of t.chains c.args.task.rests.items) c.args.task.trail.items
     c.args.task.scope.area c.in-Parts.inside c.args.task.scope.answers c.in-Parts.outside.items c.args.front.now c.pass_over.new.front c.follow.new.front cut can c.requires.room
-    (rw (c.as_slice.ensures.value, c.as_slice-in-Parts.ensures.value) at (c.in_ok-pass_over-in-Parts.ensures t known policy there (rw c.as_slice.ensures.value all)))
+    (c.in_ok-pass_over-in-Parts.ensures t known policy there all)
     (h t known policy (names_same s.needs.now a own.chains) there all)) c.follow.ensures
 
 pub returns-in-Some : goal.returns-in-Some
 returns-in-Some c =
     let s = c.args.subject.now in
     let own = table_of s in
-    let cut = rw c.in-Parts.is at c.in_ok-area.ensures in
+    let cut = rw c.in-Parts.is at c.in_ok-cut_by.ensures in
     on_ok_weaker c.part.result (λ h a policy.
     let t = answered s a in
     let known = known_by s a in
@@ -57,14 +57,14 @@ returns-in-Some c =
     let all = all_left s.needs.now a own c.args.task.rests.items c.requires.rests in
     split_on s a c.stands.ensures.sound policy c.args.at c.requires.there c.rule-rule.result.now c.requires.passed c.rule-rule.ensures (rests_of t.chains c.args.task.rests.items) c.args.task.trail.items
     c.args.task.scope.area c.in-Parts.inside c.args.task.scope.answers c.in-Parts.outside.items c.args.front.now c.pass_over.new.front c.part.new.front cut
-    (rw (c.as_slice.ensures.value, c.as_slice-in-Parts.ensures.value) at (c.in_ok-pass_over-in-Parts.ensures t known policy there (rw c.as_slice.ensures.value all)))
+    (c.in_ok-pass_over-in-Parts.ensures t known policy there all)
     (h t known policy there all)) c.part.ensures
 
 pub returns-in_ok-pass_over-in-ByPorts : goal.returns-in_ok-pass_over-in-ByPorts
 returns-in_ok-pass_over-in-ByPorts c =
     let s = c.args.subject.now in
     let own = table_of s in
-    let parted = rw c.in-ByPorts.is at c.in_ok-area.ensures in
+    let parted = rw c.in-ByPorts.is at c.in_ok-cut_by.ensures in
     on_ok_weaker c.pass_over-in-ByPorts-2.result (λ h a policy.
     let t = answered s a in
     let known = known_by s a in
@@ -72,5 +72,5 @@ returns-in_ok-pass_over-in-ByPorts c =
     let all = all_left s.needs.now a own c.args.task.rests.items c.requires.rests in
     parted_on s a c.stands.ensures.sound policy c.args.at c.requires.there c.rule-rule.result.now c.requires.passed c.rule-rule.ensures (rests_of t.chains c.args.task.rests.items) c.args.task.trail.items
     c.args.task.scope.area c.args.task.scope.answers c.in-ByPorts.again.items c.in-ByPorts.outside.items c.args.front.now c.pass_over-in-ByPorts.new.front c.pass_over-in-ByPorts-2.new.front parted
-    (rw (c.as_slice-in-ByPorts.ensures.value, c.as_slice-in-ByPorts-2.ensures.value) at (c.in_ok-pass_over-in-ByPorts.ensures t known policy there (rw c.as_slice-in-ByPorts.ensures.value all)))
-    (rw (c.as_slice-in-ByPorts-3.ensures.value, c.as_slice-in-ByPorts-4.ensures.value) at (h t known policy there (rw c.as_slice-in-ByPorts-3.ensures.value all)))) c.pass_over-in-ByPorts-2.ensures
+    (c.in_ok-pass_over-in-ByPorts.ensures t known policy there all)
+    (h t known policy there all)) c.pass_over-in-ByPorts-2.ensures

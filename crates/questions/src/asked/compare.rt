@@ -1,0 +1,156 @@
+//! Whether two tables give each packet the same verdict.
+ghost use Rattle.std.specs.Prelude.{◌≡◌, IfOk};
+ghost use Rattle.questions.specs.Foreign.{Assignment};
+ghost use Rattle.questions.specs.Scopes.{all_of, left_of};
+ghost use Rattle.questions.specs.asked.Alike.{IsAlwaysSameAt, Says as SaysUnder, SaysIf};
+ghost use Rattle.questions.specs.asked.Differing.{IsUnclearIf, MayDiffer, MayDifferSomewhere};
+ghost use Rattle.questions.specs.asked.Verdicts.{IsSameAt, Says, SaysAt};
+ghost use Rattle.questions.specs.declared.asked.likeness.Likeness.TheVariants.{Same};
+
+use crate::asked::changes::changes_under;
+use crate::asked::equal::are_equal;
+use crate::asked::likeness::{Course, Likeness};
+use crate::asked::verdicts::likeness_at;
+use crate::boxes::boxed_table::BoxedTable;
+use crate::foreign::need::Needs;
+use crate::foreign::subject::Subject;
+use fields::Hook;
+use std::alloc::{AllocError, Global};
+
+/// Whether two tables whose rules need something give each packet at one hook the same verdict, as `compare_under` says it of all hooks; a packet
+/// that shows a difference is at that hook.
+///
+/// # Errors
+///
+/// `AllocError` where memory was refused.
+pub fn compare_at_under<'a>(
+    alloc: Global,
+    old: &Subject<'a>,
+    new: &Subject<'a>,
+    hook: Hook,
+    budget: usize,
+) -> Result<Likeness, AllocError>
+    ensures says { IfOk result (SaysIf (IsAlwaysSameAt old.now new.now hook) old.now new.now hook) }
+    ensures unclear { IfOk result (IsUnclearIf ((a : Assignment) → MayDiffer (left_of old.now a) (left_of new.now a) hook budget)) }
+{
+    let changes = changes_under(alloc, old, new)?;
+    likeness_at(
+        old,
+        new,
+        &changes,
+        Course {
+            alloc,
+            hook,
+            budget,
+        },
+    )
+}
+
+/// Whether two tables whose rules need something give each packet the same verdict, whichever rule gives it and whatever holds; or a packet line
+/// and answers, such that they give it two verdicts where these are right, whatever else holds. A condition that both tables need is told by one
+/// number.
+///
+/// It goes as in `compare`; rules that both have are those with the same needs, and a changed rule's packets are asked for under answers that meet
+/// what it needs.
+///
+/// # Errors
+///
+/// `AllocError` where memory was refused.
+pub fn compare_under<'a>(
+    alloc: Global,
+    old: &Subject<'a>,
+    new: &Subject<'a>,
+    budget: usize,
+) -> Result<Likeness, AllocError>
+    ensures says { IfOk result (SaysUnder old.now new.now) }
+    ensures unclear { IfOk result (IsUnclearIf (MayDifferSomewhere (IsAlwaysSameAt old.now new.now)
+        (λ hook. (a : Assignment) → MayDiffer (left_of old.now a) (left_of new.now a) hook budget))) }
+{
+    let changes = changes_under(alloc, old, new)?;
+    let mut clear = true;
+    for hook in Hook::ALL {
+        let course = Course {
+            alloc,
+            hook,
+            budget,
+        };
+        match likeness_at(old, new, &changes, course)? {
+            Likeness::Same => {}
+            Likeness::Differ(words, answers) => return Ok(Likeness::Differ(words, answers)),
+            Likeness::Unclear => clear = false,
+        }
+    }
+    if clear {
+        return Ok(Likeness::Same);
+    }
+    Ok(Likeness::Unclear)
+}
+
+/// Whether two tables give each packet at one hook the same verdict, as `compare` says it of all hooks; a packet that shows a
+/// difference is at that hook.
+///
+/// # Errors
+///
+/// `AllocError` where memory was refused.
+pub fn compare_at(
+    alloc: Global,
+    old: &BoxedTable,
+    new: &BoxedTable,
+    hook: Hook,
+    budget: usize,
+) -> Result<Likeness, AllocError>
+    ensures says { IfOk result (SaysAt old.now.table.table new.now.table.table hook) }
+    ensures equal { old.now.table.table ≡ new.now.table.table → IfOk result (λ likeness. likeness ≡ Same) }
+    ensures unclear { IfOk result (IsUnclearIf (MayDiffer (all_of old.now.table.table) (all_of new.now.table.table) hook budget)) }
+{
+    if are_equal(&old.table, &new.table) {
+        return Ok(Likeness::Same);
+    }
+    let needs = Needs::none(alloc);
+    let old = Subject {
+        boxed: old,
+        needs: &needs,
+    };
+    let new = Subject {
+        boxed: new,
+        needs: &needs,
+    };
+    compare_at_under(alloc, &old, &new, hook, budget)
+}
+
+/// Whether two tables give each packet the same verdict, whichever rule gives it. Equal tables are the same before any step.
+///
+/// Otherwise the chains of one name are aligned: rules that both have, in one order, are set aside, and the others are the changes. A packet that
+/// matches no changed rule gets the same verdict from both tables, if its hook has the same policy in both; so does one that matches only changed
+/// rules that are dead in their own tables. So each changed rule is searched for first, as by `dead`; and for each that isn't dead, and each hook,
+/// the packets of the rule's box walk the first table as boxes, and each leaf then walks the second one. Where the policies of a hook differ,
+/// all packets of the hook do so. Each of these walks has `budget` steps (`leaves`).
+///
+/// # Errors
+///
+/// `AllocError` where memory was refused.
+pub fn compare(
+    alloc: Global,
+    old: &BoxedTable,
+    new: &BoxedTable,
+    budget: usize,
+) -> Result<Likeness, AllocError>
+    ensures says { IfOk result (Says old.now.table.table new.now.table.table) }
+    ensures equal { old.now.table.table ≡ new.now.table.table → IfOk result (λ likeness. likeness ≡ Same) }
+    ensures unclear { IfOk result (IsUnclearIf (MayDifferSomewhere (IsSameAt old.now.table.table new.now.table.table)
+        (λ hook. MayDiffer (all_of old.now.table.table) (all_of new.now.table.table) hook budget))) }
+{
+    if are_equal(&old.table, &new.table) {
+        return Ok(Likeness::Same);
+    }
+    let needs = Needs::none(alloc);
+    let old = Subject {
+        boxed: old,
+        needs: &needs,
+    };
+    let new = Subject {
+        boxed: new,
+        needs: &needs,
+    };
+    compare_under(alloc, &old, &new, budget)
+}

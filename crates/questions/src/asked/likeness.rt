@@ -1,0 +1,109 @@
+//! Whether two tables give the packets of a scope the same verdicts: those of each leaf of the first table walk the second one.
+ghost use Rattle.std.specs.Prelude.{All, Any, IfOk};
+ghost use Rattle.questions.specs.Foreign.{Assignment};
+ghost use Rattle.questions.specs.Scopes.{left_of};
+ghost use Rattle.questions.specs.asked.Alike.{IsGivenBy, IsSameIn, IsSameOn, SaysIf};
+ghost use Rattle.questions.specs.asked.Differing.{IsUnclearIf, MayDifferIn, MayDifferOn};
+ghost use Rattle.questions.specs.declared.foreign.subject.Subject.{Subject as First};
+
+use crate::asked::other::{all_give, other_among};
+use crate::foreign::answers::Answers;
+use crate::foreign::subject::Subject;
+use crate::walking::engine::leaves_under;
+use crate::walking::scope::Scope;
+use crate::walking::task::Leaf;
+use fields::{Hook, Words};
+use std::alloc::{AllocError, Global};
+
+/// What is known of two tables.
+#[derive(Drop)]
+pub enum Likeness {
+    /// Both give each packet that can be at its hook the same verdict, whichever rule or policy gives it, and whatever holds that rules need.
+    Same,
+    /// These words write a packet, and where the answers are right the tables give it two verdicts; where no rule needs anything, there are none.
+    Differ(Words, Answers),
+    /// Neither is known. Each hook at which the tables aren't known to be the same is one where the steps don't
+    /// suffice, a trail is full, or a leaf of the first table has leaves in the second one with another verdict, and
+    /// no line writes a packet of one of these. There is such a hook.
+    Unclear,
+}
+
+// Where packets are compared, and with how many steps for each walk.
+#[derive(Clone, Copy)]
+pub(crate) struct Course {
+    pub alloc: Global,
+    pub hook: Hook,
+    pub budget: usize,
+}
+
+// What is said of the packets of a leaf of a first table, where these get the leaf's verdict: they walk the second one.
+fn likeness_in(
+    new: &Subject<'_>,
+    hook: Hook,
+    leaf: &Leaf,
+    budget: usize,
+) -> Result<Likeness, AllocError>
+    ensures says { IfOk result (λ likeness. (old : First) → IsGivenBy old hook leaf.now
+        → SaysIf (IsSameIn old new.now hook leaf.now) old new.now hook likeness) }
+    ensures unclear { IfOk result (IsUnclearIf ((a : Assignment) → MayDifferIn (left_of new.now a) hook budget leaf.now)) }
+{
+    let alloc = *leaf.trail.allocator();
+    let area = leaf.area.copy(alloc)?;
+    let answers = leaf.answers.copy(alloc)?;
+    let start = Scope { area, answers };
+    let Some(found) = leaves_under(alloc, new, hook, start, budget)? else {
+        return Ok(Likeness::Unclear);
+    };
+    if all_give(found.as_slice(), leaf.verdict) {
+        return Ok(Likeness::Same);
+    }
+    match other_among(hook, found.as_slice(), leaf.verdict)? {
+        None => Ok(Likeness::Unclear),
+        Some(shown) => {
+            shown.answers.stand();
+            Ok(Likeness::Differ(shown.words, shown.answers))
+        }
+    }
+}
+
+// What is said of the packets of all leaves of a first table, where these get the leaves' verdicts.
+fn likeness_among(
+    new: &Subject<'_>,
+    hook: Hook,
+    found: &[Leaf],
+    budget: usize,
+) -> Result<Likeness, AllocError>
+    ensures says { IfOk result (λ likeness. (old : First) → All (IsGivenBy old hook) found.now
+        → SaysIf (All (IsSameIn old new.now hook) found.now) old new.now hook likeness) }
+    ensures unclear { IfOk result (IsUnclearIf (Any (λ leaf. (a : Assignment) → MayDifferIn (left_of new.now a) hook budget leaf) found.now)) }
+{
+    let mut clear = true;
+    for leaf in found {
+        match likeness_in(new, hook, leaf, budget)? {
+            Likeness::Same => {}
+            Likeness::Differ(words, answers) => return Ok(Likeness::Differ(words, answers)),
+            Likeness::Unclear => clear = false,
+        }
+    }
+    if clear {
+        return Ok(Likeness::Same);
+    }
+    Ok(Likeness::Unclear)
+}
+
+// What is said of the packets of a scope: they walk the first table, and each leaf the second one.
+pub(crate) fn likeness_on(
+    old: &Subject<'_>,
+    new: &Subject<'_>,
+    course: Course,
+    start: Scope,
+) -> Result<Likeness, AllocError>
+    ensures says { IfOk result (SaysIf (IsSameOn old.now new.now course.hook start) old.now new.now course.hook) }
+    ensures unclear { IfOk result (IsUnclearIf ((a : Assignment)
+        → MayDifferOn (left_of old.now a) (left_of new.now a) course.hook course.budget start)) }
+{
+    let Some(found) = leaves_under(course.alloc, old, course.hook, start, course.budget)? else {
+        return Ok(Likeness::Unclear);
+    };
+    likeness_among(new, course.hook, found.as_slice(), course.budget)
+}

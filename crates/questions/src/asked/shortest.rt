@@ -1,0 +1,96 @@
+//! How many of some answers suffice for a rule to be on the walk of a packet.
+ghost use Rattle.std.specs.Prelude.{All, Contains, IfOk, IsTrue};
+ghost use Rattle.table.specs.walk.Walk.{walk};
+ghost use Rattle.questions.specs.Ends.{IsRule};
+ghost use Rattle.questions.specs.Foreign.{Agrees, Assignment};
+ghost use Rattle.questions.specs.Leaves.{entry_of};
+ghost use Rattle.questions.specs.Scopes.{answered, table_of};
+ghost use Rattle.questions.specs.asked.Always.{IsLiveWith};
+ghost use Rattle.questions.specs.boxes.Area.{IsAtHook};
+ghost use Rattle.questions.specs.steps.Meant.{IsSurelyOn, needs_of};
+
+use crate::asked::rule::is_on;
+use crate::asked::witness::box_of;
+use crate::boxes::area::Area;
+use crate::foreign::answers::Answers;
+use crate::foreign::need::{Standing, known_of};
+use crate::foreign::subject::Subject;
+use crate::walking::engine::leaves_under;
+use crate::walking::scope::Scope;
+use crate::walking::task::Leaf;
+use fields::{Packet, Words};
+use std::alloc::{AllocError, Global};
+use table::Step;
+
+// Whether a rule is on the trail of each leaf, and all holds that it needs where the leaf's answers are right.
+fn all_have(subject: &Subject<'_>, found: &[Leaf], step: Step) -> bool
+    requires { IsRule (table_of subject.now) step }
+    ensures { IsTrue result → All (IsSurelyOn (needs_of subject.now.needs.now step) step) found.now }
+{
+    let needs = subject.needs.at(step.chain, step.number - 1);
+    for leaf in found {
+        if !is_on(leaf.trail.as_slice(), step) {
+            return false;
+        }
+        match known_of(needs, &leaf.answers) {
+            Standing::Holds => {}
+            Standing::Fails | Standing::Open(_) => return false,
+        }
+    }
+    true
+}
+
+// Whether a rule is known to be on the walk of a packet where the answers are right: the packet's box walks.
+fn is_always_on(
+    alloc: Global,
+    subject: &Subject<'_>,
+    packet: &Packet,
+    answers: &Answers,
+    step: Step,
+    budget: usize,
+) -> Result<bool, AllocError>
+    requires step { IsRule (table_of subject.now) step }
+    requires can { IsAtHook packet.now }
+    ensures { IfOk result (λ is. IsTrue is → (a : Assignment) → Agrees a answers.now
+        → Contains (walk (answered subject.now a) packet.now).trail (entry_of (table_of subject.now).chains step)) }
+{
+    let whole = Area::at_hook(alloc, packet.hook())?;
+    let area = box_of(alloc, &whole, packet)?;
+    let answers = answers.copy(alloc)?;
+    let start = Scope { area, answers };
+    match leaves_under(alloc, subject, packet.hook(), start, budget)? {
+        None => Ok(false),
+        Some(found) => Ok(all_have(subject, found.as_slice(), step)),
+    }
+}
+
+// The first of the answers, as few as are known to suffice: where they are right, the rule is on the walk of the packet that the words write.
+pub(crate) fn enough_of(
+    alloc: Global,
+    subject: &Subject<'_>,
+    words: &Words,
+    answers: Answers,
+    step: Step,
+    budget: usize,
+) -> Result<Answers, AllocError>
+    requires { IsRule (table_of subject.now) step }
+    ensures { IfOk result (λ enough. IsLiveWith subject.now (entry_of (table_of subject.now).chains step) words.now answers
+        → IsLiveWith subject.now (entry_of (table_of subject.now).chains step) words.now enough) }
+{
+    answers.stand();
+    if answers.listed().is_empty() {
+        return Ok(answers);
+    }
+    let Ok(packet) = Packet::read(words, 0) else {
+        return Ok(answers);
+    };
+    let mut enough = Answers::none(alloc);
+    for answer in answers.listed() {
+        if is_always_on(alloc, subject, &packet, &enough, step, budget)? {
+            enough.stand();
+            return Ok(enough);
+        }
+        enough.add(answer.condition, answer.holds)?;
+    }
+    Ok(enough)
+}
