@@ -1,8 +1,10 @@
 //! Rules that need conditions which no match of the profile has: which of them are dead, whatever holds.
 //!
 //! The input is a dump of iptables-save. A line `# needs CHAIN NUMBER CONDITION..` of it says what a rule of that number needs: that a
-//! condition, told by a number, holds, or after `!` that it doesn't. For each rule a line is printed: `dead CHAIN NUMBER`, `unclear CHAIN
-//! NUMBER`, or `live CHAIN NUMBER CONDITION..: WORDS`, with the answers under which a packet line shows the rule, and the words of that line.
+//! condition, told by a number, holds, or after `!` that it doesn't. For each rule a line is printed: `unclear CHAIN NUMBER`; `live CHAIN
+//! NUMBER CONDITION..: WORDS`, with the answers under which a packet line shows the rule, and the words of that line; or `dead CHAIN NUMBER`
+//! and why: `unknown`, `impossible`, `unreached`, `unmatched`, or `excluded` or `taken` with rules, each by its chain and its number, and with
+//! policies, each by `policy` and its hook.
 //!
 //! Or two dumps are read, of which the second begins with a line `# next`. Then one line says whether they give each packet at INPUT the
 //! same verdict, whatever holds: `same`, `unclear`, or `differs CONDITION..: WORDS`, with a packet and the answers under which it shows that.
@@ -13,13 +15,14 @@ use crate::trouble::Trouble;
 use crate::written::words_of;
 use fields::{Hook, Tap, Words, read_number};
 use questions::{
-    Answers, BoxedTable, Life, Likeness, Need, Needs, Subject, compare_at_under, dead_under,
+    Answers, BoxedTable, Life, Likeness, Need, Needs, Reason, Subject, Takers, compare_at_under,
+    dead_under, why_dead_under,
 };
 use rules::Work;
 use sessions::Session;
 use std::alloc::{AllocError, Global};
 use std::io::{Read, Write};
-use table::Table;
+use table::{Step, Table};
 
 /// How many steps each question has.
 const STEPS: usize = 20_000;
@@ -149,27 +152,102 @@ fn put_words<W: Write>(output: &mut Tap<W>, words: &Words) -> Result<(), Trouble
     Ok(())
 }
 
-/// Puts what is known of a rule, which is named by its chain and its number.
-fn put_life<W: Write>(
+/// Puts rules, each by its chain and its number.
+fn put_steps<W: Write>(
     alloc: Global,
     output: &mut Tap<W>,
+    table: &Table,
+    steps: &[Step],
+) -> Result<(), Trouble> {
+    for step in steps {
+        if step.chain >= table.chain_count() {
+            return Err(Trouble::OtherAnswer);
+        }
+        put(output, b" ")?;
+        put(output, table.chain_name(step.chain))?;
+        let number = format!(in alloc; " {}", step.number)?;
+        put(output, number.as_bytes())?;
+    }
+    Ok(())
+}
+
+/// Puts rules and policies.
+fn put_takers<W: Write>(
+    alloc: Global,
+    output: &mut Tap<W>,
+    table: &Table,
+    takers: &Takers,
+) -> Result<(), Trouble> {
+    put(output, b" taken")?;
+    put_steps(alloc, output, table, takers.rules.as_slice())?;
+    for hook in takers.policies.as_slice() {
+        put(output, b" policy ")?;
+        put(output, hook.name())?;
+    }
+    Ok(())
+}
+
+/// Puts why a rule is dead.
+fn put_reason<W: Write>(
+    alloc: Global,
+    output: &mut Tap<W>,
+    table: &Table,
+    reason: Option<&Reason>,
+) -> Result<(), Trouble> {
+    match reason {
+        None => put(output, b" unknown"),
+        Some(Reason::Impossible(_)) => put(output, b" impossible"),
+        Some(Reason::Unreached) => put(output, b" unreached"),
+        Some(Reason::NoPacket) => put(output, b" unmatched"),
+        Some(Reason::Excluded(ways)) => {
+            put(output, b" excluded")?;
+            put_steps(alloc, output, table, ways.as_slice())
+        }
+        Some(Reason::Taken(takers)) => put_takers(alloc, output, table, takers),
+    }
+}
+
+/// Puts a rule by its chain and its number, after what is known of it.
+fn put_rule<W: Write>(
+    alloc: Global,
+    output: &mut Tap<W>,
+    said: &[u8],
     chain: &[u8],
     number: usize,
-    life: &Life,
 ) -> Result<(), Trouble> {
-    let said: &[u8] = match life {
-        Life::Dead => b"dead ",
-        Life::Live(_, _) => b"live ",
-        Life::Unclear => b"unclear ",
-    };
     put(output, said)?;
     put(output, chain)?;
     let number = format!(in alloc; " {number}")?;
-    put(output, number.as_bytes())?;
-    if let Life::Live(words, answers) = life {
-        put_answers(alloc, output, answers)?;
-        put(output, b":")?;
-        put_words(output, words)?;
+    put(output, number.as_bytes())
+}
+
+/// Asks about a rule, and puts what is known of it.
+fn put_life<W: Write>(
+    alloc: Global,
+    output: &mut Tap<W>,
+    subject: &Subject<'_>,
+    place: usize,
+    number: usize,
+) -> Result<(), Trouble>
+    requires place { place < length subject.now.boxed.now.table.table.chains }
+    requires first { 0 < number }
+    requires last { number ≤ length (chain_at subject.now.boxed.now.table.table place).rules }
+{
+    let table = &subject.boxed.table;
+    let chain = table.chain_name(place);
+    match dead_under(alloc, subject, place, number, STEPS)? {
+        Life::Unclear => put_rule(alloc, output, b"unclear ", chain, number)?,
+        Life::Dead => {
+            put_rule(alloc, output, b"dead ", chain, number)?;
+            let reason = why_dead_under(alloc, subject, place, number, STEPS)?;
+            put_reason(alloc, output, table, reason.as_ref())?;
+        }
+        Life::Live(words, answers) => {
+            put_rule(alloc, output, b"live ", chain, number)?;
+            put_answers(alloc, output, &answers)?;
+            put(output, b":")?;
+            put_words(output, &words)?;
+        }
     }
     put(output, b"\n")
 }
@@ -183,11 +261,9 @@ fn put_chain<W: Write>(
 ) -> Result<(), Trouble>
     requires { place < length subject.now.boxed.now.table.table.chains }
 {
-    let table = &subject.boxed.table;
-    let count = table.rule_count(place);
+    let count = subject.boxed.table.rule_count(place);
     for passed in 0..count {
-        let life = dead_under(alloc, subject, place, passed + 1, STEPS)?;
-        put_life(alloc, output, table.chain_name(place), passed + 1, &life)?;
+        put_life(alloc, output, subject, place, passed + 1)?;
     }
     Ok(())
 }

@@ -74,6 +74,11 @@ fn run_of_answers<R: Print + AllocGlobal>(rt: &R, refusals: &mut Refusals, subje
     );
     tell(
         rt,
+        "why dead under a condition",
+        asked::dead_with(alloc, refusals, subject),
+    );
+    tell(
+        rt,
         "rulesets compared",
         asked::compared(alloc, refusals, subject),
     );
@@ -83,6 +88,11 @@ fn run_of_answers<R: Print + AllocGlobal>(rt: &R, refusals: &mut Refusals, subje
         asked::reached(alloc, refusals, subject),
     );
     tell(rt, "walks", asked::walked(alloc, refusals, subject));
+    tell(
+        rt,
+        "walks under an answer",
+        asked::walked_without(alloc, refusals, subject),
+    );
 }
 
 /// The cases of questions about all packets.

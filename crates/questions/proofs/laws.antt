@@ -37,6 +37,7 @@ pub mod TransportLaws
 pub mod VerdictLaws
 pub mod WaitLaws
 pub mod WayLaws
+pub mod WhyLaws
 pub mod WithoutLaws
 pub mod WitnessLaws
 pub mod WrittenLaws

@@ -1,6 +1,6 @@
 -- Conditions that this program doesn't know: what a rule asks by a match beyond the profile, as `limit` or `addrtype` (iptables-extensions(8),
 -- MATCH EXTENSIONS). Each is told by a number. It holds or it doesn't, and nothing else is known of it.
-use Rattle.std.specs.Prelude.{◌≡◌, ◌≢◌, ℕ, Bool, false, not, List, [], ◌∷◌, map, slice_index_or, None, All, AllPairs, Vec, if◌then◌else◌}
+use Rattle.std.specs.Prelude.{◌≡◌, ◌≢◌, ℕ, Bool, true, false, not, List, [], ◌∷◌, ◌++◌, map, slice_index_or, None, All, AllPairs, Any, Vec, if◌then◌else◌}
 use Rattle.std.specs.Global.{Global}
 use Rattle.std.specs.List.{list_all}
 use Rattle.rules.specs.rule.Rules.{Rule}
@@ -81,3 +81,8 @@ IsUnanswered answers condition = All (λ (answer : Answer). answer.condition ≢
 -- no two answers are about one condition, so none contradicts another
 abbrev pub AreConsistent : List Answer → Type 0
 AreConsistent answers = AllPairs (λ (one other : Answer). one.condition ≢ other.condition) answers
+
+-- whether the answers got one more, about a condition that had none; else it had one, and they are the same
+abbrev pub IsGiven : ℕ → Bool → Bool → List Answer → List Answer → Type 0
+IsGiven condition holds true old new = IsUnanswered old condition × (new ≡ old ++ record { condition = condition; holds = holds } ∷ [])
+IsGiven condition holds false old new = Any (λ (answer : Answer). answer.condition ≡ condition) old × (new ≡ old)

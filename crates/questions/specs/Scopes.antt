@@ -1,11 +1,12 @@
 -- Packets under answers about conditions that this program doesn't know; and leaves, each with the answers under which it shows a walk.
-use Rattle.std.specs.Prelude.{◌≡◌, ◌-◌, Bool, false, List, [], filter, All, Any}
+use Rattle.std.specs.Prelude.{◌≡◌, ◌-◌, Bool, false, List, [], filter, All, Any, IfSome, IsTrue}
 use Rattle.fields.specs.declared.packet.hook.Hook.{Hook}
 use Rattle.fields.specs.numbers.Spans.{SpanSet}
 use Rattle.fields.specs.packet.Packet.{PacketView as Packet}
 use Rattle.table.specs.chains.Table.{Chain, Table}
 use Rattle.table.specs.declared.walk.trail.Step.{Step}
 use Rattle.table.specs.walk.Walk.{Entry, Walked, walk}
+use Rattle.questions.specs.Ends.{step_of}
 use Rattle.questions.specs.Foreign.{Agrees, Assignment, all_hold, needs_at, resolved}
 use Rattle.questions.specs.Leaves.{entries_of}
 use Rattle.questions.specs.boxes.Area.{IsAtHook, IsIn}
@@ -53,6 +54,10 @@ scope_of leaf = under leaf.area leaf.answers
 abbrev pub walked_by : Known → List Chain → Leaf → Walked
 walked_by known chains leaf =
     record { trail = entries_by known chains leaf.trail.items; verdict = leaf.verdict; by_policy = leaf.by_policy }
+
+-- where a leaf's answers are right, all holds that the rule needs which decides it
+abbrev pub IsSurely : Known → Leaf → Type 0
+IsSurely known leaf = Agrees known.holds leaf.answers → IfSome (step_of leaf) (λ step. IsTrue (is_met known step))
 
 -- the packet is in the leaf's box, the leaf's answers are right, and the packet's walk is the one that the leaf shows
 pub record EndsUnder (t : Table) (known : Known) (p : Packet) (leaf : Leaf) : Type 0 where

@@ -10,4 +10,5 @@ pub mod Rule
 pub mod Unclear
 pub mod Unknown
 pub mod Verdicts
+pub mod Why
 pub mod Without

@@ -6,6 +6,7 @@ pub mod Chosen
 pub mod Collected
 pub mod Coming
 pub mod Compared
+pub mod Deciding
 pub mod Exact
 pub mod Groups
 pub mod Leading

@@ -6,8 +6,9 @@ use crate::trouble::{Trouble, expect};
 use crate::written::{Placed, are_words, has_listing, table_of};
 use fields::{Field, Hook, Interval, Spans, Words};
 use questions::{
-    Area, BoxedTable, Given, Leaf, Life, Likeness, Need, Needs, Reached, Reason, Subject,
-    compare_at, compare_at_under, dead, dead_under, leaves, reach, why_dead,
+    Answers, Area, BoxedTable, Given, Leaf, Life, Likeness, Need, Needs, Reached, Reason, Scope,
+    Subject, compare_at, compare_at_under, dead, dead_under, leaves, leaves_under, reach, why_dead,
+    why_dead_under,
 };
 use rules::Work;
 use std::alloc::{AllocError, Global};
@@ -109,6 +110,16 @@ fn known_of(
     Err(Trouble::OtherAnswer)
 }
 
+/// Whether just the first rule takes the packets of a rule.
+fn expect_taken_by_first(reason: Option<Reason>) -> Result<(), Trouble> {
+    match reason {
+        Some(Reason::Taken(takers)) => expect(
+            takers.rules.as_slice() == [FIRST].as_slice() && takers.policies.as_slice().is_empty(),
+        ),
+        _ => Err(Trouble::OtherAnswer),
+    }
+}
+
 /// `dead` and `why_dead`.
 pub fn lives(alloc: Global, refusals: &mut Refusals, subject: &BoxedTable) -> Result<(), Trouble> {
     let (life, reason) = known_of(alloc, refusals, subject, LAST)?;
@@ -119,19 +130,11 @@ pub fn lives(alloc: Global, refusals: &mut Refusals, subject: &BoxedTable) -> Re
     }
     let (life, reason) = known_of(alloc, refusals, subject, DEAD)?;
     expect(matches!(&life, Life::Dead))?;
-    match reason {
-        Some(Reason::Taken(takers)) => {
-            expect(
-                takers.rules.as_slice() == [FIRST].as_slice()
-                    && takers.policies.as_slice().is_empty(),
-            )
-        }
-        _ => Err(Trouble::OtherAnswer),
-    }
+    expect_taken_by_first(reason)
 }
 
-/// What the rules of the table need: the first one, that a condition holds.
-fn needs_of_first(alloc: Global) -> Result<Needs, AllocError> {
+/// What the rules of a chain need: the first one, that a condition holds.
+fn needs_of_one(alloc: Global) -> Result<Vec<Vec<Need>>, AllocError> {
     let mut needs = Vec::new(alloc);
     needs.push(Need {
         condition: 7,
@@ -139,16 +142,28 @@ fn needs_of_first(alloc: Global) -> Result<Needs, AllocError> {
     })?;
     let mut rules = Vec::new(alloc);
     rules.push(needs)?;
+    Ok(rules)
+}
+
+/// What the rules of the table need: the first one, that a condition holds.
+fn needs_of_first(alloc: Global) -> Result<Needs, AllocError> {
     let mut chains = Vec::new(alloc);
-    chains.push(rules)?;
+    chains.push(needs_of_one(alloc)?)?;
     Ok(Needs::of(chains))
 }
 
-/// Whether the rule that no packet comes to is live where the condition doesn't hold, and by which packet.
-fn is_live_without(life: &Life) -> bool {
-    let Life::Live(words, answers) = life else {
-        return false;
-    };
+/// The same, and the same of the rule that no packet comes to.
+fn needs_of_both(alloc: Global) -> Result<Needs, AllocError> {
+    let mut chains = Vec::new(alloc);
+    chains.push(needs_of_one(alloc)?)?;
+    chains.push(Vec::new(alloc))?;
+    chains.push(Vec::new(alloc))?;
+    chains.push(needs_of_one(alloc)?)?;
+    Ok(Needs::of(chains))
+}
+
+/// Whether the words are those of a packet to the port of the first rule, and the condition doesn't hold.
+fn is_without(words: &Words, answers: &Answers) -> bool {
     let mut others = answers.listed().iter();
     match others.next() {
         Some(answer) => {
@@ -161,7 +176,8 @@ fn is_live_without(life: &Life) -> bool {
     }
 }
 
-/// `dead_under` and `compare_at_under`, where the first rule needs that a condition holds.
+/// `dead_under` and `compare_at_under`, where the first rule needs that a condition holds: the rule that no packet comes to is live where it doesn't,
+/// and the table beside itself without the need gives two verdicts there.
 pub fn lives_under(
     alloc: Global,
     refusals: &mut Refusals,
@@ -173,6 +189,11 @@ pub fn lives_under(
         boxed,
         needs: &needs,
     };
+    let none = Needs::none(alloc);
+    let other = Subject {
+        boxed,
+        needs: &none,
+    };
     let at = DEAD;
     if at.chain < table.chain_count() && 0 < at.number && at.number <= table.rule_count(at.chain) {
         let life = again!(
@@ -180,13 +201,39 @@ pub fn lives_under(
             dead_under(alloc, &subject, at.chain, at.number, BUDGET),
             has_listing(alloc, table, REST)?
         );
-        expect(is_live_without(&life))?;
+        expect(matches!(&life, Life::Live(words, answers) if is_without(words, answers)))?;
         let likeness = again!(
             refusals,
-            compare_at_under(alloc, &subject, &subject, Hook::Input, BUDGET),
+            compare_at_under(alloc, &subject, &other, Hook::Input, BUDGET),
             has_listing(alloc, table, REST)?
         );
-        return expect(matches!(&likeness, Likeness::Same));
+        return expect(
+            matches!(&likeness, Likeness::Differ(words, answers) if is_without(words, answers)),
+        );
+    }
+    Err(Trouble::OtherAnswer)
+}
+
+/// `why_dead_under`, where the first rule needs that a condition holds, and so does the rule that no packet comes to.
+pub fn dead_with(
+    alloc: Global,
+    refusals: &mut Refusals,
+    boxed: &BoxedTable,
+) -> Result<(), Trouble> {
+    let table = &boxed.table;
+    let needs = again!(refusals, needs_of_both(alloc), true);
+    let subject = Subject {
+        boxed,
+        needs: &needs,
+    };
+    let at = DEAD;
+    if at.chain < table.chain_count() && 0 < at.number && at.number <= table.rule_count(at.chain) {
+        let reason = again!(
+            refusals,
+            why_dead_under(alloc, &subject, at.chain, at.number, BUDGET),
+            has_listing(alloc, table, REST)?
+        );
+        return expect_taken_by_first(reason);
     }
     Err(Trouble::OtherAnswer)
 }
@@ -322,6 +369,49 @@ pub fn walked(alloc: Global, refusals: &mut Refusals, subject: &BoxedTable) -> R
                 && [Some(FIRST), Some(LAST), None]
                     .iter()
                     .all(|by| { found.iter().any(|leaf| leaf.decider() == *by) }),
+        ),
+        None => Err(Trouble::OtherAnswer),
+    }
+}
+
+/// The walks of the whole TCP packets at INPUT, where the condition that the first rule needs doesn't hold.
+fn walks_without(alloc: Global, boxed: &BoxedTable) -> Result<Option<Vec<Leaf>>, AllocError> {
+    let needs = needs_of_first(alloc)?;
+    let subject = Subject {
+        boxed,
+        needs: &needs,
+    };
+    let area = tcp(alloc)?;
+    let mut answers = Answers::none(alloc);
+    if !answers.give(7, false)? || answers.give(7, true)? {
+        return Ok(None);
+    }
+    leaves_under(
+        alloc,
+        &subject,
+        Hook::Input,
+        Scope { area, answers },
+        BUDGET,
+    )
+}
+
+/// `leaves_under` and `Answers::give`: no walk ends at the first rule, and none has other answers.
+pub fn walked_without(
+    alloc: Global,
+    refusals: &mut Refusals,
+    boxed: &BoxedTable,
+) -> Result<(), Trouble> {
+    let found = again!(
+        refusals,
+        walks_without(alloc, boxed),
+        has_listing(alloc, &boxed.table, REST)?
+    );
+    match found {
+        Some(found) => expect(
+            found.len() == 3
+                && found.iter().all(|leaf| {
+                    leaf.decider() != Some(FIRST) && leaf.answers.listed().len() == 1
+                }),
         ),
         None => Err(Trouble::OtherAnswer),
     }

@@ -1,5 +1,5 @@
 -- What becomes of the packets of a box at a rule, once it is known which conditions hold.
-use Rattle.std.proofs.Common.{◌≡◌, ◌⊎◌, inl, inr, ℕ, ◌+◌, ◌-◌, ◌<◌, true, false, List, [], ◌∷◌, ◌++◌, length, get_or, refl, sym, ◌∙◌, ap, arith, Option, Some, None}
+use Rattle.std.proofs.Common.{◌≡◌, ◌⊎◌, inl, inr, ℕ, ◌+◌, ◌-◌, ◌<◌, true, false, List, [], ◌∷◌, ◌++◌, length, get_or, refl, sym, ◌∙◌, ap, arith, subst, Option, Some, None, IsTrue}
 use Rattle.std.proofs.lemmas.Bool.{cases_Bool, true≢false}
 use Rattle.std.proofs.lemmas.List.Elements.{Contains-push}
 use Rattle.fields.specs.numbers.Spans.{SpanSet}
@@ -53,6 +53,11 @@ stays_there (Some target.Return) own waiting stays = absurd stays
 stays_there (Some (target.Jump name)) own waiting stays = absurd stays
 stays_there (Some (target.Goto name)) own waiting stays = absurd stays
 
+-- where it is another one, what holds unless it leaves a packet where it is holds
+pub not_staying : {P : Type 0} (target to : Option Target) → target ≡ to → (Stays to → ⊥) → P ⊎ Stays target → P
+not_staying target to is leads (inl h) = h
+not_staying target to is leads (inr stays) = absurd (leads (subst Stays is stays))
+
 -- ---- one box that goes on
 
 one_passes : (t : Table) (known : Known) (policy : Verdict) (box : List SpanSet) (answers : List Answer) (stage : Stage) (old new : Front) → Moves t known policy (under box answers) stage old new → PassesOver t known policy (box ∷ []) answers stage old new
@@ -61,6 +66,21 @@ one_passes t known policy box answers stage old new h = record {
   fits = λ start p asked fit. h.fits start p asked (λ of. fit (record { inside = (box, Contains-push [] box, of.inside); agrees = of.agrees }));
   keeps = h.keeps;
 }
+
+-- ---- a rule that is followed
+
+-- its step is met if all holds that it needs
+met_is : (s : Subject) (a : Assignment) (at : Pending) → is_met (known_by s a) (step_before (behind at)) ≡ all_hold a (needs_at s.needs.now at.chain at.passed)
+met_is s a at = ap (λ (k : ℕ). all_hold a (needs_at s.needs.now at.chain k)) (omega arith)
+
+-- where the answers are right, that is so of one that can be followed, unless its target leaves a packet where it is
+pub met_or_stays : (s : Subject) (a : Assignment) (at : Pending) (answers : List Answer) (to : Option Target) → CanFollow (needs_at s.needs.now at.chain at.passed) answers to → Agrees a answers
+    → IsTrue (is_met (known_by s a) (step_before (behind at))) ⊎ Stays to
+met_or_stays s a at answers to can agrees =
+    elim (can a agrees) [
+      | inl held ↦ inl (met_is s a at ∙ held)
+      | inr stays ↦ inr stays
+    ]
 
 -- ---- a rule that is tested
 
@@ -134,15 +154,12 @@ module _ (s : Subject) (a : Assignment) (sound : IsSound (table_of s)) (policy :
   abbrev followed : Stage
   followed = on_by (after_match (target_of rule) (rest_of t.chains (behind at)) waiting) (entries_by known t.chains (trail ++ step_before (behind at) ∷ []))
 
-  met_is : is_met known (step_before (behind at)) ≡ all_hold a needs
-  met_is = ap (λ (k : ℕ). all_hold a (needs_at s.needs.now at.chain k)) (omega arith)
-
   hands : (box inside : List SpanSet) (answers : List Answer) (outside : List (List SpanSet)) (old mid new : Front) → IsCut rule box inside outside → all_hold a needs ≡ false → Stays (target_of rule) → PassesOver t known policy outside answers after old mid
       → Moves t known policy (under inside answers) followed mid new → Moves t known policy (under box answers) here old new
   hands box inside answers outside old mid new cut un stays over h =
       let to : followed ≡ after =
       ap (λ (next : Next). on_by next (entries_by known t.chains (trail ++ step_before (behind at) ∷ []))) (stays_there (target_of rule) (rest_of t.chains (behind at)) waiting stays)
-      ∙ ap (λ (entries : List Entry). Under (rest_of t.chains (behind at) ∷ waiting) entries) (missed_trail known t.chains trail (behind at) (met_is ∙ un)) in
+      ∙ ap (λ (entries : List Entry). Under (rest_of t.chains (behind at) ∷ waiting) entries) (missed_trail known t.chains trail (behind at) (met_is s a at ∙ un)) in
       handed_moves t known still policy at at_left never few (goes un) waiting es box inside answers outside old mid new never_matches (never_parts rule box (inside ∷ []) outside (cut_parts rule box inside outside cut)) over
       (moves_same t known policy (under inside answers) mid new followed after to h)
 
@@ -152,7 +169,7 @@ module _ (s : Subject) (a : Assignment) (sound : IsSound (table_of s)) (policy :
       elim (cases_Bool (all_hold a needs)) [
         | inl held ↦ cut_moves t known still policy at at_left rule few (stays held) waiting es box inside answers outside old mid new cut (omega (arith, room, few_entries known t.chains trail)) over
             (moves_same t known policy (under inside answers) mid new followed (on_by (after_match (target_of rule) (rest_of t.chains (behind at)) waiting) (es ++ entry_before t.chains (behind at) ∷ []))
-            (ap (λ (entries : List Entry). on_by (after_match (target_of rule) (rest_of t.chains (behind at)) waiting) entries) (held_trail known t.chains trail (behind at) (met_is ∙ held))) h)
+            (ap (λ (entries : List Entry). on_by (after_match (target_of rule) (rest_of t.chains (behind at)) waiting) entries) (held_trail known t.chains trail (behind at) (met_is s a at ∙ held))) h)
         | inr un ↦ elim (stays_or_not (target_of rule)) [
           | inl there ↦ hands box inside answers outside old mid new cut un there over h
           | inr leads ↦ (

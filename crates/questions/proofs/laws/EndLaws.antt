@@ -1,6 +1,6 @@
 -- Who decides the walk that a leaf shows: a rule of the table, or the policy.
-use Rattle.std.proofs.Common.{◌≡◌, inl, inr, ℕ, suc, ◌-◌, ◌<◌, Bool, true, false, cond, List, [], ◌∷◌, length, map, refl, sym, ◌∙◌, ap, arith, subst, Option, Some, None, Contains}
-use Rattle.std.specs.Prelude.{IfSome, slice_get}
+use Rattle.std.proofs.Common.{◌≡◌, inl, inr, ℕ, suc, ◌-◌, ◌<◌, Bool, true, false, cond, List, [], ◌∷◌, length, map, refl, sym, ◌∙◌, ap, arith, Option, Some, None, Contains}
+use Rattle.std.specs.Prelude.{filter, IfSome, IsTrue, slice_get}
 use Rattle.std.specs.Option.{option_map}
 use Rattle.std.proofs.lemmas.Slice.Eq.{bytes_eq-Decides}
 use Rattle.std.proofs.lemmas.Bool.{cases_Bool}
@@ -12,11 +12,14 @@ use Rattle.rules.specs.rule.Rules.{Rule}
 use Rattle.table.specs.chains.Sound.{IsSound}
 use Rattle.table.specs.chains.Table.{Chain, Table, chain_at, empty_chain, is_named, rules_of}
 use Rattle.table.specs.declared.walk.trail.Step.{Step}
-use Rattle.table.specs.walk.Walk.{Walked, walk}
+use Rattle.table.specs.walk.Walk.{Entry, walk}
 use Rattle.table.proofs.laws.chains.KeepLaws.{rules_by_name}
 use Rattle.questions.specs.Ends.{IsRule, decider_of, step_of}
+use Rattle.questions.specs.Foreign.{Agrees}
 use Rattle.questions.specs.Leaves.{name_at, entry_of, entries_of, walked_of}
+use Rattle.questions.specs.Scopes.{IsSurely, Known, entries_by, is_met, walked_by}
 use Rattle.questions.specs.declared.walking.task.Leaf.{Leaf}
+use Rattle.questions.proofs.laws.HeldLaws.{last_kept}
 use Rattle.questions.proofs.laws.TrailLaws.{IsMatched, one_place, trail_matches}
 
 pub none_some : {X : Type 0} {x : X} → ◌≡◌ {A = Option X} None (Some x) → ⊥
@@ -34,19 +37,35 @@ by_policy_where leaf none =
     some_last [] lt e = absurd (omega (arith, lt))
     some_last (x ∷ xs) lt e = none_some (sym e ∙ slice_get-get_or (x ∷ xs) (length (x ∷ xs) - 1) x (omega arith))
 
+-- ---- the last of a list
+
+abbrev last : {X : Type 0} → List X → Option X
+last xs = slice_get xs (length xs - 1)
+
+-- the last entry of a trail is the one of its last step
+last_entry : (cs : List Chain) (steps : List Step) → last (entries_of cs steps) ≡ option_map (entry_of cs) (last steps)
+last_entry cs steps = ap (λ n. slice_get (map (entry_of cs) steps) (n - 1)) (length-map steps (entry_of cs)) ∙ slice_get-map (entry_of cs) steps (length steps - 1)
+
+-- ---- the decider
+
 -- the decider of the walk that a leaf shows
 pub decider_shown : (cs : List Chain) (leaf : Leaf) → decider_of (walked_of cs leaf) ≡ option_map (entry_of cs) (step_of leaf)
 decider_shown cs leaf = by_case leaf.by_policy
   where
+    by_case : (b : Bool) → cond b None (last (entries_of cs leaf.trail.items)) ≡ option_map (entry_of cs) (cond b None (last leaf.trail.items))
+    by_case true = refl
+    by_case false = last_entry cs leaf.trail.items
+
+-- the same of one that it shows where its answers are right, if all holds then that the rule needs which decides it
+pub decider_under : (known : Known) (cs : List Chain) (leaf : Leaf) → IsSurely known leaf → Agrees known.holds leaf.answers → decider_of (walked_by known cs leaf) ≡ option_map (entry_of cs) (step_of leaf)
+decider_under known cs leaf surely agrees = by_case leaf.by_policy (surely agrees)
+  where
     steps : List Step
     steps = leaf.trail.items
 
-    last : slice_get (map (entry_of cs) steps) (length (map (entry_of cs) steps) - 1) ≡ option_map (entry_of cs) (slice_get steps (length steps - 1))
-    last = ap (λ n. slice_get (map (entry_of cs) steps) (n - 1)) (length-map steps (entry_of cs)) ∙ slice_get-map (entry_of cs) steps (length steps - 1)
-
-    by_case : (b : Bool) → cond b None (slice_get (map (entry_of cs) steps) (length (map (entry_of cs) steps) - 1)) ≡ option_map (entry_of cs) (cond b None (slice_get steps (length steps - 1)))
-    by_case true = refl
-    by_case false = last
+    by_case : (b : Bool) → IfSome (cond b None (last steps)) (λ step. IsTrue (is_met known step)) → cond b None (last (entries_by known cs steps)) ≡ option_map (entry_of cs) (cond b None (last steps))
+    by_case true met = refl
+    by_case false met = last_entry cs (filter (is_met known) steps) ∙ ap (option_map (entry_of cs)) (last_kept (is_met known) steps met)
 
 -- a chain that has a rule is there
 pub rules_there : (cs : List Chain) (name : List ℕ) (k : ℕ) (rule : Rule) → slice_get (rules_of cs name) k ≡ Some rule → (j : ℕ) × (j < length cs) × (name_at cs j ≡ name)
@@ -70,26 +89,17 @@ rule_of_entry t p step s m =
     let long : length (rules_of t.chains (name_at t.chains step.chain)) ≡ length (chain_at t step.chain).rules = ap (λ (rs : List Rule). length rs) own in
     record { chain = lt; first = m.3; last = omega (arith, within, long) }
 
--- so is the decider of a leaf that shows a packet's walk
-pub decider_is_rule : (t : Table) (p : Packet) (leaf : Leaf) → IsSound t → walk t p ≡ walked_of t.chains leaf → IfSome (step_of leaf) (IsRule t)
-decider_is_rule t p leaf s e = by_case leaf.by_policy
+-- so is the one that decides a packet's walk
+pub decider_is_rule : (t : Table) (p : Packet) (by : Option Step) → IsSound t → decider_of (walk t p) ≡ option_map (entry_of t.chains) by → IfSome by (IsRule t)
+decider_is_rule t p None s e = tt
+decider_is_rule t p (Some step) s e = rule_of_entry t p step s (All-contains (IsMatched t.chains p.values) trail entry (trail_matches t p) (on_trail (walk t p).by_policy e))
   where
-    steps : List Step
-    steps = leaf.trail.items
+    trail : List Entry
+    trail = (walk t p).trail
 
-    on_trail : (step : Step) → slice_get steps (length steps - 1) ≡ Some step → IsRule t step
-    on_trail step is =
-        let k : ℕ = length steps - 1 in
-        let lt : k < length steps = slice_get_within steps k step is in
-        let mapped : slice_get (entries_of t.chains steps) k ≡ Some (entry_of t.chains step) = slice_get-map (entry_of t.chains) steps k ∙ ap (option_map (entry_of t.chains)) is in
-        let on : Contains (entries_of t.chains steps) (entry_of t.chains step) = (k, slice_get_within (entries_of t.chains steps) k (entry_of t.chains step) mapped, get_or_from_slice_get (entries_of t.chains steps) k (entry_of t.chains step) (entry_of t.chains step) mapped) in
-        let P : Walked → Type 0 = λ (w : Walked). Contains w.trail (entry_of t.chains step) in
-        rule_of_entry t p step s (All-contains (IsMatched t.chains p.values) (walk t p).trail (entry_of t.chains step) (trail_matches t p) (subst P (sym e) on))
+    entry : Entry
+    entry = entry_of t.chains step
 
-    by_option : (o : Option Step) → slice_get steps (length steps - 1) ≡ o → IfSome o (IsRule t)
-    by_option None is = tt
-    by_option (Some step) is = on_trail step is
-
-    by_case : (b : Bool) → IfSome (cond b None (slice_get steps (length steps - 1))) (IsRule t)
-    by_case true = tt
-    by_case false = by_option (slice_get steps (length steps - 1)) refl
+    on_trail : (b : Bool) → cond b None (last trail) ≡ Some entry → Contains trail entry
+    on_trail true is = absurd (none_some is)
+    on_trail false is = let k : ℕ = length trail - 1 in (k, slice_get_within trail k entry is, get_or_from_slice_get trail k entry entry is)

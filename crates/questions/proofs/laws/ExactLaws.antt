@@ -1,23 +1,36 @@
 -- Leaves that have only packets which can be at their hook.
-use Rattle.std.proofs.Common.{◌≡◌, ℕ, ◌+◌, ◌<◌, ◌≤◌, List, [], ◌∷◌, ◌++◌, length, get_or, refl, inl, inr, sym, ◌∙◌, arith, subst, None}
-use Rattle.std.proofs.lemmas.Bool.{cases_eq}
+use Rattle.std.proofs.Common.{◌≡◌, ℕ, ◌+◌, ◌-◌, ◌<◌, ◌≤◌, Bool, true, false, cond, List, [], ◌∷◌, ◌++◌, length, get_or, refl, sym, ◌∙◌, ap, arith, subst, Option, None, All}
+use Rattle.std.specs.Prelude.{IfSome, slice_get}
 use Rattle.std.proofs.lemmas.List.{get_or_default}
 use Rattle.std.proofs.lemmas.List.Elements.{All-contains}
 use Rattle.std.proofs.lemmas.List.Quantifiers.{Any-push}
+use Rattle.fields.specs.declared.packet.hook.Hook.{Hook}
 use Rattle.fields.specs.numbers.Spans.{SpanSet}
 use Rattle.fields.specs.packet.Packet.{PacketView as Packet, IsPacket}
 use Rattle.classify.specs.classifier.Classifier.{IsPoint}
-use Rattle.table.specs.chains.Table.{Table}
-use Rattle.questions.specs.Leaves.{AreExactOn, AreLeavesOf, ShowsWalk}
+use Rattle.table.specs.chains.Table.{Chain, Table}
+use Rattle.table.specs.declared.verdict.Verdict.{Verdict}
+use Rattle.table.specs.declared.walk.trail.Step.{Step}
+use Rattle.table.specs.walk.Walk.{Walked}
+use Rattle.questions.specs.Ends.{step_of}
+use Rattle.questions.specs.Foreign.{Agrees, Assignment, resolved}
+use Rattle.questions.specs.Leaves.{AreExactOn}
+use Rattle.questions.specs.Scopes.{AreExactUnder, AreLeavesUnder, IsOf, IsSurely, Known, entries_by, is_met, scope_of, unasked, walked_by}
+use Rattle.questions.specs.asked.Unknown.{CantBeWalked}
 use Rattle.questions.specs.boxes.Area.{Has, HasOwnInterfaces, IsAtHook, IsBoth, IsIn}
 use Rattle.questions.specs.declared.asked.reach.Given.{Given}
+use Rattle.questions.specs.declared.foreign.answers.Answer.{Answer}
+use Rattle.questions.specs.declared.foreign.need.Need.{Need}
+use Rattle.questions.specs.declared.walking.scope.Scope.{Scope}
 use Rattle.questions.specs.declared.walking.task.Leaf.{Leaf}
 use Rattle.questions.specs.declared.boxes.transport.Transport.{Transport}
 use Rattle.questions.specs.declared.boxes.transport.Transport.TheVariants.{Tcp}
-use Rattle.questions.specs.steps.Exact.{AddsExact, AnyHas, AreExact, AreExactWalks, IsCovered, IsExact, IsMet, IsPartIn, IsShare, IsShown}
+use Rattle.questions.specs.steps.Exact.{AddsExact, AreExact, AreExactWalks, AreExactWalksUnder, IsCovered, IsExactUnder, IsInAny, IsMet, IsPartIn, IsShare, IsShown}
+use Rattle.questions.specs.steps.Taken.{IsUnfinishedUnder}
 use Rattle.questions.specs.steps.Transports.{HasTransport, IsWithTransport, all_transports}
 use Rattle.questions.proofs.laws.BoxesLaws.{Pair, pair_more}
 use Rattle.questions.proofs.laws.GroupLaws.{any_left}
+use Rattle.questions.proofs.laws.PlainLaws.{exact_plain, gives_none, steps_plain}
 use Rattle.questions.proofs.laws.TrailLaws.{items_next}
 use Rattle.questions.proofs.laws.TransportLaws.{at_hook_of, fits_of, some_transport}
 
@@ -52,87 +65,138 @@ transport_next box copy own boxes more n lt both is with pairs =
 
 -- ---- the parts of a leaf
 
-module _ (given : Given) (leaf : Leaf) (transport : Transport) (own : List SpanSet) (with : IsWithTransport transport given.area own) where
-  -- a part has only packets that can be at the hook, and they have the walk that it shows
-  pub exact_part : (t : Table) (part : Leaf) → IsShown t given leaf → IsShare leaf own part → IsExact t given part
-  exact_part t part shown share =
+-- a part shows the same walk, with the same decider
+module _ (leaf part : Leaf) (own : List SpanSet) (share : IsShare leaf own part) where
+  part_walk : (known : Known) (cs : List Chain) → walked_by known cs part ≡ walked_by known cs leaf
+  part_walk known cs =
+      ap (λ steps. shows steps part.verdict part.by_policy) share.trail ∙ ap (λ v. shows leaf.trail.items v part.by_policy) share.verdict ∙ ap (shows leaf.trail.items leaf.verdict) share.by_policy
+    where
+      shows : List Step → Verdict → Bool → Walked
+      shows steps verdict by_policy = record { trail = entries_by known cs steps; verdict = verdict; by_policy = by_policy }
+
+  part_decider : step_of part ≡ step_of leaf
+  part_decider = ap (decides part.by_policy) share.trail ∙ ap (λ b. decides b leaf.trail.items) share.by_policy
+    where
+      decides : Bool → List Step → Option Step
+      decides b steps = cond b None (slice_get steps (length steps - 1))
+
+module _ (scope : Scope) (leaf : Leaf) (transport : Transport) (own : List SpanSet) (with : IsWithTransport transport scope.area own) where
+  same_answers : (known : Known) (part : Leaf) → IsShare leaf own part → Agrees known.holds part.answers → Agrees known.holds leaf.answers
+  same_answers known part share agrees = let A : List Answer → Type 0 = λ answers. Agrees known.holds answers in subst A share.answers agrees
+
+  part_shown : (t : Table) (known : Known) (hook : Hook) (part : Leaf) → IsShown t known hook scope leaf → IsShare leaf own part → IsShown t known hook scope part
+  part_shown t known hook part shown share = record {
+    walked = λ p can there is.
+        (let (of, walked) = shown.walked p can there (record { inside = share.both.first p.values can.packet.within is.inside; agrees = same_answers known part share is.agrees }) in
+        (of, walked ∙ sym (part_walk leaf part own share known t.chains)));
+    decided = λ agrees.
+        (let Met : Option Step → Type 0 = λ o. IfSome o (λ step. is_met known step ≡ true) in
+        subst Met (sym (part_decider leaf part own share)) (shown.decided (same_answers known part share agrees)));
+  }
+
+  -- it has only packets that can be at the hook
+  pub exact_part : (t : Table) (known : Known) (hook : Hook) (part : Leaf) → IsShown t known hook scope leaf → IsShare leaf own part → IsExactUnder t known hook scope part
+  exact_part t known hook part shown share =
       let in_own : (numbers : List ℕ) → IsPoint numbers → Has part.area numbers → Has own numbers = share.both.second in
       record {
         inside = λ numbers point h. with.own numbers point (in_own numbers point h);
         can = λ p is mine h. at_hook_of transport p is mine (with.with p.values is.within (in_own p.values is.within h));
         some = share.some;
-        walked = λ p can there h.
-            (let point = can.packet.within in
-            (shown p can there (share.both.first p.values point h)).1 ∙ sym (share.shows t.chains));
+        shown = part_shown t known hook part shown share;
       }
 
-  -- it has each packet with the transport header that the leaf and the given box share
-  shared : (p : Packet) → IsAtHook p → HasTransport transport p → IsIn given.area p → IsIn own p
+  -- it has each packet with the transport header that the leaf and the scope share
+  shared : (p : Packet) → IsAtHook p → HasTransport transport p → IsIn scope.area p → IsIn own p
   shared p can h inside = with.all p.values can.packet.within inside (fits_of transport p can h)
 
-  pub part_has : (part : Leaf) → IsShare leaf own part → (p : Packet) → IsAtHook p → HasTransport transport p → IsIn given.area p → IsIn leaf.area p → IsIn part.area p
-  part_has part share p can h inside there = share.both.all p.values can.packet.within there (shared p can h inside)
+  pub part_has : (known : Known) (part : Leaf) → IsShare leaf own part → (p : Packet) → IsAtHook p → HasTransport transport p → IsOf known p scope → IsOf known p (scope_of leaf) → IsOf known p (scope_of part)
+  part_has known part share p can h of there =
+      let A : List Answer → Type 0 = λ answers. Agrees known.holds answers in
+      record { inside = share.both.all p.values can.packet.within there.inside (shared p can h of.inside); agrees = subst A (sym share.answers) there.agrees }
 
   -- where it has none there are none
-  pub part_none : IsPartIn leaf own None → (p : Packet) → IsAtHook p → HasTransport transport p → IsIn given.area p → IsIn leaf.area p → ⊥
-  part_none none p can h inside there = none p.values can.packet.within there (shared p can h inside)
+  pub part_none : (known : Known) → IsPartIn leaf own None → (p : Packet) → IsAtHook p → HasTransport transport p → IsOf known p scope → IsOf known p (scope_of leaf) → ⊥
+  part_none known none p can h of there = none p.values can.packet.within there.inside (shared p can h of.inside)
 
 -- ---- transport header after transport header
 
-module _ (given : Given) (leaf : Leaf) where
-  -- of the first so many transport headers
+module _ (known : Known) (scope : Scope) (leaf : Leaf) where
+  -- the packets with one of them
+  abbrev AreShared : List Leaf → Transport → Type 0
+  AreShared exact transport = (p : Packet) → IsAtHook p → HasTransport transport p → IsOf known p scope → IsOf known p (scope_of leaf) → IsInAny known p exact
+
+  -- with one of the first so many
   abbrev pub AreSharedBelow : List Leaf → ℕ → Type 0
-  AreSharedBelow exact count = (k : ℕ) (d : Transport) → k < count → (p : Packet) → IsAtHook p → HasTransport (get_or all_transports k d) p → IsIn given.area p → IsIn leaf.area p → AnyHas p.values exact
+  AreSharedBelow exact count = (k : ℕ) (d : Transport) → k < count → AreShared exact (get_or all_transports k d)
 
   pub shared_begins : (exact : List Leaf) → AreSharedBelow exact 0
   shared_begins exact k d lt = absurd (omega (arith, lt))
 
   module _ (i : ℕ) (lt : i < length all_transports) where
-    next : (exact : List Leaf) → AreSharedBelow exact i → ((p : Packet) → IsAtHook p → HasTransport (get_or all_transports i Tcp) p → IsIn given.area p → IsIn leaf.area p → AnyHas p.values exact) → AreSharedBelow exact (i + 1)
-    next exact below here k d less p can h =
-        let P : Transport → Type 0 = λ x. HasTransport x p in
-        let Q : ℕ → Type 0 = λ j. HasTransport (get_or all_transports j d) p in
-        elim (cases_eq k i) [
-          | inl e ↦ here p can (subst P (get_or_default all_transports i d Tcp lt) (subst Q e h))
-          | inr ne ↦ below k d (omega (arith, ne, less)) p can h
-        ]
+    abbrev here : Transport
+    here = get_or all_transports i Tcp
 
-    pub shared_nobody : (exact : List Leaf) → AreSharedBelow exact i → ((p : Packet) → IsAtHook p → HasTransport (get_or all_transports i Tcp) p → IsIn given.area p → IsIn leaf.area p → ⊥) → AreSharedBelow exact (i + 1)
-    shared_nobody exact below none = next exact below (λ p can h own there. absurd (none p can h own there))
+    next : (exact : List Leaf) → AreSharedBelow exact i → AreShared exact here → AreSharedBelow exact (i + 1)
+    next exact below own = items_next (AreShared exact) all_transports i here lt (get_or_default all_transports i Tcp here lt) below own
 
-    pub shared_one : (exact : List Leaf) (own : Leaf) → AreSharedBelow exact i → ((p : Packet) → IsAtHook p → HasTransport (get_or all_transports i Tcp) p → IsIn given.area p → IsIn leaf.area p → IsIn own.area p)
+    pub shared_nobody : (exact : List Leaf) → AreSharedBelow exact i → ((p : Packet) → IsAtHook p → HasTransport here p → IsOf known p scope → IsOf known p (scope_of leaf) → ⊥) → AreSharedBelow exact (i + 1)
+    shared_nobody exact below none = next exact below (λ p can h of there. absurd (none p can h of there))
+
+    pub shared_one : (exact : List Leaf) (own : Leaf) → AreSharedBelow exact i → ((p : Packet) → IsAtHook p → HasTransport here p → IsOf known p scope → IsOf known p (scope_of leaf) → IsOf known p (scope_of own))
         → AreSharedBelow (exact ++ own ∷ []) (i + 1)
     shared_one exact own below shared =
-        next (exact ++ own ∷ []) (λ k d less p can h a b. any_left (λ (l : Leaf). Has l.area p.values) exact (own ∷ []) (below k d less p can h a b))
-        (λ p can h a b. Any-push (λ (l : Leaf). Has l.area p.values) exact own (shared p can h a b))
+        next (exact ++ own ∷ []) (λ k d less p can h of there. any_left (λ (l : Leaf). IsOf known p (scope_of l)) exact (own ∷ []) (below k d less p can h of there))
+        (λ p can h of there. Any-push (λ (l : Leaf). IsOf known p (scope_of l)) exact own (shared p can h of there))
 
-  -- of all of them
-  pub shared_all : (exact : List Leaf) (i : ℕ) → 5 ≤ i → AreSharedBelow exact i → IsCovered given exact leaf
-  shared_all exact i le below p can own there =
+  -- with any of them
+  pub shared_all : (exact : List Leaf) (i : ℕ) → 5 ≤ i → AreSharedBelow exact i → IsCovered known scope exact leaf
+  shared_all exact i le below p can of there =
       let w = some_transport p can.packet in
-      below w.0 Tcp (omega (arith, w.1, le)) p can w.2 own there
+      below w.0 Tcp (omega (arith, w.1, le)) p can w.2 of there
 
 -- ---- leaf after leaf
 
-module _ (t : Table) (given : Given) (found : List Leaf) (i : ℕ) (leaf : Leaf) (lt : i < length found) (is : leaf ≡ get_or found i leaf) where
-  pub covered_next : (old new : List Leaf) → AddsExact t given leaf old new → ((k : ℕ) (d : Leaf) → k < i → IsCovered given old (get_or found k d)) → (k : ℕ) (d : Leaf) → k < i + 1 → IsCovered given new (get_or found k d)
-  covered_next old new adds below = items_next (IsCovered given new) found i leaf lt is (λ k d less p can own there. adds.kept p.values (below k d less p can own there)) adds.covered
+module _ (t : Table) (known : Known) (hook : Hook) (scope : Scope) (found : List Leaf) (i : ℕ) (leaf : Leaf) (lt : i < length found) (is : leaf ≡ get_or found i leaf) where
+  pub covered_next : (old new : List Leaf) → AddsExact t known hook scope leaf old new → ((k : ℕ) (d : Leaf) → k < i → IsCovered known scope old (get_or found k d)) → (k : ℕ) (d : Leaf) → k < i + 1
+      → IsCovered known scope new (get_or found k d)
+  covered_next old new adds below = items_next (IsCovered known scope new) found i leaf lt is (λ k d less p can of there. adds.kept p (below k d less p can of there)) adds.covered
 
--- a leaf of exact ones is shown
-pub shown_at : (t : Table) (given : Given) (found : List Leaf) (i : ℕ) (leaf : Leaf) → i < length found → leaf ≡ get_or found i leaf → AreExactOn t given.hook given.area found → IsShown t given leaf
-shown_at t given found i leaf lt is exact p can there = let P : Leaf → Type 0 = λ l. ShowsWalk t given.area p l in subst P (sym is) (exact p can there i leaf lt)
+  -- what is shown by each is shown by one
+  pub shown_at : All (IsShown t known hook scope) found → IsShown t known hook scope leaf
+  shown_at all = let P : Leaf → Type 0 = λ l. IsShown t known hook scope l in subst P (sym is) (all i leaf lt)
 
--- leaves of a copy of the box are exact on the box
-pub exact_copy : (t : Table) (given : Given) (start : List SpanSet) (found : List Leaf) → IsBoth given.area given.area start → AreExactOn t given.hook start found → AreExactOn t given.hook given.area found
-exact_copy t given start found copy exact p can there k d lt inside = let own = exact p can there k d lt inside in (copy.first p.values can.packet.within own.0, own.1)
+module _ (t : Table) (known : Known) (hook : Hook) (scope : Scope) (found : List Leaf) where
+  -- leaves show the walks of their packets
+  pub all_shown : AreExactUnder t known hook scope found → All (IsSurely known) found → All (IsShown t known hook scope) found
+  all_shown exact surely k d lt = record { walked = λ p can there. exact p can there k d lt; decided = surely k d lt }
 
--- the exact leaves of all leaves
-pub exact_walks_of : (t : Table) (given : Given) (start : List SpanSet) (found exact : List Leaf) → IsBoth given.area given.area start → AreLeavesOf t given.hook start found → AreExact t given found exact → AreExactWalks t given exact
-exact_walks_of t given start found exact copy leaves is = record {
-  each = is.each;
-  all = λ p can there inside. (
-      let point : IsPoint p.values = can.packet.within in
-      let w = leaves p can there (copy.all p.values point inside inside) in
-      let own : IsCovered given exact w.1 = All-contains (IsCovered given exact) found w.1 is.all (w.0, w.2, w.3) in
-      own p can inside w.4.inside);
-}
+  -- the exact leaves of all leaves
+  pub exact_walks_of : (exact : List Leaf) → AreLeavesUnder t known hook scope found → AreExact t known hook scope found exact → AreExactWalksUnder t known hook scope exact
+  exact_walks_of exact leaves is = record {
+    each = is.each;
+    all = λ p can there of.
+        (let w = leaves p can there of in
+        let own : IsCovered known scope exact w.1 = All-contains (IsCovered known scope exact) found w.1 is.all (w.0, w.2, w.3) in
+        own p can of w.4.own);
+  }
+
+-- ---- where no rule needs anything
+
+pub exact_walks_plain : (t : Table) (needs : List (List (List Need))) → needs ≡ [] → (hook : Hook) (box : List SpanSet) (exact : List Leaf)
+    → ((a : Assignment) → AreExactWalksUnder (resolved needs a t) (record { needs = needs; holds = a }) hook (unasked box) exact) → AreExactWalks t (record { hook = hook; area = box }) exact
+exact_walks_plain t needs none hook box exact all =
+    let any : Assignment = λ condition. false in
+    let shown : AreExactOn t hook box exact = exact_plain t needs none hook box exact (λ a p can there k d lt. ((all a).each k d lt).shown.walked p can there) in
+    record {
+      each = λ k d lt.
+          (let is = (all any).each k d lt in
+          record { inside = is.inside; can = is.can; some = is.some; walked = λ p can there inside. (shown p can there k d lt inside).1 });
+      all = λ p can there inside.
+          (let (k, leaf, lt, is, of) = (all any).all p can there (record { inside = inside; agrees = gives_none any }) in
+          (k, leaf, lt, is, of.inside));
+    }
+
+pub cant_be_walked : (t : Table) (needs : List (List (List Need))) → needs ≡ [] → (hook : Hook) (box : List SpanSet) (budget : ℕ)
+    → ((a : Assignment) → IsUnfinishedUnder (resolved needs a t) (record { needs = needs; holds = a }) hook (unasked box) budget) → CantBeWalked t (record { hook = hook; area = box }) budget
+cant_be_walked t needs none hook box budget all =
+    (box, record { all = λ numbers point own other. own; first = λ numbers point h. h; second = λ numbers point h. h }, steps_plain t needs none hook box budget None all)

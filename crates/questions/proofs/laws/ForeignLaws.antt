@@ -18,6 +18,24 @@ neither true false = refl
 neither false true = refl
 neither false false = refl
 
+-- ---- jumps and gotos that are left were there
+
+module _ (needs : List (List (List Need))) (a : Assignment) (t : Table) where
+  names_kept : (x y : List ℕ) → Names (resolved needs a t).chains x y → Names t.chains x y
+  names_kept x y (rule, there, named) =
+      let (own, is) = rules_by_name needs a t.chains x in
+      let C : List Rule → Type 0 = λ rs. Contains rs rule in
+      elim (rule_there own a (rules_of t.chains x) rule (subst C is there)) [
+        | inl gone ↦ absurd (never_names_nothing y (ap chain_named_by (sym gone) ∙ named))
+        | inr kept ↦ (rule, kept, named)
+      ]
+
+  pub path_kept : (n : ℕ) (x y : List ℕ) → Path (resolved needs a t).chains n x y → Path t.chains n x y
+  path_kept zero x y p = p
+  path_kept (suc n) x y (z, named, p) = (z, names_kept x z named, path_kept n z y p)
+
+-- ---- the table that is left
+
 module _ (needs : List (List (List Need))) (a : Assignment) (t : Table) (sound : IsSound t) where
   abbrev left : Table
   left = resolved needs a t
@@ -61,25 +79,12 @@ module _ (needs : List (List (List Need))) (a : Assignment) (t : Table) (sound :
             | inr gone ↦ subst P (sym gone) (never_stands d.name)
           ])
 
-  names_kept : (x y : List ℕ) → Names left.chains x y → Names t.chains x y
-  names_kept x y (rule, there, named) =
-      let (own, is) = rules_by_name needs a t.chains x in
-      let C : List Rule → Type 0 = λ rs. Contains rs rule in
-      elim (rule_there own a (rules_of t.chains x) rule (subst C is there)) [
-        | inl gone ↦ absurd (never_names_nothing y (ap chain_named_by (sym gone) ∙ named))
-        | inr kept ↦ (rule, kept, named)
-      ]
-
-  path_kept : (n : ℕ) (x y : List ℕ) → Path left.chains n x y → Path t.chains n x y
-  path_kept zero x y p = p
-  path_kept (suc n) x y (z, named, p) = (z, names_kept x z named, path_kept n z y p)
-
   pub left_sound : IsSound left
   left_sound = record {
     policies = sound.policies;
     listed = (let P : List (List ℕ) → Type 0 = λ ns. AreListed ns in subst P (sym (names_same needs a t.chains)) sound.listed);
     chains = λ k c lt. (let within : k < length t.chains = omega (arith, lt, length_same needs a t.chains) in
         chain_sound (get_or left.chains k c) (get_or t.chains k c) (get_or needs k []) (chain_named needs a t.chains k c) (chain_resolved needs a t.chains k c within) (sound.chains k c within));
-    no_loop = λ n x p. sound.no_loop n x (path_kept (suc n) x x p);
+    no_loop = λ n x p. sound.no_loop n x (path_kept needs a t (suc n) x x p);
     few = omega (arith, users_same needs a t.chains, sound.few);
   }

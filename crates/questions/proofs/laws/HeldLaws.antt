@@ -1,10 +1,12 @@
 -- Trails on which some rules were put while their needs were open.
-use Rattle.std.proofs.Common.{◌≡◌, inl, inr, zero, suc, ◌<◌, ◌≤◌, Bool, true, false, List, [], ◌∷◌, ◌++◌, length, refl, sym, ◌∙◌, ap, arith, subst, All, Contains}
-use Rattle.std.specs.Prelude.{filter}
+use Rattle.std.proofs.Common.{◌≡◌, inl, inr, zero, suc, ◌-◌, ◌<◌, ◌≤◌, Bool, true, false, List, [], ◌∷◌, ◌++◌, length, get_or, refl, sym, ◌∙◌, ap, arith, subst, Option, Some, All, Contains, IsTrue}
+use Rattle.std.specs.Prelude.{IfSome, filter, slice_get}
+use Rattle.std.proofs.Math.Seq.{get_or-append_seam}
 use Rattle.std.proofs.lemmas.Bool.{cases_Bool, cond-false, cond-true}
-use Rattle.std.proofs.lemmas.List.{append-nil, get_or-map, length-map, map-append}
+use Rattle.std.proofs.lemmas.List.{append-nil, get_or-map, length-append, length-map, map-append}
 use Rattle.std.proofs.lemmas.List.Elements.{All-cons, All-contains, All-filter, All-nil, filter-append, Contains-get_or}
 use Rattle.std.proofs.lemmas.List.Sums.{count_by-le-length, length-filter}
+use Rattle.std.proofs.lemmas.Option.{slice_get-get_or, slice_get_within}
 use Rattle.table.specs.chains.Sound.{IsSound}
 use Rattle.table.specs.chains.Table.{Chain, Table}
 use Rattle.table.specs.declared.walk.trail.Step.{Step}
@@ -48,6 +50,35 @@ keeps {X} p (y ∷ xs) x (zero, lt, is) h =
     let P : X → Type 0 = λ z. Contains (filter p (z ∷ xs)) x in
     subst P (sym is) (first_of p x xs h)
 keeps p (y ∷ xs) x (suc k, lt, is) h = later_of p y x xs (keeps p xs x (k, omega (arith, lt), is) h)
+
+-- ---- the last element
+
+-- one that was added at the end is the last
+pub last_pushed : {X : Type 0} (xs : List X) (x : X) → slice_get (xs ++ x ∷ []) (length (xs ++ x ∷ []) - 1) ≡ Some x
+last_pushed xs x =
+    slice_get-get_or (xs ++ x ∷ []) (length (xs ++ x ∷ []) - 1) x (omega (arith, length-append xs (x ∷ [])))
+    ∙ ap Some (ap (λ k. get_or (xs ++ x ∷ []) k x) (omega (arith, length-append xs (x ∷ []))) ∙ get_or-append_seam xs x [] x)
+
+-- one before others isn't
+later_last : {X : Type 0} (x : X) (xs : List X) → 0 < length xs → slice_get (x ∷ xs) (length (x ∷ xs) - 1) ≡ slice_get xs (length xs - 1)
+later_last x xs some = let at : length (x ∷ xs) - 1 ≡ suc (length xs - 1) = omega (arith, some) in ap (slice_get (x ∷ xs)) at
+
+-- a filter that it passes keeps it
+pub last_kept : {X : Type 0} (p : X → Bool) (xs : List X) → IfSome (slice_get xs (length xs - 1)) (λ x. IsTrue (p x)) → slice_get (filter p xs) (length (filter p xs) - 1) ≡ slice_get xs (length xs - 1)
+last_kept p [] h = refl
+last_kept p (x ∷ []) h = ap (λ ys. slice_get ys (length ys - 1)) (cond-true (p x) (x ∷ []) [] h)
+last_kept {X} p (x ∷ y ∷ xs) h =
+    let rest : List X = filter p (y ∷ xs) in
+    let P : Option X → Type 0 = λ o. IfSome o (λ z. IsTrue (p z)) in
+    let later = later_last x (y ∷ xs) (omega arith) in
+    let same : slice_get rest (length rest - 1) ≡ slice_get (y ∷ xs) (length (y ∷ xs) - 1) = last_kept p (y ∷ xs) (subst P later h) in
+    let last : List X → Option X = λ ys. slice_get ys (length ys - 1) in
+    elim (cases_Bool (p x)) [
+      | inl t ↦ (
+          let some = slice_get_within rest (length rest - 1) (get_or (y ∷ xs) (length (y ∷ xs) - 1) y) (same ∙ slice_get-get_or (y ∷ xs) (length (y ∷ xs) - 1) y (omega arith)) in
+          ap last (cond-true (p x) (x ∷ rest) rest t) ∙ later_last x rest (omega (arith, some)) ∙ same ∙ sym later)
+      | inr f ↦ ap last (cond-false (p x) (x ∷ rest) rest f) ∙ same ∙ sym later
+    ]
 
 -- ---- entries
 

@@ -74,7 +74,7 @@ module _ (t : Table) (s : IsSound t) (given met : Given) (f : Field) (exact : Li
   }
 
   -- the packet of an exact leaf with a number of its set
-  gets_in : (entry : Reached) (x : ℕ) (leaf : Leaf) → IsExact t met leaf → HasEnd entry.verdict entry.by leaf → x ≤ top f → box_allows leaf.area f x ≡ true → (p : Packet) × Gets t given f entry x p × (walk t p ≡ walked_of t.chains leaf)
+  gets_in : (entry : Reached) (x : ℕ) (leaf : Leaf) → IsExact t met leaf → HasEnd entry.verdict entry.by leaf → x ≤ top f → box_allows leaf.area f x ≡ true → (p : Packet) × Gets t given f entry x p
   gets_in entry x leaf ex end le on =
       let p : Packet = packet_with given.hook leaf.area ex.some f x le on in
       let is : IsPacket p = with_packet given.hook leaf.area ex.some f x le on in
@@ -82,7 +82,7 @@ module _ (t : Table) (s : IsSound t) (given met : Given) (f : Field) (exact : Li
       let met_in : IsIn met.area p = ex.inside p.values is.within inside in
       let meant : IsMeant given p = record { can = ex.can p is (m.own p is refl met_in) inside; there = refl; inside = m.only p is met_in } in
       let walked : walk t p ≡ walked_of t.chains leaf = ex.walked p meant.can (sym m.there) inside in
-      (p, record { meant = meant; number = with_number given.hook leaf.area ex.some f x le on; ends = ends_as p leaf entry.verdict entry.by walked end.0 end.1 }, walked)
+      (p, record { meant = meant; number = with_number given.hook leaf.area ex.some f x le on; ends = ends_as p leaf entry.verdict entry.by walked end.0 end.1 })
 
   reached_by : (entry : Reached) → IsGroup f exact entry → IsReached t given f entry
   reached_by entry group =
@@ -90,15 +90,13 @@ module _ (t : Table) (s : IsSound t) (given met : Given) (f : Field) (exact : Li
       let ex : IsExact t met w.1 = All-contains (IsExact t met) exact w.1 each (w.0, w.2, w.3) in
       let n = ex.some f in
       let one = gets_in entry n.0 w.1 ex w.4 n.1 n.2 in
-      let P : Option Step → Type 0 = λ o. IfSome o (IsRule t) in
       record {
         greatest = group.numbers.greatest;
         some = (n.0, n.1, group.numbers.all n.0 n.1 (w.0, w.1, w.2, w.3, (w.4, n.2)));
         each = λ x le on. (
             let g = group.numbers.only x le on in
-            let own = gets_in entry x g.1 (All-contains (IsExact t met) exact g.1 each (g.0, g.2, g.3)) g.4.0 le g.4.1 in
-            (own.0, own.1));
-        rule = subst P w.4.1 (decider_is_rule t one.0 w.1 s one.2);
+            gets_in entry x g.1 (All-contains (IsExact t met) exact g.1 each (g.0, g.2, g.3)) g.4.0 le g.4.1);
+        rule = decider_is_rule t one.0 entry.by s one.1.ends.decides;
       }
 
   all_reached : All (IsReached t given f) reached

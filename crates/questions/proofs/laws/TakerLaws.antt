@@ -1,50 +1,109 @@
--- Who decides the packets that a rule matches.
-use Rattle.std.proofs.Common.{◌≡◌, ◌⊎◌, inl, inr, ℕ, ◌+◌, ◌<◌, true, List, [], ◌∷◌, ◌++◌, length, get_or, refl, sym, ◌∙◌, ap, arith, subst, Option, Some, None, All, Contains}
-use Rattle.std.specs.Prelude.{AllPairs, Any, IfSome, IsTrue, MatchOption}
+-- Who decides the packets that a rule matches where all holds that it needs.
+use Rattle.std.proofs.Common.{◌≡◌, ◌⊎◌, inl, inr, ℕ, ◌+◌, ◌-◌, ◌<◌, true, List, [], ◌∷◌, ◌++◌, length, get_or, refl, sym, ◌∙◌, ap, arith, subst, Option, Some, None, All, Contains}
+use Rattle.std.specs.Prelude.{AllPairs, Any, IsTrue, MatchOption}
 use Rattle.std.specs.Option.{option_map}
-use Rattle.std.proofs.lemmas.Bool.{and_from, true≢false}
+use Rattle.std.proofs.lemmas.Bool.{and_from, cases_Bool, true≢false}
 use Rattle.std.proofs.lemmas.List.{get_or_default}
-use Rattle.std.proofs.lemmas.List.Elements.{All-contains, Contains-append_left, Contains-get_or, Contains-push, Contains-push_cases}
+use Rattle.std.proofs.lemmas.List.Elements.{All-contains, All-nil, Contains-append_left, Contains-get_or, Contains-push, Contains-push_cases}
 use Rattle.std.proofs.lemmas.List.Quantifiers.{all_pairs_push}
 use Rattle.fields.specs.declared.numbers.field.Field.{Field}
 use Rattle.fields.specs.declared.numbers.field.Field.TheVariants as field
 use Rattle.fields.specs.declared.packet.hook.Hook.{Hook}
 use Rattle.fields.specs.declared.packet.hook.Hook.TheVariants.{Input, Forward, Output}
-use Rattle.fields.specs.packet.Hook.{all_hooks}
+use Rattle.fields.specs.packet.Hook.{all_hooks, name as hook_name}
 use Rattle.fields.specs.numbers.Spans.{SpanSet, has}
 use Rattle.fields.specs.packet.Packet.{PacketView as Packet, IsPacket, point}
 use Rattle.rules.specs.boxing.Boxed.{IsBoxOf, set_on}
-use Rattle.rules.specs.rule.Allows.{allows_each}
+use Rattle.rules.specs.rule.Allows.{allows_each, matches}
 use Rattle.rules.specs.rule.Crossing.{cross}
-use Rattle.table.specs.chains.Sound.{IsSound}
-use Rattle.table.specs.chains.Table.{Table}
+use Rattle.rules.specs.rule.Rules.{Rule}
+use Rattle.table.specs.chains.Sound.{IsSound, Path}
+use Rattle.table.specs.chains.Table.{Table, empty_chain}
 use Rattle.table.specs.declared.walk.trail.Step.{Step}
-use Rattle.table.specs.walk.Walk.{Walked, walk}
+use Rattle.table.specs.walk.Walk.{Entry, Walked, walk}
 use Rattle.questions.specs.Ends.{IsRule, decider_of, rule_at, step_of}
-use Rattle.questions.specs.Leaves.{AreLeavesOf, entry_of, walked_of}
-use Rattle.questions.specs.asked.Reason.{HasPacket, IsDecidedAmong, IsDecidedBy, IsImpossible, IsLed, IsTaken}
-use Rattle.questions.specs.asked.Rule.{IsDead}
+use Rattle.questions.specs.Foreign.{Assignment, all_hold, needs_at, resolved, resolved_rule}
+use Rattle.questions.specs.Leaves.{entry_of}
+use Rattle.questions.specs.Scopes.{EndsUnder, IsOf, IsSurely, Known, answered, known_by, scope_of, table_of, under}
+use Rattle.questions.specs.asked.Always.{IsAlwaysDead}
+use Rattle.questions.specs.asked.Reason.{IsDecidedAmong, IsDecidedBy, IsImpossible, IsLed, IsUnreached}
+use Rattle.questions.specs.asked.Why.{HasPacketUnder, IsMeantUnder, IsTakenUnder}
 use Rattle.questions.specs.boxes.Area.{Has, HasOwnInterfaces, IsAtHook, IsBoth, IsIn}
 use Rattle.questions.specs.declared.asked.reach.Given.{Given}
 use Rattle.questions.specs.declared.asked.takers.Takers.{Takers}
+use Rattle.questions.specs.declared.foreign.answers.Answer.{Answer}
+use Rattle.questions.specs.declared.foreign.need.Need.{Need}
+use Rattle.questions.specs.declared.foreign.subject.Subject.{Subject}
+use Rattle.questions.specs.declared.walking.scope.Scope.{Scope}
 use Rattle.questions.specs.declared.walking.task.Leaf.{Leaf}
-use Rattle.questions.specs.steps.Exact.{AreExactWalks, IsExact}
-use Rattle.questions.specs.steps.Takers.{AllTake, AreBefore, AreWalksOf, Grows, IsAmong, IsBoxAt, IsByThis, IsMatchedAt, IsTakenAt, IsWalked, Takes, TakesAll, TakesOne}
+use Rattle.questions.specs.steps.Answered.{IsMeeting, MeetsNever}
+use Rattle.questions.specs.steps.Deciding.{AllTake, AreBefore, EndsAs, IsMatchedUnder, IsTakenAt, IsWalked, TakesOne}
+use Rattle.questions.specs.steps.Exact.{AreExactWalksUnder, IsExactUnder}
+use Rattle.questions.specs.steps.Meant.{IsScopeAt, needs_of}
+use Rattle.questions.specs.steps.Takers.{Grows, IsAmong, IsBoxAt, IsByThis, Takes, TakesAll}
+use Rattle.questions.proofs.laws.AnswerLaws.{some_assignment_gives}
 use Rattle.questions.proofs.laws.AreaLaws.{box_of_rule, has_of_rule, on_field}
-use Rattle.questions.proofs.laws.EndLaws.{by_policy_where, decider_is_rule, decider_shown, none_some}
+use Rattle.questions.proofs.laws.EndLaws.{by_policy_where, decider_is_rule, decider_under, none_some}
+use Rattle.questions.proofs.laws.ForeignLaws.{left_sound, path_kept}
+use Rattle.questions.proofs.laws.HeldLaws.{step_by}
 use Rattle.questions.proofs.laws.LeadLaws.{entry_led}
+use Rattle.questions.proofs.laws.NeverLaws.{never_matches}
+use Rattle.questions.proofs.laws.PlainLaws.{gives_none}
 use Rattle.questions.proofs.laws.ReachLaws.{packet_with, with_inside, with_packet}
-use Rattle.questions.proofs.laws.TrailLaws.{items_next, never_on, rule_matches}
+use Rattle.questions.proofs.laws.ResolvedLaws.{chain_named, count_left, entry_left, length_same, resolved_is, resolved_not, rule_at_left, rule_left_there, there_left}
+use Rattle.questions.proofs.laws.TrailLaws.{items_next, rule_matches}
+
+-- ---- a rule on a walk
+
+-- it is one that matches, and all holds that it needs
+pub met_on : (s : Subject) (a : Assignment) (p : Packet) (step : Step) (hook : Hook) → IsSound (table_of s) → IsRule (table_of s) step → IsAtHook p → p.hook ≡ hook → Contains (walk (answered s a) p).trail (entry_of (answered s a).chains step)
+    → IsMatchedUnder s a step hook p
+met_on s a p step hook sound is can there on =
+    let needs = s.needs.now in
+    let t = table_of s in
+    let own : List Need = needs_at needs step.chain (step.number - 1) in
+    let P : Rule → Type 0 = λ r. matches p.values r ≡ true in
+    let m : matches p.values (resolved_rule a own (rule_at t step)) ≡ true =
+    subst P (rule_at_left needs a t step is) (rule_matches (answered s a) p step (left_sound needs a t sound) (rule_left_there needs a t step is) on) in
+    elim (cases_Bool (all_hold a own)) [
+      | inl held ↦ record { matched = record { can = can; there = there; matched = subst P (resolved_is a own (rule_at t step) held) m }; held = held }
+      | inr un ↦ absurd (true≢false (sym (subst P (resolved_not a own (rule_at t step) un) m) ∙ never_matches p.values))
+    ]
+
+-- an entry of the rule in the table is one in what is left of it
+on_left : (s : Subject) (a : Assignment) (p : Packet) (step : Step) → Contains (walk (answered s a) p).trail (entry_of (table_of s).chains step) → Contains (walk (answered s a) p).trail (entry_of (answered s a).chains step)
+on_left s a p step on = let P : Entry → Type 0 = λ entry. Contains (walk (answered s a) p).trail entry in subst P (sym (entry_left s.needs.now a (table_of s) step)) on
+
+-- a rule of what is left is one of the table
+rule_before : (needs : List (List (List Need))) (a : Assignment) (t : Table) (step : Step) → IsRule (resolved needs a t) step → IsRule t step
+rule_before needs a t step is =
+    let there : step.chain < length t.chains = omega (arith, is.chain, length_same needs a t.chains) in
+    record { chain = there; first = is.first; last = omega (arith, is.last, count_left needs a t step.chain there) }
 
 -- ---- a set of a rule's box without numbers
 
 pub impossible_of : (t : Table) (step : Step) (box : List SpanSet) (f : Field) → IsBoxOf (rule_at t step) box → set_on f box ≡ [] → IsImpossible (rule_at t step) f
 impossible_of t step box f boxed none p can = sym (boxed f (point p f) (can.packet.within f)) ∙ ap (λ ss. has ss (point p f)) none
 
-pub dead_of : (t : Table) (step : Step) (box : List SpanSet) (f : Field) → IsSound t → IsRule t step → IsBoxOf (rule_at t step) box → set_on f box ≡ [] → IsDead t (entry_of t.chains step)
-dead_of t step box f s is boxed none p can on =
-    let own : Has box p.values = has_of_rule (rule_at t step) box p.values boxed can.packet.within (rule_matches t p step s is on) in
+pub dead_of : (s : Subject) (step : Step) (box : List SpanSet) (f : Field) → IsSound (table_of s) → IsRule (table_of s) step → IsBoxOf (rule_at (table_of s) step) box → set_on f box ≡ [] → IsAlwaysDead s (entry_of (table_of s).chains step)
+dead_of s step box f sound is boxed none a p can on =
+    let met : IsMatchedUnder s a step p.hook p = met_on s a p step p.hook sound is can refl (on_left s a p step on) in
+    let own : Has box p.values = has_of_rule (rule_at (table_of s) step) box p.values boxed can.packet.within met.matched.matched in
     true≢false (sym (on_field box p.values f own.each) ∙ ap (λ ss. has ss (point p f)) none)
+
+-- ---- chains to which nothing leads
+
+module _ (s : Subject) (a : Assignment) where
+  -- what is left names no more chains
+  -- a rule on a walk is one to whose chain jumps and gotos lead
+  led_on : (p : Packet) (step : Step) → Contains (walk (answered s a) p).trail (entry_of (answered s a).chains step) → IsLed (table_of s) step p.hook
+  led_on p step on =
+      let (n, path) = entry_led (answered s a) p (entry_of (answered s a).chains step) on in
+      let P : List ℕ → Type 0 = λ name. Path (table_of s).chains n (hook_name p.hook) name in
+      (n, subst P (chain_named s.needs.now a (table_of s).chains step.chain (empty_chain [])) (path_kept s.needs.now a (table_of s) n _ _ path))
+
+pub unreached_dead : (s : Subject) (step : Step) → IsUnreached (table_of s) step → IsAlwaysDead s (entry_of (table_of s).chains step)
+unreached_dead s step none a p can on = none p.hook (led_on s a p step (on_left s a p step on))
 
 -- ---- the packets that a rule matches
 
@@ -57,32 +116,84 @@ box_at t step hook there box area boxed all only both = record {
       (only p is e (both.first p.values is.within inside), sym (box_of_rule (rule_at t step) box p.values boxed is.within) ∙ (both.second p.values is.within inside).each);
 }
 
-pub walks_of : (t : Table) (step : Step) (hook : Hook) (given : Given) (leaves : List Leaf) → IsBoxAt t step hook given → AreLeavesOf t hook given.area leaves → AreWalksOf t step hook leaves
-walks_of t step hook given leaves box cover p m = cover p m.can m.there (box.all p m)
+-- the box of a rule's scope, and its answers
+pub boxed_scope : (t : Table) (needs : List (List (List Need))) (step : Step) (hook : Hook) (scope : Scope) → IsScopeAt t needs step hook scope
+    → (let given : Given = record { hook = hook; area = scope.area } in IsBoxAt t step hook given × IsMeeting (needs_of needs step) [] scope.answers)
+boxed_scope t needs step hook scope (given, box, same, meets) =
+    let P : Hook → List SpanSet → Type 0 = λ h area. IsBoxAt t step hook (record { hook = h; area = area }) in
+    (subst (λ (area : List SpanSet). P hook area) same (subst (λ (h : Hook). P h given.area) box.there box), meets)
 
-module _ (t : Table) (step : Step) (hook : Hook) (given : Given) (s : IsSound t) (is : IsRule t step) (box : IsBoxAt t step hook given) (alone : (numbers : List ℕ) → cross numbers (rule_at t step) ≡ true) where
-  -- a packet of an exact leaf
-  walked_in : (leaf : Leaf) → IsExact t given leaf → IsWalked t step hook leaf
-  walked_in leaf ex =
-      let n = ex.some field.Source in
-      let p : Packet = packet_with given.hook leaf.area ex.some field.Source n.0 n.1 n.2 in
-      let packet : IsPacket p = with_packet given.hook leaf.area ex.some field.Source n.0 n.1 n.2 in
-      let inside : IsIn leaf.area p = with_inside given.hook leaf.area ex.some field.Source n.0 n.1 n.2 in
-      let own = box.only p packet box.there (ex.inside p.values packet.within inside) in
-      let can : IsAtHook p = ex.can p packet own.0 inside in
-      (p, record { can = can; there = box.there; matched = and_from (allows_each p.values (rule_at t step)) (cross p.values (rule_at t step)) own.1 (alone p.values) }, ex.walked p can refl inside)
+-- a packet of a leaf is decided as the leaf is, where that is sure
+ends_as : (t : Table) (known : Known) (p : Packet) (leaf : Leaf) → IsSurely known leaf → EndsUnder t known p leaf → EndsAs t p leaf
+ends_as t known p leaf surely ends = record {
+  decides = ap decider_of ends.walked ∙ decider_under known t.chains leaf surely ends.own.agrees;
+  policy = ap (λ (w : Walked). w.by_policy) ends.walked;
+}
 
-  pub before_of : (exact : List Leaf) → AreExactWalks t given exact → All (λ leaf. Contains leaf.trail.items step → ⊥) exact → AreBefore t step hook exact
-  before_of exact walks none =
-      let all : AreWalksOf t step hook exact = λ p m. (
-      let there = m.there ∙ sym box.there in
-      let w = walks.all p m.can there (box.all p m) in
-      let ex : IsExact t given w.1 = All-contains (IsExact t given) exact w.1 walks.each (w.0, w.2, w.3) in
-      (w.0, w.1, w.2, w.3, record { inside = w.4; walked = ex.walked p m.can there w.4 })) in
-      record {
-        dead = λ p can e on. never_on t p step hook exact s is all none can e on;
-        all = all;
-        each = λ k d lt. walked_in (get_or exact k d) (walks.each k d lt);
+module _ (s : Subject) (step : Step) (hook : Hook) (sound : IsSound (table_of s)) (is : IsRule (table_of s) step) where
+  abbrev own : List Need
+  own = needs_at s.needs.now step.chain (step.number - 1)
+
+  -- what the rule needs is never met
+  pub never_before : MeetsNever own [] → AreBefore s step hook []
+  never_before never = record {
+    dead = λ a p can e on. unmet a (met_on s a p step hook sound is can e on).held;
+    all = λ a p m. absurd (unmet a m.held);
+    each = All-nil (IsWalked s step hook);
+  }
+    where
+      unmet : (a : Assignment) → all_hold a own ≡ true → ⊥
+      unmet a held = true≢false (sym held ∙ never a (gives_none a))
+
+  module _ (given : Given) (box : IsBoxAt (table_of s) step hook given) (answers : List Answer) (meets : IsMeeting own [] answers) where
+    abbrev start : Scope
+    start = under given.area answers
+
+    -- a packet of an exact leaf
+    walked_in : ((numbers : List ℕ) → cross numbers (rule_at (table_of s) step) ≡ true) → (leaf : Leaf) → ((a : Assignment) → IsExactUnder (answered s a) (known_by s a) hook start leaf) → IsWalked s step hook leaf
+    walked_in alone leaf all =
+        let (a, agrees) = some_assignment_gives leaf.answers leaf.consistent in
+        let ex : IsExactUnder (answered s a) (known_by s a) hook start leaf = all a in
+        let n = ex.some field.Source in
+        let p : Packet = packet_with hook leaf.area ex.some field.Source n.0 n.1 n.2 in
+        let packet : IsPacket p = with_packet hook leaf.area ex.some field.Source n.0 n.1 n.2 in
+        let inside : IsIn leaf.area p = with_inside hook leaf.area ex.some field.Source n.0 n.1 n.2 in
+        let rule = rule_at (table_of s) step in
+        let (interfaces, allowed) = box.only p packet refl (ex.inside p.values packet.within inside) in
+        let can : IsAtHook p = ex.can p packet interfaces inside in
+        let of : IsOf (known_by s a) p (scope_of leaf) = record { inside = inside; agrees = agrees } in
+        let (there, walked) = ex.shown.walked p can refl of in (
+          a,
+          p,
+          record {
+            matched = record { can = can; there = refl; matched = and_from (allows_each p.values rule) (cross p.values rule) allowed (alone p.values) };
+            held = (meets.own a there.agrees).1;
+          },
+          ends_as (answered s a) (known_by s a) p leaf ex.shown.decided (record { own = of; walked = walked }),
+        )
+
+    module _ (exact : List Leaf) (walks : (a : Assignment) → AreExactWalksUnder (answered s a) (known_by s a) hook start exact) where
+      -- the leaf of a packet that the rule matches
+      in_leaf : (a : Assignment) (p : Packet) → IsMatchedUnder s a step hook p → Any (λ (leaf : Leaf). IsSurely (known_by s a) leaf × EndsUnder (answered s a) (known_by s a) p leaf) exact
+      in_leaf a p m =
+          let of : IsOf (known_by s a) p start = record { inside = box.all p m.matched; agrees = meets.all a (gives_none a) m.held } in
+          let (k, leaf, lt, at, inside) = (walks a).all p m.matched.can m.matched.there of in
+          let ex : IsExactUnder (answered s a) (known_by s a) hook start leaf = All-contains (IsExactUnder (answered s a) (known_by s a) hook start) exact leaf (walks a).each (k, lt, at) in
+          (k, leaf, lt, at, (ex.shown.decided, record { own = inside; walked = (ex.shown.walked p m.matched.can m.matched.there inside).1 }))
+
+      pub before_of : ((numbers : List ℕ) → cross numbers (rule_at (table_of s) step) ≡ true) → All (λ leaf. Contains leaf.trail.items step → ⊥) exact → AreBefore s step hook exact
+      before_of alone none = record {
+        dead = λ a p can e on.
+            (let (k, leaf, lt, at, (surely, ends)) = in_leaf a p (met_on s a p step hook sound is can e on) in
+            let t = answered s a in
+            let P : Walked → Type 0 = λ w. Contains w.trail (entry_of t.chains step) in
+            let lt_left = there_left s.needs.now a (table_of s) step.chain is.chain in
+            let (there, met) = step_by t (known_by s a) leaf.trail.items step (left_sound s.needs.now a (table_of s) sound) lt_left (subst P ends.walked on) in
+            All-contains (λ (l : Leaf). Contains l.trail.items step → ⊥) exact leaf none (k, lt, at) there);
+        all = λ a p m.
+            (let (k, leaf, lt, at, (surely, ends)) = in_leaf a p m in
+            (k, leaf, lt, at, ends_as (answered s a) (known_by s a) p leaf surely ends));
+        each = λ k d lt. walked_in alone (get_or exact k d) (λ a. (walks a).each k d lt);
       }
 
 -- ---- who decides them
@@ -189,86 +300,92 @@ module _ (own : Hook) (leaves : List Leaf) (i : ℕ) (leaf : Leaf) (lt : i < len
 
 -- ---- hook after hook
 
-module _ (t : Table) (step : Step) where
-  pub nobody_takes : (takers : Takers) → takers.rules.items ≡ [] → takers.policies.items ≡ [] → AllTake t step takers
+module _ (s : Subject) (step : Step) where
+  pub nobody_takes : (takers : Takers) → takers.rules.items ≡ [] → takers.policies.items ≡ [] → AllTake s step takers
   nobody_takes takers none off hook None h = absurd (omega (arith, h.1, ap (λ (xs : List Hook). length xs) off))
   nobody_takes takers none off hook (Some x) h = absurd (omega (arith, h.1, ap (λ (xs : List Step). length xs) none))
 
   -- a hook from which nothing leads to the rule's chain
-  pub unled_at : (takers : Takers) (hook : Hook) → (IsLed t step hook → ⊥) → IsTakenAt t step takers hook
+  pub unled_at : (takers : Takers) (hook : Hook) → (IsLed (table_of s) step hook → ⊥) → IsTakenAt s step takers hook
   unled_at takers hook none = record {
-    dead = λ p can e on. (let P : Hook → Type 0 = λ h. IsLed t step h in none (subst P e (entry_led t p (entry_of t.chains step) on)));
+    dead = λ a p can e on. (let P : Hook → Type 0 = λ h. IsLed (table_of s) step h in none (subst P e (led_on s a p step on)));
     decided = λ led. absurd (none led);
   }
 
-  pub taken_on : (hook : Hook) (a b : Takers) → Grows a b → IsTakenAt t step a hook → IsTakenAt t step b hook
-  taken_on hook a b g at = record {
+  pub taken_on : (hook : Hook) (old new : Takers) → Grows old new → IsTakenAt s step old hook → IsTakenAt s step new hook
+  taken_on hook old new g at = record {
     dead = at.dead;
-    decided = λ led p m. elim (at.decided led p m) [
+    decided = λ led a p m. elim (at.decided led a p m) [
       | inl policy ↦ inl (g.kept p.hook None policy.0, policy.1)
       | inr w ↦ (let c = g.kept p.hook (Some w.1) (w.0, w.2, w.3) in inr (c.0, w.1, c.1, c.2, w.4))
     ];
   }
 
-  module _ (s : IsSound t) where
-    -- a packet of a leaf is decided by whom the leaf shows
-    shown_by : (p : Packet) (leaf : Leaf) (by : Option Step) → walk t p ≡ walked_of t.chains leaf → step_of leaf ≡ by → MatchOption by (IsTrue (walk t p).by_policy) (λ taker. IsRule t taker × IsDecidedBy t p taker)
-    shown_by p leaf None walked e = ap (λ (w : Walked). w.by_policy) walked ∙ by_policy_where leaf e
-    shown_by p leaf (Some x) walked e =
-        let P : Option Step → Type 0 = λ o. IfSome o (IsRule t) in
-        (subst P e (decider_is_rule t p leaf s walked), ap decider_of walked ∙ decider_shown t.chains leaf ∙ ap (option_map (entry_of t.chains)) e)
+  -- who decides a packet
+  abbrev Decides : Assignment → Packet → Option Step → Type 0
+  Decides a p by = MatchOption by (IsTrue (walk (answered s a) p).by_policy) (λ taker. IsRule (table_of s) taker × IsDecidedBy (answered s a) p taker)
 
-    among_of : (p : Packet) (takers : Takers) (by : Option Step) → MatchOption by (IsTrue (walk t p).by_policy) (λ taker. IsRule t taker × IsDecidedBy t p taker) → IsAmong takers p.hook by → IsDecidedAmong t takers p
-    among_of p takers None shown h = inl (h, shown)
-    among_of p takers (Some x) shown h = inr (h.0, x, h.1, h.2, shown.1)
+  module _ (sound : IsSound (table_of s)) where
+    -- a packet that is decided as a leaf is decided by whom the leaf shows
+    shown_by : (a : Assignment) (p : Packet) (leaf : Leaf) (by : Option Step) → EndsAs (answered s a) p leaf → step_of leaf ≡ by → Decides a p by
+    shown_by a p leaf None ends e = ends.policy ∙ by_policy_where leaf e
+    shown_by a p leaf (Some x) ends e =
+        let decides : IsDecidedBy (answered s a) p x = ends.decides ∙ ap (option_map (entry_of (answered s a).chains)) e in
+        (rule_before s.needs.now a (table_of s) x (decider_is_rule (answered s a) p (Some x) (left_sound s.needs.now a (table_of s) sound) decides), decides)
 
-    module _ (hook : Hook) (leaves : List Leaf) (old new : Takers) (before : AreBefore t step hook leaves) (takes : TakesAll hook leaves old new) where
-      pub taken_at : IsTakenAt t step new hook
+    among_of : (a : Assignment) (p : Packet) (takers : Takers) (by : Option Step) → Decides a p by → IsAmong takers p.hook by → IsDecidedAmong (answered s a) takers p
+    among_of a p takers None shown h = inl (h, shown)
+    among_of a p takers (Some x) shown h = inr (h.0, x, h.1, h.2, shown.1)
+
+    module _ (hook : Hook) (leaves : List Leaf) (old new : Takers) (before : AreBefore s step hook leaves) (takes : TakesAll hook leaves old new) where
+      pub taken_at : IsTakenAt s step new hook
       taken_at = record {
         dead = before.dead;
-        decided = λ led p m. (
-            let w = before.all p m in
+        decided = λ led a p m.
+            (let w = before.all a p m in
             let there : IsAmong new hook (step_of w.1) = All-contains (λ (l : Leaf). IsAmong new hook (step_of l)) leaves w.1 takes.added (w.0, w.2, w.3) in
             let P : Hook → Type 0 = λ h. IsAmong new h (step_of w.1) in
-            among_of p new (step_of w.1) (shown_by p w.1 (step_of w.1) w.4.walked refl) (subst P (sym m.there) there));
+            among_of a p new (step_of w.1) (shown_by a p w.1 (step_of w.1) w.4 refl) (subst P (sym m.matched.there) there));
       }
 
       -- a packet of a leaf that this decides
-      taken_by : (at : Hook) (by : Option Step) (leaf : Leaf) → IsLed t step hook → IsByThis hook leaf at by → IsWalked t step hook leaf → TakesOne t step at by
-      taken_by at None leaf led is one =
-          let m : IsMatchedAt t step hook one.0 = one.1 in
-          let P : Hook → Type 0 = λ k. IsLed t step k in
-          (one.0, record { can = m.can; led = subst P (sym m.there) led; matched = m.matched }, (m.there ∙ sym (is.there refl), shown_by one.0 leaf None one.2 is.decides))
-      taken_by at (Some x) leaf led is one =
-          let m : IsMatchedAt t step hook one.0 = one.1 in
-          let P : Hook → Type 0 = λ k. IsLed t step k in
-          (one.0, record { can = m.can; led = subst P (sym m.there) led; matched = m.matched }, shown_by one.0 leaf (Some x) one.2 is.decides)
+      meant_there : IsLed (table_of s) step hook → (a : Assignment) (p : Packet) → IsMatchedUnder s a step hook p → IsMeantUnder s a step p
+      meant_there led a p m =
+          let P : Hook → Type 0 = λ k. IsLed (table_of s) step k in
+          record { meant = record { can = m.matched.can; led = subst P (sym m.matched.there) led; matched = m.matched.matched }; held = m.held }
 
-      pub all_take : IsLed t step hook → AllTake t step old → AllTake t step new
+      taken_by : (at : Hook) (by : Option Step) (leaf : Leaf) → IsLed (table_of s) step hook → IsByThis hook leaf at by → IsWalked s step hook leaf → TakesOne s step at by
+      taken_by at None leaf led is (a, p, m, ends) = (a, p, meant_there led a p m, (m.matched.there ∙ sym (is.there refl), shown_by a p leaf None ends is.decides))
+      taken_by at (Some x) leaf led is (a, p, m, ends) = (a, p, meant_there led a p m, shown_by a p leaf (Some x) ends is.decides)
+
+      pub all_take : IsLed (table_of s) step hook → AllTake s step old → AllTake s step new
       all_take led below at by h = elim (takes.only at by h) [
         | inl there ↦ below at by there
-        | inr w ↦ taken_by at by w.1 led w.4 (All-contains (IsWalked t step hook) leaves w.1 before.each (w.0, w.2, w.3))
+        | inr w ↦ taken_by at by w.1 led w.4 (All-contains (IsWalked s step hook) leaves w.1 before.each (w.0, w.2, w.3))
       ]
 
     -- of all hooks
-    pub taken_of : (takers : Takers) → ((hook : Hook) → IsTakenAt t step takers hook) → AllTake t step takers → AllPairs (λ (a b : Step). a ≡ b → ⊥) takers.rules.items
-        → AllPairs (λ (a b : Hook). a ≡ b → ⊥) takers.policies.items → IsDead t (entry_of t.chains step) × IsTaken t step takers
+    pub taken_of : (takers : Takers) → ((hook : Hook) → IsTakenAt s step takers hook) → AllTake s step takers → AllPairs (λ (a b : Step). a ≡ b → ⊥) takers.rules.items
+        → AllPairs (λ (a b : Hook). a ≡ b → ⊥) takers.policies.items → IsAlwaysDead s (entry_of (table_of s).chains step) × IsTakenUnder s step takers
     taken_of takers at each once apart = (
-      λ p can on. (at p.hook).dead p can refl on,
+      λ a p can on. (at p.hook).dead a p can refl (on_left s a p step on),
       record {
-        all = λ p m. (at p.hook).decided m.led p (record { can = m.can; there = refl; matched = m.matched });
-        each = λ k d lt. (let own = each Input (Some (get_or takers.rules.items k d)) (Contains-get_or takers.rules.items k d lt) in (own.0, own.1, own.2.1));
-        policies = λ k d lt. (let own = each (get_or takers.policies.items k d) None (Contains-get_or takers.policies.items k d lt) in (own.0, own.1, own.2.0, own.2.1));
-        rules = λ k d lt. (each Input (Some (get_or takers.rules.items k d)) (Contains-get_or takers.rules.items k d lt)).2.0;
+        all = λ a p m. (at p.hook).decided m.meant.led a p (record { matched = record { can = m.meant.can; there = refl; matched = m.meant.matched }; held = m.held });
+        each = λ k d lt. (let (a, p, meant, own) = by_rule k d lt in (a, p, meant, own.1));
+        policies = λ k d lt. (let (a, p, meant, own) = each (get_or takers.policies.items k d) None (Contains-get_or takers.policies.items k d lt) in (a, p, meant, own.0, own.1));
+        rules = λ k d lt. (by_rule k d lt).3.0;
         once = once;
         apart = apart;
       },
     )
+      where
+        by_rule : (k : ℕ) (d : Step) → k < length takers.rules.items → TakesOne s step Input (Some (get_or takers.rules.items k d))
+        by_rule k d lt = each Input (Some (get_or takers.rules.items k d)) (Contains-get_or takers.rules.items k d lt)
 
-  pub hooks_next : (old new : Takers) (i : ℕ) (d : Hook) → i < 3 → Grows old new → IsTakenAt t step new (get_or all_hooks i d) → ((k : ℕ) (h : Hook) → k < i → IsTakenAt t step old (get_or all_hooks k h)) → (k : ℕ) (h : Hook) → k < i + 1 → IsTakenAt t step new (get_or all_hooks k h)
+  pub hooks_next : (old new : Takers) (i : ℕ) (d : Hook) → i < 3 → Grows old new → IsTakenAt s step new (get_or all_hooks i d) → ((k : ℕ) (h : Hook) → k < i → IsTakenAt s step old (get_or all_hooks k h)) → (k : ℕ) (h : Hook) → k < i + 1 → IsTakenAt s step new (get_or all_hooks k h)
   hooks_next old new i d lt grows here below =
       let hook : Hook = get_or all_hooks i d in
-      items_next (IsTakenAt t step new) all_hooks i hook lt (get_or_default all_hooks i d hook lt) (λ k h less. taken_on (get_or all_hooks k h) old new grows (below k h less)) here
+      items_next (IsTakenAt s step new) all_hooks i hook lt (get_or_default all_hooks i d hook lt) (λ k h less. taken_on (get_or all_hooks k h) old new grows (below k h less)) here
 
 -- what holds at each place of the hooks holds of each
 pub hooks_all : (P : Hook → Type 0) → ((k : ℕ) (h : Hook) → k < 3 → P (get_or all_hooks k h)) → (hook : Hook) → P hook
@@ -279,16 +396,14 @@ hooks_all P all Output = all 2 Input (omega arith)
 -- ---- what is said
 
 -- takers that decide something have a packet
-pub packet_of_policy : (t : Table) (step : Step) (takers : Takers) → IsTaken t step takers → 0 < length takers.policies.items → HasPacket t step
-packet_of_policy t step takers is h = let own = is.policies 0 Input h in (own.0, own.1)
+pub packet_of_policy : (s : Subject) (step : Step) (takers : Takers) → IsTakenUnder s step takers → 0 < length takers.policies.items → HasPacketUnder s step
+packet_of_policy s step takers is h = let (a, p, meant, there, own) = is.policies 0 Input h in (a, p, meant)
 
-pub packet_of_rule : (t : Table) (step : Step) (takers : Takers) → IsTaken t step takers → 0 < length takers.rules.items → HasPacket t step
-packet_of_rule t step takers is h =
-    let d : Step = step in
-    let own = is.each 0 d h in (own.0, own.1)
+pub packet_of_rule : (s : Subject) (step : Step) (takers : Takers) → IsTakenUnder s step takers → 0 < length takers.rules.items → HasPacketUnder s step
+packet_of_rule s step takers is h = let (a, p, meant, own) = is.each 0 step h in (a, p, meant)
 
-pub no_packet : (t : Table) (step : Step) (takers : Takers) → IsTaken t step takers → takers.rules.items ≡ [] → takers.policies.items ≡ [] → HasPacket t step → ⊥
-no_packet t step takers is none off w = elim (is.all w.0 w.1) [
+pub no_packet : (s : Subject) (step : Step) (takers : Takers) → IsTakenUnder s step takers → takers.rules.items ≡ [] → takers.policies.items ≡ [] → HasPacketUnder s step → ⊥
+no_packet s step takers is none off (a, p, meant) = elim (is.all a p meant) [
   | inl policy ↦ absurd (omega (arith, policy.0.1, ap (λ (xs : List Hook). length xs) off))
   | inr own ↦ absurd (omega (arith, own.2, ap (λ (xs : List Step). length xs) none))
 ]

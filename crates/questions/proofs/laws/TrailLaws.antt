@@ -6,7 +6,6 @@ use Rattle.std.proofs.lemmas.Bool.{cases_lt, true≢false}
 use Rattle.std.proofs.lemmas.List.{length-map, get_or-map, get_or_default, get_or_past}
 use Rattle.std.proofs.lemmas.List.Elements.{All-nil, All-push, All-contains, Contains-get_or}
 use Rattle.std.proofs.lemmas.Option.{slice_get-get_or}
-use Rattle.fields.specs.declared.packet.hook.Hook.{Hook}
 use Rattle.fields.specs.packet.Packet.{PacketView as Packet}
 use Rattle.fields.specs.values.Name.{is_name}
 use Rattle.rules.specs.rule.Allows.{matches}
@@ -23,10 +22,7 @@ use Rattle.table.proofs.laws.chains.KeepLaws.{listed_differ, rules_by_name}
 use Rattle.table.proofs.laws.chains.PlaceLaws.{IsPlaced, differing_at, placed_at}
 use Rattle.table.proofs.laws.walk.CaseLaws.{walks_by_cases}
 use Rattle.questions.specs.Ends.{IsRule, rule_at}
-use Rattle.questions.specs.Leaves.{name_at, entry_of, entries_of, EndsIn}
-use Rattle.questions.specs.boxes.Area.{IsAtHook}
-use Rattle.questions.specs.declared.walking.task.Leaf.{Leaf}
-use Rattle.questions.specs.steps.Takers.{AreWalksOf}
+use Rattle.questions.specs.Leaves.{name_at, entry_of, entries_of}
 
 -- the rule of an entry matches; rules are numbered from 1
 abbrev pub IsMatched : List Chain → List ℕ → Entry → Type 0
@@ -106,11 +102,6 @@ step_in t steps step s lt c =
     let make : ℕ → ℕ → Step = λ a b. record { chain = a; number = b } in
     (c.0, within, ap (λ a. make a here.number) chain ∙ ap (λ b. make step.chain b) number)
 
-pub on_leaf : (t : Table) (p : Packet) (leaf : Leaf) (step : Step) → IsSound t → step.chain < length t.chains → EndsIn t p leaf → Contains (walk t p).trail (entry_of t.chains step) → Contains leaf.trail.items step
-on_leaf t p leaf step s lt ends c =
-    let P : Walked → Type 0 = λ (w : Walked). Contains w.trail (entry_of t.chains step) in
-    step_in t leaf.trail.items step s lt (subst P ends.walked c)
-
 -- a rule on the trail matches
 pub rule_matches : (t : Table) (p : Packet) (step : Step) → IsSound t → IsRule t step → Contains (walk t p).trail (entry_of t.chains step) → matches p.values (rule_at t step) ≡ true
 rule_matches t p step s is c =
@@ -134,13 +125,6 @@ items_next {X} P xs i x within is below here k d lt =
           let at : k ≡ i = omega (arith, lt, most) in
           subst P (is ∙ get_or_default xs i x d within ∙ ap (λ j. get_or xs j d) (sym at)) here)
     ]
-
--- where no leaf of the packets that a rule matches has the rule on its trail, it is on the walk of none
-pub never_on : (t : Table) (p : Packet) (step : Step) (hook : Hook) (leaves : List Leaf) → IsSound t → IsRule t step → AreWalksOf t step hook leaves → All (λ leaf. Contains leaf.trail.items step → ⊥) leaves → IsAtHook p → p.hook ≡ hook
-    → Contains (walk t p).trail (entry_of t.chains step) → ⊥
-never_on t p step hook leaves s is walks none can e on =
-    let leaf = walks p (record { can = can; there = e; matched = rule_matches t p step s is on }) in
-    All-contains (λ (l : Leaf). Contains l.trail.items step → ⊥) leaves leaf.1 none (leaf.0, leaf.2, leaf.3) (on_leaf t p leaf.1 step s is.chain leaf.4 on)
 
 -- ---- a step of a trail that was asked for is an entry of the walk
 

@@ -1,6 +1,6 @@
 -- Nobody is lost on the way through the table.
-use Rattle.std.proofs.Common.{◌≡◌, inl, inr, ◌⊎◌, ℕ, zero, suc, ◌+◌, ◌-◌, ◌<◌, ◌≤◌, Bool, true, false, List, [], ◌∷◌, ◌++◌, length, get_or, take, map, refl, sym, ◌∙◌, ap, arith, subst, Option, Some, None, All, Contains}
-use Rattle.std.specs.Prelude.{Any, slice_get}
+use Rattle.std.proofs.Common.{◌≡◌, inl, inr, ◌⊎◌, ℕ, zero, suc, ◌+◌, ◌-◌, ◌<◌, ◌≤◌, Bool, true, false, cond, List, [], ◌∷◌, ◌++◌, length, get_or, take, map, refl, sym, ◌∙◌, ap, arith, subst, Option, Some, None, All, Contains}
+use Rattle.std.specs.Prelude.{Any, IfSome, IsTrue, slice_get}
 use Rattle.std.specs.List.{list_any, position}
 use Rattle.std.proofs.Math.Numerals.{add-one}
 use Rattle.std.proofs.lemmas.Bool.{cases_Bool, cond-false, or_parts, true≢false}
@@ -30,11 +30,11 @@ use Rattle.table.proofs.laws.walk.CaseLaws.{walk_is}
 use Rattle.classify.specs.classifier.Classifier.{IsPoint}
 use Rattle.questions.specs.Leaves.{name_at}
 use Rattle.questions.specs.Foreign.{Agrees, never}
-use Rattle.questions.specs.Scopes.{AreExactUnder, AreLeavesUnder, EndsUnder, IsOf, Known, ShowsUnder, entries_by, scope_of, under, walked_by}
+use Rattle.questions.specs.Scopes.{AreExactUnder, AreLeavesUnder, EndsUnder, IsOf, IsSurely, Known, ShowsUnder, entries_by, is_met, scope_of, under, walked_by}
 use Rattle.questions.specs.boxes.Area.{Has, IsAtHook}
 use Rattle.questions.specs.boxes.Cut.{IsInSome, IsCut, IsPartedFor, IsApart}
 use Rattle.questions.specs.steps.Taken.{GetsTo, IsStep, AreSteps}
-use Rattle.questions.specs.steps.Waiting.{rest_of, rests_of, behind, Reaches, stage_of, WaitsIn, IsAccounted, Belongs, FitsTask, IsThere, AreThere, IsAsked, IsOfSome, Keeps, Moves, PassesOver, Begins, entry_before}
+use Rattle.questions.specs.steps.Waiting.{rest_of, rests_of, behind, Reaches, stage_of, WaitsIn, IsAccounted, Belongs, FitsTask, IsThere, AreThere, IsAsked, IsOfSome, Keeps, Moves, PassesOver, Begins, entry_before, IsLastMet}
 use Rattle.questions.specs.declared.foreign.answers.Answer.{Answer}
 use Rattle.questions.specs.declared.walking.front.Front.{Front}
 use Rattle.questions.specs.declared.walking.scope.Scope.{Scope}
@@ -89,6 +89,7 @@ module _ (t : Table) (known : Known) (policy : Verdict) (old new : Front) where
       keeps = record {
         kept = kept_task;
         there = λ all. (let Q : List Task → Type 0 = λ ts. All (AreThere t.chains) ts in subst Q (sym tasks) (All-push (AreThere t.chains) old.tasks.items task all there));
+        decided = λ all. (let Q : List Leaf → Type 0 = λ ls. All (IsSurely known) ls in subst Q (sym leaves) all);
       };
     }
 
@@ -97,8 +98,17 @@ module _ (t : Table) (known : Known) (policy : Verdict) (old new : Front) where
     kept_leaf p (inl a) = inl (any_same (WaitsIn t known p) old.tasks.items new.tasks.items tasks a)
     kept_leaf p (inr a) = inr (any_kept (EndsUnder t known p) old.leaves.items (leaf ∷ []) new.leaves.items leaves a)
 
-    pub leaf_moves : Moves t known policy (scope_of leaf) (Over (walked_by known t.chains leaf)) old new
-    leaf_moves = record {
+    -- the rule that decides it has all that it needs, if the last rule of its trail has
+    surely : (leaf.by_policy ≡ false → Agrees known.holds leaf.answers → IsLastMet known leaf.trail.items) → IsSurely known leaf
+    surely met agrees =
+        let P : Bool → Type 0 = λ b. IfSome (cond b None (slice_get leaf.trail.items (length leaf.trail.items - 1))) (λ step. IsTrue (is_met known step)) in
+        elim (cases_Bool leaf.by_policy) [
+          | inl t ↦ subst P (sym t) tt
+          | inr f ↦ subst P (sym f) (met f agrees)
+        ]
+
+    pub leaf_moves : (leaf.by_policy ≡ false → Agrees known.holds leaf.answers → IsLastMet known leaf.trail.items) → Moves t known policy (scope_of leaf) (Over (walked_by known t.chains leaf)) old new
+    leaf_moves met = record {
       moved = λ p asked stands. inr (any_last (EndsUnder t known p) old.leaves.items leaf new.leaves.items leaves (record { own = stands.own; walked = walk_is t p (walked_by known t.chains leaf) stands.reaches }));
       fits = λ start p asked fit all. record {
         tasks = (let Q : List Task → Type 0 = λ ts. All (FitsTask t known start p) ts in subst Q (sym tasks) all.tasks);
@@ -108,6 +118,7 @@ module _ (t : Table) (known : Known) (policy : Verdict) (old new : Front) where
       keeps = record {
         kept = kept_leaf;
         there = λ all. (let Q : List Task → Type 0 = λ ts. All (AreThere t.chains) ts in subst Q (sym tasks) all);
+        decided = λ all. (let Q : List Leaf → Type 0 = λ ls. All (IsSurely known) ls in subst Q (sym leaves) (All-push (IsSurely known) old.leaves.items leaf all (surely met)));
       };
     }
 
@@ -177,10 +188,10 @@ module _ (t : Table) (known : Known) (policy : Verdict) (scope : Scope) (old new
 -- ---- what is kept
 
 pub keeps_all : (t : Table) (known : Known) (front : Front) → Keeps t known front front
-keeps_all t known front = record { kept = λ p a. a; there = λ a. a }
+keeps_all t known front = record { kept = λ p a. a; there = λ a. a; decided = λ a. a }
 
 pub keeps_then : (t : Table) (known : Known) (one two three : Front) → Keeps t known one two → Keeps t known two three → Keeps t known one three
-keeps_then t known one two three a b = record { kept = λ p h. b.kept p (a.kept p h); there = λ h. b.there (a.there h) }
+keeps_then t known one two three a b = record { kept = λ p h. b.kept p (a.kept p h); there = λ h. b.there (a.there h); decided = λ h. b.decided (a.decided h) }
 
 -- ---- boxes that go on behind a rule, one after another
 
@@ -439,6 +450,7 @@ begun t known hook scope rests empty trail k old new sound at is none bare no_ta
           (h (end_verdict t p) there).fits scope p (record { at_hook = can; ends = refl }) (λ own. (own, (0, stage p e)))
           (record { tasks = subst T (sym no_task) (All-nil (FitsTask t known scope p)); leaves = subst L (sym no_leaf) (All-nil (ShowsUnder t known scope p)) }));
       there = (h Accept there).keeps.there (subst Q (sym no_task) (All-nil (AreThere t.chains)));
+      decided = (let S : List Leaf → Type 0 = λ ls. All (IsSurely known) ls in (h Accept there).keeps.decided (subst S (sym no_leaf) (All-nil (IsSurely known))));
     }
 
 -- one step of the loop
@@ -457,6 +469,7 @@ begun_next t known hook scope old new begins (policy, task, left, up, (next, fur
       (belongs.0, (further.waits p can belongs.0 (record { own = there; reaches = belongs.1 })).reaches))
       (record { tasks = split.0; leaves = subst L (sym up.leaves) before.leaves }));
   there = moves.keeps.there (All-pop (AreThere t.chains) old.tasks.items left.tasks.items (Some task) up.tasks begins.there).0;
+  decided = (let S : List Leaf → Type 0 = λ ls. All (IsSurely known) ls in moves.keeps.decided (subst S (sym up.leaves) begins.decided));
 }
   where
     by_case : (p : Packet) → IsAtHook p → p.hook ≡ hook → IsOf known p scope → IsAccounted t known p old → IsAccounted t known p new

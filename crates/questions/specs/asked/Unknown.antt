@@ -6,12 +6,17 @@ use Rattle.rules.specs.rule.Crossing.{asks_both}
 use Rattle.table.specs.chains.Table.{Table}
 use Rattle.table.specs.declared.walk.trail.Step.{Step}
 use Rattle.questions.specs.Ends.{rule_at}
+use Rattle.questions.specs.Foreign.{Assignment}
+use Rattle.questions.specs.Scopes.{answered, known_by, table_of}
 use Rattle.questions.specs.asked.Reason.{IsLed}
 use Rattle.questions.specs.boxes.Area.{IsBoth}
 use Rattle.questions.specs.declared.asked.reach.Given.{Given}
+use Rattle.questions.specs.declared.foreign.subject.Subject.{Subject}
+use Rattle.questions.specs.declared.walking.scope.Scope.{Scope}
 use Rattle.questions.specs.declared.walking.task.Leaf.{Leaf}
-use Rattle.questions.specs.steps.Exact.{AreExactWalks, IsMet}
-use Rattle.questions.specs.steps.Taken.{IsUnfinished}
+use Rattle.questions.specs.steps.Meant.{IsScopeAt}
+use Rattle.questions.specs.steps.Exact.{AreExactWalks, AreExactWalksUnder, IsMet}
+use Rattle.questions.specs.steps.Taken.{IsUnfinished, IsUnfinishedUnder}
 use Rattle.questions.specs.steps.Takers.{IsBoxAt}
 
 -- the packets can't all be walked within the budget
@@ -34,3 +39,25 @@ IsUndecidedAt t step budget hook =
 -- `IsUndecidedAt` holds at some hook from which jumps and gotos lead to the rule's chain
 abbrev pub IsUndecided : Table → Step → ℕ → Type 0
 IsUndecided t step budget = (hook : Hook) × IsLed t step hook × IsUndecidedAt t step budget hook
+
+-- whatever holds, the packets of the scope can't all be walked within the budget
+abbrev pub CantBeWalkedUnder : Subject → Hook → Scope → ℕ → Type 0
+CantBeWalkedUnder subject hook scope budget = (a : Assignment) → IsUnfinishedUnder (answered subject a) (known_by subject a) hook scope budget
+
+-- whatever holds, the packets of the scope have exactly the walks of these leaves; and the rule is on one of them
+abbrev pub IsOnSome : Subject → Hook → Scope → Step → Type 0
+IsOnSome subject hook scope step =
+    (leaves : List Leaf) × ((a : Assignment) → AreExactWalksUnder (answered subject a) (known_by subject a) hook scope leaves)
+    × Any (λ (leaf : Leaf). Contains leaf.trail.items step) leaves
+
+-- the rule has a condition on both ports; or the packets that its box has at the hook can't all be walked, under answers that are right just where all
+-- holds that it needs; or the rule is on the walk of some of them
+abbrev pub IsUndecidedAtUnder : Subject → Step → ℕ → Hook → Type 0
+IsUndecidedAtUnder subject step budget hook =
+    (asks_both (rule_at (table_of subject) step) ≡ true)
+    ⊎ ((scope : Scope) × IsScopeAt (table_of subject) subject.needs.now step hook scope
+    × (CantBeWalkedUnder subject hook scope budget ⊎ IsOnSome subject hook scope step))
+
+-- `IsUndecidedAtUnder` holds at some hook from which jumps and gotos lead to the rule's chain
+abbrev pub IsUndecidedUnder : Subject → Step → ℕ → Type 0
+IsUndecidedUnder subject step budget = (hook : Hook) × IsLed (table_of subject) step hook × IsUndecidedAtUnder subject step budget hook

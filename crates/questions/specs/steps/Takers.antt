@@ -1,15 +1,11 @@
--- Which rules and policies decide the packets that a rule matches.
-use Rattle.std.specs.Prelude.{◌≡◌, ◌⊎◌, true, List, Option, None, All, AllPairs, Any, Contains, MatchOption, IsTrue}
+-- The packets that a rule matches, and which rules and policies decide some leaves.
+use Rattle.std.specs.Prelude.{◌≡◌, ◌⊎◌, true, Option, None, List, All, AllPairs, Any, Contains, MatchOption}
 use Rattle.fields.specs.declared.packet.hook.Hook.{Hook}
 use Rattle.fields.specs.packet.Packet.{PacketView as Packet, IsPacket}
 use Rattle.rules.specs.rule.Allows.{allows_each, matches}
 use Rattle.table.specs.chains.Table.{Table}
 use Rattle.table.specs.declared.walk.trail.Step.{Step}
-use Rattle.table.specs.walk.Walk.{walk}
-use Rattle.questions.specs.Ends.{IsRule, rule_at, step_of}
-use Rattle.questions.specs.Leaves.{EndsIn, entry_of, walked_of}
-use Rattle.questions.specs.asked.Reason.{IsDecidedAmong, IsDecidedBy, IsLed, IsMeantFor}
-use Rattle.questions.specs.asked.Rule.{IsDeadAt}
+use Rattle.questions.specs.Ends.{rule_at, step_of}
 use Rattle.questions.specs.boxes.Area.{HasOwnInterfaces, IsAtHook, IsIn}
 use Rattle.questions.specs.declared.asked.reach.Given.{Given}
 use Rattle.questions.specs.declared.asked.takers.Takers.{Takers}
@@ -27,20 +23,6 @@ pub record IsBoxAt (t : Table) (step : Step) (hook : Hook) (given : Given) : Typ
   pub there : given.hook ≡ hook
   pub all : (p : Packet) → IsMatchedAt t step hook p → IsIn given.area p
   pub only : (p : Packet) → IsPacket p → p.hook ≡ hook → IsIn given.area p → HasOwnInterfaces p × (allows_each p.values (rule_at t step) ≡ true)
-
--- each packet at the hook that the rule matches is in some leaf, and its walk is the one that the leaf shows
-abbrev pub AreWalksOf : Table → Step → Hook → List Leaf → Type 0
-AreWalksOf t step hook leaves = (p : Packet) → IsMatchedAt t step hook p → Any (EndsIn t p) leaves
-
--- some packet at the hook that the rule matches has the walk that the leaf shows
-abbrev pub IsWalked : Table → Step → Hook → Leaf → Type 0
-IsWalked t step hook leaf = (p : Packet) × IsMatchedAt t step hook p × (walk t p ≡ walked_of t.chains leaf)
-
--- the rule is on the walk of no packet at the hook, and the leaves show exactly the walks of the packets that it matches
-pub record AreBefore (t : Table) (step : Step) (hook : Hook) (leaves : List Leaf) : Type 0 where
-  pub dead : IsDeadAt t (entry_of t.chains step) hook
-  pub all : AreWalksOf t step hook leaves
-  pub each : All (IsWalked t step hook) leaves
 
 -- this rule is among the deciders or, where no rule is given, the policy of the hook is
 abbrev pub IsAmong : Takers → Hook → Option Step → Type 0
@@ -68,18 +50,3 @@ pub record TakesAll (own : Hook) (leaves : List Leaf) (old new : Takers) : Type 
   pub grows : Grows old new
   pub added : All (λ leaf. IsAmong new own (step_of leaf)) leaves
   pub only : (hook : Hook) (by : Option Step) → IsAmong new hook by → IsAmong old hook by ⊎ Any (λ leaf. IsByThis own leaf hook by) leaves
-
--- this rule, or the policy of this hook, decides a packet that might come to the rule and would match it
-abbrev pub TakesOne : Table → Step → Hook → Option Step → Type 0
-TakesOne t step hook by =
-    (p : Packet) × IsMeantFor t step p × MatchOption by ((p.hook ≡ hook) × IsTrue (walk t p).by_policy) (λ taker. IsRule t taker × IsDecidedBy t p taker)
-
--- each of the deciders decides such a packet
-abbrev pub AllTake : Table → Step → Takers → Type 0
-AllTake t step takers = (hook : Hook) (by : Option Step) → IsAmong takers hook by → TakesOne t step hook by
-
--- the rule is dead at the hook and, where this leads to the rule's chain, the packets there that it matches are decided by one of
--- these
-pub record IsTakenAt (t : Table) (step : Step) (takers : Takers) (hook : Hook) : Type 0 where
-  pub dead : IsDeadAt t (entry_of t.chains step) hook
-  pub decided : IsLed t step hook → (p : Packet) → IsMatchedAt t step hook p → IsDecidedAmong t takers p

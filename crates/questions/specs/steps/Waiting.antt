@@ -1,5 +1,5 @@
 -- Boxes on their way through the table, and those that are at its end.
-use Rattle.std.specs.Prelude.{◌≡◌, ◌⊎◌, ℕ, ◌+◌, ◌<◌, List, [], ◌∷◌, length, map, reverse, slice_index_or, All, Any}
+use Rattle.std.specs.Prelude.{◌≡◌, ◌⊎◌, ℕ, ◌+◌, ◌-◌, ◌<◌, List, [], ◌∷◌, length, map, reverse, slice_get, slice_index_or, All, Any, IfSome, IsTrue}
 use Rattle.fields.specs.declared.packet.hook.Hook.{Hook}
 use Rattle.fields.specs.numbers.Spans.{SpanSet}
 use Rattle.fields.specs.packet.Hook.{name as hook_name}
@@ -7,6 +7,7 @@ use Rattle.fields.specs.packet.Packet.{PacketView as Packet}
 use Rattle.rules.specs.rule.Rules.{Rule, empty_rule}
 use Rattle.table.specs.chains.Table.{Chain, Table, chain_at, names_of}
 use Rattle.table.specs.declared.verdict.Verdict.{Verdict}
+use Rattle.table.specs.declared.walk.trail.Step.{Step}
 use Rattle.table.specs.walk.Cases.{Stage, Under, GoesTo}
 use Rattle.table.specs.walk.Walk.{Rest, Entry, end_verdict, whole}
 use Rattle.questions.specs.boxes.Area.{IsAtHook}
@@ -14,7 +15,7 @@ use Rattle.questions.specs.boxes.Cut.{IsInSome}
 use Rattle.questions.specs.Foreign.{Agrees}
 use Rattle.questions.specs.declared.foreign.answers.Answer.{Answer}
 use Rattle.questions.specs.Leaves.{name_at}
-use Rattle.questions.specs.Scopes.{EndsUnder, IsOf, Known, ShowsUnder, entries_by}
+use Rattle.questions.specs.Scopes.{EndsUnder, IsOf, IsSurely, Known, ShowsUnder, entries_by, is_met}
 use Rattle.questions.specs.declared.walking.task.Pending.{Pending}
 use Rattle.questions.specs.declared.walking.scope.Scope.{Scope}
 use Rattle.questions.specs.declared.walking.task.Task.{Task}
@@ -53,6 +54,10 @@ stage_of known chains task = Under (rests_of chains task.rests.items) (entries_b
 -- where they are with what is left of one more chain
 abbrev pub stage_at : Known → List Chain → Pending → Task → Stage
 stage_at known chains at task = Under (rest_of chains at ∷ rests_of chains task.rests.items) (entries_by known chains task.trail.items)
+
+-- all holds that the last rule of a trail needs
+abbrev pub IsLastMet : Known → List Step → Type 0
+IsLastMet known trail = IfSome (slice_get trail (length trail - 1)) (λ step. IsTrue (is_met known step))
 
 -- the packet is in a task
 abbrev pub WaitsIn : Table → Known → Packet → Task → Type 0
@@ -96,10 +101,11 @@ pub record IsAsked (t : Table) (policy : Verdict) (p : Packet) : Type 0 where
   pub at_hook : IsAtHook p
   pub ends : end_verdict t p ≡ policy
 
--- each packet that was accounted for still is
+-- each packet that was accounted for still is; all chains that wait are still there; and rules that decide leaves still have all that they need
 pub record Keeps (t : Table) (known : Known) (old new : Front) : Type 0 where
   pub kept : (p : Packet) → IsAccounted t known p old → IsAccounted t known p new
   pub there : AllThere t.chains old → AllThere t.chains new
+  pub decided : All (IsSurely known) old.leaves.items → All (IsSurely known) new.leaves.items
 
 -- each packet of the scope whose walk gets to the stage is accounted for, and so is each that was before; and a packet that was only in scopes
 -- that fit it still is
@@ -123,8 +129,10 @@ pub record PassesOver (t : Table) (known : Known) (policy : Verdict) (boxes : Li
 abbrev pub entry_before : List Chain → Pending → Entry
 entry_before chains at = record { chain = name_at chains at.chain; number = at.passed }
 
--- each packet of a scope that can be at the hook is accounted for, and only in scopes that fit it
+-- each packet of a scope that can be at the hook is accounted for, and only in scopes that fit it; all chains that wait are there; and rules that
+-- decide leaves have all that they need
 pub record Begins (t : Table) (known : Known) (hook : Hook) (scope : Scope) (front : Front) : Type 0 where
   pub all : (p : Packet) → IsAtHook p → p.hook ≡ hook → IsOf known p scope → IsAccounted t known p front
   pub fits : (p : Packet) → IsAtHook p → p.hook ≡ hook → IsFitting t known scope p front
   pub there : AllThere t.chains front
+  pub decided : All (IsSurely known) front.leaves.items

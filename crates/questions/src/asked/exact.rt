@@ -1,19 +1,22 @@
 //! The leaves of a set of packets, cut into boxes that have only packets which can be at the hook.
-ghost use Rattle.std.specs.Prelude.{IfOk, MatchOption, OnOk};
+ghost use Rattle.std.specs.Prelude.{All, IfOk, MatchOption, OnOk};
+ghost use Rattle.fields.specs.declared.packet.hook.Hook.{Hook as HookView};
 ghost use Rattle.table.specs.chains.Table.{Table};
-ghost use Rattle.questions.specs.Leaves.{AreExactOn};
-ghost use Rattle.questions.specs.asked.Unknown.{CantBeWalked};
-ghost use Rattle.questions.specs.declared.asked.reach.Given.{Given as Packets};
-ghost use Rattle.questions.specs.steps.Exact.{AddsExact, AreExact, AreExactWalks, IsPartIn, IsShown};
+ghost use Rattle.questions.specs.Foreign.{Assignment};
+ghost use Rattle.questions.specs.Scopes.{Known, answered, known_by};
+ghost use Rattle.questions.specs.declared.walking.scope.Scope.{Scope as ScopeView};
+ghost use Rattle.questions.specs.steps.Exact.{AddsExact, AreExact, AreExactWalksUnder, IsPartIn, IsShown};
+ghost use Rattle.questions.specs.steps.Taken.{IsUnfinishedUnder};
 ghost use Rattle.questions.specs.steps.Transports.{AreByTransport};
 
-use crate::asked::reach::Given;
 use crate::boxes::area::Area;
-use crate::boxes::boxed_table::BoxedTable;
 use crate::boxes::meeting::meet;
 use crate::boxes::transport::by_transport;
-use crate::walking::engine::leaves;
+use crate::foreign::subject::Subject;
+use crate::walking::engine::leaves_under;
+use crate::walking::scope::Scope;
 use crate::walking::task::{Leaf, copy_trail};
+use fields::Hook;
 use std::alloc::{AllocError, Global};
 
 // The part of a leaf that is in a box, if it has packets. It takes no memory where the boxes share none.
@@ -41,8 +44,8 @@ fn part_of(leaf: &Leaf, area: &Area) -> Result<Option<Leaf>, AllocError>
 
 // Adds the parts of a leaf that are in some boxes.
 fn add_parts(possible: &[Area], leaf: &Leaf, exact: &mut Vec<Leaf>) -> Result<(), AllocError>
-    ensures { OnOk result ((t : Table) (given : Packets) → AreByTransport given.area possible.now → IsShown t given leaf.now
-        → AddsExact t given leaf.now exact.old.items exact.new.items) }
+    ensures { OnOk result ((t : Table) (known : Known) (hook : HookView) (scope : ScopeView) → AreByTransport scope.area possible.now
+        → IsShown t known hook scope leaf.now → AddsExact t known hook scope leaf.now exact.old.items exact.new.items) }
 {
     for area in possible {
         match part_of(leaf, area)? {
@@ -53,31 +56,34 @@ fn add_parts(possible: &[Area], leaf: &Leaf, exact: &mut Vec<Leaf>) -> Result<()
     Ok(())
 }
 
-// The packets that some leaves share with a box, as boxes of packets that can be at the hook.
-fn exact_of(alloc: Global, given: &Given, found: &[Leaf]) -> Result<Vec<Leaf>, AllocError>
-    ensures { IfOk result (λ exact. (t : Table) → AreExactOn t given.now.hook given.now.area found.now → AreExact t given.now found.now exact.items) }
+// The packets that some leaves share with a box, which is given by its packets with each transport header, as boxes of packets that can be
+// at the hook.
+fn exact_of(alloc: Global, possible: &[Area], found: &[Leaf]) -> Result<Vec<Leaf>, AllocError>
+    ensures { IfOk result (λ exact. (t : Table) (known : Known) (hook : HookView) (scope : ScopeView) → AreByTransport scope.area possible.now
+        → All (IsShown t known hook scope) found.now → AreExact t known hook scope found.now exact.items) }
 {
-    let possible = by_transport(alloc, &given.area)?;
     let mut exact = Vec::new(alloc);
     for leaf in found {
-        add_parts(possible.as_slice(), leaf, &mut exact)?;
+        add_parts(possible, leaf, &mut exact)?;
     }
     Ok(exact)
 }
 
-// The walks of all packets of a box that can be at a hook, as boxes of such packets; none where the box can't be walked within the budget.
+// The walks of all packets of a scope that can be at a hook, as boxes of such packets; none where the scope can't be walked within the budget.
 pub(crate) fn exact_walks(
     alloc: Global,
-    subject: &BoxedTable,
-    given: &Given,
+    subject: &Subject<'_>,
+    hook: Hook,
+    start: Scope,
     budget: usize,
 ) -> Result<Option<Vec<Leaf>>, AllocError>
-    ensures { IfOk result (λ found. MatchOption found
-        (CantBeWalked subject.now.table.table given.now budget) (λ exact. AreExactWalks subject.now.table.table given.now exact.items)) }
+    ensures { IfOk result (λ found. (a : Assignment) → MatchOption found
+        (IsUnfinishedUnder (answered subject.now a) (known_by subject.now a) hook start budget)
+        (λ exact. AreExactWalksUnder (answered subject.now a) (known_by subject.now a) hook start exact.items)) }
 {
-    let start = given.area.copy(alloc)?;
-    match leaves(alloc, subject, given.hook, start, budget)? {
+    let possible = by_transport(alloc, &start.area)?;
+    match leaves_under(alloc, subject, hook, start, budget)? {
         None => Ok(None),
-        Some(found) => Ok(Some(exact_of(alloc, given, found.as_slice())?)),
+        Some(found) => Ok(Some(exact_of(alloc, possible.as_slice(), found.as_slice())?)),
     }
 }

@@ -8,6 +8,10 @@ use crate::asked::exact::exact_walks;
 use crate::asked::reached::{Reached, grouped};
 use crate::boxes::area::Area;
 use crate::boxes::boxed_table::BoxedTable;
+use crate::foreign::answers::Answers;
+use crate::foreign::need::Needs;
+use crate::foreign::subject::Subject;
+use crate::walking::scope::Scope;
 use fields::{Field, Hook};
 use std::alloc::{AllocError, Global};
 
@@ -52,8 +56,17 @@ pub fn reach(
         (MetCantBeWalked subject.now.table.table given.now budget) (λ reached. IsReach subject.now.table.table given.now field reached.items)) }
 {
     subject.table.stands();
-    let asked = met(alloc, given)?;
-    match exact_walks(alloc, subject, &asked, budget)? {
+    let Given { hook, area } = met(alloc, given)?;
+    let needs = Needs::none(alloc);
+    let subject = Subject {
+        boxed: subject,
+        needs: &needs,
+    };
+    let start = Scope {
+        area,
+        answers: Answers::none(alloc),
+    };
+    match exact_walks(alloc, &subject, hook, start, budget)? {
         None => Ok(None),
         Some(exact) => Ok(Some(grouped(alloc, field, exact.as_slice())?)),
     }

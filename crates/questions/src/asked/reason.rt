@@ -2,16 +2,21 @@
 ghost use Rattle.std.specs.Prelude.{◌≡◌, ◌≢◌, ◌<◌, ◌≤◌, [], false, length, IfOk, IsTrue, MatchOption};
 ghost use Rattle.fields.specs.declared.numbers.field.Field.{Field as FieldView};
 ghost use Rattle.rules.specs.boxing.Boxed.{set_on};
-ghost use Rattle.table.specs.chains.Table.{Table as Filter, chain_at};
+ghost use Rattle.table.specs.chains.Table.{chain_at};
 ghost use Rattle.table.specs.declared.walk.trail.Step.{Step as Place};
 ghost use Rattle.questions.specs.Ends.{IsRule};
-ghost use Rattle.questions.specs.asked.Reason.{Explains, HasPacket, IsReason, IsTaken};
-ghost use Rattle.questions.specs.asked.Unknown.{IsUndecided};
+ghost use Rattle.questions.specs.Scopes.{table_of};
+ghost use Rattle.questions.specs.asked.Reason.{Explains};
+ghost use Rattle.questions.specs.asked.Unknown.{IsUndecided, IsUndecidedUnder};
+ghost use Rattle.questions.specs.asked.Why.{ExplainsUnder, HasPacketUnder, IsReasonUnder, IsTakenUnder};
+ghost use Rattle.questions.specs.declared.foreign.subject.Subject.{Subject as SubjectView};
 
 use crate::asked::leading::{leading_to, none_led};
 use crate::asked::takers::{Takers, takers_of};
 use crate::asked::ways::ways_into;
 use crate::boxes::boxed_table::BoxedTable;
+use crate::foreign::need::Needs;
+use crate::foreign::subject::Subject;
 use fields::Field;
 use rules::Boxed;
 use std::alloc::{AllocError, Global};
@@ -24,7 +29,8 @@ pub enum Reason {
     Impossible(Field),
     /// No jumps and gotos lead from a built-in chain to the rule's chain.
     Unreached,
-    /// The rule matches no packet that can be at a hook from whose chain jumps and gotos lead to the rule's chain.
+    /// The rule matches no packet that can be at a hook from whose chain jumps and gotos lead to the rule's chain, or what the rule needs
+    /// contradicts itself.
     NoPacket,
     /// The rule's chain is one of some chains in which no walk begins, and just these rules of other chains jump or
     /// go to one of them. No packet is matched by one of these rules and by the rule.
@@ -49,8 +55,8 @@ fn bare_field(boxed: &Boxed) -> Option<Field>
 
 // Whether they decide no packet.
 fn decide_nothing(takers: &Takers) -> bool
-    ensures none { IsTrue result → (t : Filter) (step : Place) → IsTaken t step takers.now → HasPacket t step → ⊥ }
-    ensures some { result ≡ false → (t : Filter) (step : Place) → IsTaken t step takers.now → HasPacket t step }
+    ensures none { IsTrue result → (subject : SubjectView) (step : Place) → IsTakenUnder subject step takers.now → HasPacketUnder subject step → ⊥ }
+    ensures some { result ≡ false → (subject : SubjectView) (step : Place) → IsTakenUnder subject step takers.now → HasPacketUnder subject step }
 {
     if !takers.policies.as_slice().is_empty() {
         return false;
@@ -61,17 +67,17 @@ fn decide_nothing(takers: &Takers) -> bool
 // The reason that they are, if they decide anything and the rules that lead to the rule's chain let some of its packets through.
 fn reason_by(
     alloc: Global,
-    subject: &BoxedTable,
+    subject: &Subject<'_>,
     step: Step,
     takers: Takers,
 ) -> Result<Reason, AllocError>
-    requires { IsRule subject.now.table.table step }
-    ensures { IfOk result (λ reason. IsTaken subject.now.table.table step takers → IsReason subject.now.table.table step reason) }
+    requires { IsRule (table_of subject.now) step }
+    ensures { IfOk result (λ reason. IsTakenUnder subject.now step takers → IsReasonUnder subject.now step reason) }
 {
     if decide_nothing(&takers) {
         return Ok(Reason::NoPacket);
     }
-    match ways_into(alloc, subject, step)? {
+    match ways_into(alloc, subject.boxed, step)? {
         Some(ways) => Ok(Reason::Excluded(ways)),
         None => Ok(Reason::Taken(takers)),
     }
@@ -103,16 +109,48 @@ pub fn why_dead(
         (IsUndecided subject.now.table.table (record { chain = place; number = number }) budget)
         (Explains subject.now.table.table (record { chain = place; number = number }))) }
 {
-    subject.table.stands();
+    let needs = Needs::none(alloc);
+    let subject = Subject {
+        boxed: subject,
+        needs: &needs,
+    };
+    why_dead_under(alloc, &subject, place, number, budget)
+}
+
+/// The same of a table whose rules need something: why the rule is dead, whatever holds. An answer speaks of the packets that the rule matches
+/// where all holds that it needs; if this contradicts itself, there are none. Each rule and policy that is named decides one where some
+/// conditions hold.
+///
+/// The packets of the rule's box walk under answers that are right just where all holds that the rule needs. A step is also one box that parts
+/// by a condition.
+///
+/// # Errors
+///
+/// `AllocError` where memory was refused.
+pub fn why_dead_under(
+    alloc: Global,
+    subject: &Subject<'_>,
+    place: usize,
+    number: usize,
+    budget: usize,
+) -> Result<Option<Reason>, AllocError>
+    requires place { place < length (table_of subject.now).chains }
+    requires first { 0 < number }
+    requires last { number ≤ length (chain_at (table_of subject.now) place).rules }
+    ensures { IfOk result (λ found. MatchOption found
+        (IsUndecidedUnder subject.now (record { chain = place; number = number }) budget)
+        (ExplainsUnder subject.now (record { chain = place; number = number }))) }
+{
+    subject.boxed.table.stands();
     let step = Step {
         chain: place,
         number,
     };
-    let boxed = subject.at(place, number);
+    let boxed = subject.boxed.at(place, number);
     if let Some(field) = bare_field(boxed) {
         return Ok(Some(Reason::Impossible(field)));
     }
-    let marks = leading_to(alloc, subject, place)?;
+    let marks = leading_to(alloc, subject.boxed, place)?;
     if none_led(marks.as_slice()) {
         return Ok(Some(Reason::Unreached));
     }

@@ -165,7 +165,8 @@ pub fn dead(
 /// on the packet's walk where they are right, whatever else holds.
 ///
 /// A step of the search is also one box that parts by a condition. A rule that hands over parts no box: the answers for it are given at the
-/// end. A packet is offered if its walks, for all assignments that give the answers, are known to end with `budget` steps more.
+/// end. A packet is offered if its walks, for all assignments that give the answers, are known to end with `budget` steps more. The first of
+/// the answers are shown, as few as are known to suffice, by as many steps for each.
 ///
 /// # Errors
 ///

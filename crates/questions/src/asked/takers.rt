@@ -3,17 +3,18 @@ ghost use Rattle.std.specs.Prelude.{IfOk, MatchOption, OnOk};
 ghost use Rattle.table.specs.chains.Table.{chain_at};
 ghost use Rattle.questions.specs.Ends.{IsRule};
 ghost use Rattle.questions.specs.Leaves.{entry_of};
-ghost use Rattle.questions.specs.asked.Reason.{IsTaken};
-ghost use Rattle.questions.specs.asked.Rule.{IsDead};
-ghost use Rattle.questions.specs.asked.Unknown.{IsUndecided, IsUndecidedAt};
+ghost use Rattle.questions.specs.Scopes.{table_of};
+ghost use Rattle.questions.specs.asked.Always.{IsAlwaysDead};
+ghost use Rattle.questions.specs.asked.Unknown.{IsUndecidedAtUnder, IsUndecidedUnder};
+ghost use Rattle.questions.specs.asked.Why.{IsTakenUnder};
+ghost use Rattle.questions.specs.steps.Deciding.{AreBefore};
 ghost use Rattle.questions.specs.steps.Leading.{AreLeading};
-ghost use Rattle.questions.specs.steps.Takers.{AreBefore};
 
 use crate::asked::exact::exact_walks;
 use crate::asked::leading::is_led;
-use crate::asked::matching::packets_of;
+use crate::asked::matching::scope_at;
 use crate::asked::rule::none_on;
-use crate::boxes::boxed_table::BoxedTable;
+use crate::foreign::subject::Subject;
 use crate::walking::task::Leaf;
 use fields::Hook;
 use std::alloc::{AllocError, Global};
@@ -60,26 +61,30 @@ impl Takers {
     }
 }
 
-// The walks of the packets at a hook that a rule matches, as boxes of packets that can be there, if the rule is on none. Of a
-// rule that asks both ports it isn't known which packets of its box it matches.
+// The walks of the packets at a hook that a rule matches where all holds that it needs, as boxes of packets that can be there, if the rule is
+// on none. There are none where what it needs contradicts itself. Of a rule that asks both ports it isn't known which packets of its box it
+// matches.
 fn walks_before(
     alloc: Global,
-    subject: &BoxedTable,
+    subject: &Subject<'_>,
     hook: Hook,
     step: Step,
     budget: usize,
 ) -> Result<Option<Vec<Leaf>>, AllocError>
-    requires { IsRule subject.now.table.table step }
+    requires { IsRule (table_of subject.now) step }
     ensures { IfOk result (λ found. MatchOption found
-        (IsUndecidedAt subject.now.table.table step budget hook) (λ leaves. AreBefore subject.now.table.table step hook leaves.items)) }
+        (IsUndecidedAtUnder subject.now step budget hook) (λ leaves. AreBefore subject.now step hook leaves.items)) }
 {
-    subject.table.stands();
-    let rule = subject.table.rule(step.chain, step.number);
+    let table = &subject.boxed.table;
+    table.stands();
+    let Some(start) = scope_at(alloc, subject, hook, step)? else {
+        return Ok(Some(Vec::new(alloc)));
+    };
+    let rule = table.rule(step.chain, step.number);
     if rule.asks_both() {
         return Ok(None);
     }
-    let given = packets_of(alloc, subject, hook, step)?;
-    let Some(found) = exact_walks(alloc, subject, &given, budget)? else {
+    let Some(found) = exact_walks(alloc, subject, hook, start, budget)? else {
         return Ok(None);
     };
     if !none_on(found.as_slice(), step) {
@@ -88,21 +93,22 @@ fn walks_before(
     Ok(Some(found))
 }
 
-// Who decides the packets that a rule would match, if it is dead. The marks are those of the chains that lead to the rule's chain.
+// Who decides the packets that a rule would match where all holds that it needs, if it is dead. The marks are those of the chains that lead to
+// the rule's chain.
 pub(crate) fn takers_of(
     alloc: Global,
-    subject: &BoxedTable,
+    subject: &Subject<'_>,
     step: Step,
     marks: &[bool],
     budget: usize,
 ) -> Result<Option<Takers>, AllocError>
-    requires step { IsRule subject.now.table.table step }
-    requires marks { AreLeading subject.now.table.table (chain_at subject.now.table.table step.chain).name marks.now }
+    requires step { IsRule (table_of subject.now) step }
+    requires marks { AreLeading (table_of subject.now) (chain_at (table_of subject.now) step.chain).name marks.now }
     ensures { IfOk result (λ found. MatchOption found
-        (IsUndecided subject.now.table.table step budget)
-        (λ takers. IsDead subject.now.table.table (entry_of subject.now.table.table.chains step) × IsTaken subject.now.table.table step takers)) }
+        (IsUndecidedUnder subject.now step budget)
+        (λ takers. IsAlwaysDead subject.now (entry_of (table_of subject.now).chains step) × IsTakenUnder subject.now step takers)) }
 {
-    subject.table.stands();
+    subject.boxed.table.stands();
     let mut takers = Takers {
         rules: Vec::new(alloc),
         policies: Vec::new(alloc),

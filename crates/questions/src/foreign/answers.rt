@@ -1,6 +1,6 @@
 //! Answers about conditions that this program doesn't know.
 ghost use Rattle.std.specs.Prelude.{◌≡◌, [], ◌∷◌, ◌++◌, Contains, IfNone, IfOk, IfSome, OnOk};
-ghost use Rattle.questions.specs.Foreign.{AreConsistent, IsUnanswered};
+ghost use Rattle.questions.specs.Foreign.{AreConsistent, IsGiven, IsUnanswered};
 
 use std::alloc::{AllocError, Global};
 use std::marker::Model;
@@ -47,6 +47,21 @@ impl Answers {
         ensures { result.now ≡ self.now }
     {
         self.listed.as_slice()
+    }
+
+    /// One more, about a condition. Whether it had none; else what it was answered stays.
+    ///
+    /// # Errors
+    ///
+    /// `AllocError` where memory was refused.
+    pub fn give(&mut self, condition: usize, holds: bool) -> Result<bool, AllocError>
+        ensures { IfOk result (λ is_new. IsGiven condition holds is_new self.old self.new) }
+    {
+        if self.to(condition).is_some() {
+            return Ok(false);
+        }
+        self.add(condition, holds)?;
+        Ok(true)
     }
 
     // No two of them are about one condition. It does nothing.

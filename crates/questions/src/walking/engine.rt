@@ -1,5 +1,5 @@
 //! The walk of a box through a table, step after step, until no box is left.
-ghost use Rattle.std.specs.Prelude.{◌≡◌, ◌≢◌, ◌<◌, length, IfOk, IfSome, MatchOption, OnOk};
+ghost use Rattle.std.specs.Prelude.{◌≡◌, ◌≢◌, ◌<◌, All, length, IfOk, IfSome, MatchOption, OnOk};
 ghost use Rattle.fields.specs.packet.Packet.{PacketView};
 ghost use Rattle.table.specs.declared.verdict.Verdict.{Verdict};
 ghost use Rattle.table.specs.declared.verdict.Verdict.TheVariants.{TooLong};
@@ -7,7 +7,7 @@ ghost use Rattle.table.specs.steps.Kept.{hook_index};
 ghost use Rattle.table.specs.walk.Walk.{end_verdict};
 ghost use Rattle.questions.specs.Foreign.{Assignment};
 ghost use Rattle.questions.specs.Leaves.{AreExactOn, AreLeavesOf};
-ghost use Rattle.questions.specs.Scopes.{AreExactUnder, AreLeavesUnder, answered, known_by, table_of};
+ghost use Rattle.questions.specs.Scopes.{AreExactUnder, AreLeavesUnder, IsSurely, answered, known_by, table_of};
 ghost use Rattle.questions.specs.steps.Taken.{IsFinished, IsFinishedUnder, IsFirst, IsUnfinished, IsUnfinishedUnder};
 ghost use Rattle.questions.specs.steps.Waiting.{AreThere, Begins, Moves, stage_of};
 
@@ -143,7 +143,8 @@ pub fn leaves(
 
 /// The same of a box under answers, whatever holds beside them: every packet of the box that can be at the hook, and every assignment that gives
 /// the answers, is in a leaf whose answers it gives, too; and each leaf has no others. Then the packet has the walk that the leaf shows in
-/// the table that is left by the assignment. The walk is the one of each assignment, so a step is also one box that parts by a condition.
+/// the table that is left by the assignment, and all holds that the rule needs which decides it. The walk is the one of each assignment, so a
+/// step is also one box that parts by a condition.
 ///
 /// # Errors
 ///
@@ -159,6 +160,7 @@ pub fn leaves_under(
         → AreLeavesUnder (answered subject.now a) (known_by subject.now a) hook start leaves.items)) }
     ensures exact { IfOk result (λ found. IfSome found (λ leaves. (a : Assignment)
         → AreExactUnder (answered subject.now a) (known_by subject.now a) hook start leaves.items)) }
+    ensures decided { IfOk result (λ found. IfSome found (λ leaves. (a : Assignment) → All (IsSurely (known_by subject.now a)) leaves.items)) }
     ensures steps { IfOk result (λ found. (a : Assignment) → MatchOption found
         (IsUnfinishedUnder (answered subject.now a) (known_by subject.now a) hook start budget)
         (λ leaves. IsFinishedUnder (answered subject.now a) (known_by subject.now a) hook start budget leaves.items)) }

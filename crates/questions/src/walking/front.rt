@@ -4,6 +4,7 @@ ghost use Rattle.table.specs.chains.Table.{Table as Filter};
 ghost use Rattle.table.specs.declared.verdict.Verdict.{Verdict};
 ghost use Rattle.table.specs.declared.verdict.Verdict.TheVariants.{TooLong};
 ghost use Rattle.table.specs.walk.Cases.{Over};
+ghost use Rattle.questions.specs.Foreign.{Agrees};
 ghost use Rattle.questions.specs.Scopes.{Known, entries_by};
 
 use crate::walking::scope::Scope;
@@ -20,7 +21,7 @@ pub(crate) struct Front {
 }
 
 impl Front {
-    ghost use Rattle.questions.specs.steps.Waiting.{AreThere, Moves, stage_of};
+    ghost use Rattle.questions.specs.steps.Waiting.{AreThere, IsLastMet, Moves, stage_of};
 
     // One task more.
     pub(crate) fn add_task(&mut self, task: Task) -> Result<(), AllocError>
@@ -41,6 +42,7 @@ impl Front {
         requires short { verdict ≢ TooLong }
         requires decided { by_policy ≡ false → 0 < length task.trail.items }
         ensures { OnOk result ((t : Filter) (known : Known) (policy : Verdict)
+            → (by_policy ≡ false → Agrees known.holds task.scope.answers → IsLastMet known task.trail.items)
             → Moves t known policy task.scope (Over (record { trail = entries_by known t.chains task.trail.items; verdict = verdict; by_policy = by_policy })) self.old self.new) }
     {
         let Task {

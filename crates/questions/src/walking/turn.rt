@@ -1,14 +1,15 @@
 //! Where the next rule sends the parts of a box.
-ghost use Rattle.std.specs.Prelude.{◌+◌, ◌<◌, ◌∷◌, [], ◌++◌, length, OnOk};
+ghost use Rattle.std.specs.Prelude.{◌⊎◌, ◌+◌, ◌<◌, ◌∷◌, [], ◌++◌, length, IsTrue, OnOk};
 ghost use Rattle.rules.specs.rule.Actions.{target_of};
 ghost use Rattle.table.specs.chains.Table.{Table as Filter, chain_at};
 ghost use Rattle.table.specs.declared.verdict.Verdict.{Verdict};
 ghost use Rattle.table.specs.walk.Cases.{Under, on_by};
 ghost use Rattle.table.specs.walk.Walk.{after_match, whole};
-ghost use Rattle.questions.specs.Foreign.{Assignment, IsUnanswered, needs_at};
-ghost use Rattle.questions.specs.Scopes.{Known, answered, entries_by, known_by, table_of};
+ghost use Rattle.questions.specs.Foreign.{Agrees, Assignment, IsUnanswered, needs_at};
+ghost use Rattle.questions.specs.Scopes.{Known, answered, entries_by, is_met, known_by, table_of};
+ghost use Rattle.questions.specs.steps.Ahead.{Stays};
 ghost use Rattle.questions.specs.steps.Branches.{CanAsk, IsBranch, target_at};
-ghost use Rattle.questions.specs.steps.Waiting.{AreNamedAlike, AreThere, IsThere, Moves, PassesOver, rest_of, rests_of, stage_at};
+ghost use Rattle.questions.specs.steps.Waiting.{AreNamedAlike, AreThere, IsLastMet, IsThere, Moves, PassesOver, rest_of, rests_of, stage_at};
 
 use crate::boxes::area::Area;
 use crate::boxes::cut::{Cut, cut_by};
@@ -70,6 +71,7 @@ fn turn(
 ) -> Result<(), AllocError>
     requires { 0 < length task.trail.items }
     ensures { OnOk result ((t : Filter) (known : Known) (policy : Verdict) → AreNamedAlike t table.now.table → IsThere t.chains behind → AreThere t.chains task
+        → (Agrees known.holds task.scope.answers → IsLastMet known task.trail.items ⊎ Stays target)
         → Moves t known policy task.scope
         (on_by (after_match target (rest_of t.chains behind) (rests_of t.chains task.rests.items)) (entries_by known t.chains task.trail.items))
         front.old front.new) }
@@ -95,6 +97,7 @@ fn follow(
     rule: &Rule,
 ) -> Result<(), AllocError>
     ensures { OnOk result ((t : Filter) (known : Known) (policy : Verdict) → AreNamedAlike t table.now.table → IsThere t.chains behind → AreThere t.chains task
+        → (Agrees known.holds task.scope.answers → IsTrue (is_met known (record { chain = behind.chain; number = behind.passed })) ⊎ Stays (target_of rule.now))
         → Moves t known policy task.scope
         (on_by (after_match (target_of rule.now) (rest_of t.chains behind) (rests_of t.chains task.rests.items))
         (entries_by known t.chains (task.trail.items ++ record { chain = behind.chain; number = behind.passed } ∷ [])))

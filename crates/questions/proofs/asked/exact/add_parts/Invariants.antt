@@ -1,14 +1,18 @@
-use Rattle.std.proofs.Common.{ℕ, List, All}
+use Rattle.std.proofs.Common.{All}
+use Rattle.fields.specs.declared.packet.hook.Hook.{Hook}
+use Rattle.fields.specs.packet.Packet.{PacketView as Packet}
 use Rattle.table.specs.chains.Table.{Table}
-use Rattle.questions.specs.declared.asked.reach.Given.{Given}
-use Rattle.questions.specs.steps.Exact.{AnyHas, IsExact, IsShown}
+use Rattle.questions.specs.Scopes.{Known}
+use Rattle.questions.specs.declared.walking.scope.Scope.{Scope}
+use Rattle.questions.specs.steps.Exact.{IsExactUnder, IsInAny, IsShown}
 use Rattle.questions.specs.steps.Transports.{AreByTransport}
 use Rattle.questions.proofs.laws.ExactLaws.{AreSharedBelow}
 use Rattle.questions.proofs.asked.exact.add_parts.Given as goal
 
 abbrev pub invariant-loop-area : goal.invariant-loop-area
 invariant-loop-area l = record {
-  each : (t : Table) (given : Given) → AreByTransport given.area l.possible → IsShown t given l.leaf → All (IsExact t given) l.initial.exact.items → All (IsExact t given) l.exact.items;
-  kept : (numbers : List ℕ) → AnyHas numbers l.initial.exact.items → AnyHas numbers l.exact.items;
-  shared : (given : Given) → AreByTransport given.area l.possible → AreSharedBelow given l.leaf l.exact.items l.area-index;
+  each : (t : Table) (known : Known) (hook : Hook) (scope : Scope) → AreByTransport scope.area l.possible → IsShown t known hook scope l.leaf → All (IsExactUnder t known hook scope) l.initial.exact.items
+      → All (IsExactUnder t known hook scope) l.exact.items;
+  kept : (known : Known) (p : Packet) → IsInAny known p l.initial.exact.items → IsInAny known p l.exact.items;
+  shared : (known : Known) (scope : Scope) → AreByTransport scope.area l.possible → AreSharedBelow known scope l.leaf l.exact.items l.area-index;
 }

@@ -1,14 +1,17 @@
-use Rattle.questions.proofs.laws.ExactLaws.{exact_copy, exact_walks_of}
+use Rattle.questions.specs.Scopes.{answered, known_by}
+use Rattle.questions.proofs.laws.ExactLaws.{all_shown, exact_walks_of}
 use Rattle.questions.proofs.asked.exact.exact_walks.Goals as goal
 
 pub returns-in-None : goal.returns-in-None
-returns-in-None c = (c.in_ok-start.start, c.in_ok-start.ensures, rw c.in-None.is at c.in_ok-leaves.ensures.steps)
+returns-in-None c = λ a. (rw c.in-None.is at c.in_ok-leaves_under.ensures.steps) a
 
-pub returns-in_ok-exact_of-in-Some : goal.returns-in_ok-exact_of-in-Some
-returns-in_ok-exact_of-in-Some c =
-    let t = c.args.subject.now.table.table in
-    let given = c.args.given.now in
-    let start = c.in_ok-start.start in
+pub returns : goal.returns
+returns c = λ a.
+    let t = answered c.args.subject.now a in
+    let known = known_by c.args.subject.now a in
+    let hook = c.args.hook in
+    let start = c.args.start in
     let found = c.in-Some.found.items in
-    exact_walks_of t given start found c.in_ok-exact_of-in-Some.field-0.items c.in_ok-start.ensures (rw c.in-Some.is at c.in_ok-leaves.ensures.leaves)
-    (rw c.as_slice.ensures.value at c.in_ok-exact_of-in-Some.ensures t (exact_copy t given start found c.in_ok-start.ensures (rw c.in-Some.is at c.in_ok-leaves.ensures.exact)))
+    let shown = all_shown t known hook start found ((rw c.in-Some.is at c.in_ok-leaves_under.ensures.exact) a) ((rw c.in-Some.is at c.in_ok-leaves_under.ensures.decided) a) in
+    exact_walks_of t known hook start found c.in_ok-exact_of-in-Some.field-0.items ((rw c.in-Some.is at c.in_ok-leaves_under.ensures.leaves) a)
+    (rw (c.as_slice.ensures.value, c.as_slice-in-Some.ensures.value) at c.in_ok-exact_of-in-Some.ensures t known hook start c.in_ok-possible.ensures shown)

@@ -1,7 +1,4 @@
-use Rattle.std.proofs.Common.{List, ap}
-use Rattle.table.specs.declared.walk.trail.Step.{Step}
-use Rattle.table.specs.walk.Walk.{Walked}
-use Rattle.questions.specs.Leaves.{entries_of}
+use Rattle.std.proofs.Common.{refl}
 use Rattle.questions.proofs.asked.exact.part_of.Goals as goal
 
 pub returns-then-not-meet : goal.returns-then-not-meet
@@ -14,7 +11,8 @@ pub returns : goal.returns
 returns c = record {
   both = rw c.sets-3.ensures.value at c.in_ok-part.ensures;
   some = c.is_empty.ensures.some c.if-is_empty.false;
-  shows = λ chains.
-      (let walked : List Step → Walked = λ steps. record { trail = entries_of chains steps; verdict = c.args.leaf.now.verdict; by_policy = c.args.leaf.now.by_policy } in
-      ap walked (rw c.as_slice.ensures.value at c.in_ok-trail.ensures));
+  answers = c.in_ok-answers.ensures;
+  trail = rw c.as_slice.ensures.value at c.in_ok-trail.ensures;
+  verdict = refl;
+  by_policy = refl;
 }

@@ -1,44 +1,8 @@
-use Rattle.std.proofs.Common.{◌≡◌, false, sym, ◌∙◌}
-use Rattle.std.proofs.lemmas.Bool.{true≢false}
-use Rattle.fields.specs.declared.packet.hook.Hook.{Hook}
-use Rattle.table.specs.chains.Table.{chain_at}
 use Rattle.table.specs.declared.walk.trail.Step.{Step}
-use Rattle.table.specs.steps.Kept.{hook_index}
-use Rattle.std.specs.Prelude.{slice_index_or}
-use Rattle.questions.specs.Ends.{IsRule}
-use Rattle.questions.specs.Leaves.{entry_of}
-use Rattle.questions.specs.asked.Reason.{IsUnreached}
-use Rattle.questions.specs.steps.Leading.{AreLeading}
-use Rattle.questions.proofs.laws.LeadLaws.{entry_led, hook_led}
-use Rattle.questions.proofs.laws.TakerLaws.{dead_of, impossible_of}
+use Rattle.questions.proofs.laws.WhyLaws.{plain_why}
 use Rattle.questions.proofs.asked.reason.why_dead.Goals as goal
-
-pub returns-in-Some : goal.returns-in-Some
-returns-in-Some c =
-    let t = c.args.subject.now.table.table in
-    let step : Step = record { chain = c.args.place; number = c.args.number } in
-    let is : IsRule t step = record { chain = c.requires.place; first = c.requires.first; last = c.requires.last } in
-    let none = rw c.in-Some.is at c.bare_field.ensures in
-    record {
-      dead = dead_of t step c.at-boxed.result.now c.in-Some.field c.stands.ensures.sound is c.at-boxed.ensures none;
-      why = impossible_of t step c.at-boxed.result.now c.in-Some.field c.at-boxed.ensures none;
-    }
-
-pub returns-then-none_led : goal.returns-then-none_led
-returns-then-none_led c =
-    let t = c.args.subject.now.table.table in
-    let step : Step = record { chain = c.args.place; number = c.args.number } in
-    let name = (chain_at t c.args.place).name in
-    let marks = c.in_ok-marks.marks.items in
-    let leading : AreLeading t name marks = c.in_ok-marks.ensures in
-    let unmarked : (hook : Hook) → slice_index_or marks (hook_index hook) false ≡ false = rw c.as_slice.ensures.value at (c.none_led.ensures.none c.if-none_led.true) in
-    let unreached : IsUnreached t step = λ hook led. true≢false (sym (hook_led t name marks hook c.stands.ensures.sound leading led) ∙ unmarked hook) in
-    record { dead = λ p can on. unreached p.hook (entry_led t p (entry_of t.chains step) on); why = unreached }
 
 pub returns : goal.returns
 returns c =
-    let both = rw c.in-Some-2.is at c.in_ok-takers_of.ensures in
-    record { dead = both.0; why = c.in_ok-reason_by-in-Some-2.ensures both.1 }
-
-pub returns-in-None : goal.returns-in-None
-returns-in-None c = rw c.in-None.is at c.in_ok-takers_of.ensures
+    let step : Step = record { chain = c.args.place; number = c.args.number } in
+    plain_why _ c.none-needs.ensures step c.args.budget c.why_dead_under.result c.why_dead_under.ensures

@@ -74,3 +74,9 @@ returns-in-None-clause-exact c = λ a. all_exact (answered c.args.subject.now a)
 
 pub returns-then-is_empty-clause-exact : goal.returns-then-is_empty-clause-exact
 returns-then-is_empty-clause-exact c = λ a. all_exact (answered c.args.subject.now a) (known_by c.args.subject.now a) c.args.hook c.args.start c.loop-taken.front (c.loop-taken.invariant.begins a)
+
+pub returns-in-None-clause-decided : goal.returns-in-None-clause-decided
+returns-in-None-clause-decided c = λ a. (c.loop-taken.invariant.begins a).decided
+
+pub returns-then-is_empty-clause-decided : goal.returns-then-is_empty-clause-decided
+returns-then-is_empty-clause-decided c = λ a. (c.loop-taken.invariant.begins a).decided

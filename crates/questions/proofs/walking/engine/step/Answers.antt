@@ -1,3 +1,4 @@
+use Rattle.std.proofs.lemmas.Bool.{true≢false}
 use Rattle.std.proofs.Common.{arith}
 use Rattle.std.proofs.lemmas.List.{nil_from_length}
 use Rattle.std.proofs.lemmas.List.Elements.{All-pop}
@@ -31,7 +32,7 @@ returns-in-None c =
     let known = known_by s a in
     let es = entries_by known t.chains c.args.task.trail.items in
     at_no_rest t known c.args.policy c.args.task.scope c.args.front.now c.add_leaf.new.self c.args.task.rests.items es (nil_from_length c.args.task.rests.items (omega (arith, c.in-None.ensures.cases.0, c.args.task.rests.ok.0)))
-    (ended t known c.args.policy c.args.task.scope c.args.front.now c.add_leaf.new.self es (h t known c.args.policy))) c.add_leaf.ensures
+    (ended t known c.args.policy c.args.task.scope c.args.front.now c.add_leaf.new.self es (h t known c.args.policy (λ rule. absurd (true≢false rule))))) c.add_leaf.ensures
 
 pub returns-else-at-rule_count : goal.returns-else-at-rule_count
 returns-else-at-rule_count c =

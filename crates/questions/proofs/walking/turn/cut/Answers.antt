@@ -8,7 +8,7 @@ use Rattle.questions.specs.Scopes.{answered, known_by, table_of}
 use Rattle.questions.specs.steps.Branches.{CanFollow}
 use Rattle.questions.specs.steps.Waiting.{rests_of}
 use Rattle.questions.proofs.laws.BoxesLaws.{own_box}
-use Rattle.questions.proofs.laws.BranchLaws.{apart_on, followed_on, parted_on, split_on}
+use Rattle.questions.proofs.laws.BranchLaws.{apart_on, followed_on, met_or_stays, parted_on, split_on}
 use Rattle.questions.proofs.laws.LookLaws.{rule_here}
 use Rattle.questions.proofs.laws.ResolvedLaws.{all_left, names_same, there_left}
 use Rattle.questions.proofs.walking.turn.cut.Goals as goal
@@ -43,7 +43,7 @@ returns-in-None c =
     followed_on s a c.stands.ensures.sound policy c.args.at c.requires.there rule c.requires.passed c.rule-rule.ensures (rests_of t.chains c.args.task.rests.items) c.args.task.trail.items
     c.args.task.scope.area c.in-Parts.inside c.args.task.scope.answers c.in-Parts.outside.items c.args.front.now c.pass_over.new.front c.follow.new.front cut can c.requires.room
     (c.in_ok-pass_over-in-Parts.ensures t known policy there all)
-    (h t known policy (names_same s.needs.now a own.chains) there all)) c.follow.ensures
+    (h t known policy (names_same s.needs.now a own.chains) there all (met_or_stays s a c.args.at c.args.task.scope.answers (target_of rule) can))) c.follow.ensures
 
 pub returns-in-Some : goal.returns-in-Some
 returns-in-Some c =

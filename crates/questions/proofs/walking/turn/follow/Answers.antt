@@ -1,6 +1,7 @@
+use Rattle.questions.proofs.laws.HeldLaws.{last_pushed}
 use Rattle.std.proofs.lemmas.Result.{on_ok_weaker}
 use Rattle.questions.proofs.walking.turn.follow.Goals as goal
 
 pub returns : goal.returns
 returns c =
-    on_ok_weaker c.turn.result (λ h t known policy names there all. rw (c.in_ok-push.ensures.items, c.target.ensures) at (h t known policy names there all)) c.turn.ensures
+    on_ok_weaker c.turn.result (λ h t known policy names there all met. rw (c.in_ok-push.ensures.items, c.target.ensures) at (h t known policy names there all (rw (c.in_ok-push.ensures.items, last_pushed, c.target.ensures) met))) c.turn.ensures

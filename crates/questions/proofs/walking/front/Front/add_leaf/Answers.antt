@@ -4,4 +4,4 @@ use Rattle.questions.proofs.walking.front.Front.add_leaf.Goals as goal
 
 pub returns : goal.returns
 returns c =
-    λ t known policy. leaf_moves t known policy c.args.self.now _ _ refl c.in_ok-push.ensures.items
+    λ t known policy met. leaf_moves t known policy c.args.self.now _ _ refl c.in_ok-push.ensures.items met
