@@ -3,7 +3,7 @@
 from places import command
 from refused import SESSION_WORDS
 
-COPY = f" {command('fit')} writes a copy for trials in which it always matches, or never does, as you state."
+COPY = f" iptaudit reads the dump as it is; {command('fit')} writes a copy for trials in which it always matches, or never does, as you state."
 PORTS = (b"--sport", b"--source-port", b"--dport", b"--destination-port",
          b"--sports", b"--source-ports", b"--dports", b"--destination-ports", b"--ports")
 ADDRESSES = (b"-s", b"--source", b"--src", b"-d", b"--destination", b"--dst")

@@ -62,6 +62,32 @@ BOTH_PORTS = ruleset(b"INPUT -p udp -m udp --sport 53 -j DROP", b"INPUT -p udp -
                      b"INPUT -p udp -m multiport --ports 53 -j ACCEPT")
 EMPTY = {"rules": [], "counts": counts(0, 0, 0, 0, 0)}
 
+# Dumps with conditions: one that the packet decides, those of places, of which two in one chain have one text, and a rule whose conditions
+# contradict each other.
+LIMIT = "limit --limit 3/min"
+LIMITED = ruleset(b"INPUT -m addrtype --dst-type LOCAL -j a", b"a -p tcp -m limit --limit 3/min -j LOG", b"a -p tcp -m limit --limit 3/min -j ACCEPT",
+                  b"b -m addrtype --dst-type LOCAL -m addrtype ! --dst-type LOCAL")
+REFUSED = LIMITED.replace(b"3/min -j ACCEPT", b"3/min -j REJECT")
+HERE, NOT_HERE = ({"condition": "addrtype --dst-type LOCAL", "holds": holds} for holds in (True, False))
+OPEN = [{"match": "limit", "count": 2}, {"match": "addrtype", "count": 1}]
+
+
+def limited(number, holds=True):
+    """An answer about the condition of a rule of the chain a."""
+    return {"condition": LIMIT, "chain": "a", "number": number, "holds": holds}
+
+
+def lived(life):
+    """The rules of LIMITED but for the last, each with a packet."""
+    found = [("INPUT", 1, "-j a", [HERE]), ("a", 1, "-p tcp -j LOG", [HERE, limited(1)]), ("a", 2, "-p tcp -j ACCEPT", [HERE, limited(2)])]
+    return [{"chain": chain, "number": number, "rule": f"-A {chain} {text}", "needs": answers[-1:], "life": life, "answers": answers, "packet": TCP_PACKET}
+            for chain, number, text, answers in found] + [BARE]
+
+
+BARE = {"chain": "b", "number": 1, "rule": "-A b", "needs": [HERE, NOT_HERE], "life": "dead"}
+FIRST, SECOND = ({"condition": LIMIT, "chain": "a", **nth, "holds": True} for nth in ({}, {"nth": 2}))
+TCP_PACKET = MAIL_PACKET.replace("dport=25", "dport=80")
+
 # The words after the question and --json, the files, standard input, the status, and the document but for its question.
 DOCUMENTS = {
     "dead": [
@@ -98,6 +124,8 @@ DOCUMENTS = {
             "rules": [rule("INPUT", 1, WEB, "unclear"), rule("INPUT", 2, NAMES, "unclear")], "counts": counts(2, 0, 2, 0, 0)}),
         (["R"], {"R": WITHOUT}, b"", 0, {"rules": [], "counts": counts(2, 0, 0, 0, 0)}),
         (["R"], {"R": b""}, b"", 0, EMPTY),
+        (["R"], {"R": LIMITED}, b"", 1, {
+            "rules": [{**BARE, "reason": {"kind": "unmet"}}], "counts": counts(4, 1, 0, 0, 0), "open": OPEN}),
     ],
     "compare": [
         (["O", "N"], {"O": GATEWAY, "N": WITHOUT}, b"", 0, {
@@ -137,6 +165,16 @@ DOCUMENTS = {
             "counts": changes(4, 0, 0)}),
         (["--steps", "0", "O", "N"], {"O": GATEWAY, "N": OTHER}, b"", 3, {
             "hooks": [{"hook": hook, "answer": "unclear"} for hook in ("INPUT", "FORWARD", "OUTPUT")], "counts": changes(1, 0, 1)}),
+        (["O", "N"], {"O": LIMITED, "N": REFUSED}, b"", 1, {
+            "hooks": [
+                {"hook": "INPUT", "answer": "differs", "packet": TCP_PACKET, "answers": [SECOND, HERE],
+                 "old": {"trail": [step("INPUT", 1), step("a", 1, answers=[FIRST]), step("a", 2)], "verdict": "ACCEPT", "by": step("a", 2)},
+                 "new": {"trail": [step("INPUT", 1), step("a", 1, answers=[FIRST]), step("a", 2)],
+                         "verdict": "REJECT icmp-port-unreachable", "by": step("a", 2)}},
+                {"hook": "FORWARD", "answer": "same"}, {"hook": "OUTPUT", "answer": "same"}],
+            "counts": changes(2, 0, 0), "open": OPEN, "premise": "answers_stay"}),
+        (["--when", "! limit --limit 3/min", "--when", "addrtype --dst-type LOCAL", "O", "N"], {"O": LIMITED, "N": REFUSED}, b"", 0, {
+            "hooks": [{"hook": hook, "answer": "same"} for hook in ("INPUT", "FORWARD", "OUTPUT")], "counts": changes(2, 2, 0)}),
     ],
     "tests": [
         (["R"], {"R": GATEWAY}, b"", 1, {
@@ -147,6 +185,7 @@ DOCUMENTS = {
         (["R"], {"R": ruleset(b"INPUT -i \"a'b\" -p icmp -j DROP")}, b"", 0, {
             "rules": [rule("INPUT", 1, "-i a'b -p icmp -j DROP", "live",
                            packet="packet INPUT src=192.0.2.1 dst=198.51.100.1 \"in=a\\'b\" proto=1 icmp=8/0 ct=NEW ttl=64")]}),
+        (["R"], {"R": LIMITED}, b"", 1, {"rules": lived("live"), "open": OPEN}),
     ],
     "cover": [
         (["R"], {"R": GATEWAY}, b"# Is the gateway reached?\n" + LOGIN, 1, {
@@ -154,6 +193,7 @@ DOCUMENTS = {
             "counts": coverage(3, 1, 1, 1, 0)}),
         (["--steps", "0", "R"], {"R": WITHOUT}, LOGIN, 3, {
             "rules": [rule("INPUT", 1, WEB, "covered"), rule("INPUT", 2, NAMES, "unclear")], "counts": coverage(2, 1, 0, 0, 1)}),
+        (["R"], {"R": LIMITED}, b"", 1, {"rules": lived("missed"), "counts": coverage(4, 0, 3, 1, 0), "open": OPEN}),
     ],
     "reach": [
         (["R", "INPUT", "in=eth0", "proto=tcp", "frag=0", "by=dport"], {"R": GATEWAY}, b"", 0, {
@@ -163,6 +203,18 @@ DOCUMENTS = {
         (["R", "FORWARD", "by=ttl"], {"R": ruleset(b"FORWARD -j REJECT --reject-with icmp-admin-prohibited")}, b"", 0, {
             "field": "ttl", "outcomes": [{"verdict": "REJECT icmp-admin-prohibited", "by": step("FORWARD", 1), "numbers": "all"}]}),
         (["--steps", "1", "R", "INPUT", "by=ct"], {"R": GATEWAY}, b"", 3, {"field": "ct", "unclear": True}),
+    ],
+    "walk": [
+        (["R"], {"R": GATEWAY}, LOGIN + b"# all\n", 0, {
+            "packets": [{"packet": LOGIN.decode().strip(), "walks": [{"verdict": "ACCEPT", "by": step("INPUT", 1)}]}]}),
+        (["R"], {"R": LIMITED}, LOGIN, 0, {
+            "packets": [{"packet": LOGIN.decode().strip(), "walks": [
+                {"answers": [HERE, limited(2)], "verdict": "ACCEPT", "by": step("a", 2)},
+                {"answers": [HERE, limited(2, False)], "verdict": "DROP", "by": {"policy": "INPUT"}},
+                {"answers": [NOT_HERE], "verdict": "DROP", "by": {"policy": "INPUT"}}]}],
+            "open": OPEN}),
+        (["--steps", "0", "R"], {"R": LIMITED}, LOGIN, 3, {"packets": [{"packet": LOGIN.decode().strip(), "unclear": True}], "open": OPEN}),
+        (["R"], {"R": LIMITED}, b"", 0, {"packets": [], "open": OPEN}),
     ],
 }
 

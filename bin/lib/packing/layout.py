@@ -27,6 +27,7 @@ COPIED = (
     ("CHANGELOG.md", "share/doc/iptsim"),
     ("LICENSE", "share/doc/iptsim"),
     ("examples/*", "share/doc/iptsim/examples"),
+    ("bin/lib/*.table", "lib/iptsim/lib"),
 )
 
 

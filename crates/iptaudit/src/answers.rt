@@ -2,88 +2,127 @@
 //! document.
 use crate::asked_packets::Asked;
 use crate::asking::Asking;
-use crate::assumptions::Repeating;
-use crate::difference::{ask_difference, difference_status, put_differences};
+use crate::covering::{Covered, read_covered};
+use crate::difference::{Pair, ask_difference, difference_status, put_differences};
 use crate::difference_entry::differences_answer;
 use crate::document::write_answer;
-use crate::each_rule::{Form, ask_rules};
+use crate::dump::{Dump, listed_needs};
+use crate::each_rule::{Course, Form, ask_rules};
 use crate::fault::Fault;
-use crate::marks::Marks;
+use crate::loading::load_dump;
+use crate::open_conditions::OpenConditions;
+use crate::open_counts::open_counts;
 use crate::outcomes::{outcomes_answer, put_outcomes, unclear_answer};
-use crate::packet_input::mark_packets;
+use crate::packet_walks::{ask_packets, packets_answer, put_packets};
+use crate::packets::read_packets;
 use crate::rules_answer::{put_rules, rules_answer};
+use dumps::Conditions;
 use fields::Tap;
-use programs::{Audit, ProgramFault, Question, buffered_input, load_from, open_file};
+use programs::{Audit, Question};
 use questions::BoxedTable;
-use sessions::Session;
-use std::io::{self, IsTerminal, Write};
+use std::io::{IsTerminal, Write};
 use std::rt::{Clock, Files};
-use table::Table;
 
-// A session that has restored a file. What was assumed when the file was made to load is repeated on `errors`.
-fn restored<'a, R, E>(rt: &R, errors: &E, file: &'a str) -> Result<Session, Fault<'a>>
+// A dump, and the conditions of its rules.
+#[derive(Drop)]
+struct One {
+    dump: Dump,
+    open: OpenConditions,
+}
+
+// Two dumps, and the conditions of their rules.
+#[derive(Drop)]
+struct Two {
+    old: Dump,
+    new: Dump,
+    open: OpenConditions,
+}
+
+// The dump of a file, with the answers of `--when`.
+fn one_dump<'a, R, E>(rt: &R, errors: &E, file: &'a str, when: &[&'a str]) -> Result<One, Fault<'a>>
 where
     R: Files + AllocGlobal,
     E: Print,
 {
-    let mut session = Session::new(rt.alloc())?;
-    let input = Repeating::new(open_file(rt, file)?, io::writer(errors));
-    match load_from(rt, errors, &mut session, file, input)? {
-        0 => Ok(session),
-        4 => Err(Fault::Program(ProgramFault::NoMemory)),
-        _ => Err(Fault::CannotRestore(file)),
-    }
+    let alloc = rt.alloc();
+    let loaded = load_dump(rt, errors, file)?;
+    let mut conditions = Conditions::new(alloc, &[&loaded.foreign])?;
+    let listed = listed_needs(alloc, file, &loaded, &mut conditions)?;
+    let open = OpenConditions::new(alloc, conditions, false, when)?;
+    let dump = Dump::new(alloc, loaded.boxed, listed, &open)?;
+    Ok(One { dump, open })
 }
 
-// The table that a file restores, with the boxes of its rules.
-fn subject_of<'a, R, E>(rt: &R, errors: &E, file: &'a str) -> Result<BoxedTable, Fault<'a>>
+// The dumps of two files, with the answers of `--when`. What a target sets may differ between them, so that its conditions can't be compared.
+fn two_dumps<'a, R, E>(
+    rt: &R,
+    errors: &E,
+    old: &'a str,
+    new: &'a str,
+    when: &[&'a str],
+) -> Result<Two, Fault<'a>>
 where
     R: Files + AllocGlobal,
     E: Print,
 {
-    let (table, mut work) = restored(rt, errors, file)?.into_parts();
-    Ok(BoxedTable::of(rt.alloc(), table, &mut work)?)
-}
-
-// Marks the rules that match a packet of standard input. There are no marks where a line of it was refused, whose fault was
-// written.
-fn marked<'a, R, E>(rt: &R, errors: &E, table: &Table) -> Result<Option<Marks>, Fault<'a>>
-where
-    R: Input + AllocGlobal,
-    E: Print,
-{
-    let mut marks = Marks::new(rt.alloc(), table)?;
-    let mut input = buffered_input(rt.alloc(), rt.reader())?;
-    if mark_packets(rt.alloc(), table, &mut input, errors, &mut marks)? {
-        return Ok(Some(marks));
+    let alloc = rt.alloc();
+    let first = load_dump(rt, errors, old)?;
+    let second = load_dump(rt, errors, new)?;
+    let mut conditions = Conditions::new(alloc, &[&first.foreign, &second.foreign])?;
+    let needed = listed_needs(alloc, old, &first, &mut conditions)?;
+    let needed_later = listed_needs(alloc, new, &second, &mut conditions)?;
+    if conditions.are_set() {
+        return Err(Fault::AreSet);
     }
-    Ok(None)
+    let open = OpenConditions::new(alloc, conditions, true, when)?;
+    Ok(Two {
+        old: Dump::new(alloc, first.boxed, needed, &open)?,
+        new: Dump::new(alloc, second.boxed, needed_later, &open)?,
+        open,
+    })
 }
 
 // Asks of each rule of a table, and answers the status.
 fn write_rules<'a, R: Clock, E: Print + IsTerminal, W: Write>(
     asking: &mut Asking<'_, R, E>,
-    subject: &BoxedTable,
+    course: Course<'_>,
+    json: bool,
+    output: &mut Tap<W>,
+) -> Result<u8, Fault<'a>> {
+    let found = ask_rules(asking, course)?;
+    let counts = open_counts(asking.alloc(), course.open)?;
+    let table = course.dump.table();
+    if json {
+        let answer = rules_answer(asking.alloc(), table, course, &found, counts.as_slice())?;
+        write_answer(asking.alloc(), &answer, output)?;
+    } else {
+        put_rules(table, course, &found, counts.as_slice(), output)?;
+    }
+    Ok(course.form.status(&found.tally))
+}
+
+// Asks of each rule of a dump, and answers the status.
+fn write_form<'a, R: Clock, E: Print + IsTerminal, W: Write>(
+    asking: &mut Asking<'_, R, E>,
+    one: &One,
     form: Form<'_>,
     json: bool,
     output: &mut Tap<W>,
 ) -> Result<u8, Fault<'a>> {
-    let found = ask_rules(asking, subject, form)?;
-    if json {
-        let answer = rules_answer(asking.alloc(), &subject.table, form, &found)?;
-        write_answer(asking.alloc(), &answer, output)?;
-    } else {
-        put_rules(&subject.table, form, &found, output)?;
-    }
-    Ok(form.status(&found.tally))
+    let course = Course {
+        form,
+        dump: &one.dump,
+        open: &one.open,
+    };
+    write_rules(asking, course, json, output)
 }
 
-// Asks which rules match none of the packets on standard input, and answers the status.
+// Asks which rules match none of the packets on standard input, and answers the status: 3 where the walks of one of these aren't known.
 fn write_cover<'a, R, E, W>(
     rt: &R,
     errors: &E,
     asking: &mut Asking<'_, R, E>,
-    subject: &BoxedTable,
+    one: &One,
     json: bool,
     output: &mut Tap<W>,
 ) -> Result<u8, Fault<'a>>
@@ -92,28 +131,60 @@ where
     E: Print + IsTerminal,
     W: Write,
 {
-    match marked(rt, errors, &subject.table)? {
-        Some(marks) => write_rules(asking, subject, Form::Cover(&marks), json, output),
-        None => Ok(2),
+    let Some(covered) = read_covered(rt, errors, asking, &one.dump, &one.open)? else {
+        return Ok(2);
+    };
+    let Covered { marks, is_clear } = covered;
+    let status = write_form(asking, one, Form::Cover(&marks), json, output)?;
+    Ok(if is_clear { status } else { 3 })
+}
+
+// Asks what becomes of the packets on standard input, and answers the status.
+fn write_walks<'a, R, E, W>(
+    rt: &R,
+    errors: &E,
+    asking: &mut Asking<'_, R, E>,
+    one: &One,
+    json: bool,
+    output: &mut Tap<W>,
+) -> Result<u8, Fault<'a>>
+where
+    R: Clock + Input + AllocGlobal,
+    E: Print + IsTerminal,
+    W: Write,
+{
+    let Some(packets) = read_packets(rt, errors)? else {
+        return Ok(2);
+    };
+    let (table, open, packets) = (one.dump.table(), &one.open, packets.as_slice());
+    let found = ask_packets(asking, &one.dump, open, packets)?;
+    let alloc = asking.alloc();
+    let counts = open_counts(alloc, open)?;
+    if json {
+        let answer = packets_answer(alloc, table, open, packets, &found, counts.as_slice())?;
+        write_answer(alloc, &answer, output)?;
+    } else {
+        put_packets(table, open, packets, &found, counts.as_slice(), output)?;
     }
+    Ok(found.status())
 }
 
 // Asks whether two tables give each packet the same verdict, and which of the rules by which they differ are dead, and answers the
 // status.
 fn write_differences<'a, R: Clock, E: Print + IsTerminal, W: Write>(
     asking: &mut Asking<'_, R, E>,
-    old: &BoxedTable,
-    new: &BoxedTable,
+    pair: Pair<'_>,
     json: bool,
     output: &mut Tap<W>,
 ) -> Result<u8, Fault<'a>> {
-    let found = ask_difference(asking, old, new)?;
-    let (old, new) = (&old.table, &new.table);
+    let found = ask_difference(asking, pair)?;
+    let alloc = asking.alloc();
+    let counts = open_counts(alloc, pair.open)?;
     if json {
-        let answer = differences_answer(asking.alloc(), old, new, &found)?;
-        write_answer(asking.alloc(), &answer, output)?;
+        let answer = differences_answer(alloc, pair, &found, counts.as_slice())?;
+        write_answer(alloc, &answer, output)?;
     } else {
-        put_differences(old, new, &found, output)?;
+        put_differences(pair, &found, counts.as_slice(), output)?;
     }
     Ok(difference_status(&found))
 }
@@ -142,11 +213,34 @@ fn write_outcomes<'a, R: Clock, E: Print + IsTerminal, W: Write>(
     Ok(if found.is_some() { 0 } else { 3 })
 }
 
+// Restores a file, and asks for the verdicts of a set of packets.
+fn answer_reach<'a, R, E, W>(
+    rt: &R,
+    errors: &E,
+    audit: &Audit<'a>,
+    file: &'a str,
+    asking: &mut Asking<'_, R, E>,
+    output: &mut Tap<W>,
+) -> Result<u8, Fault<'a>>
+where
+    R: Clock + Files + Input + AllocGlobal,
+    E: Print + IsTerminal,
+    W: Write,
+{
+    let asked = Asked::read(rt.alloc(), audit.words.as_slice())?;
+    let one = one_dump(rt, errors, file, audit.when.as_slice())?;
+    if one.open.len() > 0 {
+        return Err(Fault::HasConditions(file));
+    }
+    write_outcomes(asking, &one.dump.boxed, &asked, audit.json, output)
+}
+
 /// Restores the files of a question, writes its answer, and answers the status.
 ///
 /// # Errors
 ///
-/// Where a file cannot be restored, standard input fails, the words give no packets, memory was refused, or a write failed.
+/// Where a file cannot be restored, standard input fails, the words give no packets or no condition of a rule, memory was refused, or a write
+/// failed.
 pub(crate) fn answer<'a, R, E, W>(
     rt: &R,
     errors: &E,
@@ -160,28 +254,33 @@ where
     W: Write,
 {
     let json = audit.json;
+    let when = audit.when.as_slice();
     match audit.question {
         Question::Dead { file } => {
-            let subject = subject_of(rt, errors, file)?;
-            write_rules(asking, &subject, Form::Dead, json, output)
+            let one = one_dump(rt, errors, file, when)?;
+            write_form(asking, &one, Form::Dead, json, output)
         }
         Question::Tests { file } => {
-            let subject = subject_of(rt, errors, file)?;
-            write_rules(asking, &subject, Form::Tests, json, output)
+            let one = one_dump(rt, errors, file, when)?;
+            write_form(asking, &one, Form::Tests, json, output)
         }
         Question::Cover { file } => {
-            let subject = subject_of(rt, errors, file)?;
-            write_cover(rt, errors, asking, &subject, json, output)
+            let one = one_dump(rt, errors, file, when)?;
+            write_cover(rt, errors, asking, &one, json, output)
         }
         Question::Compare { old, new } => {
-            let old = subject_of(rt, errors, old)?;
-            let new = subject_of(rt, errors, new)?;
-            write_differences(asking, &old, &new, json, output)
+            let Two { old, new, open } = two_dumps(rt, errors, old, new, when)?;
+            let pair = Pair {
+                old: &old,
+                new: &new,
+                open: &open,
+            };
+            write_differences(asking, pair, json, output)
         }
-        Question::Reach { file } => {
-            let asked = Asked::read(rt.alloc(), audit.words.as_slice())?;
-            let subject = subject_of(rt, errors, file)?;
-            write_outcomes(asking, &subject, &asked, json, output)
+        Question::Reach { file } => answer_reach(rt, errors, audit, file, asking, output),
+        Question::Walk { file } => {
+            let one = one_dump(rt, errors, file, when)?;
+            write_walks(rt, errors, asking, &one, json, output)
         }
     }
 }

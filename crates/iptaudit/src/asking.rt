@@ -1,13 +1,14 @@
 //! The questions that are asked of tables, how many steps they may take, and how far they are.
 ghost use Rattle.std.specs.Prelude.{◌≡◌, ◌<◌, ◌≤◌, All, IfOk, IfSome, length};
 ghost use Rattle.fields.specs.numbers.Field.{top};
+ghost use Rattle.questions.specs.Scopes.{table_of};
 ghost use Rattle.table.specs.chains.Table.{chain_at};
 
 use crate::progress::Progress;
 use fields::{Field, Hook};
 use questions::{
-    BoxedTable, Changes, Given, Life, Likeness, Reached, Reason, changes_of, compare_at, dead,
-    reach, why_dead,
+    BoxedTable, Changes, Given, Leaf, Life, Likeness, Reached, Reason, Scope, Subject,
+    changes_under, compare_at_under, dead_under, leaves_under, reach, why_dead_under,
 };
 use std::alloc::{AllocError, Global};
 use std::io::IsTerminal;
@@ -64,61 +65,75 @@ impl<'a, R: Clock, E: Print + IsTerminal> Asking<'a, R, E> {
         self.progress.end();
     }
 
-    /// Whether a rule can match (`dead`).
+    /// Whether a rule can match (`dead_under`).
     ///
     /// # Errors
     ///
     /// `AllocError` where memory was refused.
-    pub(crate) fn life(&self, subject: &BoxedTable, at: Step) -> Result<Life, AllocError>
-        requires place { at.chain < length subject.now.table.table.chains }
+    pub(crate) fn life(&self, subject: &Subject<'_>, at: Step) -> Result<Life, AllocError>
+        requires place { at.chain < length (table_of subject.now).chains }
         requires first { 0 < at.number }
-        requires last { at.number ≤ length (chain_at subject.now.table.table at.chain).rules }
+        requires last { at.number ≤ length (chain_at (table_of subject.now) at.chain).rules }
     {
-        dead(self.alloc, subject, at.chain, at.number, self.steps)
+        dead_under(self.alloc, subject, at.chain, at.number, self.steps)
     }
 
-    /// Why a rule is dead, if that is known (`why_dead`).
+    /// Why a rule is dead, if that is known (`why_dead_under`).
     ///
     /// # Errors
     ///
     /// `AllocError` where memory was refused.
     pub(crate) fn reason(
         &self,
-        subject: &BoxedTable,
+        subject: &Subject<'_>,
         at: Step,
     ) -> Result<Option<Reason>, AllocError>
-        requires place { at.chain < length subject.now.table.table.chains }
+        requires place { at.chain < length (table_of subject.now).chains }
         requires first { 0 < at.number }
-        requires last { at.number ≤ length (chain_at subject.now.table.table at.chain).rules }
+        requires last { at.number ≤ length (chain_at (table_of subject.now) at.chain).rules }
     {
-        why_dead(self.alloc, subject, at.chain, at.number, self.steps)
+        why_dead_under(self.alloc, subject, at.chain, at.number, self.steps)
     }
 
-    /// Whether two tables give each packet at a hook the same verdict (`compare_at`).
+    /// Whether two tables give each packet at a hook the same verdict (`compare_at_under`).
     ///
     /// # Errors
     ///
     /// `AllocError` where memory was refused.
     pub(crate) fn likeness(
         &self,
-        old: &BoxedTable,
-        new: &BoxedTable,
+        old: &Subject<'_>,
+        new: &Subject<'_>,
         hook: Hook,
     ) -> Result<Likeness, AllocError> {
-        compare_at(self.alloc, old, new, hook, self.steps)
+        compare_at_under(self.alloc, old, new, hook, self.steps)
     }
 
-    /// The rules by which two tables differ (`changes_of`).
+    /// The rules by which two tables differ (`changes_under`).
     ///
     /// # Errors
     ///
     /// `AllocError` where memory was refused.
     pub(crate) fn changes(
         &self,
-        old: &BoxedTable,
-        new: &BoxedTable,
+        old: &Subject<'_>,
+        new: &Subject<'_>,
     ) -> Result<Changes, AllocError> {
-        changes_of(self.alloc, old, new)
+        changes_under(self.alloc, old, new)
+    }
+
+    /// The walks of the packets of a box (`leaves_under`), if they are known.
+    ///
+    /// # Errors
+    ///
+    /// `AllocError` where memory was refused.
+    pub(crate) fn leaves(
+        &self,
+        subject: &Subject<'_>,
+        hook: Hook,
+        start: Scope,
+    ) -> Result<Option<Vec<Leaf>>, AllocError> {
+        leaves_under(self.alloc, subject, hook, start, self.steps)
     }
 
     /// The verdicts of a set of packets, grouped by a field (`reach`), by their deciders in the order of a listing; those that a policy

@@ -15,17 +15,32 @@ pub(crate) enum Answer {
     Dead {
         rules: Vec<RuleEntry>,
         counts: Counts,
+        #[serde(skip_serializing_if = "Vec::is_empty")]
+        open: Vec<OpenEntry>,
     },
     Compare {
         hooks: Vec<HookEntry>,
         counts: ChangeCounts,
+        #[serde(skip_serializing_if = "Vec::is_empty")]
+        open: Vec<OpenEntry>,
+        #[serde(skip_serializing_if = "Option::is_none")]
+        premise: Option<Premise>,
     },
     Tests {
         rules: Vec<RuleEntry>,
+        #[serde(skip_serializing_if = "Vec::is_empty")]
+        open: Vec<OpenEntry>,
     },
     Cover {
         rules: Vec<RuleEntry>,
         counts: Counts,
+        #[serde(skip_serializing_if = "Vec::is_empty")]
+        open: Vec<OpenEntry>,
+    },
+    Walk {
+        packets: Vec<PacketEntry>,
+        #[serde(skip_serializing_if = "Vec::is_empty")]
+        open: Vec<OpenEntry>,
     },
     Reach {
         field: String,
@@ -39,6 +54,56 @@ pub(crate) enum Answer {
     },
 }
 
+/// How many conditions of a match are taken as open.
+#[derive(Drop, Serialize)]
+pub(crate) struct OpenEntry {
+    #[serde(rename = "match")]
+    pub(crate) name: String,
+    pub(crate) count: usize,
+}
+
+/// What an answer holds under beside its conditions.
+#[derive(Clone, Copy, Serialize)]
+#[serde(rename_all = "snake_case")]
+pub(crate) enum Premise {
+    /// Each condition of a place answers the same each time that one packet asks it.
+    AnswersStay,
+}
+
+/// Whether a condition holds. One of a place has its chain and, of one dump, the number of its rule.
+#[derive(Drop, Serialize)]
+pub(crate) struct AnswerEntry {
+    pub(crate) condition: String,
+    #[serde(skip_serializing_if = "Option::is_none")]
+    pub(crate) chain: Option<String>,
+    #[serde(skip_serializing_if = "Option::is_none")]
+    pub(crate) number: Option<usize>,
+    /// The how-many-eth of its text in its chain, where it isn't the first.
+    #[serde(skip_serializing_if = "Option::is_none")]
+    pub(crate) nth: Option<usize>,
+    pub(crate) holds: bool,
+}
+
+/// A packet, and its walks, each under its answers; there are none where they aren't known.
+#[derive(Drop, Serialize)]
+pub(crate) struct PacketEntry {
+    pub(crate) packet: String,
+    #[serde(skip_serializing_if = "Option::is_none")]
+    pub(crate) walks: Option<Vec<EndEntry>>,
+    #[serde(skip_serializing_if = "Option::is_none")]
+    pub(crate) unclear: Option<bool>,
+}
+
+/// What becomes of a packet under some answers.
+#[derive(Drop, Serialize)]
+pub(crate) struct EndEntry {
+    #[serde(skip_serializing_if = "Vec::is_empty")]
+    pub(crate) answers: Vec<AnswerEntry>,
+    pub(crate) verdict: String,
+    #[serde(skip_serializing_if = "Option::is_none")]
+    pub(crate) by: Option<DeciderEntry>,
+}
+
 /// What is known of a rule.
 #[derive(Drop, Serialize)]
 pub(crate) struct RuleEntry {
@@ -46,7 +111,13 @@ pub(crate) struct RuleEntry {
     pub(crate) number: usize,
     /// Its line in a listing.
     pub(crate) rule: String,
+    /// The conditions that it asks.
+    #[serde(skip_serializing_if = "Vec::is_empty")]
+    pub(crate) needs: Vec<AnswerEntry>,
     pub(crate) life: LifeWord,
+    /// The answers under which it matches the packet.
+    #[serde(skip_serializing_if = "Vec::is_empty")]
+    pub(crate) answers: Vec<AnswerEntry>,
     /// The line of a packet that it matches.
     #[serde(skip_serializing_if = "Option::is_none")]
     pub(crate) packet: Option<String>,
@@ -76,6 +147,7 @@ pub(crate) enum ReasonEntry {
     },
     Unreached,
     NoPacket,
+    Unmet,
     Excluded {
         rules: Vec<RuleName>,
     },
@@ -85,11 +157,14 @@ pub(crate) enum ReasonEntry {
     },
 }
 
-/// A rule by its chain and its number there, and what it does where it decides a dead rule's packets.
+/// A rule by its chain and its number there; what it does where it decides a dead rule's packets; and on a walk the answers under which it
+/// matches.
 #[derive(Drop, Serialize)]
 pub(crate) struct RuleName {
     pub(crate) chain: String,
     pub(crate) number: usize,
+    #[serde(skip_serializing_if = "Vec::is_empty")]
+    pub(crate) answers: Vec<AnswerEntry>,
     #[serde(skip_serializing_if = "Option::is_none")]
     pub(crate) verdict: Option<String>,
 }
@@ -124,6 +199,9 @@ pub(crate) struct HookEntry {
     pub(crate) answer: LikenessWord,
     #[serde(skip_serializing_if = "Option::is_none")]
     pub(crate) packet: Option<String>,
+    /// The answers under which it does.
+    #[serde(skip_serializing_if = "Vec::is_empty")]
+    pub(crate) answers: Vec<AnswerEntry>,
     #[serde(skip_serializing_if = "Option::is_none")]
     pub(crate) old: Option<WalkEntry>,
     #[serde(skip_serializing_if = "Option::is_none")]

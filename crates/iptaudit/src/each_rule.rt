@@ -1,13 +1,16 @@
 //! What is known of each rule, in the order of a listing: dead ones, a packet for each, those that no packet covers.
 ghost use Rattle.std.specs.Prelude.{◌<◌, ◌≤◌, length};
+ghost use Rattle.questions.specs.Scopes.{table_of};
 ghost use Rattle.table.specs.chains.Table.{chain_at};
 
 use crate::asking::Asking;
 use crate::deciding::{Standing, standing_of};
+use crate::dump::{Dump, contradict};
 use crate::marks::Marks;
+use crate::open_conditions::OpenConditions;
 use crate::tally::Tally;
 use fields::Words;
-use questions::{BoxedTable, Life, Reason};
+use questions::{Life, Need, Reason, Subject};
 use std::alloc::AllocError;
 use std::io::IsTerminal;
 use std::rt::Clock;
@@ -41,7 +44,7 @@ impl<'a> Form<'a> {
     // Whether a rule of which this is known stands in the answer.
     fn has(self, known: &Known) -> bool {
         match self {
-            Form::Dead => !matches!(known, Known::Live(_)),
+            Form::Dead => !matches!(known, Known::Live(_, _)),
             Form::Tests | Form::Cover(_) => true,
         }
     }
@@ -60,10 +63,12 @@ impl<'a> Form<'a> {
 pub(crate) enum Known {
     /// It matches a packet that was given.
     Covered,
-    /// It matches the packet that these words write.
-    Live(Words),
+    /// It matches the packet that these words write, where these answers are right.
+    Live(Words, Vec<Need>),
     /// It matches none; and why, if that is known and was asked.
     Dead(Option<Reason>),
+    /// It matches none, since no answers meet what it needs.
+    Unmet,
     Unclear,
 }
 
@@ -118,31 +123,43 @@ impl Found {
     }
 }
 
+/// What is asked, and by which conditions answers are shown.
+#[derive(Clone, Copy)]
+pub(crate) struct Course<'a> {
+    pub(crate) form: Form<'a>,
+    pub(crate) dump: &'a Dump,
+    pub(crate) open: &'a OpenConditions,
+}
+
 // Asks of a rule. One that a packet matches that was given needn't be asked of.
 fn ask_rule<R: Clock, E: Print + IsTerminal>(
     asking: &mut Asking<'_, R, E>,
-    subject: &BoxedTable,
-    form: Form<'_>,
+    subject: &Subject<'_>,
+    course: Course<'_>,
     at: Step,
 ) -> Result<Known, AllocError>
-    requires place { at.chain < length subject.now.table.table.chains }
+    requires place { at.chain < length (table_of subject.now).chains }
     requires first { 0 < at.number }
-    requires last { at.number ≤ length (chain_at subject.now.table.table at.chain).rules }
+    requires last { at.number ≤ length (chain_at (table_of subject.now) at.chain).rules }
 {
     asking.next();
-    if form.is_covered(at) {
+    if course.form.is_covered(at) {
         return Ok(Known::Covered);
     }
     match asking.life(subject, at)? {
-        Life::Live(words, _) => Ok(Known::Live(words)),
-        Life::Dead if form.has_reasons() => {
+        Life::Live(words, answers) => {
+            let given = course.open.shown(asking.alloc(), &answers)?;
+            Ok(Known::Live(words, given))
+        }
+        Life::Dead if !course.form.has_reasons() => Ok(Known::Dead(None)),
+        Life::Dead if contradict(course.dump.needs_of(at)) => Ok(Known::Unmet),
+        Life::Dead => {
             let mut reason = asking.reason(subject, at)?;
             if let Some(reason) = &mut reason {
                 put_in_order(reason, at.chain);
             }
             Ok(Known::Dead(reason))
         }
-        Life::Dead => Ok(Known::Dead(None)),
         Life::Unclear => Ok(Known::Unclear),
     }
 }
@@ -150,15 +167,16 @@ fn ask_rule<R: Clock, E: Print + IsTerminal>(
 // Asks of a rule, where one stands there, whether a packet can match it, and counts it.
 fn count_rule<R: Clock, E: Print + IsTerminal>(
     asking: &mut Asking<'_, R, E>,
-    subject: &BoxedTable,
+    course: Course<'_>,
     at: Step,
     tally: &mut Tally,
 ) -> Result<(), AllocError> {
-    let table = &subject.table;
+    let subject = course.dump.subject();
+    let table = &subject.boxed.table;
     if at.chain >= table.chain_count() || at.number == 0 || at.number > table.rule_count(at.chain) {
         return Ok(());
     }
-    let known = ask_rule(asking, subject, Form::Tests, at)?;
+    let known = ask_rule(asking, &subject, course, at)?;
     tally.note(&known, None);
     Ok(())
 }
@@ -170,12 +188,12 @@ fn count_rule<R: Clock, E: Print + IsTerminal>(
 /// `AllocError` where memory was refused.
 pub(crate) fn count_rules<R: Clock, E: Print + IsTerminal>(
     asking: &mut Asking<'_, R, E>,
-    subject: &BoxedTable,
+    course: Course<'_>,
     rules: &[Step],
     tally: &mut Tally,
 ) -> Result<(), AllocError> {
     for at in rules {
-        count_rule(asking, subject, *at, tally)?;
+        count_rule(asking, course, *at, tally)?;
     }
     Ok(())
 }
@@ -183,20 +201,21 @@ pub(crate) fn count_rules<R: Clock, E: Print + IsTerminal>(
 // Asks of each rule of the chain at a place.
 fn ask_chain<R: Clock, E: Print + IsTerminal>(
     asking: &mut Asking<'_, R, E>,
-    subject: &BoxedTable,
-    form: Form<'_>,
+    subject: &Subject<'_>,
+    course: Course<'_>,
     place: usize,
     found: &mut Found,
 ) -> Result<(), AllocError>
-    requires { place < length subject.now.table.table.chains }
+    requires { place < length (table_of subject.now).chains }
 {
-    for before in 0..subject.table.rule_count(place) {
+    let table = &subject.boxed.table;
+    for before in 0..table.rule_count(place) {
         let at = Step {
             chain: place,
             number: before + 1,
         };
-        let known = ask_rule(asking, subject, form, at)?;
-        found.add(&subject.table, form, at, known)?;
+        let known = ask_rule(asking, subject, course, at)?;
+        found.add(table, course.form, at, known)?;
     }
     Ok(())
 }
@@ -217,16 +236,17 @@ fn rules_of(table: &Table) -> usize {
 /// `AllocError` where memory was refused.
 pub(crate) fn ask_rules<R: Clock, E: Print + IsTerminal>(
     asking: &mut Asking<'_, R, E>,
-    subject: &BoxedTable,
-    form: Form<'_>,
+    course: Course<'_>,
 ) -> Result<Found, AllocError> {
-    asking.begin(rules_of(&subject.table));
+    let subject = course.dump.subject();
+    let table = &subject.boxed.table;
+    asking.begin(rules_of(table));
     let mut found = Found {
         rules: Vec::new(asking.alloc()),
         tally: Tally::new(),
     };
-    for place in 0..subject.table.chain_count() {
-        ask_chain(asking, subject, form, place, &mut found)?;
+    for place in 0..table.chain_count() {
+        ask_chain(asking, &subject, course, place, &mut found)?;
     }
     Ok(found)
 }

@@ -22,6 +22,21 @@ pub(crate) enum Fault<'a> {
     NotCarried(&'a str),
     #[error("by=FIELD is missing")]
     NoField,
+    /// A word of `--when`.
+    #[error("no rule has this condition: {0}")]
+    NoCondition(&'a str),
+    /// A word of `--when` that contradicts another one.
+    #[error("answered twice: {0}")]
+    AnsweredTwice(&'a str),
+    /// A file whose chains aren't made by its `-A` lines alone, so that it isn't known which rules ask its conditions.
+    #[error("cannot tell which rules of {0} have its conditions")]
+    CannotPlace(&'a str),
+    /// A file that is asked for the verdicts of a set of packets.
+    #[error("reach cannot take conditions, which {0} has")]
+    HasConditions(&'a str),
+    /// Two files of which a target sets what a condition asks.
+    #[error("compare cannot take conditions that a target sets, as MARK does")]
+    AreSet,
     /// A file was refused, and its fault was written.
     #[error("cannot restore {0}")]
     CannotRestore(&'a str),

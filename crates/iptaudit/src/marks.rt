@@ -1,7 +1,7 @@
 //! Which rules match packets that were given.
 ghost use Rattle.std.specs.Prelude.{◌<◌, length};
 
-use fields::Packet;
+use crate::walking::{Passed, Walk};
 use std::alloc::{AllocError, Global};
 use table::{Step, Table};
 
@@ -60,16 +60,17 @@ impl Marks {
         }
     }
 
-    /// Marks the rules on the walk of a packet.
-    ///
-    /// # Errors
-    ///
-    /// `AllocError` where memory was refused.
-    pub(crate) fn walk(&mut self, table: &Table, packet: &Packet) -> Result<(), AllocError> {
-        let trail = table.trail(packet)?;
-        for step in trail.steps() {
-            self.mark(*step);
+    /// Marks the rules on walks.
+    pub(crate) fn take(&mut self, walks: &[Walk]) {
+        for walk in walks {
+            self.mark_all(walk.rules.as_slice());
         }
-        Ok(())
+    }
+
+    // Marks the rules on a walk.
+    fn mark_all(&mut self, rules: &[Passed]) {
+        for rule in rules {
+            self.mark(rule.at);
+        }
     }
 }

@@ -20,6 +20,7 @@ pub(crate) fn rule_name(
     Ok(RuleName {
         chain: name_text(alloc, chain_name(table, at.chain))?,
         number: at.number,
+        answers: Vec::new(alloc),
         verdict: match verdict {
             Some(verdict) => Some(verdict_text(alloc, verdict)?),
             None => None,

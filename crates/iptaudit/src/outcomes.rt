@@ -31,8 +31,8 @@ pub(crate) fn put_verdict<W: Write>(
     }
 }
 
-// Writes what decides: `policy`, or a rule as `INPUT 3`.
-fn put_decider<W: Write>(
+/// Writes what decides: `policy`, or a rule as `INPUT 3`.
+pub(crate) fn put_decider<W: Write>(
     table: &Table,
     by: Option<Step>,
     output: &mut Tap<W>,

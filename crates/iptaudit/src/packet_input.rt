@@ -1,36 +1,20 @@
 //! Packets on the lines of an input. A line is refused with the codes and texts of a session.
-ghost use Rattle.std.specs.Prelude.{◌≤◌, vec_capacity};
-
 use crate::fault::Fault;
-use crate::marks::Marks;
-use fields::{LineEnd, LineRead, Packet, PacketFault, ReadFailed, Tap, WordFault, Words};
+use crate::line_input::Line;
+use fields::{LineEnd, Packet, PacketFault, Tap, WordFault, Words};
 use programs::ProgramFault;
 use restore::is_quiet;
 use std::alloc::{AllocError, Global};
 use std::io::BufRead;
-use table::Table;
 
-// The longest line, in bytes without its newline.
-const LINE_MAX: usize = 10240;
-
-// The line at hand, with room for the longest.
-#[derive(Drop)]
-struct Line {
-    bytes: Vec<u8>,
-    ghost room: { 10240 ≤ vec_capacity bytes },
-}
-
-impl Line {
-    fn new(alloc: Global) -> Result<Line, AllocError> {
-        Ok(Line {
-            bytes: Vec::with_capacity(alloc, LINE_MAX)?,
-        })
-    }
-
-    // Reads the next line of an input.
-    fn read_from<R: BufRead>(&mut self, input: &mut Tap<R>) -> Result<LineRead, ReadFailed> {
-        input.read_line(LINE_MAX, &mut self.bytes)
-    }
+/// What is done with the packets of an input, one after another.
+pub(crate) trait TakesPackets {
+    /// Takes the packet of the line of a number, which has these bytes.
+    ///
+    /// # Errors
+    ///
+    /// `AllocError` where memory was refused.
+    fn take(&mut self, number: u64, line: &[u8], packet: Packet) -> Result<(), AllocError>;
 }
 
 // Why a line has no packet.
@@ -92,19 +76,19 @@ fn read_content(alloc: Global, line: &[u8], too_long: bool) -> Result<Content, A
     }
 }
 
-// Marks the rules on the walk of a line's packet. Tells whether the line is one that may stand there; else its fault goes to
-// `errors`. A fault that cannot be written is given up.
-fn take_line<E: Print>(
-    table: &Table,
+// Takes what stands on a line. Tells whether it is what may stand there; else its fault goes to `errors`. A fault that cannot be written
+// is given up.
+fn take_line<E: Print, T: TakesPackets>(
     number: u64,
+    line: &[u8],
     content: Content,
     errors: &E,
-    marks: &mut Marks,
+    taker: &mut T,
 ) -> Result<bool, AllocError> {
     match content {
         Content::Quiet => Ok(true),
         Content::Packet(packet) => {
-            marks.walk(table, &packet)?;
+            taker.take(number, line, packet)?;
             Ok(true)
         }
         Content::Refused(refusal) => {
@@ -115,18 +99,17 @@ fn take_line<E: Print>(
     }
 }
 
-/// Marks the rules on the walks of the packets on the lines of an input, to its end. Blank lines and comments may stand
-/// between them. Answers whether nothing else does; each other line is a fault, `line N: CODE text`, which goes to `errors`.
+/// Takes the packets on the lines of an input, to its end. Blank lines and comments may stand between them. Answers whether
+/// nothing else does; each other line is a fault, `line N: CODE text`, which goes to `errors`.
 ///
 /// # Errors
 ///
 /// Where memory was refused, or the input failed.
-pub(crate) fn mark_packets<'a, R: BufRead, E: Print>(
+pub(crate) fn take_packets<'a, R: BufRead, E: Print, T: TakesPackets>(
     alloc: Global,
-    table: &Table,
     input: &mut Tap<R>,
     errors: &E,
-    marks: &mut Marks,
+    taker: &mut T,
 ) -> Result<bool, Fault<'a>> {
     let mut line = Line::new(alloc)?;
     let mut all_taken = true;
@@ -138,8 +121,8 @@ pub(crate) fn mark_packets<'a, R: BufRead, E: Print>(
         if read.end == LineEnd::Nothing {
             break;
         }
-        let content = read_content(alloc, line.bytes.as_slice(), read.too_long)?;
-        if !take_line(table, number, content, errors, marks)? {
+        let content = read_content(alloc, line.bytes(), read.too_long)?;
+        if !take_line(number, line.bytes(), content, errors, taker)? {
             all_taken = false;
         }
     }

@@ -44,7 +44,7 @@ pub(crate) fn put_listed<W: Write>(
     }
 }
 
-/// Writes the line of a rule, after some words: `dead INPUT 2 -A INPUT -j DROP`, where `dead ` stands before it.
+/// Writes a rule, after some words, by its name and as it is listed: `dead INPUT 2 -A INPUT -j DROP`, where `dead ` stands before it.
 pub(crate) fn put_rule<W: Write>(
     table: &Table,
     before: &[u8],
@@ -54,6 +54,5 @@ pub(crate) fn put_rule<W: Write>(
     output.put(before)?;
     put_rule_name(table, at, output)?;
     output.put(b" ")?;
-    put_listed(table, at, output)?;
-    output.put(b"\n")
+    put_listed(table, at, output)
 }

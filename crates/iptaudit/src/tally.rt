@@ -35,8 +35,8 @@ impl Tally {
     pub(crate) fn note(&mut self, known: &Known, standing: Option<Standing>) {
         match known {
             Known::Covered => self.covered = self.covered.saturating_add(1),
-            Known::Live(_) => self.live = self.live.saturating_add(1),
-            Known::Dead(_) => self.dead = self.dead.saturating_add(1),
+            Known::Live(_, _) => self.live = self.live.saturating_add(1),
+            Known::Dead(_) | Known::Unmet => self.dead = self.dead.saturating_add(1),
             Known::Unclear => self.unclear = self.unclear.saturating_add(1),
         }
         match standing {

@@ -8,13 +8,14 @@
 //!
 //! | Line of `iptaudit` | Audit |
 //! |---|---|
-//! | `dead [--steps N] [--json] FILE` | which rules of a ruleset no packet can match |
-//! | `compare [--steps N] [--json] OLD NEW` | whether two rulesets give each packet the same verdict |
-//! | `tests [--steps N] [--json] FILE` | a packet for each rule |
-//! | `cover [--steps N] [--json] FILE` | which rules match none of the packets on standard input |
-//! | `reach [--steps N] [--json] FILE WORD..` | the verdicts of a set of packets, grouped by a field |
+//! | `dead FILE` | which rules of a ruleset no packet can match |
+//! | `compare OLD NEW` | whether two rulesets give each packet the same verdict |
+//! | `tests FILE` | a packet for each rule |
+//! | `cover FILE` | which rules match none of the packets on standard input |
+//! | `reach FILE WORD..` | the verdicts of a set of packets, grouped by a field |
+//! | `walk FILE` | the walks of the packets on standard input |
 //!
-//! Both take `--help` and `--version` in place of a subcommand.
+//! Each of these takes `[--steps N] [--when CONDITION].. [--json]`. Both programs take `--help` and `--version` in place of a subcommand.
 #![tactic(auto)]
 
 mod buffers;

@@ -29,6 +29,7 @@ pub mod PacketLaws
 pub mod PlainCompareLaws
 pub mod PlainLaws
 pub mod ReachLaws
+pub mod RemainLaws
 pub mod ResolvedLaws
 pub mod SharedLaws
 pub mod TakerLaws
@@ -36,6 +37,7 @@ pub mod TrailLaws
 pub mod TransportLaws
 pub mod VerdictLaws
 pub mod WaitLaws
+pub mod WalksLaws
 pub mod WayLaws
 pub mod WhyLaws
 pub mod WithoutLaws

@@ -10,5 +10,6 @@ pub mod Rule
 pub mod Unclear
 pub mod Unknown
 pub mod Verdicts
+pub mod Walks
 pub mod Why
 pub mod Without

@@ -13,6 +13,7 @@ pub mod Leading
 pub mod Lines
 pub mod Meant
 pub mod Outlines
+pub mod Remaining
 pub mod Sampled
 pub mod Searched
 pub mod Shared

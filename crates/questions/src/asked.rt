@@ -17,5 +17,6 @@ pub(crate) mod rule;
 pub(crate) mod shortest;
 pub(crate) mod takers;
 pub(crate) mod verdicts;
+pub(crate) mod walks;
 pub(crate) mod ways;
 pub(crate) mod witness;

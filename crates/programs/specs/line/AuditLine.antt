@@ -16,18 +16,25 @@ steps_rule = record (new_rule (codes "steps")) { long = Some (codes "steps"); va
 abbrev pub json_rule : Rule
 json_rule = flag_rule (codes "json")
 
+-- `--when CONDITION`, which may stand several times
+abbrev pub when_rule : Rule
+when_rule = record (new_rule (codes "when")) { long = Some (codes "when"); action = Some Append; value_names = 1 }
+
 -- a file, which has to be there
 abbrev pub file_rule : Text → Rule
 file_rule name = record (new_rule name) { required = true; value_names = 1 }
 
--- `NAME FILE [--steps N] [--json]`
-abbrev pub one_file_app : Text → App
-one_file_app name = with_rule (with_rule (with_rule (new_app name) (file_rule (codes "file"))) steps_rule) json_rule
+-- `[--steps N] [--when CONDITION].. [--json]`
+abbrev pub with_options : App → App
+with_options app = with_rule (with_rule (with_rule app steps_rule) when_rule) json_rule
 
--- `compare OLD NEW [--steps N] [--json]`
+-- `NAME FILE`, with options
+abbrev pub one_file_app : Text → App
+one_file_app name = with_options (with_rule (new_app name) (file_rule (codes "file")))
+
+-- `compare OLD NEW`, with options
 abbrev pub compare_app : App
-compare_app = with_rule (with_rule (with_rule (with_rule (new_app (codes "compare"))
-    (file_rule (codes "old"))) (file_rule (codes "new"))) steps_rule) json_rule
+compare_app = with_options (with_rule (with_rule (new_app (codes "compare")) (file_rule (codes "old"))) (file_rule (codes "new")))
 
 -- one word or more
 abbrev pub words_rule : Rule
@@ -38,23 +45,24 @@ words_rule = record (new_rule (codes "word")) {
   value_names = 1;
 }
 
--- `reach FILE WORD.. [--steps N] [--json]`
+-- `reach FILE WORD..`, with options
 abbrev pub reach_app : App
-reach_app = with_rule (with_rule (with_rule (with_rule (new_app (codes "reach"))
-    (file_rule (codes "file"))) words_rule) steps_rule) json_rule
+reach_app = with_options (with_rule (with_rule (new_app (codes "reach")) (file_rule (codes "file"))) words_rule)
 
--- the program, with its five subcommands
+-- the program, with its six subcommands
 abbrev pub program_app : App
-program_app = with_subcommand (with_subcommand (with_subcommand (with_subcommand (with_subcommand (as_program (new_app (codes "iptaudit")))
-    (one_file_app (codes "dead")).top) compare_app.top) (one_file_app (codes "tests")).top) (one_file_app (codes "cover")).top) reach_app.top
+program_app = with_subcommand (with_subcommand (with_subcommand (with_subcommand (with_subcommand (with_subcommand
+    (as_program (new_app (codes "iptaudit"))) (one_file_app (codes "dead")).top) compare_app.top) (one_file_app (codes "tests")).top)
+    (one_file_app (codes "cover")).top) reach_app.top) (one_file_app (codes "walk")).top
 
 -- the name of a subcommand that asks about one file
 abbrev pub AsksOneFile : Text → Type 0
-AsksOneFile name = (name ≡ codes "dead") ⊎ (name ≡ codes "tests") ⊎ (name ≡ codes "cover") ⊎ (name ≡ codes "reach")
+AsksOneFile name = (name ≡ codes "dead") ⊎ (name ≡ codes "tests") ⊎ (name ≡ codes "cover") ⊎ (name ≡ codes "reach") ⊎ (name ≡ codes "walk")
 
 -- the name of a subcommand
 abbrev pub IsSubcommand : Text → Type 0
 IsSubcommand name = (name ≡ codes "dead") ⊎ (name ≡ codes "compare") ⊎ (name ≡ codes "tests") ⊎ (name ≡ codes "cover") ⊎ (name ≡ codes "reach")
+    ⊎ (name ≡ codes "walk")
 
 -- the one file of a subcommand of this name
 abbrev pub AsksOf : Text → Text → List Row → Text → Type 0
@@ -68,6 +76,7 @@ IsQuestion name rows (questions.Compare old new) = (name ≡ codes "compare")
 IsQuestion name rows (questions.Tests file) = AsksOf (codes "tests") name rows file.now
 IsQuestion name rows (questions.Cover file) = AsksOf (codes "cover") name rows file.now
 IsQuestion name rows (questions.Reach file) = AsksOf (codes "reach") name rows file.now
+IsQuestion name rows (questions.Walk file) = AsksOf (codes "walk") name rows file.now
 
 -- a file of a subcommand was not found
 abbrev pub LacksFile : Text → List Row → Type 0
@@ -78,9 +87,10 @@ LacksFile name rows = (AsksOneFile name × (first_of (codes "file") rows ≡ Non
 abbrev pub values_of : Text → List Row → List Text
 values_of name rows = unwrap_or (all_of name rows) []
 
--- the audit of a subcommand, by its name and what was found of its files, its option, its flag and its words
+-- the audit of a subcommand, by its name and what was found of its files, its options, its flag and its words
 abbrev pub IsAuditOf : Text → List Row → Audit → Type 0
 IsAuditOf name rows audit = IsQuestion name rows audit.question
     × (option_map (λ s. s.now) audit.steps ≡ first_of (codes "steps") rows)
     × (audit.json ≡ is_true (first_of (codes "json") rows))
+    × (map (λ s. s.now) audit.when.items ≡ values_of (codes "when") rows)
     × (map (λ s. s.now) audit.words.items ≡ values_of (codes "word") rows)

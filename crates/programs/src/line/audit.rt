@@ -2,7 +2,7 @@
 ghost use Rattle.std.specs.Prelude.{◌≡◌, IfErr, IfOk, MatchOption, codes, false, map};
 ghost use Rattle.clap.specs.Words.{app_of, found_of, rows_of, rule_of};
 ghost use Rattle.clap.specs.declared.builder.command.Command.TheViews.{out-Command as fields_of};
-ghost use Rattle.programs.specs.line.AuditLine.{IsAuditOf, IsQuestion, IsSubcommand, LacksFile, compare_app, file_rule, json_rule, one_file_app, program_app, reach_app, steps_rule, values_of, words_rule};
+ghost use Rattle.programs.specs.line.AuditLine.{IsAuditOf, IsQuestion, IsSubcommand, LacksFile, compare_app, file_rule, json_rule, one_file_app, program_app, reach_app, steps_rule, values_of, when_rule, with_options, words_rule};
 ghost use Rattle.programs.specs.line.Line.{AsksFor, IsFaultOn};
 
 use super::fault::LineFault;
@@ -23,15 +23,18 @@ pub enum Question<'a> {
     Cover { file: &'a str },
     /// The verdicts of a set of packets, grouped by a field.
     Reach { file: &'a str },
+    /// The walks of some packets.
+    Walk { file: &'a str },
 }
 
-/// A question, the number that was given of steps, whether the answer is to be JSON, and the words after the file, where some
-/// packets are asked about.
+/// A question, the number that was given of steps, whether the answer is to be JSON, the conditions that are answered, and the words after
+/// the file, where some packets are asked about.
 #[derive(Debug, Drop)]
 pub struct Audit<'a> {
     pub question: Question<'a>,
     pub steps: Option<&'a str>,
     pub json: bool,
+    pub when: Vec<&'a str>,
     pub words: Vec<&'a str>,
 }
 
@@ -53,6 +56,30 @@ fn json<'a>(alloc: Global) -> Arg<'a>
     flag(alloc, "json", "Print the answer as one JSON document")
 }
 
+// The option `--when CONDITION`, which may stand several times.
+fn when<'a>(alloc: Global) -> Arg<'a>
+    ensures rule { rule_of result ≡ when_rule }
+    ensures local { result.global ≡ false }
+{
+    Arg::new(alloc, "when")
+        .long("when")
+        .action(ArgAction::Append)
+        .value_name("CONDITION")
+        .help("Take CONDITION as one that holds, or after '! ' as one that doesn't")
+}
+
+// Adds the options that each subcommand has.
+fn options<'a>(alloc: Global, command: Command<'a>) -> Result<Command<'a>, AllocError>
+    requires { (fields_of command).has_globals ≡ false }
+    ensures app { IfOk result (λ c. app_of c ≡ with_options (app_of command.entry)) }
+    ensures local { IfOk result (λ c. (fields_of c).has_globals ≡ false) }
+{
+    command
+        .arg(steps(alloc))?
+        .arg(when(alloc))?
+        .arg(json(alloc))
+}
+
 // A file, which is a word of its own.
 fn file<'a>(alloc: Global, name: &'a str, shown: &'a str, help: &'a str) -> Arg<'a>
     ensures rule { rule_of result ≡ file_rule name.entry.now }
@@ -69,11 +96,10 @@ fn one_file<'a>(alloc: Global, name: &'a str, about: &'a str) -> Result<Command<
     ensures app { IfOk result (λ c. app_of c ≡ one_file_app name.entry.now) }
     ensures local { IfOk result (λ c. (fields_of c).has_globals ≡ false) }
 {
-    Command::new(alloc, name)
+    let command = Command::new(alloc, name)
         .about(about)
-        .arg(file(alloc, "file", "FILE", "A file of iptables-restore"))?
-        .arg(steps(alloc))?
-        .arg(json(alloc))
+        .arg(file(alloc, "file", "FILE", "A file of iptables-restore"))?;
+    options(alloc, command)
 }
 
 // Words that say which packets are asked about: one or more, after the file.
@@ -93,24 +119,22 @@ fn reach<'a>(alloc: Global) -> Result<Command<'a>, AllocError>
     ensures app { IfOk result (λ c. app_of c ≡ reach_app) }
     ensures local { IfOk result (λ c. (fields_of c).has_globals ≡ false) }
 {
-    Command::new(alloc, "reach")
+    let command = Command::new(alloc, "reach")
         .about("Print the verdicts of a set of packets, grouped by a field")
         .arg(file(alloc, "file", "FILE", "A file of iptables-restore"))?
-        .arg(words(alloc))?
-        .arg(steps(alloc))?
-        .arg(json(alloc))
+        .arg(words(alloc))?;
+    options(alloc, command)
 }
 
 fn compare<'a>(alloc: Global) -> Result<Command<'a>, AllocError>
     ensures app { IfOk result (λ c. app_of c ≡ compare_app) }
     ensures local { IfOk result (λ c. (fields_of c).has_globals ≡ false) }
 {
-    Command::new(alloc, "compare")
+    let command = Command::new(alloc, "compare")
         .about("Print whether two rulesets give each packet the same verdict")
         .arg(file(alloc, "old", "OLD", "A file of iptables-restore"))?
-        .arg(file(alloc, "new", "NEW", "Another one"))?
-        .arg(steps(alloc))?
-        .arg(json(alloc))
+        .arg(file(alloc, "new", "NEW", "Another one"))?;
+    options(alloc, command)
 }
 
 fn program<'a>(alloc: Global) -> Result<Command<'a>, AllocError>
@@ -127,6 +151,11 @@ fn program<'a>(alloc: Global) -> Result<Command<'a>, AllocError>
         "cover",
         "Print the rules that match none of the packets on standard input",
     )?;
+    let walk = one_file(
+        alloc,
+        "walk",
+        "Print the walks of the packets on standard input",
+    )?;
     let program = named(
         alloc,
         "iptaudit",
@@ -137,6 +166,7 @@ fn program<'a>(alloc: Global) -> Result<Command<'a>, AllocError>
     let program = with(program, tests)?;
     let program = with(program, cover)?;
     let program = with(program, reach(alloc)?)?;
+    let program = with(program, walk)?;
     Ok(program)
 }
 
@@ -167,16 +197,24 @@ fn question_of<'a>(subcommand: &str, matches: &ArgMatches<'a>) -> Option<Questio
             Some(file) => Some(Question::Reach { file }),
             None => None,
         },
+        "walk" => match matches.get_str("file") {
+            Some(file) => Some(Question::Walk { file }),
+            None => None,
+        },
         _ => unreachable!(),
     }
 }
 
-// The words after the file, where there are any.
-fn words_of<'a>(alloc: Global, matches: &ArgMatches<'a>) -> Result<Vec<&'a str>, AllocError>
-    ensures { IfOk result (λ words. map (λ s. s.now) words.items ≡ values_of (codes "word") (rows_of (found_of matches.now))) }
+// All that was given under a name, where anything was.
+fn words_of<'a>(
+    alloc: Global,
+    matches: &ArgMatches<'a>,
+    name: &str,
+) -> Result<Vec<&'a str>, AllocError>
+    ensures { IfOk result (λ words. map (λ s. s.now) words.items ≡ values_of name.now (rows_of (found_of matches.now))) }
 {
     let mut words = Vec::new(alloc);
-    match matches.get_strs("word") {
+    match matches.get_strs(name) {
         Some(given) => {
             words.extend_from_slice(given)?;
             Ok(words)
@@ -203,12 +241,14 @@ impl<'a> Audit<'a> {
         let Some((name, inner)) = matches.subcommand() else {
             return Err(LineFault::NoSubcommand);
         };
-        let words = words_of(alloc, inner)?;
+        let when = words_of(alloc, inner, "when")?;
+        let words = words_of(alloc, inner, "word")?;
         match question_of(name, inner) {
             Some(question) => Ok(Audit {
                 question,
                 steps: inner.get_str("steps"),
                 json: is_set(inner, "json"),
+                when,
                 words,
             }),
             None => Err(LineFault::NoFile),

@@ -135,7 +135,7 @@ each_holds a needs all k d lt =
       | inr un ↦ absurd (true≢false (sym all ∙ list_all_at (need_holds a) needs k d lt un))
     ]
 
-unmet_by : (inverted value holds : Bool) → value ≡ holds → beq holds inverted ≡ true → cond inverted (not value) value ≡ false
+pub unmet_by : (inverted value holds : Bool) → value ≡ holds → beq holds inverted ≡ true → cond inverted (not value) value ≡ false
 unmet_by true true true e h = refl
 unmet_by true true false e h = absurd (true≢false e)
 unmet_by true false true e h = absurd (true≢false (sym e))

@@ -44,7 +44,7 @@ later_of {X} p x y xs (k, lt, is) =
       | inr un ↦ subst P (sym (cond-false (p x) (x ∷ filter p xs) (filter p xs) un)) (k, lt, is)
     ]
 
-keeps : {X : Type 0} (p : X → Bool) (xs : List X) (x : X) → Contains xs x → p x ≡ true → Contains (filter p xs) x
+pub keeps : {X : Type 0} (p : X → Bool) (xs : List X) (x : X) → Contains xs x → p x ≡ true → Contains (filter p xs) x
 keeps p [] x (k, lt, is) h = absurd (omega (arith, lt))
 keeps {X} p (y ∷ xs) x (zero, lt, is) h =
     let P : X → Type 0 = λ z. Contains (filter p (z ∷ xs)) x in

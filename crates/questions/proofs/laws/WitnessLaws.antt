@@ -1,23 +1,20 @@
 -- A packet that shows that a rule isn't dead.
-use Rattle.std.proofs.Common.{◌≡◌, ◌≢◌, inl, inr, ℕ, zero, suc, ◌+◌, ◌<◌, Bool, ◌&&◌, true, List, [], ◌∷◌, ◌++◌, length, get_or, take, refl, sym, ◌∙◌, ap, arith, subst, Option, Some, None, All, Contains, Vec, Global}
-use Rattle.std.specs.Prelude.{IfSome, IsFalse, IsTrue, MatchOption, is_some, nat_le}
+use Rattle.std.proofs.Common.{◌≡◌, ◌≢◌, inl, inr, ℕ, zero, suc, ◌+◌, ◌<◌, Bool, ◌&&◌, true, List, [], ◌∷◌, ◌++◌, length, get_or, take, refl, sym, ◌∙◌, ap, arith, subst, Option, Some, None, All, Any, Contains, Vec, Global}
+use Rattle.std.specs.Prelude.{IsFalse, IsTrue, MatchOption, is_some}
 use Rattle.std.proofs.lemmas.Bool.{true≢false}
 use Rattle.std.proofs.lemmas.List.{get_or-take, get_or_default, length-take}
 use Rattle.std.proofs.lemmas.List.Elements.{All-contains}
-use Rattle.std.proofs.lemmas.Bool.Decides.{leb_tells}
-use Rattle.fields.specs.declared.packet.hook.Hook.{Hook}
 use Rattle.fields.specs.packet.Packet.{PacketView as Packet}
 use Rattle.table.specs.chains.Table.{Table}
 use Rattle.table.specs.declared.walk.trail.Step.{Step}
 use Rattle.table.specs.declared.verdict.Verdict.TheVariants.{TooLong}
 use Rattle.table.specs.walk.Walk.{Entry, Walked, walk}
-use Rattle.questions.specs.Foreign.{AreConsistent, Assignment, IsUnanswered}
-use Rattle.questions.specs.Scopes.{AreLeavesUnder, IsOf, answered, entries_by, known_by, table_of}
+use Rattle.questions.specs.Foreign.{Agrees, AreConsistent, Assignment, IsUnanswered}
+use Rattle.questions.specs.Scopes.{EndsUnder, Known, answered, entries_by, known_by, table_of}
 use Rattle.questions.specs.Leaves.{entry_of}
-use Rattle.questions.specs.boxes.Area.{IsAtHook}
+use Rattle.questions.specs.asked.Walks.{AreWalksUnder}
 use Rattle.questions.specs.declared.foreign.answers.Answer.{Answer}
 use Rattle.questions.specs.declared.foreign.subject.Subject.{Subject}
-use Rattle.questions.specs.declared.walking.scope.Scope.{Scope}
 use Rattle.questions.specs.declared.walking.task.Leaf.{Leaf}
 use Rattle.questions.specs.steps.Coming.{IsSought}
 use Rattle.questions.specs.steps.Meant.{IsSurelyOn, needs_of}
@@ -26,10 +23,10 @@ use Rattle.questions.proofs.laws.HeldLaws.{on_entries_by}
 use Rattle.questions.proofs.laws.ResolvedLaws.{entry_left}
 
 -- a packet of leaves has no walk that is too long
-pub ended_short : (s : Subject) (hook : Hook) (start : Scope) (found : Option (Vec Leaf Global)) (p : Packet) → IsTrue (is_some found) → IfSome found (λ leaves. (a : Assignment) → AreLeavesUnder (answered s a) (known_by s a) hook start leaves.items) → IsAtHook p
-    → p.hook ≡ hook → (a : Assignment) → IsOf (known_by s a) p start → (walk (answered s a) p).verdict ≢ TooLong
-ended_short s hook start None p is leaves can e a own long = absurd (true≢false (sym is))
-ended_short s hook start (Some found) p is leaves can e a own long = let (k, leaf, lt, at, ends) = leaves a p can e own in never_long (answered s a) (known_by s a) p leaf ends long
+pub ended_short : (t : Table) (known : Known) (found : Option (Vec Leaf Global)) (p : Packet) (answers : List Answer) (U : Type 0) → IsTrue (is_some found) → MatchOption found U (λ leaves. AreWalksUnder t known p answers leaves.items)
+    → Agrees known.holds answers → (walk t p).verdict ≢ TooLong
+ended_short t known None p answers U is walks agrees long = absurd (true≢false (sym is))
+ended_short t known (Some found) p answers U is walks agrees long = let (k, leaf, lt, at, own) = walks.complete agrees in never_long t known p leaf own long
 
 -- what is said where there are none
 pub ended_long : (found : Option (Vec Leaf Global)) (U : Type 0) (F : Vec Leaf Global → Type 0) → IsFalse (is_some found) → MatchOption found U F → U
@@ -42,10 +39,9 @@ sought_on t entry p (inl on) short = on
 sought_on t entry p (inr long) short = absurd (short long)
 
 -- a rule that is surely on each leaf is on the walk of a packet of these, where the answers are right
-pub surely_on : (s : Subject) (hook : Hook) (start : Scope) (found : List Leaf) (p : Packet) (step : Step) → ((a : Assignment) → AreLeavesUnder (answered s a) (known_by s a) hook start found) → All (IsSurelyOn (needs_of s.needs.now step) step) found → IsAtHook p
-    → p.hook ≡ hook → (a : Assignment) → IsOf (known_by s a) p start → Contains (walk (answered s a) p).trail (entry_of (table_of s).chains step)
-surely_on s hook start found p step leaves all can e a own =
-    let (k, leaf, lt, is, ends) = leaves a p can e own in
+pub surely_on : (s : Subject) (found : List Leaf) (p : Packet) (step : Step) (a : Assignment) → Any (EndsUnder (answered s a) (known_by s a) p) found → All (IsSurelyOn (needs_of s.needs.now step) step) found
+    → Contains (walk (answered s a) p).trail (entry_of (table_of s).chains step)
+surely_on s found p step a (k, leaf, lt, is, ends) all =
     let (on, held) = All-contains (IsSurelyOn (needs_of s.needs.now step) step) found leaf all (k, lt, is) in
     let here : Contains (entries_by (known_by s a) (answered s a).chains leaf.trail.items) (entry_of (answered s a).chains step) = on_entries_by (known_by s a) (answered s a).chains leaf.trail.items step on (held a ends.own.agrees) in
     let P : Walked → Type 0 = λ w. Contains w.trail (entry_of (answered s a).chains step) in
@@ -71,14 +67,3 @@ next_unanswered answers i d apart lt k e less =
     let before : k < i = omega (arith, less, length-take i answers) in
     let C : Answer → Type 0 = λ answer. answer.condition ≢ (get_or answers i d).condition in
     subst C (sym (get_or-take i answers k e before)) (subst (λ (answer : Answer). (get_or answers k e).condition ≢ answer.condition) (get_or_default answers i e d lt) (apart k i e before lt))
-
--- a number is from itself to itself
-pub within_itself : (n x : ℕ) → n ≡ x → (nat_le n x && nat_le x n) ≡ true
-within_itself n x same =
-    elim (leb_tells n x) [
-      | inr (un, more) ↦ absurd (omega (arith, same, more))
-      | inl (low, le) ↦ elim (leb_tells x n) [
-        | inr (un, more) ↦ absurd (omega (arith, same, more))
-        | inl (high, ge) ↦ ap (λ (b : Bool). b && nat_le x n) low ∙ high
-      ]
-    ]

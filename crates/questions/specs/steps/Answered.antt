@@ -1,6 +1,6 @@
 -- What answers tell of the needs of a rule.
 use Rattle.std.specs.Prelude.{◌≡◌, ◌⊎◌, ℕ, List, All, Any, IsTrue, IsFalse}
-use Rattle.questions.specs.Foreign.{Agrees, Assignment, IsUnanswered, all_hold, need_holds}
+use Rattle.questions.specs.Foreign.{Agrees, AreConsistent, Assignment, IsUnanswered, all_hold, need_holds}
 use Rattle.questions.specs.declared.foreign.need.Need.{Need}
 use Rattle.questions.specs.declared.foreign.answers.Answer.{Answer}
 use Rattle.questions.specs.declared.foreign.need.Standing.{Standing}
@@ -26,7 +26,8 @@ IsStanding needs answers (Open condition) = IsOpen needs answers condition
 abbrev pub MeetsNever : List Need → List Answer → Type 0
 MeetsNever needs answers = (a : Assignment) → Agrees a answers → IsFalse (all_hold a needs)
 
--- an assignment gives these answers just if it gives the others and meets all needs
+-- no two of these answers are about one condition, and an assignment gives them just if it gives the others and meets all needs
 pub record IsMeeting (needs : List Need) (answers more : List Answer) : Type 0 where
+  pub consistent : AreConsistent more
   pub all : (a : Assignment) → Agrees a answers → IsTrue (all_hold a needs) → Agrees a more
   pub own : (a : Assignment) → Agrees a more → Agrees a answers × IsTrue (all_hold a needs)

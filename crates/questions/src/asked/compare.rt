@@ -53,9 +53,6 @@ pub fn compare_at_under<'a>(
 /// It goes as in `compare`; rules that both have are those with the same needs, and a changed rule's packets are asked for under answers that meet
 /// what it needs.
 ///
-/// `Same` speaks of a kernel in which each condition answers the same each time that one packet asks it at one rule. Where a walk asks a rule twice,
-/// since it enters a chain twice, a condition that answers otherwise the second time may give two verdicts.
-///
 /// # Errors
 ///
 /// `AllocError` where memory was refused.

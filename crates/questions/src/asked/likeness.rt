@@ -20,7 +20,7 @@ use std::alloc::{AllocError, Global};
 pub enum Likeness {
     /// Both give each packet that can be at its hook the same verdict, whichever rule or policy gives it, and whatever holds that rules need.
     Same,
-    /// These words write a packet, and where the answers are right the tables give it two verdicts; where no rule needs anything, there are none.
+    /// These words write a packet, and where the answers are right the tables give it two verdicts.
     Differ(Words, Answers),
     /// Neither is known. Each hook at which the tables aren't known to be the same is one where the steps don't
     /// suffice, a trail is full, or a leaf of the first table has leaves in the second one with another verdict, and

@@ -32,7 +32,7 @@ use table::Step;
 pub enum Life {
     /// The rule is on the walk of no packet that can be at its hook.
     Dead,
-    /// These words write a packet, and the rule is on its walk where the answers are right; where no rule needs anything, there are none.
+    /// These words write a packet, and the rule is on its walk where the answers are right.
     Live(Words, Answers),
     /// Neither is known. Each hook at which the rule isn't dead is one where the budget is used up, a trail is full, boxes came
     /// to the rule, or a leaf has it on its trail; and each box that came has no packet that a line writes, or one whose
@@ -165,8 +165,8 @@ pub fn dead(
 /// on the packet's walk where they are right, whatever else holds.
 ///
 /// A step of the search is also one box that parts by a condition. A rule that hands over parts no box: the answers for it are given at the
-/// end. A packet is offered if its walks, for all assignments that give the answers, are known to end with `budget` steps more. The first of
-/// the answers are shown, as few as are known to suffice, by as many steps for each.
+/// end. A packet is offered if its walks, for all assignments that give the answers, are known to end with `budget` steps more. Of the answers
+/// the first are given that are seen to suffice, by as many steps for each; no clause says that fewer don't.
 ///
 /// # Errors
 ///

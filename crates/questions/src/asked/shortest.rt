@@ -10,13 +10,11 @@ ghost use Rattle.questions.specs.boxes.Area.{IsAtHook};
 ghost use Rattle.questions.specs.steps.Meant.{IsSurelyOn, needs_of};
 
 use crate::asked::rule::is_on;
-use crate::asked::witness::box_of;
+use crate::asked::walks::walks_of;
 use crate::boxes::area::Area;
 use crate::foreign::answers::Answers;
 use crate::foreign::need::{Standing, known_of};
 use crate::foreign::subject::Subject;
-use crate::walking::engine::leaves_under;
-use crate::walking::scope::Scope;
 use crate::walking::task::Leaf;
 use fields::{Packet, Words};
 use std::alloc::{AllocError, Global};
@@ -40,7 +38,7 @@ fn all_have(subject: &Subject<'_>, found: &[Leaf], step: Step) -> bool
     true
 }
 
-// Whether a rule is known to be on the walk of a packet where the answers are right: the packet's box walks.
+// Whether a rule is known to be on the walk of a packet where the answers are right.
 fn is_always_on(
     alloc: Global,
     subject: &Subject<'_>,
@@ -55,10 +53,7 @@ fn is_always_on(
         → Contains (walk (answered subject.now a) packet.now).trail (entry_of (table_of subject.now).chains step)) }
 {
     let whole = Area::at_hook(alloc, packet.hook())?;
-    let area = box_of(alloc, &whole, packet)?;
-    let answers = answers.copy(alloc)?;
-    let start = Scope { area, answers };
-    match leaves_under(alloc, subject, packet.hook(), start, budget)? {
+    match walks_of(alloc, subject, &whole, packet, answers, budget)? {
         None => Ok(false),
         Some(found) => Ok(all_have(subject, found.as_slice(), step)),
     }

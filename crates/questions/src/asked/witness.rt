@@ -1,6 +1,6 @@
 //! A packet that shows that a rule isn't dead.
-ghost use Rattle.std.specs.Prelude.{◌≡◌, ◌≢◌, Contains, IfOk, IsFalse, IsTrue, MatchOption};
-ghost use Rattle.fields.specs.packet.Packet.{PacketView, IsPacket};
+ghost use Rattle.std.specs.Prelude.{◌≡◌, Contains, IfOk, IsFalse, IsTrue, MatchOption};
+ghost use Rattle.fields.specs.packet.Packet.{PacketView};
 ghost use Rattle.table.specs.declared.verdict.Verdict.TheVariants.{TooLong};
 ghost use Rattle.table.specs.walk.Walk.{walk};
 ghost use Rattle.questions.specs.Ends.{IsRule};
@@ -8,35 +8,18 @@ ghost use Rattle.questions.specs.Foreign.{Agrees, Assignment};
 ghost use Rattle.questions.specs.Leaves.{entry_of};
 ghost use Rattle.questions.specs.Scopes.{IsOf, answered, known_by, table_of};
 ghost use Rattle.questions.specs.asked.Rule.{IsLiveAt};
-ghost use Rattle.questions.specs.asked.Unclear.{IsUnended, IsUnseen, MayBeTooLong};
+ghost use Rattle.questions.specs.asked.Unclear.{IsUnseen, MayBeTooLong};
 ghost use Rattle.questions.specs.boxes.Area.{IsAtHook, IsIn};
 ghost use Rattle.questions.specs.steps.Coming.{IsSought};
 
 use crate::asked::rule::is_on;
-use crate::boxes::area::Area;
-use crate::foreign::answers::Answers;
+use crate::asked::walks::walks_of;
 use crate::foreign::subject::Subject;
 use crate::sampling::sample::{Sample, sample_of};
-use crate::walking::engine::leaves_under;
 use crate::walking::scope::Scope;
-use fields::{Field, Hook, Packet, Spans, Words};
+use fields::{Hook, Packet, Words};
 use std::alloc::{AllocError, Global};
 use table::{Step, Table};
-
-// The box of one packet of a box.
-pub(crate) fn box_of(alloc: Global, area: &Area, packet: &Packet) -> Result<Area, AllocError>
-    requires packet { IsPacket packet.now }
-    requires inside { IsIn area.now packet.now }
-    ensures { IfOk result (λ own. IsIn own packet.now) }
-{
-    let mut own = area.copy(alloc)?;
-    for field in Field::ALL {
-        let number = packet.point(field);
-        let set = Spans::one(alloc, field.top(), number, number)?;
-        own = own.narrow(alloc, field, &set)?;
-    }
-    Ok(own)
-}
 
 // Whether a rule is on the walk of a packet that comes to it if its walk isn't too long.
 fn is_walked(table: &Table, packet: &Packet, step: Step) -> Result<bool, AllocError>
@@ -48,27 +31,6 @@ fn is_walked(table: &Table, packet: &Packet, step: Step) -> Result<bool, AllocEr
     table.stands();
     let trail = table.trail(packet)?;
     Ok(is_on(trail.steps(), step))
-}
-
-// Whether the walks of a packet of a scope are known to end, for all assignments that give the answers: its box walks.
-fn are_ended(
-    alloc: Global,
-    subject: &Subject<'_>,
-    scope: &Scope,
-    packet: &Packet,
-    budget: usize,
-) -> Result<bool, AllocError>
-    requires can { IsAtHook packet.now }
-    requires inside { IsIn scope.now.area packet.now }
-    ensures short { IfOk result (λ are. IsTrue are → (a : Assignment) → Agrees a scope.now.answers → (walk (answered subject.now a) packet.now).verdict ≢ TooLong) }
-    ensures long { IfOk result (λ are. IsFalse are → (a : Assignment)
-        → IsUnended (answered subject.now a) (known_by subject.now a) packet.now.hook budget scope.now.answers packet.now) }
-{
-    let answers = scope.answers.copy(alloc)?;
-    let area = box_of(alloc, &scope.area, packet)?;
-    let start = Scope { area, answers };
-    let found = leaves_under(alloc, subject, packet.hook(), start, budget)?;
-    Ok(found.is_some())
 }
 
 // Whether a rule is known to be on the walks of a packet that comes to it if they aren't too long. Where no rule needs anything the packet walks the
@@ -95,7 +57,8 @@ fn is_shown(
     if subject.needs.are_none() {
         return is_walked(&subject.boxed.table, packet, step);
     }
-    are_ended(alloc, subject, scope, packet, budget)
+    let found = walks_of(alloc, subject, &scope.area, packet, &scope.answers, budget)?;
+    Ok(found.is_some())
 }
 
 // A packet of a scope that came to the rule, if its walks are known not to be too long.

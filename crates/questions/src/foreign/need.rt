@@ -1,5 +1,5 @@
 //! What rules need of conditions that this program doesn't know.
-ghost use Rattle.std.specs.Prelude.{◌≡◌, ◌↔◌, [], IfOk, IsTrue, MatchOption};
+ghost use Rattle.std.specs.Prelude.{◌≡◌, ◌↔◌, [], map, IfOk, IsTrue, MatchOption};
 ghost use Rattle.questions.specs.Foreign.{needs_at, needs_listed};
 ghost use Rattle.questions.specs.steps.Answered.{IsMeeting, IsStanding, MeetsNever};
 
@@ -47,6 +47,13 @@ impl Needs {
         ensures { result ≡ needs_listed chains }
     {
         Needs { chains }
+    }
+
+    // What is listed, chain by chain; it is lent.
+    pub(crate) fn listed(&self) -> &[Vec<Vec<Need>>]
+        ensures { map (λ chain. map (λ needs. needs.items) chain.items) result.now ≡ self.now }
+    {
+        self.chains.as_slice()
     }
 
     // Whether no chain is listed.
@@ -123,5 +130,6 @@ pub(crate) fn meeting(needs: &[Need], mut answers: Answers) -> Result<Option<Ans
             }
         }
     }
+    answers.stand();
     Ok(Some(answers))
 }

@@ -141,10 +141,11 @@ pub fn leaves(
     leaves_under(alloc, &subject, hook, start, budget)
 }
 
-/// The same of a box under answers, whatever holds beside them: every packet of the box that can be at the hook, and every assignment that gives
-/// the answers, is in a leaf whose answers it gives, too; and each leaf has no others. Then the packet has the walk that the leaf shows in
-/// the table that is left by the assignment, and all holds that the rule needs which decides it. The walk is the one of each assignment, so a
-/// step is also one box that parts by a condition.
+/// The same of a box under answers, for each assignment that gives them: every packet of the box that can be at the hook is in a leaf whose
+/// answers the assignment gives, too, and such a leaf has no packet at the hook from outside the box. In the table that the assignment leaves,
+/// the packet's walk is the one that the leaf shows; and all holds that the rule needs which decides it.
+///
+/// A step of the budget is also one box that parts by a condition.
 ///
 /// # Errors
 ///

@@ -42,4 +42,10 @@ pub returns-in-Some-get_str-3 : goal.returns-in-Some-get_str-3
 returns-in-Some-get_str-3 c = (c.in-reach.is, c.in-Some-get_str-3.ensures ∙ first_value-rows (found_of c.args.matches.now) (codes "file"))
 
 pub returns-in-None-get_str-3 : goal.returns-in-None-get_str-3
-returns-in-None-get_str-3 c = inl (inr (inr (inr c.in-reach.is)), sym (c.in-None-get_str-3.ensures ∙ first_value-rows (found_of c.args.matches.now) (codes "file")))
+returns-in-None-get_str-3 c = inl (inr (inr (inr (inl c.in-reach.is))), sym (c.in-None-get_str-3.ensures ∙ first_value-rows (found_of c.args.matches.now) (codes "file")))
+
+pub returns-in-Some-get_str-4 : goal.returns-in-Some-get_str-4
+returns-in-Some-get_str-4 c = (c.in-walk.is, c.in-Some-get_str-4.ensures ∙ first_value-rows (found_of c.args.matches.now) (codes "file"))
+
+pub returns-in-None-get_str-4 : goal.returns-in-None-get_str-4
+returns-in-None-get_str-4 c = inl (inr (inr (inr (inr c.in-walk.is))), sym (c.in-None-get_str-4.ensures ∙ first_value-rows (found_of c.args.matches.now) (codes "file")))

@@ -7,11 +7,11 @@ use Rattle.table.specs.walk.Walk.{walk}
 use Rattle.questions.specs.Foreign.{Agrees, Assignment}
 use Rattle.questions.specs.Leaves.{entry_of}
 use Rattle.questions.specs.Scopes.{answered, known_by, table_of}
-use Rattle.questions.specs.asked.Unclear.{IsUnended, MayBeTooLong}
+use Rattle.questions.specs.asked.Unclear.{MayBeTooLong}
 use Rattle.questions.specs.steps.Coming.{IsSought}
 use Rattle.questions.proofs.laws.AnswerLaws.{some_assignment_gives}
 use Rattle.questions.proofs.laws.PlainLaws.{from_plain, to_plain}
-use Rattle.questions.proofs.laws.WitnessLaws.{sought_on}
+use Rattle.questions.proofs.laws.WitnessLaws.{ended_long, ended_short, sought_on}
 use Rattle.questions.proofs.asked.witness.is_shown.Goals as goal
 
 pub is_walked-requires-clause-came : goal.is_walked-requires-clause-came
@@ -39,20 +39,12 @@ returns-then-are_none-clause-long c =
     (λ is h un a. inl (from_plain s (c.are_none.ensures.0 c.if-are_none.true) (λ t. (walk t p).verdict ≡ TooLong) a (h un))) c.is_walked.ensures.long
 
 pub returns-clause-on : goal.returns-clause-on
-returns-clause-on c =
+returns-clause-on c = λ is a agrees.
     let s = c.args.subject.now in
     let p = c.args.packet.now in
-    let step = c.args.step in
-    let answers = c.args.scope.now.answers in
-    IfOk-weaker c.are_ended.result (λ (is : Bool). IsTrue is → (a : Assignment) → Agrees a answers → (walk (answered s a) p).verdict ≢ TooLong)
-    (λ (is : Bool). IsTrue is → (a : Assignment) → Agrees a answers → Contains (walk (answered s a) p).trail (entry_of (answered s a).chains step))
-    (λ is h on a agrees. sought_on (answered s a) (entry_of (answered s a).chains step) p (c.requires.came a agrees) (h on a agrees)) c.are_ended.ensures.short
+    sought_on (answered s a) (entry_of (answered s a).chains c.args.step) p (c.requires.came a agrees)
+    (ended_short (answered s a) (known_by s a) c.in_ok-found.found p c.args.scope.now.answers _ (rw c.is_some.ensures at is) (c.in_ok-found.ensures a) agrees)
 
 pub returns-clause-long : goal.returns-clause-long
-returns-clause-long c =
-    let s = c.args.subject.now in
-    let p = c.args.packet.now in
-    let answers = c.args.scope.now.answers in
-    IfOk-weaker c.are_ended.result (λ (is : Bool). IsFalse is → (a : Assignment) → IsUnended (answered s a) (known_by s a) p.hook c.args.budget answers p)
-    (λ (is : Bool). IsFalse is → (a : Assignment) → MayBeTooLong (answered s a) (known_by s a) p.hook c.args.budget answers p)
-    (λ is h un a. inr ((λ none. true≢false (sym (c.are_none.ensures.1 none) ∙ c.if-are_none.false)), h un a)) c.are_ended.ensures.long
+returns-clause-long c = λ un a.
+    inr ((λ none. true≢false (sym (c.are_none.ensures.1 none) ∙ c.if-are_none.false)), ended_long c.in_ok-found.found _ _ (rw c.is_some.ensures at un) (c.in_ok-found.ensures a))

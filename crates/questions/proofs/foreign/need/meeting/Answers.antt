@@ -30,6 +30,7 @@ loop-wanted-preserved c =
 
 pub returns : goal.returns
 returns c = record {
+  consistent = c.stand.ensures;
   all = λ a agrees held. c.loop-wanted.invariant.all a agrees (λ k d lt. each_holds a c.args.needs.now held k d (omega (arith, lt, c.loop-wanted.auto.wanted-index-end)));
   own = λ a agrees. (c.loop-wanted.invariant.own a agrees, list_all-from_AllPass (need_holds a) c.args.needs.now (λ k d lt. c.loop-wanted.invariant.met a agrees k d (omega (arith, lt, c.loop-wanted-test.false))));
 }

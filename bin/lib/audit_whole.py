@@ -1,0 +1,101 @@
+"""What iptaudit writes about whole dumps, whose rules have conditions that it doesn't know, for bin/runs/audit."""
+
+HEAD = b"*filter\n:INPUT DROP [0:0]\n:FORWARD ACCEPT [0:0]\n:OUTPUT ACCEPT [0:0]\n:local - [0:0]\n"
+LIMITED = b"-A INPUT -p tcp -m tcp --dport ssh -m limit --limit 3/min -j ACCEPT\n"
+LOGGED = b"-A INPUT -p tcp -m tcp --dport 22 -m limit --limit 9/min -j LOG\n"
+ELSEWHERE = b"-A INPUT -p tcp -m tcp --dport 22 -m addrtype ! --dst-type LOCAL -j ACCEPT\n"
+LOCAL = b"-A local -m addrtype --dst-type LOCAL -j RETURN\n-A local -m addrtype --dst-type BROADCAST -j DROP\n-A local -j DROP\n"
+DUMP = HEAD + b"-A INPUT -j local\n" + LIMITED + LOGGED + ELSEWHERE + LOCAL + b"COMMIT\n"
+OTHER = DUMP.replace(LIMITED, b"")
+# Two conditions of one text in one chain, of which the second rule goes.
+ALIKE = HEAD + b"".join(b"-A INPUT -s 10.0.0.%d -m limit --limit 3/min -j ACCEPT\n" % number for number in (1, 2)) + b"COMMIT\n"
+RENAMED = HEAD + b"-A local -m limit --limit 3/min -j DROP\n-E local far\nCOMMIT\n"
+LOGIN = b"packet INPUT src=10.0.0.1 dst=10.0.0.2 in=eth0 proto=tcp sport=4000 dport=22"
+NAME = b" packet INPUT src=10.0.0.1 dst=10.0.0.2 in=eth0 proto=udp sport=4000 dport=53"
+GIVEN = b"# two\n" + LOGIN + b"\n\n" + NAME + b"\n"
+TCP = b"packet INPUT src=192.0.2.1 dst=198.51.100.1 in=eth0 proto=6 sport=40000 dport=%d flags=SYN ct=NEW ttl=64\n"
+OPEN = b"4 conditions open: limit 2, addrtype 2\n"
+HERE, THREE, NINE = b"addrtype --dst-type LOCAL", b"limit --limit 3/min at INPUT 2", b"limit --limit 9/min at INPUT 3"
+BROADCAST = b"addrtype --dst-type BROADCAST"
+DEAD = b"dead INPUT 4 -A INPUT -p tcp -m tcp --dport 22 -j ACCEPT if not addrtype --dst-type LOCAL\n"
+TAKEN = b"  taken by local 2 (DROP), local 3 (DROP)\n"
+
+DEAD_ANSWER = DEAD + TAKEN + b"7 rules, 1 dead, 0 unclear\n0 redundant, 1 shadowed\n"
+TESTS = (b"# INPUT 1 -A INPUT -j local\n" + TCP % 80
+         + b"# INPUT 2 -A INPUT -p tcp -m tcp --dport 22 -j ACCEPT if limit --limit 3/min\n#   if " + HERE + b" and " + THREE + b"\n# " + TCP % 22
+         + b"# INPUT 3 -A INPUT -p tcp -m tcp --dport 22 -j LOG if limit --limit 9/min\n#   if " + HERE + b" and not " + THREE + b" and " + NINE + b"\n# " + TCP % 22
+         + b"# " + DEAD
+         + b"# local 1 -A local -j RETURN if " + HERE + b"\n#   if " + HERE + b"\n# " + TCP % 80
+         + b"# local 2 -A local -j DROP if " + BROADCAST + b"\n#   if not " + HERE + b" and " + BROADCAST + b"\n# " + TCP % 80
+         + b"# local 3 -A local -j DROP\n#   if not " + HERE + b" and not " + BROADCAST + b"\n# " + TCP % 80)
+WALKS = (LOGIN + b"\n  if " + HERE + b" and " + THREE + b": ACCEPT by INPUT 2; else if " + HERE + b": DROP by policy; else if " + BROADCAST
+         + b": DROP by local 2; else DROP by local 3\n"
+         + NAME + b"\n  if " + HERE + b": DROP by policy; else if " + BROADCAST + b": DROP by local 2; else DROP by local 3\n")
+DIFFERS = (b"INPUT differs\n" + TCP % 22 + b"  if limit --limit 3/min in INPUT and " + HERE + b"\n"
+           b"old:\nINPUT 1\nlocal 1\nINPUT 2\nverdict ACCEPT by rule\n"
+           b"new:\nINPUT 1\nlocal 1\nINPUT 2 if limit --limit 9/min in INPUT\nverdict DROP by policy\nFORWARD same\nOUTPUT same\n")
+PREMISE = b"same if each condition of a place answers one packet the same each time, in both files\n"
+SAME = b"INPUT same\nFORWARD same\nOUTPUT same\n"
+HERE_WORD = HERE.decode()
+
+# What is asked, with the files and standard input, and what is due: standard output, the status and standard error.
+ROWS = [
+    ("dead", ["dead", "R"], {"R": DUMP}, b"", DEAD_ANSWER + OPEN, 1, b""),
+    ("tests", ["tests", "R"], {"R": DUMP}, b"", TESTS + b"# " + OPEN, 1, b""),
+    ("walk", ["walk", "R"], {"R": DUMP}, GIVEN, WALKS + OPEN, 0, b""),
+    ("walk, unclear", ["walk", "--steps", "1", "R"], {"R": DUMP}, LOGIN, LOGIN + b"\n  unclear\n" + OPEN, 3, b""),
+    ("walk, plain", ["walk", "--steps", "0", "R"], {"R": HEAD + b"COMMIT\n"}, GIVEN, LOGIN + b"\n  DROP by policy\n" + NAME + b"\n  DROP by policy\n", 0, b""),
+    ("walk, no packet", ["walk", "R"], {"R": DUMP}, GIVEN + b"boom\npacket\n", b"", 2, b"line 5: S1 unknown line\nline 6: F1 unknown key\n"),
+    ("cover", ["cover", "R"], {"R": DUMP}, GIVEN, DEAD + b"7 rules, 6 covered, 0 missed, 1 dead, 0 unclear\n" + OPEN, 0, b""),
+    ("cover, missed", ["cover", "R"], {"R": ALIKE}, b"",
+     b"".join(b"missed INPUT %d -A INPUT -s 10.0.0.%d/32 -j ACCEPT if limit --limit 3/min\n  if limit --limit 3/min at INPUT %d\n" % (n, n, n)
+              + TCP.replace(b"192.0.2.1", b"10.0.0.%d" % n) % 80 for n in (1, 2))
+     + b"2 rules, 0 covered, 2 missed, 0 dead, 0 unclear\n2 conditions open: limit 2\n", 1, b""),
+    ("cover, unclear", ["cover", "--steps", "0", "R"], {"R": ALIKE}, GIVEN,
+     b"".join(b"unclear INPUT %d -A INPUT -s 10.0.0.%d/32 -j ACCEPT if limit --limit 3/min\n" % (n, n) for n in (1, 2))
+     + b"2 rules, 0 covered, 0 missed, 0 dead, 2 unclear\n2 conditions open: limit 2\n", 3, b"line 2: unclear\nline 4: unclear\n"),
+    ("compare", ["compare", "O", "N"], {"O": DUMP, "N": OTHER}, b"", DIFFERS + b"1 changed rules, 0 dead, 0 unclear\n" + OPEN + PREMISE, 1, b""),
+    ("compare, itself", ["compare", "O", "O"], {"O": DUMP}, b"", SAME + b"0 changed rules, 0 dead, 0 unclear\n" + OPEN + PREMISE, 0, b""),
+    ("compare, what a target sets", ["compare", "O", "O"],
+     {"O": b"*filter\n-A INPUT -j MARK --set-mark 1\n-A INPUT -m mark --mark 1 -j ACCEPT\nCOMMIT\n"}, b"", b"", 2,
+     b"iptaudit: compare cannot take conditions that a target sets, as MARK does\n"),
+    ("compare, a dead rule", ["compare", "O", "N"], {"O": DUMP, "N": DUMP.replace(ELSEWHERE, b"")}, b"",
+     SAME + b"1 changed rules, 1 dead, 0 unclear\n" + OPEN + PREMISE, 0, b""),
+    ("compare, the second of a text", ["compare", "O", "N"], {"O": ALIKE, "N": ALIKE.replace(b"-s 10.0.0.2 -m limit --limit 3/min ", b"-s 10.0.0.3 ")}, b"",
+     b"INPUT differs\n" + TCP.replace(b"192.0.2.1", b"10.0.0.2") % 80 + b"  if limit --limit 3/min in INPUT (2)\n"
+     b"old:\nINPUT 2\nverdict ACCEPT by rule\nnew:\nverdict DROP by policy\nFORWARD same\nOUTPUT same\n"
+     b"2 changed rules, 0 dead, 0 unclear\n2 conditions open: limit 2\n" + PREMISE, 1, b""),
+    ("an answer", ["walk", "--when", HERE_WORD, "R"], {"R": DUMP}, LOGIN,
+     LOGIN + b"\n  if " + THREE + b": ACCEPT by INPUT 2; else DROP by policy\n3 conditions open: limit 2, addrtype 1\n", 0, b""),
+    ("answers", ["walk", "--when", "!  " + HERE_WORD, "--when", "! addrtype --dst-type BROADCAST", "R"], {"R": DUMP}, LOGIN,
+     LOGIN + b"\n  DROP by local 3\n2 conditions open: limit 2\n", 0, b""),
+    ("an answer, dead", ["dead", "--when", HERE_WORD, "R"], {"R": DUMP}, b"",
+     DEAD + b"  no answers meet its conditions\n"
+     + b"".join(b"dead local %d -A local -j DROP%s\n  taken by INPUT 2 (ACCEPT) and the policy (DROP)\n" % rule for rule in ((2, b" if " + BROADCAST), (3, b"")))
+     + b"7 rules, 3 dead, 0 unclear\n0 redundant, 2 shadowed\n3 conditions open: limit 2, addrtype 1\n", 1, b""),
+    ("an answer about all of a text", ["dead", "--when", "! limit --limit 3/min", "R"], {"R": ALIKE}, b"",
+     b"".join(b"dead INPUT %d -A INPUT -s 10.0.0.%d/32 -j ACCEPT if limit --limit 3/min\n  no answers meet its conditions\n" % (n, n) for n in (1, 2))
+     + b"2 rules, 2 dead, 0 unclear\n0 redundant, 0 shadowed\n", 1, b""),
+    ("an answer, compare", ["compare", "--when", "! limit --limit 3/min", "O", "N"], {"O": DUMP, "N": OTHER}, b"",
+     SAME + b"1 changed rules, 1 dead, 0 unclear\n3 conditions open: addrtype 2, limit 1\n" + PREMISE, 0, b""),
+    ("no such condition", ["dead", "--when", "limit", "R"], {"R": DUMP}, b"", b"", 2, b"iptaudit: no rule has this condition: limit\n"),
+    ("two answers", ["dead", "--when", HERE_WORD, "--when", "! " + HERE_WORD, "R"], {"R": DUMP}, b"", b"", 2, b"iptaudit: answered twice: ! " + HERE + b"\n"),
+    ("one answer twice", ["dead", "--when", "limit --limit 3/min", "--when", "limit --limit 3/min", "R"], {"R": ALIKE}, b"", b"2 rules, 0 dead, 0 unclear\n", 0, b""),
+    ("an answer, without conditions", ["dead", "--when", "limit", "R"], {"R": HEAD + b"COMMIT\n"}, b"", b"", 2, b"iptaudit: no rule has this condition: limit\n"),
+    ("reach", ["reach", "R", "INPUT", "by=dport"], {"R": DUMP}, b"", b"", 2, b"iptaudit: reach cannot take conditions, which R has\n"),
+    ("an unknown match", ["dead", "R"], {"R": HEAD + b"-A INPUT -m colour\nCOMMIT\n"}, b"", b"", 2,
+     b"line 6: D3 unknown match: colour\niptaudit: cannot restore R\n"),
+    ("an unknown option", ["dead", "R"], {"R": HEAD + b"-A INPUT -m limit --colour red\nCOMMIT\n"}, b"", b"", 2,
+     b"line 6: D1 unknown option: --colour\niptaudit: cannot restore R\n"),
+    ("a fault of a restore", ["dead", "R"], {"R": HEAD + b"-A INPUT -m limit --limit 3/min -j nowhere\nCOMMIT\n"}, b"", b"", 2,
+     b"line 6: T11 target chain missing\niptaudit: cannot restore R\n"),
+    ("rules that move", ["dead", "R"], {"R": RENAMED}, b"", b"", 2, b"line 7: D6 rules with conditions are moved: -E\niptaudit: cannot restore R\n"),
+    ("a line that is too long", ["dead", "R"], {"R": HEAD + b"#" * 10241 + b"\n-A INPUT -m colour\nCOMMIT\n"}, b"", b"", 2,
+     b"line 6: R6 line too long\niptaudit: cannot restore R\n"),
+]
+
+
+def whole_rows(rows):
+    """Runs each of them."""
+    for about, words, files, given, due, status, messages in ROWS:
+        rows.row(f"conditions: {about}", words, files, due, status, messages, input=given)

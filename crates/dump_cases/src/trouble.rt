@@ -1,0 +1,19 @@
+//! Why there is no answer.
+use std::alloc::AllocError;
+
+/// Why there is no answer.
+#[derive(Clone, Copy, Debug, PartialEq, Eq)]
+pub enum Trouble {
+    /// Memory was refused.
+    NoMemory,
+    /// A line was refused.
+    Refused,
+    /// A read or a write failed, or the program's word is refused.
+    Other,
+}
+
+impl From<AllocError> for Trouble {
+    fn from(_error: AllocError) -> Trouble {
+        Trouble::NoMemory
+    }
+}

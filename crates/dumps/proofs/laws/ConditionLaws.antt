@@ -1,0 +1,31 @@
+-- The conditions of what is left of a line, one part on.
+use Rattle.std.proofs.Common.{◌≡◌, ℕ, ◌+◌, ◌<◌, List, [], ◌∷◌, ◌++◌, length, take, drop, map, get_or, refl, sym, ap, ◌∙◌, arith}
+use Rattle.std.proofs.lemmas.List.{drop_more, take_more, map_push, length-drop}
+use Rattle.dumps.specs.Options.{Table}
+use Rattle.dumps.specs.Conditions.{Condition, asked_first, conditions_after}
+use Rattle.dumps.specs.Views.{part_in, parts_of}
+use Rattle.dumps.specs.declared.apart.part.Part.{Part}
+
+with-default : (table : Table) (parts : List Part) (i : ℕ) (d : Part) → i < length parts
+    → conditions_after table (parts_of (take i parts)) (parts_of (drop i parts))
+    ≡ asked_first table (parts_of (take i parts)) (parts_of (drop i parts)) ++ conditions_after table (parts_of (take (i + 1) parts)) (parts_of (drop (i + 1) parts))
+with-default table parts i d inside =
+    let before = parts_of (take i parts) in
+    let part = get_or parts i d in
+    let rest = parts_of (drop (i + 1) parts) in
+    let split : parts_of (drop i parts) ≡ part_in part ∷ rest = ap parts_of (drop_more parts i d inside) in
+    let more : parts_of (take (i + 1) parts) ≡ before ++ part_in part ∷ [] = ap parts_of (take_more parts i d inside) ∙ map_push part_in (take i parts) part in
+    ap (conditions_after table before) split
+    ∙ ap (λ l. l ++ conditions_after table (before ++ part_in part ∷ []) rest) (ap (asked_first table before) (sym split))
+    ∙ ap (λ l. asked_first table before (parts_of (drop i parts)) ++ conditions_after table l rest) (sym more)
+
+pub conditions-more : (table : Table) (parts : List Part) (i : ℕ) → i < length parts
+    → conditions_after table (parts_of (take i parts)) (parts_of (drop i parts))
+    ≡ asked_first table (parts_of (take i parts)) (parts_of (drop i parts)) ++ conditions_after table (parts_of (take (i + 1) parts)) (parts_of (drop (i + 1) parts))
+conditions-more table parts i inside = go (drop i parts) refl
+  where
+    go : (l : List Part) → drop i parts ≡ l
+        → conditions_after table (parts_of (take i parts)) (parts_of (drop i parts))
+        ≡ asked_first table (parts_of (take i parts)) (parts_of (drop i parts)) ++ conditions_after table (parts_of (take (i + 1) parts)) (parts_of (drop (i + 1) parts))
+    go [] e = absurd (omega (arith, length-drop i parts, ap length e))
+    go (p ∷ ps) e = with-default table parts i p inside

@@ -1,0 +1,12 @@
+pub mod Apart
+pub mod Conditions
+pub mod Foreign
+pub mod LineViews
+pub mod NeedViews
+pub mod Options
+pub mod Own
+pub mod Parts
+pub mod Reading
+pub mod ReadingViews
+pub mod SectionLines
+pub mod Views

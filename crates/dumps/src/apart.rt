@@ -1,0 +1,89 @@
+//! Lines of rules, taken apart.
+pub(crate) mod condition;
+pub(crate) mod fault;
+pub(crate) mod own;
+pub(crate) mod own_line;
+pub(crate) mod part;
+pub(crate) mod taking;
+pub(crate) mod target;
+
+use crate::apart::condition::{Condition, conditions_of};
+use crate::apart::own_line::append_own;
+use crate::apart::part::Part;
+use crate::apart::target::target_of;
+use crate::options::row::ExtensionRow;
+use crate::options::table::OptionTable;
+use std::alloc::{AllocError, Global};
+
+/// A line taken apart.
+#[derive(Drop)]
+pub struct Apart<'a> {
+    pub(crate) parts: Vec<Part<'a>>,
+}
+
+impl<'a> Apart<'a> {
+    ghost use Rattle.std.specs.Prelude.{◌≡◌, ◌++◌, IfOk, option_map};
+    ghost use Rattle.dumps.specs.Parts.{target_of};
+    ghost use Rattle.dumps.specs.Own.{own_words, line_of, OwnLinesReadBack};
+    ghost use Rattle.dumps.specs.Conditions.{conditions, NothingIsLost};
+    ghost use Rattle.dumps.specs.Views.{conditions_in, extension_in, table_in, parts_of, parts_in};
+
+    /// The parts, in their order.
+    pub fn parts(&self) -> &[Part<'a>]
+        ensures { parts_of result.now ≡ parts_in self.now }
+    {
+        self.parts.as_slice()
+    }
+
+    /// Appends the own words, each after a blank: what stands after `-A` and the chain. Names of ports and of types of
+    /// ICMP are written as their numbers. A word stands in quotes where it is empty or has a blank, a tab or a `"`, with
+    /// a backslash before each `"` and each backslash (iptables-restore(8)). The words of that text are these again.
+    ///
+    /// # Errors
+    ///
+    /// `AllocError` where memory was refused; a beginning of the text may be appended then.
+    ///
+    /// # Cost
+    ///
+    /// Linear in the length of the line, with a pass over the parts for each `-m`, and one over the names for each
+    /// port. A value of ports takes an allocation.
+    #[tactic(auto, using(crate::proofs::laws::OneLineLaws::own_lines_read_back))]
+    pub fn append_own(&self, table: &OptionTable<'a>, line: &mut Vec<u8>) -> Result<(), AllocError>
+        ensures appended { IfOk result (λ _. line.new.items ≡ line.old.items
+            ++ line_of (own_words (table_in table.now) (parts_in self.now))) }
+        ensures reads_back { OwnLinesReadBack }
+    {
+        append_own(line, table, self.parts.as_slice())
+    }
+
+    /// The conditions, in the order in which their matches begin: one for each match that the program doesn't read, and
+    /// for each match that it reads with options or values that it doesn't, and one for a protocol that it doesn't read.
+    /// A `!` before its only option that asks, or an option that turns it, isn't in the text of a condition, but inverts
+    /// it. What always holds is no condition. Nothing else that the program doesn't read of a match is left out.
+    ///
+    /// # Errors
+    ///
+    /// `AllocError` where memory was refused.
+    ///
+    /// # Cost
+    ///
+    /// A pass over the parts for each part. Each condition takes two allocations.
+    #[tactic(auto, using(crate::proofs::laws::AskedLaws::nothing_is_lost))]
+    pub fn conditions(
+        &self,
+        alloc: Global,
+        table: &OptionTable<'a>,
+    ) -> Result<Vec<Condition<'a>>, AllocError>
+        ensures found { IfOk result (λ all. conditions_in all.items ≡ conditions (table_in table.now) (parts_in self.now)) }
+        ensures complete { NothingIsLost }
+    {
+        conditions_of(alloc, table, self.parts.as_slice())
+    }
+
+    /// The row of the target of the line, where the table has it.
+    pub fn target(&self, table: &OptionTable<'a>) -> Option<ExtensionRow<'a>>
+        ensures { option_map extension_in result ≡ target_of (table_in table.now) (parts_in self.now) }
+    {
+        target_of(table, self.parts.as_slice())
+    }
+}

@@ -1,0 +1,5 @@
+//! The options of iptables, as a table.
+pub(crate) mod known;
+pub(crate) mod row;
+pub(crate) mod rows;
+pub(crate) mod table;

@@ -1,0 +1,82 @@
+//! Packets of standard input mark the rules that they match.
+use crate::asking::Asking;
+use crate::dump::Dump;
+use crate::fault::Fault;
+use crate::marks::Marks;
+use crate::open_conditions::OpenConditions;
+use crate::packet_input::{TakesPackets, take_packets};
+use crate::walking::walks_of;
+use fields::Packet;
+use programs::buffered_input;
+use std::alloc::AllocError;
+use std::io::IsTerminal;
+use std::rt::Clock;
+
+// Packets that mark the rules that they match.
+#[derive(Drop)]
+struct Covering<'a, 'b, R, E> {
+    asking: &'a Asking<'b, R, E>,
+    errors: &'a E,
+    dump: &'a Dump,
+    open: &'a OpenConditions,
+    marks: Marks,
+    // Whether the walks of each packet are known.
+    is_clear: bool,
+}
+
+impl<'a, 'b, R: Clock, E: Print + IsTerminal> TakesPackets for Covering<'a, 'b, R, E> {
+    fn take(&mut self, number: u64, _line: &[u8], packet: Packet) -> Result<(), AllocError> {
+        match walks_of(self.asking, self.dump, self.open, &packet, &[])? {
+            Some(walks) => self.marks.take(walks.as_slice()),
+            None => {
+                self.is_clear = false;
+                let _ = println!(self.errors; "line {number}: unclear");
+            }
+        }
+        Ok(())
+    }
+}
+
+/// Rules that match packets, and whether the walks of all these packets are known.
+#[derive(Drop)]
+pub(crate) struct Covered {
+    pub(crate) marks: Marks,
+    pub(crate) is_clear: bool,
+}
+
+/// Marks the rules that match a packet of standard input under some answers. There are no marks where a line of it was refused, whose fault was
+/// written. A packet whose walks aren't known is told of on `errors`, and marks none.
+///
+/// # Errors
+///
+/// Where memory was refused, or standard input failed.
+pub(crate) fn read_covered<'a, R, E>(
+    rt: &R,
+    errors: &E,
+    asking: &Asking<'_, R, E>,
+    dump: &Dump,
+    open: &OpenConditions,
+) -> Result<Option<Covered>, Fault<'a>>
+where
+    R: Clock + Input + AllocGlobal,
+    E: Print + IsTerminal,
+{
+    let mut input = buffered_input(rt.alloc(), rt.reader())?;
+    let mut covering = Covering {
+        asking,
+        errors,
+        dump,
+        open,
+        marks: Marks::new(rt.alloc(), dump.table())?,
+        is_clear: true,
+    };
+    if !take_packets(rt.alloc(), &mut input, errors, &mut covering)? {
+        return Ok(None);
+    }
+    let Covering {
+        marks,
+        is_clear,
+        ..
+    } = covering;
+    Ok(Some(Covered { marks, is_clear }))
+}

@@ -1,0 +1,128 @@
+//! A file is read as a whole dump, line by line, and what the program reads of it is restored.
+use crate::assumptions::Repeating;
+use crate::fault::Fault;
+use crate::line_input::{LINE_MAX, Line};
+use dumps::{DumpFault, Foreign, KnownOptions, OptionTable, Reading, Whole};
+use fields::{LineEnd, Tap};
+use programs::{ProgramFault, buffered_input, load_from, open_file};
+use questions::BoxedTable;
+use sessions::Session;
+use std::alloc::{AllocError, Global};
+use std::io::{self, BufRead};
+use std::rt::Files;
+
+/// The table that a file restores, with the boxes of its rules, and what its rules ask beyond that.
+#[derive(Drop)]
+pub(crate) struct Loaded {
+    pub(crate) boxed: BoxedTable,
+    pub(crate) foreign: Foreign,
+}
+
+// Writes why a line of a file was refused, as a restore does.
+fn refused<'a, E: Print>(errors: &E, file: &'a str, number: u64, fault: DumpFault) -> Fault<'a> {
+    if matches!(fault, DumpFault::NoMemory) {
+        return Fault::Program(ProgramFault::NoMemory);
+    }
+    match println!(errors; "line {number}: {fault}") {
+        Ok(()) => Fault::CannotRestore(file),
+        Err(_) => Fault::Program(ProgramFault::OutputFailed),
+    }
+}
+
+// Reads the lines of a file, to its end or to a line that is too long. Whether there is one.
+fn read_lines<'a, E: Print, R: BufRead>(
+    alloc: Global,
+    errors: &E,
+    file: &'a str,
+    input: &mut Tap<R>,
+    reading: &mut Reading<'_>,
+) -> Result<bool, Fault<'a>> {
+    let mut line = Line::new(alloc)?;
+    for number in 1..u64::MAX {
+        let read = match line.read_from(input) {
+            Ok(read) => read,
+            Err(_) => return Err(Fault::Program(ProgramFault::CannotRead(file))),
+        };
+        if read.end == LineEnd::Nothing {
+            break;
+        }
+        if read.too_long {
+            return Ok(true);
+        }
+        if let Err(fault) = reading.line(line.bytes()) {
+            return Err(refused(errors, file, number, fault));
+        }
+    }
+    Ok(false)
+}
+
+// Adds a line that is too long, which a restore refuses and behind which it reads nothing.
+fn add_too_long(text: &mut Vec<u8>) -> Result<(), AllocError> {
+    for _ in 0..=LINE_MAX {
+        text.push(b' ')?;
+    }
+    Ok(())
+}
+
+// A file taken apart by a table of options. What was assumed when it was made to load is repeated on `errors`.
+fn read_by<'a, R, E>(
+    rt: &R,
+    errors: &E,
+    file: &'a str,
+    table: OptionTable<'_>,
+) -> Result<Whole, Fault<'a>>
+where
+    R: Files + AllocGlobal,
+    E: Print,
+{
+    let opened = Repeating::new(open_file(rt, file)?, io::writer(errors));
+    let mut input = buffered_input(rt.alloc(), opened)?;
+    let mut reading = Reading::new(rt.alloc(), table);
+    let is_cut = read_lines(rt.alloc(), errors, file, &mut input, &mut reading)?;
+    let Whole { mut text, foreign } = reading.finish();
+    if is_cut {
+        add_too_long(&mut text)?;
+    }
+    Ok(Whole { text, foreign })
+}
+
+// A file taken apart by the options of iptables.
+fn read_whole<'a, R, E>(rt: &R, errors: &E, file: &'a str) -> Result<Whole, Fault<'a>>
+where
+    R: Files + AllocGlobal,
+    E: Print,
+{
+    let known = KnownOptions::new(rt.alloc())?;
+    let rows = known.rows(rt.alloc())?;
+    read_by(rt, errors, file, rows.table())
+}
+
+// A session that has restored a text.
+fn restored<'a, R, E>(rt: &R, errors: &E, file: &'a str, text: &[u8]) -> Result<Session, Fault<'a>>
+where
+    R: AllocGlobal,
+    E: Print,
+{
+    let mut session = Session::new(rt.alloc())?;
+    match load_from(rt, errors, &mut session, file, text)? {
+        0 => Ok(session),
+        4 => Err(Fault::Program(ProgramFault::NoMemory)),
+        _ => Err(Fault::CannotRestore(file)),
+    }
+}
+
+/// Reads a file as a whole dump, and restores what the program reads of it.
+///
+/// # Errors
+///
+/// Where it cannot be opened or read, a line is refused, or memory was refused.
+pub(crate) fn load_dump<'a, R, E>(rt: &R, errors: &E, file: &'a str) -> Result<Loaded, Fault<'a>>
+where
+    R: Files + AllocGlobal,
+    E: Print,
+{
+    let Whole { text, foreign } = read_whole(rt, errors, file)?;
+    let (table, mut work) = restored(rt, errors, file, text.as_slice())?.into_parts();
+    let boxed = BoxedTable::of(rt.alloc(), table, &mut work)?;
+    Ok(Loaded { boxed, foreign })
+}

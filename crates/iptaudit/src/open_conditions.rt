@@ -1,0 +1,228 @@
+//! The conditions of one or two dumps, and which of them are answered by `--when`.
+use crate::fault::Fault;
+use dumps::Conditions;
+use questions::{Answers, Need};
+use std::alloc::{AllocError, Global};
+
+/// Where a condition is asked: in a chain, at the rule of a number; or, of two dumps, the how-many-eth of its text there it is, if it isn't the
+/// first.
+#[derive(Clone, Copy)]
+pub(crate) struct Place<'a> {
+    pub(crate) chain: &'a [u8],
+    pub(crate) number: Option<usize>,
+    pub(crate) nth: Option<usize>,
+}
+
+/// The conditions, and what `--when` answers.
+#[derive(Drop)]
+pub(crate) struct OpenConditions {
+    conditions: Conditions,
+    // What is answered of each, if anything.
+    given: Vec<Option<bool>>,
+    // Whether they are those of two dumps, so that a number of a rule says nothing.
+    are_of_two: bool,
+}
+
+// What a word of `--when` answers, and of which condition: whether it holds.
+fn read_when(word: &str) -> (bool, &str) {
+    match word.strip_prefix('!') {
+        Some(text) => (false, text.trim_ascii_start()),
+        None => (true, word),
+    }
+}
+
+// As many conditions without an answer.
+fn all_open(alloc: Global, count: usize) -> Result<Vec<Option<bool>>, AllocError> {
+    let mut given = Vec::new(alloc);
+    for _ in 0..count {
+        given.push(None)?;
+    }
+    Ok(given)
+}
+
+impl OpenConditions {
+    /// Those conditions with the answers of words of `--when`. All conditions of a text get its answer.
+    ///
+    /// # Errors
+    ///
+    /// `NoCondition` where no condition has the text of a word; `AnsweredTwice` where two words contradict each other; or where memory
+    /// was refused.
+    pub(crate) fn new<'a>(
+        alloc: Global,
+        conditions: Conditions,
+        are_of_two: bool,
+        when: &[&'a str],
+    ) -> Result<OpenConditions, Fault<'a>> {
+        let given = all_open(alloc, conditions.len())?;
+        let mut open = OpenConditions {
+            conditions,
+            given,
+            are_of_two,
+        };
+        for word in when {
+            open.answer(word)?;
+        }
+        Ok(open)
+    }
+
+    // Takes in the answer of a word.
+    fn answer<'a>(&mut self, word: &'a str) -> Result<(), Fault<'a>> {
+        let (holds, text) = read_when(word);
+        let mut is_found = false;
+        for (condition, given) in self.given.iter_mut().enumerate() {
+            if self.conditions.text(condition) == text.as_bytes() {
+                if *given == Some(!holds) {
+                    return Err(Fault::AnsweredTwice(word));
+                }
+                *given = Some(holds);
+                is_found = true;
+            }
+        }
+        if is_found {
+            return Ok(());
+        }
+        Err(Fault::NoCondition(word))
+    }
+
+    /// How many conditions there are.
+    pub(crate) fn len(&self) -> usize {
+        self.conditions.len()
+    }
+
+    /// Whether a condition has no answer.
+    pub(crate) fn is_open(&self, condition: usize) -> bool {
+        condition < self.given.len() && self.given[condition].is_none()
+    }
+
+    /// The words of a condition; they are lent.
+    pub(crate) fn text(&self, condition: usize) -> &[u8] {
+        self.conditions.text(condition)
+    }
+
+    /// The match that asks a condition, by its name; it is lent.
+    pub(crate) fn match_name(&self, condition: usize) -> &[u8] {
+        self.conditions.name(condition)
+    }
+
+    /// Where a condition is asked that is one of a place.
+    pub(crate) fn place(&self, condition: usize) -> Option<Place<'_>> {
+        let place = self.conditions.place(condition)?;
+        let chain = place.chain.as_slice();
+        if self.are_of_two {
+            return Some(Place {
+                chain,
+                number: None,
+                nth: self.nth(condition, chain),
+            });
+        }
+        Some(Place {
+            chain,
+            number: Some(place.rule),
+            nth: None,
+        })
+    }
+
+    // Whether a condition is one of a chain, with this text.
+    fn is_alike(&self, condition: usize, chain: &[u8], text: &[u8]) -> bool {
+        if self.conditions.text(condition) != text {
+            return false;
+        }
+        match self.conditions.place(condition) {
+            Some(place) => place.chain.as_slice() == chain,
+            None => false,
+        }
+    }
+
+    // The how-many-eth of its text in its chain a condition is, where it isn't the first.
+    fn nth(&self, condition: usize, chain: &[u8]) -> Option<usize> {
+        let mut before = 0usize;
+        for other in 0..condition {
+            if self.is_alike(other, chain, self.text(condition)) {
+                before = before.saturating_add(1);
+            }
+        }
+        if before == 0 {
+            return None;
+        }
+        Some(before.saturating_add(1))
+    }
+
+    /// Whether some condition that is open is one of a place.
+    pub(crate) fn has_places(&self) -> bool {
+        for condition in 0..self.len() {
+            if self.is_open(condition) && self.place(condition).is_some() {
+                return true;
+            }
+        }
+        false
+    }
+
+    // A number that is no condition's.
+    fn none(&self) -> usize {
+        self.conditions.len()
+    }
+
+    // What no assignment meets: that something holds, and that it doesn't.
+    fn unmeetable(&self, alloc: Global) -> Result<Vec<Need>, AllocError> {
+        let mut needs = Vec::new(alloc);
+        for inverted in [false, true] {
+            needs.push(Need {
+                condition: self.none(),
+                inverted,
+            })?;
+        }
+        Ok(needs)
+    }
+
+    /// What a rule still needs of these, by the answers of `--when`.
+    ///
+    /// # Errors
+    ///
+    /// `AllocError` where memory was refused.
+    pub(crate) fn left_of(&self, alloc: Global, needs: &[Need]) -> Result<Vec<Need>, AllocError> {
+        let mut left = Vec::new(alloc);
+        for need in needs {
+            match self.given.get(need.condition) {
+                Some(Some(holds)) => {
+                    if *holds == need.inverted {
+                        return self.unmeetable(alloc);
+                    }
+                }
+                Some(None) | None => left.push(*need)?,
+            }
+        }
+        Ok(left)
+    }
+
+    /// These answers, for a walk. What no assignment meets is answered too, so that no walk parts by it.
+    ///
+    /// # Errors
+    ///
+    /// `AllocError` where memory was refused.
+    pub(crate) fn start(&self, alloc: Global, given: &[Need]) -> Result<Answers, AllocError> {
+        let mut answers = Answers::none(alloc);
+        answers.give(self.none(), false)?;
+        for need in given {
+            answers.give(need.condition, !need.inverted)?;
+        }
+        Ok(answers)
+    }
+
+    /// The answers about conditions that `--when` leaves open.
+    ///
+    /// # Errors
+    ///
+    /// `AllocError` where memory was refused.
+    pub(crate) fn shown(&self, alloc: Global, answers: &Answers) -> Result<Vec<Need>, AllocError> {
+        let mut shown = Vec::new(alloc);
+        for answer in answers.listed() {
+            if self.is_open(answer.condition) {
+                shown.push(Need {
+                    condition: answer.condition,
+                    inverted: !answer.holds,
+                })?;
+            }
+        }
+        Ok(shown)
+    }
+}

@@ -1,0 +1,56 @@
+//! The packets of standard input, with their lines.
+use crate::fault::Fault;
+use crate::packet_input::{TakesPackets, take_packets};
+use fields::Packet;
+use programs::buffered_input;
+use std::alloc::{AllocError, Global};
+
+/// A packet, and the line that writes it.
+#[derive(Drop)]
+pub(crate) struct GivenPacket {
+    pub(crate) line: Vec<u8>,
+    pub(crate) packet: Packet,
+}
+
+// The packets so far.
+#[derive(Drop)]
+struct Packets {
+    alloc: Global,
+    listed: Vec<GivenPacket>,
+}
+
+impl TakesPackets for Packets {
+    fn take(&mut self, _number: u64, line: &[u8], packet: Packet) -> Result<(), AllocError> {
+        let mut bytes = Vec::new(self.alloc);
+        bytes.extend_from_slice(line)?;
+        self.listed.push(GivenPacket {
+            line: bytes,
+            packet,
+        })?;
+        Ok(())
+    }
+}
+
+/// The packets of standard input. There are none where a line of it was refused, whose fault was written.
+///
+/// # Errors
+///
+/// Where memory was refused, or standard input failed.
+pub(crate) fn read_packets<'a, R, E>(
+    rt: &R,
+    errors: &E,
+) -> Result<Option<Vec<GivenPacket>>, Fault<'a>>
+where
+    R: Input + AllocGlobal,
+    E: Print,
+{
+    let mut input = buffered_input(rt.alloc(), rt.reader())?;
+    let mut packets = Packets {
+        alloc: rt.alloc(),
+        listed: Vec::new(rt.alloc()),
+    };
+    if take_packets(rt.alloc(), &mut input, errors, &mut packets)? {
+        return Ok(Some(packets.listed));
+    }
+    Ok(None)
+}

@@ -1,0 +1,29 @@
+use Rattle.std.proofs.Common.{◌≡◌, ◌∙◌, not, [], ◌∷◌, get_or, Vec, Global, ap, arith}
+use Rattle.std.proofs.lemmas.List.{take_all}
+use Rattle.std.proofs.lemmas.Result.{IfOk-weaker}
+use Rattle.questions.specs.Foreign.{all_hold}
+use Rattle.questions.specs.declared.foreign.need.Need.{Need}
+use Rattle.questions.specs.steps.Remaining.{AreAlike}
+use Rattle.questions.proofs.laws.AnswerLaws.{is_met}
+use Rattle.questions.proofs.laws.RemainLaws.{met_more, open_more, unmet_alike}
+use Rattle.questions.proofs.foreign.left.left_of.Goals as goal
+use Rattle.questions.proofs.foreign.left.left_of.Goals.{in-None+in_ok-push-in-None, in-Some+else-holds-need}
+
+pub returns : goal.returns
+returns c = λ a agrees. c.loop-need.invariant a agrees ∙ ap (all_hold a) (take_all c.loop-need.need-index c.args.needs.now (omega (arith, c.loop-need-test.false)))
+
+pub loop-need-preserved : goal.loop-need-preserved
+loop-need-preserved c =
+    let needs = c.args.needs.now in
+    let i = c.loop-need.need-index in
+    elim c.match-to.branch [
+      | in-None+in_ok-push-in-None w ↦ rw (w.left-is, w.in_ok-push-in-None.ensures.items) (λ a agrees. open_more a needs c.loop-need.left.items i _ c.loop-need-test.true (c.loop-need.invariant a agrees))
+      | in-Some+else-holds-need w ↦ rw w.left-is (λ a agrees. met_more a needs c.loop-need.left.items i _ c.loop-need-test.true (c.loop-need.invariant a agrees) (is_met c.args.answers.now _ w.in-Some.holds w.in-Some.ensures.answered w.if-holds-need.false a agrees))
+    ]
+
+pub returns-then-holds-need : goal.returns-then-holds-need
+returns-then-holds-need c =
+    let needs = c.args.needs.now in
+    let i = c.loop-need.need-index in
+    IfOk-weaker c.unmeetable.result (λ (both : Vec Need Global). both.items ≡ get_or needs i _ ∷ record { condition = (get_or needs i _).condition; inverted = not (get_or needs i _).inverted } ∷ []) (λ (left : Vec Need Global). AreAlike c.args.answers.now needs left.items)
+    (λ both is a agrees. rw is (unmet_alike a c.args.answers.now needs i _ c.in-Some.holds c.loop-need-test.true agrees c.in-Some.ensures.answered c.if-holds-need.true)) c.unmeetable.ensures

@@ -1,0 +1,6 @@
+use Rattle.std.proofs.Common.{take}
+use Rattle.questions.specs.steps.Remaining.{AreAlike}
+use Rattle.questions.proofs.foreign.left.left_of.Given as goal
+
+abbrev pub invariant-loop-need : goal.invariant-loop-need
+invariant-loop-need l = AreAlike l.answers (take l.need-index l.needs) l.left.items

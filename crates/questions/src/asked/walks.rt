@@ -1,0 +1,95 @@
+//! The walks of one packet, whatever holds that rules need.
+ghost use Rattle.std.specs.Prelude.{◌≡◌, ℕ, IfOk, List, MatchOption, Ok};
+ghost use Rattle.classify.specs.classifier.Classifier.{box_matches};
+ghost use Rattle.fields.specs.packet.Packet.{IsPacket, packet_of};
+ghost use Rattle.questions.specs.Foreign.{Assignment};
+ghost use Rattle.questions.specs.Scopes.{answered, known_by};
+ghost use Rattle.questions.specs.asked.Unclear.{IsUnended};
+ghost use Rattle.questions.specs.asked.Walks.{AreWalks, AreWalksUnder};
+ghost use Rattle.questions.specs.boxes.Area.{IsAtHook, IsIn};
+
+use crate::boxes::area::Area;
+use crate::foreign::answers::Answers;
+use crate::foreign::subject::Subject;
+use crate::walking::engine::leaves_under;
+use crate::walking::scope::Scope;
+use crate::walking::task::Leaf;
+use fields::{Field, Packet, Spans};
+use std::alloc::{AllocError, Global};
+
+// The box of one packet of a box.
+fn box_of(alloc: Global, area: &Area, packet: &Packet) -> Result<Area, AllocError>
+    requires packet { IsPacket packet.now }
+    requires inside { IsIn area.now packet.now }
+    ensures { IfOk result (λ own. IsIn own packet.now) }
+{
+    let mut own = area.copy(alloc)?;
+    for field in Field::ALL {
+        let number = packet.point(field);
+        let set = Spans::one(alloc, field.top(), number, number)?;
+        own = own.narrow(alloc, field, &set)?;
+    }
+    Ok(own)
+}
+
+// The walks of a packet of a box, for all assignments that give the answers: the packet's own box walks.
+pub(crate) fn walks_of(
+    alloc: Global,
+    subject: &Subject<'_>,
+    area: &Area,
+    packet: &Packet,
+    answers: &Answers,
+    budget: usize,
+) -> Result<Option<Vec<Leaf>>, AllocError>
+    requires can { IsAtHook packet.now }
+    requires inside { IsIn area.now packet.now }
+    ensures { IfOk result (λ found. (a : Assignment) → MatchOption found
+        (IsUnended (answered subject.now a) (known_by subject.now a) packet.now.hook budget answers.now packet.now)
+        (λ leaves. AreWalksUnder (answered subject.now a) (known_by subject.now a) packet.now answers.now leaves.items)) }
+{
+    let answers = answers.copy(alloc)?;
+    let area = box_of(alloc, area, packet)?;
+    let start = Scope { area, answers };
+    let found = leaves_under(alloc, subject, packet.hook(), start, budget)?;
+    Ok(found)
+}
+
+// Whether a box has a packet.
+fn has(area: &Area, packet: &Packet) -> bool
+    ensures { result ≡ box_matches packet.now.values area.now }
+{
+    for field in Field::ALL {
+        if !area.on(field).has(packet.point(field)) {
+            return false;
+        }
+    }
+    true
+}
+
+/// The walks of a packet that a line writes, as leaves: under each assignment that gives the answers the packet has the walk that one of them
+/// shows; and each of them shows the walk that the packet has under each assignment that gives the leaf's answers, which are these and
+/// perhaps more. Each leaf's answers can be given. There are none only where the steps of `leaves_under` for the packet's own box use
+/// the budget up, or a trail is full.
+///
+/// # Errors
+///
+/// `AllocError` where memory was refused.
+pub fn walks(
+    alloc: Global,
+    subject: &Subject<'_>,
+    packet: &Packet,
+    answers: &Answers,
+    budget: usize,
+) -> Result<Option<Vec<Leaf>>, AllocError>
+    requires written { (words : List (List ℕ)) × (packet_of words ≡ Ok packet.now) }
+    ensures { IfOk result (λ found. MatchOption found
+        ((a : Assignment) → IsUnended (answered subject.now a) (known_by subject.now a) packet.now.hook budget answers.now packet.now)
+        (λ leaves. AreWalks subject.now packet.now answers.now leaves.items)) }
+{
+    let whole = Area::at_hook(alloc, packet.hook())?;
+    let Some(mut found) = walks_of(alloc, subject, &whole, packet, answers, budget)? else {
+        return Ok(None);
+    };
+    found.retain(|leaf| has(&leaf.area, packet));
+    Ok(Some(found))
+}
