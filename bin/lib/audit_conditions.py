@@ -150,7 +150,7 @@ def branch_of(line, assignment, known):
         found = re.fullmatch(r"if (.*?): (.* by .*)", part)
         if found is None:
             return part
-        if agrees(assignment, answers_of(found[1], known)):
+        if any(agrees(assignment, answers_of(line, known)) for line in found[1].split(" or ")):
             return found[2]
     return "nothing"
 
@@ -167,17 +167,32 @@ def walk_rows(rows, oracle, number, dump):
     ended = rows.run(["walk", "R"], {"R": data}, input=given)
     lines = ended.stdout.decode().splitlines()
     shown = dict(zip(lines[0:2 * len(PACKETS):2], lines[1:2 * len(PACKETS):2]))
-    wrong, met = [] if list(shown) == PACKETS else ["other packets"], set()
+    wrong, met = [] if list(shown) == PACKETS else ["other packets"], []
     for assignment in assignments(dump):
-        for packet, (rules, verdict, by) in zip(PACKETS, oracle.walks(resolved(dump, assignment), PACKETS)):
-            met.update(rules)
+        walks = oracle.walks(resolved(dump, assignment), PACKETS)
+        met.append((assignment, [set(rules) for rules, _, _ in walks]))
+        for packet, (_, verdict, by) in zip(PACKETS, walks):
             came = branch_of(shown.get(packet, ""), assignment, known)
             if came != f"{verdict} by {by}":
                 wrong.append((packet, assignment, came, verdict, by))
     fails(rows, f"walks of dump {number}", wrong)
-    ended = rows.run(["cover", "R"], {"R": data}, input=given)
-    missed = set(re.findall(r"(?m)^(?:missed|dead) (\S+ \d+) ", ended.stdout.decode()))
-    fails(rows, f"rules that packets cover of dump {number}", sorted(missed ^ ({name for name, *_ in places(dump[1])} - met)))
+    text = rows.run(["cover", "R"], {"R": data}, input=given).stdout.decode()
+    fails(rows, f"rules that packets cover of dump {number}", uncovered(dump, text, known, met))
+
+
+def uncovered(dump, text, known, met):
+    """What is wrong in an answer of cover, by the rules on the walk of each packet under each assignment."""
+    every = {name for name, *_ in places(dump[1])}
+    some = {name for _, walks in met for rules in walks for name in rules}
+    always = {name for rules in zip(*(walks for _, walks in met)) for name in set.intersection(*rules)}
+    missed = set(re.findall(r"(?m)^(?:missed|dead) (\S+ \d+) ", text))
+    shown = re.findall(r"(?m)^if (\S+ \d+) -A .*\n  if (.*)$", text)
+    wrong = sorted(missed ^ (every - some)) + sorted({name for name, _ in shown} ^ (some - always))
+    for name, line in shown:
+        under = [walks for assignment, walks in met if agrees(assignment, answers_of(line, known))]
+        if not under or not any(all(name in rules for rules in packet) for packet in zip(*under)):
+            wrong.append((name, line))
+    return wrong
 
 
 def live_rows(rows, oracle, number, dump):

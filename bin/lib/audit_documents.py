@@ -27,8 +27,9 @@ def changes(changed, dead, unclear):
     return {"changed": changed, "dead": dead, "unclear": unclear}
 
 
-def coverage(rules, covered, missed, dead, unclear):
-    return {"rules": rules, "covered": covered, "missed": missed, "dead": dead, "unclear": unclear}
+def coverage(rules, covered, missed, dead, unclear, covered_if=None):
+    some = {} if covered_if is None else {"covered_if": covered_if}
+    return {"rules": rules, "covered": covered, **some, "missed": missed, "dead": dead, "unclear": unclear}
 
 
 def taken(*rules, policies=()):
@@ -194,6 +195,9 @@ DOCUMENTS = {
         (["--steps", "0", "R"], {"R": WITHOUT}, LOGIN, 3, {
             "rules": [rule("INPUT", 1, WEB, "covered"), rule("INPUT", 2, NAMES, "unclear")], "counts": coverage(2, 1, 0, 0, 1)}),
         (["R"], {"R": LIMITED}, b"", 1, {"rules": lived("missed"), "counts": coverage(4, 0, 3, 1, 0), "open": OPEN}),
+        (["R"], {"R": LIMITED}, LOGIN, 0, {
+            "rules": [{key: value for key, value in entry.items() if key != "packet"} for entry in lived("covered")],
+            "counts": coverage(4, 3, 0, 1, 0, covered_if=3), "open": OPEN}),
     ],
     "reach": [
         (["R", "INPUT", "in=eth0", "proto=tcp", "frag=0", "by=dport"], {"R": GATEWAY}, b"", 0, {

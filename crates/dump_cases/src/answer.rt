@@ -255,9 +255,7 @@ fn read_dumps<W: Write>(
 fn known_options(alloc: Global, option: Option<&[u8]>) -> Result<KnownOptions<'_>, Trouble> {
     let mut known = KnownOptions::new(alloc)?;
     if let Some(text) = option {
-        if !known.add(text)? {
-            return Err(Trouble::Other);
-        }
+        known.add(text)?;
     }
     Ok(known)
 }

@@ -1,4 +1,5 @@
 //! Why there is no answer.
+use dumps::OptionFault;
 use std::alloc::AllocError;
 
 /// Why there is no answer.
@@ -15,5 +16,14 @@ pub enum Trouble {
 impl From<AllocError> for Trouble {
     fn from(_error: AllocError) -> Trouble {
         Trouble::NoMemory
+    }
+}
+
+impl From<OptionFault> for Trouble {
+    fn from(error: OptionFault) -> Trouble {
+        match error {
+            OptionFault::NoMemory => Trouble::NoMemory,
+            OptionFault::Refused(..) => Trouble::Other,
+        }
     }
 }

@@ -1,6 +1,6 @@
 -- What it means that a line is taken apart, part by part, without saying how the parts are found.
-use Rattle.std.specs.Prelude.{◌≡◌, ◌≢◌, ◌⊎◌, ℕ, Bool, true, false, List, [], ◌∷◌, ◌++◌, length, flat_map, codes, Some, None, Err}
-use Rattle.dumps.specs.Options.{Row, Table, begins_or_names}
+use Rattle.std.specs.Prelude.{◌≡◌, ◌≢◌, ◌⊎◌, ℕ, true, false, List, [], ◌∷◌, ◌++◌, length, flat_map, codes, Some, None, Err}
+use Rattle.dumps.specs.Options.{Table, begins_or_names}
 use Rattle.dumps.specs.Parts.{Part, part_words, value_of, option_after, refused_with, Refusal, next_part}
 
 -- a part that may stand after those before it: its option is the one that is spelled so there, as many words follow as its row says,

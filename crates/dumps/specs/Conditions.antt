@@ -2,7 +2,7 @@
 use Rattle.std.specs.Prelude.{◌≡◌, ◌≢◌, All, Contains, ℕ, Bool, true, false, not, ◌&&◌, ◌||◌, List, [], ◌∷◌, ◌++◌, length, flat_map, filter, if◌then◌else◌, codes, Option, Some, None}
 use Rattle.std.specs.Prelude.{◌==◌}
 use Rattle.std.specs.List.{list_any}
-use Rattle.dumps.specs.Options.{Row, Extension, Table, extension_of, is_role}
+use Rattle.dumps.specs.Options.{Row, Extension, Table, extension_of, is_role, is_match}
 use Rattle.dumps.specs.Parts.{Part, spelled_words, value_of}
 use Rattle.dumps.specs.Apart.{IsTakenApart}
 use Rattle.dumps.specs.Own.{is_read, is_of, begins, up_to_next}
@@ -118,26 +118,48 @@ conditions_after table before (part ∷ parts) =
 abbrev pub conditions : Table → List Part → List Condition
 conditions table parts = conditions_after table [] parts
 
--- A part is asked: with the other options of its match that the program doesn't read, from some place up to where the match is begun
--- again, and what these ask is among the conditions.
-pub record IsAskedAmong (table : Table) (line : List Part) (part : Part) (all : List Condition) : Type 0 where
-  pub before : List Part
-  pub from : List Part
-  pub split : line ≡ before ++ from
-  pub has : Contains (unread table part.row.owner (up_to_next part.row.owner from)) part
-  pub asked : All (Contains all) (asked_by table part.row.owner from)
+-- of some options those that begin a match or give a protocol are the rule's own
+abbrev pub AreOwnStarts : List Row → Type 0
+AreOwnStarts rows = All (λ (row : Row). (is_role role.Match row.role || is_role role.Protocol row.role) ≡ true → row.owner ≡ []) rows
 
 -- in the table `-m` and `-p` are the rule's own
 abbrev pub HasOwnStarts : Table → Type 0
-HasOwnStarts table =
-    All (λ (row : Row). (is_role role.Match row.role || is_role role.Protocol row.role) ≡ true → row.owner ≡ []) table.options
+HasOwnStarts table = AreOwnStarts table.options
 
--- each option of a match that the program doesn't read is asked
-abbrev pub OptionsAreAsked : Type 0
-OptionsAreAsked =
+-- how long a condition lasts that the options of a match ask which the program doesn't read: where it reads the match, one place
+abbrev pub lasting_of : Kind → Option Lasting
+lasting_of (kind.Known alone) = Some lasting.Place
+lasting_of (kind.Foreign lasts) = Some lasts
+lasting_of kind.Ends = None
+lasting_of kind.Logs = None
+lasting_of kind.Passes = None
+lasting_of kind.Decides = None
+
+-- What becomes of an option that the program doesn't read, by the match or target that has it and the options of it that stand together:
+-- these ask a condition of the line; or the only one of them that asks always holds, and no `!` stands before it; or it says what a target
+-- does, which is no condition.
+pub data IsAccounted (table : Table) (all : List Condition) (owner : Extension) (parts : List Part) : Type 0 where
+  Asks : (lasts : Lasting) → lasting_of owner.kind ≡ Some lasts → Contains all (condition_of owner.name lasts parts) → IsAccounted table all owner parts
+  Holds : is_match owner.kind ≡ true → always_hold parts ≡ true → IsAccounted table all owner parts
+  OfTarget : is_match owner.kind ≡ false → IsAccounted table all owner parts
+
+-- An option is accounted for with the others of its match or target that the program doesn't read, from some place up to where the match is
+-- begun again; and the table has that match or target.
+pub record IsNotLost (table : Table) (line : List Part) (part : Part) (all : List Condition) : Type 0 where
+  pub owner : Extension
+  pub its : extension_of table.extensions part.row.owner ≡ Some owner
+  pub before : List Part
+  pub from : List Part
+  pub split : line ≡ before ++ from
+  pub has : Contains (unread table owner.name (up_to_next owner.name from)) part
+  pub accounted : IsAccounted table all owner (unread table owner.name (up_to_next owner.name from))
+
+-- no option of a match or a target is lost that the program doesn't read
+abbrev pub OptionsAreKept : Type 0
+OptionsAreKept =
     (table : Table) (words : List (List ℕ)) (before after : List Part) (part : Part) → HasOwnStarts table
     → IsTakenApart table words (before ++ part ∷ after) → is_read table part ≡ false → part.row.owner ≢ []
-    → IsAskedAmong table (before ++ part ∷ after) part (conditions table (before ++ part ∷ after))
+    → IsNotLost table (before ++ part ∷ after) part (conditions table (before ++ part ∷ after))
 
 -- what a match asks that `-m` begins is among the conditions, also where it has no option
 abbrev pub MatchesAreAsked : Type 0
@@ -153,6 +175,6 @@ ProtocolsAreAsked =
 
 -- nothing that the program doesn't read is lost
 pub record NothingIsLost : Type 0 where
-  pub options : OptionsAreAsked
+  pub options : OptionsAreKept
   pub matches : MatchesAreAsked
   pub protocols : ProtocolsAreAsked

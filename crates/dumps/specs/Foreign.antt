@@ -1,6 +1,10 @@
 -- What the rules of a dump need beyond what the program reads.
-use Rattle.std.specs.Prelude.{ℕ, Bool, nat_lt, List, ◌++◌, length, map, filter}
+use Rattle.std.specs.Prelude.{ℕ, Bool, not, nat_lt, List, [], ◌∷◌, ◌++◌, length, map, filter, flat_map, if◌then◌else◌, Option, Some, None, is_some}
+use Rattle.std.specs.Global.{Vec}
+use Rattle.std.specs.List.{list_any}
 use Rattle.std.specs.Str.{bytes_eq}
+use Rattle.dumps.specs.Options.{Extension, Known, Table, known_of}
+use Rattle.dumps.specs.Parts.{Part, target_of}
 use Rattle.dumps.specs.Conditions.{Condition}
 use Rattle.dumps.specs.Own.{line_of}
 use Rattle.dumps.specs.declared.options.row.Lasting.{Lasting}
@@ -25,6 +29,27 @@ needed condition =
       inverted = condition.inverted;
     }
 
+-- the words for a need, if its condition is known: those that ask the condition, or its opposite
+abbrev pub words_by : Bool → Option Known → List (List ℕ)
+words_by inverted None = []
+words_by inverted (Some known) = if inverted then known.fails else known.holds
+
+-- the same, by the conditions that are known
+abbrev pub words_for : List Known → Needed → List (List ℕ)
+words_for known need = words_by need.inverted (known_of known need.text)
+
+-- the words for all needs of which the conditions are known
+abbrev pub known_words : List Known → List Needed → List (List ℕ)
+known_words known needs = flat_map (words_for known) needs
+
+-- the condition of a need isn't known
+abbrev pub is_unknown : List Known → Needed → Bool
+is_unknown known need = not (is_some (known_of known need.text))
+
+-- the needs of which the conditions aren't known
+abbrev pub unknown_needs : List Known → List Needed → List Needed
+unknown_needs known needs = filter (is_unknown known) needs
+
 -- a rule by its chain, and what it needs
 pub record ReadRule : Type 0 where
   pub chain : List ℕ
@@ -46,6 +71,28 @@ inversions needs = map (λ (need : Needed). need.inverted) needs
 abbrev pub inversions_of : List ℕ → List ReadRule → List (List Bool)
 inversions_of chain rules = map (λ (rule : ReadRule). inversions rule.needs) (filter (is_in chain) rules)
 
+-- the matches that ask what a target sets, if there is one
+abbrev pub sets_of : Option Extension → List (List ℕ)
+sets_of None = []
+sets_of (Some row) = row.sets
+
+-- the matches that ask what the target of a line sets
+abbrev pub set_by : Table → List Part → List (List ℕ)
+set_by table parts = sets_of (target_of table parts)
+
+-- the name is among some
+abbrev pub is_named : List (List ℕ) → List ℕ → Bool
+is_named names name = list_any (bytes_eq name) names
+
+-- some names, and one more unless it is among them
+abbrev pub with_name : List (List ℕ) → List ℕ → List (List ℕ)
+with_name names name = if is_named names name then names else names ++ name ∷ []
+
+-- some names, and those of others that aren't among them
+abbrev pub with_names : List (List ℕ) → List (List ℕ) → List (List ℕ)
+with_names names [] = names
+with_names names (name ∷ more) = with_names (with_name names name) more
+
 -- How the code's values stand for these.
 abbrev pub needed_in : NeededText → Needed
 needed_in need = record { name = need.name.items; text = need.text.items; lasting = need.lasting; inverted = need.inverted }
@@ -61,3 +108,11 @@ rule_in rule = record { chain = rule.chain.items; needs = needs_in rule.needs.it
 -- the rules of a dump, in the order of its lines
 abbrev pub rules_in : Foreign → List ReadRule
 rules_in foreign = map rule_in foreign.rules.items
+
+-- names that are kept
+abbrev pub kept_names : List (Vec ℕ) → List (List ℕ)
+kept_names names = map (λ (name : Vec ℕ). name.items) names
+
+-- the matches that ask what a target of the rules sets
+abbrev pub sets_in : Foreign → List (List ℕ)
+sets_in foreign = kept_names foreign.set.items

@@ -1,8 +1,11 @@
 pub mod Apart
 pub mod Conditions
 pub mod Foreign
+pub mod Known
 pub mod LineViews
 pub mod NeedViews
+pub mod NumberViews
+pub mod Numbers
 pub mod Options
 pub mod Own
 pub mod Parts

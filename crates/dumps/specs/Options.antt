@@ -22,12 +22,19 @@ pub record Extension : Type 0 where
   pub protocols : List (List ℕ)
   pub sets : List (List ℕ)
 
--- a table: its options, its matches and targets, and the names of ports and of types of ICMP with their numbers
+-- a condition that the program can be given in words of its own: its text, the words that ask it, and those that ask its opposite
+pub record Known : Type 0 where
+  pub text : List ℕ
+  pub holds : List (List ℕ)
+  pub fails : List (List ℕ)
+
+-- a table: its options, its matches and targets, the names of ports and of types of ICMP with their numbers, and the conditions that are known
 pub record Table : Type 0 where
   pub options : List Row
   pub extensions : List Extension
   pub ports : List (List ℕ × List ℕ)
   pub icmp_types : List (List ℕ × List ℕ)
+  pub known : List Known
 
 -- the first option of an owner that is spelled so
 abbrev pub option_of : List Row → List ℕ → List ℕ → Option Row
@@ -44,6 +51,10 @@ begun_by_protocol rows protocol = option_map (λ (row : Extension). row.name) (f
 -- the number of a name
 abbrev pub number_of : List (List ℕ × List ℕ) → List ℕ → Option (List ℕ)
 number_of rows name = option_map (λ (row : List ℕ × List ℕ). row.1) (find (λ (row : List ℕ × List ℕ). bytes_eq row.0 name) rows)
+
+-- the first condition of a text that is known
+abbrev pub known_of : List Known → List ℕ → Option Known
+known_of rows text = find (λ (row : Known). bytes_eq row.text text) rows
 
 -- a kind of match
 abbrev pub is_match : Kind → Bool

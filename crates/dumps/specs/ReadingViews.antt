@@ -1,6 +1,6 @@
 -- How the code's reading of a dump stands for that of the definitions.
 use Rattle.std.specs.Prelude.{ℕ, List, Option, Some, None, option_map}
-use Rattle.dumps.specs.Foreign.{rules_in}
+use Rattle.dumps.specs.Foreign.{rules_in, sets_in}
 use Rattle.dumps.specs.Reading.{Read, Refusal}
 use Rattle.dumps.specs.declared.reading.dump.Reading.{Reading}
 use Rattle.dumps.specs.declared.reading.fault.LineWord.{LineWord}
@@ -18,6 +18,7 @@ read_in reading =
       section = reading.section;
       text = reading.text.items;
       rules = rules_in reading.foreign;
+      sets = sets_in reading.foreign;
       moved = option_map word_in reading.moved;
     }
 

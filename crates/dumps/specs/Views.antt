@@ -1,5 +1,5 @@
 -- How the code's values stand for those of the definitions.
-use Rattle.std.specs.Prelude.{ℕ, List, map, Option, Some, None, Result}
+use Rattle.std.specs.Prelude.{ℕ, Bool, ◌&&◌, List, map, Option, Some, None, Result}
 use Rattle.std.specs.Borrow.{Bor}
 use Rattle.fields.specs.Refusals.{GivesFor}
 use Rattle.fields.specs.text.WordSlice.{words_in}
@@ -9,11 +9,16 @@ use Rattle.dumps.specs.Parts as parts
 use Rattle.dumps.specs.declared.options.row.OptionRow.{OptionRow}
 use Rattle.dumps.specs.declared.options.row.ExtensionRow.{ExtensionRow}
 use Rattle.dumps.specs.declared.options.table.NameRow.{NameRow}
+use Rattle.dumps.specs.declared.options.table.KnownCondition.{KnownCondition}
 use Rattle.dumps.specs.declared.options.table.OptionTable.{OptionTable}
 use Rattle.dumps.specs.declared.apart.part.Part.{Part}
 use Rattle.dumps.specs.declared.apart.Apart.{Apart}
 use Rattle.dumps.specs.Conditions as conditions
 use Rattle.dumps.specs.declared.apart.condition.Condition.{Condition}
+use Rattle.dumps.specs.declared.apart.condition.Test.{Test}
+use Rattle.dumps.specs.declared.apart.condition.Test.TheVariants as test
+use Rattle.dumps.specs.declared.apart.taking.Beginning.{Beginning}
+use Rattle.dumps.specs.declared.apart.taking.Beginning.TheVariants as beginning
 use Rattle.dumps.specs.declared.apart.fault.ApartFault.{ApartFault}
 use Rattle.dumps.specs.declared.apart.fault.ApartFault.TheVariants as fault
 
@@ -45,6 +50,14 @@ name_in row = (row.name.now, row.number.now)
 abbrev pub names_in : List NameRow → List (List ℕ × List ℕ)
 names_in rows = map name_in rows
 
+-- a condition that is known, as its row says
+abbrev pub known_in : KnownCondition → options.Known
+known_in row = record { text = row.text.now; holds = texts_in row.holds.now; fails = texts_in row.fails.now }
+
+-- all of them
+abbrev pub all_known_in : List KnownCondition → List options.Known
+all_known_in rows = map known_in rows
+
 -- the table that is lent
 abbrev pub table_in : OptionTable → options.Table
 table_in table =
@@ -53,6 +66,7 @@ table_in table =
       extensions = extensions_in table.extensions.now;
       ports = names_in table.ports.now;
       icmp_types = names_in table.icmp_types.now;
+      known = all_known_in table.known.now;
     }
 
 -- a part, as it is lent
@@ -93,3 +107,15 @@ condition_in condition =
 -- all of them
 abbrev pub conditions_in : List Condition → List conditions.Condition
 conditions_in all = map condition_in all
+
+-- a part is as a test asks
+abbrev pub passes : Test → parts.Part → Bool
+passes test.Asks part = conditions.asks part
+passes test.AsksInverted part = conditions.asks part && part.inverted
+passes test.Turns part = conditions.turns part
+passes test.Holds part = conditions.holds part
+
+-- what a part begins by its name, or by its protocol
+abbrev pub begun : Beginning → options.Table → parts.Part → Option (List ℕ)
+begun beginning.Name table part = parts.begun_by table part
+begun beginning.Protocol table part = parts.implied_by table part

@@ -68,7 +68,7 @@ impl<'a> Apart<'a> {
     /// # Cost
     ///
     /// A pass over the parts for each part. Each condition takes two allocations.
-    #[tactic(auto, using(crate::proofs::laws::AskedLaws::nothing_is_lost))]
+    #[tactic(auto, using(crate::proofs::laws::KeptLaws::nothing_is_lost))]
     pub fn conditions(
         &self,
         alloc: Global,

@@ -1,8 +1,17 @@
 //! The conditions of one or two dumps, by their numbers.
+ghost use Rattle.std.specs.Prelude.{◌≡◌, ◌+◌, ℕ, ◌∷◌, [], ◌++◌, List, Some, IfOk, OnOk, option_map, if◌then◌else◌};
+ghost use Rattle.std.specs.List.{list_any, flat_map};
+ghost use Rattle.std.specs.Str.{bytes_eq};
+ghost use Rattle.std.specs.Global.{Vec};
+ghost use Rattle.dumps.specs.Foreign.{needed_in, kept_names, sets_in, is_named};
+ghost use Rattle.dumps.specs.Numbers.{lasts_at_place, identity_of, place_identity};
+ghost use Rattle.dumps.specs.NumberViews.{place_in, kept_in, all_in, identity_in, key_place_in, asked_with, count_in};
+
 use crate::options::row::Lasting;
-use crate::reading::foreign::{Foreign, ForeignRule, NeededText};
+use crate::reading::foreign::{Foreign, ForeignRule, NeededText, is_named};
 use std::alloc::{AllocError, Global};
 use std::collections::BTreeMap;
+use std::marker::Model;
 
 /// What a rule needs of a condition, by its number: that it holds or, inverted, that it doesn't.
 #[derive(Clone, Copy, Debug, PartialEq, Eq)]
@@ -22,12 +31,26 @@ pub struct ConditionPlace {
     pub rule: usize,
 }
 
-// A condition.
+// A place, and how many conditions of a place with the same text the chain has before it.
+#[derive(Drop)]
+struct KeptPlace {
+    at: ConditionPlace,
+    count: usize,
+}
+
+// A condition, as it was asked first.
 #[derive(Drop)]
 struct Kept {
     name: Vec<u8>,
     text: Vec<u8>,
-    place: Option<ConditionPlace>,
+    place: Option<KeptPlace>,
+}
+
+// What tells a condition: its text and, of one of a place, the chain and the count.
+#[derive(PartialEq, Eq, PartialOrd, Ord, Drop)]
+struct Key {
+    text: Vec<u8>,
+    place: Option<(Vec<u8>, usize)>,
 }
 
 // Where a need stands.
@@ -39,38 +62,81 @@ struct Standing<'a> {
 }
 
 /// The conditions of one or two dumps, numbered as they come: what the packet alone decides has one number a text; what depends
-/// on the moment has one a place, which is told by the chain, the text and the how-many-eth of that text in the chain it is, so
-/// that a rule put into the chain moves nothing. What a target of one of the dumps sets is told by the place too.
+/// on the moment has one a place, which is told by the chain, the text and the how-many-eth condition of a place with that text in the
+/// chain it is, so that a rule put into the chain moves no condition of another text. What a target of one of the dumps sets is told by
+/// the place too.
 #[derive(Drop)]
 pub struct Conditions {
     alloc: Global,
     set: Vec<Vec<u8>>,
-    numbers: BTreeMap<Vec<u8>, usize>,
+    numbers: BTreeMap<Key, usize>,
     kept: Vec<Kept>,
 }
 
-// Appends a number in eight bytes.
-fn append_number(key: &mut Vec<u8>, number: usize) -> Result<(), AllocError> {
-    key.extend_from_slice(&(number as u64).to_be_bytes())
+impl Model for Conditions {
+    ghost use Rattle.dumps.specs.Foreign.{kept_names};
+    ghost use Rattle.dumps.specs.Numbers.{Numbers};
+    ghost use Rattle.dumps.specs.NumberViews.{all_in, IsIndex};
+
+    ghost Value = { Numbers };
+
+    ghost view = { λ c. record { sets = kept_names c.set.items; all = all_in c.kept.items } };
+
+    ghost invariant = { λ c. IsIndex c.numbers (all_in c.kept.items) };
 }
 
 // How many conditions of a text the chain had so far, of which one more is counted.
-fn counted(
-    alloc: Global,
-    counts: &mut BTreeMap<Vec<u8>, usize>,
-    text: &[u8],
-) -> Result<usize, AllocError> {
-    let before = match counts.get(text) {
-        None => 0,
-        Some(count) => *count,
+fn counted(counts: &mut BTreeMap<Vec<u8>, usize>, text: Vec<u8>) -> Result<usize, AllocError>
+    ensures before { IfOk result (λ before. before ≡ count_in counts.old text) }
+    ensures more { OnOk result ((other : Vec ℕ) → count_in counts.new other
+        ≡ count_in counts.old other + (if bytes_eq text.items other.items then 1 else 0)) }
+{
+    let before = counts.get(&text).copied().unwrap_or(0);
+    let Some(more) = before.checked_add(1) else {
+        return Err(AllocError);
     };
-    let key = text.to_vec(alloc)?;
-    counts.insert(key, before.saturating_add(1))?;
+    counts.insert(text, more)?;
     Ok(before)
 }
 
+// The place of a key.
+fn key_place(
+    alloc: Global,
+    place: &Option<KeptPlace>,
+) -> Result<Option<(Vec<u8>, usize)>, AllocError>
+    ensures { IfOk result (λ made. key_place_in made ≡ option_map place_identity (option_map place_in place.now)) }
+{
+    match place {
+        None => Ok(None),
+        Some(place) => {
+            let chain = place.at.chain.as_slice().to_vec(alloc)?;
+            Ok(Some((chain, place.count)))
+        }
+    }
+}
+
+// The key of the condition of a need.
+fn key_of(alloc: Global, need: &NeededText, place: &Option<KeptPlace>) -> Result<Key, AllocError>
+    ensures { IfOk result (λ key. identity_in key ≡ identity_of (asked_with need.now place.now)) }
+{
+    let text = need.text.as_slice().to_vec(alloc)?;
+    let place = key_place(alloc, place)?;
+    Ok(Key { text, place })
+}
+
+// The condition of a need, which is asked first.
+fn kept_of(alloc: Global, need: &NeededText, place: Option<KeptPlace>) -> Result<Kept, AllocError>
+    ensures { IfOk result (λ kept. kept_in kept ≡ asked_with need.now place) }
+{
+    let name = need.name.as_slice().to_vec(alloc)?;
+    let text = need.text.as_slice().to_vec(alloc)?;
+    Ok(Kept { name, text, place })
+}
+
 // Adds copies of names.
-fn add_names(alloc: Global, set: &mut Vec<Vec<u8>>, names: &[Vec<u8>]) -> Result<(), AllocError> {
+fn add_names(alloc: Global, set: &mut Vec<Vec<u8>>, names: &[Vec<u8>]) -> Result<(), AllocError>
+    ensures { IfOk result (λ _. kept_names set.new.items ≡ kept_names set.old.items ++ kept_names names.now) }
+{
     for name in names {
         let name = name.as_slice().to_vec(alloc)?;
         set.push(name)?;
@@ -78,21 +144,58 @@ fn add_names(alloc: Global, set: &mut Vec<Vec<u8>>, names: &[Vec<u8>]) -> Result
     Ok(())
 }
 
+// The names of what targets of some dumps set.
+fn names_set(alloc: Global, dumps: &[&Foreign]) -> Result<Vec<Vec<u8>>, AllocError>
+    ensures { IfOk result (λ set. kept_names set.items ≡ flat_map (λ dump. sets_in dump.now) dumps.now) }
+{
+    let mut set = Vec::new(alloc);
+    for foreign in dumps {
+        add_names(alloc, &mut set, foreign.set.as_slice())?;
+    }
+    Ok(set)
+}
+
+// Whether a target sets what one of some conditions asks.
+fn one_is_set(kept: &[Kept], set: &[Vec<u8>]) -> bool
+    ensures { result ≡ list_any (λ one. is_named (kept_names set.now) one.name) (all_in kept.now) }
+{
+    for one in kept {
+        if is_named(set, one.name.as_slice()) {
+            return true;
+        }
+    }
+    false
+}
+
+// Whether a condition is told by its place, where a target sets what it asks or none does.
+fn lasts_at_place(set: bool, lasting: Lasting) -> bool
+    ensures { result ≡ lasts_at_place set lasting }
+{
+    match lasting {
+        Lasting::Text => false,
+        Lasting::Place => true,
+        Lasting::Set => set,
+    }
+}
+
 impl Conditions {
-    ghost use Rattle.std.specs.Prelude.{◌≡◌, ◌++◌, ◌∷◌, [], map, IfOk};
-    ghost use Rattle.dumps.specs.Foreign.{needs_in, rule_in, rules_in, inversions, inversions_of};
+    ghost use Rattle.std.specs.Prelude.{◌≡◌, ◌==◌, ◌++◌, ◌∷◌, [], false, List, length, map, IfOk, OnOk, MatchOption, Some, option_map};
+    ghost use Rattle.std.specs.List.{slice_get, flat_map};
+    ghost use Rattle.dumps.specs.Foreign.{Needed, needed_in, needs_in, ReadRule, rule_in, rules_in, sets_in, inversions, inversions_of};
     ghost use Rattle.dumps.specs.NeedViews.{inversions_in, all_inversions_in};
+    ghost use Rattle.dumps.specs.Numbers.{Numbers, has, identity_of, identity_at, told, added, is_of_place, place_of, text_of, name_of, place_at, rule_of, some_set, AreNumbered, AreApart, NumbersTellConditions};
+    ghost use Rattle.dumps.specs.NumberViews.{at_in, place_in, kept_in, identity_in, asked_with, numbers_of, numbers_in, AreCounts, AreNeedsNumbered, AreNumberedSoFar};
 
     /// No condition so far, of these dumps.
     ///
     /// # Errors
     ///
     /// `AllocError` where memory was refused.
-    pub fn new(alloc: Global, dumps: &[&Foreign]) -> Result<Conditions, AllocError> {
-        let mut set = Vec::new(alloc);
-        for foreign in dumps {
-            add_names(alloc, &mut set, foreign.set.as_slice())?;
-        }
+    pub fn new(alloc: Global, dumps: &[&Foreign]) -> Result<Conditions, AllocError>
+        ensures none { IfOk result (λ made. made.all ≡ []) }
+        ensures sets { IfOk result (λ made. made.sets ≡ flat_map (λ dump. sets_in dump.now) dumps.now) }
+    {
+        let set = names_set(alloc, dumps)?;
         Ok(Conditions {
             alloc,
             set,
@@ -101,60 +204,82 @@ impl Conditions {
         })
     }
 
-    // Whether a target sets what a match asks.
-    fn is_set(&self, name: &[u8]) -> bool {
-        self.set.iter().any(|one| one.as_slice() == name)
-    }
-
     // Whether a condition is told by its place.
-    fn is_of_place(&self, need: &NeededText) -> bool {
-        match need.lasting {
-            Lasting::Text => false,
-            Lasting::Place => true,
-            Lasting::Set => self.is_set(need.name.as_slice()),
-        }
+    fn is_of_place(&self, need: &NeededText) -> bool
+        ensures { result ≡ is_of_place self.now.sets (needed_in need.now) }
+    {
+        lasts_at_place(
+            is_named(self.set.as_slice(), need.name.as_slice()),
+            need.lasting,
+        )
     }
 
-    // What tells a condition of a place: no byte of the text and the chain is a newline.
-    fn place_key(
+    // The place of a need, if its condition is one of a place, which is counted then.
+    fn place_of(
         &self,
         need: &NeededText,
-        chain: &[u8],
-        count: usize,
-    ) -> Result<Vec<u8>, AllocError> {
-        let mut key = need.text.as_slice().to_vec(self.alloc)?;
-        key.push(b'\n')?;
-        key.extend_from_slice(chain)?;
-        key.push(b'\n')?;
-        append_number(&mut key, count)?;
-        Ok(key)
+        standing: Standing<'_>,
+        counts: &mut BTreeMap<Vec<u8>, usize>,
+    ) -> Result<Option<KeptPlace>, AllocError>
+        ensures place { IfOk result (λ place. (before : List Needed) → AreCounts self.now.sets before counts.old
+            → option_map place_in place ≡ place_of self.now.sets standing.entry.chain.now standing.entry.rule before (needed_in need.now)) }
+        ensures counts { OnOk result ((before : List Needed) → AreCounts self.now.sets before counts.old
+            → AreCounts self.now.sets (before ++ needed_in need.now ∷ []) counts.new) }
+    {
+        if !self.is_of_place(need) {
+            return Ok(None);
+        }
+        let text = need.text.as_slice().to_vec(self.alloc)?;
+        let count = counted(counts, text)?;
+        let chain = standing.chain.to_vec(self.alloc)?;
+        let at = ConditionPlace {
+            chain,
+            rule: standing.rule,
+        };
+        return Ok(Some(KeptPlace { at, count }));
     }
 
-    // The number of a key, which is given where it has none.
+    // The number of the condition of a key, if it has one.
+    fn find(&self, key: &Key) -> Option<usize>
+        ensures { MatchOption result (has self.now.all (identity_in key.now) ≡ false)
+            (λ n. identity_at self.now.all n ≡ Some (identity_in key.now)) }
+    {
+        self.numbers.get(key).copied()
+    }
+
+    // Gives the next number to a condition that has none.
+    fn add(&mut self, key: Key, kept: Kept) -> Result<usize, AllocError>
+        requires new { has self.old.all (identity_in key) ≡ false }
+        requires same { identity_in key ≡ identity_of (kept_in kept) }
+        ensures after { OnOk result (self.new ≡ added self.old (kept_in kept ∷ [])) }
+        ensures number { IfOk result (λ n. identity_at self.new.all n ≡ told (kept_in kept)) }
+    {
+        let number = self.kept.len();
+        self.kept.push(kept)?;
+        match self.numbers.insert(key, number) {
+            Ok(_) => return Ok(number),
+            Err(_) => {
+                self.kept.truncate(number);
+                return Err(AllocError);
+            }
+        }
+    }
+
+    // The number of the condition of a need, which is given where it has none.
     fn number_of(
         &mut self,
-        key: Vec<u8>,
         need: &NeededText,
-        place: Option<Standing<'_>>,
-    ) -> Result<usize, AllocError> {
-        if let Some(number) = self.numbers.get(key.as_slice()) {
-            return Ok(*number);
+        place: Option<KeptPlace>,
+    ) -> Result<usize, AllocError>
+        ensures after { OnOk result (self.new ≡ added self.old (asked_with need.now place ∷ [])) }
+        ensures number { IfOk result (λ n. identity_at self.new.all n ≡ told (asked_with need.now place)) }
+    {
+        let key = key_of(self.alloc, need, &place)?;
+        if let Some(number) = self.find(&key) {
+            return Ok(number);
         }
-        let number = self.kept.len();
-        let place = match place {
-            None => None,
-            Some(standing) => Some(ConditionPlace {
-                chain: standing.chain.to_vec(self.alloc)?,
-                rule: standing.rule,
-            }),
-        };
-        self.kept.push(Kept {
-            name: need.name.as_slice().to_vec(self.alloc)?,
-            text: need.text.as_slice().to_vec(self.alloc)?,
-            place,
-        })?;
-        self.numbers.insert(key, number)?;
-        Ok(number)
+        let kept = kept_of(self.alloc, need, place)?;
+        return self.add(key, kept);
     }
 
     // The need of a condition, of which the chain had others so far.
@@ -164,16 +289,14 @@ impl Conditions {
         standing: Standing<'_>,
         counts: &mut BTreeMap<Vec<u8>, usize>,
     ) -> Result<ForeignNeed, AllocError>
-        ensures { IfOk result (λ made. made.inverted ≡ need.now.inverted) }
+        ensures inverted { IfOk result (λ made. made.inverted ≡ need.now.inverted) }
+        ensures numbered { IfOk result (λ made. (before : List Needed) → AreCounts self.old.sets before counts.old
+            → AreNeedsNumbered standing.entry.chain.now standing.entry.rule before (needed_in need.now ∷ []) self.old self.new (made.condition ∷ [])) }
+        ensures counts { OnOk result ((before : List Needed) → AreCounts self.old.sets before counts.old
+            → AreCounts self.old.sets (before ++ needed_in need.now ∷ []) counts.new) }
     {
-        let condition = if self.is_of_place(need) {
-            let count = counted(self.alloc, counts, need.text.as_slice())?;
-            let key = self.place_key(need, standing.chain, count)?;
-            self.number_of(key, need, Some(standing))?
-        } else {
-            let key = need.text.as_slice().to_vec(self.alloc)?;
-            self.number_of(key, need, None)?
-        };
+        let place = self.place_of(need, standing, counts)?;
+        let condition = self.number_of(need, place)?;
         Ok(ForeignNeed {
             condition,
             inverted: need.inverted,
@@ -187,7 +310,11 @@ impl Conditions {
         standing: Standing<'_>,
         counts: &mut BTreeMap<Vec<u8>, usize>,
     ) -> Result<Vec<ForeignNeed>, AllocError>
-        ensures { IfOk result (λ made. inversions_in made.items ≡ inversions (needs_in needs.now)) }
+        ensures inversions { IfOk result (λ made. inversions_in made.items ≡ inversions (needs_in needs.now)) }
+        ensures numbered { IfOk result (λ made. (before : List Needed) → AreCounts self.old.sets before counts.old
+            → AreNeedsNumbered standing.entry.chain.now standing.entry.rule before (needs_in needs.now) self.old self.new (numbers_of made.items)) }
+        ensures counts { OnOk result ((before : List Needed) → AreCounts self.old.sets before counts.old
+            → AreCounts self.old.sets (before ++ needs_in needs.now) counts.new) }
     {
         let mut numbered = Vec::new(self.alloc);
         for need in needs {
@@ -204,15 +331,18 @@ impl Conditions {
         counts: &mut BTreeMap<Vec<u8>, usize>,
         rules: &mut Vec<Vec<ForeignNeed>>,
     ) -> Result<(), AllocError>
-        ensures { IfOk result (λ _. all_inversions_in rules.new.items
+        ensures inversions { IfOk result (λ _. all_inversions_in rules.new.items
             ≡ all_inversions_in rules.old.items ++ inversions_of chain.now (rule_in rule.now ∷ [])) }
+        ensures numbered { OnOk result ((done : List ReadRule) (first : Numbers)
+            → AreNumberedSoFar chain.now done first self.old rules.old.items counts.old
+            → AreNumberedSoFar chain.now (done ++ rule_in rule.now ∷ []) first self.new rules.new.items counts.new) }
     {
         if rule.chain.as_slice() != chain {
             return Ok(());
         }
         let standing = Standing {
             chain,
-            rule: rules.len().saturating_add(1),
+            rule: rules.len() + 1,
         };
         let needs = self.needs_of_rule(rule.needs.as_slice(), standing, counts)?;
         rules.push(needs)?;
@@ -225,7 +355,8 @@ impl Conditions {
         among: &[ForeignRule],
         chain: &[u8],
     ) -> Result<Vec<Vec<ForeignNeed>>, AllocError>
-        ensures { IfOk result (λ made. all_inversions_in made.items ≡ inversions_of chain.now (map rule_in among.now)) }
+        ensures inversions { IfOk result (λ made. all_inversions_in made.items ≡ inversions_of chain.now (map rule_in among.now)) }
+        ensures numbered { IfOk result (λ made. AreNumbered chain.now (map rule_in among.now) self.old self.new (numbers_in made.items)) }
     {
         let mut counts = BTreeMap::new(self.alloc);
         let mut rules = Vec::new(self.alloc);
@@ -240,44 +371,51 @@ impl Conditions {
     ///
     /// # Errors
     ///
-    /// `AllocError` where memory was refused.
+    /// `AllocError` where memory was refused, or a chain has more conditions of a text than a number counts.
     ///
     /// # Cost
     ///
     /// For each condition of the chain a search among all, and for each rule of the dump a comparison with the chain's name.
+    #[tactic(auto, using(crate::proofs::laws::NumberLaws::numbers_tell_conditions))]
     pub fn needs_of_chain(
         &mut self,
         foreign: &Foreign,
         chain: &[u8],
     ) -> Result<Vec<Vec<ForeignNeed>>, AllocError>
-        ensures { IfOk result (λ rules. all_inversions_in rules.items ≡ inversions_of chain.now (rules_in foreign.now)) }
+        ensures inversions { IfOk result (λ rules. all_inversions_in rules.items ≡ inversions_of chain.now (rules_in foreign.now)) }
+        ensures numbered { IfOk result (λ rules. AreNumbered chain.now (rules_in foreign.now) self.old self.new (numbers_in rules.items)) }
+        ensures told { NumbersTellConditions }
     {
         self.needs_among(foreign.rules.as_slice(), chain)
     }
 
     /// Whether a target of the dumps sets what some condition asks.
-    pub fn are_set(&self) -> bool {
-        for kept in &self.kept {
-            if self.is_set(kept.name.as_slice()) {
-                return true;
-            }
-        }
-        false
+    pub fn are_set(&self) -> bool
+        ensures { result ≡ some_set self.now }
+    {
+        one_is_set(self.kept.as_slice(), self.set.as_slice())
     }
 
     /// How many conditions there are.
-    pub fn len(&self) -> usize {
+    pub fn len(&self) -> usize
+        ensures count { result ≡ length self.now.all }
+        ensures apart { AreApart self.now.all }
+    {
         self.kept.len()
     }
 
     /// Whether there is none.
-    pub fn is_empty(&self) -> bool {
+    pub fn is_empty(&self) -> bool
+        ensures { result ≡ (length self.now.all == 0) }
+    {
         self.kept.is_empty()
     }
 
     /// The words of a condition, as they are written: the name of its match and what it asks. It has none if there is no
     /// such number.
-    pub fn text(&self, number: usize) -> &[u8] {
+    pub fn text(&self, number: usize) -> &[u8]
+        ensures { result.now ≡ text_of (slice_get self.now.all number) }
+    {
         match self.kept.get(number) {
             None => return &[],
             Some(kept) => return kept.text.as_slice(),
@@ -285,7 +423,9 @@ impl Conditions {
     }
 
     /// The name of the match of a condition, or `protocol`.
-    pub fn name(&self, number: usize) -> &[u8] {
+    pub fn name(&self, number: usize) -> &[u8]
+        ensures { result.now ≡ name_of (slice_get self.now.all number) }
+    {
         match self.kept.get(number) {
             None => return &[],
             Some(kept) => return kept.name.as_slice(),
@@ -293,10 +433,12 @@ impl Conditions {
     }
 
     /// The rule at which a condition was asked first, if it is one of a place.
-    pub fn place(&self, number: usize) -> Option<&ConditionPlace> {
+    pub fn place(&self, number: usize) -> Option<&ConditionPlace>
+        ensures { option_map (λ place. at_in place.now) result ≡ option_map rule_of (place_at (slice_get self.now.all number)) }
+    {
         match self.kept.get(number) {
             None => return None,
-            Some(kept) => return kept.place.as_ref(),
+            Some(kept) => return kept.place.as_ref().map(|place| &place.at),
         }
     }
 }

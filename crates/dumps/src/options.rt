@@ -1,5 +1,6 @@
 //! The options of iptables, as a table.
 pub(crate) mod known;
+pub(crate) mod refusal;
 pub(crate) mod row;
 pub(crate) mod rows;
 pub(crate) mod table;

@@ -7,8 +7,8 @@ ghost use Rattle.table.specs.chains.Table.{chain_at};
 use crate::progress::Progress;
 use fields::{Field, Hook};
 use questions::{
-    BoxedTable, Changes, Given, Leaf, Life, Likeness, Reached, Reason, Scope, Subject,
-    changes_under, compare_at_under, dead_under, leaves_under, reach, why_dead_under,
+    Answers, BoxedTable, Changes, Given, Leaf, Life, Likeness, Reached, Reason, Subject,
+    WrittenPacket, changes_under, compare_at_under, dead_under, reach, walks, why_dead_under,
 };
 use std::alloc::{AllocError, Global};
 use std::io::IsTerminal;
@@ -122,18 +122,18 @@ impl<'a, R: Clock, E: Print + IsTerminal> Asking<'a, R, E> {
         changes_under(self.alloc, old, new)
     }
 
-    /// The walks of the packets of a box (`leaves_under`), if they are known.
+    /// The walks of a packet where these answers are right (`walks`), if they are known.
     ///
     /// # Errors
     ///
     /// `AllocError` where memory was refused.
-    pub(crate) fn leaves(
+    pub(crate) fn walks(
         &self,
         subject: &Subject<'_>,
-        hook: Hook,
-        start: Scope,
+        packet: &WrittenPacket,
+        answers: &Answers,
     ) -> Result<Option<Vec<Leaf>>, AllocError> {
-        leaves_under(self.alloc, subject, hook, start, self.steps)
+        walks(self.alloc, subject, packet, answers, self.steps)
     }
 
     /// The verdicts of a set of packets, grouped by a field (`reach`), by their deciders in the order of a listing; those that a policy

@@ -69,10 +69,29 @@ fn are_in_order(branches: &[Branch]) -> bool {
     true
 }
 
+// Whether two branches end alike.
+fn have_one_end(one: &Branch, other: &Branch) -> bool {
+    one.verdict == other.verdict && one.by == other.by
+}
+
+/// How many branches, the first among them, end as it does.
+pub(crate) fn count_alike(branches: &[Branch]) -> usize {
+    let Some(first) = branches.first() else {
+        return 0;
+    };
+    let mut count = 0usize;
+    for branch in branches {
+        if !have_one_end(first, branch) {
+            return count;
+        }
+        count = count.saturating_add(1);
+    }
+    count
+}
+
 // Whether two branches end alike: what becomes of the packet is the same, and so are the answers behind that of a number.
 fn end_alike(one: &Branch, other: &Branch, depth: usize) -> bool {
-    one.verdict == other.verdict
-        && one.by == other.by
+    have_one_end(one, other)
         && behind(one, depth.saturating_add(1)) == behind(other, depth.saturating_add(1))
 }
 

@@ -1,23 +1,9 @@
 //! What is written of conditions.
+use crate::number_text::put_number;
 use crate::open_conditions::{OpenConditions, Place};
 use fields::{Tap, WriteFailed};
-use itoa::Buffer;
 use questions::Need;
 use std::io::Write;
-
-// Writes a number between texts.
-fn put_number<W: Write>(
-    before: &[u8],
-    number: Option<usize>,
-    behind: &[u8],
-    output: &mut Tap<W>,
-) -> Result<(), WriteFailed> {
-    let Some(number) = number else {
-        return Ok(());
-    };
-    let mut digits = Buffer::new();
-    output.put_all(&[before, digits.format(number).as_bytes(), behind])
-}
 
 // Writes where a condition of a place is asked: ` at INPUT 4`, or ` in INPUT` of two dumps, and ` in INPUT (2)` where the second of its text is meant.
 fn put_place<W: Write>(place: Place<'_>, output: &mut Tap<W>) -> Result<(), WriteFailed> {
@@ -27,12 +13,17 @@ fn put_place<W: Write>(place: Place<'_>, output: &mut Tap<W>) -> Result<(), Writ
         b" in "
     };
     output.put_all(&[word, place.chain])?;
-    put_number(b" ", place.number, b"", output)?;
-    put_number(b" (", place.nth, b")", output)
+    if let Some(number) = place.number {
+        put_number(b" ", number, b"", output)?;
+    }
+    match place.nth {
+        Some(nth) => put_number(b" (", nth, b")", output),
+        None => Ok(()),
+    }
 }
 
-// Writes a condition: `limit --limit 3/min at INPUT 4`.
-fn put_condition<W: Write>(
+/// Writes a condition: `limit --limit 3/min at INPUT 4`.
+pub(crate) fn put_condition<W: Write>(
     open: &OpenConditions,
     condition: usize,
     output: &mut Tap<W>,
@@ -84,21 +75,21 @@ pub(crate) fn put_asked<W: Write>(
     Ok(())
 }
 
-/// Writes those of the answers that conditions hold, if there are any: `if limit --limit 3/min at INPUT 4`. Whether there are.
+/// Writes those of the answers that conditions hold: `limit --limit 3/min at INPUT 4`.
 pub(crate) fn put_holding<W: Write>(
     open: &OpenConditions,
     given: &[Need],
     output: &mut Tap<W>,
-) -> Result<bool, WriteFailed> {
-    let mut is_any = false;
+) -> Result<(), WriteFailed> {
+    let mut before = b"".as_slice();
     for need in given {
         if !need.inverted {
-            output.put(if is_any { b" and ".as_slice() } else { b"if " })?;
+            output.put(before)?;
             put_condition(open, need.condition, output)?;
-            is_any = true;
+            before = b" and ";
         }
     }
-    Ok(is_any)
+    Ok(())
 }
 
 /// Writes the line of the answers under which something is so, after some bytes; there is none where there are no answers.

@@ -6,8 +6,8 @@ use crate::marks::Marks;
 use crate::open_conditions::OpenConditions;
 use crate::packet_input::{TakesPackets, take_packets};
 use crate::walking::walks_of;
-use fields::Packet;
 use programs::buffered_input;
+use questions::WrittenPacket;
 use std::alloc::AllocError;
 use std::io::IsTerminal;
 use std::rt::Clock;
@@ -25,9 +25,9 @@ struct Covering<'a, 'b, R, E> {
 }
 
 impl<'a, 'b, R: Clock, E: Print + IsTerminal> TakesPackets for Covering<'a, 'b, R, E> {
-    fn take(&mut self, number: u64, _line: &[u8], packet: Packet) -> Result<(), AllocError> {
+    fn take(&mut self, number: u64, _line: &[u8], packet: WrittenPacket) -> Result<(), AllocError> {
         match walks_of(self.asking, self.dump, self.open, &packet, &[])? {
-            Some(walks) => self.marks.take(walks.as_slice()),
+            Some(walks) => self.marks.take(self.asking.alloc(), walks.as_slice())?,
             None => {
                 self.is_clear = false;
                 let _ = println!(self.errors; "line {number}: unclear");

@@ -10,8 +10,8 @@ use crate::packet_line::put_packet;
 use crate::tally::{Tally, status};
 use crate::walk_text::put_walk;
 use crate::walking::{Walk, walks_of};
-use fields::{Hook, Packet, Tap, Words, WriteFailed};
-use questions::{Likeness, Need};
+use fields::{Hook, Tap, Words, WriteFailed};
+use questions::{Likeness, Need, WrittenPacket};
 use std::alloc::AllocError;
 use std::io::{IsTerminal, Write};
 use std::rt::Clock;
@@ -73,7 +73,7 @@ fn walk_in<R: Clock, E: Print + IsTerminal>(
     asking: &Asking<'_, R, E>,
     dump: &Dump,
     open: &OpenConditions,
-    packet: &Packet,
+    packet: &WrittenPacket,
     given: &[Need],
 ) -> Result<Option<Walk>, AllocError> {
     match walks_of(asking, dump, open, packet, given)? {
@@ -86,7 +86,7 @@ fn walk_in<R: Clock, E: Print + IsTerminal>(
 fn add_walks<R: Clock, E: Print + IsTerminal>(
     asking: &Asking<'_, R, E>,
     pair: Pair<'_>,
-    packet: &Packet,
+    packet: &WrittenPacket,
     found: &mut Differing,
 ) -> Result<(), AllocError> {
     let Pair { old, new, open } = pair;
@@ -110,7 +110,7 @@ fn with_walks<R: Clock, E: Print + IsTerminal>(
     words: Words,
     given: Vec<Need>,
 ) -> Result<Differing, AllocError> {
-    let read = Packet::read(&words, 0);
+    let read = WrittenPacket::read(&words, 0);
     let mut found = Differing {
         words,
         given,

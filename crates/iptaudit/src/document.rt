@@ -182,6 +182,9 @@ pub(crate) struct Counts {
     pub(crate) rules: usize,
     #[serde(skip_serializing_if = "Option::is_none")]
     pub(crate) covered: Option<usize>,
+    /// How many of these do so under some answers alone.
+    #[serde(skip_serializing_if = "Option::is_none")]
+    pub(crate) covered_if: Option<usize>,
     #[serde(skip_serializing_if = "Option::is_none")]
     pub(crate) missed: Option<usize>,
     pub(crate) dead: usize,

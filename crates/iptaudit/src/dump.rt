@@ -3,7 +3,7 @@ use crate::fault::Fault;
 use crate::loading::Loaded;
 use crate::open_conditions::OpenConditions;
 use dumps::{Conditions, ForeignNeed};
-use questions::{BoxedTable, Need, Needs, Subject};
+use questions::{BoxedTable, Need, Needs, Subject, needs_left};
 use std::alloc::{AllocError, Global};
 use table::{Step, Table};
 
@@ -12,10 +12,11 @@ use table::{Step, Table};
 pub(crate) struct Dump {
     pub(crate) boxed: BoxedTable,
     // What each rule asks, as it was read.
-    asked: Vec<Vec<Vec<Need>>>,
-    // What each rule still needs; nothing is listed where none needs anything.
-    listed: Vec<Vec<Vec<Need>>>,
+    asked: Needs,
+    // What each rule still needs, by the answers of `--when`.
     needs: Needs,
+    // Whether none needs anything.
+    is_plain: bool,
 }
 
 // The needs of a rule, for a question.
@@ -88,20 +89,28 @@ pub(crate) fn listed_needs<'a>(
     Err(Fault::CannotPlace(file))
 }
 
-// Whether some rule of a chain needs anything.
-fn rules_need(rules: &[Vec<Need>]) -> bool {
-    for needs in rules {
-        if !needs.is_empty() {
+// What the rule of a number needs; it is lent.
+fn needs_at(needs: &Needs, at: Step) -> &[Need] {
+    match at.number.checked_sub(1) {
+        Some(passed) => needs.at(at.chain, passed),
+        None => &[],
+    }
+}
+
+// Whether some of the rules of a chain, so many, needs anything.
+fn rules_need(needs: &Needs, chain: usize, count: usize) -> bool {
+    for passed in 0..count {
+        if !needs.at(chain, passed).is_empty() {
             return true;
         }
     }
     false
 }
 
-// Whether some rule needs anything.
-fn needs_anything(listed: &[Vec<Vec<Need>>]) -> bool {
-    for rules in listed {
-        if rules_need(rules.as_slice()) {
+// Whether some rule of a table needs anything.
+fn any_need(table: &Table, needs: &Needs) -> bool {
+    for chain in 0..table.chain_count() {
+        if rules_need(needs, chain, table.rule_count(chain)) {
             return true;
         }
     }
@@ -128,49 +137,6 @@ pub(crate) fn contradict(needs: &[Need]) -> bool {
     false
 }
 
-// What the rules of a chain still need, by the answers of `--when`.
-fn rules_left(
-    alloc: Global,
-    rules: &[Vec<Need>],
-    open: &OpenConditions,
-) -> Result<Vec<Vec<Need>>, AllocError> {
-    let mut left = Vec::new(alloc);
-    for needs in rules {
-        left.push(open.left_of(alloc, needs.as_slice())?)?;
-    }
-    Ok(left)
-}
-
-// What all rules still need, by the answers of `--when`; nothing is listed where none needs anything.
-fn all_left(
-    alloc: Global,
-    listed: &[Vec<Vec<Need>>],
-    open: &OpenConditions,
-) -> Result<Vec<Vec<Vec<Need>>>, AllocError> {
-    let mut left = Vec::new(alloc);
-    for rules in listed {
-        left.push(rules_left(alloc, rules.as_slice(), open)?)?;
-    }
-    if needs_anything(left.as_slice()) {
-        return Ok(left);
-    }
-    Ok(Vec::new(alloc))
-}
-
-// What is listed of a rule; it is lent.
-fn listed_at(listed: &[Vec<Vec<Need>>], at: Step) -> &[Need] {
-    let Some(rules) = listed.get(at.chain) else {
-        return &[];
-    };
-    let Some(place) = at.number.checked_sub(1) else {
-        return &[];
-    };
-    match rules.get(place) {
-        Some(needs) => needs.as_slice(),
-        None => &[],
-    }
-}
-
 impl Dump {
     /// A loaded file with what its rules need, by the answers of `--when`.
     ///
@@ -183,13 +149,15 @@ impl Dump {
         asked: Vec<Vec<Vec<Need>>>,
         open: &OpenConditions,
     ) -> Result<Dump, AllocError> {
-        let needs = Needs::of(all_left(alloc, asked.as_slice(), open)?);
-        let listed = all_left(alloc, asked.as_slice(), open)?;
+        let asked = Needs::of(asked);
+        let left = needs_left(alloc, &asked, &open.answers(alloc)?)?;
+        let is_plain = !any_need(&boxed.table, &left);
+        let needs = if is_plain { Needs::none(alloc) } else { left };
         Ok(Dump {
             boxed,
             asked,
-            listed,
             needs,
+            is_plain,
         })
     }
 
@@ -208,16 +176,16 @@ impl Dump {
 
     /// Whether no rule needs anything.
     pub(crate) fn is_plain(&self) -> bool {
-        self.listed.is_empty()
+        self.is_plain
     }
 
     /// What a rule still needs, by the answers of `--when`; it is lent.
     pub(crate) fn needs_of(&self, at: Step) -> &[Need] {
-        listed_at(self.listed.as_slice(), at)
+        needs_at(&self.needs, at)
     }
 
     /// What a rule asks, whatever `--when` answers; it is lent.
     pub(crate) fn asked_by(&self, at: Step) -> &[Need] {
-        listed_at(self.asked.as_slice(), at)
+        needs_at(&self.asked, at)
     }
 }

@@ -28,11 +28,11 @@ pub(crate) enum Form<'a> {
 }
 
 impl<'a> Form<'a> {
-    // Whether a packet that was given matches the rule.
-    fn is_covered(self, at: Step) -> bool {
+    // The answers under which a packet that was given matches the rule, if one does; there are none where it does whichever are right.
+    fn covered(self, at: Step) -> Option<&'a [Need]> {
         match self {
-            Form::Cover(marks) => marks.has(at),
-            Form::Dead | Form::Tests => false,
+            Form::Cover(marks) => marks.given(at),
+            Form::Dead | Form::Tests => None,
         }
     }
 
@@ -61,8 +61,8 @@ impl<'a> Form<'a> {
 /// What is known of a rule.
 #[derive(Drop)]
 pub(crate) enum Known {
-    /// It matches a packet that was given.
-    Covered,
+    /// It matches a packet that was given, where these answers are right; there are none where it does whichever are.
+    Covered(Vec<Need>),
     /// It matches the packet that these words write, where these answers are right.
     Live(Words, Vec<Need>),
     /// It matches none; and why, if that is known and was asked.
@@ -143,8 +143,8 @@ fn ask_rule<R: Clock, E: Print + IsTerminal>(
     requires last { at.number ≤ length (chain_at (table_of subject.now) at.chain).rules }
 {
     asking.next();
-    if course.form.is_covered(at) {
-        return Ok(Known::Covered);
+    if let Some(given) = course.form.covered(at) {
+        return Ok(Known::Covered(given.to_vec(asking.alloc())?));
     }
     match asking.life(subject, at)? {
         Life::Live(words, answers) => {

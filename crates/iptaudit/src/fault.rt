@@ -1,4 +1,5 @@
 //! Why the program ends without an answer.
+use dumps::OptionRefusal;
 use fields::WriteFailed;
 use programs::ProgramFault;
 use std::alloc::AllocError;
@@ -22,6 +23,17 @@ pub(crate) enum Fault<'a> {
     NotCarried(&'a str),
     #[error("by=FIELD is missing")]
     NoField,
+    /// The word after `--local`.
+    #[error("no addresses: {0}")]
+    NoAddresses(&'a str),
+    #[error("more than 8 addresses: {0}")]
+    TooManyAddresses(&'a str),
+    /// A word of `--unknown`.
+    #[error("neither MATCH nor MATCH OPTION N: {0}")]
+    NoMatch(&'a str),
+    /// A word of `--unknown` that names a target, or a match or an option which is known.
+    #[error("{1}: {0}")]
+    CannotAdd(&'a str, OptionRefusal),
     /// A word of `--when`.
     #[error("no rule has this condition: {0}")]
     NoCondition(&'a str),

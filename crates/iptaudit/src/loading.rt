@@ -1,10 +1,13 @@
 //! A file is read as a whole dump, line by line, and what the program reads of it is restored.
+use crate::address_types::{AddressTypes, known_conditions};
 use crate::assumptions::Repeating;
 use crate::fault::Fault;
 use crate::line_input::{LINE_MAX, Line};
-use dumps::{DumpFault, Foreign, KnownOptions, OptionTable, Reading, Whole};
+use dumps::{
+    DumpFault, Foreign, KnownOptions, OptionFault, OptionRefusal, OptionTable, Reading, Whole,
+};
 use fields::{LineEnd, Tap};
-use programs::{ProgramFault, buffered_input, load_from, open_file};
+use programs::{Audit, ProgramFault, buffered_input, load_from, open_file};
 use questions::BoxedTable;
 use sessions::Session;
 use std::alloc::{AllocError, Global};
@@ -86,15 +89,73 @@ where
     Ok(Whole { text, foreign })
 }
 
-// A file taken apart by the options of iptables.
-fn read_whole<'a, R, E>(rt: &R, errors: &E, file: &'a str) -> Result<Whole, Fault<'a>>
+// Why a word of `--unknown` adds nothing.
+fn not_added<'a>(word: &'a str, fault: OptionFault) -> Fault<'a> {
+    match fault {
+        OptionFault::NoMemory => Fault::Program(ProgramFault::NoMemory),
+        OptionFault::Refused(OptionRefusal::NotAnOption, _) => Fault::NoMatch(word),
+        OptionFault::Refused(why, _) => Fault::CannotAdd(word, why),
+    }
+}
+
+// Adds what a word of `--unknown` says: an option of a match, or a match alone.
+fn add_unknown<'a>(known: &mut KnownOptions<'a>, word: &'a str) -> Result<(), OptionFault> {
+    if word.contains(' ') {
+        known.add(word.as_bytes())
+    } else {
+        known.add_match(word.as_bytes())
+    }
+}
+
+// The options of iptables, and those that words of `--unknown` add.
+fn known_options<'a>(alloc: Global, unknown: &[&'a str]) -> Result<KnownOptions<'a>, Fault<'a>> {
+    let mut known = match KnownOptions::new(alloc) {
+        Ok(known) => known,
+        Err(fault) => return Err(not_added("", fault)),
+    };
+    for word in unknown {
+        if let Err(fault) = add_unknown(&mut known, word) {
+            return Err(not_added(word, fault));
+        }
+    }
+    Ok(known)
+}
+
+// A file taken apart by a table of options, and by what is known of types of addresses.
+fn read_with_types<'a, R, E>(
+    rt: &R,
+    errors: &E,
+    file: &'a str,
+    table: OptionTable<'_>,
+    types: &AddressTypes,
+) -> Result<Whole, Fault<'a>>
 where
     R: Files + AllocGlobal,
     E: Print,
 {
-    let known = KnownOptions::new(rt.alloc())?;
+    let words = types.words(rt.alloc())?;
+    let known = known_conditions(rt.alloc(), words.as_slice())?;
+    read_by(rt, errors, file, table.knowing(known.as_slice()))
+}
+
+// A file taken apart as the words of the program say: by the options of iptables and those of `--unknown`, and by the types that `--local` tells.
+fn read_whole<'a, R, E>(
+    rt: &R,
+    errors: &E,
+    file: &'a str,
+    audit: &Audit<'a>,
+) -> Result<Whole, Fault<'a>>
+where
+    R: Files + AllocGlobal,
+    E: Print,
+{
+    let known = known_options(rt.alloc(), audit.unknown.as_slice())?;
     let rows = known.rows(rt.alloc())?;
-    read_by(rt, errors, file, rows.table())
+    let Some(addresses) = audit.local else {
+        return read_by(rt, errors, file, rows.table());
+    };
+    let types = AddressTypes::read(rt.alloc(), addresses)?;
+    read_with_types(rt, errors, file, rows.table(), &types)
 }
 
 // A session that has restored a text.
@@ -111,17 +172,23 @@ where
     }
 }
 
-/// Reads a file as a whole dump, and restores what the program reads of it.
+/// Reads a file as a whole dump, as the words of the program say, and restores what the program reads of it.
 ///
 /// # Errors
 ///
-/// Where it cannot be opened or read, a line is refused, or memory was refused.
-pub(crate) fn load_dump<'a, R, E>(rt: &R, errors: &E, file: &'a str) -> Result<Loaded, Fault<'a>>
+/// `NoMatch` or `CannotAdd` where a word of `--unknown` adds nothing; those of `AddressTypes::read`; or where the file cannot be opened or read, a
+/// line is refused, or memory was refused.
+pub(crate) fn load_dump<'a, R, E>(
+    rt: &R,
+    errors: &E,
+    file: &'a str,
+    audit: &Audit<'a>,
+) -> Result<Loaded, Fault<'a>>
 where
     R: Files + AllocGlobal,
     E: Print,
 {
-    let Whole { text, foreign } = read_whole(rt, errors, file)?;
+    let Whole { text, foreign } = read_whole(rt, errors, file, audit)?;
     let (table, mut work) = restored(rt, errors, file, text.as_slice())?.into_parts();
     let boxed = BoxedTable::of(rt.alloc(), table, &mut work)?;
     Ok(Loaded { boxed, foreign })

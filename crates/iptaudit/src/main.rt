@@ -1,6 +1,7 @@
 //! The program `iptaudit`: questions about all packets, asked of files of iptables-restore.
 #![tactic(auto)]
 
+mod address_types;
 mod answers;
 mod asked_packets;
 mod asking;
@@ -9,6 +10,7 @@ mod branches;
 mod condition_entry;
 mod condition_text;
 mod covering;
+mod covering_answers;
 mod deciding;
 mod difference;
 mod difference_entry;
@@ -21,10 +23,10 @@ mod loading;
 mod marks;
 mod memory_text;
 mod names;
+mod number_text;
 mod open_conditions;
 mod open_counts;
 mod outcomes;
-mod packet_box;
 mod packet_input;
 mod packet_line;
 mod packet_walks;
@@ -43,15 +45,15 @@ use crate::program::run;
 use std::process::ExitCode;
 
 /// Answers what the words after the program's name ask: `dead FILE`, `compare OLD NEW`, `tests FILE`, `cover FILE` or
-/// `reach FILE HOOK key=value.. by=FIELD`, each with `--steps N` and `--json` where they are wanted. `--version` prints the version
-/// to standard output.
+/// `reach FILE HOOK key=value.. by=FIELD`, each with `--steps N` and `--json` where they are wanted, and all but `reach` with `--when CONDITION`
+/// and `--unknown MATCH`. `--version` prints the version to standard output.
 ///
 /// `dead` prints a line for each rule that no packet can match, in the order of a listing, with a line that says why, and one
 /// for each of which it isn't known; and then how many there were. `compare` prints a line for each built-in chain: whether both rulesets give each
 /// packet there the same verdict, and where they don't, a packet with its walk in each; and then how many rules only one of them has, and
 /// how many of these are dead there. `tests` prints a session: for each rule a comment that names it, and a packet that it matches. `cover`
 /// reads packets from standard input, as lines of a session, and prints of each rule that matches none of them whether there is a packet
-/// that it matches, and which; and then how many rules there were of each kind. `reach` prints the verdicts of a set of packets: for each
+/// that it matches, and which, and of each that matches one under some answers alone under which; and then how many rules there were of each kind. `reach` prints the verdicts of a set of packets: for each
 /// verdict and decider, the numbers that its packets have on a field. With `--json` an answer is one JSON document.
 ///
 /// Answers go to standard output. A line `# iptsim-fit: ..` of a file goes to standard error as it stands, when it is read. A

@@ -1,23 +1,25 @@
-//! Which rules match packets that were given.
+//! Which rules match packets that were given, and under which answers.
 ghost use Rattle.std.specs.Prelude.{◌<◌, length};
 
+use crate::covering_answers::{all_have, fewest_answers};
 use crate::walking::{Passed, Walk};
+use questions::Need;
 use std::alloc::{AllocError, Global};
 use table::{Step, Table};
 
-/// A mark for each rule of a table that matches a packet.
+/// A mark for each rule of a table that matches a packet, whichever answers are right or where some are.
 #[derive(Drop)]
 pub(crate) struct Marks {
     // How many rules stand before each chain.
     before: Vec<usize>,
-    // Whether each rule matches a packet, chain after chain.
-    met: Vec<bool>,
+    // The answers under which each rule matches a packet, if it does, chain after chain; there are none where it does whichever are right.
+    met: Vec<Option<Vec<Need>>>,
 }
 
-// Puts as many marks behind the others as a chain has rules.
-fn push_unmet(met: &mut Vec<bool>, count: usize) -> Result<(), AllocError> {
+// Puts as many places without a mark behind the others as a chain has rules.
+fn push_unmet(met: &mut Vec<Option<Vec<Need>>>, count: usize) -> Result<(), AllocError> {
     for _ in 0..count {
-        met.push(false)?;
+        met.push(None)?;
     }
     Ok(())
 }
@@ -44,33 +46,54 @@ impl Marks {
         before.checked_add(at.number)?.checked_sub(1)
     }
 
-    /// Whether a rule is marked.
-    pub(crate) fn has(&self, at: Step) -> bool {
-        match self.place_of(at) {
-            Some(place) => place < self.met.len() && self.met[place],
-            None => false,
+    /// The answers under which a rule matches a packet, if it is marked; there are none where it matches one whichever are right.
+    pub(crate) fn given(&self, at: Step) -> Option<&[Need]> {
+        match self.met.get(self.place_of(at)?) {
+            Some(Some(given)) => return Some(given.as_slice()),
+            Some(None) | None => return None,
         }
     }
 
-    fn mark(&mut self, at: Step) {
+    // Marks a rule.
+    fn mark(&mut self, at: Step, given: Vec<Need>) {
         if let Some(place) = self.place_of(at) {
             if place < self.met.len() {
-                self.met[place] = true;
+                self.met[place] = Some(given);
             }
         }
     }
 
-    /// Marks the rules on walks.
-    pub(crate) fn take(&mut self, walks: &[Walk]) {
+    /// Marks the rules on the walks of a packet.
+    ///
+    /// # Errors
+    ///
+    /// `AllocError` where memory was refused.
+    pub(crate) fn take(&mut self, alloc: Global, walks: &[Walk]) -> Result<(), AllocError> {
+        if let Some(first) = walks.first() {
+            self.mark_always(alloc, walks, first.rules.as_slice());
+        }
         for walk in walks {
-            self.mark_all(walk.rules.as_slice());
+            self.mark_under(alloc, walks, walk)?;
+        }
+        Ok(())
+    }
+
+    // Marks those of some rules that a packet of these walks matches whichever answers are right.
+    fn mark_always(&mut self, alloc: Global, walks: &[Walk], rules: &[Passed]) {
+        for rule in rules {
+            if all_have(walks, rule.at, &[]) {
+                self.mark(rule.at, Vec::new(alloc));
+            }
         }
     }
 
-    // Marks the rules on a walk.
-    fn mark_all(&mut self, rules: &[Passed]) {
-        for rule in rules {
-            self.mark(rule.at);
+    // Marks the rules on one of the walks of a packet that aren't marked yet.
+    fn mark_under(&mut self, alloc: Global, walks: &[Walk], walk: &Walk) -> Result<(), AllocError> {
+        for rule in walk.rules.as_slice() {
+            if self.given(rule.at).is_none() {
+                self.mark(rule.at, fewest_answers(alloc, walks, walk, rule)?);
+            }
         }
+        Ok(())
     }
 }

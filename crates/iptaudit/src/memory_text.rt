@@ -1,4 +1,6 @@
 //! Texts of a document: what a line has, in memory. Bytes that are no UTF-8 become U+FFFD.
+use crate::condition_text::put_condition;
+use crate::open_conditions::OpenConditions;
 use crate::outcomes::put_verdict;
 use crate::packet_line::put_packet;
 use crate::rule_line::put_listed;
@@ -22,12 +24,18 @@ impl Write for Bytes {
     }
 }
 
-// The text of a line. A tap over memory has failed where memory was refused, and nowhere else.
-fn text_of(alloc: Global, line: Tap<Bytes>) -> Result<String, AllocError> {
+// The bytes of a line. A tap over memory has failed where memory was refused, and nowhere else.
+fn bytes_of(line: Tap<Bytes>) -> Result<Vec<u8>, AllocError> {
     if line.failed() {
         return Err(AllocError);
     }
     let Bytes(bytes) = line.into_device();
+    Ok(bytes)
+}
+
+// The text of a line.
+fn text_of(alloc: Global, line: Tap<Bytes>) -> Result<String, AllocError> {
+    let bytes = bytes_of(line)?;
     String::from_utf8_lossy(alloc, bytes.as_slice())
 }
 
@@ -55,6 +63,17 @@ pub(crate) fn verdict_text(alloc: Global, verdict: Verdict) -> Result<String, Al
     let mut line = line(alloc);
     let _ = put_verdict(verdict, &mut line);
     text_of(alloc, line)
+}
+
+/// The bytes of a condition with its place.
+pub(crate) fn condition_bytes(
+    alloc: Global,
+    open: &OpenConditions,
+    condition: usize,
+) -> Result<Vec<u8>, AllocError> {
+    let mut line = line(alloc);
+    let _ = put_condition(open, condition, &mut line);
+    bytes_of(line)
 }
 
 /// A name.

@@ -1,5 +1,6 @@
 //! The conditions of one or two dumps, and which of them are answered by `--when`.
 use crate::fault::Fault;
+use crate::memory_text::condition_bytes;
 use dumps::Conditions;
 use questions::{Answers, Need};
 use std::alloc::{AllocError, Global};
@@ -41,11 +42,12 @@ fn all_open(alloc: Global, count: usize) -> Result<Vec<Option<bool>>, AllocError
 }
 
 impl OpenConditions {
-    /// Those conditions with the answers of words of `--when`. All conditions of a text get its answer.
+    /// Those conditions with the answers of words of `--when`: of a text for all conditions that have it, and of a condition as it is written
+    /// with its place for this one.
     ///
     /// # Errors
     ///
-    /// `NoCondition` where no condition has the text of a word; `AnsweredTwice` where two words contradict each other; or where memory
+    /// `NoCondition` where a word is about no condition; `AnsweredTwice` where two words contradict each other; or where memory
     /// was refused.
     pub(crate) fn new<'a>(
         alloc: Global,
@@ -60,21 +62,38 @@ impl OpenConditions {
             are_of_two,
         };
         for word in when {
-            open.answer(word)?;
+            open.answer(alloc, word)?;
         }
         Ok(open)
     }
 
+    // Whether a text is that of a condition, or this condition with its place.
+    fn is_meant(&self, alloc: Global, condition: usize, text: &[u8]) -> Result<bool, AllocError> {
+        match text.strip_prefix(self.text(condition)) {
+            Some(rest) if rest.is_empty() => Ok(true),
+            Some(_) => Ok(condition_bytes(alloc, self, condition)?.as_slice() == text),
+            None => Ok(false),
+        }
+    }
+
+    // Takes in what a word answers of a condition.
+    fn give<'a>(&mut self, condition: usize, holds: bool, word: &'a str) -> Result<(), Fault<'a>> {
+        if condition < self.given.len() {
+            if self.given[condition] == Some(!holds) {
+                return Err(Fault::AnsweredTwice(word));
+            }
+            self.given[condition] = Some(holds);
+        }
+        Ok(())
+    }
+
     // Takes in the answer of a word.
-    fn answer<'a>(&mut self, word: &'a str) -> Result<(), Fault<'a>> {
+    fn answer<'a>(&mut self, alloc: Global, word: &'a str) -> Result<(), Fault<'a>> {
         let (holds, text) = read_when(word);
         let mut is_found = false;
-        for (condition, given) in self.given.iter_mut().enumerate() {
-            if self.conditions.text(condition) == text.as_bytes() {
-                if *given == Some(!holds) {
-                    return Err(Fault::AnsweredTwice(word));
-                }
-                *given = Some(holds);
+        for condition in 0..self.len() {
+            if self.is_meant(alloc, condition, text.as_bytes())? {
+                self.give(condition, holds, word)?;
                 is_found = true;
             }
         }
@@ -157,51 +176,28 @@ impl OpenConditions {
         false
     }
 
-    // A number that is no condition's.
-    fn none(&self) -> usize {
-        self.conditions.len()
-    }
-
-    // What no assignment meets: that something holds, and that it doesn't.
-    fn unmeetable(&self, alloc: Global) -> Result<Vec<Need>, AllocError> {
-        let mut needs = Vec::new(alloc);
-        for inverted in [false, true] {
-            needs.push(Need {
-                condition: self.none(),
-                inverted,
-            })?;
-        }
-        Ok(needs)
-    }
-
-    /// What a rule still needs of these, by the answers of `--when`.
+    /// The answers of `--when`.
     ///
     /// # Errors
     ///
     /// `AllocError` where memory was refused.
-    pub(crate) fn left_of(&self, alloc: Global, needs: &[Need]) -> Result<Vec<Need>, AllocError> {
-        let mut left = Vec::new(alloc);
-        for need in needs {
-            match self.given.get(need.condition) {
-                Some(Some(holds)) => {
-                    if *holds == need.inverted {
-                        return self.unmeetable(alloc);
-                    }
-                }
-                Some(None) | None => left.push(*need)?,
+    pub(crate) fn answers(&self, alloc: Global) -> Result<Answers, AllocError> {
+        let mut answers = Answers::none(alloc);
+        for (condition, given) in self.given.iter().enumerate() {
+            if let Some(holds) = given {
+                answers.give(condition, *holds)?;
             }
         }
-        Ok(left)
+        Ok(answers)
     }
 
-    /// These answers, for a walk. What no assignment meets is answered too, so that no walk parts by it.
+    /// The answers of `--when`, and these.
     ///
     /// # Errors
     ///
     /// `AllocError` where memory was refused.
     pub(crate) fn start(&self, alloc: Global, given: &[Need]) -> Result<Answers, AllocError> {
-        let mut answers = Answers::none(alloc);
-        answers.give(self.none(), false)?;
+        let mut answers = self.answers(alloc)?;
         for need in given {
             answers.give(need.condition, !need.inverted)?;
         }

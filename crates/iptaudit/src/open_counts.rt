@@ -1,7 +1,7 @@
 //! How many conditions are taken as open.
+use crate::number_text::put_number;
 use crate::open_conditions::OpenConditions;
 use fields::{Tap, WriteFailed};
-use itoa::Buffer;
 use std::alloc::{AllocError, Global};
 use std::io::Write;
 
@@ -56,24 +56,13 @@ pub(crate) fn open_counts(
     Ok(counts)
 }
 
-/// How many these are together.
-pub(crate) fn sum_of(counts: &[MatchCount]) -> usize {
+// How many these are together.
+fn sum_of(counts: &[MatchCount]) -> usize {
     let mut sum = 0usize;
     for entry in counts {
         sum = sum.saturating_add(entry.count);
     }
     sum
-}
-
-// Writes a number between texts.
-fn put_number<W: Write>(
-    before: &[u8],
-    number: usize,
-    behind: &[u8],
-    output: &mut Tap<W>,
-) -> Result<(), WriteFailed> {
-    let mut digits = Buffer::new();
-    output.put_all(&[before, digits.format(number).as_bytes(), behind])
 }
 
 /// Writes how many conditions are open, after some bytes: `49 conditions open: limit 47, helper 2`. There is no such line where none is.
@@ -86,7 +75,13 @@ pub(crate) fn put_open<W: Write>(
     if counts.is_empty() {
         return Ok(());
     }
-    put_number(before, sum_of(counts), b" conditions open:", output)?;
+    let sum = sum_of(counts);
+    let behind = if sum == 1 {
+        b" condition open:".as_slice()
+    } else {
+        b" conditions open:"
+    };
+    put_number(before, sum, behind, output)?;
     for (place, entry) in counts.iter().enumerate() {
         let parted = if place > 0 { b", ".as_slice() } else { b" " };
         output.put_all(&[parted, open.match_name(entry.condition)])?;

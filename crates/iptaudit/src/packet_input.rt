@@ -1,8 +1,9 @@
 //! Packets on the lines of an input. A line is refused with the codes and texts of a session.
 use crate::fault::Fault;
 use crate::line_input::Line;
-use fields::{LineEnd, Packet, PacketFault, Tap, WordFault, Words};
+use fields::{LineEnd, PacketFault, Tap, WordFault, Words};
 use programs::ProgramFault;
+use questions::WrittenPacket;
 use restore::is_quiet;
 use std::alloc::{AllocError, Global};
 use std::io::BufRead;
@@ -14,7 +15,7 @@ pub(crate) trait TakesPackets {
     /// # Errors
     ///
     /// `AllocError` where memory was refused.
-    fn take(&mut self, number: u64, line: &[u8], packet: Packet) -> Result<(), AllocError>;
+    fn take(&mut self, number: u64, line: &[u8], packet: WrittenPacket) -> Result<(), AllocError>;
 }
 
 // Why a line has no packet.
@@ -46,7 +47,7 @@ impl Refusal {
 enum Content {
     /// Nothing, or a comment.
     Quiet,
-    Packet(Packet),
+    Packet(WrittenPacket),
     Refused(Refusal),
 }
 
@@ -55,7 +56,7 @@ fn content_of(words: &Words) -> Content {
     if words.is_empty() || words.get(0) != b"packet".as_slice() {
         return Content::Refused(Refusal::UnknownLine);
     }
-    match Packet::read(words, 1) {
+    match WrittenPacket::read(words, 1) {
         Ok(packet) => Content::Packet(packet),
         Err(fault) => Content::Refused(Refusal::Packet(fault)),
     }

@@ -1,6 +1,6 @@
 //! What becomes of each packet of standard input, by answers: lines, or a document.
 use crate::asking::Asking;
-use crate::branches::{Branch, branches_of};
+use crate::branches::{Branch, branches_of, count_alike};
 use crate::condition_entry::{answer_entries, open_entries};
 use crate::condition_text::put_holding;
 use crate::difference_entry::given_by;
@@ -73,23 +73,78 @@ fn put_end<W: Write>(
     put_decider(table, branch.by, output)
 }
 
-// Writes branches, of which the first whose conditions hold is right.
-fn put_branches<W: Write>(
-    table: &Table,
+// Whether no condition has to hold for a branch.
+fn is_bare(branch: &Branch) -> bool {
+    for need in branch.given.as_slice() {
+        if !need.inverted {
+            return false;
+        }
+    }
+    true
+}
+
+// Whether no condition has to hold for one of some branches.
+fn are_bare(branches: &[Branch]) -> bool {
+    for branch in branches {
+        if is_bare(branch) {
+            return true;
+        }
+    }
+    false
+}
+
+// Writes the conditions of which those of one branch have to hold: `if addrtype --dst-type LOCAL or addrtype --dst-type BROADCAST: `.
+fn put_conditions<W: Write>(
     open: &OpenConditions,
     branches: &[Branch],
     output: &mut Tap<W>,
 ) -> Result<(), WriteFailed> {
     for (place, branch) in branches.iter().enumerate() {
         output.put(if place > 0 {
-            b"; else ".as_slice()
+            b" or ".as_slice()
         } else {
-            b"  "
+            b"if "
         })?;
-        if put_holding(open, branch.given.as_slice(), output)? {
-            output.put(b": ")?;
+        put_holding(open, branch.given.as_slice(), output)?;
+    }
+    output.put(b": ")
+}
+
+// Writes branches that end alike.
+fn put_alike<W: Write>(
+    table: &Table,
+    open: &OpenConditions,
+    branches: &[Branch],
+    output: &mut Tap<W>,
+) -> Result<(), WriteFailed> {
+    let Some(first) = branches.first() else {
+        return Ok(());
+    };
+    if !are_bare(branches) {
+        put_conditions(open, branches, output)?;
+    }
+    put_end(table, first, output)
+}
+
+// Writes branches, of which the first whose conditions hold is right. Neighbours that end alike stand together.
+fn put_branches<W: Write>(
+    table: &Table,
+    open: &OpenConditions,
+    branches: &[Branch],
+    output: &mut Tap<W>,
+) -> Result<(), WriteFailed> {
+    let mut rest = branches;
+    let mut before = b"  ".as_slice();
+    for _ in 0..branches.len() {
+        let count = count_alike(rest);
+        if count == 0 || count > rest.len() {
+            break;
         }
-        put_end(table, branch, output)?;
+        let (alike, others) = rest.split_at(count);
+        output.put(before)?;
+        put_alike(table, open, alike, output)?;
+        before = b"; else ";
+        rest = others;
     }
     output.put(b"\n")
 }
@@ -137,6 +192,7 @@ fn packet_entry(
     branches: &Option<Vec<Branch>>,
 ) -> Result<PacketEntry, AllocError> {
     let packet = name_text(alloc, given.line.as_slice())?;
+    let hook = given.packet.packet().hook();
     let Some(branches) = branches else {
         return Ok(PacketEntry {
             packet,
@@ -146,7 +202,7 @@ fn packet_entry(
     };
     let mut walks = Vec::new(alloc);
     for branch in branches.as_slice() {
-        walks.push(end_entry(alloc, table, open, given.packet.hook(), branch)?)?;
+        walks.push(end_entry(alloc, table, open, hook, branch)?)?;
     }
     Ok(PacketEntry {
         packet,

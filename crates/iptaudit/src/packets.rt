@@ -1,15 +1,15 @@
 //! The packets of standard input, with their lines.
 use crate::fault::Fault;
 use crate::packet_input::{TakesPackets, take_packets};
-use fields::Packet;
 use programs::buffered_input;
+use questions::WrittenPacket;
 use std::alloc::{AllocError, Global};
 
 /// A packet, and the line that writes it.
 #[derive(Drop)]
 pub(crate) struct GivenPacket {
     pub(crate) line: Vec<u8>,
-    pub(crate) packet: Packet,
+    pub(crate) packet: WrittenPacket,
 }
 
 // The packets so far.
@@ -20,7 +20,7 @@ struct Packets {
 }
 
 impl TakesPackets for Packets {
-    fn take(&mut self, _number: u64, line: &[u8], packet: Packet) -> Result<(), AllocError> {
+    fn take(&mut self, _number: u64, line: &[u8], packet: WrittenPacket) -> Result<(), AllocError> {
         let mut bytes = Vec::new(self.alloc);
         bytes.extend_from_slice(line)?;
         self.listed.push(GivenPacket {

@@ -1,6 +1,6 @@
 //! What the program does: it reads its line, answers what is asked, and ends with the status.
 
-use crate::answers::answer;
+use crate::answers::Source;
 use crate::asking::Asking;
 use crate::fault::Fault;
 use crate::progress::Progress;
@@ -70,7 +70,12 @@ where
     let steps = steps_of(audit.steps)?;
     let mut output = buffered_output(rt.alloc(), io::writer(rt))?;
     let mut asking = Asking::new(rt.alloc(), steps, Progress::new(rt, errors));
-    let answered = answer(rt, errors, &audit, &mut asking, &mut output);
+    let source = Source {
+        rt,
+        errors,
+        audit: &audit,
+    };
+    let answered = source.answer(&mut asking, &mut output);
     asking.end();
     let flushed = output.flush();
     let_go(output);

@@ -1,9 +1,9 @@
 //! The line that says why a rule is dead.
 use crate::deciding::{policy_of, verdict_of};
+use crate::number_text::put_number;
 use crate::outcomes::put_verdict;
 use crate::rule_line::{chain_name, put_rule_name};
 use fields::{Hook, Tap, WriteFailed};
-use itoa::Buffer;
 use questions::{Reason, Takers};
 use std::io::Write;
 use table::{Step, Table, Verdict};
@@ -53,9 +53,7 @@ fn put_rules<W: Write>(
         }
     }
     if rules.len() > NAMED {
-        let mut digits = Buffer::new();
-        let more = digits.format(rules.len() - NAMED);
-        output.put_all(&[b" and ", more.as_bytes(), b" more"])?;
+        put_number(b" and ", rules.len() - NAMED, b" more", output)?;
     }
     Ok(())
 }

@@ -1,7 +1,7 @@
 //! The line of a rule.
 use crate::deciding::rule_at;
+use crate::number_text::put_number;
 use fields::{Tap, WriteFailed};
-use itoa::Buffer;
 use rules::write_rule;
 use std::io::Write;
 use table::{Step, Table};
@@ -21,12 +21,8 @@ pub(crate) fn put_rule_name<W: Write>(
     at: Step,
     output: &mut Tap<W>,
 ) -> Result<(), WriteFailed> {
-    let mut digits = Buffer::new();
-    output.put_all(&[
-        chain_name(table, at.chain),
-        b" ",
-        digits.format(at.number).as_bytes(),
-    ])
+    output.put(chain_name(table, at.chain))?;
+    put_number(b" ", at.number, b"", output)
 }
 
 /// Writes a rule as it is listed: `-A INPUT -j DROP`.

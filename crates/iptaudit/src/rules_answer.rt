@@ -15,11 +15,12 @@ use std::alloc::{AllocError, Global};
 use std::io::Write;
 use table::Table;
 
-// What stands before a rule of which this is known; there is no line of a rule that matches a packet that was given, nor of a
-// live one where dead ones are asked for.
+// What stands before a rule of which this is known; there is no line of a rule that matches a packet that was given whichever answers are
+// right, nor of a live one where dead ones are asked for.
 fn words_before(form: Form<'_>, known: &Known) -> Option<&'static [u8]> {
     match (form, known) {
-        (_, Known::Covered) | (Form::Dead, Known::Live(_, _)) => None,
+        (_, Known::Covered(given)) if !given.is_empty() => Some(b"if ".as_slice()),
+        (_, Known::Covered(_)) | (Form::Dead, Known::Live(_, _)) => None,
         (Form::Tests, Known::Live(_, _)) => Some(b"# ".as_slice()),
         (Form::Cover(_), Known::Live(_, _)) => Some(b"missed ".as_slice()),
         (Form::Tests, Known::Dead(_) | Known::Unmet) => Some(b"# dead ".as_slice()),
@@ -69,8 +70,9 @@ fn put_found<W: Write>(
     match &rule.known {
         Known::Live(words, given) => put_live(course, words, given.as_slice(), output),
         Known::Dead(Some(reason)) => put_reason(table, rule.at.chain, reason, output),
+        Known::Covered(given) => put_if(course.open, b"", given.as_slice(), output),
         Known::Unmet => output.put(b"  no answers meet its conditions\n"),
-        Known::Covered | Known::Dead(None) | Known::Unclear => Ok(()),
+        Known::Dead(None) | Known::Unclear => Ok(()),
     }
 }
 
@@ -96,7 +98,7 @@ pub(crate) fn put_rules<W: Write>(
 // What is known of a rule, in one word.
 fn life_word(form: Form<'_>, known: &Known) -> LifeWord {
     match (form, known) {
-        (_, Known::Covered) => LifeWord::Covered,
+        (_, Known::Covered(_)) => LifeWord::Covered,
         (Form::Cover(_), Known::Live(_, _)) => LifeWord::Missed,
         (Form::Dead | Form::Tests, Known::Live(_, _)) => LifeWord::Live,
         (_, Known::Dead(_) | Known::Unmet) => LifeWord::Dead,
@@ -127,9 +129,12 @@ fn rule_entry(
             entry.answers = answer_entries(alloc, course.open, given.as_slice())?;
             entry.packet = Some(packet_text(alloc, words)?);
         }
+        Known::Covered(given) => {
+            entry.answers = answer_entries(alloc, course.open, given.as_slice())?;
+        }
         Known::Dead(Some(reason)) => entry.reason = Some(reason_entry(alloc, table, reason)?),
         Known::Unmet => entry.reason = Some(ReasonEntry::Unmet),
-        Known::Covered | Known::Dead(None) | Known::Unclear => {}
+        Known::Dead(None) | Known::Unclear => {}
     }
     Ok(entry)
 }

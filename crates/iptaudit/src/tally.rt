@@ -2,15 +2,17 @@
 use crate::deciding::Standing;
 use crate::document::{ChangeCounts, Counts};
 use crate::each_rule::Known;
+use crate::number_text::put_number;
 use fields::{Tap, WriteFailed};
-use itoa::Buffer;
+use questions::Need;
 use std::io::Write;
 
 /// How many rules match a packet that was given, how many of the others can match, how many can't, and of how many it isn't
-/// known; and of those that can't, how many are redundant and how many shadowed.
+/// known; of the first, how many do so under some answers alone; and of those that can't, how many are redundant and how many shadowed.
 #[derive(Drop)]
 pub(crate) struct Tally {
     covered: usize,
+    covered_if: usize,
     live: usize,
     dead: usize,
     unclear: usize,
@@ -23,6 +25,7 @@ impl Tally {
     pub(crate) fn new() -> Tally {
         Tally {
             covered: 0,
+            covered_if: 0,
             live: 0,
             dead: 0,
             unclear: 0,
@@ -34,7 +37,7 @@ impl Tally {
     /// Counts a rule by what is known of it, and by what it is beside those who decide its packets, if that is known.
     pub(crate) fn note(&mut self, known: &Known, standing: Option<Standing>) {
         match known {
-            Known::Covered => self.covered = self.covered.saturating_add(1),
+            Known::Covered(given) => self.note_covered(given.as_slice()),
             Known::Live(_, _) => self.live = self.live.saturating_add(1),
             Known::Dead(_) | Known::Unmet => self.dead = self.dead.saturating_add(1),
             Known::Unclear => self.unclear = self.unclear.saturating_add(1),
@@ -43,6 +46,14 @@ impl Tally {
             Some(Standing::Redundant) => self.redundant = self.redundant.saturating_add(1),
             Some(Standing::Shadowed) => self.shadowed = self.shadowed.saturating_add(1),
             None => {}
+        }
+    }
+
+    // Counts a rule that matches a packet that was given, where these answers are right.
+    fn note_covered(&mut self, given: &[Need]) {
+        self.covered = self.covered.saturating_add(1);
+        if !given.is_empty() {
+            self.covered_if = self.covered_if.saturating_add(1);
         }
     }
 
@@ -77,12 +88,22 @@ impl Tally {
         )
     }
 
-    /// Writes the line of all counts: `23 rules, 20 covered, 2 missed, 1 dead, 0 unclear`.
+    /// Writes the line of all counts: `23 rules, 20 covered, 2 missed, 1 dead, 0 unclear`, or `20 covered (3 if conditions hold)` where some rules are
+    /// so under some answers alone.
     pub(crate) fn put_coverage<W: Write>(&self, output: &mut Tap<W>) -> Result<(), WriteFailed> {
         put_counts(
             &[
                 (self.rules(), b" rules, ".as_slice()),
-                (self.covered, b" covered, ".as_slice()),
+                (self.covered, b" covered".as_slice()),
+            ],
+            output,
+        )?;
+        if self.covered_if > 0 {
+            put_number(b" (", self.covered_if, b" if conditions hold)", output)?;
+        }
+        output.put(b", ")?;
+        put_counts(
+            &[
                 (self.live, b" missed, ".as_slice()),
                 (self.dead, b" dead, ".as_slice()),
                 (self.unclear, b" unclear\n".as_slice()),
@@ -108,6 +129,7 @@ impl Tally {
         Counts {
             rules: self.rules(),
             covered: None,
+            covered_if: None,
             missed: None,
             dead: self.dead,
             unclear: self.unclear,
@@ -121,6 +143,11 @@ impl Tally {
         Counts {
             rules: self.rules(),
             covered: Some(self.covered),
+            covered_if: if self.covered_if > 0 {
+                Some(self.covered_if)
+            } else {
+                None
+            },
             missed: Some(self.live),
             dead: self.dead,
             unclear: self.unclear,
@@ -163,8 +190,7 @@ pub(crate) fn status(is_found: bool, is_unclear: bool) -> u8 {
 // Writes each count with the text after it.
 fn put_counts<W: Write>(counts: &[(usize, &[u8])], output: &mut Tap<W>) -> Result<(), WriteFailed> {
     for (count, text) in counts {
-        let mut digits = Buffer::new();
-        output.put_all(&[digits.format(*count).as_bytes(), text])?;
+        put_number(b"", *count, text, output)?;
     }
     Ok(())
 }

@@ -2,9 +2,7 @@
 use crate::asking::Asking;
 use crate::dump::{Dump, contradict, has_opposite};
 use crate::open_conditions::OpenConditions;
-use crate::packet_box::box_of;
-use fields::Packet;
-use questions::{Leaf, Need, Scope};
+use questions::{Leaf, Need, WrittenPacket};
 use std::alloc::{AllocError, Global};
 use std::io::IsTerminal;
 use std::rt::Clock;
@@ -112,10 +110,10 @@ fn decider_of(trail: &Trail) -> Option<Step> {
 fn plain_walk(
     alloc: Global,
     table: &Table,
-    packet: &Packet,
+    packet: &WrittenPacket,
     given: &[Need],
 ) -> Result<Walk, AllocError> {
-    let trail = table.trail(packet)?;
+    let trail = table.trail(packet.packet())?;
     Ok(Walk {
         given: copy_of(alloc, given)?,
         rules: passed_on(alloc, &trail)?,
@@ -148,7 +146,7 @@ pub(crate) fn walks_of<R: Clock, E: Print + IsTerminal>(
     asking: &Asking<'_, R, E>,
     dump: &Dump,
     open: &OpenConditions,
-    packet: &Packet,
+    packet: &WrittenPacket,
     given: &[Need],
 ) -> Result<Option<Vec<Walk>>, AllocError> {
     let alloc = asking.alloc();
@@ -157,11 +155,8 @@ pub(crate) fn walks_of<R: Clock, E: Print + IsTerminal>(
         walks.push(plain_walk(alloc, dump.table(), packet, given)?)?;
         return Ok(Some(walks));
     }
-    let start = Scope {
-        area: box_of(alloc, packet)?,
-        answers: open.start(alloc, given)?,
-    };
-    match asking.leaves(&dump.subject(), packet.hook(), start)? {
+    let start = open.start(alloc, given)?;
+    match asking.walks(&dump.subject(), packet, &start)? {
         Some(leaves) => Ok(Some(walks_among(alloc, dump, open, leaves.as_slice())?)),
         None => Ok(None),
     }

@@ -18,12 +18,14 @@ pub mod ExactLaws
 pub mod ForeignLaws
 pub mod GroupLaws
 pub mod HeldLaws
+pub mod HookLaws
 pub mod LeadLaws
 pub mod LeastNameLaws
 pub mod LineLaws
 pub mod LineStepLaws
 pub mod LookLaws
 pub mod MeetingLaws
+pub mod NeedlessLaws
 pub mod NeverLaws
 pub mod PacketLaws
 pub mod PlainCompareLaws

@@ -8,6 +8,7 @@ mod boxes;
 mod foreign;
 mod sampling;
 mod walking;
+mod written;
 
 pub use asked::changes::{Changes, changes_of, changes_under};
 pub use asked::compare::{compare, compare_at, compare_at_under, compare_under};
@@ -32,3 +33,4 @@ pub use foreign::subject::Subject;
 pub use walking::engine::{leaves, leaves_under};
 pub use walking::scope::Scope;
 pub use walking::task::Leaf;
+pub use written::WrittenPacket;

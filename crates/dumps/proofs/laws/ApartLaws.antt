@@ -1,9 +1,9 @@
 -- A line is taken apart in one way.
 use Prim.Native.Nat.{zero, suc}
-use Rattle.std.proofs.Common.{◌≡◌, ◌≢◌, ◌≤◌, ◌⊎◌, inl, inr, arith, length-append, ℕ, Bool, true, false, List, [], ◌∷◌, ◌++◌, length, Option, None, Some, refl, sym, ap, subst, ◌∙◌, append_assoc, append-nil}
-use Rattle.std.specs.Prelude.{Result, Ok, Err, flat_map, codes}
+use Rattle.std.proofs.Common.{◌≡◌, ◌≢◌, ◌≤◌, ◌⊎◌, inl, inr, arith, length-append, ℕ, Bool, true, false, List, [], ◌∷◌, ◌++◌, length, refl, sym, ap, subst, ◌∙◌, append_assoc, append-nil}
+use Rattle.std.specs.Prelude.{Result, Ok, Err, flat_map}
 use Rattle.std.proofs.lemmas.List.Concat.{flat_map-append}
-use Rattle.dumps.specs.Options.{Row, Table}
+use Rattle.dumps.specs.Options.{Table}
 use Rattle.dumps.specs.Parts.{Part, Refusal, spelled_words, part_words, next_part}
 use Rattle.dumps.specs.Apart.{IsPart, AreParts, IsTakenApart, IsRefused, IsOneWay, IsNeverBoth, IsRefusedOneWay, HasOutcome}
 use Rattle.dumps.proofs.laws.NextLaws.{next_of, stands-next, next-stands, same_read}

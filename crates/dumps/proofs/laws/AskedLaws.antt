@@ -9,11 +9,20 @@ use Rattle.std.proofs.lemmas.Slice.Eq.{bytes_eq-Decides}
 use Rattle.std.proofs.lemmas.List.Elements.{All-nil, All-cons, All-head, All-tail, All-weaker, All-contains_itself, Contains-append_left, Contains-append_right, filter-append}
 use Rattle.dumps.specs.Options.{Row, Table, is_role, role_number, option_of}
 use Rattle.dumps.specs.Parts.{Part, value_of, option_of_begun, begun_by, implied_by, newest, option_after}
-use Rattle.dumps.specs.Apart.{IsPart, AreParts}
+use Rattle.dumps.specs.Apart.{AreParts, IsTakenApart}
 use Rattle.dumps.specs.Own.{is_read, is_of, begins, up_to_next}
-use Rattle.dumps.specs.Conditions.{Condition, unread, asked_by, is_there, protocol_condition, asked_first, conditions_after, conditions, IsAskedAmong, HasOwnStarts, OptionsAreAsked, MatchesAreAsked, ProtocolsAreAsked, NothingIsLost}
+use Rattle.dumps.specs.Conditions.{Condition, unread, asked_by, is_there, protocol_condition, asked_first, conditions_after, conditions, HasOwnStarts, MatchesAreAsked, ProtocolsAreAsked}
 use Rattle.dumps.specs.Conditions as asking
 use Rattle.dumps.specs.declared.options.row.Role.TheVariants as role
+
+-- A part is asked: with the other options of its match that the program doesn't read, from some place up to where the match is
+-- begun again, and what these ask is among the conditions.
+pub record IsAskedAmong (table : Table) (line : List Part) (part : Part) (all : List Condition) : Type 0 where
+  pub before : List Part
+  pub from : List Part
+  pub split : line ≡ before ++ from
+  pub has : Contains (unread table part.row.owner (up_to_next part.row.owner from)) part
+  pub asked : All (Contains all) (asked_by table part.row.owner from)
 
 -- what holds of each row of the table holds of the row that is found
 found_one : (P : Row → Type 0) (test : Row → Bool) (rows : List Row) → All P rows → IfSome (find test rows) P
@@ -24,7 +33,7 @@ found_one P test (row ∷ rows) h = go (test row) (found_one P test rows (All-ta
     go true rest = All-head P row rows h
     go false rest = rest
 
-either_one : (P : Row → Type 0) (a b : Option Row) → IfSome a P → IfSome b P → IfSome (option_or a b) P
+pub either_one : (P : Row → Type 0) (a b : Option Row) → IfSome a P → IfSome b P → IfSome (option_or a b) P
 either_one P None b ha hb = hb
 either_one P (Some row) b ha hb = ha
 
@@ -244,7 +253,9 @@ lost-free table name before after part owner some no_start of unread_is rows fre
         (at-split (λ (p : Part). IsNoStart p.row) f.before f.start between (subst (λ (l : List Part). All (λ (p : Part). IsNoStart p.row) l) split rows)) owner
         (in-unread table name (f.start ∷ f.after) part after none no_start of unread_is)
 
-options_are_asked : OptionsAreAsked
+pub options_are_asked : (table : Table) (words : List (List ℕ)) (before after : List Part) (part : Part) → HasOwnStarts table
+    → IsTakenApart table words (before ++ part ∷ after) → is_read table part ≡ false → part.row.owner ≢ []
+    → IsAskedAmong table (before ++ part ∷ after) part (conditions table (before ++ part ∷ after))
 options_are_asked table words before after part own apart unread_is some = go (last_begun name before)
   where
     name : List ℕ
@@ -263,7 +274,7 @@ options_are_asked table words before after part own apart unread_is some = go (l
     go (inl free) = lost-free table name before after part refl some no_start of unread_is rows free
     go (inr h) = lost-begun table name before after part refl no_start of unread_is h
 
-matches_are_asked : MatchesAreAsked
+pub matches_are_asked : MatchesAreAsked
 matches_are_asked table before after name start begun =
     subst (λ (l : List Condition). All (Contains (conditions table (before ++ start ∷ after))) l) (asked-begun table name before start after begun) (included table [] before (start ∷ after))
 
@@ -275,11 +286,8 @@ asked-protocol table before part after e unread_is =
     let implied : List Condition = asking.implied_by table before part.row.owner (part ∷ after) in
     ap (λ k. cond (k == 4) (asked_by table (value_of part) after) (cond (k == 3) protocol implied)) is ∙ ap (λ t. cond t [] (protocol_condition part ∷ [])) unread_is
 
-protocols_are_asked : ProtocolsAreAsked
+pub protocols_are_asked : ProtocolsAreAsked
 protocols_are_asked table before after part e unread_is =
     let all : All (Contains (conditions table (before ++ part ∷ after))) (protocol_condition part ∷ []) =
     subst (λ (l : List Condition). All (Contains (conditions table (before ++ part ∷ after))) l) (asked-protocol table before part after e unread_is) (included table [] before (part ∷ after)) in
     All-head (Contains (conditions table (before ++ part ∷ after))) (protocol_condition part) [] all
-
-pub nothing_is_lost : NothingIsLost
-nothing_is_lost = record { options = options_are_asked; matches = matches_are_asked; protocols = protocols_are_asked }

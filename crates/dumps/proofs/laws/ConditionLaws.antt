@@ -1,8 +1,8 @@
 -- The conditions of what is left of a line, one part on.
-use Rattle.std.proofs.Common.{◌≡◌, ℕ, ◌+◌, ◌<◌, List, [], ◌∷◌, ◌++◌, length, take, drop, map, get_or, refl, sym, ap, ◌∙◌, arith}
+use Rattle.std.proofs.Common.{◌≡◌, ℕ, ◌+◌, ◌<◌, List, [], ◌∷◌, ◌++◌, length, take, drop, get_or, refl, sym, ap, ◌∙◌, arith}
 use Rattle.std.proofs.lemmas.List.{drop_more, take_more, map_push, length-drop}
 use Rattle.dumps.specs.Options.{Table}
-use Rattle.dumps.specs.Conditions.{Condition, asked_first, conditions_after}
+use Rattle.dumps.specs.Conditions.{asked_first, conditions_after}
 use Rattle.dumps.specs.Views.{part_in, parts_of}
 use Rattle.dumps.specs.declared.apart.part.Part.{Part}
 

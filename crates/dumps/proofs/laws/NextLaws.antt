@@ -6,7 +6,7 @@ use Rattle.std.proofs.lemmas.Slice.Eq.{bytes_eq-Decides}
 use Rattle.std.proofs.lemmas.List.{length-append, length-take-le}
 use Rattle.std.proofs.Math.Seq.{take-append_seam, drop-append_seam}
 use Rattle.dumps.specs.Options.{Row, Table, begins_or_names}
-use Rattle.dumps.specs.Parts.{Part, Refusal, InversionNotAllowed, ValueMissing, UnknownOption, spelled_words, part_words, first_of, value_of, option_after, refused_with, unless_refused, checked, with_values, with_row, after_bang, next_part}
+use Rattle.dumps.specs.Parts.{Part, Refusal, InversionNotAllowed, ValueMissing, spelled_words, part_words, first_of, option_after, refused_with, unless_refused, checked, with_values, with_row, after_bang, next_part}
 use Rattle.dumps.specs.Apart.{IsPart}
 
 -- what is read there

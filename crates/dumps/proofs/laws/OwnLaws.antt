@@ -1,12 +1,12 @@
 -- The own line, part by part, and what its words are.
-use Rattle.std.proofs.Common.{◌≡◌, ◌≢◌, ◌==◌, inl, inr, ℕ, ◌+◌, ◌<◌, Bool, true, false, cond, ◌||◌, ◌⊎◌, List, [], ◌∷◌, ◌++◌, length, take, drop, map, flat_map, get_or, refl, sym, ap, ◌∙◌, arith, suc, eq-eqb, Some}
+use Rattle.std.proofs.Common.{◌≡◌, ◌≢◌, ◌==◌, inl, inr, ℕ, ◌+◌, ◌<◌, Bool, true, false, cond, ◌||◌, ◌⊎◌, List, [], ◌∷◌, ◌++◌, length, drop, flat_map, get_or, refl, ◌∙◌, arith, suc, eq-eqb}
 use Rattle.std.proofs.lemmas.Bool.{and_parts, or_parts, ltb-true}
 use Rattle.std.proofs.lemmas.List.{at_drop_more}
 use Rattle.std.proofs.lemmas.List.Concat.{flat_map-append}
 use Rattle.std.specs.List.{list_all}
 use Rattle.std.specs.Prelude.{nat_lt}
 use Rattle.fields.specs.text.OneLine.{IsOneLine, AreOneLine}
-use Rattle.fields.specs.text.Words.{is_bare, IsQuotedByte, IsQuotedText, IsSpelling, EndsWord, AreWords, words_of}
+use Rattle.fields.specs.text.Words.{is_bare, IsQuotedByte, IsQuotedText, IsSpelling, EndsWord, AreWords}
 use Rattle.fields.proofs.laws.values.BareLaws.{some-bytes}
 use Rattle.fields.proofs.laws.text.WordLaws.{words_of-AreWords}
 use Rattle.dumps.specs.Options.{Table}

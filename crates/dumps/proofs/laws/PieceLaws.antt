@@ -1,6 +1,5 @@
 -- A value, read up to a byte: the numbers of what stands before it, and what follows.
 use Rattle.std.proofs.Common.{◌≡◌, ℕ, ◌+◌, ◌<◌, ◌≤◌, Bool, true, false, cond, ◌||◌, List, [], ◌∷◌, ◌++◌, length, take, drop, refl, sym, ap, ◌∙◌, arith, get_or, ◌-◌, ◌==◌, eqb-true}
-use Rattle.std.specs.List.{list_any}
 use Rattle.std.specs.Char.{is_ascii_alphabetic}
 use Rattle.std.proofs.lemmas.List.{drop_more, take_more, take_rest, drop_all, length-drop, get_or-drop}
 use Rattle.std.proofs.lemmas.List.Folds.{list_any-append}

@@ -4,7 +4,7 @@ ghost use Rattle.std.specs.List.{list_any};
 ghost use Rattle.fields.specs.text.WordSlice.{words_in};
 ghost use Rattle.dumps.specs.Parts.{spelled_words};
 ghost use Rattle.dumps.specs.Conditions.{asks, turns, holds, is_single, differ, is_inverted, text_words, always_hold, unless_always, unread, asked_as, asked_by, is_there, implied_by, protocol_condition, asked_first, conditions};
-ghost use Rattle.dumps.specs.Views.{table_in, texts_in, part_in, parts_of, conditions_in};
+ghost use Rattle.dumps.specs.Views.{table_in, texts_in, part_in, parts_of, passes, conditions_in};
 
 use crate::apart::own::{begins, is_of, is_read, up_to_next};
 use crate::apart::part::Part;
@@ -55,45 +55,33 @@ fn holds(part: &Part<'_>) -> bool
     }
 }
 
-fn one_asks(parts: &[Part<'_>]) -> bool
-    ensures { result ≡ list_any asks (parts_of parts.now) }
-{
-    for part in parts {
-        if asks(part) {
-            return true;
-        }
-    }
-    false
+// What a part may be.
+#[derive(Clone, Copy)]
+enum Test {
+    Asks,
+    AsksInverted,
+    Turns,
+    Holds,
 }
 
-fn one_turns(parts: &[Part<'_>]) -> bool
-    ensures { result ≡ list_any turns (parts_of parts.now) }
+// Whether a part is so.
+fn passes(test: Test, part: &Part<'_>) -> bool
+    ensures { result ≡ passes test (part_in part.now) }
 {
-    for part in parts {
-        if turns(part) {
-            return true;
-        }
+    match test {
+        Test::Asks => asks(part),
+        Test::AsksInverted => asks(part) && part.inverted,
+        Test::Turns => turns(part),
+        Test::Holds => holds(part),
     }
-    false
 }
 
-fn one_holds(parts: &[Part<'_>]) -> bool
-    ensures { result ≡ list_any holds (parts_of parts.now) }
+// Whether one of the parts is so.
+fn one_passes(test: Test, parts: &[Part<'_>]) -> bool
+    ensures { result ≡ list_any (passes test) (parts_of parts.now) }
 {
     for part in parts {
-        if holds(part) {
-            return true;
-        }
-    }
-    false
-}
-
-// Whether one of the parts asks, after a `!`.
-fn one_asks_inverted(parts: &[Part<'_>]) -> bool
-    ensures { result ≡ list_any (λ part. asks part && part.inverted) (parts_of parts.now) }
-{
-    for part in parts {
-        if asks(part) && part.inverted {
+        if passes(test, part) {
             return true;
         }
     }
@@ -106,7 +94,7 @@ fn is_single(parts: &[Part<'_>]) -> bool
 {
     for (i, part) in parts.iter().enumerate() {
         if asks(part) {
-            return !one_asks(&parts[i + 1..]);
+            return !one_passes(Test::Asks, &parts[i + 1..]);
         }
     }
     false
@@ -116,11 +104,11 @@ fn is_single(parts: &[Part<'_>]) -> bool
 fn is_inverted(parts: &[Part<'_>]) -> bool
     ensures { result ≡ is_inverted (parts_of parts.now) }
 {
-    let inverted = is_single(parts) && one_asks_inverted(parts);
+    let inverted = is_single(parts) && one_passes(Test::AsksInverted, parts);
     if inverted {
-        !one_turns(parts)
+        !one_passes(Test::Turns, parts)
     } else {
-        one_turns(parts)
+        one_passes(Test::Turns, parts)
     }
 }
 
@@ -128,7 +116,7 @@ fn is_inverted(parts: &[Part<'_>]) -> bool
 fn always_hold(parts: &[Part<'_>]) -> bool
     ensures { result ≡ always_hold (parts_of parts.now) }
 {
-    is_single(parts) && one_holds(parts) && !is_inverted(parts)
+    is_single(parts) && one_passes(Test::Holds, parts) && !is_inverted(parts)
 }
 
 // Adds some words.

@@ -5,7 +5,7 @@ ghost use Rattle.fields.specs.text.WordSlice.{words_in};
 ghost use Rattle.dumps.specs.Options.{is_match, has_match, has_target, decides, option_of, begins_or_names};
 ghost use Rattle.dumps.specs.Parts.{begun_by, implied_by, option_of_begun, newest, option_after, refused_with, value_of, checked, with_values, with_row, after_bang, next_part};
 ghost use Rattle.dumps.specs.Apart.{IsTakenApart, IsRefused, IsOneWay, IsNeverBoth, IsRefusedOneWay, HasOutcome};
-ghost use Rattle.dumps.specs.Views.{table_in, row_in, rows_in, part_in, parts_of, parts_in, refusal_in, refusal_at, PartGives};
+ghost use Rattle.dumps.specs.Views.{table_in, row_in, rows_in, part_in, parts_of, parts_in, refusal_in, refusal_at, PartGives, begun};
 
 use crate::apart::Apart;
 use crate::apart::fault::ApartFault;
@@ -75,37 +75,6 @@ pub(crate) fn begun_by<'a>(table: &OptionTable<'_>, part: &Part<'a>) -> Option<&
     }
 }
 
-// The option of the match or target that a part begins, if it has one that is spelled so.
-fn option_begun<'a>(
-    table: &OptionTable<'a>,
-    part: &Part<'a>,
-    spelling: &[u8],
-) -> Option<OptionRow<'a>>
-    ensures { option_map row_in result ≡ option_of_begun (table_in table.now) spelling.now (begun_by (table_in table.now) (part_in part.now)) }
-{
-    match begun_by(table, part) {
-        None => None,
-        Some(name) => option_in(table.options, name, spelling),
-    }
-}
-
-// The option of the newest match or target of the parts that has one that is spelled so.
-fn newest_option<'a>(
-    table: &OptionTable<'a>,
-    parts: &[Part<'a>],
-    spelling: &[u8],
-) -> Option<OptionRow<'a>>
-    ensures { option_map row_in result ≡ newest (table_in table.now) (begun_by (table_in table.now)) (parts_of parts.now) spelling.now }
-{
-    let mut found = None;
-    for part in parts {
-        if let Some(row) = option_begun(table, part, spelling) {
-            found = Some(row);
-        }
-    }
-    found
-}
-
 // The name of the match that a part begins by its protocol.
 fn implied_by<'a>(table: &OptionTable<'a>, part: &Part<'_>) -> Option<&'a [u8]>
     ensures { option_map (λ name. name.now) result ≡ implied_by (table_in table.now) (part_in part.now) }
@@ -122,31 +91,50 @@ fn implied_by<'a>(table: &OptionTable<'a>, part: &Part<'_>) -> Option<&'a [u8]>
     }
 }
 
-// The option of that match.
-fn option_of_protocol<'a>(
-    table: &OptionTable<'a>,
-    part: &Part<'_>,
-    spelling: &[u8],
-) -> Option<OptionRow<'a>>
-    ensures { option_map row_in result ≡ option_of_begun (table_in table.now) spelling.now (implied_by (table_in table.now) (part_in part.now)) }
+// How a part begins a match or a target: by its name, or a match by its protocol.
+#[derive(Clone, Copy)]
+enum Beginning {
+    Name,
+    Protocol,
+}
+
+// The name of what a part begins so.
+fn begun<'a>(table: &OptionTable<'a>, part: &Part<'a>, by: Beginning) -> Option<&'a [u8]>
+    ensures { option_map (λ name. name.now) result ≡ begun by (table_in table.now) (part_in part.now) }
 {
-    match implied_by(table, part) {
+    match by {
+        Beginning::Name => begun_by(table, part),
+        Beginning::Protocol => implied_by(table, part),
+    }
+}
+
+// The option of what a part begins so, if it has one that is spelled so.
+fn option_begun<'a>(
+    table: &OptionTable<'a>,
+    part: &Part<'a>,
+    spelling: &[u8],
+    by: Beginning,
+) -> Option<OptionRow<'a>>
+    ensures { option_map row_in result ≡ option_of_begun (table_in table.now) spelling.now (begun by (table_in table.now) (part_in part.now)) }
+{
+    match begun(table, part, by) {
         None => None,
         Some(name) => option_in(table.options, name, spelling),
     }
 }
 
-// The same of all parts: of the newest protocol.
-fn implied_option<'a>(
+// The option of the newest part that so begins something which has one that is spelled so.
+fn newest_option<'a>(
     table: &OptionTable<'a>,
     parts: &[Part<'a>],
     spelling: &[u8],
+    by: Beginning,
 ) -> Option<OptionRow<'a>>
-    ensures { option_map row_in result ≡ newest (table_in table.now) (implied_by (table_in table.now)) (parts_of parts.now) spelling.now }
+    ensures { option_map row_in result ≡ newest (table_in table.now) (begun by (table_in table.now)) (parts_of parts.now) spelling.now }
 {
     let mut found = None;
     for part in parts {
-        if let Some(row) = option_of_protocol(table, part, spelling) {
+        if let Some(row) = option_begun(table, part, spelling, by) {
             found = Some(row);
         }
     }
@@ -164,10 +152,10 @@ fn option_after<'a>(
     if let Some(row) = option_in(table.options, b"".as_slice(), spelling) {
         return Some(row);
     }
-    if let Some(row) = newest_option(table, parts, spelling) {
+    if let Some(row) = newest_option(table, parts, spelling, Beginning::Name) {
         return Some(row);
     }
-    implied_option(table, parts, spelling)
+    newest_option(table, parts, spelling, Beginning::Protocol)
 }
 
 // Why a part may not stand anywhere.

@@ -1,7 +1,11 @@
 //! The rows of the table as they are kept: read from text, and lent as a table.
+ghost use Rattle.std.specs.Prelude.{◌≡◌, option_map};
+ghost use Rattle.dumps.specs.Known.{Written, own_owner, written_by, kind_of, kind_refusal, name_refusal, written_in};
+
+use crate::options::refusal::{OptionFault, OptionRefusal, add_refused};
 use crate::options::row::{ExtensionRow, Kind, Lasting, OptionRow, Role};
 use crate::options::rows::{EXTENSIONS, OPTIONS};
-use crate::options::table::{NameRow, OptionTable};
+use crate::options::table::{NameRow, OptionTable, is_among};
 use crate::services::{icmp_type_names, port_names};
 use fields::{cut_at, read_number_to};
 use std::alloc::{AllocError, Global};
@@ -37,6 +41,7 @@ struct KeptExtension<'a> {
 /// Options, matches and targets: those of iptables, and others that were added.
 #[derive(Drop)]
 pub struct KnownOptions<'a> {
+    alloc: Global,
     words: Vec<&'a [u8]>,
     options: Vec<KeptOption<'a>>,
     extensions: Vec<KeptExtension<'a>>,
@@ -110,23 +115,103 @@ fn spanned<'a>(words: &'a [&'a [u8]], span: Span) -> &'a [&'a [u8]] {
     }
 }
 
+// Whose an option is: one that begins a match, or gives a protocol, is the rule's own.
+fn owner_in(role: Role, owner: &[u8]) -> &[u8]
+    ensures { result.now ≡ own_owner role owner.now }
+{
+    match role {
+        Role::Match | Role::Protocol => return b"".as_slice(),
+        _ => return owner,
+    }
+}
+
+// An option to be added: the name of its match, its spelling, and how many values follow.
+#[derive(Clone, Copy)]
+struct WrittenOption<'a> {
+    name: &'a [u8],
+    option: &'a [u8],
+    values: usize,
+}
+
+// The option that a text `MATCH OPTION N` writes.
+#[tactic(auto, unfolding(crate::specs::Known::written_by))]
+fn written_by(text: &[u8]) -> Option<WrittenOption<'_>>
+    ensures { option_map written_in result ≡ written_by text.now }
+{
+    let (name, rest) = cut_at(text, b' ')?;
+    let (option, number) = cut_at(rest, b' ')?;
+    let values = read_number_to(number, 9)?;
+    if name.is_empty() || option.is_empty() {
+        return None;
+    }
+    Some(WrittenOption {
+        name,
+        option,
+        values: values as usize,
+    })
+}
+
+// The kind of the first match or target of a name.
+fn kind_named(kept: &[KeptExtension<'_>], name: &[u8]) -> Option<Kind>
+    ensures { result ≡ kind_of kept.now name.now }
+{
+    for one in kept {
+        if one.name == name {
+            return Some(one.kind);
+        }
+    }
+    None
+}
+
+// Why what has this kind gets no option that asks a condition.
+fn kind_refusal(kind: Kind) -> Option<OptionRefusal>
+    ensures { result ≡ kind_refusal kind }
+{
+    match kind {
+        Kind::Known { .. } => Some(OptionRefusal::MatchIsRead),
+        Kind::Foreign(_) => None,
+        Kind::Ends | Kind::Logs | Kind::Passes | Kind::Decides => Some(OptionRefusal::NameOfTarget),
+    }
+}
+
+// Why a name gets none.
+fn name_refusal(kind: Option<Kind>) -> Option<OptionRefusal>
+    ensures { result ≡ name_refusal kind }
+{
+    match kind {
+        None => None,
+        Some(kind) => kind_refusal(kind),
+    }
+}
+
 impl<'a> KnownOptions<'a> {
+    ghost use Rattle.std.specs.Prelude.{◌≡◌, ◌++◌, ◌∷◌, [], true, is_some, map, IfOk, IfErr, IfSome, OnOk};
+    ghost use Rattle.dumps.specs.Conditions.{AreOwnStarts, HasOwnStarts};
+    ghost use Rattle.dumps.specs.Known.{IsAdded, IsAddRefused, IsMatchAdded, IsMatchRefused, AreLent, add_refused_in, kind_of, shape_of, shapes_in, named_kind, kinds_in, table_of};
+    ghost use Rattle.dumps.specs.Views.{rows_in, extensions_in};
+    ghost use Rattle.dumps.specs.declared.options.row.Role.TheVariants.{Asks};
+
     /// The options of iptables 1.8.9 that rules of the table `filter` may have.
     ///
     /// # Errors
     ///
-    /// `AllocError` where memory was refused.
-    pub fn new(alloc: Global) -> Result<KnownOptions<'a>, AllocError> {
+    /// That memory was refused; or a line of the table that is no row.
+    pub fn new(alloc: Global) -> Result<KnownOptions<'a>, OptionFault> {
         let mut known = KnownOptions {
+            alloc,
             words: Vec::new(alloc),
             options: Vec::new(alloc),
             extensions: Vec::new(alloc),
         };
         for line in OPTIONS.lines() {
-            known.add_option_line(line)?;
+            if !known.add_option_line(line)? {
+                return Err(add_refused(alloc, OptionRefusal::NotARow, line.as_bytes()));
+            }
         }
         for line in EXTENSIONS.lines() {
-            known.add_extension_line(line)?;
+            if !known.add_extension_line(line)? {
+                return Err(add_refused(alloc, OptionRefusal::NotARow, line.as_bytes()));
+            }
         }
         Ok(known)
     }
@@ -143,16 +228,16 @@ impl<'a> KnownOptions<'a> {
         })
     }
 
-    // Adds the option of a line; a line that isn't as they are written adds none.
-    fn add_option_line(&mut self, line: &'a str) -> Result<(), AllocError> {
+    // Adds the option of a line. The answer is whether the line is a row.
+    fn add_option_line(&mut self, line: &'a str) -> Result<bool, AllocError> {
         let mut words = line.split_whitespace();
         let (Some(owner), Some(role), Some(values)) = (words.next(), words.next(), words.next())
         else {
-            return Ok(());
+            return Ok(false);
         };
         let (Some(role), Some(values)) = (role_of(role), read_number_to(values.as_bytes(), 9))
         else {
-            return Ok(());
+            return Ok(false);
         };
         let names = self.keep(words)?;
         self.options.push(KeptOption {
@@ -161,17 +246,17 @@ impl<'a> KnownOptions<'a> {
             values: values as usize,
             role,
         })?;
-        Ok(())
+        Ok(true)
     }
 
     // Adds the match or target of a line, in the same way.
-    fn add_extension_line(&mut self, line: &'a str) -> Result<(), AllocError> {
+    fn add_extension_line(&mut self, line: &'a str) -> Result<bool, AllocError> {
         let mut words = line.split_whitespace();
         let (Some(name), Some(kind)) = (words.next(), words.next()) else {
-            return Ok(());
+            return Ok(false);
         };
         let Some(kind) = kind_of(kind) else {
-            return Ok(());
+            return Ok(false);
         };
         let words = self.keep(words)?;
         let (protocols, sets) = if is_target(kind) {
@@ -185,50 +270,68 @@ impl<'a> KnownOptions<'a> {
             protocols,
             sets,
         })?;
-        Ok(())
-    }
-
-    /// Adds an option that the table lacks, written as `MATCH OPTION N`: N values follow the option, at most 9, and it asks a
-    /// condition. A match that the table lacks is added with it: each place has a condition of its own. The answer is
-    /// whether the text is one.
-    ///
-    /// # Errors
-    ///
-    /// `AllocError` where memory was refused.
-    pub fn add(&mut self, text: &'a [u8]) -> Result<bool, AllocError> {
-        let Some((name, rest)) = cut_at(text, b' ') else {
-            return Ok(false);
-        };
-        let Some((option, number)) = cut_at(rest, b' ') else {
-            return Ok(false);
-        };
-        let Some(values) = read_number_to(number, 9) else {
-            return Ok(false);
-        };
-        if name.is_empty() || option.is_empty() {
-            return Ok(false);
-        }
-        self.add_asking(name, option, values as usize)?;
         Ok(true)
     }
 
-    // Adds an option that asks a condition, and its match where there is none yet.
-    fn add_asking(
-        &mut self,
-        name: &'a [u8],
-        option: &'a [u8],
-        values: usize,
-    ) -> Result<(), AllocError> {
-        let from = self.words.len();
-        self.words.push(option)?;
-        let to = self.words.len();
-        self.options.push(KeptOption {
-            owner: name,
-            names: Span { from, to },
-            values,
-            role: Role::Asks,
-        })?;
-        if !self.extensions.iter().any(|kept| kept.name == name) {
+    // Whether the rule, or the match of a name, has an option that is spelled so.
+    fn has_option(&self, name: &[u8], option: &[u8]) -> bool {
+        for kept in &self.options {
+            let is_asked = kept.owner.is_empty() || kept.owner == name;
+            if is_asked && is_among(option, spanned(self.words.as_slice(), kept.names)) {
+                return true;
+            }
+        }
+        false
+    }
+
+    /// Adds an option that the table lacks, written as `MATCH OPTION N`: N values follow the option, at most 9, and it asks a
+    /// condition. A match that the table lacks is added with it: each place has a condition of its own.
+    ///
+    /// # Errors
+    ///
+    /// Why none is added, with the word that is refused.
+    pub fn add(&mut self, text: &'a [u8]) -> Result<(), OptionFault>
+        ensures added { OnOk result (IsAdded text.now self.old self.new) }
+        ensures refused { IfErr result (λ fault. IfSome (add_refused_in fault) (IsAddRefused text.now self.old)) }
+    {
+        let Some(row) = written_by(text) else {
+            return Err(add_refused(self.alloc, OptionRefusal::NotAnOption, text));
+        };
+        if let Some(why) = name_refusal(kind_named(self.extensions.as_slice(), row.name)) {
+            return Err(add_refused(self.alloc, why, row.name));
+        }
+        if self.has_option(row.name, row.option) {
+            return Err(add_refused(self.alloc, OptionRefusal::OptionIsThere, row.option));
+        }
+        self.add_asking(row)?;
+        Ok(())
+    }
+
+    /// Adds a match without an option, unless it is there: each place has a condition of its own.
+    ///
+    /// # Errors
+    ///
+    /// Why none is added, with the word that is refused.
+    pub fn add_match(&mut self, name: &'a [u8]) -> Result<(), OptionFault>
+        ensures added { OnOk result (IsMatchAdded name.now self.old self.new) }
+        ensures refused { IfErr result (λ fault. IfSome (add_refused_in fault) (IsMatchRefused name.now self.old)) }
+    {
+        if name.is_empty() {
+            return Err(add_refused(self.alloc, OptionRefusal::NotAnOption, name));
+        }
+        if let Some(why) = name_refusal(kind_named(self.extensions.as_slice(), name)) {
+            return Err(add_refused(self.alloc, why, name));
+        }
+        self.begin(name)?;
+        Ok(())
+    }
+
+    // Adds a match, where there is no match or target of this name yet.
+    fn begin(&mut self, name: &'a [u8]) -> Result<(), AllocError>
+        ensures there { OnOk result (is_some (kind_of self.new.extensions.items name.now) ≡ true) }
+        ensures same { self.new.options ≡ self.old.options }
+    {
+        if kind_named(self.extensions.as_slice(), name).is_none() {
             self.extensions.push(KeptExtension {
                 name,
                 kind: Kind::Foreign(Lasting::Place),
@@ -239,12 +342,32 @@ impl<'a> KnownOptions<'a> {
         Ok(())
     }
 
+    // Adds an option that asks a condition, and its match where there is none yet.
+    fn add_asking(&mut self, row: WrittenOption<'a>) -> Result<(), AllocError>
+        ensures last { OnOk result (shapes_in self.new ≡ shapes_in self.old ++ (row.entry.name.now, (Asks, row.entry.values)) ∷ []) }
+        ensures there { OnOk result (is_some (kind_of self.new.extensions.items row.entry.name.now) ≡ true) }
+    {
+        let from = self.words.len();
+        self.words.push(row.option)?;
+        let to = self.words.len();
+        self.options.push(KeptOption {
+            owner: row.name,
+            names: Span { from, to },
+            values: row.values,
+            role: Role::Asks,
+        })?;
+        self.begin(row.name)
+    }
+
     // The options, lent.
-    fn option_rows(&self, alloc: Global) -> Result<Vec<OptionRow<'_>>, AllocError> {
+    fn option_rows(&self, alloc: Global) -> Result<Vec<OptionRow<'_>>, AllocError>
+        ensures starts { IfOk result (λ rows. AreOwnStarts (rows_in rows.items)) }
+        ensures lent { IfOk result (λ rows. map shape_of (rows_in rows.items) ≡ shapes_in self.now) }
+    {
         let mut rows = Vec::with_capacity(alloc, self.options.len())?;
         for kept in &self.options {
             rows.push(OptionRow {
-                owner: kept.owner,
+                owner: owner_in(kept.role, kept.owner),
                 names: spanned(self.words.as_slice(), kept.names),
                 values: kept.values,
                 role: kept.role,
@@ -254,7 +377,9 @@ impl<'a> KnownOptions<'a> {
     }
 
     // The matches and targets, lent.
-    fn extension_rows(&self, alloc: Global) -> Result<Vec<ExtensionRow<'_>>, AllocError> {
+    fn extension_rows(&self, alloc: Global) -> Result<Vec<ExtensionRow<'_>>, AllocError>
+        ensures { IfOk result (λ rows. map named_kind (extensions_in rows.items) ≡ kinds_in self.now) }
+    {
         let mut rows = Vec::with_capacity(alloc, self.extensions.len())?;
         for kept in &self.extensions {
             rows.push(ExtensionRow {
@@ -272,7 +397,10 @@ impl<'a> KnownOptions<'a> {
     /// # Errors
     ///
     /// `AllocError` where memory was refused.
-    pub fn rows(&self, alloc: Global) -> Result<Rows<'_>, AllocError> {
+    pub fn rows(&self, alloc: Global) -> Result<Rows<'_>, AllocError>
+        ensures starts { IfOk result (λ rows. HasOwnStarts (table_of rows)) }
+        ensures lent { IfOk result (λ rows. AreLent self.now (table_of rows)) }
+    {
         Ok(Rows {
             options: self.option_rows(alloc)?,
             extensions: self.extension_rows(alloc)?,
@@ -283,13 +411,20 @@ impl<'a> KnownOptions<'a> {
 }
 
 impl<'a> Rows<'a> {
+    ghost use Rattle.std.specs.Prelude.{◌≡◌};
+    ghost use Rattle.dumps.specs.Known.{table_of};
+    ghost use Rattle.dumps.specs.Views.{table_in};
+
     /// The table of these rows.
-    pub fn table(&self) -> OptionTable<'_> {
+    pub fn table(&self) -> OptionTable<'_>
+        ensures { table_in result ≡ table_of self.now }
+    {
         OptionTable {
             options: self.options.as_slice(),
             extensions: self.extensions.as_slice(),
             ports: self.ports.as_slice(),
             icmp_types: self.icmp_types.as_slice(),
+            known: &[],
         }
     }
 }

@@ -97,11 +97,24 @@ hashlimit says 1 --hashlimit-htable-gcinterval
 hashlimit says 0 --hashlimit-rate-match
 hashlimit says 1 --hashlimit-rate-interval
 helper asks 1 --helper
+ipcomp says 1 --ipcompspi
+ipcomp says 0 --compres
+ipvs says 0 --ipvs
+ipvs says 1 --vproto
+ipvs says 1 --vaddr
+ipvs says 1 --vport
+ipvs says 1 --vdir
+ipvs says 1 --vmethod
+ipvs says 1 --vportctl
 length asks 1 --length
 limit asks 1 --limit
 limit says 1 --limit-burst
 mac says 1 --mac-source
 mark asks 1 --mark
+nfacct asks 1 --nfacct-name
+osf says 1 --genre
+osf says 1 --ttl
+osf says 1 --log
 owner asks 1 --uid-owner
 owner asks 1 --gid-owner
 owner asks 0 --socket-exists
@@ -215,6 +228,9 @@ NFLOG says 1 --nflog-prefix
 NFLOG says 1 --nflog-range
 NFLOG says 1 --nflog-size
 NFLOG says 1 --nflog-threshold
+RATEEST says 1 --rateest-name
+RATEEST says 1 --rateest-interval
+RATEEST says 1 --rateest-ewmalog
 SET says 2 --add-set
 SET says 2 --del-set
 SET says 2 --map-set
@@ -231,6 +247,12 @@ ULOG says 1 --ulog-nlgroup
 ULOG says 1 --ulog-prefix
 ULOG says 1 --ulog-cprange
 ULOG says 1 --ulog-qthreshold
+CLUSTERIP says 0 --new
+CLUSTERIP says 1 --hashmode
+CLUSTERIP says 1 --clustermac
+CLUSTERIP says 1 --total-nodes
+CLUSTERIP says 1 --local-node
+CLUSTERIP says 1 --hash-init
 NFQUEUE says 1 --queue-num
 NFQUEUE says 1 --queue-balance
 NFQUEUE says 0 --queue-bypass
@@ -275,10 +297,14 @@ esp text esp 50
 geoip text
 hashlimit place
 helper text
+ipcomp text ipcomp 108
+ipvs place
 length set
 limit place
 mac text
 mark set
+nfacct place
+osf text
 owner text
 physdev text
 pkttype text
@@ -308,11 +334,13 @@ IDLETIMER passes
 LED passes
 MARK passes mark
 NFLOG passes
+RATEEST passes
 SET passes set mark
 TCPMSS passes tcpmss length u32 string
 TEE passes
 TRACE passes
 ULOG passes
+CLUSTERIP decides
 NFQUEUE decides
 QUEUE decides
 SYNPROXY decides

@@ -2,8 +2,8 @@
 ghost use Rattle.std.specs.Prelude.{◌≡◌, option_map};
 ghost use Rattle.std.specs.List.{list_any};
 ghost use Rattle.std.specs.Str.{bytes_eq};
-ghost use Rattle.dumps.specs.Options.{option_of, extension_of, begun_by_protocol, number_of};
-ghost use Rattle.dumps.specs.Views.{texts_in, rows_in, row_in, extensions_in, extension_in, names_in};
+ghost use Rattle.dumps.specs.Options.{option_of, extension_of, begun_by_protocol, known_of, number_of};
+ghost use Rattle.dumps.specs.Views.{table_in, texts_in, rows_in, row_in, extensions_in, extension_in, names_in, known_in, all_known_in};
 
 use crate::options::row::{ExtensionRow, OptionRow};
 
@@ -14,8 +14,19 @@ pub struct NameRow<'a> {
     pub number: &'a [u8],
 }
 
-/// The options, the matches and targets that have them, and the names that stand for numbers. Everything is lent, so a
-/// table with further rows is one over a `Vec` of them.
+/// A condition that the program can be given in words of its own.
+#[derive(Clone, Copy)]
+pub struct KnownCondition<'a> {
+    /// The words of the condition with the name of its match, each quoted if it must be, with blanks between.
+    pub text: &'a [u8],
+    /// The words that ask it.
+    pub holds: &'a [&'a [u8]],
+    /// The words that ask its opposite.
+    pub fails: &'a [&'a [u8]],
+}
+
+/// The options, the matches and targets that have them, the names that stand for numbers, and conditions that are known. Everything is
+/// lent, so a table with further rows is one over a `Vec` of them.
 ///
 /// `-m` and `-p` are to be the rule's own options, and no other option of its own may ask what the program doesn't
 /// read: a match's options alone make conditions, and protocols.
@@ -29,6 +40,23 @@ pub struct OptionTable<'a> {
     pub ports: &'a [NameRow<'a>],
     /// The names of types of ICMP that the program doesn't read, as `type` or `type/code`.
     pub icmp_types: &'a [NameRow<'a>],
+    /// The conditions that the program is given in words of its own; where two rows have a text, the first counts.
+    pub known: &'a [KnownCondition<'a>],
+}
+
+impl<'a> OptionTable<'a> {
+    /// The same table, with these conditions as those that are known.
+    pub fn knowing(self, known: &'a [KnownCondition<'a>]) -> OptionTable<'a>
+        ensures { table_in result ≡ record (table_in self.entry) { known = all_known_in known.now } }
+    {
+        OptionTable {
+            options: self.options,
+            extensions: self.extensions,
+            ports: self.ports,
+            icmp_types: self.icmp_types,
+            known,
+        }
+    }
 }
 
 // Whether a text is one of some.
@@ -84,6 +112,18 @@ pub(crate) fn begun_by_protocol<'a>(
     for row in extensions {
         if is_among(protocol, row.protocols) {
             return Some(row.name);
+        }
+    }
+    None
+}
+
+// The first condition of a text that is known.
+pub(crate) fn known_of<'a>(rows: &[KnownCondition<'a>], text: &[u8]) -> Option<KnownCondition<'a>>
+    ensures { option_map known_in result ≡ known_of (all_known_in rows.now) text.now }
+{
+    for row in rows {
+        if row.text == text {
+            return Some(*row);
         }
     }
     None

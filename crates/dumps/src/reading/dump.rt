@@ -9,7 +9,7 @@ use crate::apart::taking::take_apart;
 use crate::options::row::Kind;
 use crate::options::table::{OptionTable, extension_in};
 use crate::reading::fault::{DumpFault, LineWord, Refusal, refused, refused_apart};
-use crate::reading::foreign::Foreign;
+use crate::reading::foreign::{Foreign, all_needed, append_known, keep_unknown};
 use crate::reading::line::{OtherLine, RuleLine, begins_with, is_commit, other_line, rule_line};
 use fields::{WordFault, WordSlice, Words};
 use std::alloc::{AllocError, Global};
@@ -38,7 +38,7 @@ pub struct Whole {
 /// A reading of the lines of a dump, one after another (iptables-save(8)).
 ///
 /// Sections are told as a restore tells them: one reaches from a line between sections whose only word begins with `*` to the
-/// next line `COMMIT`. The rules of a section `*filter` take the place of those of the one before.
+/// next line `COMMIT`. The rules of a section `*filter` take the place of those of the one before, and so does what their targets set.
 #[derive(Drop)]
 pub struct Reading<'a> {
     alloc: Global,
@@ -101,7 +101,7 @@ impl<'a> Reading<'a> {
     ghost use Rattle.std.specs.Prelude.{◌≡◌, true, Some, None, OnOk, IfErr, IfSome};
     ghost use Rattle.std.specs.List.{list_any};
     ghost use Rattle.fields.specs.text.WordSlice.{words_in};
-    ghost use Rattle.dumps.specs.Foreign.{needs_some, rules_in};
+    ghost use Rattle.dumps.specs.Foreign.{needs_some, rules_in, sets_in};
     ghost use Rattle.dumps.specs.SectionLines.{rule_line, other_line};
     ghost use Rattle.dumps.specs.LineViews.{rule_line_in, other_line_in};
     ghost use Rattle.dumps.specs.Reading.{nothing_read, kept, noted, opened, opened_by, refused_name, refused_move, moved_by, other_refusal, IsMovedWith};
@@ -193,13 +193,14 @@ impl<'a> Reading<'a> {
             Err(fault) => return Err(refused_apart(self.alloc, fault)),
         };
         let conditions = apart.conditions(self.alloc, &self.table)?;
-        self.foreign.add(line.chain, conditions.as_slice())?;
-        if let Some(target) = apart.target(&self.table) {
-            self.foreign.note_set(target.sets)?;
-        }
+        let mut needs = all_needed(self.alloc, conditions.as_slice())?;
+        self.foreign.note_target(&self.table, &apart)?;
         append_head(&mut self.text, line)?;
         apart.append_own(&self.table, &mut self.text)?;
+        append_known(&mut self.text, self.table.known, needs.as_slice())?;
         end_line(&mut self.text)?;
+        keep_unknown(&mut needs, self.table.known);
+        self.foreign.add(line.chain, needs)?;
         Ok(())
     }
 
@@ -351,6 +352,7 @@ impl<'a> Reading<'a> {
     pub fn finish(self) -> Whole
         ensures text { result.text.items ≡ (read_in self.entry).text }
         ensures rules { rules_in result.foreign ≡ (read_in self.entry).rules }
+        ensures sets { sets_in result.foreign ≡ (read_in self.entry).sets }
     {
         Whole {
             text: self.text,

@@ -63,8 +63,8 @@ pub enum Refusal {
     /// D3: `-m` with a word that is no match.
     #[error("D3 unknown match")]
     UnknownMatch,
-    /// D4: a target that decides, and that the program doesn't read.
-    #[error("D4 target that decides")]
+    /// D4: a target that decides, which isn't supported.
+    #[error("D4 target not supported")]
     DecidingTarget,
     /// D5: `!` before an option that begins a match or names a target.
     #[error("D5 inversion not allowed")]

@@ -20,21 +20,33 @@ json_rule = flag_rule (codes "json")
 abbrev pub when_rule : Rule
 when_rule = record (new_rule (codes "when")) { long = Some (codes "when"); action = Some Append; value_names = 1 }
 
+-- `--unknown MATCH`, which may stand several times
+abbrev pub unknown_rule : Rule
+unknown_rule = record (new_rule (codes "unknown")) { long = Some (codes "unknown"); action = Some Append; value_names = 1 }
+
+-- `--local ADDRESSES`
+abbrev pub local_rule : Rule
+local_rule = record (new_rule (codes "local")) { long = Some (codes "local"); value_names = 1 }
+
 -- a file, which has to be there
 abbrev pub file_rule : Text → Rule
 file_rule name = record (new_rule name) { required = true; value_names = 1 }
 
--- `[--steps N] [--when CONDITION].. [--json]`
+-- `[--steps N] [--json]`
 abbrev pub with_options : App → App
-with_options app = with_rule (with_rule (with_rule app steps_rule) when_rule) json_rule
+with_options app = with_rule (with_rule app steps_rule) json_rule
+
+-- `[--steps N] [--json] [--when CONDITION].. [--unknown MATCH].. [--local ADDRESSES]`
+abbrev pub with_whole_options : App → App
+with_whole_options app = with_rule (with_rule (with_rule (with_options app) when_rule) unknown_rule) local_rule
 
 -- `NAME FILE`, with options
 abbrev pub one_file_app : Text → App
-one_file_app name = with_options (with_rule (new_app name) (file_rule (codes "file")))
+one_file_app name = with_whole_options (with_rule (new_app name) (file_rule (codes "file")))
 
 -- `compare OLD NEW`, with options
 abbrev pub compare_app : App
-compare_app = with_options (with_rule (with_rule (new_app (codes "compare")) (file_rule (codes "old"))) (file_rule (codes "new")))
+compare_app = with_whole_options (with_rule (with_rule (new_app (codes "compare")) (file_rule (codes "old"))) (file_rule (codes "new")))
 
 -- one word or more
 abbrev pub words_rule : Rule
@@ -45,7 +57,7 @@ words_rule = record (new_rule (codes "word")) {
   value_names = 1;
 }
 
--- `reach FILE WORD..`, with options
+-- `reach FILE WORD..`, with the options that need no conditions
 abbrev pub reach_app : App
 reach_app = with_options (with_rule (with_rule (new_app (codes "reach")) (file_rule (codes "file"))) words_rule)
 
@@ -93,4 +105,6 @@ IsAuditOf name rows audit = IsQuestion name rows audit.question
     × (option_map (λ s. s.now) audit.steps ≡ first_of (codes "steps") rows)
     × (audit.json ≡ is_true (first_of (codes "json") rows))
     × (map (λ s. s.now) audit.when.items ≡ values_of (codes "when") rows)
+    × (map (λ s. s.now) audit.unknown.items ≡ values_of (codes "unknown") rows)
+    × (option_map (λ s. s.now) audit.local ≡ first_of (codes "local") rows)
     × (map (λ s. s.now) audit.words.items ≡ values_of (codes "word") rows)

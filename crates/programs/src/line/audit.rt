@@ -2,7 +2,7 @@
 ghost use Rattle.std.specs.Prelude.{◌≡◌, IfErr, IfOk, MatchOption, codes, false, map};
 ghost use Rattle.clap.specs.Words.{app_of, found_of, rows_of, rule_of};
 ghost use Rattle.clap.specs.declared.builder.command.Command.TheViews.{out-Command as fields_of};
-ghost use Rattle.programs.specs.line.AuditLine.{IsAuditOf, IsQuestion, IsSubcommand, LacksFile, compare_app, file_rule, json_rule, one_file_app, program_app, reach_app, steps_rule, values_of, when_rule, with_options, words_rule};
+ghost use Rattle.programs.specs.line.AuditLine.{IsAuditOf, IsQuestion, IsSubcommand, LacksFile, compare_app, file_rule, json_rule, local_rule, one_file_app, program_app, reach_app, steps_rule, unknown_rule, values_of, when_rule, with_options, with_whole_options, words_rule};
 ghost use Rattle.programs.specs.line.Line.{AsksFor, IsFaultOn};
 
 use super::fault::LineFault;
@@ -27,14 +27,16 @@ pub enum Question<'a> {
     Walk { file: &'a str },
 }
 
-/// A question, the number that was given of steps, whether the answer is to be JSON, the conditions that are answered, and the words after
-/// the file, where some packets are asked about.
+/// A question, the number that was given of steps, whether the answer is to be JSON, the conditions that are answered, the options that are
+/// added, the addresses of the machine, and the words after the file, where some packets are asked about.
 #[derive(Debug, Drop)]
 pub struct Audit<'a> {
     pub question: Question<'a>,
     pub steps: Option<&'a str>,
     pub json: bool,
     pub when: Vec<&'a str>,
+    pub unknown: Vec<&'a str>,
+    pub local: Option<&'a str>,
     pub words: Vec<&'a str>,
 }
 
@@ -68,16 +70,48 @@ fn when<'a>(alloc: Global) -> Arg<'a>
         .help("Take CONDITION as one that holds, or after '! ' as one that doesn't")
 }
 
+// The option `--unknown MATCH`, which may stand several times.
+fn unknown<'a>(alloc: Global) -> Arg<'a>
+    ensures rule { rule_of result ≡ unknown_rule }
+    ensures local { result.global ≡ false }
+{
+    Arg::new(alloc, "unknown")
+        .long("unknown")
+        .action(ArgAction::Append)
+        .value_name("MATCH")
+        .help("Read MATCH as a condition; 'MATCH OPTION N' gives it an option with N values")
+}
+
+// The option `--local ADDRESSES`.
+fn local<'a>(alloc: Global) -> Arg<'a>
+    ensures rule { rule_of result ≡ local_rule }
+    ensures local { result.global ≡ false }
+{
+    Arg::new(alloc, "local")
+        .long("local")
+        .value_name("ADDRESSES")
+        .help("Read addrtype by the machine's addresses, ADDRESS/LENGTH, with commas between")
+}
+
 // Adds the options that each subcommand has.
 fn options<'a>(alloc: Global, command: Command<'a>) -> Result<Command<'a>, AllocError>
     requires { (fields_of command).has_globals ≡ false }
     ensures app { IfOk result (λ c. app_of c ≡ with_options (app_of command.entry)) }
     ensures local { IfOk result (λ c. (fields_of c).has_globals ≡ false) }
 {
-    command
-        .arg(steps(alloc))?
+    command.arg(steps(alloc))?.arg(json(alloc))
+}
+
+// Adds the options of a subcommand that takes conditions.
+fn whole_options<'a>(alloc: Global, command: Command<'a>) -> Result<Command<'a>, AllocError>
+    requires { (fields_of command).has_globals ≡ false }
+    ensures app { IfOk result (λ c. app_of c ≡ with_whole_options (app_of command.entry)) }
+    ensures local { IfOk result (λ c. (fields_of c).has_globals ≡ false) }
+{
+    options(alloc, command)?
         .arg(when(alloc))?
-        .arg(json(alloc))
+        .arg(unknown(alloc))?
+        .arg(local(alloc))
 }
 
 // A file, which is a word of its own.
@@ -99,7 +133,7 @@ fn one_file<'a>(alloc: Global, name: &'a str, about: &'a str) -> Result<Command<
     let command = Command::new(alloc, name)
         .about(about)
         .arg(file(alloc, "file", "FILE", "A file of iptables-restore"))?;
-    options(alloc, command)
+    whole_options(alloc, command)
 }
 
 // Words that say which packets are asked about: one or more, after the file.
@@ -134,7 +168,7 @@ fn compare<'a>(alloc: Global) -> Result<Command<'a>, AllocError>
         .about("Print whether two rulesets give each packet the same verdict")
         .arg(file(alloc, "old", "OLD", "A file of iptables-restore"))?
         .arg(file(alloc, "new", "NEW", "Another one"))?;
-    options(alloc, command)
+    whole_options(alloc, command)
 }
 
 fn program<'a>(alloc: Global) -> Result<Command<'a>, AllocError>
@@ -242,6 +276,8 @@ impl<'a> Audit<'a> {
             return Err(LineFault::NoSubcommand);
         };
         let when = words_of(alloc, inner, "when")?;
+        let unknown = words_of(alloc, inner, "unknown")?;
+        let local = inner.get_str("local");
         let words = words_of(alloc, inner, "word")?;
         match question_of(name, inner) {
             Some(question) => Ok(Audit {
@@ -249,6 +285,8 @@ impl<'a> Audit<'a> {
                 steps: inner.get_str("steps"),
                 json: is_set(inner, "json"),
                 when,
+                unknown,
+                local,
                 words,
             }),
             None => Err(LineFault::NoFile),

@@ -24,7 +24,7 @@ use Rattle.table.specs.walk.Walk.{Entry, Rest, Walked, end_verdict, walk}
 use Rattle.table.proofs.laws.chains.KeepLaws.{rules_by_name}
 use Rattle.questions.specs.Ends.{IsRule}
 use Rattle.questions.specs.Foreign.{Assignment}
-use Rattle.questions.specs.asked.Always.{IsAlwaysDeadAt, SaysAt}
+use Rattle.questions.specs.asked.Always.{AreAlwaysShort, IsAlwaysDeadAt, SaysAt}
 use Rattle.questions.specs.asked.Rule.{IsDeadAt}
 use Rattle.questions.specs.asked.Unclear.{IsUnclearAt, IsUnseen, IsUsedUp, MayLiveUnder}
 use Rattle.questions.specs.declared.foreign.answers.Answer.{Answer}
@@ -40,7 +40,7 @@ use Rattle.questions.specs.steps.Takers.{IsBoxAt, IsMatchedAt}
 use Rattle.questions.specs.declared.asked.reach.Given.{Given}
 use Rattle.questions.specs.Leaves.{entry_of, name_at}
 use Rattle.questions.specs.Scopes.{EndsUnder, IsOf, Known, ShowsUnder, answered, entries_by, is_met, known_by, scope_of, table_of, unasked, walked_by}
-use Rattle.questions.specs.boxes.Area.{IsAtHook, IsIn}
+use Rattle.questions.specs.boxes.Area.{Has, IsAtHook, IsIn}
 use Rattle.questions.specs.boxes.Boxes.{rules_in}
 use Rattle.questions.specs.declared.walking.front.Front.{Front}
 use Rattle.questions.specs.declared.walking.scope.Scope.{Scope}
@@ -155,11 +155,19 @@ leaf_gone t known step old new leaf sound lt tasks leaves off p sought (inr a) =
     ]
 
 -- no packet of a task that a rule ahead takes comes to the rule of a step that isn't on its trail
-pub never_before : (t : Table) (known : Known) (box : List SpanSet) (step : Step) (task : Task) → IsSound t → step.chain < length t.chains → NeverComes t known box step task → (Contains task.trail.items step → MeetsNever (needed_by known step) task.scope.answers)
+never_before : (t : Table) (known : Known) (box : List SpanSet) (step : Step) (task : Task) → IsSound t → step.chain < length t.chains → NeverComes t known box step task → (Contains task.trail.items step → MeetsNever (needed_by known step) task.scope.answers)
     → (p : Packet) → IsAtHook p → IsIn box p → WaitsIn t known p task → IsSought t (entry_of t.chains step) p → ⊥
 never_before t known box step task sound lt never off p can inside waits sought =
     let (there, met) = step_by t known task.trail.items step sound lt (never p can inside waits sought) in
     true≢false (sym met ∙ off there known.holds waits.own.agrees)
+
+-- nor does one that was in the task before it came to a later rule of its chain
+pub never_further : (t : Table) (known : Known) (start : Scope) (step : Step) (task next : Task) → IsSound t → step.chain < length t.chains → IsFurther t known start task next → NeverComes t known start.area step next
+    → (Contains task.trail.items step → MeetsNever (needed_by known step) task.scope.answers) → (p : Packet) → IsAtHook p → IsOf known p start → WaitsIn t known p task → IsSought t (entry_of t.chains step) p → ⊥
+never_further t known start step task next sound lt further never off p can own waits sought =
+    let On : Vec Step Global → Type 0 = λ trail. Contains trail.items step in
+    let Met : Scope → Type 0 = λ scope. MeetsNever (needed_by known step) scope.answers in
+    never_before t known start.area step next sound lt never (λ on. subst Met (sym further.same) (off (subst On further.trail on))) p can own.inside (further.waits p can own waits) sought
 
 -- nothing is taken off an empty list
 pub nothing_popped : {X : Type 0} (xs ys : List X) → xs ≡ ys ++ [] → length xs ≡ 0 → (xs ≡ []) × (ys ≡ [])
@@ -341,6 +349,18 @@ one_more t known step hook given budget n clear old new came h one unseen = reco
 
 -- the box has the packets at the hook that the rule matches, and they are searched
 module _ (s : Subject) (step : Step) (hook : Hook) (given : Given) (sound : IsSound (table_of s)) (is : IsRule (table_of s) step) (box : IsBoxAt (table_of s) step hook given) where
+  -- a rule whose box has no packets at the hook matches none there
+  module _ (bare : (numbers : List ℕ) → Has given.area numbers → ⊥) where
+    none_matched : (a : Assignment) (p : Packet) → IsMatchedAt (answered s a) step hook p → ⊥
+    none_matched a p at = bare p.values (box.all p (matched_before s.needs.now a (table_of s) step hook p is at))
+
+    pub dead_in_empty : IsAlwaysDeadAt s step hook
+    dead_in_empty a p can e on =
+        none_matched a p (record { can = can; there = e; matched = rule_matches (answered s a) p step (left_sound s.needs.now a (table_of s) sound) (rule_left_there s.needs.now a (table_of s) step is) on })
+
+    pub short_in_empty : AreAlwaysShort s step hook
+    short_in_empty a p at = absurd (none_matched a p at)
+
   -- an assignment leaves of the table
   module _ (a : Assignment) (budget n : ℕ) (clear : Bool) (front : Front) (h : HasSearched (answered s a) (known_by s a) step hook given budget n clear front) where
     abbrev t : Table

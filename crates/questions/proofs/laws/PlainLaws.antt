@@ -10,7 +10,7 @@ use Rattle.fields.specs.numbers.Spans.{SpanSet}
 use Rattle.table.specs.chains.Table.{Chain, Table}
 use Rattle.table.specs.declared.walk.trail.Step.{Step}
 use Rattle.table.specs.walk.Walk.{Entry, Walked}
-use Rattle.questions.specs.Foreign.{Agrees, Assignment, resolved}
+use Rattle.questions.specs.Foreign.{Agrees, AreWithoutNeeds, Assignment, resolved}
 use Rattle.questions.specs.Leaves.{AreExactOn, AreLeavesOf, entries_of, entry_of, walked_of}
 use Rattle.questions.specs.Scopes.{AreExactUnder, AreLeavesUnder, Known, answered, entries_by, is_met, needless, table_of, unasked, walked_by}
 use Rattle.questions.specs.asked.Always.{IsAlwaysDeadAt}
@@ -90,16 +90,24 @@ some_weaker P Q (Some x) f h = f x h
 
 -- ---- one rule
 
+-- where no rule needs anything, what holds of the table that is left holds of the table
+module _ (s : Subject) (none : AreWithoutNeeds s.needs.now) where
+  pub to_whole : (P : Table → Type 0) (a : Assignment) → P (answered s a) → P (table_of s)
+  to_whole P a h = subst P (resolved_without_needs s.needs.now a (table_of s) none) h
+
+  pub from_whole : (P : Table → Type 0) (a : Assignment) → P (table_of s) → P (answered s a)
+  from_whole P a h = subst P (sym (resolved_without_needs s.needs.now a (table_of s) none)) h
+
+-- of tables of which none are listed
+none_listed : (needs : List (List (List Need))) → needs ≡ [] → AreWithoutNeeds needs
+none_listed needs none = subst (λ (ns : List (List (List Need))). AreWithoutNeeds ns) (sym none) (λ place passed. refl)
+
 module _ (s : Subject) (none : s.needs.now ≡ []) where
   pub to_plain : (P : Table → Type 0) (a : Assignment) → P (answered s a) → P (table_of s)
-  to_plain P a h =
-      let Q : List (List (List Need)) → Type 0 = λ ns. P (resolved ns a (table_of s)) in
-      subst P (left_plain a (table_of s)) (subst Q none h)
+  to_plain = to_whole s (none_listed s.needs.now none)
 
   pub from_plain : (P : Table → Type 0) (a : Assignment) → P (table_of s) → P (answered s a)
-  from_plain P a h =
-      let Q : List (List (List Need)) → Type 0 = λ ns. P (resolved ns a (table_of s)) in
-      subst Q (sym none) (subst P (sym (left_plain a (table_of s))) h)
+  from_plain = from_whole s (none_listed s.needs.now none)
 
   abbrev other : Assignment
   other condition = false

@@ -62,9 +62,9 @@ never_both a need = both (a need.condition) need.inverted
     both false false = refl
 
 -- a need that is answered otherwise fails, and so does what can't be met
-pub unmet_alike : (a : Assignment) (answers : List Answer) (needs : List Need) (i : ℕ) (d : Need) (holds : Bool) → i < length needs → Agrees a answers
+pub unmet_alike : (a : Assignment) (answers : List Answer) (needs : List Need) (i : ℕ) (d other : Need) (holds : Bool) → i < length needs → Agrees a answers
     → Contains answers (record { condition = (get_or needs i d).condition; holds = holds }) → beq holds (get_or needs i d).inverted ≡ true
-    → all_hold a (get_or needs i d ∷ record { condition = (get_or needs i d).condition; inverted = not (get_or needs i d).inverted } ∷ []) ≡ all_hold a needs
-unmet_alike a answers needs i d holds lt agrees on against =
+    → all_hold a (other ∷ record { condition = other.condition; inverted = not other.inverted } ∷ []) ≡ all_hold a needs
+unmet_alike a answers needs i d other holds lt agrees on against =
     let need = get_or needs i d in
-    never_both a need ∙ sym (list_all_at (need_holds a) needs i d lt (unmet_by need.inverted (a need.condition) holds (is_given a answers need.condition holds agrees on) against))
+    never_both a other ∙ sym (list_all_at (need_holds a) needs i d lt (unmet_by need.inverted (a need.condition) holds (is_given a answers need.condition holds agrees on) against))

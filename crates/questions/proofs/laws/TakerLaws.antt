@@ -25,7 +25,7 @@ use Rattle.questions.specs.Ends.{IsRule, decider_of, rule_at, step_of}
 use Rattle.questions.specs.Foreign.{Assignment, all_hold, needs_at, resolved, resolved_rule}
 use Rattle.questions.specs.Leaves.{entry_of}
 use Rattle.questions.specs.Scopes.{EndsUnder, IsOf, IsSurely, Known, answered, known_by, scope_of, table_of, under}
-use Rattle.questions.specs.asked.Always.{IsAlwaysDead}
+use Rattle.questions.specs.asked.Always.{IsAlwaysDead, IsAlwaysDeadAt}
 use Rattle.questions.specs.asked.Reason.{IsDecidedAmong, IsDecidedBy, IsImpossible, IsLed, IsUnreached}
 use Rattle.questions.specs.asked.Why.{HasPacketUnder, IsMeantUnder, IsTakenUnder}
 use Rattle.questions.specs.boxes.Area.{Has, HasOwnInterfaces, IsAtHook, IsBoth, IsIn}
@@ -101,6 +101,9 @@ module _ (s : Subject) (a : Assignment) where
       let (n, path) = entry_led (answered s a) p (entry_of (answered s a).chains step) on in
       let P : List ℕ → Type 0 = λ name. Path (table_of s).chains n (hook_name p.hook) name in
       (n, subst P (chain_named s.needs.now a (table_of s).chains step.chain (empty_chain [])) (path_kept s.needs.now a (table_of s) n _ _ path))
+
+pub unled_dead : (s : Subject) (step : Step) (hook : Hook) → (IsLed (table_of s) step hook → ⊥) → IsAlwaysDeadAt s step hook
+unled_dead s step hook none a p can e on = let P : Hook → Type 0 = λ h. IsLed (table_of s) step h in none (subst P e (led_on s a p step on))
 
 pub unreached_dead : (s : Subject) (step : Step) → IsUnreached (table_of s) step → IsAlwaysDead s (entry_of (table_of s).chains step)
 unreached_dead s step none a p can on = none p.hook (led_on s a p step (on_left s a p step on))
@@ -308,7 +311,7 @@ module _ (s : Subject) (step : Step) where
   -- a hook from which nothing leads to the rule's chain
   pub unled_at : (takers : Takers) (hook : Hook) → (IsLed (table_of s) step hook → ⊥) → IsTakenAt s step takers hook
   unled_at takers hook none = record {
-    dead = λ a p can e on. (let P : Hook → Type 0 = λ h. IsLed (table_of s) step h in none (subst P e (led_on s a p step on)));
+    dead = unled_dead s step hook none;
     decided = λ led. absurd (none led);
   }
 

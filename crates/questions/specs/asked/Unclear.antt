@@ -1,11 +1,12 @@
 -- Where alone an answer may be unclear, given a budget of steps.
-use Rattle.std.specs.Prelude.{◌≡◌, ◌≢◌, ◌⊎◌, ℕ, ◌*◌, ◌/◌, ◌<◌, ◌≤◌, List, [], length, All}
+use Rattle.std.specs.Prelude.{◌≡◌, ◌⊎◌, ℕ, ◌*◌, ◌/◌, ◌<◌, ◌≤◌, List, length, All}
 use Rattle.fields.specs.declared.packet.hook.Hook.{Hook}
 use Rattle.fields.specs.packet.Packet.{PacketView as Packet}
 use Rattle.table.specs.chains.Table.{Table}
 use Rattle.table.specs.declared.verdict.Verdict.TheVariants.{TooLong}
 use Rattle.table.specs.declared.walk.trail.Step.{Step}
 use Rattle.table.specs.walk.Walk.{walk}
+use Rattle.questions.specs.Foreign.{AreWithoutNeeds}
 use Rattle.questions.specs.Leaves.{entry_of}
 use Rattle.questions.specs.Scopes.{Known, needless, unasked}
 use Rattle.questions.specs.Written.{HasNoneWritten, IsSampleOf}
@@ -26,9 +27,10 @@ use Rattle.questions.specs.steps.Takers.{IsBoxAt}
 abbrev pub IsUnended : Table → Known → Hook → ℕ → List Answer → Packet → Type 0
 IsUnended t known hook budget answers p = (own : Scope) × IsIn own.area p × (own.answers ≡ answers) × IsUnfinishedUnder t known hook own budget
 
--- a packet's walk is too long, or isn't known to end where rules need something
+-- a packet's walk is too long, or isn't known to end where some rule needs something
 abbrev pub MayBeTooLong : Table → Known → Hook → ℕ → List Answer → Packet → Type 0
-MayBeTooLong t known hook budget answers p = ((walk t p).verdict ≡ TooLong) ⊎ ((known.needs ≢ []) × IsUnended t known hook budget answers p)
+MayBeTooLong t known hook budget answers p =
+    ((walk t p).verdict ≡ TooLong) ⊎ ((AreWithoutNeeds known.needs → ⊥) × IsUnended t known hook budget answers p)
 
 -- no packet line writes a packet of the scope's box, or some line writes one whose walk may be too long
 abbrev pub IsUnseen : Table → Known → Hook → ℕ → Scope → Type 0

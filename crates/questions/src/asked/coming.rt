@@ -117,7 +117,8 @@ pub(crate) fn come(
             looks: 0,
         });
     }
-    let ahead = ahead_of(subject, candidates, &task, wanted);
+    let next = advanced(subject, candidates, task)?;
+    let ahead = ahead_of(subject, candidates, &next, wanted);
     if ahead.is_taken {
         return Ok(Found {
             scope: None,
@@ -125,7 +126,6 @@ pub(crate) fn come(
         });
     }
     candidates.count(ahead.looks);
-    let next = advanced(subject, candidates, task)?;
     step(subject, policy, front, next)?;
     let scope = came(subject, front, wanted)?;
     Ok(Found {

@@ -1,5 +1,5 @@
 //! The chains from which jumps and gotos lead to a chain.
-ghost use Rattle.std.specs.Prelude.{◌≡◌, ◌<◌, ◌↔◌, false, true, length, option_map, slice_index_or, IfOk, IfSome, IsTrue};
+ghost use Rattle.std.specs.Prelude.{◌≡◌, ◌≢◌, ◌<◌, ◌↔◌, false, true, length, option_map, slice_index_or, IfOk, IfSome, IsTrue};
 ghost use Rattle.fields.specs.declared.packet.hook.Hook.{Hook as HookView};
 ghost use Rattle.table.specs.chains.Table.{chain_at};
 ghost use Rattle.table.specs.steps.Kept.{hook_index};
@@ -114,8 +114,23 @@ fn spread(subject: &BoxedTable, own: Option<Step>, marks: &mut Vec<bool>) -> boo
     is_more
 }
 
+// Whether the chain at a place is that of a hook, which no rule names.
+fn is_first(place: usize) -> bool
+    ensures { IsTrue result → place < 3 }
+{
+    place < Hook::ALL.len()
+}
+
+// Whether the chain at a place is that of another hook, so that no jumps and gotos lead there.
+pub(crate) fn is_of_other(hook: Hook, place: usize) -> bool
+    ensures first { IsTrue result → place < 3 }
+    ensures other { IsTrue result → place ≢ hook_index hook }
+{
+    is_first(place) && place != hook_index(hook)
+}
+
 // A mark for each chain from which rules that count lead to the one at a place, also in no step. The marks spread until each
-// chain with such a rule that names a marked one is marked: each time but the last there are more.
+// chain with such a rule that names a marked one is marked: each time but the last there are more. To the chain of a hook leads no other one.
 pub(crate) fn spread_from(
     alloc: Global,
     subject: &BoxedTable,
@@ -129,6 +144,10 @@ pub(crate) fn spread_from(
     let count = subject.table.chain_count();
     let mut marks = vec![in alloc; false; count]?;
     marks[place] = true;
+    if is_first(place) {
+        subject.table.stands();
+        return Ok(marks);
+    }
     while spread(subject, own, &mut marks) {}
     Ok(marks)
 }

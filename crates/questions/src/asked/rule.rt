@@ -12,6 +12,7 @@ ghost use Rattle.questions.specs.steps.Compared.{AreShort};
 ghost use Rattle.questions.specs.steps.Searched.{SaysEnd};
 
 use crate::asked::coming::{Found, come};
+use crate::asked::leading::is_of_other;
 use crate::asked::matching::packets_of;
 use crate::asked::shortest::enough_of;
 use crate::asked::witness::witness;
@@ -89,6 +90,9 @@ pub(crate) fn life_at(
     subject.boxed.table.stands();
     let policy = policy_at(&subject.boxed.table, hook);
     let given = packets_of(alloc, subject.boxed, hook, step)?;
+    if given.area.is_empty() {
+        return Ok(Life::Dead);
+    }
     let mut candidates = Candidates::all(alloc, &given.area)?;
     let start = Scope {
         area: given.area,
@@ -132,8 +136,8 @@ pub(crate) fn life_at(
 
 /// Whether rule `number` of the chain at a place, both of which have to be there, can match at all. Rules count from 1.
 ///
-/// At each hook the packets of the rule's box are searched for one that comes to the rule, with `budget` steps. Rules that share no
-/// packet with a box on its way are passed at once; those that share none with the rule's box are set aside after some looks, with
+/// At each hook the packets of the rule's box are searched for one that comes to the rule, with `budget` steps; for a rule in the chain of a hook
+/// that is done there alone. Rules that share no packet with a box on its way are passed at once; those that share none with the rule's box are set aside after some looks, with
 /// one at each rule; a box is dropped where a rule ahead in its chain takes all of it; and the first box that comes to the rule
 /// offers a packet. Looking at a rule ahead counts a fiftieth of a step.
 ///
@@ -188,8 +192,12 @@ pub fn dead_under(
         chain: place,
         number,
     };
+    subject.boxed.table.stands();
     let mut clear = true;
     for hook in Hook::ALL {
+        if is_of_other(hook, place) {
+            continue;
+        }
         match life_at(alloc, subject, hook, step, budget)? {
             Life::Dead => {}
             Life::Live(words, answers) => {

@@ -1,7 +1,7 @@
 //! The walks of one packet, whatever holds that rules need.
-ghost use Rattle.std.specs.Prelude.{◌≡◌, ℕ, IfOk, List, MatchOption, Ok};
+ghost use Rattle.std.specs.Prelude.{◌≡◌, IfOk, MatchOption};
 ghost use Rattle.classify.specs.classifier.Classifier.{box_matches};
-ghost use Rattle.fields.specs.packet.Packet.{IsPacket, packet_of};
+ghost use Rattle.fields.specs.packet.Packet.{IsPacket};
 ghost use Rattle.questions.specs.Foreign.{Assignment};
 ghost use Rattle.questions.specs.Scopes.{answered, known_by};
 ghost use Rattle.questions.specs.asked.Unclear.{IsUnended};
@@ -14,6 +14,7 @@ use crate::foreign::subject::Subject;
 use crate::walking::engine::leaves_under;
 use crate::walking::scope::Scope;
 use crate::walking::task::Leaf;
+use crate::written::WrittenPacket;
 use fields::{Field, Packet, Spans};
 use std::alloc::{AllocError, Global};
 
@@ -77,15 +78,15 @@ fn has(area: &Area, packet: &Packet) -> bool
 pub fn walks(
     alloc: Global,
     subject: &Subject<'_>,
-    packet: &Packet,
+    written: &WrittenPacket,
     answers: &Answers,
     budget: usize,
 ) -> Result<Option<Vec<Leaf>>, AllocError>
-    requires written { (words : List (List ℕ)) × (packet_of words ≡ Ok packet.now) }
     ensures { IfOk result (λ found. MatchOption found
-        ((a : Assignment) → IsUnended (answered subject.now a) (known_by subject.now a) packet.now.hook budget answers.now packet.now)
-        (λ leaves. AreWalks subject.now packet.now answers.now leaves.items)) }
+        ((a : Assignment) → IsUnended (answered subject.now a) (known_by subject.now a) written.now.hook budget answers.now written.now)
+        (λ leaves. AreWalks subject.now written.now answers.now leaves.items)) }
 {
+    let packet = written.packet();
     let whole = Area::at_hook(alloc, packet.hook())?;
     let Some(mut found) = walks_of(alloc, subject, &whole, packet, answers, budget)? else {
         return Ok(None);

@@ -21,7 +21,15 @@ fn unmeetable(alloc: Global, need: Need) -> Result<Vec<Need>, AllocError>
     Ok(both)
 }
 
-// What a rule still needs.
+// The condition of the first answer, or else another one.
+fn first_condition(answers: &Answers, other: usize) -> usize {
+    match answers.listed().first() {
+        Some(answer) => answer.condition,
+        None => other,
+    }
+}
+
+// What a rule still needs. All rules that can't be met need the same, so that walks part by it once at most.
 fn left_of(alloc: Global, needs: &[Need], answers: &Answers) -> Result<Vec<Need>, AllocError>
     ensures { IfOk result (λ left. AreAlike answers.now needs.now left.items) }
 {
@@ -31,7 +39,12 @@ fn left_of(alloc: Global, needs: &[Need], answers: &Answers) -> Result<Vec<Need>
             None => left.push(*need)?,
             Some(holds) => {
                 if holds == need.inverted {
-                    return unmeetable(alloc, *need);
+                    let condition = first_condition(answers, need.condition);
+                    let never = Need {
+                        condition,
+                        inverted: false,
+                    };
+                    return unmeetable(alloc, never);
                 }
             }
         }

@@ -1,6 +1,6 @@
 //! What rules need of conditions that this program doesn't know.
-ghost use Rattle.std.specs.Prelude.{◌≡◌, ◌↔◌, [], map, IfOk, IsTrue, MatchOption};
-ghost use Rattle.questions.specs.Foreign.{needs_at, needs_listed};
+ghost use Rattle.std.specs.Prelude.{◌≡◌, [], false, map, All, IfOk, IsTrue, MatchOption};
+ghost use Rattle.questions.specs.Foreign.{AreWithoutNeeds, needs_at, needs_listed};
 ghost use Rattle.questions.specs.steps.Answered.{IsMeeting, IsStanding, MeetsNever};
 
 use crate::foreign::answers::Answers;
@@ -56,15 +56,16 @@ impl Needs {
         self.chains.as_slice()
     }
 
-    // Whether no chain is listed.
+    // Whether no rule needs anything. It takes a look at each.
     pub(crate) fn are_none(&self) -> bool
-        ensures { IsTrue result ↔ (self.now ≡ []) }
+        ensures none { IsTrue result → AreWithoutNeeds self.now }
+        ensures some { result ≡ false → AreWithoutNeeds self.now → ⊥ }
     {
-        self.chains.is_empty()
+        are_free(self.listed())
     }
 
-    // What the rule at a place of the chain at a place needs, both from 0; it is lent.
-    pub(crate) fn at(&self, place: usize, passed: usize) -> &[Need]
+    /// What the rule at a place of the chain at a place needs, both from 0; it is lent. A rule for which nothing is listed needs nothing.
+    pub fn at(&self, place: usize, passed: usize) -> &[Need]
         ensures { result.now ≡ needs_at self.now place passed }
     {
         let Some(chain) = self.chains.get(place) else {
@@ -75,6 +76,32 @@ impl Needs {
             None => &[],
         }
     }
+}
+
+// Whether none of these rules of a chain needs anything.
+fn are_empty(chain: &[Vec<Need>]) -> bool
+    ensures none { IsTrue result → All (λ needs. needs.items ≡ []) chain.now }
+    ensures some { result ≡ false → All (λ needs. needs.items ≡ []) chain.now → ⊥ }
+{
+    for needs in chain {
+        if !needs.is_empty() {
+            return false;
+        }
+    }
+    true
+}
+
+// Whether no rule of these chains needs anything.
+fn are_free(chains: &[Vec<Vec<Need>>]) -> bool
+    ensures none { IsTrue result → All (λ chain. All (λ needs. needs.items ≡ []) chain.items) chains.now }
+    ensures some { result ≡ false → All (λ chain. All (λ needs. needs.items ≡ []) chain.items) chains.now → ⊥ }
+{
+    for chain in chains {
+        if !are_empty(chain.as_slice()) {
+            return false;
+        }
+    }
+    true
 }
 
 // Whether rules that need these need the same.

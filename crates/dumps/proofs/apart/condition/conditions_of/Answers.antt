@@ -1,4 +1,4 @@
-use Rattle.std.proofs.Common.{◌≡◌, ◌+◌, List, ◌++◌, drop, take, ap, sym, ◌∙◌, arith, append_assoc, get_or}
+use Rattle.std.proofs.Common.{◌≡◌, ◌+◌, List, ◌++◌, drop, take, ap, sym, ◌∙◌, arith, append_assoc}
 use Rattle.std.proofs.lemmas.List.{take_rest}
 use Rattle.dumps.specs.Conditions.{Condition, asked_first, conditions_after}
 use Rattle.dumps.specs.Views.{table_in, parts_of, conditions_in}

@@ -1,4 +1,4 @@
-use Rattle.std.proofs.Common.{◌≡◌, ◌&&◌, drop, List}
+use Rattle.std.proofs.Common.{◌≡◌, ◌&&◌, drop}
 use Rattle.std.specs.List.{list_any}
 use Rattle.dumps.specs.Own.{is_of, is_read}
 use Rattle.dumps.specs.Views.{table_in, parts_of}

@@ -1,4 +1,4 @@
-use Rattle.std.proofs.Common.{◌≡◌, ℕ, List, ◌+◌, ◌++◌, ◌∷◌, [], true, false, take, drop, refl, sym, ap, subst, ◌∙◌, arith, append_assoc, get_or, subst₂, Vec, Global}
+use Rattle.std.proofs.Common.{◌≡◌, ℕ, List, ◌+◌, ◌++◌, ◌∷◌, [], drop, sym, ap, ◌∙◌, arith, append_assoc, get_or, subst₂, Vec, Global}
 use Rattle.dumps.specs.Own.{numbered, all_numbered, all_numbered_after}
 use Rattle.dumps.specs.Views.{names_in}
 use Rattle.dumps.proofs.laws.PieceLaws.{piece, cut-here, go-on}

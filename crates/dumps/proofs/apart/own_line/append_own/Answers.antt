@@ -1,4 +1,4 @@
-use Rattle.std.proofs.Common.{◌≡◌, ◌+◌, ◌-◌, ℕ, List, ◌++◌, drop, take, length, ap, sym, ◌∙◌, arith, append_assoc, get_or}
+use Rattle.std.proofs.Common.{◌≡◌, ◌+◌, ℕ, List, ◌++◌, drop, ap, sym, ◌∙◌, arith, append_assoc, get_or}
 use Rattle.std.proofs.lemmas.List.{take_rest}
 use Rattle.dumps.specs.Own.{own_words, own_part_words, line_of}
 use Rattle.dumps.specs.Views.{table_in, part_in, parts_of}

@@ -7,7 +7,9 @@ use Rattle.table.specs.declared.walk.trail.Step.{Step}
 use Rattle.table.specs.walk.Walk.{Entry, walk}
 use Rattle.questions.specs.Scopes.{answered, table_of}
 use Rattle.questions.specs.asked.Always.{IsAlwaysDeadAt, MayLive}
+use Rattle.questions.proofs.laws.HookLaws.{other_unled}
 use Rattle.questions.proofs.laws.ResolvedLaws.{entry_left}
+use Rattle.questions.proofs.laws.TakerLaws.{unled_dead}
 use Rattle.questions.proofs.laws.VerdictLaws.{each_hook, hooks_next}
 use Rattle.questions.proofs.asked.rule.dead_under.Goals as goal
 use Rattle.questions.proofs.asked.rule.dead_under.Goals.{in-Dead, in-Unclear}
@@ -34,6 +36,20 @@ loop-hook-preserved c =
             some = λ _. (get_or all_hooks c.loop-hook.hook-index Input, here);
           })
     ]
+
+-- a hook whose packets can't come to the chain of another one
+pub loop-hook-preserved-then-is_of_other : goal.loop-hook-preserved-then-is_of_other
+loop-hook-preserved-then-is_of_other c =
+    let s = c.args.subject.now in
+    let step : Step = record { chain = c.args.place; number = c.args.number } in
+    let Dead : Hook → Type 0 = λ h. IsAlwaysDeadAt s step h in
+    let hook : Hook = get_or all_hooks c.loop-hook.hook-index Input in
+    let here : Dead hook = unled_dead s step hook (other_unled (table_of s) step hook c.stands.ensures.sound (c.is_of_other.ensures.first c.if-is_of_other.true) (c.is_of_other.ensures.other c.if-is_of_other.true)) in
+    record {
+      dead = λ clear. hooks_next Dead c.loop-hook.hook-index (omega arith) here (c.loop-hook.invariant.dead clear);
+      each = hooks_next (λ h. Dead h ⊎ MayLive s step c.args.budget h) c.loop-hook.hook-index (omega arith) (inl here) c.loop-hook.invariant.each;
+      some = c.loop-hook.invariant.some;
+    }
 
 pub returns-then-clear-clause-says : goal.returns-then-clear-clause-says
 returns-then-clear-clause-says c = λ a p can on.

@@ -10,7 +10,7 @@ use Rattle.questions.specs.declared.walking.task.Task.{Task}
 use Rattle.questions.specs.steps.Searched.{IsSearchStep}
 use Rattle.questions.specs.steps.Taken.{IsFull}
 use Rattle.questions.specs.steps.Waiting.{AreThere}
-use Rattle.questions.proofs.laws.ComeLaws.{came_with, come_next, dead_at_end, looks_on, none_more, one_more, says_at_end, sets_out, short_at_end, unclear_at_end, unclear_by_end, unclear_full, unclear_used_up, used_by_looks}
+use Rattle.questions.proofs.laws.ComeLaws.{came_with, come_next, dead_at_end, dead_in_empty, looks_on, none_more, one_more, says_at_end, sets_out, short_at_end, short_in_empty, unclear_at_end, unclear_by_end, unclear_full, unclear_used_up, used_by_looks}
 use Rattle.questions.proofs.laws.ResolvedLaws.{front_back, rules_same}
 use Rattle.questions.proofs.asked.rule.life_at.Goals as goal
 use Rattle.questions.proofs.asked.rule.life_at.Goals.{in-Some-scope+in_ok-words+in_default-2, in_default-scope}
@@ -81,6 +81,15 @@ loop-taken-preserved c =
         );
       })
     ]
+
+-- no packet at the hook is in the box
+pub returns-then-is_empty-clause-says : goal.returns-then-is_empty-clause-says
+returns-then-is_empty-clause-says c =
+    dead_in_empty c.args.subject.now c.args.step c.args.hook c.in_ok-given.given c.stands.ensures.sound c.requires c.in_ok-given.ensures (c.is_empty.ensures.none c.if-is_empty.true)
+
+pub returns-then-is_empty-clause-short : goal.returns-then-is_empty-clause-short
+returns-then-is_empty-clause-short c = λ _.
+    short_in_empty c.args.subject.now c.args.step c.args.hook c.in_ok-given.given c.stands.ensures.sound c.requires c.in_ok-given.ensures (c.is_empty.ensures.none c.if-is_empty.true)
 
 pub returns-in_default-clause-says : goal.returns-in_default-clause-says
 returns-in_default-clause-says c =

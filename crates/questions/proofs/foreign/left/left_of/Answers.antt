@@ -1,4 +1,4 @@
-use Rattle.std.proofs.Common.{◌≡◌, ◌∙◌, not, [], ◌∷◌, get_or, Vec, Global, ap, arith}
+use Rattle.std.proofs.Common.{◌≡◌, ◌∙◌, false, not, [], ◌∷◌, get_or, Vec, Global, ap, arith}
 use Rattle.std.proofs.lemmas.List.{take_all}
 use Rattle.std.proofs.lemmas.Result.{IfOk-weaker}
 use Rattle.questions.specs.Foreign.{all_hold}
@@ -25,5 +25,6 @@ pub returns-then-holds-need : goal.returns-then-holds-need
 returns-then-holds-need c =
     let needs = c.args.needs.now in
     let i = c.loop-need.need-index in
-    IfOk-weaker c.unmeetable.result (λ (both : Vec Need Global). both.items ≡ get_or needs i _ ∷ record { condition = (get_or needs i _).condition; inverted = not (get_or needs i _).inverted } ∷ []) (λ (left : Vec Need Global). AreAlike c.args.answers.now needs left.items)
-    (λ both is a agrees. rw is (unmet_alike a c.args.answers.now needs i _ c.in-Some.holds c.loop-need-test.true agrees c.in-Some.ensures.answered c.if-holds-need.true)) c.unmeetable.ensures
+    let never : Need = record { condition = c.first_condition-condition.result; inverted = false } in
+    IfOk-weaker c.unmeetable.result (λ (both : Vec Need Global). both.items ≡ never ∷ record { condition = never.condition; inverted = not never.inverted } ∷ []) (λ (left : Vec Need Global). AreAlike c.args.answers.now needs left.items)
+    (λ both is a agrees. rw is (unmet_alike a c.args.answers.now needs i _ never c.in-Some.holds c.loop-need-test.true agrees c.in-Some.ensures.answered c.if-holds-need.true)) c.unmeetable.ensures

@@ -27,7 +27,7 @@ returns-in-Some-question_of-clause-audit c =
       taken_words program_app _ texts c.in_ok-program.ensures c.in_ok-matches.ensures.taken,
       _,
       named_by_words program_app _ texts c.in_ok-matches.matches _ _ refl c.in_ok-program.ensures c.in_ok-matches.ensures.matches c.in-Some.ensures.name c.in-Some.ensures.rows,
-      (c.in-Some-question_of.ensures, c.get_str.ensures ∙ first_value-rows (found_of c.in-Some.inner.now) (codes "steps"), c.is_set.ensures, c.in_ok-when.ensures, c.in_ok-words.ensures),
+      (c.in-Some-question_of.ensures, c.get_str.ensures ∙ first_value-rows (found_of c.in-Some.inner.now) (codes "steps"), c.is_set.ensures, c.in_ok-when.ensures, c.in_ok-unknown.ensures, c.get_str-local.ensures ∙ first_value-rows (found_of c.in-Some.inner.now) (codes "local"), c.in_ok-words.ensures),
     )
 
 pub returns-clause-fault : goal.returns-clause-fault

@@ -1,8 +1,0 @@
-use Rattle.std.proofs.Common.{◌≡◌, drop}
-use Rattle.std.specs.List.{list_any}
-use Rattle.dumps.specs.Conditions.{turns}
-use Rattle.dumps.specs.Views.{parts_of}
-use Rattle.dumps.proofs.apart.condition.one_turns.Given as goal
-
-abbrev pub invariant-loop-part : goal.invariant-loop-part
-invariant-loop-part l = list_any turns (parts_of (drop l.part-index l.parts)) ≡ list_any turns (parts_of l.parts)
