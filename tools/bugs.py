@@ -59,9 +59,11 @@ KEPT = [
         """            Err(refused) => Err(refused),""", "faults", "a table with all kinds"),
     Bug("box-before-room", "a box is put in before there is room for its rule", "table/src/chain.rt",
         """        self.entries.reserve(1)?;
+        edges::reserve(&mut self.edges, link)?;
         let boxed = Boxed::of(alloc, &entry.rule, work)?;
         self.classifier.insert(at, boxed)?;""",
-        """        let boxed = Boxed::of(alloc, &entry.rule, work)?;
+        """        edges::reserve(&mut self.edges, link)?;
+        let boxed = Boxed::of(alloc, &entry.rule, work)?;
         self.classifier.insert(at, boxed)?;
         self.entries.reserve(1)?;""", "faults", "classifiers.cases: two rules"),
     Bug("counts-a-refused-rule", "a rule that is refused memory counts for the chain that it names", "table/src/edit.rt",
@@ -305,8 +307,8 @@ TAKING = [
     match command {
         Command::ListRules(name) => list_rules(table, name),""", "faults"),
     Bug("room-taken-twice", "the room of a rule is taken twice over: a rule that needs none takes memory", "table/src/chain.rt",
-        "        self.entries.reserve(1)?;\n        let boxed",
-        "        self.entries.reserve(self.entries.capacity() - self.entries.len() + 1)?;\n        let boxed", "faults"),
+        "        self.entries.reserve(1)?;\n        edges::reserve",
+        "        self.entries.reserve(self.entries.capacity() - self.entries.len() + 1)?;\n        edges::reserve", "faults"),
     Bug("row-taken-needlessly", "rows are widened though there is room for a bit", "bits/src/rows.rt",
         """        if self.room() > 0 {
             return Ok(());

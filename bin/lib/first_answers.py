@@ -39,6 +39,14 @@ ROWS = {
 MOST = 1.0
 
 
+def stand_in_page(folder):
+    """The path of a file that stands for the page with both programs, which bin/runs/page opens."""
+    path = os.path.join(folder, "a page")
+    with open(path, "w", encoding="utf-8") as file:
+        file.write("<!doctype html>\n<title>iptsim</title>\n")
+    return path
+
+
 def path_of_links(folder):
     """An environment in which PATH has coreutils and python3 alone, by links in a folder. No variable names a program."""
     os.mkdir(folder)

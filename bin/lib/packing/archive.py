@@ -7,7 +7,7 @@ import os
 import tarfile
 
 from packing.folder import folders
-from packing.layout import Entry, Link, entry
+from packing.layout import Entry, Link, PAGE, entry
 
 ORIGINS = {
     True: "Both programs were proved and built from the sources of this version",
@@ -15,12 +15,20 @@ ORIGINS = {
 }
 
 
+BROWSER = "The file `{page}` has both programs, too: a browser opens it from here, and no byte leaves it.\n\n"
+
+
+def has_page(contents):
+    return any(each.place == PAGE for each in contents.entries)
+
+
 def text(root, contents):
     """INSTALL, by its form in share/package."""
     form = entry(os.path.join(root, "share", "package", "INSTALL"), "INSTALL", 0o644).data.decode()
     commit = contents.version.commit if contents.are_built else None
     origin = ORIGINS[contents.are_built] + (f" (commit {commit})" if commit else "")
-    return form.format(version=contents.version.name, origin=origin, library=contents.library).encode()
+    page = BROWSER.format(page=os.path.basename(PAGE)) if has_page(contents) else ""
+    return form.format(version=contents.version.name, origin=origin, library=contents.library, page=page).encode()
 
 
 def checksums(entries):
@@ -32,6 +40,8 @@ def archived(root, contents):
     """The files of the archive's folder, in order."""
     entries = [*contents.entries, Entry("INSTALL", 0o644, text(root, contents)),
                entry(os.path.join(root, "share", "package", "install"), "install", 0o755)]
+    if has_page(contents):
+        entries.append(Link(os.path.basename(PAGE), PAGE))
     entries.sort(key=lambda each: each.place)
     return [*entries, Entry("SHA256SUMS", 0o644, checksums(entries))]
 

@@ -1,8 +1,9 @@
-"""All that is packed: the programs, asked whether they are what they should be, and the files of an installation."""
+"""All that is packed: the programs, asked whether they are what they should be, the page, and the files of an installation."""
 
 import collections
 
-from packing.layout import installation
+from packing.layout import Entry, PAGE, installation
+from packing.page import find_page
 from packing.programs import PROGRAMS, numbers, packed
 from packing.version import find_version
 
@@ -16,4 +17,6 @@ def gather(root):
     programs = {name: packed(root, name, version) for name in PROGRAMS}
     library = max((program.library for program in programs.values()), key=numbers)
     are_built = all(program.is_built for program in programs.values())
-    return Contents(version, library, are_built, installation(root, {name: program.data for name, program in programs.items()}))
+    entries = installation(root, {name: program.data for name, program in programs.items()})
+    page = find_page(root, version)
+    return Contents(version, library, are_built, entries + ([Entry(PAGE, 0o644, page)] if page else []))

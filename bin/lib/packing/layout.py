@@ -11,6 +11,9 @@ from completing.table import read_commands
 Entry = collections.namedtuple("Entry", "place mode data")
 Link = collections.namedtuple("Link", "place target")
 
+# The page with both programs.
+PAGE = "share/doc/iptsim/iptsim.html"
+
 # Where the sources have files that are installed as they are: a pattern, and the folder of the installation.
 COPIED = (
     ("docs/*.1", "share/man/man1"),

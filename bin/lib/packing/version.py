@@ -10,7 +10,7 @@ from packing import Failure
 # commit's time.
 Version = collections.namedtuple("Version", "name number commit seconds")
 # All that the programs and the files of an installation are made of.
-SOURCES = ("VERSION", "CHANGELOG.md", "LICENSE", "crates.txt", "crates", "bin", "docs", "examples", "share")
+SOURCES = ("VERSION", "CHANGELOG.md", "LICENSE", "crates.txt", "crates", "bin", "docs", "examples", "share", "web")
 
 
 def git(root, *words):

@@ -1,66 +1,53 @@
 //! The answers: the files of a question are restored, it is asked, and what is found is written, as lines or as a
 //! document.
-use crate::asked_packets::Asked;
-use crate::asking::Asking;
+ghost use Rattle.std.specs.Prelude.{◌≡◌, All, IfSome};
+ghost use Rattle.fields.specs.numbers.Field.{top};
+
 use crate::covering::{Covered, read_covered};
-use crate::difference::{Pair, ask_difference, difference_status, put_differences};
-use crate::difference_entry::differences_answer;
-use crate::document::write_answer;
-use crate::dump::{Dump, listed_needs};
-use crate::each_rule::{Course, Form, ask_rules};
 use crate::fault::Fault;
-use crate::loading::{Loaded, load_dump};
-use crate::open_conditions::OpenConditions;
-use crate::open_counts::open_counts;
-use crate::outcomes::{outcomes_answer, put_outcomes, unclear_answer};
-use crate::packet_walks::{ask_packets, packets_answer, put_packets};
-use crate::packets::{GivenPacket, read_packets};
-use crate::rules_answer::{put_rules, rules_answer};
-use dumps::Conditions;
-use fields::Tap;
+use audits::{Asking, ask_difference, ask_outcomes, ask_packets, ask_rules};
+use documents::{
+    differences_document, outcomes_document, packets_document, rules_document, unclear_document,
+};
+use fields::{Tap, WriteFailed};
+use findings::{Course, Difference, Form, Found, GivenPacket, PacketWalks, Pair, open_counts};
+use inputs::{Asked, InputFault, OneDump, TwoDumps, read_one, read_packets, read_plain, read_two};
 use programs::{Audit, Question};
-use questions::BoxedTable;
+use questions::{BoxedTable, Reached};
+use reports::{ReportFault, put_differences, put_outcomes, put_packets, put_rules};
+use std::alloc::Global;
 use std::io::{IsTerminal, Write};
 use std::rt::{Clock, Files};
+use table::Table;
 
-// A dump, and the conditions of its rules.
-#[derive(Drop)]
-struct One {
-    dump: Dump,
-    open: OpenConditions,
+// Writes a document.
+fn put_document<W: Write>(text: &[u8], output: &mut Tap<W>) -> Result<(), WriteFailed> {
+    output.put_all(&[text, b"\n"])
 }
 
-// Two dumps, and the conditions of their rules.
-#[derive(Drop)]
-struct Two {
-    old: Dump,
-    new: Dump,
-    open: OpenConditions,
-}
-
-// Asks of each rule of a table, and answers the status.
-fn write_rules<'a, R: Clock, E: Print + IsTerminal, W: Write>(
-    asking: &mut Asking<'_, R, E>,
+// Writes what is known of rules.
+fn put_found<W: Write>(
+    alloc: Global,
     course: Course<'_>,
+    found: &Found,
     json: bool,
     output: &mut Tap<W>,
-) -> Result<u8, Fault<'a>> {
-    let found = ask_rules(asking, course)?;
-    let counts = open_counts(asking.alloc(), course.open)?;
+) -> Result<(), ReportFault> {
+    let counts = open_counts(alloc, course.open)?;
     let table = course.dump.table();
     if json {
-        let answer = rules_answer(asking.alloc(), table, course, &found, counts.as_slice())?;
-        write_answer(asking.alloc(), &answer, output)?;
+        let text = rules_document(alloc, table, course, found, counts.as_slice())?;
+        put_document(text.as_slice(), output)?;
     } else {
-        put_rules(table, course, &found, counts.as_slice(), output)?;
+        put_rules(table, course, found, counts.as_slice(), output)?;
     }
-    Ok(course.form.status(&found.tally))
+    Ok(())
 }
 
 // Asks of each rule of a dump, and answers the status.
 fn write_form<'a, R: Clock, E: Print + IsTerminal, W: Write>(
     asking: &mut Asking<'_, R, E>,
-    one: &One,
+    one: &OneDump,
     form: Form<'_>,
     json: bool,
     output: &mut Tap<W>,
@@ -70,14 +57,34 @@ fn write_form<'a, R: Clock, E: Print + IsTerminal, W: Write>(
         dump: &one.dump,
         open: &one.open,
     };
-    write_rules(asking, course, json, output)
+    let found = ask_rules(asking, course)?;
+    put_found(asking.alloc(), course, &found, json, output)?;
+    Ok(form.status(&found.tally))
+}
+
+// Writes how two dumps differ.
+fn put_difference<W: Write>(
+    alloc: Global,
+    pair: Pair<'_>,
+    found: &Difference,
+    json: bool,
+    output: &mut Tap<W>,
+) -> Result<(), ReportFault> {
+    let counts = open_counts(alloc, pair.open)?;
+    if json {
+        let text = differences_document(alloc, pair, found, counts.as_slice())?;
+        put_document(text.as_slice(), output)?;
+    } else {
+        put_differences(pair, found, counts.as_slice(), output)?;
+    }
+    Ok(())
 }
 
 // Asks whether two tables give each packet the same verdict, and which of the rules by which they differ are dead, and answers the
 // status.
 fn write_differences<'a, R: Clock, E: Print + IsTerminal, W: Write>(
     asking: &mut Asking<'_, R, E>,
-    two: &Two,
+    two: &TwoDumps,
     json: bool,
     output: &mut Tap<W>,
 ) -> Result<u8, Fault<'a>> {
@@ -87,15 +94,32 @@ fn write_differences<'a, R: Clock, E: Print + IsTerminal, W: Write>(
         open: &two.open,
     };
     let found = ask_difference(asking, pair)?;
-    let alloc = asking.alloc();
-    let counts = open_counts(alloc, pair.open)?;
-    if json {
-        let answer = differences_answer(alloc, pair, &found, counts.as_slice())?;
-        write_answer(alloc, &answer, output)?;
-    } else {
-        put_differences(pair, &found, counts.as_slice(), output)?;
+    put_difference(asking.alloc(), pair, &found, json, output)?;
+    Ok(found.status())
+}
+
+// Writes the verdicts of a set of packets, if they are known.
+fn put_reached<W: Write>(
+    alloc: Global,
+    table: &Table,
+    asked: &Asked,
+    found: &Option<Vec<Reached>>,
+    json: bool,
+    output: &mut Tap<W>,
+) -> Result<(), ReportFault>
+    requires { IfSome found.now (λ reached. All (λ entry. entry.numbers.top ≡ top asked.now.field) reached.items) }
+{
+    let (hook, field) = (asked.given.hook, asked.field);
+    match found {
+        Some(found) if json => {
+            let text = outcomes_document(alloc, table, hook, field, found.as_slice())?;
+            put_document(text.as_slice(), output)?;
+        }
+        Some(found) => put_outcomes(alloc, table, field, found.as_slice(), output)?,
+        None if json => put_document(unclear_document(alloc, field)?.as_slice(), output)?,
+        None => output.put(b"unclear\n")?,
     }
-    Ok(difference_status(&found))
+    Ok(())
 }
 
 // Asks for the verdicts of a set of packets, and answers the status: 3 where they aren't known, else 0.
@@ -106,40 +130,41 @@ fn write_outcomes<'a, R: Clock, E: Print + IsTerminal, W: Write>(
     json: bool,
     output: &mut Tap<W>,
 ) -> Result<u8, Fault<'a>> {
-    asking.begin(1);
-    asking.next();
-    let (alloc, table) = (asking.alloc(), &subject.table);
-    let found = asking.reach(subject, &asked.given, asked.field)?;
-    match (&found, json) {
-        (Some(found), false) => put_outcomes(alloc, table, asked.field, found.as_slice(), output)?,
-        (Some(found), true) => {
-            let answer = outcomes_answer(alloc, table, asked, found.as_slice())?;
-            write_answer(alloc, &answer, output)?;
-        }
-        (None, false) => output.put(b"unclear\n")?,
-        (None, true) => write_answer(alloc, &unclear_answer(alloc, asked)?, output)?,
-    }
+    let found = ask_outcomes(asking, subject, &asked.given, asked.field)?;
+    put_reached(asking.alloc(), &subject.table, asked, &found, json, output)?;
     Ok(if found.is_some() { 0 } else { 3 })
+}
+
+// Writes what becomes of some packets.
+fn put_walks<W: Write>(
+    alloc: Global,
+    one: &OneDump,
+    packets: &[GivenPacket],
+    found: &PacketWalks,
+    json: bool,
+    output: &mut Tap<W>,
+) -> Result<(), ReportFault> {
+    let (table, open) = (one.dump.table(), &one.open);
+    let counts = open_counts(alloc, open)?;
+    if json {
+        let text = packets_document(alloc, table, open, packets, found, counts.as_slice())?;
+        put_document(text.as_slice(), output)?;
+    } else {
+        put_packets(table, open, packets, found, counts.as_slice(), output)?;
+    }
+    Ok(())
 }
 
 // Asks what becomes of some packets, and answers the status.
 fn write_walks<'a, R: Clock, E: Print + IsTerminal, W: Write>(
     asking: &mut Asking<'_, R, E>,
-    one: &One,
+    one: &OneDump,
     packets: &[GivenPacket],
     json: bool,
     output: &mut Tap<W>,
 ) -> Result<u8, Fault<'a>> {
-    let (table, open) = (one.dump.table(), &one.open);
-    let found = ask_packets(asking, &one.dump, open, packets)?;
-    let alloc = asking.alloc();
-    let counts = open_counts(alloc, open)?;
-    if json {
-        let answer = packets_answer(alloc, table, open, packets, &found, counts.as_slice())?;
-        write_answer(alloc, &answer, output)?;
-    } else {
-        put_packets(table, open, packets, &found, counts.as_slice(), output)?;
-    }
+    let found = ask_packets(asking, &one.dump, &one.open, packets)?;
+    put_walks(asking.alloc(), one, packets, &found, json, output)?;
     Ok(found.status())
 }
 
@@ -156,39 +181,9 @@ where
     R: Clock + Files + Input + AllocGlobal,
     E: Print + IsTerminal,
 {
-    // A file, read as the words say.
-    fn load(&self, file: &'a str) -> Result<Loaded, Fault<'a>> {
-        load_dump(self.rt, self.errors, file, self.audit)
-    }
-
     // The dump of a file, with the answers of `--when`.
-    fn one(&self, file: &'a str) -> Result<One, Fault<'a>> {
-        let alloc = self.rt.alloc();
-        let loaded = self.load(file)?;
-        let mut conditions = Conditions::new(alloc, &[&loaded.foreign])?;
-        let listed = listed_needs(alloc, file, &loaded, &mut conditions)?;
-        let open = OpenConditions::new(alloc, conditions, false, self.audit.when.as_slice())?;
-        let dump = Dump::new(alloc, loaded.boxed, listed, &open)?;
-        Ok(One { dump, open })
-    }
-
-    // The dumps of two files, with the answers of `--when`. What a target sets may differ between them, so that its conditions can't be compared.
-    fn two(&self, old: &'a str, new: &'a str) -> Result<Two, Fault<'a>> {
-        let alloc = self.rt.alloc();
-        let first = self.load(old)?;
-        let second = self.load(new)?;
-        let mut conditions = Conditions::new(alloc, &[&first.foreign, &second.foreign])?;
-        let needed = listed_needs(alloc, old, &first, &mut conditions)?;
-        let needed_later = listed_needs(alloc, new, &second, &mut conditions)?;
-        if conditions.are_set() {
-            return Err(Fault::AreSet);
-        }
-        let open = OpenConditions::new(alloc, conditions, true, self.audit.when.as_slice())?;
-        Ok(Two {
-            old: Dump::new(alloc, first.boxed, needed, &open)?,
-            new: Dump::new(alloc, second.boxed, needed_later, &open)?,
-            open,
-        })
+    fn one(&self, file: &'a str) -> Result<OneDump, InputFault<'a>> {
+        read_one(self.rt, self.errors, file, self.audit)
     }
 
     // Asks of each rule of a file, and answers the status.
@@ -227,7 +222,8 @@ where
         asking: &mut Asking<'_, R, E>,
         output: &mut Tap<W>,
     ) -> Result<u8, Fault<'a>> {
-        write_differences(asking, &self.two(old, new)?, self.audit.json, output)
+        let two = read_two(self.rt, self.errors, old, new, self.audit)?;
+        write_differences(asking, &two, self.audit.json, output)
     }
 
     // Asks a file for the verdicts of a set of packets, and answers the status.
@@ -238,11 +234,8 @@ where
         output: &mut Tap<W>,
     ) -> Result<u8, Fault<'a>> {
         let asked = Asked::read(self.rt.alloc(), self.audit.words.as_slice())?;
-        let one = self.one(file)?;
-        if one.open.len() > 0 {
-            return Err(Fault::HasConditions(file));
-        }
-        write_outcomes(asking, &one.dump.boxed, &asked, self.audit.json, output)
+        let one = read_plain(self.rt, self.errors, file, self.audit)?;
+        write_outcomes(asking, one.dump.boxed(), &asked, self.audit.json, output)
     }
 
     // Asks a file what becomes of the packets on standard input, and answers the status.

@@ -1,11 +1,8 @@
 //! Packets of standard input mark the rules that they match.
-use crate::asking::Asking;
-use crate::dump::Dump;
 use crate::fault::Fault;
-use crate::marks::Marks;
-use crate::open_conditions::OpenConditions;
-use crate::packet_input::{TakesPackets, take_packets};
-use crate::walking::walks_of;
+use audits::{Asking, mark_packet};
+use findings::{Dump, Marks, OpenConditions};
+use inputs::{TakesPackets, take_packets};
 use programs::buffered_input;
 use questions::WrittenPacket;
 use std::alloc::AllocError;
@@ -26,12 +23,10 @@ struct Covering<'a, 'b, R, E> {
 
 impl<'a, 'b, R: Clock, E: Print + IsTerminal> TakesPackets for Covering<'a, 'b, R, E> {
     fn take(&mut self, number: u64, _line: &[u8], packet: WrittenPacket) -> Result<(), AllocError> {
-        match walks_of(self.asking, self.dump, self.open, &packet, &[])? {
-            Some(walks) => self.marks.take(self.asking.alloc(), walks.as_slice())?,
-            None => {
-                self.is_clear = false;
-                let _ = println!(self.errors; "line {number}: unclear");
-            }
+        let (dump, open) = (self.dump, self.open);
+        if !mark_packet(self.asking, dump, open, &packet, &mut self.marks)? {
+            self.is_clear = false;
+            let _ = println!(self.errors; "line {number}: unclear");
         }
         Ok(())
     }

@@ -1,7 +1,8 @@
 //! Why the program ends without an answer.
-use dumps::OptionRefusal;
 use fields::WriteFailed;
+use inputs::InputFault;
 use programs::ProgramFault;
+use reports::ReportFault;
 use std::alloc::AllocError;
 use thiserror::Error;
 
@@ -9,75 +10,51 @@ use thiserror::Error;
 #[derive(Debug, Drop, Error)]
 pub(crate) enum Fault<'a> {
     #[error(transparent)]
-    Program(ProgramFault<'a>),
+    Input(InputFault<'a>),
     /// The word after `--steps`.
     #[error("no number of steps: {0}")]
     NoNumber(&'a str),
-    #[error("no hook: {0}")]
-    NoHook(&'a str),
-    /// A word that is no `key=value` of packets and no `by=FIELD`, or one too many.
-    #[error("bad word: {0}")]
-    BadWord(&'a str),
-    /// A word `key=value` or `by=FIELD` whose key none of the packets carries that the other words allow.
-    #[error("no such packet carries it: {0}")]
-    NotCarried(&'a str),
-    #[error("by=FIELD is missing")]
-    NoField,
-    /// The word after `--local`.
-    #[error("no addresses: {0}")]
-    NoAddresses(&'a str),
-    #[error("more than 8 addresses: {0}")]
-    TooManyAddresses(&'a str),
-    /// A word of `--unknown`.
-    #[error("neither MATCH nor MATCH OPTION N: {0}")]
-    NoMatch(&'a str),
-    /// A word of `--unknown` that names a target, or a match or an option which is known.
-    #[error("{1}: {0}")]
-    CannotAdd(&'a str, OptionRefusal),
-    /// A word of `--when`.
-    #[error("no rule has this condition: {0}")]
-    NoCondition(&'a str),
-    /// A word of `--when` that contradicts another one.
-    #[error("answered twice: {0}")]
-    AnsweredTwice(&'a str),
-    /// A file whose chains aren't made by its `-A` lines alone, so that it isn't known which rules ask its conditions.
-    #[error("cannot tell which rules of {0} have its conditions")]
-    CannotPlace(&'a str),
-    /// A file that is asked for the verdicts of a set of packets.
-    #[error("reach cannot take conditions, which {0} has")]
-    HasConditions(&'a str),
-    /// Two files of which a target sets what a condition asks.
-    #[error("compare cannot take conditions that a target sets, as MARK does")]
-    AreSet,
-    /// A file was refused, and its fault was written.
-    #[error("cannot restore {0}")]
-    CannotRestore(&'a str),
 }
 
 impl Fault<'_> {
     /// The status that the program ends with: 2 or 4.
     pub(crate) fn status(&self) -> u8 {
         match self {
-            Fault::Program(ProgramFault::NoMemory) => 4,
+            Fault::Input(InputFault::Program(ProgramFault::NoMemory)) => 4,
             _ => 2,
         }
     }
 }
 
-impl From<AllocError> for Fault<'_> {
-    fn from(_error: AllocError) -> Self {
-        Fault::Program(ProgramFault::NoMemory)
+impl<'a> From<InputFault<'a>> for Fault<'a> {
+    fn from(fault: InputFault<'a>) -> Self {
+        Fault::Input(fault)
     }
 }
 
 impl<'a> From<ProgramFault<'a>> for Fault<'a> {
     fn from(fault: ProgramFault<'a>) -> Self {
-        Fault::Program(fault)
+        Fault::Input(InputFault::Program(fault))
+    }
+}
+
+impl From<AllocError> for Fault<'_> {
+    fn from(_error: AllocError) -> Self {
+        Fault::from(ProgramFault::NoMemory)
     }
 }
 
 impl From<WriteFailed> for Fault<'_> {
     fn from(_error: WriteFailed) -> Self {
-        Fault::Program(ProgramFault::OutputFailed)
+        Fault::from(ProgramFault::OutputFailed)
+    }
+}
+
+impl From<ReportFault> for Fault<'_> {
+    fn from(fault: ReportFault) -> Self {
+        match fault {
+            ReportFault::NoMemory => Fault::from(ProgramFault::NoMemory),
+            ReportFault::WriteFailed => Fault::from(ProgramFault::OutputFailed),
+        }
     }
 }

@@ -1,45 +1,10 @@
 //! The program `iptaudit`: questions about all packets, asked of files of iptables-restore.
 #![tactic(auto)]
 
-mod address_types;
 mod answers;
-mod asked_packets;
-mod asking;
-mod assumptions;
-mod branches;
-mod condition_entry;
-mod condition_text;
 mod covering;
-mod covering_answers;
-mod deciding;
-mod difference;
-mod difference_entry;
-mod document;
-mod dump;
-mod each_rule;
 mod fault;
-mod line_input;
-mod loading;
-mod marks;
-mod memory_text;
-mod names;
-mod number_text;
-mod open_conditions;
-mod open_counts;
-mod outcomes;
-mod packet_input;
-mod packet_line;
-mod packet_walks;
-mod packets;
 mod program;
-mod progress;
-mod reason_entry;
-mod reason_line;
-mod rule_line;
-mod rules_answer;
-mod tally;
-mod walk_text;
-mod walking;
 
 use crate::program::run;
 use std::process::ExitCode;

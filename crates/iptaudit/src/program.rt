@@ -1,9 +1,8 @@
 //! What the program does: it reads its line, answers what is asked, and ends with the status.
 
 use crate::answers::Source;
-use crate::asking::Asking;
 use crate::fault::Fault;
-use crate::progress::Progress;
+use audits::Asking;
 use programs::{Audit, answer_line, buffered_output, let_go, texts_after_name, words_given};
 use std::io::{self, IsTerminal};
 use std::rt::{Clock, Env, Files};
@@ -20,7 +19,7 @@ where
 {
     match words_given(rt) {
         Ok(words) => run_words(rt, errors, words.as_slice()),
-        Err(fault) => report(errors, Fault::Program(fault)),
+        Err(fault) => report(errors, Fault::from(fault)),
     }
 }
 
@@ -69,7 +68,7 @@ where
     };
     let steps = steps_of(audit.steps)?;
     let mut output = buffered_output(rt.alloc(), io::writer(rt))?;
-    let mut asking = Asking::new(rt.alloc(), steps, Progress::new(rt, errors));
+    let mut asking = Asking::new(rt.alloc(), steps, rt, errors);
     let source = Source {
         rt,
         errors,

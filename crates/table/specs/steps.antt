@@ -2,5 +2,6 @@ pub mod Kept
 pub mod Puts
 pub mod Renames
 pub mod StoredChains
+pub mod Edges
 pub mod Search
 pub mod Walking

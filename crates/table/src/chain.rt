@@ -1,4 +1,4 @@
-//! One chain: its name, its rules, their classifier, and how many rules of the table name it.
+//! One chain: its name, its rules, the chains that they lead to, their classifier, and how many rules of the table name it.
 ghost use Rattle.std.specs.Prelude.{◌≡◌, ◌<◌, ◌≤◌, ◌+◌, ◌-◌, ◌^◌, [], length, map, insert, remove, slice_set};
 ghost use Rattle.std.specs.Prelude.{slice_index_or};
 ghost use Rattle.std.specs.Prelude.{OnOk, OnErr, IfOk, IfSome};
@@ -7,11 +7,14 @@ ghost use Rattle.classify.specs.search.NextMatch.{next_match};
 ghost use Rattle.rules.specs.rule.Allows.{matches};
 ghost use Rattle.table.specs.steps.StoredChains.{IsClassified, has_text, rules_in};
 ghost use Rattle.table.specs.edits.Boxes.{MakesOneBoxAtMost};
+ghost use Rattle.table.specs.steps.Edges.{AreEdges};
 ghost use Rattle.table.specs.steps.Renames.{NameChains, retargeted};
 
 mod copy;
+mod edges;
 pub(crate) mod entry;
 
+use crate::chain::edges::Edge;
 use crate::chain::entry::{Entry, retarget};
 use classify::{Classifier, targets_leave_the_classifier};
 use fields::{Name, Packet};
@@ -27,16 +30,21 @@ fn has_text(rule: &Rule, entry: &Entry) -> bool
     rule.equals(&entry.rule)
 }
 
+// So many edges have their room from the start, so that a rule seldom takes memory for one.
+const FIRST_EDGES: usize = 4;
+
 #[derive(Drop)]
 pub(crate) struct Chain {
     name: Name,
     entries: Vec<Entry>,
+    edges: Vec<Edge>,
     classifier: Classifier,
     references: usize,
 }
 
 impl Model for Chain {
     ghost use Rattle.table.specs.steps.StoredChains.{StoredChain, IsClassified};
+    ghost use Rattle.table.specs.steps.Edges.{AreEdges};
 
     ghost Value = { StoredChain };
 
@@ -52,7 +60,7 @@ impl Model for Chain {
       entries = c.entries.items;
       classifier = c.classifier.shown;
       references = c.references;
-    }) };
+    }) × AreEdges c.entries.items c.edges.items };
 }
 
 impl Chain {
@@ -63,10 +71,12 @@ impl Chain {
         ensures classified { IfOk result IsClassified }
         ensures references { IfOk result (λ chain. chain.references ≡ 0) }
     {
+        let edges = Vec::with_capacity(alloc, FIRST_EDGES)?;
         let classifier = Classifier::new(alloc)?;
         Ok(Chain {
             name,
             entries: Vec::new(alloc),
+            edges,
             classifier,
             references: 0,
         })
@@ -92,6 +102,13 @@ impl Chain {
         ensures { result.now ≡ slice_index_or self.now.entries at result.now }
     {
         &self.entries[at]
+    }
+
+    // The chains that the rules lead to, each once; they are lent.
+    pub(crate) fn edges(&self) -> &[Edge]
+        ensures { AreEdges self.now.entries result.now }
+    {
+        &self.edges
     }
 
     // The classifier of the rules; it is lent.
@@ -147,9 +164,12 @@ impl Chain {
         ensures classified { IsClassified self.new }
         ensures work { MakesOneBoxAtMost work.old work.new }
     {
+        let link = entry.flow.key();
         self.entries.reserve(1)?;
+        edges::reserve(&mut self.edges, link)?;
         let boxed = Boxed::of(alloc, &entry.rule, work)?;
         self.classifier.insert(at, boxed)?;
+        edges::add(&mut self.edges, link);
         match self.entries.insert(at, entry) {
             Ok(()) => return Ok(()),
             Err(_) => unreachable!(),
@@ -172,9 +192,13 @@ impl Chain {
         ensures classified { IsClassified self.new }
         ensures work { MakesOneBoxAtMost work.old work.new }
     {
-        let _len = self.entries.len();
+        let link = entry.flow.key();
+        let before = self.entries[at].flow.key();
+        edges::reserve(&mut self.edges, link)?;
         let boxed = Boxed::of(alloc, &entry.rule, work)?;
         self.classifier.replace(at, boxed)?;
+        edges::add(&mut self.edges, link);
+        edges::take_off(&mut self.edges, before);
         self.entries[at] = entry;
         Ok(())
     }
@@ -187,6 +211,7 @@ impl Chain {
         ensures entries { self.new.entries ≡ remove self.old.entries at }
         ensures classified { IsClassified self.new }
     {
+        edges::take_off(&mut self.edges, self.entries[at].flow.key());
         self.classifier.remove(at);
         self.entries.remove(at);
     }
@@ -198,6 +223,7 @@ impl Chain {
         ensures entries { self.new.entries ≡ [] }
         ensures classified { IsClassified self.new }
     {
+        self.edges.clear();
         self.classifier.clear();
         self.entries.clear();
     }
@@ -236,13 +262,17 @@ impl Chain {
     }
 
     // The least place, at or after `from`, of a rule that matches the packet: the first of those that the classifier gives
-    // whose conditions on several fields at once hold. The rows of the packet are looked up once. It takes no memory.
+    // whose conditions on several fields at once hold. The rows of the packet are looked up once, and where no rule is left they aren't. It
+    // takes no memory.
     pub(crate) fn next(&self, packet: &Packet, from: usize) -> Option<usize>
         ensures next { result ≡ next_match (matches packet.now.values) (rules_in self.now) from }
         ensures within { IfSome result (λ place. place < length self.now.entries) }
         ensures small { IfSome result (λ place. place + 1 < 2 ^ 64) }
     {
-        let _len = self.entries.len();
+        let len = self.entries.len();
+        if from >= len {
+            return None;
+        }
         let candidates = self.classifier.at(packet.numbers());
         let mut start = from;
         while let Some(place) = candidates.next(start) {

@@ -1,6 +1,6 @@
 //! The loop check: a search for a path of jumps and gotos from one chain to another. It keeps a worklist of the
 //! chains that are reached, and marks that the table has room for, so it takes no memory.
-ghost use Rattle.std.specs.Prelude.{◌≡◌, ◌<◌, ◌≤◌, ◌+◌, ℕ, OnOk, length, false, slice_index, slice_index_or, IfSome};
+ghost use Rattle.std.specs.Prelude.{◌≡◌, ◌<◌, ◌≤◌, ◌+◌, ℕ, OnOk, length, false, slice_index, slice_index_or};
 ghost use Rattle.std.specs.Prelude.{IsFalse};
 ghost use Rattle.table.specs.edits.Edits.{leads};
 ghost use Rattle.table.specs.steps.Kept.{AreStored, IsIn, listed, stored_at};
@@ -14,16 +14,12 @@ use std::alloc::AllocError;
 // The most chains that a table has: three built-in ones and 1,024 user chains.
 const CHAINS: usize = 1027;
 
-// Marks the chain under a key, if there is a key and the chain is new, and puts the key last among those reached.
-fn mark(key: Option<usize>, seen: &mut Vec<bool>, reached: &mut ArrayVec<usize, CHAINS>)
-    requires within { IfSome key (λ k. k < length seen.old.items) }
-    requires room { IfSome key (λ k. IsFalse (slice_index_or seen.old.items k false)
-        → length reached.old.items < 1027) }
+// Marks the chain under a key, if it is new, and puts the key last among those reached.
+fn mark(key: usize, seen: &mut Vec<bool>, reached: &mut ArrayVec<usize, CHAINS>)
+    requires within { key < length seen.old.items }
+    requires room { IsFalse (slice_index_or seen.old.items key false) → length reached.old.items < 1027 }
     ensures { Marks key seen.old.items reached.old.items seen.new.items reached.new.items }
 {
-    let Some(key) = key else {
-        return;
-    };
     if !seen[key] {
         seen[key] = true;
         reached.push(key);
@@ -31,7 +27,7 @@ fn mark(key: Option<usize>, seen: &mut Vec<bool>, reached: &mut ArrayVec<usize, 
 }
 
 impl Parts {
-    // Visits the chain whose key stands at a place among those reached: marks each chain that its rules lead to.
+    // Visits the chain whose key stands at a place among those reached: marks each chain that it has an edge to.
     fn visit(&self, at: usize, seen: &mut Vec<bool>, reached: &mut ArrayVec<usize, CHAINS>)
         requires kept { AreStored self.now }
         requires at { at < length reached.old.items }
@@ -40,9 +36,9 @@ impl Parts {
         ensures { IsSearch self.now.chains.slots self.now.order.items (slice_index reached.old.items 0)
             seen.new.items reached.new.items (at + 1) }
     {
-        let chain = &self.chains[reached[at]];
-        for place in 0..chain.len() {
-            mark(chain.entry(place).flow.key(), seen, reached);
+        let edges = self.chains[reached[at]].edges();
+        for place in 0..edges.len() {
+            mark(edges[place].to, seen, reached);
         }
     }
 }
@@ -59,7 +55,7 @@ fn unmark(order: &Vec<usize>, seen: &mut Vec<bool>, reached: &ArrayVec<usize, CH
 
 impl Parts {
     // Whether a path of jumps and gotos leads from the chain under one key to that under another, also one of no step. It
-    // visits each chain at most once, and takes no memory.
+    // visits each chain at most once, and there each chain that its rules lead to. It takes no memory.
     pub(crate) fn reaches(&self, seen: &mut Vec<bool>, from: usize, goal: usize) -> bool
         requires kept { AreStored self.now }
         requires clear { IsUnmarked self.now.order.items seen.old.items }
@@ -70,7 +66,7 @@ impl Parts {
             (stored_at self.now.chains.slots from).name (stored_at self.now.chains.slots goal).name }
     {
         let mut reached = ArrayVec::new();
-        mark(Some(from), seen, &mut reached);
+        mark(from, seen, &mut reached);
         let mut at = 0;
         while at < reached.len() && !seen[goal] {
             self.visit(at, seen, &mut reached);

@@ -1,5 +1,6 @@
 pub mod PathLaws
 pub mod StoredChainLaws
+pub mod EdgeLaws
 pub mod PlaceLaws
 pub mod StoreLaws
 pub mod KeptLaws

@@ -2,6 +2,7 @@ pub mod AnswerLaws
 pub mod DeleteLaws
 pub mod DeleteAllLaws
 pub mod EditLaws
+pub mod EdgeEditLaws
 pub mod FlushLaws
 pub mod MakeLaws
 pub mod MemoryLaws

@@ -1,5 +1,5 @@
 -- The search for a path: the marks on keys, and the keys that were reached, in the order in which their chains are visited.
-use Rattle.std.specs.Prelude.{◌≡◌, ◌⊎◌, ℕ, ◌<◌, Bool, true, false, List, [], ◌∷◌, ◌++◌, length, slice_index_or, slice_index, slice_set}
+use Rattle.std.specs.Prelude.{◌≡◌, ◌⊎◌, ℕ, ◌<◌, Bool, true, false, List, [], ◌∷◌, ◌++◌, length, slice_index_or, slice_index, slice_set, Contains}
 use Rattle.std.specs.Prelude.{Option, Some, IsTrue, IsFalse}
 use Rattle.table.specs.chains.Sound.{Leads}
 use Rattle.table.specs.steps.Kept.{IsIn, stored_at, listed}
@@ -18,10 +18,9 @@ pub record IsMarked (order : List ℕ) (seen : List Bool) (reached : List ℕ) :
   pub only : (key : ℕ) → IsSeen seen key → IsIn reached key
   pub apart : (i j : ℕ) → i < length reached → j < length reached → slice_index reached i ≡ slice_index reached j → i ≡ j
 
--- the chains that the first of these rules lead to are marked
-abbrev pub AreMarked : List Entry → ℕ → List Bool → Type 0
-AreMarked entries upto seen =
-    (m : ℕ) (e : Entry) (key : ℕ) → m < upto → slice_index_or entries m e ≡ e → key_in e.flow ≡ Some key → IsSeen seen key
+-- the chains that these rules lead to are marked
+abbrev pub AreMarked : List Entry → List Bool → Type 0
+AreMarked entries seen = (e : Entry) (key : ℕ) → Contains entries e → key_in e.flow ≡ Some key → IsSeen seen key
 
 -- a search from a chain, which was reached first: paths lead to all keys that were reached, and the chains of the first of these
 -- were visited
@@ -30,12 +29,10 @@ pub record IsSearch (slots : List (Option StoredChain)) (order : List ℕ) (from
   pub some : 0 < length reached
   pub first : slice_index reached 0 ≡ from
   pub led : (key : ℕ) → IsIn reached key → Leads (listed slots order) (stored_at slots from).name (stored_at slots key).name
-  pub visited : (i : ℕ) → i < at
-      → AreMarked (stored_at slots (slice_index reached i)).entries (length (stored_at slots (slice_index reached i)).entries) seen
+  pub visited : (i : ℕ) → i < at → AreMarked (stored_at slots (slice_index reached i)).entries seen
 
--- marking a key, if there is one: if it is marked already nothing changes, else it is marked and is the last that was reached
-abbrev pub Marks : Option ℕ → List Bool → List ℕ → List Bool → List ℕ → Type 0
-Marks link seen reached seen' reached' =
-    (((key : ℕ) → link ≡ Some key → IsSeen seen key) × (seen' ≡ seen) × (reached' ≡ reached))
-    ⊎ ((key : ℕ) × (link ≡ Some key) × IsFalse (slice_index_or seen key false)
-    × (seen' ≡ slice_set seen key true) × (reached' ≡ reached ++ key ∷ []))
+-- marking a key: if it is marked already nothing changes, else it is marked and is the last that was reached
+abbrev pub Marks : ℕ → List Bool → List ℕ → List Bool → List ℕ → Type 0
+Marks key seen reached seen' reached' =
+    (IsSeen seen key × (seen' ≡ seen) × (reached' ≡ reached))
+    ⊎ (IsFalse (slice_index_or seen key false) × (seen' ≡ slice_set seen key true) × (reached' ≡ reached ++ key ∷ []))

@@ -28,10 +28,12 @@ impl Clone for Chain {
     fn clone(&self) -> Result<Chain, AllocError> {
         let alloc = *self.entries.allocator();
         let entries = copy_entries(alloc, &self.entries)?;
+        let edges = self.edges.clone()?;
         let classifier = self.classifier.copy(alloc)?;
         Ok(Chain {
             name: self.name.copy(),
             entries,
+            edges,
             classifier,
             references: self.references,
         })

@@ -1,11 +1,13 @@
 -- The classifier of a chain's rules, and the texts of rules.
-use Rattle.std.proofs.Common.{◌≡◌, ◌↔◌, inl, inr, ℕ, suc, Bool, true, false, List, ◌∷◌, ◌++◌, take, drop, map, refl, sym, ◌∙◌, ap, subst, IsTrue}
+use Rattle.std.proofs.Common.{◌≡◌, ◌↔◌, inl, inr, ℕ, suc, ◌+◌, ◌≤◌, Bool, true, false, List, ◌∷◌, ◌++◌, length, take, drop, map, None, refl, sym, ◌∙◌, ap, subst, IsTrue}
 use Rattle.std.specs.Prelude.{slice_set}
-use Rattle.std.specs.List.{insert, remove}
-use Rattle.std.proofs.lemmas.List.{map-append, take-map, drop-map, map-set}
+use Rattle.std.specs.List.{insert, remove, position}
+use Rattle.std.specs.Option.{option_map}
+use Rattle.std.proofs.lemmas.List.{map-append, take-map, drop-map, map-set, at_drop_all}
 use Rattle.std.proofs.lemmas.Bool.{cases_Bool, false≢true}
 use Rattle.std.proofs.lemmas.Slice.Eq.{bytes_eq-Decides}
 use Rattle.classify.specs.classifier.Classifier.{Classified, IsClassifierOfRules, EditsRules}
+use Rattle.classify.specs.search.NextMatch.{next_match}
 use Rattle.rules.specs.printing.Printing.{rule_text}
 use Rattle.rules.specs.rule.Rules.{Rule}
 use Rattle.table.specs.edits.Edits.{same_text}
@@ -36,6 +38,10 @@ replaced es n e old new h k = edited es (slice_set es n e) (λ rules. slice_set 
 pub removed : (es : List Entry) (n : ℕ) (old new : Classified) → IsClassifierOfRules (map rule_in es) old
     → EditsRules (λ rules. remove rules n) old new → IsClassifierOfRules (map rule_in (remove es n)) new
 removed es n old new h k = edited es (remove es n) (λ rules. remove rules n) old new (map_remove rule_in es n) h k
+
+-- where no rule is left none matches
+pub none_left : {B : Type 0} (test : B → Bool) (things : List B) (from : ℕ) → length things ≤ from → next_match test things from ≡ None
+none_left test things from le = at_drop_all (λ xs. option_map (λ (k : ℕ). from + k) (position test xs)) things from le
 
 -- a comparison of texts, by whatever test tells whether they are equal
 pub texts_decide : (b : Bool) (r s : Rule) → (IsTrue b ↔ (rule_text r ≡ rule_text s)) → b ≡ same_text r s

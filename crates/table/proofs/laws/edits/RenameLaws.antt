@@ -26,6 +26,8 @@ use Rattle.table.specs.edits.Edits.{Rename, edited, placed, renamed_rule, rename
 use Rattle.table.specs.steps.Kept.{blank, slot_at, stored_at, name_at, listed, listed_at, listed_stored, table_with, leading, leading_in, IsIn, IsUser, LinksTo, IsLinked, IsIndexFor, IsStored, IsKept}
 use Rattle.table.specs.steps.Renames.{AreRetargeted, moved_key, retargeted}
 use Rattle.table.specs.steps.StoredChains.{StoredChain, flow_of, leads_to, ones, rule_in, rules_in, IsClassified}
+use Rattle.table.specs.steps.Edges.{AreEdges}
+use Rattle.table.specs.declared.chain.edges.Edge.{Edge}
 use Rattle.table.specs.declared.chain.entry.Entry.{Entry}
 use Rattle.table.proofs.laws.chains.KeptLaws.{key_within, listed_by, stored_set_other, stored_set_same, some_set, set_some}
 use Rattle.table.proofs.laws.chains.CountLaws.{part_kept}
@@ -324,6 +326,10 @@ count_same key k name [] = refl
 count_same key k name (e ∷ es) =
     let f : Entry → ℕ = λ (x : Entry). ones (leads_to k x.flow) in
     sum_by-cons f (retargeted key name e) (map (retargeted key name) es) ∙ ap (λ n. ones (leads_to k e.flow) + n) (count_same key k name es) ∙ sym (sum_by-cons f e es)
+
+-- and so the edges stay
+pub edges_retargeted : (key : ℕ) (name : List ℕ) (es : List Entry) (edges : List Edge) → AreEdges es edges → AreEdges (map (retargeted key name) es) edges
+edges_retargeted key name es edges h = record { distinct = h.distinct; exact = λ k. h.exact k ∙ sym (count_same key k name es) }
 
 leading_same : (slots new : List (Option StoredChain)) (keys : List ℕ) (k : ℕ) → ((j : ℕ) → j < length keys → leading_in k (stored_at new (get_or keys j 0)) ≡ leading_in k (stored_at slots (get_or keys j 0)))
     → leading new keys k ≡ leading slots keys k

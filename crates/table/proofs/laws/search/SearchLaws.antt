@@ -1,10 +1,9 @@
 -- The search for a path of jumps and gotos.
-use Rattle.std.proofs.Common.{◌≡◌, ◌⊎◌, inl, inr, ℕ, zero, suc, ◌+◌, ◌<◌, ◌≤◌, Bool, true, false, List, [], ◌∷◌, ◌++◌, length, get_or, map, refl, sym, ◌∙◌, ap, arith, subst, Option, Some, None, IsSome, Contains}
+use Rattle.std.proofs.Common.{◌≡◌, ◌⊎◌, inl, inr, ℕ, zero, suc, ◌+◌, ◌<◌, ◌≤◌, Bool, true, false, List, [], ◌∷◌, ◌++◌, length, get_or, map, refl, sym, ◌∙◌, ap, arith, subst, Option, Some, None, IsSome, unwrap_or, Contains}
 use Rattle.std.proofs.lemmas.Option.{none-some, same_Some}
 use Rattle.std.proofs.Math.ListN.{set}
-use Rattle.std.specs.Option.{IfSome}
 use Rattle.std.proofs.lemmas.Bool.{cases_Bool, cases_eq, cases_lt, false≢true}
-use Rattle.std.proofs.lemmas.List.{length-set, get_or-set_same, get_or-set_other, get_or_append_left, get_or_push, length_push, get_or-map, length-map, get_or_default}
+use Rattle.std.proofs.lemmas.List.{length-set, get_or-set_same, get_or-set_other, get_or_append_left, get_or_push, length_push, get_or-map, length-map}
 use Rattle.std.proofs.lemmas.List.Elements.{Contains-get_or}
 use Rattle.rules.specs.rule.Actions.{target_of}
 use Rattle.rules.specs.rule.Rules.{Rule}
@@ -13,15 +12,18 @@ use Rattle.rules.specs.declared.rule.target.Target.TheVariants as target
 use Rattle.table.specs.chains.Sound.{Names, Path, Leads}
 use Rattle.table.specs.chains.Table.{Policy, Chain, chain_in, chain_named_by}
 use Rattle.table.specs.edits.Edits.{leads}
-use Rattle.table.specs.steps.Kept.{slot_at, stored_at, listed, IsIn, LinksTo, IsLinked, IsStored}
+use Rattle.table.specs.steps.Kept.{blank, slot_at, stored_at, listed, IsIn, LinksTo, IsLinked, IsStored}
 use Rattle.table.specs.steps.StoredChains.{StoredChain, rule_in, rules_in, key_in, flow_of}
 use Rattle.table.specs.steps.Search.{IsSeen, IsMarked, AreMarked, IsSearch, Marks}
 use Rattle.table.specs.steps.Kept.{IsUnmarked}
+use Rattle.table.specs.steps.Edges.{AreEdges, ends}
+use Rattle.table.specs.declared.chain.edges.Edge.{Edge}
 use Rattle.table.specs.declared.chain.entry.Entry.{Entry}
+use Rattle.table.proofs.laws.chains.EdgeLaws.{edge_led, led_edge}
 use Rattle.table.proofs.laws.chains.CountLaws.{chains_few, key_mem, key_place, keys_differ}
 use Rattle.table.proofs.laws.chains.PathLaws.{Mem, Differing, pigeon, step_on, leads_is_path, path_is_led}
 use Rattle.table.proofs.laws.chains.StoreLaws.{names_apart}
-use Rattle.table.proofs.laws.edits.EditLaws.{if_some, link_user, link_named}
+use Rattle.table.proofs.laws.edits.EditLaws.{link_user, link_named}
 use Rattle.table.proofs.laws.walk.StackLaws.{rules_under, linked_under}
 
 -- Marks
@@ -139,12 +141,12 @@ path_then cs (suc n) a b c p e = step_on cs a p.0 c p.1 (path_then cs n p.0 b c 
 
 -- One chain is visited
 
--- the chain at a place of those reached, and the chains that its first rules lead to are marked
-pub record IsVisit (slots : List (Option StoredChain)) (order : List ℕ) (from : ℕ) (seen : List Bool) (reached : List ℕ) (at : ℕ) (stored_chain : StoredChain) (upto : ℕ) : Type 0 where
+-- the chain at a place of those reached, and the chains that its first edges lead to are marked
+pub record IsVisit (slots : List (Option StoredChain)) (order : List ℕ) (from : ℕ) (seen : List Bool) (reached : List ℕ) (at : ℕ) (edges : List Edge) (upto : ℕ) : Type 0 where
   pub search : IsSearch slots order from seen reached at
   pub stands : at < length reached
-  pub here : stored_at slots (get_or reached at 0) ≡ stored_chain
-  pub passed : AreMarked stored_chain.entries upto seen
+  pub here : AreEdges (stored_at slots (get_or reached at 0)).entries edges
+  pub passed : (i : ℕ) → i < upto → IsSeen seen (get_or (ends edges) i 0)
 
 pub at_key : (slots : List (Option StoredChain)) (order : List ℕ) (from : ℕ) (seen : List Bool) (reached : List ℕ) (at : ℕ) → IsSearch slots order from seen reached at → at < length reached → IsIn order (get_or reached at 0)
 at_key slots order from seen reached at s lt = s.marked.known (get_or reached at 0) (at, lt, refl)
@@ -155,38 +157,44 @@ at_there ps slots order from key seen reached at h s lt is =
     let i = at_key slots order from seen reached at s lt in
     subst P (i.2 ∙ sym is) (h.present i.0 i.1)
 
--- a rule of it
-entry_own : (stored_chain : StoredChain) (upto : ℕ) (e : Entry) → upto < length stored_chain.entries → e ≡ get_or stored_chain.entries upto e → Contains stored_chain.entries e
-entry_own stored_chain upto e lt is = (upto, lt, sym is)
+pub visit_first : (slots : List (Option StoredChain)) (order : List ℕ) (from key : ℕ) (seen : List Bool) (reached : List ℕ) (at : ℕ) (stored_chain : StoredChain) (edges : List Edge) → IsSearch slots order from seen reached at → at < length reached → key ≡ get_or reached at 0
+    → slot_at slots key ≡ Some stored_chain → AreEdges stored_chain.entries edges → IsVisit slots order from seen reached at edges 0
+visit_first slots order from key seen reached at stored_chain edges s lt is slot own =
+    let P : StoredChain → Type 0 = λ (r : StoredChain). AreEdges r.entries edges in
+    record {
+      search = s;
+      stands = lt;
+      here = subst P (sym (ap (stored_at slots) (sym is) ∙ ap (λ (o : Option StoredChain). unwrap_or o blank) slot)) own;
+      passed = λ i below. absurd (omega (arith, below));
+    }
 
-own_entry : (slots : List (Option StoredChain)) (order : List ℕ) (from : ℕ) (seen : List Bool) (reached : List ℕ) (at : ℕ) (stored_chain : StoredChain) (upto : ℕ) (e : Entry) → IsVisit slots order from seen reached at stored_chain upto → Contains stored_chain.entries e
-    → Contains (stored_at slots (get_or reached at 0)).entries e
-own_entry slots order from seen reached at stored_chain upto e v own = let P : StoredChain → Type 0 = λ (r : StoredChain). Contains r.entries e in subst P (sym v.here) own
+-- a rule that makes an edge
+edge_rule : (slots : List (Option StoredChain)) (order : List ℕ) (from : ℕ) (seen : List Bool) (reached : List ℕ) (at : ℕ) (edges : List Edge) (upto k : ℕ) → IsVisit slots order from seen reached at edges upto → upto < length edges → get_or (ends edges) upto 0 ≡ k
+    → (e : Entry) × Contains (stored_at slots (get_or reached at 0)).entries e × (key_in e.flow ≡ Some k)
+edge_rule slots order from seen reached at edges upto k v lt is =
+    let r = edge_led (stored_at slots (get_or reached at 0)).entries edges upto v.here lt in
+    (r.0, r.1, r.2 ∙ ap Some is)
 
-pub link_in : (ps : List Policy) (slots : List (Option StoredChain)) (order : List ℕ) (from : ℕ) (seen : List Bool) (reached : List ℕ) (at : ℕ) (stored_chain : StoredChain) (upto k : ℕ) (e : Entry) → IsStored ps slots order → IsVisit slots order from seen reached at stored_chain upto
-    → upto < length stored_chain.entries → e ≡ get_or stored_chain.entries upto e → key_in e.flow ≡ Some k → IsIn order k
-link_in ps slots order from seen reached at stored_chain upto k e h v lt is link =
-    let own = own_entry slots order from seen reached at stored_chain upto e v (entry_own stored_chain upto e lt is) in
-    let u = link_user slots order e k (linked_under ps slots order (get_or reached at 0) e h (at_key slots order from seen reached at v.search v.stands) own) link in
+pub link_in : (ps : List Policy) (slots : List (Option StoredChain)) (order : List ℕ) (from : ℕ) (seen : List Bool) (reached : List ℕ) (at : ℕ) (edges : List Edge) (upto k : ℕ) → IsStored ps slots order → IsVisit slots order from seen reached at edges upto
+    → upto < length edges → get_or (ends edges) upto 0 ≡ k → IsIn order k
+link_in ps slots order from seen reached at edges upto k h v lt is =
+    let r = edge_rule slots order from seen reached at edges upto k v lt is in
+    let u = link_user slots order r.0 k (linked_under ps slots order (get_or reached at 0) r.0 h (at_key slots order from seen reached at v.search v.stands) r.1) r.2 in
     (u.0, u.2, u.3)
 
-pub link_within : (ps : List Policy) (slots : List (Option StoredChain)) (order : List ℕ) (from : ℕ) (seen : List Bool) (reached : List ℕ) (at : ℕ) (stored_chain : StoredChain) (upto : ℕ) (e : Entry) (link : Option ℕ) → IsStored ps slots order → IsVisit slots order from seen reached at stored_chain upto
-    → upto < length stored_chain.entries → e ≡ get_or stored_chain.entries upto e → link ≡ key_in e.flow → IfSome link (λ k. k < length seen)
-link_within ps slots order from seen reached at stored_chain upto e link h v lt is q =
-    if_some link _ (λ k some. v.search.marked.within k (link_in ps slots order from seen reached at stored_chain upto k e h v lt is (sym q ∙ some)))
+pub link_within : (ps : List Policy) (slots : List (Option StoredChain)) (order : List ℕ) (from : ℕ) (seen : List Bool) (reached : List ℕ) (at : ℕ) (edges : List Edge) (upto k : ℕ) → IsStored ps slots order → IsVisit slots order from seen reached at edges upto
+    → upto < length edges → get_or (ends edges) upto 0 ≡ k → k < length seen
+link_within ps slots order from seen reached at edges upto k h v lt is = v.search.marked.within k (link_in ps slots order from seen reached at edges upto k h v lt is)
 
-pub link_room : (ps : List Policy) (slots : List (Option StoredChain)) (order : List ℕ) (from : ℕ) (seen : List Bool) (reached : List ℕ) (at : ℕ) (stored_chain : StoredChain) (upto : ℕ) (e : Entry) (link : Option ℕ) → IsStored ps slots order → IsVisit slots order from seen reached at stored_chain upto
-    → upto < length stored_chain.entries → e ≡ get_or stored_chain.entries upto e → link ≡ key_in e.flow → IfSome link (λ k. get_or seen k false ≡ false → length reached < 1027)
-link_room ps slots order from seen reached at stored_chain upto e link h v lt is q =
-    if_some link _ (λ k some new. room_for ps slots order seen reached k h v.search.marked (link_in ps slots order from seen reached at stored_chain upto k e h v lt is (sym q ∙ some)) new)
+pub link_room : (ps : List Policy) (slots : List (Option StoredChain)) (order : List ℕ) (from : ℕ) (seen : List Bool) (reached : List ℕ) (at : ℕ) (edges : List Edge) (upto k : ℕ) → IsStored ps slots order → IsVisit slots order from seen reached at edges upto
+    → upto < length edges → get_or (ends edges) upto 0 ≡ k → get_or seen k false ≡ false → length reached < 1027
+link_room ps slots order from seen reached at edges upto k h v lt is new = room_for ps slots order seen reached k h v.search.marked (link_in ps slots order from seen reached at edges upto k h v lt is) new
 
-one_more : (es : List Entry) (i : ℕ) (e : Entry) (seen : List Bool) → e ≡ get_or es i e → AreMarked es i seen → ((k : ℕ) → key_in e.flow ≡ Some k → IsSeen seen k) → i < length es → AreMarked es (i + 1) seen
-one_more es i e seen is below here lt m x k b own link =
-    elim (cases_eq m i) [
-      | inl same ↦ (
-          let q : e ≡ x = is ∙ get_or_default es i e x lt ∙ ap (λ (j : ℕ). get_or es j x) (sym same) ∙ own in
-          here k (ap (λ (y : Entry). key_in y.flow) q ∙ link))
-      | inr ne ↦ below m x k (omega (arith, b, ne)) own link
+one_more : (edges : List Edge) (upto k : ℕ) (seen : List Bool) → get_or (ends edges) upto 0 ≡ k → ((i : ℕ) → i < upto → IsSeen seen (get_or (ends edges) i 0)) → IsSeen seen k → (i : ℕ) → i < upto + 1 → IsSeen seen (get_or (ends edges) i 0)
+one_more edges upto k seen is below here i lt =
+    elim (cases_eq i upto) [
+      | inl same ↦ (let P : ℕ → Type 0 = λ x. IsSeen seen x in subst P (sym (ap (λ (n : ℕ). get_or (ends edges) n 0) same ∙ is)) here)
+      | inr ne ↦ below i (omega (arith, lt, ne))
     ]
 
 -- the chain of a rule is reached, if it is new
@@ -196,52 +204,64 @@ reach slots order from seen reached at k s lt there path new =
     let within : k < length seen = s.marked.within k there in
     let left : (i : ℕ) → i < length reached → get_or reached i 0 ≡ get_or (reached ++ k ∷ []) i 0 = λ i le. sym (get_or_append_left reached (k ∷ []) 0 i le) in
     let P : ℕ → Type 0 = λ x. Leads (listed slots order) (stored_at slots from).name (stored_at slots x).name in
-    let Q : ℕ → Type 0 = λ x. AreMarked (stored_at slots x).entries (length (stored_at slots x).entries) (set seen k true) in
+    let Q : ℕ → Type 0 = λ x. AreMarked (stored_at slots x).entries (set seen k true) in
     record {
       marked = marked_more order seen reached k s.marked there new;
       some = omega (arith, length_push reached k);
       first = sym (left 0 s.some) ∙ s.first;
       led = λ j i. elim (in_push_cases reached k j i) [ inl was ↦ s.led j was | inr e ↦ subst P (sym e) path ];
-      visited = λ i le. subst Q (left i (omega (arith, le, lt))) (λ m e x below own link. seen_more seen k x within (s.visited i le m e x below own link));
+      visited = λ i le. subst Q (left i (omega (arith, le, lt))) (λ e x own link. seen_more seen k x within (s.visited i le e x own link));
     }
 
-pub visit_next : (ps : List Policy) (slots : List (Option StoredChain)) (order : List ℕ) (from : ℕ) (seen : List Bool) (reached : List ℕ) (at : ℕ) (stored_chain : StoredChain) (upto : ℕ) (e : Entry) (link : Option ℕ) (seen' : List Bool) (reached' : List ℕ) → IsStored ps slots order
-    → IsVisit slots order from seen reached at stored_chain upto → upto < length stored_chain.entries → e ≡ get_or stored_chain.entries upto e → link ≡ key_in e.flow → Marks link seen reached seen' reached' → IsVisit slots order from seen' reached' at stored_chain (upto + 1)
-visit_next ps slots order from seen reached at stored_chain upto e link seen' reached' h v lt is q (inl m) =
-    let P : List Bool → Type 0 = λ xs. IsVisit slots order from xs reached' at stored_chain (upto + 1) in
-    let Q : List ℕ → Type 0 = λ xs. IsVisit slots order from seen xs at stored_chain (upto + 1) in
-    subst P (sym m.1) (subst Q (sym m.2) (record {
-      search = v.search;
-      stands = v.stands;
-      here = v.here;
-      passed = one_more stored_chain.entries upto e seen is v.passed (λ k some. m.0 k (q ∙ some)) lt;
-    }))
-visit_next ps slots order from seen reached at stored_chain upto e link seen' reached' h v lt is q (inr m) =
-    let k : ℕ = m.0 in
-    let P : List Bool → Type 0 = λ xs. IsVisit slots order from xs reached' at stored_chain (upto + 1) in
-    let Q : List ℕ → Type 0 = λ xs. IsVisit slots order from (set seen k true) xs at stored_chain (upto + 1) in
-    let there : IsIn order k = link_in ps slots order from seen reached at stored_chain upto k e h v lt is (sym q ∙ m.1) in
+pub visit_next : (ps : List Policy) (slots : List (Option StoredChain)) (order : List ℕ) (from : ℕ) (seen : List Bool) (reached : List ℕ) (at : ℕ) (edges : List Edge) (upto k : ℕ) (seen' : List Bool) (reached' : List ℕ) → IsStored ps slots order
+    → IsVisit slots order from seen reached at edges upto → upto < length edges → get_or (ends edges) upto 0 ≡ k → Marks k seen reached seen' reached' → IsVisit slots order from seen' reached' at edges (upto + 1)
+visit_next ps slots order from seen reached at edges upto k seen' reached' h v lt is (inl m) =
+    let P : List Bool → Type 0 = λ xs. IsVisit slots order from xs reached' at edges (upto + 1) in
+    let Q : List ℕ → Type 0 = λ xs. IsVisit slots order from seen xs at edges (upto + 1) in
+    subst P (sym m.1) (subst Q (sym m.2) (record { search = v.search; stands = v.stands; here = v.here; passed = one_more edges upto k seen is v.passed m.0 }))
+visit_next ps slots order from seen reached at edges upto k seen' reached' h v lt is (inr m) =
+    let P : List Bool → Type 0 = λ xs. IsVisit slots order from xs reached' at edges (upto + 1) in
+    let Q : List ℕ → Type 0 = λ xs. IsVisit slots order from (set seen k true) xs at edges (upto + 1) in
+    let R : ℕ → Type 0 = λ x. AreEdges (stored_at slots x).entries edges in
+    let there : IsIn order k = link_in ps slots order from seen reached at edges upto k h v lt is in
     let within : k < length seen = v.search.marked.within k there in
-    let own = own_entry slots order from seen reached at stored_chain upto e v (entry_own stored_chain upto e lt is) in
+    let r = edge_rule slots order from seen reached at edges upto k v lt is in
     let here : IsIn order (get_or reached at 0) = at_key slots order from seen reached at v.search v.stands in
     let way = v.search.led (get_or reached at 0) (at, v.stands, refl) in
-    let path = path_then (listed slots order) way.0 (stored_at slots from).name (stored_at slots (get_or reached at 0)).name (stored_at slots k).name way.1 (edge ps slots order (get_or reached at 0) k e h here own (sym q ∙ m.1)) in
-    subst P (sym m.3) (subst Q (sym m.4) (record {
-      search = reach slots order from seen reached at k v.search v.stands there path m.2;
+    let path = path_then (listed slots order) way.0 (stored_at slots from).name (stored_at slots (get_or reached at 0)).name (stored_at slots k).name way.1 (edge ps slots order (get_or reached at 0) k r.0 h here r.1 r.2) in
+    subst P (sym m.1) (subst Q (sym m.2) (record {
+      search = reach slots order from seen reached at k v.search v.stands there path m.0;
       stands = omega (arith, v.stands, length_push reached k);
-      here = ap (stored_at slots) (get_or_append_left reached (k ∷ []) 0 at v.stands) ∙ v.here;
-      passed = one_more stored_chain.entries upto e (set seen k true) is (λ i x j below mine to. seen_more seen k j within (v.passed i x j below mine to))
-          (λ j some. let P : ℕ → Type 0 = λ x. IsSeen (set seen k true) x in subst P (same_Some _ _ (sym m.1 ∙ q ∙ some)) (seen_same seen k within)) lt;
+      here = subst R (sym (get_or_append_left reached (k ∷ []) 0 at v.stands)) v.here;
+      passed = one_more edges upto k (set seen k true) is (λ i below. seen_more seen k (get_or (ends edges) i 0) within (v.passed i below)) (seen_same seen k within);
     }))
+
+-- all its edges were gone along
+pub visit_over : (slots : List (Option StoredChain)) (order : List ℕ) (from : ℕ) (seen : List Bool) (reached : List ℕ) (at : ℕ) (edges : List Edge) (upto : ℕ) → IsVisit slots order from seen reached at edges upto → length edges ≤ upto → IsSearch slots order from seen reached (at + 1)
+visit_over slots order from seen reached at edges upto v over =
+    let es : List Entry = (stored_at slots (get_or reached at 0)).entries in
+    let own : AreMarked es seen = λ e k there is.
+    (let r = led_edge es edges e k v.here there is in
+    let P : ℕ → Type 0 = λ x. IsSeen seen x in
+    subst P r.2 (v.passed r.0 (omega (arith, r.1, over)))) in
+    let Q : ℕ → Type 0 = λ x. AreMarked (stored_at slots x).entries seen in
+    record {
+      marked = v.search.marked;
+      some = v.search.some;
+      first = v.search.first;
+      led = v.search.led;
+      visited = λ i lt. elim (cases_eq i at) [
+        | inl same ↦ subst Q (ap (λ (n : ℕ). get_or reached n 0) (sym same)) own
+        | inr ne ↦ v.search.visited i (omega (arith, lt, ne))
+      ];
+    }
 
 -- The whole search
 
-pub search_first : (ps : List Policy) (slots : List (Option StoredChain)) (order : List ℕ) (from : ℕ) (seen : List Bool) (none : List ℕ) (link : Option ℕ) (seen' : List Bool) (reached' : List ℕ) → IsStored ps slots order → IsIn order from → IsUnmarked order seen → none ≡ [] → link ≡ Some from
-    → Marks link seen none seen' reached' → IsSearch slots order from seen' reached' 0
-search_first ps slots order from seen none link seen' reached' h at u empty is (inl m) = absurd (false≢true (sym (u.clear from) ∙ m.0 from is))
-search_first ps slots order from seen none link seen' reached' h at u empty is (inr m) =
-    let k : ℕ = m.0 in
-    let same : k ≡ from = same_Some _ _ (sym m.1 ∙ is) in
+pub search_first : (ps : List Policy) (slots : List (Option StoredChain)) (order : List ℕ) (from : ℕ) (seen : List Bool) (none : List ℕ) (seen' : List Bool) (reached' : List ℕ) → IsStored ps slots order → IsIn order from → IsUnmarked order seen → none ≡ []
+    → Marks from seen none seen' reached' → IsSearch slots order from seen' reached' 0
+search_first ps slots order from seen none seen' reached' h at u empty (inl m) = absurd (false≢true (sym (u.clear from) ∙ m.0))
+search_first ps slots order from seen none seen' reached' h at u empty (inr m) =
     let P : List Bool → Type 0 = λ xs. IsSearch slots order from xs reached' 0 in
     let Q : List ℕ → Type 0 = λ xs. IsSearch slots order from (set seen from true) xs 0 in
     let bare : IsMarked order seen [] = record {
@@ -252,7 +272,7 @@ search_first ps slots order from seen none link seen' reached' h at u empty is (
       apart = λ i j li lj e. absurd (omega (arith, li));
     } in
     let only : (j : ℕ) → IsIn (from ∷ []) j → j ≡ from = λ j i. elim (in_push_cases [] from j i) [ inl z ↦ absurd (omega (arith, z.1)) | inr e ↦ e ] in
-    subst P (sym (m.3 ∙ ap (λ (x : ℕ). set seen x true) same)) (subst Q (sym (m.4 ∙ ap (λ (xs : List ℕ). xs ++ k ∷ []) empty ∙ ap (λ (x : ℕ). x ∷ []) same)) (record {
+    subst P (sym m.1) (subst Q (sym (m.2 ∙ ap (λ (xs : List ℕ). xs ++ from ∷ []) empty)) (record {
       marked = marked_more order seen [] from bare at (u.clear from);
       some = omega arith;
       first = refl;
@@ -266,9 +286,9 @@ closed : (ps : List Policy) (slots : List (Option StoredChain)) (order : List �
 closed ps slots order from seen reached at h s le zero k b i p = (k, i, p)
 closed ps slots order from seen reached at h s le (suc n) k b i p =
     let f = link_key ps slots order k p.0 h (s.marked.known k i) p.1 in
-    let Q : ℕ → Type 0 = λ x. AreMarked (stored_at slots x).entries (length (stored_at slots x).entries) seen in
-    let all : AreMarked (stored_at slots k).entries (length (stored_at slots k).entries) seen = subst Q i.2 (s.visited i.0 (omega (arith, i.1, le))) in
-    let next : IsSeen seen f.2.0 = all f.1.0 f.0 f.2.0 f.1.1 f.1.2 f.2.1 in
+    let Q : ℕ → Type 0 = λ x. AreMarked (stored_at slots x).entries seen in
+    let all : AreMarked (stored_at slots k).entries seen = subst Q i.2 (s.visited i.0 (omega (arith, i.1, le))) in
+    let next : IsSeen seen f.2.0 = all f.0 f.2.0 f.1 f.2.1 in
     let P : List ℕ → Type 0 = λ x. Path (listed slots order) n x b in
     closed ps slots order from seen reached at h s le n f.2.0 b (s.marked.only f.2.0 next) (subst P (sym f.2.2) p.2)
 

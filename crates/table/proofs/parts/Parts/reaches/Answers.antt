@@ -1,4 +1,4 @@
-use Rattle.std.proofs.Common.{◌≡◌, ◌≤◌, ◌∙◌, ◌<◌, Bool, List, length, false, get_or, sym, refl, arith}
+use Rattle.std.proofs.Common.{◌≡◌, ◌≤◌, ◌∙◌, ◌<◌, Bool, List, length, false, get_or, sym, arith}
 use Rattle.std.proofs.lemmas.Bool.{false≢true}
 use Rattle.std.proofs.lemmas.List.{get_or_default}
 use Rattle.table.proofs.laws.search.SearchLaws.{search_first, search_found}
@@ -10,8 +10,8 @@ mark-requires-clause-within c = c.requires.clear.within c.args.from c.requires.f
 
 pub loop-at-init : goal.loop-at-init
 loop-at-init c =
-    search_first c.args.self.now.policies c.args.self.now.chains.slots c.args.self.now.order.items c.args.from c.args.seen.now.items c.new-reached.result.items _ c.mark.new.seen.items c.mark.new.reached.items
-    c.requires.kept c.requires.from c.requires.clear c.new-reached.ensures refl c.mark.ensures
+    search_first c.args.self.now.policies c.args.self.now.chains.slots c.args.self.now.order.items c.args.from c.args.seen.now.items c.new-reached.result.items c.mark.new.seen.items c.mark.new.reached.items
+    c.requires.kept c.requires.from c.requires.clear c.new-reached.ensures c.mark.ensures
 
 pub index-requires : goal.index-requires
 index-requires c = omega (arith, c.loop-at.invariant.marked.within c.args.goal c.requires.goal, c.loop-at.seen.ok)

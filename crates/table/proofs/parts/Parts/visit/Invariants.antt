@@ -4,4 +4,4 @@ use Rattle.table.proofs.parts.Parts.visit.Given as goal
 
 abbrev pub invariant-loop-place : goal.invariant-loop-place
 invariant-loop-place l =
-    IsVisit l.self.chains.slots l.self.order.items (get_or l.fn.reached.items 0 0) l.seen.items l.reached.items l.at l.chain l.place
+    IsVisit l.self.chains.slots l.self.order.items (get_or l.fn.reached.items 0 0) l.seen.items l.reached.items l.at l.edges l.place
