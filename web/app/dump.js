@@ -26,6 +26,9 @@ export function hintsOf(text) {
   if (other !== null) hints.push(other);
   const returns = lines.filter((line) => line.endsWith("\r")).length;
   if (returns > 0) hints.push({ kind: "returns", text: "Lines of this file end with carriage returns, which are no blanks: remove them." });
+  if (text.includes("\uFFFD")) {
+    hints.push({ kind: "bytes", text: "Bytes of this file aren't UTF-8. They stand as \uFFFD here, and a text that you edit keeps that in their place." });
+  }
   for (const line of lines.filter((each) => FIT_LINE.test(each))) {
     const done = line.replace(/^# iptsim-fit: (for trials; )?/, "").trim();
     hints.push({ kind: "fit", text: `iptsim-fit wrote this dump for trials, and never for a gateway: ${done}.` });

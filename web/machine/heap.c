@@ -1,4 +1,4 @@
-// The heap of a program in the page: what malloc, realloc and free are to the same program on Linux. Not proved; bin/lib/paging/trials
+// The heap of a program in the page: what malloc, realloc and free are to the same program on Linux. Not proved; web/trials
 // tries it beside a model.
 //
 // Memory grows by pages as it is taken. A block has a header of 16 bytes, with the number of its size, and then 16, 32, 48 or 64 bytes,

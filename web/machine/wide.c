@@ -1,5 +1,5 @@
 // Numbers of 128 bits, for which WebAssembly has no instructions: the compiler calls these functions by their names. Not proved;
-// bin/lib/paging/trials compares them with the processor's own.
+// web/trials compares them with BigInt.
 
 typedef unsigned long long u64;
 typedef unsigned __int128 u128;

@@ -58,6 +58,7 @@ test("dumps", () => {
   assert.deepEqual(hintsOf("# iptsim-fit: for trials; assumed limit=true\r\n*nat\r\nCOMMIT\r\n").map((hint) => hint.kind),
     ["returns", "fit", "filter"]);
   assert.deepEqual(hintsOf("*filter\nCOMMIT\n"), []);
+  assert.deepEqual(hintsOf("*filter\n# \uFFFD\nCOMMIT\n").map((hint) => hint.kind), ["bytes"]);
 });
 
 test("conditions that are fixed, in a comparison and in another ruleset", () => {
