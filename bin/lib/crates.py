@@ -5,11 +5,16 @@ import os
 FOLDERS = ("src", "specs", "proofs")
 
 
-def crates_of(top, made):
-    """The crate of a program, and those of the repository on which it stands, by crates.txt."""
+def uses_of(top):
+    """What each crate of the repository stands on, by crates.txt."""
     with open(os.path.join(top, "crates.txt"), encoding="utf-8") as file:
         rows = [line.partition("#")[0].partition(":") for line in file]
-    uses = {crate.split()[0]: below.split() for crate, colon, below in rows if colon}
+    return {crate.split()[0]: below.split() for crate, colon, below in rows if colon}
+
+
+def crates_of(top, made):
+    """The crate of a program, and those of the repository on which it stands."""
+    uses = uses_of(top)
     found, left = set(), [made]
     while left:
         crate = left.pop()

@@ -102,21 +102,30 @@ def ask(name, path):
                       f" answers\n{output}where this is due:\n{known.output.rstrip()}")
 
 
-def with_commit(name, data, version):
-    """The program's bytes with the commit in its place, after it was asked for its version."""
+def told(version):
+    """What a program prints as its version, after its name."""
+    return f"{version.number} ({version.commit[:len(UNRELEASED)] if version.commit else UNRELEASED})"
+
+
+def with_version(name, data, version):
+    """The program's bytes with the commit in its place."""
     place = f"{version.number} ({UNRELEASED})".encode()
     if data.count(place) != 1:
         raise Failure(f"the program {name} has the text '{place.decode()}' in {data.count(place)} places, and not in one")
-    told = f"{version.number} ({version.commit[:len(UNRELEASED)]})"
-    data = data.replace(place, told.encode())
+    return data.replace(place, told(version).encode())
+
+
+def with_commit(name, data, version):
+    """The program's bytes with the commit in its place, after it was asked for its version."""
+    data = with_version(name, data, version)
     with tempfile.TemporaryDirectory() as work:
         path = os.path.join(work, name)
         with open(path, "wb") as file:
             file.write(data)
         os.chmod(path, 0o755)
         said = answer(name, path, ["--version"], "")
-    if said != (0, f"{name} {told}\n"):
-        raise Failure(f"the program {name} doesn't print '{name} {told}' as its version: {said[1].rstrip()}")
+    if said != (0, f"{name} {told(version)}\n"):
+        raise Failure(f"the program {name} doesn't print '{name} {told(version)}' as its version: {said[1].rstrip()}")
     return data
 
 

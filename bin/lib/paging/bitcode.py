@@ -8,7 +8,7 @@ proved and built before, so the module is that program's.
 import os
 import stat
 
-from crates import crates_of
+from crates import crates_of, uses_of
 from paging import Failure
 from paging.kit import call
 
@@ -40,15 +40,13 @@ def keeping_toolchain(kit, folder):
 
 def libraries(root, kit, name):
     """The words that name the libraries on which a program stands."""
-    with open(os.path.join(root, "crates.txt"), encoding="utf-8") as file:
-        rows = [line.partition("#")[0].partition(":") for line in file]
-    (direct,) = [below.split() for crate, _, below in rows if crate.split()[:1] == [name]]
     words = ["-L", f"dependency={kit.part('rlibs')}", "--extern", f"std={kit.part('rlibs', 'std.rlib')}"]
     for crate in sorted(crates_of(root, name) - {name}):
         words += ["-L", f"dependency={os.path.join(root, 'crates', crate, 'out', 'rlib')}"]
-    for crate in direct:
+    uses = uses_of(root)
+    for crate in uses[name]:
         own = os.path.join(root, "crates", crate, "out", "rlib", f"{crate}.rlib")
-        words += ["--extern", f"{crate}={own if os.path.isdir(os.path.join(root, 'crates', crate)) else kit.part('rlibs', f'{crate}.rlib')}"]
+        words += ["--extern", f"{crate}={own if crate in uses else kit.part('rlibs', f'{crate}.rlib')}"]
     return words
 
 

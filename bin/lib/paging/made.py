@@ -7,7 +7,7 @@ import os
 import sys
 import tempfile
 
-from packing.programs import PROGRAMS, UNRELEASED, find_program
+from packing.programs import PROGRAMS, find_program, told, with_version
 from paging import Failure
 from paging.bitcode import bitcode
 from paging.document import page, read
@@ -76,19 +76,6 @@ class Maker:
                 return file.read()
 
 
-def with_commit(name, data, version):
-    """The program's bytes with the commit in its place, as a release has it."""
-    place = f"{version.number} ({UNRELEASED})".encode()
-    if data.count(place) != 1:
-        raise Failure(f"the program {name} has its version in {data.count(place)} places, and not in one")
-    return data.replace(place, told(version).encode())
-
-
-def told(version):
-    """What the programs print as their version."""
-    return f"{version.number} ({version.commit[:len(UNRELEASED)] if version.commit else UNRELEASED})"
-
-
 def make_page(root, version, worker=None, sources=None):
     """The page. `worker` is the text of its Worker, and `sources` a folder, where others than those of web are to be tried."""
     maker, web = Maker(root), os.path.join(root, "web")
@@ -96,5 +83,5 @@ def make_page(root, version, worker=None, sources=None):
         fcntl.flock(lock, fcntl.LOCK_EX)
         with concurrent.futures.ThreadPoolExecutor(len(PROGRAMS)) as pool:
             made = list(pool.map(lambda name: maker.wasm(name, sources or maker.machine), PROGRAMS))
-    programs = {name: with_commit(name, data, version) for name, data in zip(PROGRAMS, made)}
+    programs = {name: with_version(name, data, version) for name, data in zip(PROGRAMS, made)}
     return page(web, programs, worker or read(os.path.join(web, "worker.js")), told(version))
