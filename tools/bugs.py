@@ -47,7 +47,7 @@ KEPT = [
         """                self.rows.remove(k + 1);
                 self.rows.remove(k + 1);""",
         """                self.rows.remove(k + 1);""", "faults", "a table with all kinds"),
-    Bug("keeps-words-of-a-row", "the words of the first of two rows stay where those of the second are refused", "bits/src/rows.rt",
+    Bug("keeps-words-of-a-row", "the words of the first of two rows stay where those of the second are refused", "bits/src/each_row.rt",
         """            words.truncate(before);
             Err(refused)""",
         """            Err(refused)""", "faults", "cuts the piece of the one before"),
@@ -83,11 +83,12 @@ KEPT = [
         """        count_out(&mut self.chains, before);
         self.chains[key].replace(self.alloc, at, entry, work)?;
         count_in(&mut self.chains, link);""", "faults", "a table with all kinds"),
-    Bug("slot-before-words", "a row has a slot before its words are there", "bits/src/rows.rt",
-        """        self.words.extend_from_within(start..start + self.width)?;
-        let _ = insert_at(&mut self.slots, row + 1, slot);""",
-        """        let _ = insert_at(&mut self.slots, row + 1, slot);
-        self.words.extend_from_within(start..start + self.width)?;""", "faults", "classifiers.cases: two rules"),
+    Bug("words-without-a-slot", "the words of a row stay where its slot is refused", "bits/src/rows.rt",
+        """            Err(refused) => {
+                self.words.truncate(end);
+                Err(refused)
+            }""",
+        """            Err(refused) => Err(refused),""", "faults", "classifiers.cases: two rules"),
     Bug("wider-before-words", "rows count as wider before their words are there", "bits/src/rows.rt",
         """        self.words = widen(&self.words, count, self.width, wider, alloc)?;
         self.width = wider;""",
@@ -111,11 +112,11 @@ UNTOLD = [
         };""",
         """        let _ = search::reserve_mark(&mut self.seen, key);""", "faults", "names that a chain may have"),
     Bug("step-untold", "a step of a walk is left out", "table/src/walk/trail.rt",
-        "            steps.push(self.step_before(at))?;",
-        "            let _ = steps.push(self.step_before(at));", "faults", "a jump comes back"),
+        "            steps.push(self.step_before(hook, at))?;",
+        "            let _ = steps.push(self.step_before(hook, at));", "faults", "a jump comes back"),
     Bug("walk-in-part", "a walk ends where its next step is refused memory, and is printed so far", "table/src/walk/trail.rt",
-        "            steps.push(self.step_before(at))?;",
-        """            if steps.push(self.step_before(at)).is_err() {
+        "            steps.push(self.step_before(hook, at))?;",
+        """            if steps.push(self.step_before(hook, at)).is_err() {
                 return Ok(Some(Trail::undecided(steps, policy)));
             }""", "faults", "a jump comes back"),
     Bug("condition-untold", "a condition doesn't narrow its field", "rules/src/boxing/boxed.rt",

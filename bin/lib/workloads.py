@@ -6,6 +6,8 @@
 - mixed: as a machine's dump has them: few prefixes, ports and interfaces, each in many rules, and rules that ask for little;
 - both, which `bin/costs` leaves out: each rule asks for two ports of its own, as the source port or the destination port.
 
+`bin/costs` has other files, too (SHAPES): with `count` rules in INPUT, and in other chains where that is said, they ask most of one thing.
+
 Printed with `-first`, `-last` or `-none` after its name, `distinct` and `both` have the packets of one rule alone, or of none.
 """
 
@@ -136,9 +138,33 @@ def hurting(count):
     return rules
 
 
-def restore(rules):
-    """The file that restores these rules into INPUT."""
-    return "*filter\n:INPUT DROP [0:0]\n:FORWARD ACCEPT [0:0]\n:OUTPUT ACCEPT [0:0]\n" + "".join(f"-A INPUT {rule}\n" for rule in rules) + "COMMIT\n"
+def restore(rules, chains={}):
+    """The file that restores these rules into INPUT, and those of other chains into theirs."""
+    lines = [":INPUT DROP [0:0]", ":FORWARD ACCEPT [0:0]", ":OUTPUT ACCEPT [0:0]", *(f":{chain} - [0:0]" for chain in chains)]
+    lines += [f"-A {chain} {rule}" for chain, own in chains.items() for rule in own] + [f"-A INPUT {rule}" for rule in rules]
+    return "*filter\n" + "".join(line + "\n" for line in lines) + "COMMIT\n"
+
+
+def hosts(count):
+    """So many addresses, no two of them alike, in an order that jumps about."""
+    return [address(0x0B000000 + (place * 2654435761 & 0x3FFFFFFF)) for place in range(count)]
+
+
+def blocked(count):
+    """Twelve chains, each of which drops the packets of so many hosts."""
+    drawn = hosts(12 * count)
+    chains = {f"BLOCK{k}": [f"-s {host} -j DROP" for host in drawn[k::12]] for k in range(12)}
+    return restore([f"-j {chain}" for chain in chains], chains)
+
+
+# Files that ask most of one thing: a name, and the file for a number.
+SHAPES = {
+    "all but a host": lambda count: restore([f"! -s {host} -j ACCEPT" for host in hosts(count)]),
+    "a source or a port": lambda count: restore([f"-p tcp -m tcp --dport {k + 1} -j ACCEPT" if k % 2 else f"-s {host} -j ACCEPT" for k, host in enumerate(hosts(count))]),
+    "jumps to a chain as long": lambda count: restore(["-j LONG"] * count, {"LONG": of_kind("generated", count)[0]}),
+    "12 chains of blocked hosts": blocked,
+    "a quarter, made to hurt": lambda count: restore(hurting(count // 4)),
+}
 
 
 def printed(name, count):

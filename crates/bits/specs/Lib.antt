@@ -1,4 +1,5 @@
 pub mod BitRow
 pub mod MarginRows
 pub mod Rows
+pub mod TurnedRows
 pub mod steps

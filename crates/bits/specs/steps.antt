@@ -1,3 +1,5 @@
+pub mod Around
+pub mod Blocks
 pub mod First
 pub mod Held
 pub mod Moves

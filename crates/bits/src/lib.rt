@@ -2,17 +2,23 @@
 #![tactic(auto)]
 
 mod bit_row;
+mod block;
+mod blocks;
+mod each_row;
 mod margin_rows;
 mod moves;
+mod places;
 mod row_move;
 mod rows;
 mod sparse;
 mod summary;
+mod turned_rows;
 mod words;
 
 pub use bit_row::{BitRow, MOST_BITS};
+pub use blocks::Blocks;
 pub use margin_rows::MarginRows;
-pub use moves::{insert_at, insert_pair_at};
 pub use rows::{Rows, TWO_WORDS};
 pub use summary::{is_marked, next_marked};
+pub use turned_rows::{TurnedRows, TurnedWords};
 pub use words::bit_at;

@@ -307,10 +307,10 @@ impl MarginRows {
         Ok(())
     }
 
-    /// Leaves the first row alone, without a bit or a margin. There must be a row.
+    /// Leaves the first two rows alone, without a bit or a margin. There must be two.
     pub fn clear(&mut self)
-        requires { 0 < length self.old.rows }
-        ensures rows { self.new.rows ≡ [] ∷ [] }
+        requires { 1 < length self.old.rows }
+        ensures rows { self.new.rows ≡ [] ∷ [] ∷ [] }
         ensures places { self.new.room.places ≡ self.old.room.places + length (slice_index_or self.old.rows 0 []) }
         ensures before { self.new.room.before ≡ 0 }
     {

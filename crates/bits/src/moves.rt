@@ -7,17 +7,17 @@ ghost use Rattle.bits.specs.steps.Moves.{Raised};
 use std::alloc::AllocError;
 use std::simd::prelude::*;
 
-// Moves the last elements up by so many places, over the last of them, in blocks of 64 as long as they lie from a place on:
+// Moves the last elements up by so many places, over the last of them, in blocks of 16 as long as they lie from a place on:
 // it returns where the first that was moved stands.
 fn raise_blocks(items: &mut [u32], at: usize, by: usize) -> usize
     requires { at + by ≤ length items.old }
     ensures { Raised by at items.old items.new result }
 {
     let mut end = items.len();
-    while end - at >= 64 + by {
-        let block = u32x64::from_slice(&items[end - 64 - by..]);
-        block.copy_to_slice(&mut items[end - 64..]);
-        end -= 64;
+    while end - at >= 16 + by {
+        let block = u32x16::from_slice(&items[end - 16 - by..]);
+        block.copy_to_slice(&mut items[end - 16..]);
+        end -= 16;
     }
     end
 }
@@ -36,12 +36,8 @@ fn raise(items: &mut [u32], at: usize, by: usize)
     }
 }
 
-/// Puts a number in at a place: the later ones move up by one.
-///
-/// # Errors
-///
-/// `AllocError` where memory was refused, never where there is room: the numbers are as before.
-pub fn insert_at(items: &mut Vec<u32>, at: usize, item: u32) -> Result<(), AllocError>
+// Puts a number in at a place: the later ones move up by one. It is refused where memory is, never where there is room.
+pub(crate) fn insert_at(items: &mut Vec<u32>, at: usize, item: u32) -> Result<(), AllocError>
     requires { at ≤ length items.old.items }
     ensures ok { OnOk result (items.new.items ≡ insert items.old.items at item) }
     ensures err { OnErr result (items.new.items ≡ items.old.items) }
@@ -53,12 +49,9 @@ pub fn insert_at(items: &mut Vec<u32>, at: usize, item: u32) -> Result<(), Alloc
     Ok(())
 }
 
-/// Puts two numbers in at a place, the first there and the other after it: the later ones move up by two, in one move.
-///
-/// # Errors
-///
-/// `AllocError` where memory was refused, never where there is room for both: the numbers are as before.
-pub fn insert_pair_at(
+// Puts two numbers in at a place, the first there and the other after it: the later ones move up by two, in one move. They are
+// refused where memory is, never where there is room for both.
+pub(crate) fn insert_pair_at(
     items: &mut Vec<u32>,
     at: usize,
     first: u32,

@@ -2,17 +2,17 @@
 //! that another row is one copy and moves none.
 
 ghost use Rattle.std.specs.Prelude.{◌≡◌, ◌≢◌, ◌<◌, ◌≤◌, ◌+◌, ◌-◌, ◌*◌, ◌^◌, [], ◌∷◌, length, map, insert, remove, slice_set, slice_index_or};
-ghost use Rattle.std.specs.Prelude.{false, true, take, drop, IfOk, OnOk, OnErr, IsOk, IsTrue, ◌↔◌, ◌%◌};
+ghost use Rattle.std.specs.Prelude.{false, take, drop, IfOk, OnOk, OnErr, IsOk, IsTrue, ◌↔◌, ◌%◌};
 ghost use Rattle.std.specs.Prelude.{ℕ, All, replicate, ◌++◌};
 ghost use Rattle.bits.specs.Rows.{two_words};
 ghost use Rattle.bits.specs.steps.Packing.{all_bits, IsPacked};
-ghost use Rattle.bits.specs.steps.Held.{redirected, words_in, EachSlot, Writes};
-ghost use Rattle.bits.specs.steps.RowMoves.{Fits, Makes};
-ghost use Rattle.bits.specs.steps.Summaries.{IsSummaryOf, SumUp};
+ghost use Rattle.bits.specs.steps.Held.{AreApart, AreFirstTwo};
+ghost use Rattle.bits.specs.steps.Summaries.{IsSummaryOf};
 
 use crate::bit_row::MOST_WORDS;
-use crate::moves::{insert_at, insert_pair_at};
-use crate::row_move::{Move, make};
+use crate::blocks::Blocks;
+use crate::each_row::{append_twice, move_all, part, widen, write_all};
+use crate::row_move::Move;
 use crate::sparse::Way;
 use crate::summary::{is_marked, marked};
 use crate::words::{bit_at, same_beside, same_bits, set_bit};
@@ -34,14 +34,6 @@ fn twice(width: usize) -> usize
     2 * width
 }
 
-// So many words from a place on; they are lent.
-fn part(words: &[u64], start: usize, count: usize) -> &[u64]
-    requires { start + count ≤ length words.now }
-    ensures { result.now ≡ take count (drop start words.now) }
-{
-    &words[start..start + count]
-}
-
 // The slot after so many: refused where it is no `u32`.
 fn slot_after(count: usize) -> Result<u32, AllocError>
     ensures slot { IfOk result (λ slot. slot ≡ count) }
@@ -53,122 +45,30 @@ fn slot_after(count: usize) -> Result<u32, AllocError>
     }
 }
 
-// A slot, or another where it is `from`.
-fn redirected(slot: u32, from: u32, to: u32) -> u32
-    ensures { result ≡ redirected from to slot }
+// Leaves the first two slots alone.
+fn keep_two(slots: &mut Blocks)
+    requires { 2 ≤ length slots.old }
+    ensures { slots.new ≡ take 2 slots.old }
 {
-    if slot == from {
-        return to;
-    }
-    slot
-}
-
-// Writes one slot wherever another stands.
-fn redirect(slots: &mut [u32], from: u32, to: u32)
-    ensures { slots.new ≡ map (redirected from to) slots.old }
-{
-    for k in 0..slots.len() {
-        slots[k] = redirected(slots[k], from, to);
+    while slots.len() > 2 {
+        let _slot = slots.remove(slots.len() - 1);
     }
 }
 
-// Makes a move of bits in each row of so many words.
-fn move_all(words: &mut Vec<u64>, summaries: &mut Vec<u64>, width: usize, how: Move)
-    requires fits { Fits how width }
-    requires whole { length words.old.items ≡ length summaries.old.items * width }
-    requires few { width < 2 ^ 58 }
-    requires summed { SumUp width summaries.old.items words.old.items (length summaries.old.items) }
-    ensures len { length words.new.items ≡ length words.old.items }
-    ensures rows { EachSlot (Makes how) width words.old.items words.new.items (length summaries.old.items) }
-    ensures counted { length summaries.new.items ≡ length summaries.old.items }
-    ensures summed { SumUp width summaries.new.items words.new.items (length summaries.old.items) }
+// Makes two slots the first two that there are, in either order.
+fn renumber(slots: &mut Blocks)
+    requires two { length slots.old ≡ 2 }
+    requires apart { AreApart slots.old }
+    ensures { AreFirstTwo slots.new }
 {
-    for slot in 0..summaries.len() {
-        let start = slot * width;
-        let mut summary = summaries[slot];
-        make(words.slice_mut(start..start + width), &mut summary, how);
-        summaries[slot] = summary;
+    let first = slots.get(0);
+    let second = slots.get(1);
+    if second == 0 {
+        slots.redirect(first, 1);
+        return;
     }
-}
-
-// Writes a bit at a place of each row of so many words, as they are lent: so the loop needn't ask a vector where they are.
-fn write_each(words: &mut [u64], summaries: &mut [u64], width: usize, at: usize, bit: bool)
-    requires place { at < 64 * width }
-    requires whole { length words.old ≡ length summaries.old * width }
-    requires summed { SumUp width summaries.old words.old (length summaries.old) }
-    ensures len { length words.new ≡ length words.old }
-    ensures rows { EachSlot (Writes at bit) width words.old words.new (length summaries.old) }
-    ensures counted { length summaries.new ≡ length summaries.old }
-    ensures summed { SumUp width summaries.new words.new (length summaries.old) }
-{
-    for slot in 0..summaries.len() {
-        let place = slot * width + at / 64;
-        let word = words[place];
-        words[place] = set_bit(word, (at % 64) as u32, bit);
-        summaries[slot] = marked(summaries[slot], at / 64, bit);
-    }
-}
-
-// Writes a bit at a place of each row of so many words.
-fn write_all(words: &mut Vec<u64>, summaries: &mut Vec<u64>, width: usize, at: usize, bit: bool)
-    requires place { at < 64 * width }
-    requires whole { length words.old.items ≡ length summaries.old.items * width }
-    requires summed { SumUp width summaries.old.items words.old.items (length summaries.old.items) }
-    ensures len { length words.new.items ≡ length words.old.items }
-    ensures rows { EachSlot (Writes at bit) width words.old.items words.new.items (length summaries.old.items) }
-    ensures counted { length summaries.new.items ≡ length summaries.old.items }
-    ensures summed { SumUp width summaries.new.items words.new.items (length summaries.old.items) }
-{
-    write_each(
-        words.as_mut_slice(),
-        summaries.as_mut_slice(),
-        width,
-        at,
-        bit,
-    );
-}
-
-// The words of so many rows, each with words of zeros after it.
-fn widen(
-    words: &[u64],
-    count: usize,
-    width: usize,
-    wider: usize,
-    alloc: Global,
-) -> Result<Vec<u64>, AllocError>
-    requires whole { length words.now ≡ count * width }
-    requires more { width ≤ wider }
-    requires some { 0 < wider }
-    ensures len { IfOk result (λ wide. length wide.items ≡ count * wider) }
-    ensures rows { IfOk result (λ wide. (slot : ℕ) → slot < count
-        → words_in wider wide.items slot ≡ words_in width words.now slot ++ replicate (wider - width) 0) }
-{
-    let Some(size) = count.checked_mul(wider) else {
-        return Err(AllocError);
-    };
-    let mut wide = Vec::with_capacity(alloc, size)?;
-    for slot in 0..count {
-        wide.extend_from_slice(part(words, slot * width, width))?;
-        wide.resize((slot + 1) * wider, 0)?;
-    }
-    Ok(wide)
-}
-
-// Puts the words of a row after all words, twice.
-fn append_twice(words: &mut Vec<u64>, start: usize, width: usize) -> Result<(), AllocError>
-    requires { start + width ≤ length words.old.items }
-    ensures ok { OnOk result (words.new.items ≡ (words.old.items ++ take width (drop start words.old.items)) ++ take width (drop start words.old.items)) }
-    ensures err { OnErr result (words.new.items ≡ words.old.items) }
-{
-    let before = words.len();
-    words.extend_from_within(start..start + width)?;
-    match words.extend_from_within(start..start + width) {
-        Ok(()) => Ok(()),
-        Err(refused) => {
-            words.truncate(before);
-            Err(refused)
-        }
-    }
+    slots.redirect(first, 0);
+    slots.redirect(second, 1);
 }
 
 /// Rows of equally many bits, in an order: the bit at p is bit p mod 64 of the row's word p div 64. A row's slot is
@@ -179,7 +79,7 @@ fn append_twice(words: &mut Vec<u64>, start: usize, width: usize) -> Result<(), 
 pub struct Rows {
     len: usize,
     width: usize,
-    slots: Vec<u32>,
+    slots: Blocks,
     summaries: Vec<u64>,
     words: Vec<u64>,
 }
@@ -193,12 +93,12 @@ impl Model for Rows {
     ghost Value = { RowsAndRoom };
 
     ghost view = { λ r. record {
-      rows = map (bits_in r.len r.width r.words.items) r.slots.items;
+      rows = map (bits_in r.len r.width r.words.items) r.slots;
       room = 64 * r.width - r.len;
     } };
 
-    ghost invariant = { λ r. AreHeld r.len r.width r.slots.items r.words.items
-        × AreSummaries r.width r.summaries.items r.words.items (length r.slots.items) };
+    ghost invariant = { λ r. AreHeld r.len r.width r.slots r.words.items
+        × AreSummaries r.width r.summaries.items r.words.items (length r.slots) };
 }
 
 impl Rows {
@@ -210,8 +110,7 @@ impl Rows {
     pub fn with_one_row(alloc: Global) -> Result<Rows, AllocError>
         ensures { IfOk result (λ rows. (rows.rows ≡ [] ∷ []) × (rows.room ≡ 0)) }
     {
-        let mut slots = Vec::new(alloc);
-        slots.push(0)?;
+        let slots = Blocks::one(alloc, 0)?;
         let mut summaries = Vec::new(alloc);
         summaries.push(0)?;
         Ok(Rows {
@@ -235,7 +134,7 @@ impl Rows {
         requires { row < length self.now.rows }
         ensures { result ≡ length (slice_index_or self.now.rows row []) }
     {
-        let _slot = self.slots[row];
+        let _row = self.slots.get(row);
         self.len
     }
 
@@ -245,7 +144,7 @@ impl Rows {
         ensures packed { IsPacked result.now (length (slice_index_or self.now.rows row [])) }
         ensures bits { take (length (slice_index_or self.now.rows row [])) (all_bits result.now) ≡ slice_index_or self.now.rows row [] }
     {
-        let start = self.slots[row] as usize * self.width;
+        let start = self.slots.get(row) as usize * self.width;
         part(&self.words, start, self.len.div_ceil(64))
     }
 
@@ -255,7 +154,7 @@ impl Rows {
         ensures { IsSummaryOf result (slice_index_or self.now.rows row []) }
     {
         let _len = self.len;
-        self.summaries[self.slots[row] as usize]
+        self.summaries[self.slots.get(row) as usize]
     }
 
     /// The bit at a place of a row.
@@ -276,7 +175,7 @@ impl Rows {
         ensures room { self.new.room ≡ self.old.room }
     {
         let _len = self.len;
-        let slot = self.slots[row] as usize;
+        let slot = self.slots.get(row) as usize;
         let place = slot * self.width + at / 64;
         let word = self.words[place];
         self.words[place] = set_bit(word, (at % 64) as u32, bit);
@@ -345,17 +244,24 @@ impl Rows {
         ensures room { self.new.room ≡ self.old.room }
     {
         let slot = slot_after(self.slots.len())?;
-        self.slots.reserve(1)?;
         self.summaries.reserve(1)?;
-        let from = self.slots[row] as usize;
+        let from = self.slots.get(row) as usize;
         let start = from * self.width;
+        let end = self.words.len();
         self.words.extend_from_within(start..start + self.width)?;
-        let _ = insert_at(&mut self.slots, row + 1, slot);
-        let _ = self.summaries.push(self.summaries[from]);
-        Ok(())
+        match self.slots.insert(row + 1, slot) {
+            Ok(()) => {
+                let _ = self.summaries.push(self.summaries[from]);
+                Ok(())
+            }
+            Err(refused) => {
+                self.words.truncate(end);
+                Err(refused)
+            }
+        }
     }
 
-    /// Puts two copies of a row after it, by one move of the slots after them.
+    /// Puts two copies of a row after it.
     ///
     /// # Errors
     ///
@@ -370,15 +276,22 @@ impl Rows {
     {
         let slot = slot_after(self.slots.len())?;
         let next = slot_after(self.slots.len() + 1)?;
-        self.slots.reserve(2)?;
         self.summaries.reserve(2)?;
-        let from = self.slots[row] as usize;
+        let from = self.slots.get(row) as usize;
+        let before = self.words.len();
         append_twice(&mut self.words, from * self.width, self.width)?;
-        let _ = insert_pair_at(&mut self.slots, row + 1, next, slot);
-        let summary = self.summaries[from];
-        self.summaries.push_reserved(summary);
-        self.summaries.push_reserved(summary);
-        Ok(())
+        match self.slots.insert_pair(row + 1, next, slot) {
+            Ok(()) => {
+                let summary = self.summaries[from];
+                self.summaries.push_reserved(summary);
+                self.summaries.push_reserved(summary);
+                Ok(())
+            }
+            Err(refused) => {
+                self.words.truncate(before);
+                Err(refused)
+            }
+        }
     }
 
     /// Takes a row out: the row in the last slot moves into its slot.
@@ -396,7 +309,7 @@ impl Rows {
         self.words.truncate(start);
         self.summaries[slot as usize] = self.summaries[last];
         self.summaries.truncate(last);
-        redirect(&mut self.slots, last as u32, slot);
+        self.slots.redirect(last as u32, slot);
     }
 
     /// Puts a 0 into each row at a place: the later bits move up by one. There must be a row, and room for a bit
@@ -508,18 +421,18 @@ impl Rows {
         Ok(())
     }
 
-    /// Leaves the first row alone, without a bit, and its room. There must be a row.
+    /// Leaves the first two rows alone, without a bit, and their room. There must be two.
     pub fn clear(&mut self)
-        requires { 0 < length self.old.rows }
-        ensures rows { self.new.rows ≡ [] ∷ [] }
+        requires { 1 < length self.old.rows }
+        ensures rows { self.new.rows ≡ [] ∷ [] ∷ [] }
         ensures room { self.new.room ≡ self.old.room + length (slice_index_or self.old.rows 0 []) }
     {
         let _len = self.len;
-        self.slots.truncate(1);
-        self.slots[0] = 0;
-        self.summaries.truncate(1);
-        self.summaries[0] = 0;
-        self.words.truncate(self.width);
+        keep_two(&mut self.slots);
+        renumber(&mut self.slots);
+        self.summaries.truncate(2);
+        self.summaries.fill(0);
+        self.words.truncate(2 * self.width);
         self.words.fill(0);
         self.len = 0;
     }
@@ -532,12 +445,15 @@ impl Rows {
     pub fn copy(&self, alloc: Global) -> Result<Rows, AllocError>
         ensures { IfOk result (λ rows. rows ≡ self.now) }
     {
+        let slots = self.slots.copy(alloc)?;
+        let summaries = Vec::from_slice(alloc, &self.summaries)?;
+        let words = Vec::from_slice(alloc, &self.words)?;
         Ok(Rows {
             len: self.len,
             width: self.width,
-            slots: Vec::from_slice(alloc, &self.slots)?,
-            summaries: Vec::from_slice(alloc, &self.summaries)?,
-            words: Vec::from_slice(alloc, &self.words)?,
+            slots,
+            summaries,
+            words,
         })
     }
 }

@@ -1,4 +1,3 @@
-pub mod Around
 pub mod CommonPlaces
 pub mod Cuts
 pub mod Edits
@@ -8,3 +7,4 @@ pub mod Pieces
 pub mod Runs
 pub mod Starts
 pub mod Summaries
+pub mod Whole

@@ -10,7 +10,6 @@ ghost use Rattle.rules.specs.rule.Rules.{Rule};
 ghost use Rattle.classify.specs.search.NextMatch.{next_match};
 
 use crate::classifier::candidates::Candidates;
-use crate::classifier::point::PointRows;
 use crate::line::owned::OwnedLine;
 use crate::line::view::Line;
 use bits::MOST_BITS;
@@ -23,7 +22,7 @@ use std::marker::Model;
 pub(crate) mod candidates;
 pub(crate) mod lines;
 pub(crate) mod of_rules;
-pub(crate) mod point;
+pub(crate) mod whole;
 
 /// The classifier of a list of boxes: on each field the line of their answers, and no more. A line is cut exactly
 /// where some box's answer changes, and the row of each piece between two cuts is their answers. Places count from 0.
@@ -44,6 +43,8 @@ pub(crate) mod point;
 pub struct Classifier {
     len: usize,
     lines: [OwnedLine; FIELDS],
+    // The lines that are marked are whole: a search leaves them out.
+    marks: [bool; FIELDS],
 }
 
 impl Model for Classifier {
@@ -53,13 +54,14 @@ impl Model for Classifier {
     ghost Value = { ClassifiedAndRoom };
 
     ghost use Rattle.classify.specs.steps.Fields.{shown_line, room_beside, IsKept};
+    ghost use Rattle.classify.specs.steps.Whole.{AreMarked};
 
     ghost view = { λ c. record {
       shown = record { len = c.len; lines = map shown_line c.lines };
       room = room_beside c.len c.lines;
     } };
 
-    ghost invariant = { λ c. IsKept c.len c.lines };
+    ghost invariant = { λ c. IsKept c.len c.lines × AreMarked c.marks c.lines };
 }
 
 impl Classifier {
@@ -77,7 +79,11 @@ impl Classifier {
         ensures rules { IfOk result (λ classifier. IsClassifierOfRules [] classifier.shown) }
     {
         let lines: [OwnedLine; FIELDS] = array::try_from_fn(|_| OwnedLine::open(alloc))?;
-        Ok(Classifier { len: 0, lines })
+        Ok(Classifier {
+            len: 0,
+            lines,
+            marks: [true; FIELDS],
+        })
     }
 
     /// A classifier with the same lines. It costs the memory of the rows and of their room.
@@ -92,6 +98,7 @@ impl Classifier {
         Ok(Classifier {
             len: self.len,
             lines,
+            marks: self.marks,
         })
     }
 
@@ -135,6 +142,7 @@ impl Classifier {
             return Err(AllocError);
         }
         lines::insert_lines(&mut self.lines, self.len, at, boxed.spans())?;
+        whole::unmark(&mut self.marks, boxed.spans());
         self.len += 1;
         Ok(())
     }
@@ -157,6 +165,7 @@ impl Classifier {
         ensures room { OnOk result (HasNoNewCut boxed self.old.shown → self.old.room ≤ self.new.room) }
     {
         lines::replace_lines(&mut self.lines, self.len, at, boxed.spans())?;
+        whole::unmark(&mut self.marks, boxed.spans());
         Ok(())
     }
 
@@ -179,13 +188,15 @@ impl Classifier {
         ensures room { self.old.room + self.old.shown.len ≤ self.new.room }
     {
         lines::clear_lines(&mut self.lines);
+        self.marks = [true; FIELDS];
         self.len = 0;
     }
 
     /// Which boxes allow a point, as a list of bits, one a box. The point has a number for each field, in the order
     /// of `Field::ALL`, each at most the field's top.
     ///
-    /// It takes no memory and copies no row. It costs a search for a place on each line.
+    /// It takes no memory and copies no row. It costs a search for a place on each line but those marked as whole.
+    #[inline(always)]
     pub fn at(&self, point: &[u128; FIELDS]) -> Candidates<'_>
         requires { IsPoint point.now }
         ensures boxes { (boxes : List (List SpanSet)) → IsClassifierOf boxes self.now.shown
@@ -193,12 +204,28 @@ impl Classifier {
         ensures rules { (rules : List Rule) → IsClassifierOfRules rules self.now.shown
             → result ≡ map (allows_each point.now) rules }
     {
-        let PointRows {
+        let margin = self.lines[0].margin();
+        let len = self.len;
+        let first = self.lines[0].row_at(point[0]);
+        let mut all = Candidates {
             margin,
-            words,
-            summary,
-        } = point::rows_at(&self.lines, self.len, point);
-        Candidates::of(margin, self.len, words, summary)
+            len,
+            rows: [first; FIELDS],
+            count: 1,
+            summary: first.summary,
+        };
+        for place in 1..FIELDS {
+            // A marked line has every bit in each row: what the others have in common it has.
+            if self.marks[place] {
+                continue;
+            }
+            let line = &self.lines[place];
+            let row = line.row_at(point[place]);
+            all.rows[all.count] = row;
+            all.count += 1;
+            all.summary &= row.summary;
+        }
+        all
     }
 
     /// The least place, at or after `from`, of a box that allows the point; there may be none. The point is as in

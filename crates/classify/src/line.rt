@@ -4,7 +4,6 @@ ghost use Rattle.classify.specs.line.Laws.{BoxesHaveOneLine};
 
 pub(crate) mod edit;
 pub(crate) mod owned;
-pub(crate) mod places;
 pub(crate) mod put;
 pub(crate) mod starts;
 pub(crate) mod view;

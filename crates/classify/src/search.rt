@@ -1,37 +1,39 @@
-//! The search for the first place that every row has: rows and-ed four words at a time, where their summaries leave a
-//! word.
+//! The search for the first place that every row has: four words of each are turned and combined at a time, where their
+//! summaries leave a word.
 
 ghost use Rattle.std.specs.Prelude.{IsTrue, ◌<◌, ◌≤◌, ◌+◌, ◌-◌, ◌*◌, ◌/◌, ◌^◌, ℕ};
 ghost use Rattle.bits.specs.steps.First.{Nowhere, IsFirst};
 ghost use Rattle.classify.specs.steps.CommonPlaces.{IsAndAt, AreWide, HaveAll};
 ghost use Rattle.classify.specs.steps.Summaries.{SumUpAll};
 
-use bits::{is_marked, next_marked};
+use bits::{TurnedWords, is_marked, next_marked};
 use std::simd::prelude::*;
 
 // The words at a place of every row, and-ed.
-fn and_at(rows: &[&[u64]], place: usize) -> u64
+fn and_at(rows: &[TurnedWords<'_>], place: usize) -> u64
     requires { (words : ℕ) × AreWide words rows.now × (place < words) }
     ensures { IsAndAt result rows.now place }
 {
     let mut all = u64::MAX;
     for row in rows {
-        let words: &[u64] = row;
-        all &= words[place];
+        let own = row.own;
+        let turn = row.turn;
+        all &= own[place] ^ turn[place];
     }
     all
 }
 
 // Whether four words at a place are seen to have no place that every row has: their words are and-ed in lanes, row by row,
 // until no bit is left. The addresses come first, which tell most.
-fn is_clear(rows: &[&[u64]], place: usize) -> bool
+fn is_clear(rows: &[TurnedWords<'_>], place: usize) -> bool
     requires { (words : ℕ) × AreWide words rows.now × (place + 4 ≤ words) }
     ensures { IsTrue result → Nowhere (HaveAll rows.now) (64 * place) (64 * (place + 4)) }
 {
     let mut all = u64x4::splat(u64::MAX);
     for row in rows {
-        let words: &[u64] = row;
-        all &= u64x4::from_slice(&words[place..]);
+        let own = row.own;
+        let turn = row.turn;
+        all &= u64x4::from_slice(&own[place..]) ^ u64x4::from_slice(&turn[place..]);
         if all.reduce_or() == 0 {
             return true;
         }
@@ -41,7 +43,7 @@ fn is_clear(rows: &[&[u64]], place: usize) -> bool
 
 // Passes over words that no such place is in: those that the summary lacks, and of the others four at a time. It stops
 // before four that aren't seen to be so, or where fewer than four are left.
-fn skip(rows: &[&[u64]], summary: u64, start: usize, words: usize) -> usize
+fn skip(rows: &[TurnedWords<'_>], summary: u64, start: usize, words: usize) -> usize
     requires wide { AreWide words rows.now }
     requires few { words < 2 ^ 58 }
     requires summed { SumUpAll summary words rows.now }
@@ -58,7 +60,7 @@ fn skip(rows: &[&[u64]], summary: u64, start: usize, words: usize) -> usize
 }
 
 // The first place that every row has, from a word on.
-fn scan(rows: &[&[u64]], start: usize, words: usize) -> Option<usize>
+fn scan(rows: &[TurnedWords<'_>], start: usize, words: usize) -> Option<usize>
     requires wide { AreWide words rows.now }
     requires few { words < 2 ^ 58 }
     ensures { IsFirst (HaveAll rows.now) (64 * start) (64 * words) result }
@@ -74,7 +76,7 @@ fn scan(rows: &[&[u64]], start: usize, words: usize) -> Option<usize>
 
 // The first place at or after `from` that every row has and that is in the word of `from`. The rows aren't looked at where
 // their summary lacks that word.
-fn head(rows: &[&[u64]], summary: u64, from: usize) -> Option<usize>
+fn head(rows: &[TurnedWords<'_>], summary: u64, from: usize) -> Option<usize>
     requires { (words : ℕ) × AreWide words rows.now × (from / 64 < words) × (words < 2 ^ 58) × SumUpAll summary words rows.now }
     ensures { IsFirst (HaveAll rows.now) from (64 * (from / 64 + 1)) result }
 {
@@ -91,7 +93,7 @@ fn head(rows: &[&[u64]], summary: u64, from: usize) -> Option<usize>
 
 // The first place at or after `from` that every row has. The rows have one summary, with the bit of each word in which all
 // of them have a place.
-fn first_common(rows: &[&[u64]], summary: u64, words: usize, from: usize) -> Option<usize>
+fn first_common(rows: &[TurnedWords<'_>], summary: u64, words: usize, from: usize) -> Option<usize>
     requires wide { AreWide words rows.now }
     requires few { words < 2 ^ 58 }
     requires summed { SumUpAll summary words rows.now }
@@ -112,7 +114,7 @@ fn first_common(rows: &[&[u64]], summary: u64, words: usize, from: usize) -> Opt
 /// The first place at or after `from` that every row has, where places are counted from the end of a margin that all rows
 /// have.
 pub(crate) fn first_after(
-    rows: &[&[u64]],
+    rows: &[TurnedWords<'_>],
     summary: u64,
     words: usize,
     margin: usize,

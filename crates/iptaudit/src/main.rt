@@ -1,9 +1,6 @@
 //! The program `iptaudit`: questions about all packets, asked of files of iptables-restore.
 #![tactic(auto)]
 
-mod answers;
-mod covering;
-mod fault;
 mod program;
 
 use crate::program::run;

@@ -55,8 +55,28 @@ fn unmark(order: &Vec<usize>, seen: &mut Vec<bool>, reached: &ArrayVec<usize, CH
 
 impl Parts {
     // Whether a path of jumps and gotos leads from the chain under one key to that under another, also one of no step. It
-    // visits each chain at most once, and there each chain that its rules lead to. It takes no memory.
+    // takes no memory. Most rules lead to a chain that leads nowhere, which costs no search.
     pub(crate) fn reaches(&self, seen: &mut Vec<bool>, from: usize, goal: usize) -> bool
+        requires kept { AreStored self.now }
+        requires clear { IsUnmarked self.now.order.items seen.old.items }
+        requires from { IsIn self.now.order.items from }
+        requires goal { IsIn self.now.order.items goal }
+        ensures clear { IsUnmarked self.now.order.items seen.new.items }
+        ensures found { result ≡ leads (listed self.now.chains.slots self.now.order.items)
+            (stored_at self.now.chains.slots from).name (stored_at self.now.chains.slots goal).name }
+    {
+        if from == goal {
+            return true;
+        }
+        let edges = self.chains[from].edges();
+        if edges.is_empty() {
+            return false;
+        }
+        self.finds(seen, from, goal)
+    }
+
+    // The search for such a path: it visits each chain at most once, and there each chain that its rules lead to.
+    fn finds(&self, seen: &mut Vec<bool>, from: usize, goal: usize) -> bool
         requires kept { AreStored self.now }
         requires clear { IsUnmarked self.now.order.items seen.old.items }
         requires from { IsIn self.now.order.items from }

@@ -73,6 +73,6 @@ pub pushed_twice : (new between now old : List ℕ) (x : ℕ) → now ≡ old �
 pushed_twice new between now old x same e f = f ∙ ap (λ (ss : List ℕ). ss ++ x ∷ []) (e ∙ ap (λ (ss : List ℕ). ss ++ x ∷ []) same)
 
 -- what a pair of slots leaves of a vector that was as another
-pub pair_inserted : (new now old : List ℕ) (k x y a b : ℕ) → now ≡ old → x ≡ a → y ≡ b → new ≡ insert (insert now k y) k x → new ≡ insert (insert old k b) k a
-pair_inserted new now old k x y a b same is was e =
-    e ∙ ap (λ (ss : List ℕ). insert (insert ss k y) k x) same ∙ ap (λ z. insert (insert old k z) k x) was ∙ ap (λ z. insert (insert old k b) k z) is
+pub pair_inserted : (new old : List ℕ) (k x y a b : ℕ) → x ≡ a → y ≡ b → new ≡ insert (insert old k y) k x → new ≡ insert (insert old k b) k a
+pair_inserted new old k x y a b is was e =
+    e ∙ ap (λ z. insert (insert old k z) k x) was ∙ ap (λ z. insert (insert old k b) k z) is

@@ -51,12 +51,12 @@ from_block xs ys i e ie le =
     ap (λ (zs : List ℕ). drop i zs) (put_chunk_is i xs ys (omega arith)) ∙ drop_at (take i xs) (ys ++ drop (length ys) (drop i xs)) i (length-take-le i xs (omega arith))
     ∙ ap (λ (zs : List ℕ). ys ++ zs) (drop-drop (length ys) i xs ∙ ap (λ (n : ℕ). drop n xs) ie)
 
-pub raised_block : (by at : ℕ) (old new : List ℕ) (e i p : ℕ) → Raised by at old new e → at + by + 64 ≤ e → i + 64 ≡ e → p + by ≡ i
-    → Raised by at old (put_chunk i new (chunk p 64 new)) i
+pub raised_block : (by at : ℕ) (old new : List ℕ) (e i p : ℕ) → Raised by at old new e → at + by + 16 ≤ e → i + 16 ≡ e → p + by ≡ i
+    → Raised by at old (put_chunk i new (chunk p 16 new)) i
 raised_block by at old new e i p r room ie pi =
-    let block : List ℕ = chunk p 64 new in
-    let long : length block ≡ 64 = length-chunk p 64 new (omega (arith, r.within, r.same)) in
-    raised_more by at old new (put_chunk i new block) e 64 i p r (length-put_chunk i new block) room ie pi
+    let block : List ℕ = chunk p 16 new in
+    let long : length block ≡ 16 = length-chunk p 16 new (omega (arith, r.within, r.same)) in
+    raised_more by at old new (put_chunk i new block) e 16 i p r (length-put_chunk i new block) room ie pi
     (before_block new block i (omega (arith, r.within, r.same)))
     (from_block new block i e (omega arith) (omega (arith, r.within, r.same)))
 

@@ -1,12 +1,11 @@
 -- Rows of equally many bits as they are held: a place more, a place less, more room, none.
 use Rattle.std.proofs.Common.{◌≡◌, ℕ, zero, suc, ◌+◌, ◌-◌, ◌*◌, ◌^◌, ◌<◌, ◌≤◌, Bool, false, List, [], ◌∷◌, ◌++◌, length, take, drop, get_or, refl, sym, ◌∙◌, ap, arith, subst, map, All, replicate}
 use Rattle.std.specs.List.{insert, remove}
-use Rattle.std.proofs.lemmas.List.{take-append-le, drop-append-le, length-replicate, take_all}
-use Rattle.std.proofs.Math.ListN.{set}
+use Rattle.std.proofs.lemmas.List.{take-append-le, drop-append-le, length-replicate, drop-replicate, take-replicate}
 use Rattle.std.proofs.lemmas.List.Elements.{All-append, All-same, All-nil}
 use Rattle.bits.specs.Rows.{RowsAndRoom}
 use Rattle.bits.specs.steps.Packing.{all_bits, word_bits}
-use Rattle.bits.specs.steps.Held.{words_in, bits_in, IsPadded, AreHeld, EachSlot, TakesIn, GivesUp}
+use Rattle.bits.specs.steps.Held.{words_in, bits_in, IsPadded, AreBelow, AreFirstTwo, AreHeld, EachSlot, TakesIn, GivesUp}
 use Rattle.bits.proofs.laws.WordLaws.{all_bits-append, length-all_bits}
 use Rattle.bits.proofs.laws.PaddedLaws.{zeros, put_front, put_padded, zero_front, zero_padded, remove_front, remove_padded}
 use Rattle.bits.proofs.laws.SlotLaws.{all_mapped, same_mapped}
@@ -126,39 +125,33 @@ pub place_below : (len w at : ℕ) (slots ws : List ℕ) (shown : RowsAndRoom) �
     → All (λ (row : List Bool). at < length row) shown.rows → at < len
 place_below len w at slots ws shown h is some all = omega (arith, all 0 [] some, first_there len w slots ws shown h is some)
 
--- ---- one row without a bit
+-- ---- two rows without a bit
 
-pub one_slot : (slots : List ℕ) → 0 < length slots → set (take 1 slots) 0 0 ≡ 0 ∷ []
-one_slot [] lt = absurd (omega arith)
-one_slot (s ∷ ss) lt = refl
+pub cleared_row : (w n slot : ℕ) → slot < n → words_in w (replicate (n * w) 0) slot ≡ replicate w 0
+cleared_row w n slot lt =
+    let o : slot * w + w ≤ n * w = slots_in_order w slot n lt in
+    ap (take w) (drop-replicate (slot * w) (n * w) 0) ∙ take-replicate w (n * w - slot * w) 0 (omega (arith, o))
 
-pub cleared_row : (w : ℕ) → words_in w (replicate w 0) 0 ≡ replicate w 0
-cleared_row w =
-    let zeros : List ℕ = replicate w 0 in
-    let long : length zeros ≡ w = length-replicate w 0 in
-    let e : 0 * w ≡ 0 = omega arith in
-    ap (λ k. take w (drop k zeros)) e ∙ take_all w zeros (omega (arith, long))
+pub cleared_held : (w : ℕ) (slots : List ℕ) → w < 2 ^ 58 → AreFirstTwo slots → AreHeld 0 w slots (replicate (2 * w) 0)
+cleared_held w slots few h = record {
+  covers = omega arith;
+  few = few;
+  counted = omega (arith, h.two);
+  wide = length-replicate (2 * w) 0 ∙ ap (λ n. n * w) (sym h.two);
+  below = (let P : ℕ → Type 0 = λ n. AreBelow n slots in subst P (sym h.two) h.below);
+  apart = h.apart;
+  padded = λ slot lt. (let P : List ℕ → Type 0 = λ row. IsPadded row 0 in subst P (sym (cleared_row w 2 slot (omega (arith, lt, h.two)))) (all_zeros w));
+}
 
-pub cleared_held : (w : ℕ) → w < 2 ^ 58 → AreHeld 0 w (0 ∷ []) (replicate w 0)
-cleared_held w few =
-    let ws : List ℕ = replicate w 0 in
-    let long : length ws ≡ w = length-replicate w 0 in
-    record {
-      covers = omega arith;
-      few = few;
-      counted = omega arith;
-      wide = long ∙ (let e : w ≡ 1 * w = omega arith in e);
-      below = (omega arith, tt);
-      apart = (tt, tt);
-      padded = λ slot lt.
-          let e : slot ≡ 0 = omega arith in
-          let P : ℕ → Type 0 = λ s. IsPadded (words_in w ws s) 0 in
-          subst P (sym e) (let Q : List ℕ → Type 0 = λ row. IsPadded row 0 in subst Q (sym (cleared_row w)) (all_zeros w));
-    }
+pub cleared_shown : (w : ℕ) (slots ws : List ℕ) → length slots ≡ 2 → map (bits_in 0 w ws) slots ≡ [] ∷ [] ∷ []
+cleared_shown w [] ws two = absurd (omega arith)
+cleared_shown w (s ∷ []) ws two = absurd (omega arith)
+cleared_shown w (s ∷ t ∷ []) ws two = refl
+cleared_shown w (s ∷ t ∷ u ∷ ss) ws two = absurd (omega arith)
 
-pub first_row_within : (len w : ℕ) (slots ws : List ℕ) → AreHeld len w slots ws → 0 < length slots → w ≤ length ws
-first_row_within len w slots ws h some =
-    let o : 0 * w + w ≤ length slots * w = slots_in_order w 0 (length slots) some in
+pub two_rows_within : (len w : ℕ) (slots ws : List ℕ) → AreHeld len w slots ws → 1 < length slots → 2 * w ≤ length ws
+two_rows_within len w slots ws h some =
+    let o : 1 * w + w ≤ length slots * w = slots_in_order w 1 (length slots) some in
     omega (arith, h.wide)
 
 pub cleared_room : (len w : ℕ) (slots ws : List ℕ) (shown : RowsAndRoom) → AreHeld len w slots ws → record { rows = map (bits_in len w ws) slots; room = 64 * w - len } ≡ shown → 0 < length shown.rows

@@ -57,6 +57,10 @@ word_set_other w n s t i v ws size in' lt ne small =
 pub covers_row : (len w : ℕ) (slots ws : List ℕ) (s : ℕ) → AreHeld len w slots ws → s < length slots → len ≤ 64 * length (words_in w ws s)
 covers_row len w slots ws s h lt = omega (arith, h.covers, length-words_in w (length slots) s ws h.wide lt)
 
+-- a slot as it is read
+pub slot_read : (slots : List ℕ) (k s : ℕ) → k < length slots → s ≡ get_or slots k 0 → s ≡ get_or slots k s
+slot_read slots k s lt is = is ∙ get_or_default slots k 0 s lt
+
 pub slot_below : (len w : ℕ) (slots ws : List ℕ) (k s : ℕ) → AreHeld len w slots ws → k < length slots → s ≡ get_or slots k s → s < length slots
 slot_below len w slots ws k s h lt is = let P : ℕ → Type 0 = λ x. x < length slots in subst P (sym is) (below_at (length slots) slots k s h.below lt)
 

@@ -137,17 +137,17 @@ one_written {X} f g n (s ∷ ss) (suc k) d v below apart lt e is =
     let ne : s ≢ get_or ss k d = λ same. none_at s ss k d apart.0 (omega arith) (sym same) in
     ap (λ (x : X). x ∷ map g ss) (e s below.0 ne) ∙ ap (λ (xs : List X). f s ∷ xs) (one_written f g n ss k d v below.1 apart.1 (omega arith) e is)
 
-map-insert : {X : Type 0} (g : ℕ → X) (ss : List ℕ) (k x : ℕ) → map g (insert ss k x) ≡ insert (map g ss) k (g x)
+pub map-insert : {Y X : Type 0} (g : Y → X) (ss : List Y) (k : ℕ) (x : Y) → map g (insert ss k x) ≡ insert (map g ss) k (g x)
 map-insert g [] zero x = refl
 map-insert g [] (suc k) x = refl
 map-insert g (s ∷ ss) zero x = refl
-map-insert {X} g (s ∷ ss) (suc k) x = ap (λ (xs : List X). g s ∷ xs) (map-insert g ss k x)
+map-insert {Y} {X} g (s ∷ ss) (suc k) x = ap (λ (xs : List X). g s ∷ xs) (map-insert g ss k x)
 
-map-remove : {X : Type 0} (f : ℕ → X) (ss : List ℕ) (k : ℕ) → map f (remove ss k) ≡ remove (map f ss) k
+pub map-remove : {Y X : Type 0} (f : Y → X) (ss : List Y) (k : ℕ) → map f (remove ss k) ≡ remove (map f ss) k
 map-remove f [] zero = refl
 map-remove f [] (suc k) = refl
 map-remove f (s ∷ ss) zero = refl
-map-remove {X} f (s ∷ ss) (suc k) = ap (λ (xs : List X). f s ∷ xs) (map-remove f ss k)
+map-remove {Y} {X} f (s ∷ ss) (suc k) = ap (λ (xs : List X). f s ∷ xs) (map-remove f ss k)
 
 -- a slot more, which holds v
 pub one_more : {X : Type 0} (f g : ℕ → X) (n : ℕ) (ss : List ℕ) (k : ℕ) (v : X) → AreBelow n ss → ((s : ℕ) → s < n → g s ≡ f s) → g n ≡ v → map g (insert ss k n) ≡ insert (map f ss) k v

@@ -175,12 +175,8 @@ taken_shown len w slots ws k s last us slots' ws' h =
     ap (λ (ss : List ℕ). map g ss) (h.slots_are ∙ ap (λ x. map (redirected last x) (remove slots k)) (sym gone_slot))
     ∙ one_less f g (length slots) last slots k s h.held.below h.held.apart h.row each
 
--- ---- what a vector leaves where it has room
+-- ---- what is said of a call that returned a value
 
-pub inserted : (new now old : List ℕ) (k x y : ℕ) → now ≡ old → x ≡ y → new ≡ insert now k x → new ≡ insert old k y
-inserted new now old k x y same is e = e ∙ ap (λ (ss : List ℕ). insert ss k x) same ∙ ap (λ z. insert old k z) is
-
--- what is said of a call that returned a value
 pub on_ok : {T E P : Type 0} (r : Result T E) → OnOk r P → IsOk r → P
 on_ok (Ok x) h i = h
 on_ok (Err e) h i = absurd (false≢true i)
@@ -196,5 +192,5 @@ pub moved_within : (w s last n : ℕ) → s * w + w ≤ n → s * w + (last * w 
 moved_within w s last n le = let e : last * w + w - last * w ≡ w = omega arith in let P : ℕ → Type 0 = λ m. s * w + m ≤ n in subst P (sym e) le
 
 -- what a call wrote over all of a vector
-pub all_written : (n : ℕ) (us ws : List ℕ) → length us ≡ n → take n (us ++ drop (length us) ws) ≡ us
+pub all_written : {X : Type 0} (n : ℕ) (us ws : List X) → length us ≡ n → take n (us ++ drop (length us) ws) ≡ us
 all_written n us ws e = take_at us (drop (length us) ws) n e

@@ -216,14 +216,12 @@ widened_summed w v count ws us ss h sum = record {
       subst P (sym (h.rows t lt)) (zeros_sum_up (get_or ss t 0) (v - w) (words_in w ws t) (sum.each t lt));
 }
 
-pub cleared_summed : (w : ℕ) → AreSummaries w (0 ∷ []) (replicate w 0) 1
+pub cleared_summed : (w : ℕ) → AreSummaries w (0 ∷ 0 ∷ []) (replicate (2 * w) 0) 2
 cleared_summed w = record {
   counted = refl;
-  each = λ t lt. (
-      let e : t ≡ 0 = omega arith in
-      let P : ℕ → Type 0 = λ j. IsSummaryOf (get_or (0 ∷ []) j 0) (all_bits (words_in w (replicate w 0) j)) in
-      let Q : List ℕ → Type 0 = λ row. IsSummaryOf 0 (all_bits row) in
-      subst P (sym e) (subst Q (sym (cleared_row w)) (λ p on. absurd (true≢false (sym on ∙ off w p)))));
+  each = λ slot lt. (
+      let P : List ℕ → Type 0 = λ row. IsSummaryOf (get_or (0 ∷ 0 ∷ []) slot 0) (all_bits row) in
+      subst P (sym (cleared_row w 2 slot lt)) (λ p on. absurd (true≢false (sym on ∙ off w p))));
 }
 
 -- a row's summary, as the row is shown

@@ -29,6 +29,12 @@ abbrev pub AreApart : List ℕ → Type 0
 AreApart [] = Unit {0}
 AreApart (s ∷ ss) = IsNoneOf s ss × AreApart ss
 
+-- the first two slots, in either order
+pub record AreFirstTwo (slots : List ℕ) : Type 0 where
+  pub two : length slots ≡ 2
+  pub below : AreBelow 2 slots
+  pub apart : AreApart slots
+
 -- rows of `len` bits, each in a slot of its own, stored in words of which each slot has `width`
 pub record AreHeld (len width : ℕ) (slots words : List ℕ) : Type 0 where
   pub covers : len ≤ 64 * width

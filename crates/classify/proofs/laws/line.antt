@@ -1,5 +1,4 @@
 pub mod ApartLaws
-pub mod AroundLaws
 pub mod BoxLaws
 pub mod DropLaws
 pub mod EditLaws

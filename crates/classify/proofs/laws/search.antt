@@ -2,3 +2,4 @@ pub mod CandidateLaws
 pub mod NextLaws
 pub mod PassLaws
 pub mod SearchLaws
+pub mod TurnedLaws

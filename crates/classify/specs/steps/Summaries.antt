@@ -1,26 +1,19 @@
 -- Summaries of the rows of several fields: which of their words a search may pass over.
-use Rattle.std.specs.Prelude.{◌≡◌, ℕ, ◌/◌, ◌*◌, ◌<◌, true, false, List, [], length, slice_index, slice_index_or, All}
-use Rattle.std.specs.Borrow.{Bor}
-use Rattle.fields.specs.declared.numbers.field.TheConstants.{FIELDS}
-use Rattle.bits.specs.MarginRows.{after_margin}
-use Rattle.bits.specs.steps.Packing.{IsPacked}
+use Rattle.std.specs.Prelude.{ℕ, ◌/◌, ◌*◌, ◌<◌, List, length, All}
+use Rattle.bits.specs.declared.turned_rows.TurnedWords.{TurnedWords}
 use Rattle.bits.specs.steps.Summaries.{IsMarked}
-use Rattle.classify.specs.steps.Pieces.{row_in}
-use Rattle.classify.specs.classifier.Classifier.{Classified}
-use Rattle.classify.specs.steps.CommonPlaces.{HaveAll}
+use Rattle.classify.specs.steps.CommonPlaces.{ArePacked, HaveAll}
 
 -- the summary has the bit of each of the first words in which all rows have a bit at the same place
-abbrev pub SumUpAll : ℕ → ℕ → List (Bor (List ℕ)) → Type 0
+abbrev pub SumUpAll : ℕ → ℕ → List TurnedWords → Type 0
 SumUpAll summary words rows = (p : ℕ) → p < 64 * words → HaveAll rows p → IsMarked summary (p / 64)
 
--- the summary has the bit of each word in which the rows of the first fields, at a point and after a margin, have a bit at the same
--- place
-abbrev pub SumUpPoint : ℕ → Classified → List ℕ → ℕ → ℕ → Type 0
-SumUpPoint margin c point summary upto =
-    (p : ℕ) → ((j : ℕ) → j < upto → slice_index_or (after_margin margin (row_in (slice_index_or c.lines j []) (slice_index point j))) p false ≡ true) → IsMarked summary (p / 64)
+-- the summary has the bit of each word that the summaries of all rows have
+abbrev pub IsOfAll : ℕ → List TurnedWords → Type 0
+IsOfAll summary rows = (word : ℕ) → All (λ (row : TurnedWords). IsMarked row.summary word) rows → IsMarked summary word
 
--- a row of so many bits for each field, and a summary with the bit of each word in which all of them have a bit at the same place
-pub record AreCandidates (len summary : ℕ) (rows : List (Bor (List ℕ))) : Type 0 where
-  pub long : length rows ≡ FIELDS
-  pub packed : All (λ (row : Bor (List ℕ)). IsPacked row.now len) rows
+-- rows of so many bits, at least one, and a summary with the bit of each word in which all of them have a bit at the same place
+pub record AreCandidates (len summary : ℕ) (rows : List TurnedWords) : Type 0 where
+  pub some : 0 < length rows
+  pub packed : All (ArePacked len) rows
   pub summed : (p : ℕ) → p < len → HaveAll rows p → IsMarked summary (p / 64)

@@ -4,17 +4,19 @@ ghost use Rattle.std.specs.Prelude.{ℕ, ◌≡◌, ◌<◌, ◌≤◌, ◌+◌,
 ghost use Rattle.std.specs.Prelude.{◌≢◌, false, true, IfOk, IsOk, OnOk, OnErr, IsTrue, ◌↔◌, [], ◌∷◌};
 ghost use Rattle.bits.specs.MarginRows.{after_margin};
 ghost use Rattle.bits.specs.Rows.{two_words};
+ghost use Rattle.bits.specs.TurnedRows.{turned};
 ghost use Rattle.bits.specs.steps.Packing.{all_bits, IsPacked};
 ghost use Rattle.classify.specs.line.Line.{starts};
 ghost use Rattle.classify.specs.steps.Kept.{IsLine, line_prop};
 ghost use Rattle.classify.specs.steps.Pieces.{row_bits, row_in};
 ghost use Rattle.classify.specs.steps.Edits.{row_of};
 ghost use Rattle.classify.specs.steps.Fields.{HasRoomAfter, TakesPlace, LeavesPlace, IsOpenedUp, IsClosedUp, IsRoomier, TakesNoneBeside, FreesRoom, FreesAll};
+ghost use Rattle.classify.specs.steps.Runs.{IsRunWritten};
 ghost use Rattle.bits.specs.steps.Summaries.{IsSummaryOf};
 ghost use Rattle.std.specs.List.{zip};
 
 use crate::line::starts::Starts;
-use bits::MarginRows;
+use bits::{TurnedRows, TurnedWords};
 use std::alloc::{AllocError, Global};
 use std::marker::Model;
 use std::mem::size_of;
@@ -23,18 +25,11 @@ use std::mem::size_of;
 /// and its summary.
 pub const PIECE_BYTES: usize = size_of::<u32>() + size_of::<u32>() + size_of::<u64>();
 
-/// The words of a row that its bits need, as they are lent, and its summary.
-#[derive(Clone, Copy)]
-pub(crate) struct LentRow<'a> {
-    pub(crate) words: &'a [u64],
-    pub(crate) summary: u64,
-}
-
 /// The pieces of a line, in rising order from 0: the first number of each, and the answer of each box, at the box's place.
 #[derive(Drop)]
 pub(crate) struct OwnedLine {
     starts: Starts,
-    rows: MarginRows,
+    rows: TurnedRows,
     ghost stands: { IsLine (zip starts rows.rows) rows.room.places } by { line_prop (zip starts rows.rows) rows.room.places },
 }
 
@@ -59,7 +54,7 @@ impl OwnedLine {
     {
         Ok(OwnedLine {
             starts: Starts::zero(alloc)?,
-            rows: MarginRows::with_one_row(alloc)?,
+            rows: TurnedRows::with_one_row(alloc)?,
         })
     }
 
@@ -78,12 +73,15 @@ impl OwnedLine {
         self.starts.get(k)
     }
 
-    // The place of the piece that a number is in: a binary search.
+    // The place of the piece that a number is in: a binary search, where there is more than one.
     pub(crate) fn place_of(&self, x: u128) -> usize
         ensures within { result < length self.now.pieces }
         ensures low { slice_index (starts self.now.pieces) result ≤ x }
         ensures high { result + 1 < length self.now.pieces → x < slice_index (starts self.now.pieces) (result + 1) }
     {
+        if self.rows.count() == 1 {
+            return 0;
+        }
         self.starts.count_to(x) - 1
     }
 
@@ -102,36 +100,27 @@ impl OwnedLine {
         self.rows.bits(k)
     }
 
-    // The words of a row and its margin; they are lent.
-    pub(crate) fn words(&self, k: usize) -> &[u64]
+    // A row and its margin, as it is turned; they are lent.
+    pub(crate) fn row(&self, k: usize) -> TurnedWords<'_>
         requires { k < length self.now.pieces }
-        ensures packed { IsPacked result.now (length (after_margin self.now.room.before (row_of self.now.pieces k))) }
-        ensures bits { take (length (after_margin self.now.room.before (row_of self.now.pieces k))) (all_bits result.now)
-            ≡ after_margin self.now.room.before (row_of self.now.pieces k) }
+        ensures own { IsPacked result.own.now (length (after_margin self.now.room.before (row_of self.now.pieces k))) }
+        ensures turn { IsPacked result.turn.now (length (after_margin self.now.room.before (row_of self.now.pieces k))) }
+        ensures bits { take (length (after_margin self.now.room.before (row_of self.now.pieces k)))
+            (turned (all_bits result.turn.now) (all_bits result.own.now)) ≡ after_margin self.now.room.before (row_of self.now.pieces k) }
+        ensures summed { IsSummaryOf result.summary (after_margin self.now.room.before (row_of self.now.pieces k)) }
     {
         self.rows.row(k)
     }
 
-    // The summary of a row and its margin.
-    pub(crate) fn summary(&self, k: usize) -> u64
-        requires { k < length self.now.pieces }
-        ensures { IsSummaryOf result (after_margin self.now.room.before (row_of self.now.pieces k)) }
-    {
-        self.rows.summary(k)
-    }
-
     // The row of the piece that a number is in, and its margin; they are lent.
-    pub(crate) fn row_at(&self, x: u128) -> LentRow<'_>
-        ensures packed { IsPacked result.words.now (length (after_margin self.now.room.before (row_in self.now.pieces x))) }
-        ensures bits { take (length (after_margin self.now.room.before (row_in self.now.pieces x))) (all_bits result.words.now)
-            ≡ after_margin self.now.room.before (row_in self.now.pieces x) }
+    pub(crate) fn row_at(&self, x: u128) -> TurnedWords<'_>
+        ensures own { IsPacked result.own.now (length (after_margin self.now.room.before (row_in self.now.pieces x))) }
+        ensures turn { IsPacked result.turn.now (length (after_margin self.now.room.before (row_in self.now.pieces x))) }
+        ensures bits { take (length (after_margin self.now.room.before (row_in self.now.pieces x)))
+            (turned (all_bits result.turn.now) (all_bits result.own.now)) ≡ after_margin self.now.room.before (row_in self.now.pieces x) }
         ensures summed { IsSummaryOf result.summary (after_margin self.now.room.before (row_in self.now.pieces x)) }
     {
-        let place = self.place_of(x);
-        LentRow {
-            words: self.words(place),
-            summary: self.summary(place),
-        }
+        self.row(self.place_of(x))
     }
 
     // The bit at a place of a row.
@@ -155,13 +144,25 @@ impl OwnedLine {
         self.rows.set(k, at, bit);
     }
 
-    // Writes a 1 at a place of each row.
+    // Writes the bit at a place of the rows of pieces side by side: from one up to another, which is not among them.
+    pub(crate) fn set_run(&mut self, from: usize, to: usize, at: usize, bit: bool)
+        requires order { from ≤ to }
+        requires within { to ≤ length self.old.pieces }
+        requires place { at < row_bits self.old.pieces }
+        ensures written { IsRunWritten at bit from to self.old.pieces self.new.pieces }
+        ensures room { self.new.room ≡ self.old.room }
+    {
+        self.rows.set_run(from, to, at, bit);
+    }
+
+    // Writes a 1 at a place of each row, which has a 0 there: by one write, which turns all of them.
     pub(crate) fn set_all(&mut self, at: usize)
-        requires { at < row_bits self.old.pieces }
+        requires place { at < row_bits self.old.pieces }
+        requires none { (j : ℕ) → j < length self.old.pieces → slice_index_or (row_of self.old.pieces j) at false ≡ false }
         ensures pieces { self.new.pieces ≡ map (λ p. (p.0, slice_set p.1 at true)) self.old.pieces }
         ensures room { self.new.room ≡ self.old.room }
     {
-        self.rows.set_all(at, true);
+        self.rows.turn_all(at);
     }
 
     // Cuts a piece at a number: the new one has its row. Where memory is refused the pieces are as before.

@@ -7,7 +7,7 @@ ghost use Rattle.classify.specs.steps.Cuts.{CutsStart};
 ghost use Rattle.classify.specs.steps.Fields.{HasRoomAfter, TakesPlace};
 ghost use Rattle.classify.specs.steps.Edits.{row_of, with_answer, with_written};
 ghost use Rattle.classify.specs.steps.Pieces.{StartsAt, row_bits};
-ghost use Rattle.classify.specs.steps.Runs.{IsRunIn, IsRunWritten};
+ghost use Rattle.classify.specs.steps.Runs.{IsRunIn};
 
 use crate::line::owned::OwnedLine;
 use fields::{Interval, Spans};
@@ -32,19 +32,6 @@ fn run_in(line: &OwnedLine, interval: Interval) -> Run
     }
 }
 
-// Writes one answer into the rows of some pieces.
-fn write_run(line: &mut OwnedLine, at: usize, run: Run, bit: bool)
-    requires order { run.from ≤ run.to }
-    requires within { run.to ≤ length line.old.pieces }
-    requires place { at < row_bits line.old.pieces }
-    ensures written { IsRunWritten at bit run.from run.to line.old.pieces line.new.pieces }
-    ensures room { line.new.room ≡ line.old.room }
-{
-    for k in run.from..run.to {
-        line.set(k, at, bit);
-    }
-}
-
 // Writes a 1 for each piece that a box allows, interval by interval, where a 0 stands for all.
 fn put_few(line: &mut OwnedLine, at: usize, spans: &Spans)
     requires cuts { CutsStart spans.now.top spans.now.intervals line.old.pieces }
@@ -54,15 +41,16 @@ fn put_few(line: &mut OwnedLine, at: usize, spans: &Spans)
     ensures room { line.new.room ≡ line.old.room }
 {
     for interval in spans.intervals() {
-        let run = run_in(line, *interval);
-        write_run(line, at, run, true);
+        let Run { from, to } = run_in(line, *interval);
+        line.set_run(from, to, at, true);
     }
 }
 
-// Writes a 1 for all pieces, in the order of their slots, and then a 0 for those between a box's intervals.
+// Writes a 1 for all pieces at once, where a 0 stands for all, and then a 0 for those between a box's intervals.
 fn put_most(line: &mut OwnedLine, at: usize, spans: &Spans)
     requires cuts { CutsStart spans.now.top spans.now.intervals line.old.pieces }
     requires place { at < row_bits line.old.pieces }
+    requires none { (j : ℕ) → j < length line.old.pieces → slice_index_or (row_of line.old.pieces j) at false ≡ false }
     ensures answers { line.new.pieces ≡ map (with_written at spans.now.intervals) line.old.pieces }
     ensures room { line.new.room ≡ line.old.room }
 {
@@ -70,27 +58,11 @@ fn put_most(line: &mut OwnedLine, at: usize, spans: &Spans)
     let mut next = 0;
     for interval in spans.intervals() {
         let Run { from, to } = run_in(line, *interval);
-        write_run(
-            line,
-            at,
-            Run {
-                from: next,
-                to: from,
-            },
-            false,
-        );
+        line.set_run(next, from, at, false);
         next = to;
     }
     let end = line.len();
-    write_run(
-        line,
-        at,
-        Run {
-            from: next,
-            to: end,
-        },
-        false,
-    );
+    line.set_run(next, end, at, false);
 }
 
 // Whether a box allows more than half of a line's pieces; of a single interval, whether it is the whole line.
@@ -115,8 +87,7 @@ fn allows_most(line: &OwnedLine, spans: &Spans) -> bool
 }
 
 // Puts a box's answers into the rows of a line that is cut wherever they change. Beside the place that is opened in each
-// row, it touches the pieces alone that the box allows; where these are most, all pieces in the order of their slots, and
-// then those alone that it doesn't allow.
+// row, it touches the pieces alone that the box allows or, where these are most, those alone that it doesn't allow.
 pub(crate) fn put_answers(line: &mut OwnedLine, at: usize, spans: &Spans)
     requires cuts { CutsStart spans.now.top spans.now.intervals line.old.pieces }
     requires place { at ≤ row_bits line.old.pieces }

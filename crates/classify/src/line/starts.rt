@@ -3,8 +3,7 @@
 ghost use Rattle.std.specs.Prelude.{ℕ, ◌≡◌, ◌<◌, ◌≤◌, ◌+◌, ◌-◌, ◌^◌, ◌∷◌, [], length, insert, remove, take, slice_index, IfOk, OnOk, OnErr};
 ghost use Rattle.std.specs.List.Sorted.{IsNonDecreasingBy};
 
-use crate::line::places;
-use bits::{insert_at, insert_pair_at};
+use bits::Blocks;
 use std::alloc::{AllocError, Global};
 use std::marker::Model;
 
@@ -12,7 +11,7 @@ use std::marker::Model;
 /// start needs 4 bytes on the fields whose numbers have no more than 32 bits.
 #[derive(Drop)]
 pub(crate) struct Starts {
-    narrow: Vec<u32>,
+    narrow: Blocks,
     wide: Vec<u128>,
 }
 
@@ -22,9 +21,9 @@ impl Model for Starts {
 
     ghost Value = { List ℕ };
 
-    ghost view = { λ s. s.narrow.items ++ s.wide.items };
+    ghost view = { λ s. s.narrow ++ s.wide.items };
 
-    ghost invariant = { λ s. AreParted s.narrow.items s.wide.items };
+    ghost invariant = { λ s. AreParted s.narrow s.wide.items };
 }
 
 impl Starts {
@@ -32,8 +31,7 @@ impl Starts {
     pub(crate) fn zero(alloc: Global) -> Result<Starts, AllocError>
         ensures { IfOk result (λ starts. starts ≡ 0 ∷ []) }
     {
-        let mut narrow = Vec::new(alloc);
-        narrow.push(0)?;
+        let narrow = Blocks::one(alloc, 0)?;
         Ok(Starts {
             narrow,
             wide: Vec::new(alloc),
@@ -47,7 +45,7 @@ impl Starts {
     {
         let narrow = self.narrow.len();
         if k < narrow {
-            return u128::from(self.narrow[k]);
+            return u128::from(self.narrow.get(k));
         }
         self.wide[k - narrow]
     }
@@ -59,7 +57,7 @@ impl Starts {
         ensures low { (k : ℕ) → k < result → slice_index self.now k ≤ x }
         ensures high { (k : ℕ) → result ≤ k → k < length self.now → x < slice_index self.now k }
     {
-        let narrow = places::count_to(&self.narrow, x);
+        let narrow = self.narrow.count_to(x);
         let wide = self.wide.partition_point(|start| *start <= x);
         narrow + wide
     }
@@ -75,19 +73,19 @@ impl Starts {
     {
         let narrow = self.narrow.len();
         if k < narrow {
-            let _after = self.narrow[k];
-            insert_at(&mut self.narrow, k, x as u32)?;
+            let _after = self.narrow.get(k);
+            self.narrow.insert(k, x as u32)?;
             return Ok(());
         }
         if k == narrow && x <= u128::from(u32::MAX) {
-            insert_at(&mut self.narrow, k, x as u32)?;
+            self.narrow.insert(k, x as u32)?;
             return Ok(());
         }
         self.wide.insert(k - narrow, x)?;
         Ok(())
     }
 
-    // Puts two rising numbers in at a place, after a lesser one, and before a greater one or at the end: where both are narrow, by one move.
+    // Puts two rising numbers in at a place, after a lesser one, and before a greater one or at the end: where both are narrow, at once.
     pub(crate) fn insert_pair(&mut self, k: usize, x: u128, y: u128) -> Result<(), AllocError>
         requires place { k ≤ length self.old }
         requires above { 0 < k → slice_index self.old (k - 1) < x }
@@ -99,12 +97,12 @@ impl Starts {
     {
         let narrow = self.narrow.len();
         if k < narrow {
-            let _after = self.narrow[k];
-            insert_pair_at(&mut self.narrow, k, x as u32, y as u32)?;
+            let _after = self.narrow.get(k);
+            self.narrow.insert_pair(k, x as u32, y as u32)?;
             return Ok(());
         }
         if k == narrow && y <= u128::from(u32::MAX) {
-            insert_pair_at(&mut self.narrow, k, x as u32, y as u32)?;
+            self.narrow.insert_pair(k, x as u32, y as u32)?;
             return Ok(());
         }
         self.insert_each(k, x, y)
@@ -147,11 +145,11 @@ impl Starts {
     pub(crate) fn keep_first(&mut self)
         ensures { self.new ≡ take 1 self.old }
     {
-        if self.narrow.is_empty() {
+        if self.narrow.len() == 0 {
             self.wide.truncate(1);
             return;
         }
-        self.narrow.truncate(1);
+        self.narrow.keep_first();
         self.wide.clear();
     }
 
@@ -159,9 +157,8 @@ impl Starts {
     pub(crate) fn copy(&self, alloc: Global) -> Result<Starts, AllocError>
         ensures { IfOk result (λ starts. starts ≡ self.now) }
     {
-        Ok(Starts {
-            narrow: Vec::from_slice(alloc, &self.narrow)?,
-            wide: Vec::from_slice(alloc, &self.wide)?,
-        })
+        let narrow = self.narrow.copy(alloc)?;
+        let wide = Vec::from_slice(alloc, &self.wide)?;
+        Ok(Starts { narrow, wide })
     }
 }

@@ -6,7 +6,7 @@ ghost use Rattle.classify.specs.search.NextMatch.{next_match};
 
 use crate::line::owned::OwnedLine;
 use crate::search;
-use bits::bit_at;
+use bits::{TurnedWords, bit_at};
 use std::marker::Model;
 
 /// The answers of each box in a piece, at the box's place.
@@ -14,21 +14,20 @@ use std::marker::Model;
 pub struct Row<'a> {
     margin: usize,
     len: usize,
-    words: &'a [u64],
-    summary: u64,
+    words: TurnedWords<'a>,
 }
 
 impl<'a> Model for Row<'a> {
     ghost use Rattle.std.specs.Prelude.{Bool, List, ◌+◌, take, drop};
-    ghost use Rattle.bits.specs.steps.Packing.{IsPacked, all_bits};
     ghost use Rattle.bits.specs.steps.Summaries.{IsSummaryOf};
+    ghost use Rattle.classify.specs.steps.CommonPlaces.{ArePacked, bits_of};
 
     ghost Value = { List Bool };
 
-    ghost view = { λ r. drop r.margin (take (r.margin + r.len) (all_bits r.words.now)) };
+    ghost view = { λ r. drop r.margin (take (r.margin + r.len) (bits_of r.words)) };
 
-    ghost invariant = { λ r. IsPacked r.words.now (r.margin + r.len)
-        × IsSummaryOf r.summary (take (r.margin + r.len) (all_bits r.words.now)) };
+    ghost invariant = { λ r. ArePacked (r.margin + r.len) r.words
+        × IsSummaryOf r.words.summary (take (r.margin + r.len) (bits_of r.words)) };
 }
 
 impl<'a> Row<'a> {
@@ -44,7 +43,8 @@ impl<'a> Row<'a> {
         requires { at < length self.now }
         ensures { result ≡ slice_index_or self.now at false }
     {
-        bit_at(self.words, self.margin + at)
+        let place = self.margin + at;
+        bit_at(self.words.turn, place) != bit_at(self.words.own, place)
     }
 
     /// The least place, at or after `from`, of a box that allows the numbers of the piece; there may be none.
@@ -55,7 +55,7 @@ impl<'a> Row<'a> {
         ensures { result ≡ next_match (λ bit. bit) self.now from }
     {
         let words = self.words;
-        search::first_after(&[words], self.summary, words.len(), self.margin, from)
+        search::first_after(&[words], words.summary, words.own.len(), self.margin, from)
     }
 }
 
@@ -93,8 +93,7 @@ impl<'a> Piece<'a> {
         Row {
             margin: line.margin(),
             len: line.bits(place),
-            words: line.words(place),
-            summary: line.summary(place),
+            words: line.row(place),
         }
     }
 }

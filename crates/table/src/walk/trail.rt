@@ -74,12 +74,20 @@ impl Trail {
 }
 
 impl Parts {
-    // The rule just before a place, as a step of the trail.
-    fn step_before(&self, at: Pending) -> Step
+    // The rule just before a place, as a step of the trail. Where its chain is the one at a place that is given, no name is
+    // looked up.
+    fn step_before(&self, hook: usize, at: Pending) -> Step
         requires kept { AreStored self.now }
+        requires hook { hook < length self.now.order.items }
         requires present { IsIn self.now.order.items at.chain }
         ensures { shown (listed self.now.chains.slots self.now.order.items) (entry_before self.now.chains.slots at) ≡ Some result }
     {
+        if at.chain == self.order[hook] {
+            return Step {
+                chain: hook,
+                number: at.passed,
+            };
+        }
         let chain = &self.chains[at.chain];
         match self.index_of(chain.name().bytes()) {
             Some(place) => Step {
@@ -118,7 +126,7 @@ impl Parts {
                 return Ok(Some(Trail::decided(Vec::new(self.alloc), Verdict::TooLong)));
             }
             left -= 1;
-            steps.push(self.step_before(at))?;
+            steps.push(self.step_before(hook, at))?;
             match follow(flow, &mut at, &mut stack) {
                 StepResult::Decided(verdict) => return Ok(Some(Trail::decided(steps, verdict))),
                 StepResult::ByPolicy => return Ok(Some(Trail::undecided(steps, policy))),

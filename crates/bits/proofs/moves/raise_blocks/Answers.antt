@@ -7,4 +7,4 @@ loop-end-init c = raised_start c.args.by c.args.at c.args.items.now c.requires
 
 pub loop-end-preserved : goal.loop-end-preserved
 loop-end-preserved c =
-    raised_block c.args.by c.args.at c.args.items.now c.loop-end.items c.loop-end.end (c.loop-end.end - 64) (c.loop-end.end - 64 - c.args.by) c.loop-end.invariant (omega arith) (omega arith) (omega arith)
+    raised_block c.args.by c.args.at c.args.items.now c.loop-end.items c.loop-end.end (c.loop-end.end - 16) (c.loop-end.end - 16 - c.args.by) c.loop-end.invariant (omega arith) (omega arith) (omega arith)

@@ -1,5 +1,5 @@
 -- Pieces as they are kept: their starts and their rows, apart.
-use Rattle.std.proofs.Common.{◌≡◌, ℕ, zero, suc, ◌<◌, ◌≤◌, Bool, List, [], ◌∷◌, length, get_or, refl, sym, ◌∙◌, ap, arith, subst, map, All}
+use Rattle.std.proofs.Common.{◌≡◌, ℕ, zero, suc, ◌<◌, ◌≤◌, Bool, true, false, not, List, [], ◌∷◌, length, get_or, refl, sym, ◌∙◌, ap, arith, subst, map, All}
 use Rattle.std.specs.List.{insert, remove, zip}
 use Rattle.std.proofs.Math.ListN.{set}
 use Rattle.std.proofs.lemmas.List.{get_or_default, length-map}
@@ -42,6 +42,13 @@ pub each_row_kept : (P : Row → Type 0) (ss : List ℕ) (rs : List Row) (n : Ro
 each_row_kept P ss rs n s l e v h = λ k d lt.
     let below : k < length ss = omega arith in
     subst P (kept_row ss rs n s l k e v below ∙ get_or_default rs k [] d lt) (h k (omega (arith, kept_long ss rs n s l e v)))
+
+-- a bit turned in each row, where none has it, is set in each
+pub set_where_none : (rs : List Row) (at : ℕ) → All (λ row. get_or row at false ≡ false) rs → map (λ row. set row at (not (get_or row at false))) rs ≡ map (λ row. set row at true) rs
+set_where_none [] at none = refl
+set_where_none (r ∷ rs) at none =
+    let here : get_or r at false ≡ false = none 0 [] (omega arith) in
+    (λ i. set r at (not (here i)) ∷ set_where_none rs at (λ k d lt. none (suc k) d (omega arith)) i)
 
 -- ---- edits of both
 

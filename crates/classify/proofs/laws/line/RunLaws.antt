@@ -1,16 +1,24 @@
 -- A bit written into the rows of pieces side by side.
 use Rattle.fields.specs.declared.numbers.spans.Interval.{Interval}
-use Rattle.std.proofs.Common.{◌≡◌, inl, inr, ℕ, zero, suc, ◌+◌, ◌<◌, ◌≤◌, Bool, List, [], ◌∷◌, length, get_or, refl, sym, ◌∙◌, ap, arith, subst, map}
+use Rattle.std.proofs.Common.{◌≡◌, inl, inr, ℕ, zero, suc, ◌+◌, ◌<◌, ◌≤◌, ◌%◌, Bool, List, [], ◌∷◌, length, get_or, refl, sym, ◌∙◌, ap, arith, subst, map}
+use Rattle.std.specs.List.{zip}
 use Rattle.std.specs.Prelude.{slice_index}
 use Rattle.std.proofs.Math.ListN.{set}
-use Rattle.std.proofs.lemmas.List.{length-map, length-set, get_or-map, get_or_default, get_or-set_same, get_or-set_other, same_lists}
-use Rattle.std.proofs.lemmas.Bool.{cases_lt, cases_eq}
+use Rattle.std.proofs.Math.ListN.{get_or-eq_default}
+use Rattle.std.proofs.lemmas.List.{length-map, length-set, get_or-map, get_or_default, same_lists}
+use Rattle.std.proofs.lemmas.Slice.Zip.{firsts-zip, get_or-zip}
+use Rattle.std.proofs.lemmas.Bool.{cases_lt}
 use Rattle.classify.specs.line.Line.{starts}
-use Rattle.classify.specs.steps.Pieces.{IsRising, StartsAt, row_bits}
-use Rattle.classify.specs.steps.Edits.{with_bit, row_of}
+use Rattle.bits.specs.TurnedRows.{IsRunWritten as AreRowsWritten}
+use Rattle.classify.specs.steps.Kept.{IsLine, PiecesAndRoom, most_start}
+use Rattle.classify.specs.steps.Pieces.{EachRow, IsRising, IsRisingFrom, StartsAt, row_bits}
+use Rattle.classify.specs.steps.Edits.{with_bit}
 use Rattle.classify.specs.steps.Runs.{IsRunIn, IsRunWritten}
 use Rattle.classify.proofs.laws.line.ShownLaws.{Cut, IsIn, start_in, no_piece_between}
 use Rattle.classify.proofs.laws.line.PlaceLaws.{rise_before, rise_all}
+
+abbrev Row : Type 0
+Row = List Bool
 
 abbrev none : Cut
 none = (0, [])
@@ -46,30 +54,78 @@ run_found top s from last line r begins some a low b high =
       above = λ j ge lt. omega (arith, b.high (omega arith), rise_all top line (last + 1) j 0 r ge (omega arith));
     }
 
--- ---- a loop that writes one bit
+-- ---- a bit written in the rows of pieces side by side
 
-pub writing_first : (at : ℕ) (bit : Bool) (from : ℕ) (line : List Cut) → IsRunWritten at bit from from line line
-writing_first at bit from line = record { as_long = refl; written = λ j d ge lt. absurd (omega arith); before = λ j d lt. refl; after = λ j d ge. refl }
+zip_size : (ss : List ℕ) (rs : List Row) → length rs ≡ length ss → length (zip ss rs) ≡ length ss
+zip_size ss rs e = sym (length-map (zip ss rs) (λ (p : Cut). p.0)) ∙ ap length (firsts-zip ss rs e)
 
-pub writing_more : (at : ℕ) (bit : Bool) (from k : ℕ) (old now new : List Cut) → IsRunWritten at bit from k old now → from ≤ k → k < length now
-    → new ≡ set now k (slice_index (starts now) k, set (row_of now k) at bit) → IsRunWritten at bit from (k + 1) old new
-writing_more at bit from k old now new h begun lt is =
-    let q : Cut = (slice_index (starts now) k, set (row_of now k) at bit) in
-    let made : q ≡ with_bit at (λ _. bit) (get_or now k none) = let start = start_in now k none lt in λ i. (start i, set (row_of now k) at bit) in
-    let others : (j : ℕ) (d : Cut) → (j ≡ k → ⊥) → get_or new j d ≡ get_or now j d = λ j d ne. ap (λ (l : List Cut). get_or l j d) is ∙ get_or-set_other now k j q d ne in
-    record {
-      as_long = ap (λ (l : List Cut). length l) is ∙ length-set now k q ∙ h.as_long;
-      written = λ j d ge below. elim (cases_eq j k) [
-        | inl e ↦ (
-            let was : get_or now k none ≡ get_or old k d = get_or_default now k none d lt ∙ h.after k d (omega arith) in
-            let here : get_or new k d ≡ with_bit at (λ _. bit) (get_or old k d) = ap (λ (l : List Cut). get_or l k d) is ∙ get_or-set_same now k q d lt ∙ made ∙ ap (with_bit at (λ _. bit)) was in
-            let P : ℕ → Type 0 = λ i. get_or new i d ≡ with_bit at (λ _. bit) (get_or old i d) in
-            subst P (sym e) here)
-        | inr ne ↦ others j d ne ∙ h.written j d ge (omega arith)
+zip_at : (ss : List ℕ) (rs : List Row) (j : ℕ) (d : Cut) → length rs ≡ length ss → j < length ss → get_or (zip ss rs) j d ≡ (get_or ss j d.0, get_or rs j [])
+zip_at ss rs j d e lt = get_or-zip ss rs j d lt (omega arith) ∙ (λ i. (get_or ss j d.0, get_or_default rs j d.1 [] (omega arith) i))
+
+-- where it is so written in the rows, the pieces show it
+pub pieces_written : (at : ℕ) (bit : Bool) (from to : ℕ) (ss : List ℕ) (rs qs : List Row) (line : List Cut) → length rs ≡ length ss → zip ss rs ≡ line → from ≤ to → to ≤ length ss → AreRowsWritten at bit from to rs qs → IsRunWritten at bit from to line (zip ss qs)
+pieces_written at bit from to ss rs qs line e shown order within h =
+    let long : length qs ≡ length ss = h.as_long ∙ e in
+    let P : List Cut → Type 0 = λ cs. IsRunWritten at bit from to cs (zip ss qs) in
+    let same : (j : ℕ) (d : Cut) → j < length ss → get_or qs j [] ≡ get_or rs j [] → get_or (zip ss qs) j d ≡ get_or (zip ss rs) j d =
+    λ j d lt is. zip_at ss qs j d long lt ∙ (λ i. (get_or ss j d.0, is i)) ∙ sym (zip_at ss rs j d e lt) in
+    subst P shown (record {
+      as_long = zip_size ss qs long ∙ sym (zip_size ss rs e);
+      written = λ j d ge lt.
+          zip_at ss qs j d long (omega arith) ∙ (λ i. (get_or ss j d.0, h.written j ge lt i)) ∙ ap (with_bit at (λ _. bit)) (sym (zip_at ss rs j d e (omega arith)));
+      before = λ j d less. same j d (omega arith) (h.before j less);
+      after = λ j d past. elim (cases_lt j (length ss)) [
+        | inl lt ↦ same j d lt (h.after j past)
+        | inr ge ↦ get_or-eq_default (zip ss qs) d (omega (arith, ge, zip_size ss qs long)) ∙ sym (get_or-eq_default (zip ss rs) d (omega (arith, ge, zip_size ss rs e)))
       ];
-      before = λ j d less. others j d (λ e. absurd (omega arith)) ∙ h.before j d less;
-      after = λ j d ge. others j d (λ e. absurd (omega arith)) ∙ h.after j d (omega arith);
-    }
+    })
+
+start_kept : (at : ℕ) (bit : Bool) (from to : ℕ) (old new : List Cut) → IsRunWritten at bit from to old new → (j : ℕ) → (get_or new j none).0 ≡ (get_or old j none).0
+start_kept at bit from to old new h j =
+    let start : Cut → ℕ = λ p. p.0 in
+    elim (cases_lt j from) [
+      | inl less ↦ ap start (h.before j none less)
+      | inr ge ↦ elim (cases_lt j to) [ inl lt ↦ ap start (h.written j none ge lt) | inr past ↦ ap start (h.after j none past) ]
+    ]
+
+long_kept : (at : ℕ) (bit : Bool) (from to : ℕ) (old new : List Cut) → IsRunWritten at bit from to old new → (j : ℕ) → length (get_or new j none).1 ≡ length (get_or old j none).1
+long_kept at bit from to old new h j =
+    let bits : Cut → ℕ = λ p. length p.1 in
+    elim (cases_lt j from) [
+      | inl less ↦ ap bits (h.before j none less)
+      | inr ge ↦ elim (cases_lt j to) [ inl lt ↦ ap bits (h.written j none ge lt) ∙ length-set (get_or old j none).1 at bit | inr past ↦ ap bits (h.after j none past) ]
+    ]
+
+rising_as : (top a : ℕ) (old new : List Cut) → length new ≡ length old → ((j : ℕ) → (get_or new j none).0 ≡ (get_or old j none).0) → IsRisingFrom top a old → IsRisingFrom top a new
+rising_as top a old [] e same r = tt
+rising_as top a [] (q ∷ qs) e same r = absurd (omega arith)
+rising_as top a (p ∷ ps) (q ∷ qs) e same r =
+    let P : ℕ → Type 0 = λ x. IsRisingFrom top x ps in
+    let here : q.0 ≡ p.0 = same 0 in
+    (omega (arith, here, r.0), omega (arith, here, r.1), rising_as top q.0 ps qs (omega arith) (λ j. same (suc j)) (subst P (sym here) r.2))
+
+each_as : (n : ℕ) (old new : List Cut) → length new ≡ length old → ((j : ℕ) → length (get_or new j none).1 ≡ length (get_or old j none).1) → EachRow n old → EachRow n new
+each_as n old [] e same h = tt
+each_as n [] (q ∷ qs) e same h = absurd (omega arith)
+each_as n (p ∷ ps) (q ∷ qs) e same h = (same 0 ∙ h.0, each_as n ps qs (omega arith) (λ j. same (suc j)) h.1)
+
+-- and they are a line as before
+pub written_line : (at : ℕ) (bit : Bool) (from to n : ℕ) (l : PiecesAndRoom) (line : List Cut) → n ≡ l.room.places → IsRunWritten at bit from to l.pieces line → IsLine line n
+written_line at bit from to n l line room h =
+    go l.pieces line h.as_long (start_kept at bit from to l.pieces line h) (long_kept at bit from to l.pieces line h) l.stands.rising l.stands.rows l.stands.whole
+  where
+    go : (old new : List Cut) → length new ≡ length old → ((j : ℕ) → (get_or new j none).0 ≡ (get_or old j none).0) → ((j : ℕ) → length (get_or new j none).1 ≡ length (get_or old j none).1)
+        → IsRising most_start old → EachRow (row_bits old) old → (row_bits old + l.room.places) % 64 ≡ 0 → IsLine new n
+    go [] new e starts' longs r rows whole = absurd r
+    go (p ∷ ps) [] e starts' longs r rows whole = absurd (omega arith)
+    go (p ∷ ps) (q ∷ qs) e starts' longs r rows whole =
+        let first : length q.1 ≡ length p.1 = longs 0 in
+        let P : ℕ → Type 0 = λ m. EachRow m qs in
+        record {
+          rising = (starts' 0 ∙ r.0, rising_as most_start 0 ps qs (omega arith) (λ j. starts' (suc j)) r.1);
+          rows = (refl, subst P (sym first) (each_as (length p.1) ps qs (omega arith) (λ j. longs (suc j)) rows.1));
+          whole = omega (arith, first, room, whole);
+        }
 
 -- ---- what answers with written bits show
 

@@ -1,5 +1,5 @@
 -- What the rows of a point have in common: the answers of the boxes, and the search among them.
-use Rattle.std.proofs.Common.{◌≡◌, inl, inr, ℕ, ◌+◌, ◌-◌, ◌*◌, ◌^◌, ◌<◌, ◌≤◌, Bool, true, false, List, [], length, drop, get_or, map, sym, ◌∙◌, ap, arith, lit<, Option, Some, None, Bor}
+use Rattle.std.proofs.Common.{◌≡◌, inl, inr, ℕ, ◌+◌, ◌-◌, ◌*◌, ◌^◌, ◌<◌, ◌≤◌, Bool, true, false, List, [], length, drop, get_or, map, sym, ◌∙◌, ap, arith, ◌/◌, Option, Some, None, Bor}
 use Rattle.classify.proofs.laws.line.LineLaws.{same_tests}
 use Rattle.std.proofs.lemmas.Bool.{cases_lt, true≢false}
 use Rattle.std.proofs.lemmas.List.{get_or-take, get_or-drop, get_or-map, length-drop, length-map, same_lists}
@@ -8,27 +8,25 @@ use Rattle.std.proofs.lemmas.List.Sums.{AllPass-from_list_all, list_all-from_All
 use Rattle.fields.specs.declared.numbers.field.TheConstants.{FIELDS}
 use Rattle.fields.specs.numbers.Spans.{SpanSet}
 use Rattle.bits.specs.steps.First.{IsFirst}
-use Rattle.bits.specs.steps.Packing.{all_bits}
+use Rattle.bits.specs.declared.turned_rows.TurnedWords.{TurnedWords}
 use Rattle.classify.specs.classifier.Classifier.{Classified, IsClassifierOf, IsPoint, box_matches}
 use Rattle.classify.specs.search.NextMatch.{next_match}
-use Rattle.classify.specs.steps.CommonPlaces.{AreRowsAt, AreWide, HaveAll, all_have, common_bits}
-use Rattle.classify.specs.steps.Summaries.{AreCandidates, SumUpAll, SumUpPoint}
-use Rattle.classify.proofs.laws.search.NextLaws.{have_to_allow, next_from_first, none_past}
+use Rattle.classify.specs.steps.CommonPlaces.{AreRowsAt, AreWide, HaveAll, all_have, bits_of, common_bits}
+use Rattle.classify.specs.steps.Summaries.{AreCandidates, IsOfAll, SumUpAll}
+use Rattle.classify.proofs.laws.search.NextLaws.{have_to_allow, next_from_first}
+use Rattle.classify.proofs.laws.search.TurnedLaws.{none_past, row_wide}
 
 abbrev Rows : Type 0
-Rows = List (Bor (List ℕ))
+Rows = List TurnedWords
 
-abbrev none : Bor (List ℕ)
-none = record { ref_ptr = (0, 0); now = [] }
-
-some : 0 < FIELDS
-some = lit< tt
+none : TurnedWords
+none = let blank : Bor (List ℕ) = record { ref_ptr = (0, 0); now = [] } in record { own = blank; turn = blank; summary = 0 }
 
 have_all : (rows : Rows) (p : ℕ) → all_have rows p ≡ true → HaveAll rows p
-have_all rows p = AllPass-from_list_all (λ (row : Bor (List ℕ)). get_or (all_bits row.now) p false) rows
+have_all rows p = AllPass-from_list_all (λ (row : TurnedWords). get_or (bits_of row) p false) rows
 
 all_have-true : (rows : Rows) (p : ℕ) → HaveAll rows p → all_have rows p ≡ true
-all_have-true rows p = list_all-from_AllPass (λ (row : Bor (List ℕ)). get_or (all_bits row.now) p false) rows
+all_have-true rows p = list_all-from_AllPass (λ (row : TurnedWords). get_or (bits_of row) p false) rows
 
 common_long : (len : ℕ) (rows : Rows) → length (common_bits len rows) ≡ len
 common_long len rows = length-map-range_with_len (all_have rows) 0 len
@@ -38,12 +36,13 @@ common_at len p rows d lt = get_or-map-range_with_len (all_have rows) 0 len p p 
 
 -- ---- the rows of a point
 
-pub rows_are_candidates : (m : ℕ) (c : Classified) (point : List ℕ) (rows : Rows) (summary : ℕ) → AreRowsAt m c point rows FIELDS → SumUpPoint m c point summary FIELDS → AreCandidates (m + c.len) summary rows
+pub rows_are_candidates : (m : ℕ) (c : Classified) (point : List ℕ) (rows : Rows) (summary : ℕ) → AreRowsAt m c point rows FIELDS → IsOfAll summary rows → AreCandidates (m + c.len) summary rows
 rows_are_candidates m c point rows summary h sum = record {
-  long = h.long;
-  packed = λ k d lt. (h.are k d (omega (arith, h.long, lt))).packed;
-  summed = λ p within every. sum p (λ j below.
-      sym (ap (λ (bs : List Bool). get_or bs p false) (h.are j none below).bits) ∙ get_or-take (m + c.len) (all_bits (get_or rows j none).now) p false within ∙ every j none (omega (arith, h.long, below)));
+  some = h.some;
+  packed = λ k d lt. (h.are k d lt).2.packed;
+  summed = λ p within every. sum (p / 64) (λ j d below.
+      let r = (h.are j d below).2 in
+      r.summed p (sym (ap (λ (bs : List Bool). get_or bs p false) r.bits) ∙ get_or-take (m + c.len) (bits_of (get_or rows j d)) p false within ∙ every j d below));
 }
 
 pub common_answers : (m : ℕ) (c : Classified) (boxes : List (List SpanSet)) (point : List ℕ) (rows : Rows) → IsClassifierOf boxes c → IsPoint point → AreRowsAt m c point rows FIELDS → drop m (common_bits (m + c.len) rows) ≡ map (box_matches point) boxes
@@ -53,7 +52,7 @@ common_answers m c boxes point rows h within rs =
     same_lists (drop m all) (map (box_matches point) boxes) (long ∙ h.len ∙ sym (length-map boxes (box_matches point))) (λ k d lt.
     let in' : k < c.len = omega (arith, lt, long) in
     let boxed : k < length boxes = omega (arith, in', h.len) in
-    let both = have_to_allow m c boxes point rows k [] h within rs.long rs.are boxed in
+    let both = have_to_allow m c boxes point rows k [] h within rs boxed in
     get_or-drop m all k d
     ∙ common_at (m + c.len) (m + k) rows d (omega arith)
     ∙ same_tests (all_have rows (m + k)) (box_matches point (get_or boxes k [])) (λ e. both.0 (have_all rows (m + k) e)) (λ e. all_have-true rows (m + k) (both.1 e))
@@ -63,17 +62,14 @@ common_answers m c boxes point rows h within rs =
 
 -- rows have so few bits that these can be counted
 pub are_counted : (len summary : ℕ) (rows : Rows) → AreCandidates len summary rows → len < 2 ^ 64
-are_counted len summary rows h = let row = h.packed 0 none (omega (arith, h.long, some)) in omega (arith, row.few, row.covers)
+are_counted len summary rows h = let row = h.packed 0 none h.some in omega (arith, row.own.few, row.own.covers)
 
 module _ (len summary words : ℕ) (rows : Rows) (h : AreCandidates len summary rows) (covers : len ≤ 64 * words) (tight : 64 * words < len + 64) where
   pub are_wide : AreWide words rows
-  are_wide k d lt = let row = h.packed k d lt in omega (arith, row.covers, row.tight, covers, tight)
-
-  first_row : 0 < length rows
-  first_row = omega (arith, h.long, some)
+  are_wide k d lt = row_wide (get_or rows k d) len words (h.packed k d lt) covers tight
 
   pub are_few : words < 2 ^ 58
-  are_few = let row = h.packed 0 none first_row in let wide = are_wide 0 none first_row in omega (arith, row.few, wide)
+  are_few = let row = h.packed 0 none h.some in let wide = are_wide 0 none h.some in omega (arith, row.own.few, wide.0)
 
   -- no row has a bit past the boxes
   in_bounds : (p : ℕ) → p < 64 * words → HaveAll rows p → p < len
@@ -81,8 +77,8 @@ module _ (len summary words : ℕ) (rows : Rows) (h : AreCandidates len summary 
       elim (cases_lt p len) [
         | inl in' ↦ in'
         | inr le ↦ (
-            let wide = are_wide 0 none first_row in
-            absurd (true≢false (sym (every 0 none first_row) ∙ none_past (get_or rows 0 none).now len p (h.packed 0 none first_row) le (omega (arith, lt, wide)))))
+            let wide = are_wide 0 none h.some in
+            absurd (true≢false (sym (every 0 none h.some) ∙ none_past (get_or rows 0 none) len p (h.packed 0 none h.some) le (omega (arith, lt, wide.0)))))
       ]
 
   pub are_summed : SumUpAll summary words rows

@@ -1,108 +1,153 @@
 -- The first place that every row has is the next box that box_allows the point.
-use Rattle.std.proofs.Common.{◌≡◌, ◌↔◌, inl, inr, ℕ, zero, suc, ◌+◌, ◌-◌, ◌*◌, ◌<◌, ◌≤◌, Bool, true, false, cond, not, List, [], ◌∷◌, length, drop, take, get_or, map, refl, sym, ◌∙◌, ap, arith, subst, Option, Some, None, Bor}
-use Rattle.std.specs.Prelude.{◌/◌, ◌%◌, ◌^◌, slice_index, bit_and}
+use Rattle.std.proofs.Common.{◌≡◌, ◌↔◌, inl, inr, ℕ, zero, suc, ◌+◌, ◌-◌, ◌*◌, ◌<◌, ◌≤◌, Bool, true, false, cond, not, List, [], ◌∷◌, length, drop, take, get_or, ◌++◌, map, refl, sym, ◌∙◌, ap, arith, subst, length-append, Option, Some, None}
+use Rattle.std.specs.Prelude.{◌/◌, ◌%◌, slice_index, bit_and}
 use Rattle.std.specs.Int.{bit_at}
-use Rattle.std.proofs.lemmas.Nat.Bits.{bit_at_and, bit_at_ones}
+use Rattle.std.proofs.lemmas.Nat.Bits.{bit_at_and}
 use Rattle.bits.specs.MarginRows.{after_margin}
 use Rattle.bits.proofs.laws.MarginLaws.{get-after, length-after}
-use Rattle.bits.specs.steps.Summaries.{IsSummaryOf}
-use Rattle.classify.specs.steps.Summaries.{SumUpAll, SumUpPoint}
+use Rattle.bits.specs.declared.turned_rows.TurnedWords.{TurnedWords}
+use Rattle.bits.specs.steps.Summaries.{IsMarked, IsSummaryOf}
+use Rattle.classify.specs.steps.Summaries.{IsOfAll, SumUpAll}
 use Rattle.std.specs.List.{list_all, position_or_len}
 use Rattle.std.specs.Option.{option_map}
 use Rattle.std.proofs.Math.Dec.{ltb}
-use Rattle.std.proofs.lemmas.Bool.{cases_lt, cases_eq, cases_Bool, true≢false, lt-ltb, le-ltb, false_from_ne_true}
-use Rattle.std.proofs.lemmas.List.{get_or-drop, get_or-take, get_or-map, length-drop, length-set, get_or-set_same, get_or-set_other}
-use Rattle.std.proofs.Math.ListN.{set}
+use Rattle.std.proofs.lemmas.Bool.{cases_lt, cases_Bool, true≢false, lt-ltb, le-ltb, false_from_ne_true}
+use Rattle.std.proofs.lemmas.List.{get_or-drop, get_or-take, get_or-map, get_or_default, length-drop}
 use Rattle.std.proofs.lemmas.List.Folds.{list_all_at}
-use Rattle.std.proofs.lemmas.List.Elements.{All-cons, All-get_or, All-head, All-nil}
+use Rattle.std.proofs.lemmas.List.Elements.{All-cons, All-head, All-nil, All-pop, All-push}
 use Rattle.fields.specs.declared.numbers.field.TheConstants.{FIELDS}
 use Rattle.fields.specs.declared.numbers.field.TheConstants.Field.{ALL}
 use Rattle.fields.specs.declared.numbers.field.Field.{Field}
 use Rattle.fields.specs.numbers.Field.{index, top}
 use Rattle.fields.specs.numbers.Spans.{SpanSet}
-use Rattle.bits.specs.steps.Packing.{all_bits, IsPacked}
+use Rattle.bits.specs.steps.Packing.{IsPacked}
 use Rattle.classify.specs.line.Line.{row_at}
 use Rattle.classify.specs.steps.Pieces.{row_in}
 use Rattle.classify.specs.steps.Fields.{shown_line, shown_by, IsKept}
 use Rattle.bits.specs.steps.First.{IsFirst}
-use Rattle.classify.specs.steps.CommonPlaces.{IsRowAt, AreRowsAt, HaveAll}
+use Rattle.classify.specs.steps.CommonPlaces.{ArePacked, AreRowsAt, AreWide, HaveAll, IsRowAt, IsRowOfPoint, IsWide, bits_of}
 use Rattle.rules.specs.boxing.Boxed.{set_on}
 use Rattle.rules.proofs.laws.boxing.BoxLaws.{index-lt, here_is}
 use Rattle.classify.specs.classifier.Classifier.{box_allows, line_on, Classified, IsClassifierOf, IsPoint, box_matches}
 use Rattle.fields.specs.numbers.Field.{number_on}
 use Rattle.classify.specs.search.NextMatch.{next_match}
 use Rattle.classify.proofs.laws.line.BoxLaws.{says_from_line}
-use Rattle.bits.proofs.laws.WordLaws.{length-all_bits}
+use Rattle.classify.proofs.laws.search.TurnedLaws.{none_past, own_wide}
 use Rattle.classify.proofs.laws.classifier.ClassifierLaws.{field_at, row_of_sets, line_of_sets, shown_at_place}
+use Rattle.classify.specs.steps.Whole.{IsWhole}
+use Rattle.classify.proofs.laws.classifier.WholeLaws.{said_on}
 use Rattle.classify.proofs.laws.line.KeptLaws.{said_long}
 use Rattle.classify.specs.steps.Kept.{PiecesAndRoom}
 
 -- ---- the row of a field at a number
 
-pub record IsField (lines : List PiecesAndRoom) (len k x : ℕ) (now : PiecesAndRoom) : Type 0 where
-  pub long : length (row_in now.pieces x) ≡ len
-  pub same : now.pieces ≡ get_or (map shown_line lines) k []
+record IsField (lines : List PiecesAndRoom) (len k x : ℕ) (now : PiecesAndRoom) : Type 0 where
+  long : length (row_in now.pieces x) ≡ len
+  same : now.pieces ≡ get_or (map shown_line lines) k []
 
-pub field_row : (lines : List PiecesAndRoom) (len k x : ℕ) (d : PiecesAndRoom) → length lines ≡ FIELDS → IsKept len lines → k < FIELDS → IsField lines len k x (get_or lines k d)
-field_row lines len k x d n h lt =
-    let lt' : k < length lines = omega arith in
+field_row : (lines : List PiecesAndRoom) (len k x : ℕ) (d : PiecesAndRoom) → IsKept len lines → k < FIELDS → IsField lines len k x (get_or lines k d)
+field_row lines len k x d h lt =
+    let lt' : k < length lines = omega (arith, h.fields) in
     record { long = said_long (get_or lines k d) x ∙ (h.sound k d lt').bits; same = sym (shown_at_place lines k d lt') }
 
--- a row that a line lends, after the margin of all lines
-pub field_lent : (lines : List PiecesAndRoom) (len m k x : ℕ) (now : PiecesAndRoom) (row : List ℕ) → IsField lines len k x now → now.room.before ≡ m
-    → IsPacked row (length (after_margin now.room.before (row_in now.pieces x)))
-    → take (length (after_margin now.room.before (row_in now.pieces x))) (all_bits row) ≡ after_margin now.room.before (row_in now.pieces x)
+-- what a line lends at a number: the row there, after the margin of the line
+pub record IsLent (now : PiecesAndRoom) (x : ℕ) (row : TurnedWords) : Type 0 where
+  pub own : IsPacked row.own.now (length (after_margin now.room.before (row_in now.pieces x)))
+  pub turn : IsPacked row.turn.now (length (after_margin now.room.before (row_in now.pieces x)))
+  pub bits : take (length (after_margin now.room.before (row_in now.pieces x))) (bits_of row) ≡ after_margin now.room.before (row_in now.pieces x)
+  pub summed : IsSummaryOf row.summary (after_margin now.room.before (row_in now.pieces x))
+
+-- it is the field's row, after the margin of all lines, which is that of the first
+pub field_lent : (lines : List PiecesAndRoom) (len m k x : ℕ) (d e : PiecesAndRoom) (row : TurnedWords) → IsKept len lines → k < FIELDS → m ≡ (get_or lines 0 e).room.before → IsLent (get_or lines k d) x row
     → IsRowAt m (shown_by len lines) k x row
-field_lent lines len m k x now row f margin packed bits =
+field_lent lines len m k x d e row kept lt first h =
+    let now : PiecesAndRoom = get_or lines k d in
+    let f = field_row lines len k x d kept lt in
+    let some : 0 < length lines = omega (arith, kept.fields) in
+    let margin : now.room.before ≡ m =
+    kept.margin k 0 d (omega (arith, kept.fields)) some ∙ ap (λ (l : PiecesAndRoom). l.room.before) (get_or_default lines 0 d e some) ∙ sym first in
     let own : List Bool = row_in now.pieces x in
-    let P : ℕ → Type 0 = λ n. IsPacked row (length (after_margin n own)) in
-    let Q : ℕ → Type 0 = λ n. take (length (after_margin n own)) (all_bits row) ≡ after_margin n own in
-    let R : ℕ → Type 0 = λ n. IsPacked row n in
-    let long : length (after_margin m own) ≡ m + len = length-after m own ∙ ap (λ n. m + n) f.long in
+    let long : length (after_margin now.room.before own) ≡ m + len = length-after now.room.before own ∙ omega (arith, f.long) in
+    let here : after_margin now.room.before own ≡ after_margin m (row_in (get_or (map shown_line lines) k []) x) =
+    ap (λ n. after_margin n own) margin ∙ ap (λ (line : List (ℕ × List Bool)). after_margin m (row_in line x)) f.same in
+    let P : List ℕ → ℕ → Type 0 = λ words n. IsPacked words n in
+    let Q : List Bool → Type 0 = λ bits. IsSummaryOf row.summary bits in
     record {
-      packed = subst R long (subst P margin packed);
-      bits = ap (λ n. take n (all_bits row)) (sym long) ∙ subst Q margin bits ∙ ap (λ (line : List (ℕ × List Bool)). after_margin m (row_in line x)) f.same;
+      packed = record { own = subst (P row.own.now) long h.own; turn = subst (P row.turn.now) long h.turn };
+      bits = ap (λ n. take n (bits_of row)) (sym long) ∙ h.bits ∙ here;
+      summed = subst Q here h.summed;
     }
 
--- and its summary
-pub field_summed : (lines : List PiecesAndRoom) (len m k x summary : ℕ) (now : PiecesAndRoom) → IsField lines len k x now → now.room.before ≡ m
-    → IsSummaryOf summary (after_margin now.room.before (row_in now.pieces x)) → IsSummaryOf summary (after_margin m (row_in (get_or (map shown_line lines) k []) x))
-field_summed lines len m k x summary now f margin h =
-    let P : ℕ → Type 0 = λ n. IsSummaryOf summary (after_margin n (row_in now.pieces x)) in
-    let Q : List (ℕ × List Bool) → Type 0 = λ line. IsSummaryOf summary (after_margin m (row_in line x)) in
-    subst Q f.same (subst P margin h)
+-- a bit of the row, past the margin, is that of the line
+row_same : (m : ℕ) (c : Classified) (k x : ℕ) (row : TurnedWords) (p : ℕ) → IsRowAt m c k x row → p < c.len → get_or (bits_of row) (m + p) false ≡ get_or (row_in (get_or c.lines k []) x) p false
+row_same m c k x row p r lt =
+    let in' : m + p < m + c.len = omega arith in
+    let here : List Bool = row_in (get_or c.lines k []) x in
+    sym (get_or-take (m + c.len) (bits_of row) (m + p) false in') ∙ ap (λ (bs : List Bool). get_or bs (m + p) false) r.bits ∙ get-after m p here false
+
+row_gives : (m : ℕ) (c : Classified) (k x : ℕ) (row : TurnedWords) (p : ℕ) → IsRowAt m c k x row → p < c.len → get_or (bits_of row) (m + p) false ≡ true → get_or (row_in (get_or c.lines k []) x) p false ≡ true
+row_gives m c k x row p r lt on = sym (row_same m c k x row p r lt) ∙ on
 
 -- ---- all rows
 
-pub lent_more : (m : ℕ) (c : Classified) (point : List ℕ) (rows : List (Bor (List ℕ))) (k : ℕ) (row : Bor (List ℕ)) → AreRowsAt m c point rows k → k < FIELDS → IsRowAt m c k (slice_index point k) row.now → AreRowsAt m c point (set rows k row) (k + 1)
-lent_more m c point rows k row h lt r =
-    let in' : k < length rows = omega (arith, h.long) in
-    record {
-      long = length-set rows k row ∙ h.long;
-      are = λ j d below.
-          elim (cases_eq j k) [
-            | inl at ↦ (
-                let P : ℕ → Type 0 = λ i. IsRowAt m c i (slice_index point i) (get_or (set rows k row) i d).now in
-                let Q : Bor (List ℕ) → Type 0 = λ s. IsRowAt m c k (slice_index point k) s.now in
-                subst P (sym at) (subst Q (sym (get_or-set_same rows k row d in')) r))
-            | inr ne ↦ (
-                let Q : Bor (List ℕ) → Type 0 = λ s. IsRowAt m c j (slice_index point j) s.now in
-                subst Q (sym (get_or-set_other rows k j row d ne)) (h.are j d (omega arith)))
-          ];
-    }
+-- what all rows have with one more, those without it have, and it
+have_more : (rows : List TurnedWords) (row : TurnedWords) (p : ℕ) → HaveAll (rows ++ row ∷ []) p → HaveAll rows p × (get_or (bits_of row) p false ≡ true)
+have_more rows row p every = All-pop (λ (s : TurnedWords). get_or (bits_of s) p false ≡ true) (rows ++ row ∷ []) rows (Some row) refl every
 
--- a bit of a field's row is a box's answer
-row_answer : (m : ℕ) (c : Classified) (boxes : List (List SpanSet)) (point : List ℕ) (field : Field) (row : List ℕ) (p : ℕ) (b : List SpanSet) → IsClassifierOf boxes c → IsPoint point
-    → IsRowAt m c (index field) (slice_index point (index field)) row → p < length boxes → get_or (all_bits row) (m + p) false ≡ box_allows (get_or boxes p b) field (number_on point field)
-row_answer m c boxes point field row p b h within r lt =
-    let in' : m + p < m + c.len = omega (arith, h.len) in
+-- the row of the first field
+pub point_first : (m : ℕ) (c : Classified) (point : List ℕ) (row : TurnedWords) → IsRowAt m c 0 (slice_index point 0) row → AreRowsAt m c point (row ∷ []) 1
+point_first m c point row r = record {
+  some = omega arith;
+  are = All-cons (IsRowOfPoint m c point) row [] (0, omega arith, r) (All-nil (IsRowOfPoint m c point));
+  stand = λ p k lt first every.
+      (let e : k ≡ 0 = omega arith in
+      let P : ℕ → Type 0 = λ j. get_or (row_in (get_or c.lines j []) (slice_index point j)) p false ≡ true in
+      subst P (sym e) (row_gives m c 0 (slice_index point 0) row p r lt (All-head (λ (s : TurnedWords). get_or (bits_of s) (m + p) false ≡ true) row [] every)));
+}
+
+-- and that of one more
+pub point_more : (m : ℕ) (c : Classified) (point : List ℕ) (rows : List TurnedWords) (k : ℕ) (row : TurnedWords) → AreRowsAt m c point rows k → k < FIELDS → IsRowAt m c k (slice_index point k) row → AreRowsAt m c point (rows ++ row ∷ []) (k + 1)
+point_more m c point rows k row h lt r = record {
+  some = omega (arith, h.some, length-append rows (row ∷ []));
+  are = All-push (IsRowOfPoint m c point) rows row h.are (k, lt, r);
+  stand = λ p j in' below every.
+      (let parts = have_more rows row (m + p) every in
+      elim (cases_lt j k) [
+        | inl before ↦ h.stand p j in' before parts.0
+        | inr past ↦ (
+            let e : j ≡ k = omega arith in
+            let P : ℕ → Type 0 = λ i. get_or (row_in (get_or c.lines i []) (slice_index point i)) p false ≡ true in
+            subst P (sym e) (row_gives m c k (slice_index point k) row p r in' parts.1))
+      ]);
+}
+
+-- the line of one field more is whole
+pub point_passed : (lines : List PiecesAndRoom) (len m : ℕ) (point : List ℕ) (rows : List TurnedWords) (k : ℕ) (d : PiecesAndRoom) → IsKept len lines → k < FIELDS → IsWhole (get_or lines k d)
+    → AreRowsAt m (shown_by len lines) point rows k → AreRowsAt m (shown_by len lines) point rows (k + 1)
+point_passed lines len m point rows k d kept lt whole h = record {
+  some = h.some;
+  are = h.are;
+  stand = λ p j in' below every.
+      elim (cases_lt j k) [
+        | inl before ↦ h.stand p j in' before every
+        | inr past ↦ (
+            let e : j ≡ k = omega arith in
+            let P : ℕ → Type 0 = λ i. get_or (row_in (get_or (map shown_line lines) i []) (slice_index point i)) p false ≡ true in
+            let Q : List (ℕ × List Bool) → Type 0 = λ line. get_or (row_in line (slice_index point k)) p false ≡ true in
+            let f = field_row lines len k (slice_index point k) d kept lt in
+            let all = said_on (get_or lines k d) (slice_index point k) whole in
+            subst P (sym e) (subst Q f.same (all p false (omega (arith, f.long, in')))))
+      ];
+}
+
+-- a bit of a field's line is a box's answer
+line_answer : (c : Classified) (boxes : List (List SpanSet)) (point : List ℕ) (field : Field) (p : ℕ) (b : List SpanSet) → IsClassifierOf boxes c → IsPoint point → p < length boxes
+    → get_or (row_in (get_or c.lines (index field) []) (slice_index point (index field))) p false ≡ box_allows (get_or boxes p b) field (number_on point field)
+line_answer c boxes point field p b h within lt =
     let x : ℕ = number_on point field in
     let said : row_in (line_on field c) x ≡ row_at (λ box y. box_allows box field y) boxes x =
     says_from_line (top field) (map (set_on field) boxes) (line_on field c) (line_of_sets field (top field) boxes (line_on field c) (h.lines field)) x (within field) ∙ sym (row_of_sets field boxes x) in
-    sym (get_or-take (m + c.len) (all_bits row) (m + p) false in')
-    ∙ ap (λ (bs : List Bool). get_or bs (m + p) false) (r.bits ∙ ap (after_margin m) said)
-    ∙ get-after m p (row_at (λ box y. box_allows box field y) boxes x) false
-    ∙ get_or-map (λ box. box_allows box field x) boxes p b false lt
+    ap (λ (bs : List Bool). get_or bs p false) said ∙ get_or-map (λ box. box_allows box field x) boxes p b false lt
 
 every_passes : (test : Field → Bool) (fs : List Field) → ((field : Field) → test field ≡ true) → list_all test fs ≡ true
 every_passes test [] h = refl
@@ -115,38 +160,31 @@ passes_each test h field =
       | inr f ↦ absurd (true≢false (sym h ∙ list_all_at test ALL (index field) field (index-lt field) (ap test (here_is field field) ∙ f)))
     ]
 
-pub have_to_allow : (m : ℕ) (c : Classified) (boxes : List (List SpanSet)) (point : List ℕ) (rows : List (Bor (List ℕ))) (p : ℕ) (b : List SpanSet) → IsClassifierOf boxes c → IsPoint point
-    → length rows ≡ FIELDS → ((j : ℕ) (d : Bor (List ℕ)) → j < FIELDS → IsRowAt m c j (slice_index point j) (get_or rows j d).now) → p < length boxes → HaveAll rows (m + p) ↔ (box_matches point (get_or boxes p b) ≡ true)
-have_to_allow m c boxes point rows p b h within n are lt =
-    let none : Bor (List ℕ) = record { ref_ptr = (0, 0); now = [] } in
+pub have_to_allow : (m : ℕ) (c : Classified) (boxes : List (List SpanSet)) (point : List ℕ) (rows : List TurnedWords) (p : ℕ) (b : List SpanSet) → IsClassifierOf boxes c → IsPoint point
+    → AreRowsAt m c point rows FIELDS → p < length boxes → HaveAll rows (m + p) ↔ (box_matches point (get_or boxes p b) ≡ true)
+have_to_allow m c boxes point rows p b h within rs lt =
+    let in' : p < c.len = omega (arith, h.len) in
     let test : Field → Bool = λ field. box_allows (get_or boxes p b) field (number_on point field) in (
-      λ every. every_passes test ALL (λ field.
-          (let k : index field < length rows = omega (arith, index-lt field) in
-          sym (row_answer m c boxes point field (get_or rows (index field) none).now p b h within (are (index field) none (index-lt field)) lt) ∙ every (index field) none k)),
+      λ every. every_passes test ALL (λ field. sym (line_answer c boxes point field p b h within lt) ∙ rs.stand p (index field) in' (index-lt field) every),
       λ pass k d below.
-          (let f = field_at k (omega arith) in
-          let P : ℕ → Type 0 = λ j. get_or (all_bits (get_or rows j d).now) (m + p) false ≡ true in
-          subst P f.1 (row_answer m c boxes point f.0 (get_or rows (index f.0) d).now p b h within (are (index f.0) d (index-lt f.0)) lt ∙ passes_each test pass f.0)),
+          (let of = rs.are k d below in
+          let f = field_at of.0 of.1 in
+          let row : TurnedWords = get_or rows k d in
+          let P : ℕ → Type 0 = λ j. get_or (row_in (get_or c.lines j []) (slice_index point j)) p false ≡ true in
+          row_same m c of.0 (slice_index point of.0) row p of.2 in' ∙ subst P f.1 (line_answer c boxes point f.0 p b h within lt ∙ passes_each test pass f.0)),
     )
-
--- no row has a bit past the boxes
-pub none_past : (row : List ℕ) (len p : ℕ) → IsPacked row len → len ≤ p → p < 64 * length row → get_or (all_bits row) p false ≡ false
-none_past row len p h le lt =
-    let size : length (all_bits row) ≡ 64 * length row = length-all_bits row in
-    let k : p - len < length (drop len (all_bits row)) = omega (arith, length-drop len (all_bits row)) in
-    let e : len + (p - len) ≡ p = omega arith in
-    sym (ap (λ j. get_or (all_bits row) j false) e) ∙ sym (get_or-drop len (all_bits row) (p - len) false) ∙ All-get_or (λ (b : Bool). b ≡ false) (drop len (all_bits row)) (p - len) false k h.padded
 
 -- ---- the summary of all rows
 
-pub point_first : (m : ℕ) (c : Classified) (point : List ℕ) → SumUpPoint m c point (2 ^ 64 - 1) 0
-point_first m c point p each = bit_at_ones 64 (p / 64 / 2 % 64) (omega arith)
+pub sum_first : (row : TurnedWords) → IsOfAll row.summary (row ∷ [])
+sum_first row word every = All-head (λ (s : TurnedWords). IsMarked s.summary word) row [] every
 
-pub point_more : (m : ℕ) (c : Classified) (point : List ℕ) (summary s k : ℕ) → SumUpPoint m c point summary k → IsSummaryOf s (after_margin m (row_in (get_or c.lines k []) (slice_index point k))) → SumUpPoint m c point (bit_and summary s) (k + 1)
-point_more m c point summary s k h one p each =
-    let all : bit_at summary (p / 64 / 2 % 64) ≡ 1 = h p (λ j lt. each j (omega arith)) in
-    let last : bit_at s (p / 64 / 2 % 64) ≡ 1 = one p (each k (omega arith)) in
-    bit_at_and summary s (p / 64 / 2 % 64) ∙ omega arith
+pub sum_more : (rows : List TurnedWords) (summary : ℕ) (row : TurnedWords) → IsOfAll summary rows → IsOfAll (bit_and summary row.summary) (rows ++ row ∷ [])
+sum_more rows summary row h word every =
+    let parts = All-pop (λ (s : TurnedWords). IsMarked s.summary word) (rows ++ row ∷ []) rows (Some row) refl every in
+    let all : bit_at summary (word / 2 % 64) ≡ 1 = h word parts.0 in
+    let last : bit_at row.summary (word / 2 % 64) ≡ 1 = parts.1 in
+    bit_at_and summary row.summary (word / 2 % 64) ∙ omega arith
 
 -- ---- the first place is the next match
 
@@ -184,28 +222,28 @@ next_from_first test boxes from d (Some n) h =
 
 -- ---- the next set bit of one row
 
-one_has : (row : Bor (List ℕ)) (bits : List Bool) (p : ℕ) → take (length bits) (all_bits row.now) ≡ bits → p < length bits → get_or bits p false ≡ get_or (all_bits row.now) p false
-one_has row bits p e lt = sym (ap (λ (bs : List Bool). get_or bs p false) e) ∙ get_or-take (length bits) (all_bits row.now) p false lt
+one_has : (row : TurnedWords) (bits : List Bool) (p : ℕ) → take (length bits) (bits_of row) ≡ bits → p < length bits → get_or bits p false ≡ get_or (bits_of row) p false
+one_has row bits p e lt = sym (ap (λ (bs : List Bool). get_or bs p false) e) ∙ get_or-take (length bits) (bits_of row) p false lt
 
-have_one : (row : Bor (List ℕ)) (p : ℕ) → get_or (all_bits row.now) p false ≡ true → HaveAll (row ∷ []) p
+have_one : (row : TurnedWords) (p : ℕ) → get_or (bits_of row) p false ≡ true → HaveAll (row ∷ []) p
 have_one row p t =
-    let P : Bor (List ℕ) → Type 0 = λ r. get_or (all_bits r.now) p false ≡ true in
+    let P : TurnedWords → Type 0 = λ r. get_or (bits_of r) p false ≡ true in
     All-cons P row [] t (All-nil P)
 
-one_is : (row : Bor (List ℕ)) (p : ℕ) → HaveAll (row ∷ []) p → get_or (all_bits row.now) p false ≡ true
-one_is row p h = All-head (λ (r : Bor (List ℕ)). get_or (all_bits r.now) p false ≡ true) row [] h
+one_is : (row : TurnedWords) (p : ℕ) → HaveAll (row ∷ []) p → get_or (bits_of row) p false ≡ true
+one_is row p h = All-head (λ (r : TurnedWords). get_or (bits_of r) p false ≡ true) row [] h
 
-one_within : (row : Bor (List ℕ)) (len p : ℕ) → IsPacked row.now len → p < 64 * length row.now → HaveAll (row ∷ []) p → p < len
+one_within : (row : TurnedWords) (len p : ℕ) → ArePacked len row → p < 64 * length row.own.now → HaveAll (row ∷ []) p → p < len
 one_within row len p h lt have =
-    elim (cases_lt p len) [ inl in' ↦ in' | inr le ↦ absurd (true≢false (sym (one_is row p have) ∙ none_past row.now len p h le lt)) ]
+    elim (cases_lt p len) [ inl in' ↦ in' | inr le ↦ absurd (true≢false (sym (one_is row p have) ∙ none_past row len p h le lt)) ]
 
 -- after a margin
-pub next_of_one : (row : Bor (List ℕ)) (bits : List Bool) (m from : ℕ) (r : Option ℕ) → IsPacked row.now (length bits) → take (length bits) (all_bits row.now) ≡ bits → m ≤ length bits
-    → IsFirst (λ p. HaveAll (row ∷ []) (m + p)) from (64 * length row.now - m) r → r ≡ next_match (λ bit. bit) (drop m bits) from
+pub next_of_one : (row : TurnedWords) (bits : List Bool) (m from : ℕ) (r : Option ℕ) → ArePacked (length bits) row → take (length bits) (bits_of row) ≡ bits → m ≤ length bits
+    → IsFirst (λ p. HaveAll (row ∷ []) (m + p)) from (64 * length row.own.now - m) r → r ≡ next_match (λ bit. bit) (drop m bits) from
 next_of_one row bits m from None h e le first =
     next_from_first (λ (bit : Bool). bit) (drop m bits) from false None (λ k ge lt t.
     let in' : m + k < length bits = omega (arith, length-drop m bits) in
-    first k ge (omega (arith, h.covers)) (have_one row (m + k) (sym (one_has row bits (m + k) e in') ∙ sym (get_or-drop m bits k false) ∙ t)))
+    first k ge (omega (arith, h.own.covers)) (have_one row (m + k) (sym (one_has row bits (m + k) e in') ∙ sym (get_or-drop m bits k false) ∙ t)))
 next_of_one row bits m from (Some n) h e le first =
     let in' : m + n < length bits = one_within row (length bits) (m + n) h (omega (arith, first.1)) first.2 in
     next_from_first (λ (bit : Bool). bit) (drop m bits) from false (Some n) (
@@ -215,5 +253,8 @@ next_of_one row bits m from (Some n) h e le first =
       λ k ge lt t. first.3 k ge lt (have_one row (m + k) (sym (one_has row bits (m + k) e (omega arith)) ∙ sym (get_or-drop m bits k false) ∙ t)),
     )
 
-pub one_sums_up : (row : Bor (List ℕ)) (bits : List Bool) (summary : ℕ) → IsPacked row.now (length bits) → take (length bits) (all_bits row.now) ≡ bits → IsSummaryOf summary bits → SumUpAll summary (length row.now) (row ∷ [])
-one_sums_up row bits summary h e sum p lt have = sum p (one_has row bits p e (one_within row (length bits) p h lt have) ∙ one_is row p have)
+pub one_wide : (row : TurnedWords) (len : ℕ) → ArePacked len row → AreWide (length row.own.now) (row ∷ [])
+one_wide row len h = All-cons (IsWide (length row.own.now)) row [] (own_wide row len h) (All-nil (IsWide (length row.own.now)))
+
+pub one_sums_up : (row : TurnedWords) (bits : List Bool) → ArePacked (length bits) row → take (length bits) (bits_of row) ≡ bits → IsSummaryOf row.summary bits → SumUpAll row.summary (length row.own.now) (row ∷ [])
+one_sums_up row bits h e sum p lt have = sum p (one_has row bits p e (one_within row (length bits) p h lt have) ∙ one_is row p have)

@@ -1,6 +1,6 @@
 -- The search for the first place that every row has.
-use Rattle.std.proofs.Common.{◌≡◌, ◌↔◌, inl, inr, ℕ, zero, suc, ◌+◌, ◌-◌, ◌*◌, ◌/◌, ◌%◌, ◌^◌, ◌<◌, ◌≤◌, true, false, List, [], ◌∷◌, length, take, get_or, refl, sym, ◌∙◌, ap, arith, subst, min, All, Option, Some, None, Bor}
-use Rattle.std.specs.Prelude.{slice_index, bit_and, bit_or, nat_eq, replicate}
+use Rattle.std.proofs.Common.{◌≡◌, ◌↔◌, inl, inr, ℕ, zero, suc, ◌+◌, ◌-◌, ◌*◌, ◌/◌, ◌%◌, ◌^◌, ◌<◌, ◌≤◌, true, false, List, [], ◌∷◌, length, take, get_or, refl, sym, ◌∙◌, ap, arith, subst, min, ap₂, All, Option, Some, None}
+use Rattle.std.specs.Prelude.{bit_and, bit_or, bit_xor, replicate}
 use Rattle.std.specs.Int.{bit_at}
 use Rattle.std.proofs.lemmas.List.{get_or-take, length-take-le}
 use Rattle.std.proofs.lemmas.List.Elements.{All-nil, All-more, All-take}
@@ -8,32 +8,29 @@ use Rattle.std.proofs.lemmas.Nat.{le_or_l, le_or_r}
 use Rattle.std.proofs.lemmas.Simd.{length-zip2, get_or-zip2, length-chunk, get_or-chunk, length-replicate, get_or-replicate}
 use lib.Lanes.{zip2, chunk, fold_l}
 use Rattle.std.proofs.lemmas.Nat.Bits.{bit_at_and, bit_at_ones, bit_at-lt}
-use Rattle.std.proofs.lemmas.Bool.{cases_lt, eqb-true, eq-eqb}
-use Rattle.bits.specs.steps.Packing.{all_bits}
+use Rattle.std.proofs.lemmas.Bool.{cases_lt}
+use Rattle.bits.specs.declared.turned_rows.TurnedWords.{TurnedWords}
 use Rattle.bits.specs.steps.First.{Nowhere, IsFirst}
-use Rattle.classify.specs.steps.CommonPlaces.{IsAndAt, AreAndsAt, AreWide, HaveAll}
+use Rattle.classify.specs.steps.CommonPlaces.{IsAndAt, AreAndsAt, AreWide, HaveAll, IsWide, bits_of, word_at}
 use Rattle.bits.specs.steps.Summaries.{IsMarked}
 use Rattle.classify.specs.steps.Summaries.{SumUpAll}
-use Rattle.bits.proofs.laws.GetLaws.{all_bit_at}
 use Rattle.bits.proofs.laws.MarkLaws.{MarksPlaces, word_empty, masked_marks}
-
-abbrev Words : Type 0
-Words = Bor (List ℕ)
+use Rattle.classify.proofs.laws.search.TurnedLaws.{row_has}
 
 -- ---- the and of the rows so far
 
 pub and_first : (place : ℕ) → IsAndAt (2 ^ 64 - 1) [] place
-and_first place = record { each = λ i lt. (λ _. All-nil (λ (row : Words). bit_at (slice_index row.now place) i ≡ 1), λ _. bit_at_ones 64 i lt) }
+and_first place = record { each = λ i lt. (λ _. All-nil (λ (row : TurnedWords). bit_at (word_at row place) i ≡ 1), λ _. bit_at_ones 64 i lt) }
 
 both_bits : (a b : ℕ) → a < 2 → b < 2 → min a b ≡ 1 → (a ≡ 1) × (b ≡ 1)
 both_bits a b la lb e = (omega arith, omega arith)
 
-pub and_more : (rows : List Words) (k all place : ℕ) (d : Words) → k < length rows → IsAndAt all (take k rows) place → IsAndAt (bit_and all (slice_index (get_or rows k d).now place)) (take (k + 1) rows) place
+pub and_more : (rows : List TurnedWords) (k all place : ℕ) (d : TurnedWords) → k < length rows → IsAndAt all (take k rows) place → IsAndAt (bit_and all (word_at (get_or rows k d) place)) (take (k + 1) rows) place
 and_more rows k all place d lt h =
     record {
       each = λ i in'.
-          (let P : Words → Type 0 = λ row. bit_at (slice_index row.now place) i ≡ 1 in
-          let w : ℕ = slice_index (get_or rows k d).now place in
+          (let P : TurnedWords → Type 0 = λ row. bit_at (word_at row place) i ≡ 1 in
+          let w : ℕ = word_at (get_or rows k d) place in
           let e : bit_at (bit_and all w) i ≡ min (bit_at all i) (bit_at w i) = bit_at_and all w i in (
             λ one. (let b = both_bits (bit_at all i) (bit_at w i) (bit_at-lt all i) (bit_at-lt w i) (sym e ∙ one) in All-more P rows k d lt ((h.each i in').0 b.0) b.1),
             λ every.
@@ -53,15 +50,10 @@ and_more rows k all place d lt h =
 
 -- ---- the bits of the and are the places that every row has
 
-row_has : (ws : List ℕ) (place i words : ℕ) → length ws ≡ words → place < words → i < 64 → (bit_at (get_or ws place 0) i ≡ 1) ↔ (get_or (all_bits ws) (64 * place + i) false ≡ true)
-row_has ws place i words n lt in' =
-    let e : get_or (all_bits ws) (64 * place + i) false ≡ nat_eq (bit_at (get_or ws place 0) i) 1 = all_bit_at ws place i (omega arith) in' in
-    (λ one. e ∙ eq-eqb (bit_at (get_or ws place 0) i) 1 one, λ on. eqb-true (bit_at (get_or ws place 0) i) 1 (sym e ∙ on))
-
-pub bits_mark : (rows : List Words) (words place word i : ℕ) → AreWide words rows → place < words → IsAndAt word rows place → i < 64 → (bit_at word i ≡ 1) ↔ HaveAll rows (64 * place + i)
+pub bits_mark : (rows : List TurnedWords) (words place word i : ℕ) → AreWide words rows → place < words → IsAndAt word rows place → i < 64 → (bit_at word i ≡ 1) ↔ HaveAll rows (64 * place + i)
 bits_mark rows words place word i wide lt h in' = (
-  λ one k d below. (row_has (get_or rows k d).now place i words (wide k d below) lt in').0 ((h.each i in').0 one k d below),
-  λ every. (h.each i in').1 (λ k d below. (row_has (get_or rows k d).now place i words (wide k d below) lt in').1 (every k d below)),
+  λ one k d below. (row_has (get_or rows k d) place i words (wide k d below) lt in').0 ((h.each i in').0 one k d below),
+  λ every. (h.each i in').1 (λ k d below. (row_has (get_or rows k d) place i words (wide k d below) lt in').1 (every k d below)),
 )
 
 -- ---- the first place that is later
@@ -75,7 +67,7 @@ first_later P from mid to (Some n) le before h =
 -- ---- words of the rows
 
 -- a whole word at or after `from`
-pub whole_marks : (rows : List Words) (from words place word : ℕ) → AreWide words rows → place < words → IsAndAt word rows place → from ≤ 64 * place → MarksPlaces (HaveAll rows) from (64 * place) word
+pub whole_marks : (rows : List TurnedWords) (from words place word : ℕ) → AreWide words rows → place < words → IsAndAt word rows place → from ≤ 64 * place → MarksPlaces (HaveAll rows) from (64 * place) word
 whole_marks rows from words place word wide lt h le i in' =
     let b = bits_mark rows words place word i wide lt h in' in
     (λ one. (omega arith, b.0 one), λ both. b.1 both.1)
@@ -88,20 +80,34 @@ four_first place = record {
   each = λ j lt. (let P : ℕ → Type 0 = λ v. IsAndAt v [] (place + j) in subst P (sym (get_or-replicate 4 j (2 ^ 64 - 1) 0 lt)) (and_first (place + j)));
 }
 
-pub four_more : (rows : List Words) (k words place : ℕ) (all : List ℕ) (d : Words) → k < length rows → AreWide words rows → place + 4 ≤ words → AreAndsAt all (take k rows) place
-    → AreAndsAt (zip2 bit_and all (chunk place 4 (get_or rows k d).now)) (take (k + 1) rows) place
+-- four words of a row
+abbrev four_of : ℕ → TurnedWords → List ℕ
+four_of place row = zip2 bit_xor (chunk place 4 row.own.now) (chunk place 4 row.turn.now)
+
+four_long : (place words : ℕ) (row : TurnedWords) → IsWide words row → place + 4 ≤ words → length (four_of place row) ≡ 4
+four_long place words row wide room =
+    let own = length-chunk place 4 row.own.now (omega (arith, wide.0)) in
+    let turn = length-chunk place 4 row.turn.now (omega (arith, wide.1)) in
+    length-zip2 bit_xor (chunk place 4 row.own.now) (chunk place 4 row.turn.now) (own ∙ sym turn) ∙ own
+
+four_at : (place words j : ℕ) (row : TurnedWords) → IsWide words row → place + 4 ≤ words → j < 4 → get_or (four_of place row) j 0 ≡ word_at row (place + j)
+four_at place words j row wide room lt =
+    let own = length-chunk place 4 row.own.now (omega (arith, wide.0)) in
+    let turn = length-chunk place 4 row.turn.now (omega (arith, wide.1)) in
+    get_or-zip2 bit_xor (chunk place 4 row.own.now) (chunk place 4 row.turn.now) j 0 0 0 (omega arith) (omega arith) ∙ ap₂ bit_xor (get_or-chunk place 4 row.own.now j 0 lt) (get_or-chunk place 4 row.turn.now j 0 lt)
+
+pub four_more : (rows : List TurnedWords) (k words place : ℕ) (all : List ℕ) (d : TurnedWords) → k < length rows → AreWide words rows → place + 4 ≤ words → AreAndsAt all (take k rows) place
+    → AreAndsAt (zip2 bit_and all (four_of place (get_or rows k d))) (take (k + 1) rows) place
 four_more rows k words place all d lt wide room h =
-    let row : List ℕ = (get_or rows k d).now in
-    let long : length row ≡ words = wide k d lt in
-    let room' : place + 4 ≤ length row = omega arith in
-    let four : length (chunk place 4 row) ≡ 4 = length-chunk place 4 row room' in
+    let row : TurnedWords = get_or rows k d in
+    let four = four_long place words row (wide k d lt) room in
     record {
-      long = length-zip2 bit_and all (chunk place 4 row) (h.long ∙ sym four) ∙ h.long;
+      long = length-zip2 bit_and all (four_of place row) (h.long ∙ sym four) ∙ h.long;
       each = λ j in'.
           (let a : j < length all = omega (arith, h.long) in
-          let b : j < length (chunk place 4 row) = omega arith in
-          let e : get_or (zip2 bit_and all (chunk place 4 row)) j 0 ≡ bit_and (get_or all j 0) (get_or row (place + j) 0) =
-          get_or-zip2 bit_and all (chunk place 4 row) j 0 0 0 a b ∙ ap (λ v. bit_and (get_or all j 0) v) (get_or-chunk place 4 row j 0 in') in
+          let b : j < length (four_of place row) = omega arith in
+          let e : get_or (zip2 bit_and all (four_of place row)) j 0 ≡ bit_and (get_or all j 0) (word_at row (place + j)) =
+          get_or-zip2 bit_and all (four_of place row) j 0 0 0 a b ∙ ap (λ v. bit_and (get_or all j 0) v) (four_at place words j row (wide k d lt) room in') in
           let P : ℕ → Type 0 = λ v. IsAndAt v (take (k + 1) rows) (place + j) in
           subst P (sym e) (and_more rows k (get_or all j 0) (place + j) d lt (h.each j in')));
     }
@@ -116,7 +122,7 @@ or_zero a (x ∷ xs) e =
     let r = or_zero (bit_or a x) xs e in
     (omega (arith, le_or_l a x, r.0), zeros x xs (omega (arith, le_or_r a x, r.0)) r.1)
 
-four_empty : (rows : List Words) (from words place : ℕ) (lanes : List ℕ) → AreWide words rows → place + 4 ≤ words → AreAndsAt lanes rows place → ((j : ℕ) → get_or lanes j 0 ≡ 0) → from ≤ 64 * place
+four_empty : (rows : List TurnedWords) (from words place : ℕ) (lanes : List ℕ) → AreWide words rows → place + 4 ≤ words → AreAndsAt lanes rows place → ((j : ℕ) → get_or lanes j 0 ≡ 0) → from ≤ 64 * place
     → Nowhere (HaveAll rows) from (64 * place) → (j : ℕ) → j ≤ 4 → Nowhere (HaveAll rows) from (64 * (place + j))
 four_empty rows from words place lanes wide room h z le before zero in' =
     let e : place ≡ place + 0 = omega arith in
@@ -127,18 +133,18 @@ four_empty rows from words place lanes wide room h z le before (suc j) in' =
     (whole_marks rows from words (place + j) (get_or lanes j 0) wide (omega arith) (h.each j (omega arith)) (omega arith)) (z j)
     (four_empty rows from words place lanes wide room h z le before j (omega arith)) (omega arith)
 
-four_passed : (rows : List Words) (from words place : ℕ) (lanes : List ℕ) → AreWide words rows → place + 4 ≤ words → AreAndsAt lanes rows place → fold_l bit_or 0 lanes ≡ 0 → from ≤ 64 * place
+four_passed : (rows : List TurnedWords) (from words place : ℕ) (lanes : List ℕ) → AreWide words rows → place + 4 ≤ words → AreAndsAt lanes rows place → fold_l bit_or 0 lanes ≡ 0 → from ≤ 64 * place
     → Nowhere (HaveAll rows) from (64 * place) → Nowhere (HaveAll rows) from (64 * (place + 4))
 four_passed rows from words place lanes wide room h z le before = four_empty rows from words place lanes wide room h (or_zero 0 lanes z).1 le before 4 (omega arith)
 
 -- what some of the rows lack all of them lack
-pub part_passed : (rows : List Words) (count words place : ℕ) (lanes : List ℕ) → AreWide words rows → place + 4 ≤ words → AreAndsAt lanes (take count rows) place → fold_l bit_or 0 lanes ≡ 0
+pub part_passed : (rows : List TurnedWords) (count words place : ℕ) (lanes : List ℕ) → AreWide words rows → place + 4 ≤ words → AreAndsAt lanes (take count rows) place → fold_l bit_or 0 lanes ≡ 0
     → Nowhere (HaveAll rows) (64 * place) (64 * (place + 4))
 part_passed rows count words place lanes wide room h z k ge below every =
-    four_passed (take count rows) (64 * place) words place lanes (All-take (λ (row : Words). length row.now ≡ words) count rows wide) room h z (omega arith) (λ j low high p. absurd (omega arith)) k ge below
-    (All-take (λ (row : Words). get_or (all_bits row.now) k false ≡ true) count rows every)
+    four_passed (take count rows) (64 * place) words place lanes (All-take (IsWide words) count rows wide) room h z (omega arith) (λ j low high p. absurd (omega arith)) k ge below
+    (All-take (λ (row : TurnedWords). get_or (bits_of row) k false ≡ true) count rows every)
 
-pub head_marks : (rows : List Words) (from words word : ℕ) → AreWide words rows → from / 64 < words → word < 2 ^ 64 → IsAndAt word rows (from / 64)
+pub head_marks : (rows : List TurnedWords) (from words word : ℕ) → AreWide words rows → from / 64 < words → word < 2 ^ 64 → IsAndAt word rows (from / 64)
     → MarksPlaces (HaveAll rows) from (64 * (from / 64)) (bit_and word ((2 ^ 64 - 1) * 2 ^ (from % 64) % 2 ^ 64))
 head_marks rows from words word wide lt fits h = masked_marks (HaveAll rows) from word fits (λ i in'. bits_mark rows words (from / 64) word i wide lt h in')
 
@@ -148,5 +154,5 @@ pub nowhere_up_to : (P : ℕ → Type 0) (from to less : ℕ) → less ≤ to �
 nowhere_up_to P from to less le h k ge below p = h k ge (omega arith) p
 
 -- no row has a place in words that their summary lacks
-pub nowhere_marked : (rows : List Words) (summary words from to : ℕ) → to ≤ words → SumUpAll summary words rows → Nowhere (IsMarked summary) from to → Nowhere (HaveAll rows) (64 * from) (64 * to)
+pub nowhere_marked : (rows : List TurnedWords) (summary words from to : ℕ) → to ≤ words → SumUpAll summary words rows → Nowhere (IsMarked summary) from to → Nowhere (HaveAll rows) (64 * from) (64 * to)
 nowhere_marked rows summary words from to le sum h p ge below every = h (p / 64) (omega arith) (omega arith) (sum p (omega arith) every)

@@ -1,5 +1,6 @@
-use Rattle.std.proofs.Common.{arith, subst, List, Bor, ℕ, ◌≤◌, length}
+use Rattle.std.proofs.Common.{arith, subst, List, ◌≤◌, length}
 use Rattle.std.proofs.lemmas.List.{take_all}
+use Rattle.bits.specs.declared.turned_rows.TurnedWords.{TurnedWords}
 use Rattle.classify.specs.steps.CommonPlaces.{IsAndAt}
 use Rattle.classify.proofs.laws.search.SearchLaws.{and_first, and_more}
 use Rattle.classify.proofs.search.and_at.Goals as goal
@@ -13,5 +14,5 @@ loop-row-preserved c = and_more c.args.rows.now c.loop-row.row-index c.loop-row.
 pub returns : goal.returns
 returns c =
     let le : length c.args.rows.now ≤ c.loop-row.row-index = omega arith in
-    let P : List (Bor (List ℕ)) → Type 0 = λ rows. IsAndAt c.loop-row.all rows c.args.place in
+    let P : List TurnedWords → Type 0 = λ rows. IsAndAt c.loop-row.all rows c.args.place in
     subst P (take_all c.loop-row.row-index c.args.rows.now le) c.loop-row.invariant

@@ -318,6 +318,36 @@ search_found ps slots order from goal seen reached at h there s end =
       ]
     ]
 
+-- Where no search is needed
+
+-- a chain leads to itself
+pub same_leads : (ps : List Policy) (slots : List (Option StoredChain)) (order : List ℕ) (from goal : ℕ) → IsStored ps slots order → from ≡ goal → leads (listed slots order) (stored_at slots from).name (stored_at slots goal).name ≡ true
+same_leads ps slots order from goal h same =
+    path_is_led (listed slots order) (stored_at slots from).name (stored_at slots goal).name h.sound.no_loop (0, ap (λ (x : ℕ). (stored_at slots x).name) same)
+
+-- from a chain without an edge no path leads to another
+path_nowhere : (ps : List Policy) (slots : List (Option StoredChain)) (order : List ℕ) (from goal : ℕ) (edges : List Edge) (n : ℕ) → IsStored ps slots order → IsIn order from → IsIn order goal → (from ≡ goal → ⊥) → AreEdges (stored_at slots from).entries edges
+    → length edges ≡ 0 → Path (listed slots order) n (stored_at slots from).name (stored_at slots goal).name → ⊥
+path_nowhere ps slots order from goal edges zero h at there apart own none p = apart (key_of_name ps slots order from goal h at there p)
+path_nowhere ps slots order from goal edges (suc n) h at there apart own none p =
+    let f = link_key ps slots order from p.0 h at p.1 in
+    let r = led_edge (stored_at slots from).entries edges f.0 f.2.0 own f.1 f.2.1 in
+    omega (arith, r.1, none)
+
+-- a chain without an edge leads to no other
+pub leads_nowhere : (ps : List Policy) (slots : List (Option StoredChain)) (order : List ℕ) (from goal : ℕ) (stored_chain : StoredChain) (edges : List Edge) → IsStored ps slots order → IsIn order from → IsIn order goal → (from ≡ goal → ⊥) → slot_at slots from ≡ Some stored_chain
+    → AreEdges stored_chain.entries edges → length edges ≡ 0 → leads (listed slots order) (stored_at slots from).name (stored_at slots goal).name ≡ false
+leads_nowhere ps slots order from goal stored_chain edges h at there apart slot own none =
+    let P : StoredChain → Type 0 = λ (r : StoredChain). AreEdges r.entries edges in
+    let here : AreEdges (stored_at slots from).entries edges = subst P (sym (ap (λ (o : Option StoredChain). unwrap_or o blank) slot)) own in
+    let cs : List Chain = listed slots order in
+    let a : List ℕ = (stored_at slots from).name in
+    let b : List ℕ = (stored_at slots goal).name in
+    elim (cases_Bool (leads cs a b)) [
+      | inl led ↦ (let p = leads_is_path cs a b led in absurd (path_nowhere ps slots order from goal edges p.0 h at there apart here none p.1))
+      | inr not_led ↦ not_led
+    ]
+
 -- The marks are taken back
 
 -- the marks left are those of the keys from a place on

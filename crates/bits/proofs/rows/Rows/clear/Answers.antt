@@ -1,31 +1,40 @@
-use Rattle.std.proofs.Common.{◌≡◌, ◌∙◌, ◌∷◌, [], sym, ap, arith, length, replicate, rules, vec_len, subst, List, ℕ}
+use Rattle.std.proofs.Common.{◌≡◌, ◌<◌, ◌∙◌, ◌∷◌, ◌*◌, [], sym, ap, arith, length, replicate, rules, vec_len, subst, List, ℕ}
 use Rattle.std.proofs.lemmas.List.{length-take-le}
-use Rattle.std.proofs.Math.ListN.{set}
-use Rattle.bits.specs.steps.Held.{AreHeld}
+use Rattle.bits.specs.steps.Held.{AreHeld, AreApart}
 use Rattle.bits.specs.steps.Summaries.{AreSummaries}
 use Rattle.bits.proofs.laws.RowsLaws.{row_there}
-use Rattle.bits.proofs.laws.PlaceLaws.{cleared_held, cleared_room, one_slot, first_row_within}
+use Rattle.bits.proofs.laws.PlaceLaws.{cleared_held, cleared_room, cleared_shown, two_rows_within}
 use Rattle.bits.proofs.laws.SummaryLaws.{cleared_summed}
+use Rattle.bits.proofs.laws.TwoSlotLaws.{apart_kept}
 use Rattle.bits.proofs.rows.Rows.clear.Goals as goal
+
+pub renumber-requires-clause-two : goal.renumber-requires-clause-two
+renumber-requires-clause-two c =
+    ap (λ (ss : List ℕ). length ss) c.keep_two.ensures ∙ length-take-le 2 c.self.inside.slots (row_there _ _ _ _ c.args.self.now 1 c.self.view_is c.requires)
+
+pub renumber-requires-clause-apart : goal.renumber-requires-clause-apart
+renumber-requires-clause-apart c = subst AreApart (sym c.keep_two.ensures) (apart_kept c.self.inside.slots c.self.invariant.0.apart)
 
 pub invariant_of-self : goal.invariant_of-self
 invariant_of-self c =
-    let some = row_there _ _ _ _ c.args.self.now 0 c.self.view_is c.requires in
-    let held : vec_len c.truncate-3.new.self ≡ length c.truncate-3.new.self.items = search rules in
-    let size : vec_len c.truncate-3.new.self ≡ c.self.inside.width =
-    held ∙ ap (λ (ws : List ℕ). length ws) c.truncate-3.ensures.items ∙ length-take-le c.self.inside.width c.self.inside.words.items (first_row_within _ _ _ _ c.self.invariant.0 some) in
-    let filled : c.fill.new.self.items ≡ replicate c.self.inside.width 0 = c.fill.ensures.items (λ y e. e) ∙ ap (λ n. replicate n 0) size in
-    let first : set c.truncate.new.self.items 0 0 ≡ 0 ∷ [] = ap (λ (ss : List ℕ). set ss 0 0) c.truncate.ensures.items ∙ one_slot c.self.inside.slots.items some in
-    let P : List ℕ → Type 0 = λ ss. AreHeld 0 c.self.inside.width ss c.fill.new.self.items in
-    let Q : List ℕ → Type 0 = λ ws. AreHeld 0 c.self.inside.width (0 ∷ []) ws in
-    let summed : set c.truncate-2.new.self.items 0 0 ≡ 0 ∷ [] = ap (λ (ss : List ℕ). set ss 0 0) c.truncate-2.ensures.items ∙ one_slot c.self.inside.summaries.items (omega (arith, some, c.self.invariant.1.counted)) in
-    let R : List ℕ → Type 0 = λ ss. AreSummaries c.self.inside.width ss c.fill.new.self.items (length (set c.truncate.new.self.items 0 0)) in
-    let S : List ℕ → Type 0 = λ ss. AreSummaries c.self.inside.width (0 ∷ []) c.fill.new.self.items (length ss) in
-    let one : List ℕ = 0 ∷ [] in
-    let T : List ℕ → Type 0 = λ ws. AreSummaries c.self.inside.width one ws (length one) in (
-      subst P (sym first) (subst Q (sym filled) (cleared_held c.self.inside.width c.self.invariant.0.few)),
-      subst R (sym summed) (subst S (sym first) (subst T (sym filled) (cleared_summed c.self.inside.width))),
-    )
+    let w : ℕ = c.self.inside.width in
+    let some : 1 < length c.self.inside.slots = row_there _ _ _ _ c.args.self.now 1 c.self.view_is c.requires in
+    let held : vec_len c.truncate-2.new.self ≡ length c.truncate-2.new.self.items = search rules in
+    let size : vec_len c.truncate-2.new.self ≡ 2 * w =
+    held ∙ ap (λ (ws : List ℕ). length ws) c.truncate-2.ensures.items ∙ length-take-le (2 * w) c.self.inside.words.items (two_rows_within _ _ _ _ c.self.invariant.0 some) in
+    let words : c.fill-2.new.self.items ≡ replicate (2 * w) 0 = c.fill-2.ensures.items (λ y e. e) ∙ ap (λ n. replicate n 0) size in
+    let count : vec_len c.truncate.new.self ≡ length c.truncate.new.self.items = search rules in
+    let two : vec_len c.truncate.new.self ≡ 2 =
+    count ∙ ap (λ (ss : List ℕ). length ss) c.truncate.ensures.items ∙ length-take-le 2 c.self.inside.summaries.items (omega (arith, some, c.self.invariant.1.counted)) in
+    let summaries : c.fill.new.self.items ≡ 0 ∷ 0 ∷ [] = c.fill.ensures.items (λ y e. e) ∙ ap (λ n. replicate n 0) two in
+    let P : List ℕ → List ℕ → ℕ → Type 0 = λ sums ws n. AreHeld 0 w c.renumber.new.slots ws × AreSummaries w sums ws n in
+    let Q : List ℕ → Type 0 = λ sums. P sums c.fill-2.new.self.items (length c.renumber.new.slots) in
+    let R : List ℕ → Type 0 = λ ws. P (0 ∷ 0 ∷ []) ws (length c.renumber.new.slots) in
+    let S : ℕ → Type 0 = λ n. P (0 ∷ 0 ∷ []) (replicate (2 * w) 0) n in
+    subst Q (sym summaries) (subst R (sym words) (subst S (sym c.renumber.ensures.two) (cleared_held w c.renumber.new.slots c.self.invariant.0.few c.renumber.ensures, cleared_summed w)))
+
+pub returns-clause-rows : goal.returns-clause-rows
+returns-clause-rows c = cleared_shown c.self.inside.width c.renumber.new.slots c.fill-2.new.self.items c.renumber.ensures.two
 
 pub returns-clause-room : goal.returns-clause-room
-returns-clause-room c = cleared_room _ _ _ _ c.args.self.now c.self.invariant.0 c.self.view_is c.requires
+returns-clause-room c = cleared_room _ _ _ _ c.args.self.now c.self.invariant.0 c.self.view_is (omega (arith, c.requires))

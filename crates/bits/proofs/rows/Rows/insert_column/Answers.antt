@@ -1,4 +1,4 @@
-use Rattle.std.proofs.Common.{◌≡◌, ◌-◌, ◌*◌, ◌∙◌, ap, arith, length, map, insert, false, rules, vec_len, List, Bool}
+use Rattle.std.proofs.Common.{◌≡◌, ◌-◌, ◌*◌, ◌∙◌, ap, arith, map, insert, false, List, Bool}
 use Rattle.bits.specs.Rows.{RowsAndRoom}
 use Rattle.bits.proofs.laws.PlaceLaws.{place_at_most, opened_held, opened_shown, appended_held, appended_shown}
 use Rattle.bits.proofs.laws.SummaryLaws.{summed_again}
@@ -7,21 +7,20 @@ use Rattle.bits.proofs.rows.Rows.insert_column.Goals as goal
 pub invariant_of-self : goal.invariant_of-self
 invariant_of-self c =
     let room : 64 * c.self.inside.width - c.self.inside.len ≡ c.args.self.now.room = ap (λ (r : RowsAndRoom). r.room) c.self.view_is in
-    (appended_held c.self.inside.len c.self.inside.width c.self.inside.slots.items c.self.inside.words.items c.self.invariant.0 (omega (arith, c.requires.room)), c.self.invariant.1)
+    (appended_held c.self.inside.len c.self.inside.width c.self.inside.slots c.self.inside.words.items c.self.invariant.0 (omega (arith, c.requires.room)), c.self.invariant.1)
 
 pub returns-then-at-self-clause-rows : goal.returns-then-at-self-clause-rows
 returns-then-at-self-clause-rows c =
     let room : 64 * c.self.inside.width - c.self.inside.len ≡ c.args.self.now.room = ap (λ (r : RowsAndRoom). r.room) c.self.view_is in
     let most = place_at_most _ _ c.args.at _ _ c.args.self.now c.self.invariant.0 c.self.view_is c.requires.some c.requires.place in
-    appended_shown c.self.inside.len c.self.inside.width c.args.at c.self.inside.slots.items c.self.inside.words.items c.self.invariant.0 (omega (arith, c.requires.room)) (omega (arith, most, c.if-at-self.true))
+    appended_shown c.self.inside.len c.self.inside.width c.args.at c.self.inside.slots c.self.inside.words.items c.self.invariant.0 (omega (arith, c.requires.room)) (omega (arith, most, c.if-at-self.true))
     ∙ ap (λ (r : RowsAndRoom). map (λ (row : List Bool). insert row c.args.at false) r.rows) c.self.view_is
 
 pub invariant_of-self-2 : goal.invariant_of-self-2
 invariant_of-self-2 c =
     let room : 64 * c.self.inside.width - c.self.inside.len ≡ c.args.self.now.room = ap (λ (r : RowsAndRoom). r.room) c.self.view_is in
-    let held : vec_len c.self.inside.slots ≡ length c.self.inside.slots.items = search rules in
     let most = place_at_most _ _ c.args.at _ _ c.args.self.now c.self.invariant.0 c.self.view_is c.requires.some c.requires.place in (
-      opened_held c.self.inside.len c.self.inside.width c.args.at c.self.inside.slots.items c.self.inside.words.items c.move_all.new.words.items c.self.invariant.0 (omega (arith, c.requires.room)) most c.move_all.ensures.len
+      opened_held c.self.inside.len c.self.inside.width c.args.at c.self.inside.slots c.self.inside.words.items c.move_all.new.words.items c.self.invariant.0 (omega (arith, c.requires.room)) most c.move_all.ensures.len
           (λ slot lt. c.move_all.ensures.rows slot (omega (arith, lt, c.self.invariant.1.counted))),
       summed_again _ _ _ _ _ _ c.self.invariant.1 c.move_all.ensures.counted c.move_all.ensures.summed,
     )
@@ -29,8 +28,7 @@ invariant_of-self-2 c =
 pub returns-clause-rows : goal.returns-clause-rows
 returns-clause-rows c =
     let room : 64 * c.self.inside.width - c.self.inside.len ≡ c.args.self.now.room = ap (λ (r : RowsAndRoom). r.room) c.self.view_is in
-    let held : vec_len c.self.inside.slots ≡ length c.self.inside.slots.items = search rules in
     let most = place_at_most _ _ c.args.at _ _ c.args.self.now c.self.invariant.0 c.self.view_is c.requires.some c.requires.place in
-    opened_shown c.self.inside.len c.self.inside.width c.args.at c.self.inside.slots.items c.self.inside.words.items c.move_all.new.words.items c.self.invariant.0 (omega (arith, c.requires.room)) most c.move_all.ensures.len
+    opened_shown c.self.inside.len c.self.inside.width c.args.at c.self.inside.slots c.self.inside.words.items c.move_all.new.words.items c.self.invariant.0 (omega (arith, c.requires.room)) most c.move_all.ensures.len
     (λ slot lt. c.move_all.ensures.rows slot (omega (arith, lt, c.self.invariant.1.counted)))
     ∙ ap (λ (r : RowsAndRoom). map (λ (row : List Bool). insert row c.args.at false) r.rows) c.self.view_is

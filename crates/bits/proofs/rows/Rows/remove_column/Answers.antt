@@ -1,4 +1,4 @@
-use Rattle.std.proofs.Common.{◌≡◌, ◌-◌, ◌*◌, ◌∙◌, ap, arith, length, map, remove, rules, vec_len, List, Bool}
+use Rattle.std.proofs.Common.{◌≡◌, ◌-◌, ◌*◌, ◌∙◌, ap, arith, map, remove, List, Bool}
 use Rattle.bits.specs.Rows.{RowsAndRoom}
 use Rattle.bits.proofs.laws.PlaceLaws.{place_below, closed_held, closed_shown}
 use Rattle.bits.proofs.laws.SummaryLaws.{summed_again}
@@ -12,18 +12,16 @@ overflow_sub-self c = omega (arith, place_below _ _ c.args.at _ _ c.args.self.no
 
 pub invariant_of-self : goal.invariant_of-self
 invariant_of-self c =
-    let held : vec_len c.self.inside.slots ≡ length c.self.inside.slots.items = search rules in
     let below = place_below _ _ c.args.at _ _ c.args.self.now c.self.invariant.0 c.self.view_is c.requires.some c.requires.place in (
-      closed_held c.self.inside.len c.self.inside.width c.args.at c.self.inside.slots.items c.self.inside.words.items c.move_all.new.words.items c.self.invariant.0 below c.move_all.ensures.len
+      closed_held c.self.inside.len c.self.inside.width c.args.at c.self.inside.slots c.self.inside.words.items c.move_all.new.words.items c.self.invariant.0 below c.move_all.ensures.len
           (λ slot lt. c.move_all.ensures.rows slot (omega (arith, lt, c.self.invariant.1.counted))),
       summed_again _ _ _ _ _ _ c.self.invariant.1 c.move_all.ensures.counted c.move_all.ensures.summed,
     )
 
 pub returns-clause-rows : goal.returns-clause-rows
 returns-clause-rows c =
-    let held : vec_len c.self.inside.slots ≡ length c.self.inside.slots.items = search rules in
     let below = place_below _ _ c.args.at _ _ c.args.self.now c.self.invariant.0 c.self.view_is c.requires.some c.requires.place in
-    closed_shown c.self.inside.len c.self.inside.width c.args.at c.self.inside.slots.items c.self.inside.words.items c.move_all.new.words.items c.self.invariant.0 below
+    closed_shown c.self.inside.len c.self.inside.width c.args.at c.self.inside.slots c.self.inside.words.items c.move_all.new.words.items c.self.invariant.0 below
     (λ slot lt. c.move_all.ensures.rows slot (omega (arith, lt, c.self.invariant.1.counted)))
     ∙ ap (λ (r : RowsAndRoom). map (λ (row : List Bool). remove row c.args.at) r.rows) c.self.view_is
 

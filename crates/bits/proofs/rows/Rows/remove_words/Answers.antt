@@ -1,4 +1,4 @@
-use Rattle.std.proofs.Common.{◌≡◌, ◌-◌, ◌*◌, ◌∙◌, ap, arith, length, map, drop, rules, vec_len}
+use Rattle.std.proofs.Common.{◌≡◌, ◌-◌, ◌*◌, ◌∙◌, ap, arith, map, drop}
 use Rattle.bits.specs.Rows.{RowsAndRoom, two_words}
 use Rattle.bits.proofs.laws.PlaceLaws.{place_at_most}
 use Rattle.bits.proofs.laws.WordMoveLaws.{lowered_held, lowered_shown}
@@ -13,18 +13,16 @@ overflow_sub-self c = omega (arith, place_at_most _ _ two_words _ _ c.args.self.
 
 pub invariant_of-self : goal.invariant_of-self
 invariant_of-self c =
-    let held : vec_len c.self.inside.slots ≡ length c.self.inside.slots.items = search rules in
     let long = place_at_most _ _ two_words _ _ c.args.self.now c.self.invariant.0 c.self.view_is c.requires.some c.requires.long in (
-      lowered_held c.self.inside.len c.self.inside.width c.self.inside.slots.items c.self.inside.words.items c.move_all.new.words.items c.self.invariant.0 long c.move_all.ensures.len
+      lowered_held c.self.inside.len c.self.inside.width c.self.inside.slots c.self.inside.words.items c.move_all.new.words.items c.self.invariant.0 long c.move_all.ensures.len
           (λ slot lt. c.move_all.ensures.rows slot (omega (arith, lt, c.self.invariant.1.counted))),
       summed_again _ _ _ _ _ _ c.self.invariant.1 c.move_all.ensures.counted c.move_all.ensures.summed,
     )
 
 pub returns-clause-rows : goal.returns-clause-rows
 returns-clause-rows c =
-    let held : vec_len c.self.inside.slots ≡ length c.self.inside.slots.items = search rules in
     let long = place_at_most _ _ two_words _ _ c.args.self.now c.self.invariant.0 c.self.view_is c.requires.some c.requires.long in
-    lowered_shown c.self.inside.len c.self.inside.width c.self.inside.slots.items c.self.inside.words.items c.move_all.new.words.items c.self.invariant.0 long
+    lowered_shown c.self.inside.len c.self.inside.width c.self.inside.slots c.self.inside.words.items c.move_all.new.words.items c.self.invariant.0 long
     (λ slot lt. c.move_all.ensures.rows slot (omega (arith, lt, c.self.invariant.1.counted)))
     ∙ ap (λ (r : RowsAndRoom). map (drop two_words) r.rows) c.self.view_is
 

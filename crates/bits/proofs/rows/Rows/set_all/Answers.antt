@@ -16,7 +16,7 @@ write_all-requires-clause-summed c = λ slot lt. c.self.invariant.1.each slot (o
 pub invariant_of-self : goal.invariant_of-self
 invariant_of-self c =
     let below = place_below _ _ c.args.at _ _ c.args.self.now c.self.invariant.0 c.self.view_is c.requires.some c.requires.place in (
-      all_written_held c.self.inside.len c.self.inside.width c.args.at c.args.bit c.self.inside.slots.items c.self.inside.words.items c.write_all.new.words.items c.self.invariant.0 below c.write_all.ensures.len
+      all_written_held c.self.inside.len c.self.inside.width c.args.at c.args.bit c.self.inside.slots c.self.inside.words.items c.write_all.new.words.items c.self.invariant.0 below c.write_all.ensures.len
           (λ slot lt. c.write_all.ensures.rows slot (omega (arith, lt, c.self.invariant.1.counted))),
       summed_again _ _ _ _ _ _ c.self.invariant.1 c.write_all.ensures.counted c.write_all.ensures.summed,
     )
@@ -24,6 +24,6 @@ invariant_of-self c =
 pub returns-clause-rows : goal.returns-clause-rows
 returns-clause-rows c =
     let below = place_below _ _ c.args.at _ _ c.args.self.now c.self.invariant.0 c.self.view_is c.requires.some c.requires.place in
-    all_written_shown c.self.inside.len c.self.inside.width c.args.at c.args.bit c.self.inside.slots.items c.self.inside.words.items c.write_all.new.words.items c.self.invariant.0 below
+    all_written_shown c.self.inside.len c.self.inside.width c.args.at c.args.bit c.self.inside.slots c.self.inside.words.items c.write_all.new.words.items c.self.invariant.0 below
     (λ slot lt. c.write_all.ensures.rows slot (omega (arith, lt, c.self.invariant.1.counted)))
     ∙ ap (λ (r : RowsAndRoom). map (λ (row : List Bool). set row c.args.at c.args.bit) r.rows) c.self.view_is

@@ -10,6 +10,9 @@ put_most-requires-clause-cuts c = opened_cuts _ c.args.at _ _ _ c.insert_column.
 pub put_most-requires-clause-place : goal.put_most-requires-clause-place
 put_most-requires-clause-place c = opened_place c.args.at c.args.line.now _ c.insert_column.ensures.pieces c.requires.place
 
+pub put_most-requires-clause-none : goal.put_most-requires-clause-none
+put_most-requires-clause-none c = opened_none c.args.at c.args.line.now _ c.insert_column.ensures.pieces c.requires.place
+
 pub put_few-requires-clause-cuts : goal.put_few-requires-clause-cuts
 put_few-requires-clause-cuts c = opened_cuts _ c.args.at _ _ _ c.insert_column.ensures.pieces c.requires.cuts
 

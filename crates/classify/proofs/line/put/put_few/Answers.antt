@@ -12,22 +12,22 @@ no_span = record { first = 0; last = 0 }
 pub loop-interval-init : goal.loop-interval-init
 loop-interval-init c = record { answers = few_first c.args.at c.args.line.now.pieces c.requires.none; room = refl }
 
-pub run_in-run-requires-clause-begins : goal.run_in-run-requires-clause-begins
-run_in-run-requires-clause-begins c =
+pub run_in-from-requires-clause-begins : goal.run_in-from-requires-clause-begins
+run_in-from-requires-clause-begins c =
     now_begins c.args.spans.now.top c.args.at c.loop-interval.interval-index _ _ _ no_span c.args.line.now _ c.loop-interval.invariant.answers c.intervals-interval-items.ensures.value c.intervals-interval-items.ensures.canonical c.requires.cuts (omega arith)
 
-pub run_in-run-requires-clause-some : goal.run_in-run-requires-clause-some
-run_in-run-requires-clause-some c =
+pub run_in-from-requires-clause-some : goal.run_in-from-requires-clause-some
+run_in-from-requires-clause-some c =
     let P : List Interval → Type 0 = AreSpansFrom c.args.spans.now.top 0 in
     interval_some c.args.spans.now.top 0 c.intervals-interval-items.result.now c.loop-interval.interval-index no_span (subst P (sym c.intervals-interval-items.ensures.value) c.intervals-interval-items.ensures.canonical) (omega arith)
 
-pub write_run-requires-clause-place : goal.write_run-requires-clause-place
-write_run-requires-clause-place c = now_place c.args.at _ _ _ c.loop-interval.invariant.answers c.requires.place
+pub set_run-requires-clause-place : goal.set_run-requires-clause-place
+set_run-requires-clause-place c = now_place c.args.at _ _ _ c.loop-interval.invariant.answers c.requires.place
 
 pub loop-interval-preserved : goal.loop-interval-preserved
 loop-interval-preserved c = record {
-  answers = few_more c.args.at c.loop-interval.interval-index c.intervals-interval-items.result.now no_span _ _ _ _ _ (omega arith) c.loop-interval.invariant.answers c.run_in-run.ensures c.write_run.ensures.written;
-  room = c.write_run.ensures.room ∙ c.loop-interval.invariant.room;
+  answers = few_more c.args.at c.loop-interval.interval-index c.intervals-interval-items.result.now no_span _ _ _ _ _ (omega arith) c.loop-interval.invariant.answers c.run_in-from.ensures c.set_run.ensures.written;
+  room = c.set_run.ensures.room ∙ c.loop-interval.invariant.room;
 }
 
 pub returns-clause-answers : goal.returns-clause-answers

@@ -18,14 +18,14 @@ run_in-from-requires-clause-some c =
     let P : List Interval → Type 0 = AreSpansFrom c.args.spans.now.top 0 in
     interval_some c.args.spans.now.top 0 c.intervals-interval-items.result.now c.loop-interval.interval-index no_span (subst P (sym c.intervals-interval-items.ensures.value) c.intervals-interval-items.ensures.canonical) (omega arith)
 
-pub write_run-requires-clause-order : goal.write_run-requires-clause-order
-write_run-requires-clause-order c =
+pub set_run-requires-clause-order : goal.set_run-requires-clause-order
+set_run-requires-clause-order c =
     let P : List Interval → Type 0 = AreSpansFrom c.args.spans.now.top 0 in
     next_before c.args.spans.now.top c.args.at c.loop-interval.interval-index c.intervals-interval-items.result.now no_span c.loop-interval.next _ _ _ _ (subst P (sym c.intervals-interval-items.ensures.value) c.intervals-interval-items.ensures.canonical) (omega arith)
     c.loop-interval.invariant.answers c.run_in-from.ensures c.loop-interval.invariant.past
 
-pub write_run-requires-clause-place : goal.write_run-requires-clause-place
-write_run-requires-clause-place c = now_place c.args.at _ _ _ c.loop-interval.invariant.answers c.requires.place
+pub set_run-requires-clause-place : goal.set_run-requires-clause-place
+set_run-requires-clause-place c = now_place c.args.at _ _ _ c.loop-interval.invariant.answers c.requires.place
 
 pub loop-interval-preserved : goal.loop-interval-preserved
 loop-interval-preserved c =
@@ -35,16 +35,16 @@ loop-interval-preserved c =
     let order = next_before c.args.spans.now.top c.args.at i items no_span c.loop-interval.next _ _ _ _ (subst P (sym c.intervals-interval-items.ensures.value) c.intervals-interval-items.ensures.canonical) (omega arith)
     c.loop-interval.invariant.answers c.run_in-from.ensures c.loop-interval.invariant.past in
     record {
-      answers = most_more c.args.at i items no_span c.loop-interval.next _ _ _ _ _ (omega arith) c.loop-interval.invariant.answers c.run_in-from.ensures order c.loop-interval.invariant.past c.write_run.ensures.written;
+      answers = most_more c.args.at i items no_span c.loop-interval.next _ _ _ _ _ (omega arith) c.loop-interval.invariant.answers c.run_in-from.ensures order c.loop-interval.invariant.past c.set_run.ensures.written;
       past = past_next c.args.at i items no_span c.loop-interval.next _ _ _ _ (omega arith) c.loop-interval.invariant.answers c.run_in-from.ensures order c.loop-interval.invariant.past;
       within = omega (arith, c.run_in-from.ensures.ends, ap length c.loop-interval.invariant.answers, length-map c.args.line.now.pieces (with_bit c.args.at (is_open (take i items))));
-      room = c.write_run.ensures.room ∙ c.loop-interval.invariant.room;
+      room = c.set_run.ensures.room ∙ c.loop-interval.invariant.room;
     }
 
-pub write_run-requires-2-clause-place : goal.write_run-requires-2-clause-place
-write_run-requires-2-clause-place c = now_place c.args.at _ _ _ c.loop-interval.invariant.answers c.requires.place
+pub set_run-requires-2-clause-place : goal.set_run-requires-2-clause-place
+set_run-requires-2-clause-place c = now_place c.args.at _ _ _ c.loop-interval.invariant.answers c.requires.place
 
 pub returns-clause-answers : goal.returns-clause-answers
 returns-clause-answers c =
     most_last c.args.at c.loop-interval.interval-index c.intervals-interval-items.result.now c.args.spans.now.intervals c.loop-interval.next _ _ _ _ (omega arith) c.intervals-interval-items.ensures.value c.len-end.ensures c.loop-interval.invariant.answers c.loop-interval.invariant.past
-    c.write_run-2.ensures.written
+    c.set_run-2.ensures.written

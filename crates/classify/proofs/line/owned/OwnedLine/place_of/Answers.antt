@@ -6,6 +6,10 @@ use Rattle.classify.proofs.laws.line.PlaceLaws.{starts_rise, count_some}
 use Rattle.classify.specs.steps.Kept.{most_start}
 use Rattle.classify.proofs.line.owned.OwnedLine.place_of.Goals as goal
 
+pub returns-then-count-eq1-clause-high : goal.returns-then-count-eq1-clause-high
+returns-then-count-eq1-clause-high c more =
+    absurd (omega (arith, more, c.if-count-eq1.true, c.count.ensures, c.self.invariant, kept_long _ _ _ _ _ c.self.invariant c.self.view_is))
+
 pub count_to-requires : goal.count_to-requires
 count_to-requires c =
     let S : List ℕ → Type 0 = λ xs. IsNonDecreasingBy (λ (s : ℕ). s) xs in

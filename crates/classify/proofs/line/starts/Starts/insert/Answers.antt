@@ -1,4 +1,4 @@
-use Rattle.std.proofs.Common.{◌≡◌, ◌<◌, ◌≤◌, ◌+◌, ◌-◌, ◌^◌, ◌∙◌, ◌++◌, sym, ap, arith, length, length-append, insert, rules, vec_len, List, ℕ}
+use Rattle.std.proofs.Common.{◌≡◌, ◌<◌, ◌≤◌, ◌+◌, ◌-◌, ◌^◌, ◌∙◌, ◌++◌, sym, ap, arith, length, length-append, insert, List, ℕ}
 use Rattle.std.specs.Prelude.{slice_index}
 use Rattle.std.proofs.lemmas.List.Edits.{insert-append_right, length-insert}
 use Rattle.std.proofs.lemmas.List.Elements.{All-same}
@@ -8,17 +8,16 @@ use Rattle.classify.proofs.line.starts.Starts.insert.Goals as goal
 
 pub returns-clause-ok : goal.returns-clause-ok
 returns-clause-ok c =
-    let held : vec_len c.self.inside.narrow ≡ length c.self.inside.narrow.items = search rules in
-    ap (λ (ws : List ℕ). c.self.inside.narrow.items ++ ws) c.in_ok-insert.ensures.items
-    ∙ sym (insert-append_right c.self.inside.narrow.items c.self.inside.wide.items c.len-narrow.result c.args.k c.args.x (sym (c.len-narrow.ensures ∙ held)) (omega arith))
+    ap (λ (ws : List ℕ). c.self.inside.narrow ++ ws) c.in_ok-insert-3.ensures.items
+    ∙ sym (insert-append_right c.self.inside.narrow c.self.inside.wide.items c.len-narrow.result c.args.k c.args.x (sym c.len-narrow.ensures) (omega arith))
     ∙ ap (λ (ss : List ℕ). insert ss c.args.k c.args.x) c.self.view_is
 
 pub invariant_of-self-2 : goal.invariant_of-self-2
 invariant_of-self-2 c =
-    let narrow : List ℕ = c.self.inside.narrow.items in
+    let narrow : List ℕ = c.self.inside.narrow in
     let wide : List ℕ = c.self.inside.wide.items in
-    let held : c.len-narrow.result ≡ length narrow = search rules in
-    let items : c.insert.new.self.items ≡ insert wide (c.args.k - length narrow) c.args.x = c.in_ok-insert.ensures.items ∙ ap (λ n. insert wide (c.args.k - n) c.args.x) held in
+    let held : c.len-narrow.result ≡ length narrow = c.len-narrow.ensures in
+    let items : c.insert-2.new.self.items ≡ insert wide (c.args.k - length narrow) c.args.x = c.in_ok-insert-3.ensures.items ∙ ap (λ n. insert wide (c.args.k - n) c.args.x) held in
     let long : length narrow + length wide ≡ length c.args.self.now = sym (length-append narrow wide) ∙ ap length c.self.view_is in
     let past : length narrow ≤ c.args.k = omega (arith, held, c.if-k-narrow.false) in
     let within : c.args.k ≤ length narrow + length wide = omega (arith, long, c.requires.place) in
@@ -29,5 +28,5 @@ invariant_of-self-2 c =
     let above : 0 < c.args.k → slice_index (narrow ++ wide) (c.args.k - 1) < c.args.x = λ later. omega (arith, c.requires.above later, ap (λ (ss : List ℕ). slice_index ss (c.args.k - 1)) c.self.view_is) in
     record {
       few = omega (arith, ap length items, length-insert wide (c.args.k - length narrow) c.args.x (omega (arith, past, within)), long, c.requires.few);
-      long = All-same (λ y. 2 ^ 32 ≤ y) c.insert.new.self.items _ items (wide_inserted narrow wide c.args.k c.args.x past within first above c.self.invariant.long);
+      long = All-same (λ y. 2 ^ 32 ≤ y) c.insert-2.new.self.items _ items (wide_inserted narrow wide c.args.k c.args.x past within first above c.self.invariant.long);
     }

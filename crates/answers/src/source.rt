@@ -1,0 +1,279 @@
+//! The files of a question are restored, it is asked, and what is found is written, as lines or as a document.
+ghost use Rattle.std.specs.Prelude.{◌≡◌, All, IfSome};
+ghost use Rattle.fields.specs.numbers.Field.{top};
+
+use crate::covering::{Covered, read_covered};
+use crate::fault::Fault;
+use audits::{Asking, ask_difference, ask_outcomes, ask_packets, ask_rules};
+use documents::{
+    differences_document, outcomes_document, packets_document, rules_document, unclear_document,
+};
+use fields::{Tap, WriteFailed};
+use findings::{Course, Difference, Form, Found, GivenPacket, PacketWalks, Pair, open_counts};
+use inputs::{Asked, InputFault, OneDump, TwoDumps, read_one, read_packets, read_plain, read_two};
+use programs::{Audit, Question};
+use questions::{BoxedTable, Reached};
+use reports::{ReportFault, put_differences, put_outcomes, put_packets, put_rules};
+use std::alloc::Global;
+use std::io::{IsTerminal, Write};
+use std::rt::{Clock, Files};
+use table::Table;
+
+// Writes a document.
+fn put_document<W: Write>(text: &[u8], output: &mut Tap<W>) -> Result<(), WriteFailed> {
+    output.put_all(&[text, b"\n"])
+}
+
+// Writes what is known of rules.
+fn put_found<W: Write>(
+    alloc: Global,
+    course: Course<'_>,
+    found: &Found,
+    json: bool,
+    output: &mut Tap<W>,
+) -> Result<(), ReportFault> {
+    let counts = open_counts(alloc, course.open)?;
+    let table = course.dump.table();
+    if json {
+        let text = rules_document(alloc, table, course, found, counts.as_slice())?;
+        put_document(text.as_slice(), output)?;
+    } else {
+        put_rules(table, course, found, counts.as_slice(), output)?;
+    }
+    Ok(())
+}
+
+// Asks of each rule of a dump, and answers the status.
+fn write_form<'a, R: Clock, E: Print + IsTerminal, W: Write>(
+    asking: &mut Asking<'_, R, E>,
+    one: &OneDump,
+    form: Form<'_>,
+    json: bool,
+    output: &mut Tap<W>,
+) -> Result<u8, Fault<'a>> {
+    let course = Course {
+        form,
+        dump: &one.dump,
+        open: &one.open,
+    };
+    let found = ask_rules(asking, course)?;
+    put_found(asking.alloc(), course, &found, json, output)?;
+    Ok(form.status(&found.tally))
+}
+
+// Writes how two dumps differ.
+fn put_difference<W: Write>(
+    alloc: Global,
+    pair: Pair<'_>,
+    found: &Difference,
+    json: bool,
+    output: &mut Tap<W>,
+) -> Result<(), ReportFault> {
+    let counts = open_counts(alloc, pair.open)?;
+    if json {
+        let text = differences_document(alloc, pair, found, counts.as_slice())?;
+        put_document(text.as_slice(), output)?;
+    } else {
+        put_differences(pair, found, counts.as_slice(), output)?;
+    }
+    Ok(())
+}
+
+// Asks whether two tables give each packet the same verdict, and which of the rules by which they differ are dead, and answers the
+// status.
+fn write_differences<'a, R: Clock, E: Print + IsTerminal, W: Write>(
+    asking: &mut Asking<'_, R, E>,
+    two: &TwoDumps,
+    json: bool,
+    output: &mut Tap<W>,
+) -> Result<u8, Fault<'a>> {
+    let pair = Pair {
+        old: &two.old,
+        new: &two.new,
+        open: &two.open,
+    };
+    let found = ask_difference(asking, pair)?;
+    put_difference(asking.alloc(), pair, &found, json, output)?;
+    Ok(found.status())
+}
+
+// Writes the verdicts of a set of packets, if they are known.
+fn put_reached<W: Write>(
+    alloc: Global,
+    table: &Table,
+    asked: &Asked,
+    found: &Option<Vec<Reached>>,
+    json: bool,
+    output: &mut Tap<W>,
+) -> Result<(), ReportFault>
+    requires { IfSome found.now (λ reached. All (λ entry. entry.numbers.top ≡ top asked.now.field) reached.items) }
+{
+    let (hook, field) = (asked.given.hook, asked.field);
+    match found {
+        Some(found) if json => {
+            let text = outcomes_document(alloc, table, hook, field, found.as_slice())?;
+            put_document(text.as_slice(), output)?;
+        }
+        Some(found) => put_outcomes(alloc, table, field, found.as_slice(), output)?,
+        None if json => put_document(unclear_document(alloc, field)?.as_slice(), output)?,
+        None => output.put(b"unclear\n")?,
+    }
+    Ok(())
+}
+
+// Asks for the verdicts of a set of packets, and answers the status: 3 where they aren't known, else 0.
+fn write_outcomes<'a, R: Clock, E: Print + IsTerminal, W: Write>(
+    asking: &mut Asking<'_, R, E>,
+    subject: &BoxedTable,
+    asked: &Asked,
+    json: bool,
+    output: &mut Tap<W>,
+) -> Result<u8, Fault<'a>> {
+    let found = ask_outcomes(asking, subject, &asked.given, asked.field)?;
+    put_reached(asking.alloc(), &subject.table, asked, &found, json, output)?;
+    Ok(if found.is_some() { 0 } else { 3 })
+}
+
+// Writes what becomes of some packets.
+fn put_walks<W: Write>(
+    alloc: Global,
+    one: &OneDump,
+    packets: &[GivenPacket],
+    found: &PacketWalks,
+    json: bool,
+    output: &mut Tap<W>,
+) -> Result<(), ReportFault> {
+    let (table, open) = (one.dump.table(), &one.open);
+    let counts = open_counts(alloc, open)?;
+    if json {
+        let text = packets_document(alloc, table, open, packets, found, counts.as_slice())?;
+        put_document(text.as_slice(), output)?;
+    } else {
+        put_packets(table, open, packets, found, counts.as_slice(), output)?;
+    }
+    Ok(())
+}
+
+// Asks what becomes of some packets, and answers the status.
+fn write_walks<'a, R: Clock, E: Print + IsTerminal, W: Write>(
+    asking: &mut Asking<'_, R, E>,
+    one: &OneDump,
+    packets: &[GivenPacket],
+    json: bool,
+    output: &mut Tap<W>,
+) -> Result<u8, Fault<'a>> {
+    let found = ask_packets(asking, &one.dump, &one.open, packets)?;
+    put_walks(asking.alloc(), one, packets, &found, json, output)?;
+    Ok(found.status())
+}
+
+/// What is asked, what its files and packets come from, and what messages go to.
+#[derive(Drop)]
+pub struct Source<'b, 'a, R, E> {
+    /// Where files and standard input are read.
+    pub rt: &'b R,
+    /// What messages are written to.
+    pub errors: &'b E,
+    /// What the line of the program asks for.
+    pub audit: &'b Audit<'a>,
+}
+
+impl<'a, R, E> Source<'_, 'a, R, E>
+where
+    R: Clock + Files + Input + AllocGlobal,
+    E: Print + IsTerminal,
+{
+    // The dump of a file, with the answers of `--when`.
+    fn one(&self, file: &'a str) -> Result<OneDump, InputFault<'a>> {
+        read_one(self.rt, self.errors, file, self.audit)
+    }
+
+    // Asks of each rule of a file, and answers the status.
+    fn write_form<W: Write>(
+        &self,
+        file: &'a str,
+        form: Form<'_>,
+        asking: &mut Asking<'_, R, E>,
+        output: &mut Tap<W>,
+    ) -> Result<u8, Fault<'a>> {
+        write_form(asking, &self.one(file)?, form, self.audit.json, output)
+    }
+
+    // Asks which rules of a file match none of the packets on standard input, and answers the status: 3 where the walks of one of these aren't
+    // known.
+    fn write_cover<W: Write>(
+        &self,
+        file: &'a str,
+        asking: &mut Asking<'_, R, E>,
+        output: &mut Tap<W>,
+    ) -> Result<u8, Fault<'a>> {
+        let one = self.one(file)?;
+        let found = read_covered(self.rt, self.errors, asking, &one.dump, &one.open)?;
+        let Some(Covered { marks, is_clear }) = found else {
+            return Ok(2);
+        };
+        let status = write_form(asking, &one, Form::Cover(&marks), self.audit.json, output)?;
+        Ok(if is_clear { status } else { 3 })
+    }
+
+    // Asks whether two files give each packet the same verdict, and answers the status.
+    fn write_differences<W: Write>(
+        &self,
+        old: &'a str,
+        new: &'a str,
+        asking: &mut Asking<'_, R, E>,
+        output: &mut Tap<W>,
+    ) -> Result<u8, Fault<'a>> {
+        let two = read_two(self.rt, self.errors, old, new, self.audit)?;
+        write_differences(asking, &two, self.audit.json, output)
+    }
+
+    // Asks a file for the verdicts of a set of packets, and answers the status.
+    fn write_reach<W: Write>(
+        &self,
+        file: &'a str,
+        asking: &mut Asking<'_, R, E>,
+        output: &mut Tap<W>,
+    ) -> Result<u8, Fault<'a>> {
+        let asked = Asked::read(self.rt.alloc(), self.audit.words.as_slice())?;
+        let one = read_plain(self.rt, self.errors, file, self.audit)?;
+        write_outcomes(asking, one.dump.boxed(), &asked, self.audit.json, output)
+    }
+
+    // Asks a file what becomes of the packets on standard input, and answers the status.
+    fn write_walks<W: Write>(
+        &self,
+        file: &'a str,
+        asking: &mut Asking<'_, R, E>,
+        output: &mut Tap<W>,
+    ) -> Result<u8, Fault<'a>> {
+        let one = self.one(file)?;
+        match read_packets(self.rt, self.errors)? {
+            Some(packets) => {
+                write_walks(asking, &one, packets.as_slice(), self.audit.json, output)
+            }
+            None => Ok(2),
+        }
+    }
+
+    /// Restores the files of the question, writes its answer, and answers the status.
+    ///
+    /// # Errors
+    ///
+    /// Where a file cannot be restored, standard input fails, the words give no packets or no condition of a rule, memory was refused, or a write
+    /// failed.
+    pub fn answer<W: Write>(
+        &self,
+        asking: &mut Asking<'_, R, E>,
+        output: &mut Tap<W>,
+    ) -> Result<u8, Fault<'a>> {
+        match self.audit.question {
+            Question::Dead { file } => self.write_form(file, Form::Dead, asking, output),
+            Question::Tests { file } => self.write_form(file, Form::Tests, asking, output),
+            Question::Cover { file } => self.write_cover(file, asking, output),
+            Question::Compare { old, new } => self.write_differences(old, new, asking, output),
+            Question::Reach { file } => self.write_reach(file, asking, output),
+            Question::Walk { file } => self.write_walks(file, asking, output),
+        }
+    }
+}

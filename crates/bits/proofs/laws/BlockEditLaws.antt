@@ -1,0 +1,273 @@
+-- Lists of numbers in blocks as they are kept: what an edit of one block leaves.
+use Rattle.std.proofs.Common.{◌≡◌, ℕ, zero, suc, ◌+◌, ◌-◌, ◌^◌, ◌<◌, ◌≤◌, List, [], ◌∷◌, ◌++◌, length, take, drop, get_or, map, refl, sym, ◌∙◌, ap, arith, subst, append_assoc, length-append, Result, Ok, Err, is_ok, IsOk, cond}
+use Rattle.std.specs.Prelude.{slice_index}
+use Rattle.std.proofs.Math.ListN.{set}
+use Rattle.std.specs.List.{insert, remove, concat, All}
+use Rattle.std.proofs.lemmas.Bool.{false≢true}
+use Rattle.std.proofs.lemmas.List.{get_or-map, get_or_read, get_or-set_same, get_or-take, length-drop, length-map, length-set, length-take-le, map-append, map-set, set-get_or, take-append-drop}
+use Rattle.std.proofs.lemmas.List.Edits.{get_or-insert_below, insert-append_right, length-insert, length-remove, remove-append_right}
+use Rattle.std.proofs.lemmas.List.Elements.{All-append, All-cons, All-drop, All-get_or, All-set, All-take}
+use Rattle.bits.specs.steps.Blocks.{begins_from, head_of, AreBlocks}
+use Rattle.bits.proofs.laws.SlotLaws.{map-insert, map-remove}
+use Rattle.bits.proofs.laws.SlotRowLaws.{all_written}
+use Rattle.bits.proofs.laws.BlockLaws.{IsSome, before, begin_at, begins_cut, begins_dropped, begins_fewer, begins_later, begins_map, begins_more, begins_size, begins_sooner, before_more, before_up, concat_cut, concat_dropped, concat_map, heads_map, number_put, number_taken, some_map}
+use Rattle.bits.proofs.laws.BlockPlaceLaws.{IsHeld, begin_is, within_all}
+
+-- the same parts, as they are written otherwise
+pub kept_as : (f h b f' h' b' : List ℕ) (l l' : List (List ℕ)) → f' ≡ f → h' ≡ h → b' ≡ b → l' ≡ l → AreBlocks f h b l → AreBlocks f' h' b' l'
+kept_as f h b f' h' b' l l' ef eh eb el k =
+    let P : List ℕ → Type 0 = λ x. AreBlocks x h b l in
+    let Q : List ℕ → Type 0 = λ x. AreBlocks f' x b l in
+    let R : List ℕ → Type 0 = λ x. AreBlocks f' h' x l in
+    let S : List (List ℕ) → Type 0 = λ x. AreBlocks f' h' b' x in
+    subst S (sym el) (subst R (sym eb) (subst Q (sym eh) (subst P (sym ef) k)))
+
+-- numbers written from a place on over all of a vector, as it is read then
+pub rewritten : (f : ℕ → ℕ) (n at : ℕ) (us lent ws : List ℕ) → length us ≡ n → us ≡ take at lent ++ map f (drop at lent) → lent ≡ ws → take n (us ++ drop (length us) ws) ≡ take at ws ++ map f (drop at ws)
+rewritten f n at us lent ws size is same = all_written n us ws size ∙ is ∙ ap (λ (xs : List ℕ). take at xs ++ map f (drop at xs)) same
+
+concat_size : (bs : List (List ℕ)) (j : ℕ) (c : List ℕ) → j < length bs → length (concat (set bs j c)) + length (get_or bs j []) ≡ length (concat bs) + length c
+concat_size [] j c lt = absurd (omega arith)
+concat_size (b ∷ bs) zero c lt = omega (arith, length-append b (concat bs), length-append c (concat bs))
+concat_size (b ∷ bs) (suc j) c lt = omega (arith, length-append b (concat bs), length-append b (concat (set bs j c)), concat_size bs j c (omega arith))
+
+heads_same : (bs : List (List ℕ)) (j : ℕ) (c : List ℕ) → j < length bs → head_of c ≡ head_of (get_or bs j []) → map head_of (set bs j c) ≡ map head_of bs
+heads_same bs j c lt e =
+    map-set head_of bs j c ∙ ap (λ n. set (map head_of bs) j n) (e ∙ sym (get_or-map head_of bs j [] 0 lt)) ∙ set-get_or (map head_of bs) j 0
+
+-- ---- a number more
+
+pub put_first_kept : (first heads begins : List ℕ) (later : List (List ℕ)) (first' : List ℕ) → AreBlocks first heads begins later → length (first ++ concat later) < 2 ^ 32 → length first' ≡ length first + 1
+    → AreBlocks first' heads (map (λ (n : ℕ). n + 1) begins) later
+put_first_kept first heads begins later first' h room size = record {
+  some = h.some;
+  headed = h.headed;
+  begun = ap (λ (ns : List ℕ). map (λ (n : ℕ). n + 1) ns) h.begun ∙ sym (begins_later (length first) later) ∙ ap (λ n. begins_from n later) (sym size);
+  few = omega (arith, room, length-append first (concat later), size);
+}
+
+-- number x put in at place k into block j, which has the number before it: b, which begins at p, becomes c
+pub record IsPut (first heads begins : List ℕ) (later : List (List ℕ)) (k x j p : ℕ) (b c : List ℕ) : Type 0 where
+  pub kept : AreBlocks first heads begins later
+  pub room : length (first ++ concat later) < 2 ^ 32
+  pub late : length first < k
+  pub inside : IsHeld (length first) later (k - 1) j
+  pub block : b ≡ get_or later j b
+  pub begin : p ≡ get_or begins j p
+  pub put : c ≡ insert b (k - p) x
+
+put_block : (first heads begins : List ℕ) (later : List (List ℕ)) (k x j p : ℕ) (b c : List ℕ) → IsPut first heads begins later k x j p b c
+    → (b ≡ get_or later j []) × (length first + before later j + (k - p) ≡ k) × (0 < k - p) × (k - p ≤ length (get_or later j []))
+put_block first heads begins later k x j p b c h =
+    let p_is : p ≡ length first + before later j = begin_is first heads begins later j p h.kept h.inside.there h.begin in (
+      get_or_read later j b h.inside.there h.block [],
+      omega (arith, p_is, h.late, h.inside.begun),
+      omega (arith, p_is, h.late, h.inside.begun),
+      omega (arith, p_is, h.late, h.inside.ended),
+    )
+
+pub put_kept : (first heads begins : List ℕ) (later : List (List ℕ)) (k x j p : ℕ) (b c : List ℕ) → IsPut first heads begins later k x j p b c
+    → AreBlocks first heads (take (j + 1) begins ++ map (λ (n : ℕ). n + 1) (drop (j + 1) begins)) (set later j c)
+put_kept first heads begins later k x j p b c h =
+    let at = put_block first heads begins later k x j p b c h in
+    let lt = h.inside.there in
+    let some : 0 < length (get_or later j []) = All-get_or IsSome later j [] lt h.kept.some in
+    let is : c ≡ insert (get_or later j []) (k - p) x = h.put ∙ ap (λ (ns : List ℕ). insert ns (k - p) x) at.0 in
+    let size : length c ≡ length (get_or later j []) + 1 = ap (λ (ns : List ℕ). length ns) is ∙ length-insert (get_or later j []) (k - p) x at.3 in
+    let head : head_of c ≡ head_of (get_or later j []) = ap head_of is ∙ get_or-insert_below (get_or later j []) (k - p) x 0 0 at.2 at.3 in
+    let e : suc j ≡ j + 1 = omega arith in
+    record {
+      some = All-set IsSome later j c (omega (arith, size)) h.kept.some;
+      headed = h.kept.headed ∙ sym (heads_same later j c lt head);
+      begun = ap (λ (ns : List ℕ). take (j + 1) ns ++ map (λ (n : ℕ). n + 1) (drop (j + 1) ns)) h.kept.begun
+          ∙ ap (λ i. take i (begins_from (length first) later) ++ map (λ (n : ℕ). n + 1) (drop i (begins_from (length first) later))) (sym e) ∙ sym (begins_more (length first) later j c lt size);
+      few = omega (arith, h.room, length-append first (concat later), concat_size later j c lt, size);
+    }
+
+pub put_shown : (first heads begins : List ℕ) (later : List (List ℕ)) (k x j p : ℕ) (b c : List ℕ) → IsPut first heads begins later k x j p b c → first ++ concat (set later j c) ≡ insert (first ++ concat later) k x
+put_shown first heads begins later k x j p b c h =
+    let at = put_block first heads begins later k x j p b c h in
+    let is : c ≡ insert (get_or later j []) (k - p) x = h.put ∙ ap (λ (ns : List ℕ). insert ns (k - p) x) at.0 in
+    let e : before later j + (k - p) ≡ k - length first = omega (arith, at.1) in
+    ap (λ (ns : List ℕ). first ++ concat (set later j ns)) is ∙ ap (λ (ns : List ℕ). first ++ ns) (sym (number_put later j (k - p) x h.inside.there at.3)) ∙ ap (λ i. first ++ insert (concat later) i x) e
+    ∙ sym (insert-append_right first (concat later) (length first) k x refl (omega (arith, h.late)))
+
+-- each later block begins below the end
+pub begins_fit : (first heads begins : List ℕ) (later : List (List ℕ)) (ns : List ℕ) (k : ℕ) → AreBlocks first heads begins later → ns ≡ begins → k < length ns → slice_index ns k < length (first ++ concat later)
+begins_fit first heads begins later ns k h e lt =
+    let is : ns ≡ begins_from (length first) later = e ∙ h.begun in
+    let in' : k < length later = omega (arith, lt, ap (λ (xs : List ℕ). length xs) is, begins_size (length first) later) in
+    omega (arith, ap (λ (xs : List ℕ). get_or xs k 0) is, begin_at (length first) later k 0 in', within_all first later k in', All-get_or IsSome later k [] in' h.some)
+
+-- ---- a number fewer
+
+-- what was put in is taken out again
+pub remove-insert : {X : Type 0} (xs : List X) (i : ℕ) (y : X) → i ≤ length xs → remove (insert xs i y) i ≡ xs
+remove-insert [] zero y le = refl
+remove-insert [] (suc i) y le = absurd (omega arith)
+remove-insert (x ∷ xs) zero y le = refl
+remove-insert {X} (x ∷ xs) (suc i) y le = ap (λ (ys : List X). x ∷ ys) (remove-insert xs i y (omega arith))
+
+pub take_first_kept : (first heads begins : List ℕ) (later : List (List ℕ)) (k : ℕ) → AreBlocks first heads begins later → k < length first → AreBlocks (remove first k) heads (map (λ (n : ℕ). n - 1) begins) later
+take_first_kept first heads begins later k h lt =
+    let size : length (remove first k) + 1 ≡ length first = length-remove first k lt in
+    record {
+      some = h.some;
+      headed = h.headed;
+      begun = ap (λ (ns : List ℕ). map (λ (n : ℕ). n - 1) ns) (h.begun ∙ ap (λ n. begins_from n later) (sym size)) ∙ sym (begins_sooner (length (remove first k)) later);
+      few = omega (arith, h.few, size);
+    }
+
+-- the number at place k taken out of block j: b, which begins at p, becomes c
+pub record IsTaken (first heads begins : List ℕ) (later : List (List ℕ)) (k j p : ℕ) (b c : List ℕ) : Type 0 where
+  pub kept : AreBlocks first heads begins later
+  pub inside : IsHeld (length first) later k j
+  pub block : b ≡ get_or later j b
+  pub begin : p ≡ get_or begins j p
+  pub taken : c ≡ remove b (k - p)
+
+taken_block : (first heads begins : List ℕ) (later : List (List ℕ)) (k j p : ℕ) (b c : List ℕ) → IsTaken first heads begins later k j p b c
+    → (c ≡ remove (get_or later j []) (k - p)) × (length first + before later j + (k - p) ≡ k) × (k - p < length (get_or later j [])) × (length c + 1 ≡ length (get_or later j []))
+taken_block first heads begins later k j p b c h =
+    let p_is : p ≡ length first + before later j = begin_is first heads begins later j p h.kept h.inside.there h.begin in
+    let is : c ≡ remove (get_or later j []) (k - p) = h.taken ∙ ap (λ (ns : List ℕ). remove ns (k - p)) (get_or_read later j b h.inside.there h.block []) in
+    let in' : k - p < length (get_or later j []) = omega (arith, p_is, h.inside.begun, h.inside.ended) in (
+      is,
+      omega (arith, p_is, h.inside.begun),
+      in',
+      omega (arith, ap (λ (ns : List ℕ). length ns) is, length-remove (get_or later j []) (k - p) in'),
+    )
+
+-- where the blocks begin when b has become c
+fewer_begun : (first heads begins : List ℕ) (later : List (List ℕ)) (k j p : ℕ) (b c : List ℕ) → IsTaken first heads begins later k j p b c
+    → take (j + 1) begins ++ map (λ (n : ℕ). n - 1) (drop (j + 1) begins) ≡ begins_from (length first) (set later j c)
+fewer_begun first heads begins later k j p b c h =
+    let e : suc j ≡ j + 1 = omega arith in
+    ap (λ (ns : List ℕ). take (j + 1) ns ++ map (λ (n : ℕ). n - 1) (drop (j + 1) ns)) h.kept.begun
+    ∙ ap (λ i. take i (begins_from (length first) later) ++ map (λ (n : ℕ). n - 1) (drop i (begins_from (length first) later))) (sym e)
+    ∙ sym (begins_fewer (length first) later j c h.inside.there (taken_block first heads begins later k j p b c h).3)
+
+pub taken_kept : (first heads begins : List ℕ) (later : List (List ℕ)) (k j p : ℕ) (b c : List ℕ) → IsTaken first heads begins later k j p b c → 0 < length c
+    → AreBlocks first (set heads j (head_of c)) (take (j + 1) begins ++ map (λ (n : ℕ). n - 1) (drop (j + 1) begins)) (set later j c)
+taken_kept first heads begins later k j p b c h some =
+    let at = taken_block first heads begins later k j p b c h in
+    record {
+      some = All-set IsSome later j c some h.kept.some;
+      headed = ap (λ (ns : List ℕ). set ns j (head_of c)) h.kept.headed ∙ sym (map-set head_of later j c);
+      begun = fewer_begun first heads begins later k j p b c h;
+      few = omega (arith, h.kept.few, concat_size later j c h.inside.there, at.3);
+    }
+
+remove_set : {X : Type 0} (xs : List X) (j : ℕ) (x : X) → remove (set xs j x) j ≡ remove xs j
+remove_set [] zero x = refl
+remove_set [] (suc j) x = refl
+remove_set (y ∷ ys) zero x = refl
+remove_set {X} (y ∷ ys) (suc j) x = ap (λ (zs : List X). y ∷ zs) (remove_set ys j x)
+
+-- the block goes with its last number
+pub emptied_kept : (first heads begins : List ℕ) (later : List (List ℕ)) (k j p : ℕ) (b c : List ℕ) → IsTaken first heads begins later k j p b c → length c ≡ 0
+    → AreBlocks first (remove heads j) (remove (take (j + 1) begins ++ map (λ (n : ℕ). n - 1) (drop (j + 1) begins)) j) (remove (set later j c) j)
+emptied_kept first heads begins later k j p b c h none =
+    let at = taken_block first heads begins later k j p b c h in
+    let lt = h.inside.there in
+    let in' : j < length (set later j c) = omega (arith, length-set later j c, lt) in
+    let here : length (get_or (set later j c) j []) ≡ 0 = ap (λ (ns : List ℕ). length ns) (get_or-set_same later j c [] lt) ∙ none in
+    record {
+      some = subst (λ (bs : List (List ℕ)). All IsSome bs) (sym (remove_set later j c)) (All-append IsSome (take j later) (drop (suc j) later) (All-take IsSome j later h.kept.some) (All-drop IsSome (suc j) later h.kept.some));
+      headed = ap (λ (ns : List ℕ). remove ns j) h.kept.headed ∙ sym (map-remove head_of later j) ∙ ap (λ (bs : List (List ℕ)). map head_of bs) (sym (remove_set later j c));
+      begun = ap (λ (ns : List ℕ). remove ns j) (fewer_begun first heads begins later k j p b c h) ∙ sym (begins_dropped (length first) (set later j c) j in' here);
+      few = omega (arith, h.kept.few, concat_size later j c lt, at.3, ap (λ (ns : List ℕ). length ns) (concat_dropped (set later j c) j in' here));
+    }
+
+pub taken_shown : (first heads begins : List ℕ) (later : List (List ℕ)) (k j p : ℕ) (b c : List ℕ) → IsTaken first heads begins later k j p b c → first ++ concat (set later j c) ≡ remove (first ++ concat later) k
+taken_shown first heads begins later k j p b c h =
+    let at = taken_block first heads begins later k j p b c h in
+    let e : before later j + (k - p) ≡ k - length first = omega (arith, at.1) in
+    ap (λ (ns : List ℕ). first ++ concat (set later j ns)) at.0 ∙ ap (λ (ns : List ℕ). first ++ ns) (sym (number_taken later j (k - p) h.inside.there at.2)) ∙ ap (λ i. first ++ remove (concat later) i) e
+    ∙ sym (remove-append_right first (concat later) (length first) k refl (omega (arith, at.1)))
+
+pub emptied_shown : (first heads begins : List ℕ) (later : List (List ℕ)) (k j p : ℕ) (b c : List ℕ) → IsTaken first heads begins later k j p b c → length c ≡ 0
+    → first ++ concat (remove (set later j c) j) ≡ remove (first ++ concat later) k
+emptied_shown first heads begins later k j p b c h none =
+    let lt = h.inside.there in
+    ap (λ (ns : List ℕ). first ++ ns) (concat_dropped (set later j c) j (omega (arith, length-set later j c, lt)) (ap (λ (ns : List ℕ). length ns) (get_or-set_same later j c [] lt) ∙ none))
+    ∙ taken_shown first heads begins later k j p b c h
+
+-- a block that begins after block j has a number before it
+pub begins_after : (first heads begins : List ℕ) (later : List (List ℕ)) (ns : List ℕ) (j k : ℕ) → AreBlocks first heads begins later → ns ≡ begins → j + 1 ≤ k → k < length ns → 0 < slice_index ns k
+begins_after first heads begins later ns j k h e le lt =
+    let is : ns ≡ begins_from (length first) later = e ∙ h.begun in
+    let in' : k < length later = omega (arith, lt, ap (λ (xs : List ℕ). length xs) is, begins_size (length first) later) in
+    let before' : j < length later = omega (arith, le, in') in
+    omega (arith, ap (λ (xs : List ℕ). get_or xs k 0) is, begin_at (length first) later k 0 in', before_up later (j + 1) k le, before_more later j before', All-get_or IsSome later j [] before' h.some)
+
+pub begins_after_first : (first heads begins : List ℕ) (later : List (List ℕ)) (ns : List ℕ) (k : ℕ) → AreBlocks first heads begins later → ns ≡ begins → 0 < length first → k < length ns → 0 < slice_index ns k
+begins_after_first first heads begins later ns k h e some lt =
+    let is : ns ≡ begins_from (length first) later = e ∙ h.begun in
+    let in' : k < length later = omega (arith, lt, ap (λ (xs : List ℕ). length xs) is, begins_size (length first) later) in
+    omega (arith, some, ap (λ (xs : List ℕ). get_or xs k 0) is, begin_at (length first) later k 0 in')
+
+-- ---- a block cut
+
+pub cut_first_kept : (first heads begins : List ℕ) (later : List (List ℕ)) (h : ℕ) → AreBlocks first heads begins later → h < length first
+    → AreBlocks (take h first) (head_of (drop h first) ∷ heads) (h ∷ begins) (drop h first ∷ later)
+cut_first_kept first heads begins later h k lt =
+    let low : length (take h first) ≡ h = length-take-le h first (omega (arith, lt)) in
+    let high = length-drop h first in
+    let whole : length (take h first) + length (drop h first) ≡ length first = omega (arith, low, high, lt) in
+    record {
+      some = All-cons IsSome (drop h first) later (omega (arith, high, lt)) k.some;
+      headed = ap (λ (ns : List ℕ). head_of (drop h first) ∷ ns) k.headed;
+      begun = ap (λ n. n ∷ begins) (sym low) ∙ ap (λ (ns : List ℕ). length (take h first) ∷ ns) (k.begun ∙ ap (λ n. begins_from n later) (sym whole));
+      few = omega (arith, k.few, whole, length-append (drop h first) (concat later));
+    }
+
+pub cut_first_shown : (first : List ℕ) (later : List (List ℕ)) (h : ℕ) → take h first ++ concat (drop h first ∷ later) ≡ first ++ concat later
+cut_first_shown first later h = sym (append_assoc (take h first) (drop h first) (concat later)) ∙ ap (λ (ns : List ℕ). ns ++ concat later) (take-append-drop h first)
+
+all_inserted : (bs : List (List ℕ)) (j : ℕ) (c : List ℕ) → All IsSome bs → 0 < length c → All IsSome (insert bs j c)
+all_inserted bs j c some more = All-append IsSome (take j bs) (c ∷ drop j bs) (All-take IsSome j bs some) (All-cons IsSome c (drop j bs) more (All-drop IsSome j bs some))
+
+pub cut_later_kept : (first heads begins : List ℕ) (later : List (List ℕ)) (j h : ℕ) → AreBlocks first heads begins later → j < length later → 0 < h → h < length (get_or later j [])
+    → AreBlocks first (insert heads (suc j) (head_of (drop h (get_or later j [])))) (insert begins (suc j) (length first + before later j + h)) (insert (set later j (take h (get_or later j []))) (suc j) (drop h (get_or later j [])))
+cut_later_kept first heads begins later j h k lt some less =
+    let b : List ℕ = get_or later j [] in
+    let low : length (take h b) ≡ h = length-take-le h b (omega (arith, less)) in
+    let high = length-drop h b in
+    record {
+      some = all_inserted (set later j (take h b)) (suc j) (drop h b) (All-set IsSome later j (take h b) (omega (arith, low, some)) k.some) (omega (arith, high, less));
+      headed = ap (λ (ns : List ℕ). insert ns (suc j) (head_of (drop h b))) (k.headed ∙ sym (heads_same later j (take h b) lt (get_or-take h b 0 0 some)))
+          ∙ sym (map-insert head_of (set later j (take h b)) (suc j) (drop h b));
+      begun = ap (λ (ns : List ℕ). insert ns (suc j) (length first + before later j + h)) k.begun ∙ ap (λ n. insert (begins_from (length first) later) (suc j) (length first + before later j + n)) (sym low)
+          ∙ sym (begins_cut (length first) later j (take h b) (drop h b) lt (omega (arith, low, high, less)));
+      few = omega (arith, k.few, ap (λ (ns : List ℕ). length ns) (concat_cut later j h lt));
+    }
+
+-- a block that was written, as it is read
+pub written_read : (bs : List (List ℕ)) (j : ℕ) (b r : List ℕ) → j < length bs → r ≡ get_or (set bs j b) j r → r ≡ b
+written_read bs j b r lt e = e ∙ get_or-set_same bs j b r lt
+
+-- a block as it is read where room was taken for another
+pub read_again : (bs cs : List (List ℕ)) (j : ℕ) (r : List ℕ) → bs ≡ cs → j < length cs → r ≡ get_or bs j r → r ≡ get_or cs j []
+read_again bs cs j r same lt e = get_or_read cs j r lt (e ∙ ap (λ (ds : List (List ℕ)). get_or ds j r) same) []
+
+pub same_insert : {X : Type 0} (xs ys : List X) (i j : ℕ) (x y : X) → xs ≡ ys → i ≡ j → x ≡ y → insert xs i x ≡ insert ys j y
+same_insert xs ys i j x y e f g = ap (λ zs. insert zs i x) e ∙ ap (λ k. insert ys k x) f ∙ ap (λ z. insert ys j z) g
+
+-- what an insert leaves that succeeds
+pub put_in_room : {X E : Type 0} (r : Result (Unit {0}) E) (xs ys zs : List X) → xs ≡ cond (is_ok r) ys zs → IsOk r → xs ≡ ys
+put_in_room (Ok x) xs ys zs e ok = e
+put_in_room (Err x) xs ys zs e ok = absurd (false≢true ok)
+
+-- ---- each number becomes another
+
+pub map_kept : (f : ℕ → ℕ) (first heads begins : List ℕ) (later : List (List ℕ)) → AreBlocks first heads begins later → AreBlocks (map f first) (map f heads) begins (map (map f) later)
+map_kept f first heads begins later h = record {
+  some = some_map f later h.some;
+  headed = ap (λ (ns : List ℕ). map f ns) h.headed ∙ sym (heads_map f later h.some);
+  begun = h.begun ∙ ap (λ n. begins_from n later) (sym (length-map first f)) ∙ sym (begins_map f (length (map f first)) later);
+  few = omega (arith, h.few, length-map first f, ap (λ (ns : List ℕ). length ns) (concat_map f later), length-map (concat later) f);
+}
+
+pub map_shown : (f : ℕ → ℕ) (first : List ℕ) (later : List (List ℕ)) → map f first ++ concat (map (map f) later) ≡ map f (first ++ concat later)
+map_shown f first later = ap (λ (ns : List ℕ). map f first ++ ns) (concat_map f later) ∙ sym (map-append f first (concat later))

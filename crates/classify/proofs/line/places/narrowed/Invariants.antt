@@ -1,9 +1,0 @@
-use Rattle.std.proofs.Common.{◌+◌}
-use Rattle.classify.specs.steps.Around.{AreAround}
-use Rattle.classify.proofs.line.places.narrowed.Given as goal
-
-abbrev pub invariant-loop-width : goal.invariant-loop-width
-invariant-loop-width l = AreAround l.x l.low (l.low + l.width) l.numbers
-
-abbrev pub decreases-loop-width : goal.decreases-loop-width
-decreases-loop-width l = l.width

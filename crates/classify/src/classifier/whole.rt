@@ -1,0 +1,30 @@
+//! Marks of whole lines: their rows have every bit, so a search leaves these lines out.
+
+ghost use Rattle.std.specs.Prelude.{◌≡◌, ◌↔◌, ℕ, IsTrue, false, length, slice_index_or};
+ghost use Rattle.fields.specs.numbers.Spans.{SpanSet};
+ghost use Rattle.classify.specs.steps.Whole.{IsEverything};
+
+use fields::Spans;
+
+// Whether a set has every number up to its top.
+fn is_everything(spans: &Spans) -> bool
+    ensures { IsTrue result ↔ IsEverything spans.now }
+{
+    if spans.intervals().len() != 1 {
+        return false;
+    }
+    spans.has(0) && spans.has(spans.top())
+}
+
+/// Takes the marks away of the lines whose field a box doesn't allow wholly.
+pub(crate) fn unmark(marks: &mut [bool], spans: &[Spans])
+    requires { length spans.now ≡ length marks.old }
+    ensures { (k : ℕ) (s : SpanSet) → IsTrue (slice_index_or marks.new k false)
+        ↔ (IsTrue (slice_index_or marks.old k false) × IsEverything (slice_index_or spans.now k s)) }
+{
+    for k in 0..marks.len() {
+        if !is_everything(&spans[k]) {
+            marks[k] = false;
+        }
+    }
+}
