@@ -19,6 +19,7 @@ pub mod SameLaws
 pub mod ShiftLaws
 pub mod SlotLaws
 pub mod SlotRowLaws
+pub mod SlotRunLaws
 pub mod SummaryLaws
 pub mod TurnLaws
 pub mod TurnedRowsLaws

@@ -1,6 +1,6 @@
 //! A block of numbers: a part of a list that is kept in blocks.
 
-ghost use Rattle.std.specs.Prelude.{ℕ, ◌≡◌, ◌<◌, ◌≤◌, ◌∷◌, [], length, insert, remove, take, drop, map, slice_index, IfOk, OnOk, OnErr};
+ghost use Rattle.std.specs.Prelude.{ℕ, ◌≡◌, ◌<◌, ◌≤◌, ◌+◌, ◌∷◌, [], length, insert, remove, take, drop, map, slice_index, IfOk, OnOk, OnErr};
 ghost use Rattle.std.specs.List.Sorted.{IsNonDecreasingBy};
 ghost use Rattle.bits.specs.steps.Around.{AreAround};
 ghost use Rattle.bits.specs.steps.Held.{redirected};
@@ -66,6 +66,22 @@ impl Block {
         ensures { result ≡ slice_index self.now k }
     {
         self.items[k]
+    }
+
+    // The numbers from a place on; they are lent.
+    pub(crate) fn run(&self, k: usize) -> &[u32]
+        requires { k < length self.now }
+        ensures { result.now ≡ drop k self.now }
+    {
+        &self.items[k..]
+    }
+
+    // The numbers up to a place and with it; they are lent.
+    pub(crate) fn run_to(&self, k: usize) -> &[u32]
+        requires { k < length self.now }
+        ensures { result.now ≡ take (k + 1) self.now }
+    {
+        &self.items[..=k]
     }
 
     // How many of the numbers are x or less.

@@ -1,7 +1,7 @@
 //! Numbers in a list that is kept in blocks: one more moves none but those after it in its block. Beside the later blocks stands
 //! where each begins and its first number, so that a search reads one block.
 
-ghost use Rattle.std.specs.Prelude.{ℕ, ◌≡◌, ◌<◌, ◌≤◌, ◌+◌, ◌-◌, ◌^◌, ◌∷◌, [], ◌++◌, length, insert, remove, take, drop, map, slice_index, IfOk, OnOk, OnErr};
+ghost use Rattle.std.specs.Prelude.{ℕ, ◌≡◌, ◌<◌, ◌≤◌, ◌+◌, ◌-◌, ◌/◌, ◌^◌, ◌∷◌, [], ◌++◌, length, insert, remove, take, drop, map, slice_index, IfOk, OnOk, OnErr};
 ghost use Rattle.std.specs.List.Sorted.{IsNonDecreasingBy};
 ghost use Rattle.bits.specs.steps.Held.{redirected};
 
@@ -17,13 +17,13 @@ const MOST: usize = 256;
 // So many numbers go into a list at most.
 const MOST_NUMBERS: usize = 1 << 32;
 
-// Counts one more in each number from a place on.
-fn more_from(numbers: &mut [u32], at: usize)
-    requires { (k : ℕ) → at ≤ k → k < length numbers.old → slice_index numbers.old k + 1 < 2 ^ 32 }
-    ensures { numbers.new ≡ take at numbers.old ++ map (λ (n : ℕ). n + 1) (drop at numbers.old) }
+// Counts so many more in each number from a place on.
+fn more_from(numbers: &mut [u32], at: usize, by: u32)
+    requires { (k : ℕ) → at ≤ k → k < length numbers.old → slice_index numbers.old k + by < 2 ^ 32 }
+    ensures { numbers.new ≡ take at numbers.old ++ map (λ (n : ℕ). n + by) (drop at numbers.old) }
 {
     for k in at..numbers.len() {
-        numbers[k] += 1;
+        numbers[k] += by;
     }
 }
 
@@ -147,6 +147,33 @@ impl Blocks {
         self.later[block].get(k - self.begins[block] as usize)
     }
 
+    /// The numbers from a place on, up to the end of its block; they are lent. So one search serves for all of them.
+    pub fn run(&self, k: usize) -> &[u32]
+        requires { k < length self.now }
+        ensures some { 0 < length result.now }
+        ensures part { result.now ≡ take (length result.now) (drop k self.now) }
+    {
+        if k < self.first.len() {
+            return self.first.run(k);
+        }
+        let block = holder(&self.begins, k);
+        self.later[block].run(k - self.begins[block] as usize)
+    }
+
+    /// The numbers from the start of a place's block up to that place and with it; they are lent.
+    pub fn run_to(&self, k: usize) -> &[u32]
+        requires { k < length self.now }
+        ensures some { 0 < length result.now }
+        ensures within { length result.now ≤ k + 1 }
+        ensures part { result.now ≡ drop (k + 1 - length result.now) (take (k + 1) self.now) }
+    {
+        if k < self.first.len() {
+            return self.first.run_to(k);
+        }
+        let block = holder(&self.begins, k);
+        self.later[block].run_to(k - self.begins[block] as usize)
+    }
+
     /// How many of rising numbers are x or less.
     #[inline(always)]
     pub fn count_to(&self, x: u128) -> usize
@@ -201,7 +228,7 @@ impl Blocks {
         if self.len() >= MOST_NUMBERS {
             return Err(AllocError);
         }
-        self.make_room(k)?;
+        self.make_room(k, 1)?;
         self.put(k, x)
     }
 
@@ -218,42 +245,41 @@ impl Blocks {
         if self.later.is_empty() && self.first.len() < MOST - 1 {
             return self.first.insert_pair(k, x, y);
         }
-        self.insert_each(k, x, y)
+        self.insert_pair_in_any(k, x, y)
     }
 
-    // Puts two numbers in at a place, one by one.
-    fn insert_each(&mut self, k: usize, x: u32, y: u32) -> Result<(), AllocError>
+    // Puts two numbers in at a place, in whichever block has the number before them.
+    fn insert_pair_in_any(&mut self, k: usize, x: u32, y: u32) -> Result<(), AllocError>
         requires { k ≤ length self.old }
         ensures ok { OnOk result (self.new ≡ insert (insert self.old k y) k x) }
         ensures err { OnErr result (self.new ≡ self.old) }
     {
-        self.insert(k, y)?;
-        match self.insert(k, x) {
-            Ok(()) => Ok(()),
-            Err(refused) => {
-                self.remove(k);
-                Err(refused)
-            }
+        if self.len() >= MOST_NUMBERS - 1 {
+            return Err(AllocError);
         }
+        self.make_room(k, 2)?;
+        self.put_pair(k, x, y)
     }
 
-    // Cuts the block into which a number at a place goes, if it is full.
-    fn make_room(&mut self, k: usize) -> Result<(), AllocError>
-        requires { k ≤ length self.old }
+    // Cuts the block into which numbers at a place go, if it has no room for so many.
+    fn make_room(&mut self, k: usize, more: usize) -> Result<(), AllocError>
+        requires place { k ≤ length self.old }
+        requires few { more ≤ MOST / 2 }
         ensures { self.new ≡ self.old }
     {
         if k <= self.first.len() {
-            return self.cut_first();
+            return self.cut_first(MOST - more);
         }
         let block = holder(&self.begins, k - 1);
-        self.cut_later(block)
+        self.cut_later(block, MOST - more)
     }
 
-    // Cuts the first block in halves, if it is full.
-    fn cut_first(&mut self) -> Result<(), AllocError>
+    // Cuts the first block in halves, if it has more than so many numbers.
+    fn cut_first(&mut self, most: usize) -> Result<(), AllocError>
+        requires { MOST / 2 ≤ most }
         ensures { self.new ≡ self.old }
     {
-        if self.first.len() < MOST {
+        if self.first.len() <= most {
             return Ok(());
         }
         self.heads.reserve(1)?;
@@ -267,11 +293,12 @@ impl Blocks {
         Ok(())
     }
 
-    // Cuts a later block in halves, if it is there and full.
-    fn cut_later(&mut self, k: usize) -> Result<(), AllocError>
+    // Cuts a later block in halves, if it is there and has more than so many numbers.
+    fn cut_later(&mut self, k: usize, most: usize) -> Result<(), AllocError>
+        requires { MOST / 2 ≤ most }
         ensures { self.new ≡ self.old }
     {
-        if k >= self.later.len() || self.later[k].len() < MOST {
+        if k >= self.later.len() || self.later[k].len() <= most {
             return Ok(());
         }
         self.heads.reserve(1)?;
@@ -296,14 +323,34 @@ impl Blocks {
     {
         if k <= self.first.len() {
             self.first.insert(k, x)?;
-            more_from(self.begins.as_mut_slice(), 0);
+            more_from(self.begins.as_mut_slice(), 0, 1);
             return Ok(());
         }
         let block = holder(&self.begins, k - 1);
         let at = k - self.begins[block] as usize;
         let held = &mut self.later[block];
         held.insert(at, x)?;
-        more_from(self.begins.as_mut_slice(), block + 1);
+        more_from(self.begins.as_mut_slice(), block + 1, 1);
+        Ok(())
+    }
+
+    // Puts two numbers in at a place, in the block that has the number before them.
+    fn put_pair(&mut self, k: usize, x: u32, y: u32) -> Result<(), AllocError>
+        requires place { k ≤ length self.old }
+        requires few { length self.old + 1 < 2 ^ 32 }
+        ensures ok { OnOk result (self.new ≡ insert (insert self.old k y) k x) }
+        ensures err { OnErr result (self.new ≡ self.old) }
+    {
+        if k <= self.first.len() {
+            self.first.insert_pair(k, x, y)?;
+            more_from(self.begins.as_mut_slice(), 0, 2);
+            return Ok(());
+        }
+        let block = holder(&self.begins, k - 1);
+        let at = k - self.begins[block] as usize;
+        let held = &mut self.later[block];
+        held.insert_pair(at, x, y)?;
+        more_from(self.begins.as_mut_slice(), block + 1, 2);
         Ok(())
     }
 

@@ -1,8 +1,9 @@
-//! The words of all rows, one row after another: a change of each, and more room.
+//! The words of all rows, one row after another: a change of each, a bit of some, and more room.
 
-ghost use Rattle.std.specs.Prelude.{◌≡◌, ◌<◌, ◌≤◌, ◌+◌, ◌-◌, ◌*◌, ◌^◌, length, take, drop, IfOk, OnOk, OnErr};
-ghost use Rattle.std.specs.Prelude.{ℕ, replicate, ◌++◌};
-ghost use Rattle.bits.specs.steps.Held.{words_in, EachSlot, Writes};
+ghost use Rattle.std.specs.Prelude.{◌≡◌, ◌≢◌, ◌<◌, ◌≤◌, ◌+◌, ◌-◌, ◌*◌, ◌^◌, length, take, drop, slice_index, slice_index_or, IfOk, OnOk, OnErr};
+ghost use Rattle.std.specs.Prelude.{ℕ, false, replicate, ◌++◌};
+ghost use Rattle.bits.specs.steps.Held.{words_in, AreWritten, EachSlot};
+ghost use Rattle.bits.specs.steps.Packing.{all_bits};
 ghost use Rattle.bits.specs.steps.RowMoves.{Fits, Makes};
 ghost use Rattle.bits.specs.steps.Summaries.{SumUp};
 
@@ -38,17 +39,26 @@ pub(crate) fn move_all(words: &mut Vec<u64>, summaries: &mut Vec<u64>, width: us
     }
 }
 
-// Writes a bit at a place of each row of so many words, as they are lent: so the loop needn't ask a vector where they are.
-fn write_each(words: &mut [u64], summaries: &mut [u64], width: usize, at: usize, bit: bool)
+// Writes a bit at a place of the rows in some slots. All is lent, so the loop asks neither a vector nor a block where things are.
+pub(crate) fn write_each(
+    words: &mut [u64],
+    summaries: &mut [u64],
+    slots: &[u32],
+    width: usize,
+    at: usize,
+    bit: bool,
+)
     requires place { at < 64 * width }
+    requires below { (k : ℕ) → k < length slots.now → slice_index slots.now k < length summaries.old }
+    requires apart { (j k : ℕ) → j < k → k < length slots.now → slice_index slots.now j ≢ slice_index slots.now k }
     requires whole { length words.old ≡ length summaries.old * width }
     requires summed { SumUp width summaries.old words.old (length summaries.old) }
-    ensures len { length words.new ≡ length words.old }
-    ensures rows { EachSlot (Writes at bit) width words.old words.new (length summaries.old) }
+    ensures written { AreWritten at bit width (length summaries.old) (length slots.now) slots.now words.old words.new }
     ensures counted { length summaries.new ≡ length summaries.old }
     ensures summed { SumUp width summaries.new words.new (length summaries.old) }
 {
-    for slot in 0..summaries.len() {
+    for k in 0..slots.len() {
+        let slot = slots[k] as usize;
         let place = slot * width + at / 64;
         let word = words[place];
         words[place] = set_bit(word, (at % 64) as u32, bit);
@@ -56,29 +66,29 @@ fn write_each(words: &mut [u64], summaries: &mut [u64], width: usize, at: usize,
     }
 }
 
-// Writes a bit at a place of each row of so many words.
-pub(crate) fn write_all(
-    words: &mut Vec<u64>,
-    summaries: &mut Vec<u64>,
-    width: usize,
-    at: usize,
-    bit: bool,
-)
+// The bit at a place of the row in a slot.
+fn bit_in(words: &[u64], slot: usize, width: usize, at: usize) -> bool
     requires place { at < 64 * width }
-    requires whole { length words.old.items ≡ length summaries.old.items * width }
-    requires summed { SumUp width summaries.old.items words.old.items (length summaries.old.items) }
-    ensures len { length words.new.items ≡ length words.old.items }
-    ensures rows { EachSlot (Writes at bit) width words.old.items words.new.items (length summaries.old.items) }
-    ensures counted { length summaries.new.items ≡ length summaries.old.items }
-    ensures summed { SumUp width summaries.new.items words.new.items (length summaries.old.items) }
+    requires within { slot * width + width ≤ length words.now }
+    ensures { result ≡ slice_index_or (all_bits (words_in width words.now slot)) at false }
 {
-    write_each(
-        words.as_mut_slice(),
-        summaries.as_mut_slice(),
-        width,
-        at,
-        bit,
-    );
+    (words[slot * width + at / 64] >> (at % 64)) % 2 == 1
+}
+
+// Where those of some slots begin, side by side up to the last, whose rows have a bit at a place.
+pub(crate) fn alike_from(words: &[u64], slots: &[u32], width: usize, at: usize, bit: bool) -> usize
+    requires place { at < 64 * width }
+    requires within { (k : ℕ) → k < length slots.now → slice_index slots.now k * width + width ≤ length words.now }
+    ensures few { result ≤ length slots.now }
+    ensures alike { (k : ℕ) → result ≤ k → k < length slots.now
+        → slice_index_or (all_bits (words_in width words.now (slice_index slots.now k))) at false ≡ bit }
+    ensures first { 0 < result → slice_index_or (all_bits (words_in width words.now (slice_index slots.now (result - 1)))) at false ≢ bit }
+{
+    let mut first = slots.len();
+    while first > 0 && bit_in(words, slots[first - 1] as usize, width, at) == bit {
+        first -= 1;
+    }
+    first
 }
 
 // The words of so many rows, each with words of zeros after it.
@@ -107,6 +117,18 @@ pub(crate) fn widen(
     Ok(wide)
 }
 
+// Puts the words of a row after all words. They are copied over zeros, many at a step; where they are pushed, it is one by one.
+pub(crate) fn append(words: &mut Vec<u64>, start: usize, width: usize) -> Result<(), AllocError>
+    requires { start + width ≤ length words.old.items }
+    ensures ok { OnOk result (words.new.items ≡ words.old.items ++ take width (drop start words.old.items)) }
+    ensures err { OnErr result (words.new.items ≡ words.old.items) }
+{
+    let end = words.len();
+    words.resize(end + width, 0)?;
+    words.copy_within(start..start + width, end);
+    Ok(())
+}
+
 // Puts the words of a row after all words, twice.
 pub(crate) fn append_twice(
     words: &mut Vec<u64>,
@@ -118,8 +140,8 @@ pub(crate) fn append_twice(
     ensures err { OnErr result (words.new.items ≡ words.old.items) }
 {
     let before = words.len();
-    words.extend_from_within(start..start + width)?;
-    match words.extend_from_within(start..start + width) {
+    append(words, start, width)?;
+    match append(words, start, width) {
         Ok(()) => Ok(()),
         Err(refused) => {
             words.truncate(before);

@@ -3,7 +3,7 @@
 ghost use Rattle.std.specs.Prelude.{◌≡◌, ◌≢◌, ◌<◌, ◌≤◌, ◌+◌, ◌-◌, ◌^◌, ℕ, [], ◌∷◌, length, map, insert, remove, slice_set, slice_index_or};
 ghost use Rattle.std.specs.Prelude.{false, take, All, IfOk, OnOk, OnErr, IsOk, IsTrue, ◌↔◌, ◌%◌};
 ghost use Rattle.bits.specs.MarginRows.{after_margin, closed_up};
-ghost use Rattle.bits.specs.Rows.{two_words};
+ghost use Rattle.bits.specs.Rows.{two_words, IsRunWritten};
 ghost use Rattle.bits.specs.steps.Packing.{all_bits, IsPacked};
 ghost use Rattle.bits.specs.steps.Summaries.{IsSummaryOf};
 
@@ -111,15 +111,19 @@ impl MarginRows {
         self.rows.set(row, self.margin + at, bit);
     }
 
-    /// Writes a bit at a place of each row. There must be a row.
-    pub fn set_all(&mut self, at: usize, bit: bool)
-        requires some { 0 < length self.old.rows }
+    /// Writes a bit at a place of the rows from one up to another.
+    pub fn set_run(&mut self, from: usize, to: usize, at: usize, bit: bool)
+        requires order { from ≤ to }
+        requires within { to ≤ length self.old.rows }
         requires place { All (λ row. at < length row) self.old.rows }
-        ensures rows { self.new.rows ≡ map (λ row. slice_set row at bit) self.old.rows }
+        ensures rows { IsRunWritten at bit from to self.old.rows self.new.rows }
         ensures room { self.new.room ≡ self.old.room }
     {
-        let _bits = self.rows.bits(0);
-        self.rows.set_all(self.margin + at, bit);
+        if from == to {
+            return;
+        }
+        let _bits = self.rows.bits(from);
+        self.rows.set_run(from, to, self.margin + at, bit);
     }
 
     /// Whether two rows are equal.
@@ -229,7 +233,7 @@ impl MarginRows {
     {
         let _bits = self.rows.bits(0);
         if at == 0 {
-            self.rows.set_all(self.margin, false);
+            self.rows.set_run(0, self.rows.count(), self.margin, false);
             self.margin += 1;
             return;
         }

@@ -4,14 +4,14 @@
 ghost use Rattle.std.specs.Prelude.{◌≡◌, ◌≢◌, ◌<◌, ◌≤◌, ◌+◌, ◌-◌, ◌*◌, ◌^◌, [], ◌∷◌, length, map, insert, remove, slice_set, slice_index_or};
 ghost use Rattle.std.specs.Prelude.{false, take, drop, IfOk, OnOk, OnErr, IsOk, IsTrue, ◌↔◌, ◌%◌};
 ghost use Rattle.std.specs.Prelude.{ℕ, All, replicate, ◌++◌};
-ghost use Rattle.bits.specs.Rows.{two_words};
+ghost use Rattle.bits.specs.Rows.{two_words, IsRunWritten};
 ghost use Rattle.bits.specs.steps.Packing.{all_bits, IsPacked};
 ghost use Rattle.bits.specs.steps.Held.{AreApart, AreFirstTwo};
 ghost use Rattle.bits.specs.steps.Summaries.{IsSummaryOf};
 
 use crate::bit_row::MOST_WORDS;
 use crate::blocks::Blocks;
-use crate::each_row::{append_twice, move_all, part, widen, write_all};
+use crate::each_row::{alike_from, append, append_twice, move_all, part, widen, write_each};
 use crate::row_move::Move;
 use crate::sparse::Way;
 use crate::summary::{is_marked, marked};
@@ -182,15 +182,44 @@ impl Rows {
         self.summaries[slot] = marked(self.summaries[slot], at / 64, bit);
     }
 
-    /// Writes a bit at a place of each row, from slot to slot. There must be a row.
-    pub fn set_all(&mut self, at: usize, bit: bool)
-        requires some { 0 < length self.old.rows }
+    // Writes a bit at a place of the rows from one on, up to another one or as far as their slots stand in one block: it
+    // returns where it ended.
+    fn set_part(&mut self, from: usize, to: usize, at: usize, bit: bool) -> usize
+        requires order { from < to }
+        requires within { to ≤ length self.old.rows }
         requires place { All (λ row. at < length row) self.old.rows }
-        ensures rows { self.new.rows ≡ map (λ row. slice_set row at bit) self.old.rows }
+        ensures more { from < result }
+        ensures end { result ≤ to }
+        ensures rows { IsRunWritten at bit from result self.old.rows self.new.rows }
         ensures room { self.new.room ≡ self.old.room }
     {
         let _len = self.len;
-        write_all(&mut self.words, &mut self.summaries, self.width, at, bit);
+        let run = self.slots.run(from);
+        let slots = &run[..run.len().min(to - from)];
+        let end = from + slots.len();
+        write_each(
+            self.words.as_mut_slice(),
+            self.summaries.as_mut_slice(),
+            slots,
+            self.width,
+            at,
+            bit,
+        );
+        end
+    }
+
+    /// Writes a bit at a place of the rows from one up to another.
+    pub fn set_run(&mut self, from: usize, to: usize, at: usize, bit: bool)
+        requires order { from ≤ to }
+        requires within { to ≤ length self.old.rows }
+        requires place { All (λ row. at < length row) self.old.rows }
+        ensures rows { IsRunWritten at bit from to self.old.rows self.new.rows }
+        ensures room { self.new.room ≡ self.old.room }
+    {
+        let mut next = from;
+        while next < to {
+            next = self.set_part(next, to, at, bit);
+        }
     }
 
     /// Whether two rows are equal.
@@ -225,8 +254,13 @@ impl Rows {
     {
         let bit = self.get(row, at);
         let mut first = row;
-        while first > 0 && self.get(first - 1, at) == bit {
-            first -= 1;
+        while first > 0 {
+            let slots = self.slots.run_to(first - 1);
+            let alike = alike_from(&self.words, slots, self.width, at, bit);
+            first -= slots.len() - alike;
+            if alike > 0 {
+                return first;
+            }
         }
         first
     }
@@ -248,7 +282,7 @@ impl Rows {
         let from = self.slots.get(row) as usize;
         let start = from * self.width;
         let end = self.words.len();
-        self.words.extend_from_within(start..start + self.width)?;
+        append(&mut self.words, start, self.width)?;
         match self.slots.insert(row + 1, slot) {
             Ok(()) => {
                 let _ = self.summaries.push(self.summaries[from]);

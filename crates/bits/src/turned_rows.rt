@@ -3,27 +3,14 @@
 ghost use Rattle.std.specs.Prelude.{◌≡◌, ◌≢◌, ◌<◌, ◌≤◌, ◌+◌, ◌-◌, ◌^◌, ◌%◌, ℕ, [], ◌∷◌, length, map, insert, remove, slice_set, slice_index_or};
 ghost use Rattle.std.specs.Prelude.{false, true, not, take, All, IfOk, OnOk, OnErr, IsOk, IsTrue, ◌↔◌};
 ghost use Rattle.bits.specs.MarginRows.{after_margin, closed_up};
-ghost use Rattle.bits.specs.Rows.{two_words};
-ghost use Rattle.bits.specs.TurnedRows.{turned, IsRunWritten};
+ghost use Rattle.bits.specs.Rows.{two_words, IsRunWritten};
+ghost use Rattle.bits.specs.TurnedRows.{turned};
 ghost use Rattle.bits.specs.steps.Packing.{all_bits, IsPacked};
 ghost use Rattle.bits.specs.steps.Summaries.{IsSummaryOf};
 
 use crate::margin_rows::MarginRows;
 use std::alloc::{AllocError, Global};
 use std::marker::Model;
-
-// Writes a bit at a place of the rows from one up to another.
-fn write_run(rows: &mut MarginRows, from: usize, to: usize, at: usize, bit: bool)
-    requires order { from ≤ to }
-    requires within { to ≤ length rows.old.rows }
-    requires place { All (λ row. at < length row) rows.old.rows }
-    ensures written { IsRunWritten at bit from to rows.old.rows rows.new.rows }
-    ensures room { rows.new.room ≡ rows.old.room }
-{
-    for k in from..to {
-        rows.set(k, at, bit);
-    }
-}
 
 /// A row as it is lent: its own words, the words of the row that turns it, and a summary of the bits that it has then.
 #[derive(Clone, Copy)]
@@ -149,7 +136,7 @@ impl TurnedRows {
         }
         let _rows = self.rows.count();
         let turn = self.rows.get(0, at);
-        write_run(&mut self.rows, from + 1, to + 1, at, turn != bit);
+        self.rows.set_run(from + 1, to + 1, at, turn != bit);
     }
 
     /// Turns the bit at a place of each row, by one write. There must be a row.

@@ -12,7 +12,8 @@ ghost use Rattle.classify.specs.search.NextMatch.{next_match};
 use crate::classifier::candidates::Candidates;
 use crate::line::owned::OwnedLine;
 use crate::line::view::Line;
-use bits::MOST_BITS;
+use arrayvec::ArrayVec;
+use bits::{MOST_BITS, TurnedWords};
 use fields::{FIELDS, Field};
 use rules::Boxed;
 use std::alloc::{AllocError, Global};
@@ -45,6 +46,8 @@ pub struct Classifier {
     lines: [OwnedLine; FIELDS],
     // The lines that are marked are whole: a search leaves them out.
     marks: [bool; FIELDS],
+    // The places of the lines that it looks at.
+    others: ArrayVec<usize, FIELDS>,
 }
 
 impl Model for Classifier {
@@ -54,14 +57,14 @@ impl Model for Classifier {
     ghost Value = { ClassifiedAndRoom };
 
     ghost use Rattle.classify.specs.steps.Fields.{shown_line, room_beside, IsKept};
-    ghost use Rattle.classify.specs.steps.Whole.{AreMarked};
+    ghost use Rattle.classify.specs.steps.Whole.{AreMarked, AreOthers};
 
     ghost view = { λ c. record {
       shown = record { len = c.len; lines = map shown_line c.lines };
       room = room_beside c.len c.lines;
     } };
 
-    ghost invariant = { λ c. IsKept c.len c.lines × AreMarked c.marks c.lines };
+    ghost invariant = { λ c. IsKept c.len c.lines × AreMarked c.marks c.lines × AreOthers c.marks c.others.items };
 }
 
 impl Classifier {
@@ -79,10 +82,12 @@ impl Classifier {
         ensures rules { IfOk result (λ classifier. IsClassifierOfRules [] classifier.shown) }
     {
         let lines: [OwnedLine; FIELDS] = array::try_from_fn(|_| OwnedLine::open(alloc))?;
+        let marks = [true; FIELDS];
         Ok(Classifier {
             len: 0,
             lines,
-            marks: [true; FIELDS],
+            marks,
+            others: whole::others(&marks),
         })
     }
 
@@ -99,6 +104,7 @@ impl Classifier {
             len: self.len,
             lines,
             marks: self.marks,
+            others: whole::others(&self.marks),
         })
     }
 
@@ -143,6 +149,7 @@ impl Classifier {
         }
         lines::insert_lines(&mut self.lines, self.len, at, boxed.spans())?;
         whole::unmark(&mut self.marks, boxed.spans());
+        self.others = whole::others(&self.marks);
         self.len += 1;
         Ok(())
     }
@@ -166,6 +173,7 @@ impl Classifier {
     {
         lines::replace_lines(&mut self.lines, self.len, at, boxed.spans())?;
         whole::unmark(&mut self.marks, boxed.spans());
+        self.others = whole::others(&self.marks);
         Ok(())
     }
 
@@ -189,6 +197,7 @@ impl Classifier {
     {
         lines::clear_lines(&mut self.lines);
         self.marks = [true; FIELDS];
+        self.others = whole::others(&self.marks);
         self.len = 0;
     }
 
@@ -206,19 +215,21 @@ impl Classifier {
     {
         let margin = self.lines[0].margin();
         let len = self.len;
-        let first = self.lines[0].row_at(point[0]);
+        let blank = TurnedWords {
+            own: &[],
+            turn: &[],
+            summary: 0,
+        };
         let mut all = Candidates {
             margin,
             len,
-            rows: [first; FIELDS],
-            count: 1,
-            summary: first.summary,
+            rows: [blank; FIELDS],
+            count: 0,
+            summary: u64::MAX,
         };
-        for place in 1..FIELDS {
-            // A marked line has every bit in each row: what the others have in common it has.
-            if self.marks[place] {
-                continue;
-            }
+        // A line that isn't among these has every bit in each row: what the others have in common it has.
+        for other in self.others.as_slice() {
+            let place = *other;
             let line = &self.lines[place];
             let row = line.row_at(point[place]);
             all.rows[all.count] = row;

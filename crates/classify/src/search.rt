@@ -9,7 +9,7 @@ ghost use Rattle.classify.specs.steps.Summaries.{SumUpAll};
 use bits::{TurnedWords, is_marked, next_marked};
 use std::simd::prelude::*;
 
-// The words at a place of every row, and-ed.
+// The words at a place of every row, and-ed: row by row, until no bit is left.
 fn and_at(rows: &[TurnedWords<'_>], place: usize) -> u64
     requires { (words : ℕ) × AreWide words rows.now × (place < words) }
     ensures { IsAndAt result rows.now place }
@@ -19,6 +19,9 @@ fn and_at(rows: &[TurnedWords<'_>], place: usize) -> u64
         let own = row.own;
         let turn = row.turn;
         all &= own[place] ^ turn[place];
+        if all == 0 {
+            return 0;
+        }
     }
     all
 }
@@ -105,7 +108,11 @@ fn first_common(rows: &[TurnedWords<'_>], summary: u64, words: usize, from: usiz
     match head(rows, summary, from) {
         Some(place) => Some(place),
         None => {
-            let start = skip(rows, summary, from / 64 + 1, words);
+            let next = from / 64 + 1;
+            if next == words {
+                return None;
+            }
+            let start = skip(rows, summary, next, words);
             scan(rows, start, words)
         }
     }

@@ -4,7 +4,7 @@ ghost use Rattle.std.specs.Prelude.{slice_index_or};
 ghost use Rattle.std.specs.Prelude.{OnOk, OnErr, IfOk, IfSome};
 ghost use Rattle.std.specs.List.{position};
 ghost use Rattle.classify.specs.search.NextMatch.{next_match};
-ghost use Rattle.rules.specs.rule.Allows.{matches};
+ghost use Rattle.rules.specs.rule.Allows.{allows_each, matches};
 ghost use Rattle.table.specs.steps.StoredChains.{IsClassified, has_text, rules_in};
 ghost use Rattle.table.specs.edits.Boxes.{MakesOneBoxAtMost};
 ghost use Rattle.table.specs.steps.Edges.{AreEdges};
@@ -16,7 +16,7 @@ pub(crate) mod entry;
 
 use crate::chain::edges::Edge;
 use crate::chain::entry::{Entry, retarget};
-use classify::{Classifier, targets_leave_the_classifier};
+use classify::{Candidates, Classifier, targets_leave_the_classifier};
 use fields::{Name, Packet};
 use rules::{Boxed, Rule, Work, cross};
 use std::alloc::{AllocError, Global};
@@ -261,19 +261,27 @@ impl Chain {
         self.references = 0;
     }
 
-    // The least place, at or after `from`, of a rule that matches the packet: the first of those that the classifier gives
-    // whose conditions on several fields at once hold. The rows of the packet are looked up once, and where no rule is left they aren't. It
-    // takes no memory.
-    pub(crate) fn next(&self, packet: &Packet, from: usize) -> Option<usize>
+    // Which rules allow the packet's numbers: the rows of the packet are looked up in the classifier. It takes no memory.
+    #[inline(always)]
+    pub(crate) fn candidates<'a>(&'a self, packet: &Packet) -> Candidates<'a>
+        ensures { result ≡ map (allows_each packet.now.values) (rules_in self.now) }
+    {
+        self.classifier.at(packet.numbers())
+    }
+
+    // The least place, at or after `from`, of a rule that matches the packet: the first of its candidates whose conditions on
+    // several fields at once hold. It takes no memory.
+    pub(crate) fn next(
+        &self,
+        candidates: &Candidates<'_>,
+        packet: &Packet,
+        from: usize,
+    ) -> Option<usize>
+        requires { candidates.now ≡ map (allows_each packet.now.values) (rules_in self.now) }
         ensures next { result ≡ next_match (matches packet.now.values) (rules_in self.now) from }
         ensures within { IfSome result (λ place. place < length self.now.entries) }
         ensures small { IfSome result (λ place. place + 1 < 2 ^ 64) }
     {
-        let len = self.entries.len();
-        if from >= len {
-            return None;
-        }
-        let candidates = self.classifier.at(packet.numbers());
         let mut start = from;
         while let Some(place) = candidates.next(start) {
             if cross(&self.entries[place].rule, packet) {

@@ -1,6 +1,7 @@
 //! The walk of a packet, by the keys of chains, with a return stack of fixed size: a short one first, and the deep
 //! one where that is full.
 ghost use Rattle.std.specs.Prelude.{◌≡◌, ◌<◌, ◌≤◌, ℕ, List, length, IfSome, IfNone, Option, Some, None};
+ghost use Rattle.table.specs.steps.Found.{IsFound};
 ghost use Rattle.table.specs.steps.Kept.{AreStored, listed};
 ghost use Rattle.table.specs.steps.StoredChains.{StoredChain};
 ghost use Rattle.table.specs.steps.Walking.{Follows, IsHit, IsState, LeadsIn, NoRoom, next_by, start, state_of};
@@ -8,11 +9,13 @@ ghost use Rattle.table.specs.steps.Walking.{walk_at};
 ghost use Rattle.table.specs.walk.Walk.{first_hit};
 
 pub(crate) mod depth;
+pub(crate) mod found;
 pub(crate) mod trail;
 
 use crate::chain::entry::Flow;
 use crate::parts::Parts;
 use crate::verdict::Verdict;
+use crate::walk::found::Found;
 use arrayvec::ArrayVec;
 use fields::Packet;
 
@@ -59,9 +62,11 @@ impl Parts {
         packet: &Packet,
         at: &mut Pending,
         stack: &mut ArrayVec<Pending, DEPTH>,
+        found: &Found<'_>,
     ) -> Option<Flow>
         requires kept { AreStored self.now }
         requires state { IsState self.now.order.items at.old stack.old.items }
+        requires found { IsFound self.now.chains.slots packet.now.values found.now }
         ensures none { IfNone result (first_hit (listed self.now.chains.slots self.now.order.items) packet.now.values
             (state_of self.now.chains.slots at.old stack.old.items) ≡ None) }
         ensures some { IfSome result (λ flow. IsHit self.now.chains.slots self.now.order.items
@@ -69,11 +74,10 @@ impl Parts {
             (state_of self.now.chains.slots at.old stack.old.items)) flow at.new stack.new.items) }
     {
         'rests: loop {
-            let chain = &self.chains[at.chain];
-            match chain.next(packet, at.passed) {
+            match self.next_rule(packet, *at, found) {
                 Some(place) => {
                     at.passed = place + 1;
-                    return Some(chain.entry(place).flow);
+                    return Some(self.chains[at.chain].entry(place).flow);
                 }
                 None => match stack.pop() {
                     Some(rest) => *at = rest,
@@ -144,9 +148,10 @@ impl Parts {
     {
         let mut at = Pending::start(self.order[hook]);
         let mut stack: ArrayVec<Pending, DEPTH> = ArrayVec::new();
+        let found = self.find(packet, at.chain);
         let mut left = LIMIT;
         'walk: loop {
-            let Some(flow) = self.advance(packet, &mut at, &mut stack) else {
+            let Some(flow) = self.advance(packet, &mut at, &mut stack, &found) else {
                 return Some(policy);
             };
             if left == 0 {

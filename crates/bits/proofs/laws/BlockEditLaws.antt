@@ -4,13 +4,13 @@ use Rattle.std.specs.Prelude.{slice_index}
 use Rattle.std.proofs.Math.ListN.{set}
 use Rattle.std.specs.List.{insert, remove, concat, All}
 use Rattle.std.proofs.lemmas.Bool.{false≢true}
-use Rattle.std.proofs.lemmas.List.{get_or-map, get_or_read, get_or-set_same, get_or-take, length-drop, length-map, length-set, length-take-le, map-append, map-set, set-get_or, take-append-drop}
-use Rattle.std.proofs.lemmas.List.Edits.{get_or-insert_below, insert-append_right, length-insert, length-remove, remove-append_right}
+use Rattle.std.proofs.lemmas.List.{get_or_append_left, get_or-map, get_or_read, get_or-set_same, get_or-take, length-drop, length-map, length-set, length-take-le, map-append, map-set, set-get_or, take-append-drop}
+use Rattle.std.proofs.lemmas.List.Edits.{length-remove, remove-append_right}
 use Rattle.std.proofs.lemmas.List.Elements.{All-append, All-cons, All-drop, All-get_or, All-set, All-take}
 use Rattle.bits.specs.steps.Blocks.{begins_from, head_of, AreBlocks}
 use Rattle.bits.proofs.laws.SlotLaws.{map-insert, map-remove}
 use Rattle.bits.proofs.laws.SlotRowLaws.{all_written}
-use Rattle.bits.proofs.laws.BlockLaws.{IsSome, before, begin_at, begins_cut, begins_dropped, begins_fewer, begins_later, begins_map, begins_more, begins_size, begins_sooner, before_more, before_up, concat_cut, concat_dropped, concat_map, heads_map, number_put, number_taken, some_map}
+use Rattle.bits.proofs.laws.BlockLaws.{IsSome, before, begin_at, begins_cut, begins_dropped, begins_fewer, begins_later, begins_map, begins_more, begins_size, begins_sooner, before_more, before_up, concat_cut, concat_dropped, concat_map, heads_map, numbers_put, number_taken, put_in, size_put, some_map}
 use Rattle.bits.proofs.laws.BlockPlaceLaws.{IsHeld, begin_is, within_all}
 
 -- the same parts, as they are written otherwise
@@ -37,60 +37,63 @@ heads_same bs j c lt e =
 
 -- ---- a number more
 
-pub put_first_kept : (first heads begins : List ℕ) (later : List (List ℕ)) (first' : List ℕ) → AreBlocks first heads begins later → length (first ++ concat later) < 2 ^ 32 → length first' ≡ length first + 1
-    → AreBlocks first' heads (map (λ (n : ℕ). n + 1) begins) later
-put_first_kept first heads begins later first' h room size = record {
+pub put_first_kept : (first heads begins : List ℕ) (later : List (List ℕ)) (first' : List ℕ) (by : ℕ) → AreBlocks first heads begins later → length (first ++ concat later) + by ≤ 2 ^ 32 → length first' ≡ length first + by
+    → AreBlocks first' heads (map (λ (n : ℕ). n + by) begins) later
+put_first_kept first heads begins later first' by h room size = record {
   some = h.some;
   headed = h.headed;
-  begun = ap (λ (ns : List ℕ). map (λ (n : ℕ). n + 1) ns) h.begun ∙ sym (begins_later (length first) later) ∙ ap (λ n. begins_from n later) (sym size);
+  begun = ap (λ (ns : List ℕ). map (λ (n : ℕ). n + by) ns) h.begun ∙ sym (begins_later (length first) by later) ∙ ap (λ n. begins_from n later) (sym size);
   few = omega (arith, room, length-append first (concat later), size);
 }
 
--- number x put in at place k into block j, which has the number before it: b, which begins at p, becomes c
-pub record IsPut (first heads begins : List ℕ) (later : List (List ℕ)) (k x j p : ℕ) (b c : List ℕ) : Type 0 where
+-- numbers put in at place k into block j, which has the number before them: b, which begins at p, becomes c
+pub record IsPut (first heads begins : List ℕ) (later : List (List ℕ)) (k j p : ℕ) (more b c : List ℕ) : Type 0 where
   pub kept : AreBlocks first heads begins later
-  pub room : length (first ++ concat later) < 2 ^ 32
+  pub room : length (first ++ concat later) + length more ≤ 2 ^ 32
   pub late : length first < k
   pub inside : IsHeld (length first) later (k - 1) j
   pub block : b ≡ get_or later j b
   pub begin : p ≡ get_or begins j p
-  pub put : c ≡ insert b (k - p) x
+  pub put : c ≡ put_in more b (k - p)
 
-put_block : (first heads begins : List ℕ) (later : List (List ℕ)) (k x j p : ℕ) (b c : List ℕ) → IsPut first heads begins later k x j p b c
-    → (b ≡ get_or later j []) × (length first + before later j + (k - p) ≡ k) × (0 < k - p) × (k - p ≤ length (get_or later j []))
-put_block first heads begins later k x j p b c h =
+put_block : (first heads begins : List ℕ) (later : List (List ℕ)) (k j p : ℕ) (more b c : List ℕ) → IsPut first heads begins later k j p more b c
+    → (c ≡ put_in more (get_or later j []) (k - p)) × (length first + before later j + (k - p) ≡ k) × (0 < k - p) × (k - p ≤ length (get_or later j []))
+put_block first heads begins later k j p more b c h =
     let p_is : p ≡ length first + before later j = begin_is first heads begins later j p h.kept h.inside.there h.begin in (
-      get_or_read later j b h.inside.there h.block [],
+      h.put ∙ ap (λ (ns : List ℕ). put_in more ns (k - p)) (get_or_read later j b h.inside.there h.block []),
       omega (arith, p_is, h.late, h.inside.begun),
       omega (arith, p_is, h.late, h.inside.begun),
       omega (arith, p_is, h.late, h.inside.ended),
     )
 
-pub put_kept : (first heads begins : List ℕ) (later : List (List ℕ)) (k x j p : ℕ) (b c : List ℕ) → IsPut first heads begins later k x j p b c
-    → AreBlocks first heads (take (j + 1) begins ++ map (λ (n : ℕ). n + 1) (drop (j + 1) begins)) (set later j c)
-put_kept first heads begins later k x j p b c h =
-    let at = put_block first heads begins later k x j p b c h in
+-- numbers put in behind the first leave it there
+head_put : (more ns : List ℕ) (k : ℕ) → 0 < k → k ≤ length ns → head_of (put_in more ns k) ≡ head_of ns
+head_put more ns k some le =
+    get_or_append_left (take k ns) (more ++ drop k ns) 0 0 (omega (arith, length-take-le k ns le, some)) ∙ get_or-take k ns 0 0 some
+
+pub put_kept : (first heads begins : List ℕ) (later : List (List ℕ)) (k j p : ℕ) (more b c : List ℕ) → IsPut first heads begins later k j p more b c
+    → AreBlocks first heads (take (j + 1) begins ++ map (λ (n : ℕ). n + length more) (drop (j + 1) begins)) (set later j c)
+put_kept first heads begins later k j p more b c h =
+    let at = put_block first heads begins later k j p more b c h in
     let lt = h.inside.there in
     let some : 0 < length (get_or later j []) = All-get_or IsSome later j [] lt h.kept.some in
-    let is : c ≡ insert (get_or later j []) (k - p) x = h.put ∙ ap (λ (ns : List ℕ). insert ns (k - p) x) at.0 in
-    let size : length c ≡ length (get_or later j []) + 1 = ap (λ (ns : List ℕ). length ns) is ∙ length-insert (get_or later j []) (k - p) x at.3 in
-    let head : head_of c ≡ head_of (get_or later j []) = ap head_of is ∙ get_or-insert_below (get_or later j []) (k - p) x 0 0 at.2 at.3 in
+    let size : length c ≡ length (get_or later j []) + length more = ap (λ (ns : List ℕ). length ns) at.0 ∙ size_put more (get_or later j []) (k - p) in
+    let head : head_of c ≡ head_of (get_or later j []) = ap head_of at.0 ∙ head_put more (get_or later j []) (k - p) at.2 at.3 in
     let e : suc j ≡ j + 1 = omega arith in
     record {
-      some = All-set IsSome later j c (omega (arith, size)) h.kept.some;
+      some = All-set IsSome later j c (omega (arith, size, some)) h.kept.some;
       headed = h.kept.headed ∙ sym (heads_same later j c lt head);
-      begun = ap (λ (ns : List ℕ). take (j + 1) ns ++ map (λ (n : ℕ). n + 1) (drop (j + 1) ns)) h.kept.begun
-          ∙ ap (λ i. take i (begins_from (length first) later) ++ map (λ (n : ℕ). n + 1) (drop i (begins_from (length first) later))) (sym e) ∙ sym (begins_more (length first) later j c lt size);
+      begun = ap (λ (ns : List ℕ). take (j + 1) ns ++ map (λ (n : ℕ). n + length more) (drop (j + 1) ns)) h.kept.begun
+          ∙ ap (λ i. take i (begins_from (length first) later) ++ map (λ (n : ℕ). n + length more) (drop i (begins_from (length first) later))) (sym e)
+          ∙ sym (begins_more (length first) (length more) later j c lt size);
       few = omega (arith, h.room, length-append first (concat later), concat_size later j c lt, size);
     }
 
-pub put_shown : (first heads begins : List ℕ) (later : List (List ℕ)) (k x j p : ℕ) (b c : List ℕ) → IsPut first heads begins later k x j p b c → first ++ concat (set later j c) ≡ insert (first ++ concat later) k x
-put_shown first heads begins later k x j p b c h =
-    let at = put_block first heads begins later k x j p b c h in
-    let is : c ≡ insert (get_or later j []) (k - p) x = h.put ∙ ap (λ (ns : List ℕ). insert ns (k - p) x) at.0 in
-    let e : before later j + (k - p) ≡ k - length first = omega (arith, at.1) in
-    ap (λ (ns : List ℕ). first ++ concat (set later j ns)) is ∙ ap (λ (ns : List ℕ). first ++ ns) (sym (number_put later j (k - p) x h.inside.there at.3)) ∙ ap (λ i. first ++ insert (concat later) i x) e
-    ∙ sym (insert-append_right first (concat later) (length first) k x refl (omega (arith, h.late)))
+pub put_shown : (first heads begins : List ℕ) (later : List (List ℕ)) (k j p : ℕ) (more b c : List ℕ) → IsPut first heads begins later k j p more b c → first ++ concat (set later j c) ≡ put_in more (first ++ concat later) k
+put_shown first heads begins later k j p more b c h =
+    let at = put_block first heads begins later k j p more b c h in
+    let e : length (first ++ concat (take j later)) + (k - p) ≡ k = omega (arith, at.1, length-append first (concat (take j later))) in
+    ap (λ (ns : List ℕ). first ++ concat (set later j ns)) at.0 ∙ sym (numbers_put (first ∷ later) (suc j) (k - p) more (omega (arith, h.inside.there)) at.3) ∙ ap (λ i. put_in more (first ++ concat later) i) e
 
 -- each later block begins below the end
 pub begins_fit : (first heads begins : List ℕ) (later : List (List ℕ)) (ns : List ℕ) (k : ℕ) → AreBlocks first heads begins later → ns ≡ begins → k < length ns → slice_index ns k < length (first ++ concat later)
@@ -100,13 +103,6 @@ begins_fit first heads begins later ns k h e lt =
     omega (arith, ap (λ (xs : List ℕ). get_or xs k 0) is, begin_at (length first) later k 0 in', within_all first later k in', All-get_or IsSome later k [] in' h.some)
 
 -- ---- a number fewer
-
--- what was put in is taken out again
-pub remove-insert : {X : Type 0} (xs : List X) (i : ℕ) (y : X) → i ≤ length xs → remove (insert xs i y) i ≡ xs
-remove-insert [] zero y le = refl
-remove-insert [] (suc i) y le = absurd (omega arith)
-remove-insert (x ∷ xs) zero y le = refl
-remove-insert {X} (x ∷ xs) (suc i) y le = ap (λ (ys : List X). x ∷ ys) (remove-insert xs i y (omega arith))
 
 pub take_first_kept : (first heads begins : List ℕ) (later : List (List ℕ)) (k : ℕ) → AreBlocks first heads begins later → k < length first → AreBlocks (remove first k) heads (map (λ (n : ℕ). n - 1) begins) later
 take_first_kept first heads begins later k h lt =

@@ -1,10 +1,11 @@
 -- Lists of numbers in blocks: where a place lies, and what an edit of one block makes of the list.
 use Rattle.std.proofs.Common.{◌≡◌, ℕ, zero, suc, ◌+◌, ◌-◌, ◌<◌, ◌≤◌, List, [], ◌∷◌, ◌++◌, length, take, drop, get_or, map, refl, sym, ◌∙◌, ap, arith, subst, append_assoc, length-append}
 use Rattle.std.proofs.Math.ListN.{set}
+use Rattle.std.proofs.Math.Seq.{drop-append-add, take-append-add}
 use Rattle.std.specs.List.{insert, remove, concat, All}
 use Rattle.std.specs.List.Sorted.{IsNonDecreasingBy}
-use Rattle.std.proofs.lemmas.List.{get_or_append_left, get_or-append_right, get_or-map, map-append, length-map, nil_from_length, take-append-drop, take_all}
-use Rattle.std.proofs.lemmas.List.Edits.{insert-append_left, insert-append_right, remove-append_left, remove-append_right}
+use Rattle.std.proofs.lemmas.List.{get_or_append_left, get_or-append_right, get_or-map, map-append, length-map, nil_from_length, take-append-drop, take_all, drop-append-le, take-append-le}
+use Rattle.std.proofs.lemmas.List.Edits.{remove-append_left, remove-append_right}
 use Rattle.std.proofs.lemmas.List.Elements.{All-cons, All-head, All-tail}
 use Rattle.bits.specs.steps.Blocks.{begins_from, head_of}
 
@@ -52,11 +53,11 @@ begins_rise from bs i j d le lt =
     let n = begins_size from bs in
     omega (arith, begin_at from bs i d (omega arith), begin_at from bs j d (omega arith), before_up bs i j le)
 
-pub begins_later : (from : ℕ) (bs : List (List ℕ)) → begins_from (from + 1) bs ≡ map (λ (n : ℕ). n + 1) (begins_from from bs)
-begins_later from [] = refl
-begins_later from (b ∷ bs) =
-    let e : from + 1 + length b ≡ from + length b + 1 = omega arith in
-    ap (λ (ns : List ℕ). (from + 1) ∷ ns) (ap (λ n. begins_from n bs) e ∙ begins_later (from + length b) bs)
+pub begins_later : (from by : ℕ) (bs : List (List ℕ)) → begins_from (from + by) bs ≡ map (λ (n : ℕ). n + by) (begins_from from bs)
+begins_later from by [] = refl
+begins_later from by (b ∷ bs) =
+    let e : from + by + length b ≡ from + length b + by = omega arith in
+    ap (λ (ns : List ℕ). (from + by) ∷ ns) (ap (λ n. begins_from n bs) e ∙ begins_later (from + length b) by bs)
 
 pub begins_sooner : (from : ℕ) (bs : List (List ℕ)) → begins_from from bs ≡ map (λ (n : ℕ). n - 1) (begins_from (from + 1) bs)
 begins_sooner from [] = refl
@@ -66,13 +67,13 @@ begins_sooner from (b ∷ bs) =
     ap (λ n. n ∷ begins_from (from + length b) bs) f
     ∙ ap (λ (ns : List ℕ). (from + 1 - 1) ∷ ns) (begins_sooner (from + length b) bs ∙ ap (λ n. map (λ (m : ℕ). m - 1) (begins_from n bs)) e)
 
-pub begins_more : (from : ℕ) (bs : List (List ℕ)) (j : ℕ) (c : List ℕ) → j < length bs → length c ≡ length (get_or bs j []) + 1
-    → begins_from from (set bs j c) ≡ take (suc j) (begins_from from bs) ++ map (λ (n : ℕ). n + 1) (drop (suc j) (begins_from from bs))
-begins_more from [] j c lt e = absurd (omega arith)
-begins_more from (b ∷ bs) zero c lt e =
-    let n : from + length c ≡ from + length b + 1 = omega arith in
-    ap (λ (ns : List ℕ). from ∷ ns) (ap (λ m. begins_from m bs) n ∙ begins_later (from + length b) bs)
-begins_more from (b ∷ bs) (suc j) c lt e = ap (λ (ns : List ℕ). from ∷ ns) (begins_more (from + length b) bs j c (omega arith) e)
+pub begins_more : (from by : ℕ) (bs : List (List ℕ)) (j : ℕ) (c : List ℕ) → j < length bs → length c ≡ length (get_or bs j []) + by
+    → begins_from from (set bs j c) ≡ take (suc j) (begins_from from bs) ++ map (λ (n : ℕ). n + by) (drop (suc j) (begins_from from bs))
+begins_more from by [] j c lt e = absurd (omega arith)
+begins_more from by (b ∷ bs) zero c lt e =
+    let n : from + length c ≡ from + length b + by = omega arith in
+    ap (λ (ns : List ℕ). from ∷ ns) (ap (λ m. begins_from m bs) n ∙ begins_later (from + length b) by bs)
+begins_more from by (b ∷ bs) (suc j) c lt e = ap (λ (ns : List ℕ). from ∷ ns) (begins_more (from + length b) by bs j c (omega arith) e)
 
 pub begins_fewer : (from : ℕ) (bs : List (List ℕ)) (j : ℕ) (c : List ℕ) → j < length bs → length c + 1 ≡ length (get_or bs j [])
     → begins_from from (set bs j c) ≡ take (suc j) (begins_from from bs) ++ map (λ (n : ℕ). n - 1) (drop (suc j) (begins_from from bs))
@@ -113,14 +114,46 @@ number_at (b ∷ bs) (suc j) at d lt in' =
     let p = past b (concat (take j bs)) at in
     get_or-append_right b (concat bs) (length b) (length (b ++ concat (take j bs)) + at) d refl p.0 ∙ ap (λ k. get_or (concat bs) k d) p.1 ∙ number_at bs j at d (omega arith) in'
 
-pub number_put : (bs : List (List ℕ)) (j at x : ℕ) → j < length bs → at ≤ length (get_or bs j []) → insert (concat bs) (before bs j + at) x ≡ concat (set bs j (insert (get_or bs j []) at x))
-number_put [] j at x lt le = absurd (omega arith)
-number_put (b ∷ bs) zero at x lt le =
+-- the numbers from a place of a block on, and those before it
+pub concat_from : (bs : List (List ℕ)) (j at : ℕ) → j < length bs → at ≤ length (get_or bs j []) → drop (before bs j + at) (concat bs) ≡ drop at (get_or bs j []) ++ concat (drop (suc j) bs)
+concat_from [] j at lt le = absurd (omega arith)
+concat_from (b ∷ bs) zero at lt le =
     let e : 0 + at ≡ at = omega arith in
-    ap (λ k. insert (b ++ concat bs) k x) e ∙ insert-append_left b (concat bs) at x le
-number_put (b ∷ bs) (suc j) at x lt le =
-    let p = past b (concat (take j bs)) at in
-    insert-append_right b (concat bs) (length b) (length (b ++ concat (take j bs)) + at) x refl p.0 ∙ ap (λ k. b ++ insert (concat bs) k x) p.1 ∙ ap (λ (ns : List ℕ). b ++ ns) (number_put bs j at x (omega arith) le)
+    ap (λ k. drop k (b ++ concat bs)) e ∙ drop-append-le at b (concat bs) le
+concat_from (b ∷ bs) (suc j) at lt le =
+    let e : length (b ++ concat (take j bs)) + at ≡ length b + (before bs j + at) = omega (arith, length-append b (concat (take j bs))) in
+    ap (λ k. drop k (b ++ concat bs)) e ∙ drop-append-add b (concat bs) (before bs j + at) ∙ concat_from bs j at (omega arith) le
+
+pub concat_to : (bs : List (List ℕ)) (j at : ℕ) → j < length bs → at ≤ length (get_or bs j []) → take (before bs j + at) (concat bs) ≡ concat (take j bs) ++ take at (get_or bs j [])
+concat_to [] j at lt le = absurd (omega arith)
+concat_to (b ∷ bs) zero at lt le =
+    let e : 0 + at ≡ at = omega arith in
+    ap (λ k. take k (b ++ concat bs)) e ∙ take-append-le at b (concat bs) le
+concat_to (b ∷ bs) (suc j) at lt le =
+    let e : length (b ++ concat (take j bs)) + at ≡ length b + (before bs j + at) = omega (arith, length-append b (concat (take j bs))) in
+    ap (λ k. take k (b ++ concat bs)) e ∙ take-append-add b (concat bs) (before bs j + at) ∙ ap (λ (ns : List ℕ). b ++ ns) (concat_to bs j at (omega arith) le)
+    ∙ sym (append_assoc b (concat (take j bs)) (take at (get_or bs j [])))
+
+-- some numbers put in at a place
+abbrev pub put_in : List ℕ → List ℕ → ℕ → List ℕ
+put_in more ns k = take k ns ++ (more ++ drop k ns)
+
+pub size_put : (more ns : List ℕ) (k : ℕ) → length (put_in more ns k) ≡ length ns + length more
+size_put more ns k =
+    omega (arith, length-append (take k ns) (more ++ drop k ns), length-append more (drop k ns), ap (λ (ms : List ℕ). length ms) (take-append-drop k ns), length-append (take k ns) (drop k ns))
+
+concat_set : (bs : List (List ℕ)) (j : ℕ) (c : List ℕ) → j < length bs → concat (set bs j c) ≡ concat (take j bs) ++ (c ++ concat (drop (suc j) bs))
+concat_set [] j c lt = absurd (omega arith)
+concat_set (b ∷ bs) zero c lt = refl
+concat_set (b ∷ bs) (suc j) c lt = ap (λ (ns : List ℕ). b ++ ns) (concat_set bs j c (omega arith)) ∙ sym (append_assoc b (concat (take j bs)) (c ++ concat (drop (suc j) bs)))
+
+parts : (low part more rest after : List ℕ) → (low ++ part) ++ (more ++ (rest ++ after)) ≡ low ++ ((part ++ (more ++ rest)) ++ after)
+parts low part more rest after = simp append_assoc
+
+pub numbers_put : (bs : List (List ℕ)) (j at : ℕ) (more : List ℕ) → j < length bs → at ≤ length (get_or bs j []) → put_in more (concat bs) (before bs j + at) ≡ concat (set bs j (put_in more (get_or bs j []) at))
+numbers_put bs j at more lt le =
+    let b : List ℕ = get_or bs j [] in
+    (λ i. concat_to bs j at lt le i ++ (more ++ concat_from bs j at lt le i)) ∙ parts (concat (take j bs)) (take at b) more (drop at b) (concat (drop (suc j) bs)) ∙ sym (concat_set bs j (put_in more b at) lt)
 
 pub number_taken : (bs : List (List ℕ)) (j at : ℕ) → j < length bs → at < length (get_or bs j []) → remove (concat bs) (before bs j + at) ≡ concat (set bs j (remove (get_or bs j []) at))
 number_taken [] j at lt in' = absurd (omega arith)

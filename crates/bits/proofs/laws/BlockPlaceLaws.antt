@@ -1,14 +1,15 @@
 -- Lists of numbers in blocks as they are kept: the block that has a place, and what a search of one block says of all numbers.
-use Rattle.std.proofs.Common.{◌≡◌, ℕ, ◌+◌, ◌-◌, ◌<◌, ◌≤◌, inl, inr, List, [], ◌∷◌, ◌++◌, length, get_or, refl, sym, ◌∙◌, ap, arith, subst, length-append}
+use Rattle.std.proofs.Common.{◌≡◌, ℕ, ◌+◌, ◌-◌, ◌<◌, ◌≤◌, inl, inr, List, [], ◌∷◌, ◌++◌, length, take, drop, get_or, suc, append_assoc, refl, sym, ◌∙◌, ap, arith, subst, length-append}
 use Rattle.std.specs.Prelude.{slice_index}
 use Rattle.std.specs.List.{concat}
 use Rattle.std.specs.List.Sorted.{IsNonDecreasingBy}
 use Rattle.std.proofs.lemmas.Bool.{cases_lt}
-use Rattle.std.proofs.lemmas.List.{get_or_append_left, get_or-append_right, get_or-map, get_or_read, get_or_default, length-map}
+use Rattle.std.proofs.Math.Seq.{drop-append-add, take-append-add, take-append_seam}
+use Rattle.std.proofs.lemmas.List.{get_or_append_left, get_or-append_right, get_or-map, get_or_read, get_or_default, length-map, length-take-le, drop_at}
 use Rattle.std.proofs.lemmas.List.Elements.{All-get_or}
 use Rattle.bits.specs.steps.Around.{AreAround}
 use Rattle.bits.specs.steps.Blocks.{begins_from, head_of, AreBlocks}
-use Rattle.bits.proofs.laws.BlockLaws.{IsSome, before, before_all, before_more, before_up, begin_at, begins_rise, begins_size, number_at}
+use Rattle.bits.proofs.laws.BlockLaws.{IsSome, before, before_all, before_more, before_up, begin_at, begins_rise, begins_size, concat_from, concat_to, number_at}
 
 -- numbers, each of which is as great as the one before it or greater
 abbrev pub Rise : List ℕ → Type 0
@@ -76,16 +77,44 @@ held_read first heads begins later k j b p h in' block begin =
       ap (λ i. get_or (first ++ concat later) i 0) e ∙ whole_at first later j (k - p) 0 in'.there (omega (arith, p_is, in'.begun, in'.ended)) ∙ ap (λ (xs : List ℕ). get_or xs (k - p) 0) (sym b_is),
     )
 
+-- and those from it on up to the block's end, which are its last
+pub run_shown : (first heads begins : List ℕ) (later : List (List ℕ)) (k j : ℕ) (b : List ℕ) (p : ℕ) (run : List ℕ) → AreBlocks first heads begins later → IsHeld (length first) later k j → b ≡ get_or later j b → p ≡ get_or begins j p
+    → run ≡ drop (k - p) b → run ≡ take (length run) (drop k (first ++ concat later))
+run_shown first heads begins later k j b p run h in' block begin is =
+    let p_is : p ≡ length first + before later j = begin_is first heads begins later j p h in'.there begin in
+    let b_is : b ≡ get_or later j [] = get_or_read later j b in'.there block [] in
+    let rest : List ℕ = concat (drop (suc j) later) in
+    let e : k ≡ length first + (before later j + (k - p)) = omega (arith, p_is, in'.begun) in
+    let from : drop k (first ++ concat later) ≡ run ++ rest =
+    ap (λ i. drop i (first ++ concat later)) e ∙ drop-append-add first (concat later) (before later j + (k - p)) ∙ concat_from later j (k - p) in'.there (omega (arith, p_is, in'.begun, in'.ended))
+    ∙ ap (λ (xs : List ℕ). xs ++ rest) (ap (λ (xs : List ℕ). drop (k - p) xs) (sym b_is) ∙ sym is) in
+    sym (ap (λ (xs : List ℕ). take (length run) xs) from ∙ take-append_seam run rest)
+
+-- and those from the block's start up to it, which are its first
+pub run_to_shown : (first heads begins : List ℕ) (later : List (List ℕ)) (k j : ℕ) (b : List ℕ) (p : ℕ) (run : List ℕ) → AreBlocks first heads begins later → IsHeld (length first) later k j → b ≡ get_or later j b → p ≡ get_or begins j p
+    → run ≡ take (k - p + 1) b → (p + length run ≡ k + 1) × (run ≡ drop (k + 1 - length run) (take (k + 1) (first ++ concat later)))
+run_to_shown first heads begins later k j b p run h in' block begin is =
+    let p_is : p ≡ length first + before later j = begin_is first heads begins later j p h in'.there begin in
+    let b_is : b ≡ get_or later j [] = get_or_read later j b in'.there block [] in
+    let low : List ℕ = concat (take j later) in
+    let le : k - p + 1 ≤ length (get_or later j []) = omega (arith, p_is, in'.begun, in'.ended) in
+    let size : length run ≡ k - p + 1 = ap (λ (xs : List ℕ). length xs) (is ∙ ap (λ (xs : List ℕ). take (k - p + 1) xs) b_is) ∙ length-take-le (k - p + 1) (get_or later j []) le in
+    let e : k + 1 ≡ length first + (before later j + (k - p + 1)) = omega (arith, p_is, in'.begun) in
+    let upto : take (k + 1) (first ++ concat later) ≡ (first ++ low) ++ run =
+    ap (λ i. take i (first ++ concat later)) e ∙ take-append-add first (concat later) (before later j + (k - p + 1))
+    ∙ ap (λ (xs : List ℕ). first ++ xs) (concat_to later j (k - p + 1) in'.there le ∙ ap (λ (xs : List ℕ). low ++ xs) (ap (λ (xs : List ℕ). take (k - p + 1) xs) (sym b_is) ∙ sym is))
+    ∙ sym (append_assoc first low run) in
+    let n : length (first ++ low) ≡ k + 1 - length run = omega (arith, length-append first low, size, e) in (
+      omega (arith, p_is, in'.begun, size),
+      sym (ap (λ (xs : List ℕ). drop (k + 1 - length run) xs) upto ∙ drop_at (first ++ low) run (k + 1 - length run) n),
+    )
+
 -- the last block ends where the list does
 pub last_ends : (first heads begins : List ℕ) (later : List (List ℕ)) (j : ℕ) (b : List ℕ) (p : ℕ) → AreBlocks first heads begins later → j + 1 ≡ length later → b ≡ get_or later j b → p ≡ get_or begins j p
     → p + length b ≡ length (first ++ concat later)
 last_ends first heads begins later j b p h last block begin =
     let lt : j < length later = omega (arith, last) in
     omega (arith, begin_is first heads begins later j p h lt begin, ap (λ (xs : List ℕ). length xs) (get_or_read later j b lt block []), before_more later j lt, before_all later (j + 1) (omega (arith, last)), length-append first (concat later))
-
-pub all_first : (first : List ℕ) (later : List (List ℕ)) → length later ≡ 0 → length (first ++ concat later) ≡ length first
-all_first first [] e = omega (arith, length-append first [])
-all_first first (b ∷ bs) e = absurd (omega arith)
 
 pub as_many : (first heads begins : List ℕ) (later : List (List ℕ)) → AreBlocks first heads begins later → (length heads ≡ length later) × (length begins ≡ length later)
 as_many first heads begins later h =

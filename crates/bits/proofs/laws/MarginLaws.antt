@@ -1,11 +1,13 @@
 -- Rows after blank places: what an edit of such rows is to the rows themselves.
-use Rattle.std.proofs.Common.{◌≡◌, ℕ, zero, suc, ◌+◌, ◌-◌, ◌<◌, ◌≤◌, Bool, false, List, [], ◌∷◌, length, drop, get_or, refl, sym, ◌∙◌, ap, arith, subst, map, All}
+use Rattle.std.proofs.Common.{◌≡◌, inl, inr, ℕ, zero, suc, ◌+◌, ◌-◌, ◌<◌, ◌≤◌, Bool, false, List, [], ◌∷◌, length, drop, get_or, refl, sym, ◌∙◌, ap, arith, subst, map, All}
 use Rattle.std.specs.List.{insert, remove}
 use Rattle.std.proofs.Math.ListN.{set}
-use Rattle.std.proofs.lemmas.List.{get_or-map, length-map}
+use Rattle.std.proofs.lemmas.Bool.{cases_lt}
+use Rattle.std.proofs.lemmas.List.{get_or-map, get_or_default, get_or_past, length-map, same_lists}
 use Rattle.std.proofs.lemmas.List.Elements.{All-head, All-tail, All-map}
 use Rattle.std.specs.Prelude.{Result, Ok, Err, OnOk, OnErr}
 use Rattle.bits.specs.MarginRows.{RowsInRoom, after_margin, AreAfter}
+use Rattle.bits.specs.Rows.{IsRunWritten}
 
 abbrev Row : Type 0
 Row = List Bool
@@ -213,3 +215,53 @@ all-dropped n m rows wide le e = ap (map (drop n)) e ∙ go rows
 
 pub long-enough-after : (n m : ℕ) (rows wide : List Row) → AreAfter m rows wide → n ≤ m → All (λ row. n ≤ length row) wide
 long-enough-after n m rows wide e le = each-after (λ row. n ≤ length row) m rows wide e (λ k d lt. omega (arith, le, length-after m (get_or rows k d)))
+
+-- ---- a bit written in rows side by side
+
+all-as-after : (m : ℕ) (new : List Row) → ((k : ℕ) → k < length new → get_or new k [] ≡ after_margin m (drop m (get_or new k []))) → AreAfter m (map (drop m) new) new
+all-as-after m [] each = refl
+all-as-after m (r ∷ rs) each = (λ i. each 0 (omega arith) i ∷ all-as-after m rs (λ k lt. each (suc k) (omega arith)) i)
+
+is-after : (m : ℕ) (wide row : Row) → wide ≡ after_margin m row → (wide ≡ after_margin m (drop m wide)) × (drop m wide ≡ row)
+is-after m wide row e = let rest : drop m wide ≡ row = ap (λ (bs : Row). drop m bs) e ∙ drop-after m row in (e ∙ ap (after_margin m) (sym rest), rest)
+
+pub run-after : (m at : ℕ) (bit : Bool) (from to : ℕ) (rows wide new : List Row) → AreAfter m rows wide → to ≤ length rows → IsRunWritten (m + at) bit from to wide new
+    → AreAfter m (map (drop m) new) new × IsRunWritten at bit from to rows (map (drop m) new)
+run-after m at bit from to rows wide new e within w =
+    let n : length wide ≡ length rows = long-after m rows wide e in
+    let size : length (map (drop m) new) ≡ length new = length-map new (drop m) in
+    let inside : (k : ℕ) → from ≤ k → k < to → get_or new k [] ≡ after_margin m (set (get_or rows k []) at bit) = λ k ge lt.
+    w.written k ge lt ∙ ap (λ (bs : Row). set bs (m + at) bit) (at-after m k rows wide e (omega (arith, lt, within))) ∙ set-after m at bit (get_or rows k []) in
+    let beside : (k : ℕ) → k < length rows → get_or new k [] ≡ get_or wide k [] → get_or new k [] ≡ after_margin m (get_or rows k []) = λ k lt same. same ∙ at-after m k rows wide e lt in
+    let shown : (k : ℕ) (row : Row) → k < length rows → get_or new k [] ≡ after_margin m row → get_or (map (drop m) new) k [] ≡ row = λ k row lt is.
+    get_or-map (drop m) new k [] [] (omega (arith, lt, n, w.as_long)) ∙ (is-after m (get_or new k []) row is).1 in (
+      all-as-after m new (λ k lt. elim (cases_lt k from) [
+        | inl less ↦ (is-after m (get_or new k []) (get_or rows k []) (beside k (omega (arith, lt, n, w.as_long)) (w.before k less))).0
+        | inr ge ↦ elim (cases_lt k to) [
+          | inl less ↦ (is-after m (get_or new k []) (set (get_or rows k []) at bit) (inside k ge less)).0
+          | inr past ↦ (is-after m (get_or new k []) (get_or rows k []) (beside k (omega (arith, lt, n, w.as_long)) (w.after k past))).0
+        ]
+      ]),
+      record {
+        as_long = size ∙ w.as_long ∙ n;
+        written = λ k ge lt. shown k (set (get_or rows k []) at bit) (omega (arith, lt, within)) (inside k ge lt);
+        before = λ k less. elim (cases_lt k (length rows)) [
+          | inl lt ↦ shown k (get_or rows k []) lt (beside k lt (w.before k less))
+          | inr past ↦ get_or_past (map (drop m) new) k [] (omega (arith, past, size, w.as_long, n)) ∙ sym (get_or_past rows k [] past)
+        ];
+        after = λ k ge. elim (cases_lt k (length rows)) [
+          | inl lt ↦ shown k (get_or rows k []) lt (beside k lt (w.after k ge))
+          | inr past ↦ get_or_past (map (drop m) new) k [] (omega (arith, past, size, w.as_long, n)) ∙ sym (get_or_past rows k [] past)
+        ];
+      },
+    )
+
+-- the first bit of each row made a blank place
+pub run-given : (m n : ℕ) (rows wide new : List Row) → All (λ row. 0 < length row) rows → AreAfter m rows wide → length wide ≤ n → IsRunWritten m false 0 n wide new → AreAfter (suc m) (map (λ row. remove row 0) rows) new
+run-given m n rows wide new some e all w =
+    let f : Row → Row = λ row. set row m false in
+    let size : length (map f wide) ≡ length wide = length-map wide f in
+    same_lists new (map f wide) (w.as_long ∙ sym size) (λ k d lt.
+    let there : k < length wide = omega (arith, lt, w.as_long) in
+    get_or_default new k d [] lt ∙ w.written k (omega arith) (omega (arith, there, all)) ∙ sym (get_or-map f wide k [] d there))
+    ∙ all-given m rows wide some e

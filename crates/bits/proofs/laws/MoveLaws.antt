@@ -111,7 +111,7 @@ filled_one xs ys new at x g =
     (drop-set new at x (omega (arith, g.same, length-append xs ys, g.few, g.within)) ∙ ap (λ (zs : List ℕ). x ∷ zs) (gap_high xs ys new at 1 g))
 
 -- two elements put in at a place, one before the other
-inserted_pair : (xs : List ℕ) (at x y : ℕ) → at ≤ length xs → insert (insert xs at y) at x ≡ take at xs ++ (x ∷ y ∷ drop at xs)
+pub inserted_pair : (xs : List ℕ) (at x y : ℕ) → at ≤ length xs → insert (insert xs at y) at x ≡ take at xs ++ (x ∷ y ∷ drop at xs)
 inserted_pair xs at x y le =
     let long : length (take at xs) ≡ at = length-take-le at xs le in
     ap (λ (zs : List ℕ). zs ++ (x ∷ drop at (insert xs at y))) (take_at (take at xs) (y ∷ drop at xs) at long)

@@ -262,9 +262,6 @@ pub record Changed (R : List ℕ → List ℕ → Type 0) (w n : ℕ) (old now :
   pub done : (t : ℕ) → t < i → R (words_in w old t) (words_in w now t)
   pub rest : (t : ℕ) → i ≤ t → t < n → words_in w now t ≡ words_in w old t
 
-pub changed_first : (R : List ℕ → List ℕ → Type 0) (w n : ℕ) (old : List ℕ) → Changed R w n old old 0
-changed_first R w n old = record { as_long = refl; done = λ t lt. absurd (omega arith); rest = λ t ge lt. refl }
-
 -- row i changed, and no other
 pub changed_by : (R : List ℕ → List ℕ → Type 0) (w n : ℕ) (old now new row : List ℕ) (i : ℕ) → Changed R w n old now i → i < n → length new ≡ length now → R (words_in w now i) row
     → words_in w new i ≡ row → ((t : ℕ) → t < n → t ≢ i → words_in w new t ≡ words_in w now t) → Changed R w n old new (i + 1)

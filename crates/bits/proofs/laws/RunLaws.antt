@@ -1,41 +1,34 @@
 -- A bit written in rows side by side, and what that is to rows that one more turns.
-use Rattle.std.proofs.Common.{◌≡◌, inl, inr, ℕ, zero, suc, ◌+◌, ◌<◌, ◌≤◌, Bool, false, List, [], ◌∷◌, length, get_or, refl, sym, ◌∙◌, ap, arith, subst}
+use Rattle.std.proofs.Common.{◌≡◌, inl, inr, ℕ, zero, suc, ◌+◌, ◌<◌, ◌≤◌, Bool, false, List, [], ◌∷◌, length, get_or, refl, sym, ◌∙◌, ap, arith, subst, All}
 use Rattle.std.proofs.Math.Bool.{xor}
 use Rattle.std.specs.List.{AllByRecursion}
 use Rattle.std.proofs.Math.ListN.{set}
-use Rattle.std.proofs.lemmas.List.{length-set, get_or-set_same, get_or-set_other}
-use Rattle.std.proofs.lemmas.Bool.{cases_lt, cases_eq}
-use Rattle.bits.specs.TurnedRows.{turned, turned_rows, AreAsLong, IsRunWritten}
+use Rattle.std.proofs.lemmas.List.{length-set, get_or_default}
+use Rattle.std.proofs.lemmas.Bool.{cases_lt}
+use Rattle.bits.specs.Rows.{IsRunWritten}
+use Rattle.bits.specs.TurnedRows.{turned, turned_rows, AreAsLong}
 use Rattle.bits.proofs.laws.TurnLaws.{set-turned}
 use Rattle.bits.proofs.laws.TurnedRowsLaws.{IsSeen, turn_of, kept_size, row_seen}
 
 abbrev Row : Type 0
 Row = List Bool
 
--- ---- a loop that writes one bit
+-- ---- a loop that writes a bit in one run after another
 
 pub writing_first : (at : ℕ) (bit : Bool) (from : ℕ) (rows : List Row) → IsRunWritten at bit from from rows rows
 writing_first at bit from rows = record { as_long = refl; written = λ j ge lt. absurd (omega arith); before = λ j lt. refl; after = λ j ge. refl }
 
-pub writing_more : (at : ℕ) (bit : Bool) (from k : ℕ) (old now new : List Row) → IsRunWritten at bit from k old now → from ≤ k → k < length now → new ≡ set now k (set (get_or now k []) at bit) → IsRunWritten at bit from (k + 1) old new
-writing_more at bit from k old now new h begun lt is =
-    let row : Row = set (get_or now k []) at bit in
-    let others : (j : ℕ) → (j ≡ k → ⊥) → get_or new j [] ≡ get_or now j [] = λ j ne. ap (λ (rs : List Row). get_or rs j []) is ∙ get_or-set_other now k j row [] ne in
-    record {
-      as_long = ap (λ (rs : List Row). length rs) is ∙ length-set now k row ∙ h.as_long;
-      written = λ j ge below. elim (cases_eq j k) [
-        | inl e ↦ (
-            let here : get_or new k [] ≡ set (get_or old k []) at bit =
-            ap (λ (rs : List Row). get_or rs k []) is ∙ get_or-set_same now k row [] lt ∙ ap (λ (bs : Row). set bs at bit) (h.after k (omega arith)) in
-            let P : ℕ → Type 0 = λ i. get_or new i [] ≡ set (get_or old i []) at bit in
-            subst P (sym e) here)
-        | inr ne ↦ others j ne ∙ h.written j ge (omega arith)
-      ];
-      before = λ j less. others j (λ e. absurd (omega arith)) ∙ h.before j less;
-      after = λ j ge. others j (λ e. absurd (omega arith)) ∙ h.after j (omega arith);
-    }
-
--- ---- rows that one more turns
+-- one run written after another
+pub run_joined : (at : ℕ) (bit : Bool) (from k to : ℕ) (old now new : List Row) → IsRunWritten at bit from k old now → IsRunWritten at bit k to now new → from ≤ k → k ≤ to → IsRunWritten at bit from to old new
+run_joined at bit from k to old now new one other begun ended = record {
+  as_long = other.as_long ∙ one.as_long;
+  written = λ j ge lt. elim (cases_lt j k) [
+    | inl less ↦ other.before j less ∙ one.written j ge less
+    | inr past ↦ other.written j past lt ∙ ap (λ (row : Row). set row at bit) (one.after j past)
+  ];
+  before = λ j less. other.before j (omega (arith, less, begun)) ∙ one.before j less;
+  after = λ j past. other.after j past ∙ one.after j (omega (arith, past, ended));
+}
 
 -- each row is as long as before
 long_run : (at : ℕ) (bit : Bool) (from to : ℕ) (old new : List Row) → IsRunWritten at bit from to old new → (j : ℕ) → length (get_or new j []) ≡ length (get_or old j [])
@@ -44,6 +37,12 @@ long_run at bit from to old new h j =
       | inl less ↦ ap length (h.before j less)
       | inr ge ↦ elim (cases_lt j to) [ inl lt ↦ ap length (h.written j ge lt) ∙ length-set (get_or old j []) at bit | inr past ↦ ap length (h.after j past) ]
     ]
+
+pub run_reaches : (at : ℕ) (bit : Bool) (from to place : ℕ) (old new : List Row) → IsRunWritten at bit from to old new → All (λ (row : Row). place < length row) old → All (λ (row : Row). place < length row) new
+run_reaches at bit from to place old new h long k d lt =
+    omega (arith, ap length (get_or_default new k d [] lt), long_run at bit from to old new h k, long k [] (omega (arith, lt, h.as_long)))
+
+-- ---- rows that one more turns
 
 all_alike : (n : ℕ) (old new : List Row) → length new ≡ length old → ((j : ℕ) → length (get_or new j []) ≡ length (get_or old j [])) → AllByRecursion (λ (row : Row). length row ≡ n) old → AllByRecursion (λ (row : Row). length row ≡ n) new
 all_alike n old [] e each h = tt

@@ -20,6 +20,12 @@ none_at x [] k d h lt = absurd (omega arith)
 none_at x (s ∷ ss) zero d h lt = h.0
 none_at x (s ∷ ss) (suc k) d h lt = none_at x ss k d h.1 (omega arith)
 
+pub apart_at : (ss : List ℕ) (j k d : ℕ) → AreApart ss → j < k → k < length ss → get_or ss j d ≢ get_or ss k d
+apart_at [] j k d h less lt = absurd (omega arith)
+apart_at (s ∷ ss) j zero d h less lt = absurd (omega arith)
+apart_at (s ∷ ss) zero (suc k) d h less lt = λ same. none_at s ss k d h.0 (omega arith) (sym same)
+apart_at (s ∷ ss) (suc j) (suc k) d h less lt = apart_at ss j k d h.1 (omega arith) (omega arith)
+
 -- ---- one more slot
 
 fresh : (n : ℕ) (ss : List ℕ) → AreBelow n ss → IsNoneOf n ss

@@ -1,22 +1,20 @@
 -- Summaries of words: which bits they have, and what a change of the words leaves of them.
-use Rattle.std.proofs.Common.{◌≡◌, ◌≢◌, inl, inr, ℕ, ◌+◌, ◌-◌, ◌*◌, ◌/◌, ◌%◌, ◌^◌, ◌<◌, ◌≤◌, Bool, true, false, List, [], ◌∷◌, ◌++◌, length, take, drop, get_or, refl, sym, ◌∙◌, ap, arith, subst, map, replicate}
+use Rattle.std.proofs.Common.{◌≡◌, ◌≢◌, inl, inr, ℕ, ◌+◌, ◌-◌, ◌*◌, ◌/◌, ◌%◌, ◌^◌, ◌<◌, ◌≤◌, Bool, true, false, List, [], ◌∷◌, ◌++◌, length, take, get_or, refl, sym, ◌∙◌, ap, arith, subst, map, replicate}
 use Rattle.std.specs.Prelude.{bit_or, cond}
 use Rattle.std.specs.Int.{bit_at, w64}
 use Rattle.std.proofs.Math.ListN.{set}
-use Rattle.std.proofs.Math.Seq.{take-set-lt}
 use Rattle.std.proofs.lemmas.Bool.{cases_lt, cases_eq, true≢false}
-use Rattle.std.proofs.lemmas.List.{get_or-take, get_or_append_left, get_or-append_right, get_or_past, length-take, get_or-set_same, get_or-set_other, get_or_read, get_or_default, drop-set-lt, length-set, length-append, length-take-le}
-use Rattle.std.proofs.lemmas.List.Elements.{All-get_or, All-same}
+use Rattle.std.proofs.lemmas.List.{get_or-take, get_or_append_left, get_or-append_right, get_or_past, length-take, get_or-set_same, get_or-set_other, get_or_read, length-set, length-append, length-take-le}
+use Rattle.std.proofs.lemmas.List.Elements.{All-get_or}
 use Rattle.std.proofs.lemmas.Nat.Bits.{bit_at_set_same, bit_at_set_other}
 use Rattle.bits.specs.steps.Packing.{all_bits, word_bits}
 use Rattle.bits.specs.Rows.{RowsAndRoom}
-use Rattle.bits.specs.steps.Held.{words_in, bits_in, AreHeld, Writes, EachSlot}
+use Rattle.bits.specs.steps.Held.{words_in, bits_in, AreHeld}
 use Rattle.bits.specs.steps.Summaries.{IsMarked, IsSummaryOf, SumUp, AreSummaries}
 use Rattle.bits.proofs.laws.PaddedLaws.{set_whole}
 use Rattle.bits.proofs.laws.PlaceLaws.{all_zeros, cleared_row}
-use Rattle.bits.proofs.laws.RowsLaws.{Changed, changed_by, IsRowWritten, row_written_other, length-words_in, word_in, word_set_here, word_set_other, shown_at, slot_below}
+use Rattle.bits.proofs.laws.RowsLaws.{Changed, IsRowWritten, row_written_other, length-words_in, word_in, word_set_here, word_set_other, shown_at, slot_below}
 use Rattle.bits.proofs.laws.SlotRowLaws.{IsDoubled, doubled_held, doubled_here, doubled_other, doubled_size, IsTakenOut, taken_held, taken_here, taken_other, taken_size}
-use Rattle.bits.proofs.laws.SlotLaws.{all_mapped}
 use Rattle.bits.proofs.laws.WidenLaws.{Widened}
 use Rattle.bits.proofs.laws.WordLaws.{length-all_bits, all_bits-append}
 
@@ -117,25 +115,6 @@ pub record ChangedAndSummed (R : List ℕ → List ℕ → Type 0) (w n : ℕ) (
   pub counted : length ss ≡ n
   pub summed : SumUp w ss now n
 
-pub written_more : (at w n : ℕ) (old now ss : List ℕ) (s v x : ℕ) (b : Bool) → ChangedAndSummed (Writes at b) w n old now ss s → length old ≡ n * w → s < n → at < 64 * w
-    → word_bits 64 v ≡ set (word_bits 64 (get_or now (s * w + at / 64) 0)) (at % 64) b
-    → ((k : ℕ) → IsMarked (get_or ss s 0) k → IsMarked x k) → (b ≡ true → IsMarked x (at / 64)) → ChangedAndSummed (Writes at b) w n old (set now (s * w + at / 64) v) (set ss s x) (s + 1)
-written_more at w n old now ss s v x b h size lt in' bits kept more =
-    let word : ℕ = get_or now (s * w + at / 64) 0 in
-    let y : ℕ = get_or ss s 0 in
-    let size' : length now ≡ n * w = h.changed.as_long ∙ size in
-    let q : at / 64 < w = omega arith in
-    let long : length (words_in w now s) ≡ w = length-words_in w n s now size' lt in
-    let word' : word ≡ get_or (words_in w now s) (at / 64) word = sym (word_in w s (at / 64) 0 now q) ∙ get_or_default (words_in w now s) (at / 64) 0 word (omega (arith, long, q)) in
-    let read : word ≡ get_or now (s * w + at / 64) word = word' ∙ word_in w s (at / 64) word now q in
-    let was : y ≡ get_or ss s y = get_or_default ss s 0 y (omega (arith, h.counted, lt)) in
-    record {
-      changed = changed_by (Writes at b) w n old now (set now (s * w + at / 64) v) (set (words_in w now s) (at / 64) v) s h.changed lt (length-set now (s * w + at / 64) v)
-          (set_whole (words_in w now s) at v word b (omega arith) word' bits) (word_set_here w s (at / 64) v now q) (λ t lt' ne. word_set_other w n s t (at / 64) v now size' lt lt' ne q);
-      counted = length-set ss s x ∙ h.counted;
-      summed = word_summed w n s at v word x y b now ss size' lt in' h.counted h.summed read bits was kept more;
-    }
-
 -- ---- the summaries of rows as they are held
 
 pub doubled_summed : (len w : ℕ) (slots ws : List ℕ) (k s : ℕ) (slots' ws' ss : List ℕ) (x : ℕ) → IsDoubled len w slots ws k s slots' ws' → AreSummaries w ss ws (length slots) → x ≡ get_or ss s x → s < length slots → length slots' ≡ length slots + 1
@@ -233,27 +212,6 @@ shown_summed len w slots ws shown k s x ss h is sum lt slot read =
     let P : ℕ → Type 0 = λ y. IsSummaryOf y (all_bits (words_in w ws s)) in
     let Q : List Bool → Type 0 = λ row. IsSummaryOf x row in
     subst Q (sym (shown_at len w slots ws k s [] lt slot) ∙ ap (λ (r : RowsAndRoom). get_or r.rows k []) is) (front_sums_up x len (all_bits (words_in w ws s)) (subst P (sym here) (sum.each s below)))
-
--- ---- a bit at a place of each row
-
-pub all_written_held : (len w at : ℕ) (b : Bool) (slots ws us : List ℕ) → AreHeld len w slots ws → at < len → length us ≡ length ws → EachSlot (Writes at b) w ws us (length slots) → AreHeld len w slots us
-all_written_held len w at b slots ws us h in' same each = record {
-  covers = h.covers;
-  few = h.few;
-  counted = h.counted;
-  wide = same ∙ h.wide;
-  below = h.below;
-  apart = h.apart;
-  padded = λ t lt.
-      All-same (λ (b : Bool). b ≡ false) (drop len (all_bits (words_in w us t))) (drop len (all_bits (words_in w ws t)))
-      (ap (λ (bs : List Bool). drop len bs) (each t lt) ∙ drop-set-lt len (all_bits (words_in w ws t)) at b in') (h.padded t lt);
-}
-
-pub all_written_shown : (len w at : ℕ) (b : Bool) (slots ws us : List ℕ) → AreHeld len w slots ws → at < len → EachSlot (Writes at b) w ws us (length slots)
-    → map (bits_in len w us) slots ≡ map (λ (row : List Bool). set row at b) (map (bits_in len w ws) slots)
-all_written_shown len w at b slots ws us h in' each =
-    all_mapped (λ (row : List Bool). set row at b) (bits_in len w ws) (bits_in len w us) (length slots) slots h.below
-    (λ t lt. ap (λ (bs : List Bool). take len bs) (each t lt) ∙ take-set-lt len (all_bits (words_in w ws t)) at b in')
 
 -- a summary for each slot still, after each was made anew
 pub summed_again : (width n : ℕ) (summaries words summaries' words' : List ℕ) → AreSummaries width summaries words n → length summaries' ≡ length summaries → SumUp width summaries' words' (length summaries) → AreSummaries width summaries' words' n

@@ -1,5 +1,5 @@
 -- Rows of equally many bits as they are stored: each row has a slot, and all slots have the same number of words.
-use Rattle.std.specs.Prelude.{◌≡◌, ◌≢◌, ℕ, ◌*◌, ◌^◌, ◌<◌, ◌≤◌, ◌==◌, Bool, false, List, [], ◌∷◌, length, take, drop, All, if◌then◌else◌, ◌++◌, insert, remove, slice_set}
+use Rattle.std.specs.Prelude.{◌≡◌, ◌≢◌, ℕ, ◌*◌, ◌^◌, ◌<◌, ◌≤◌, ◌==◌, Bool, false, List, [], ◌∷◌, length, take, drop, All, if◌then◌else◌, ◌++◌, insert, remove, slice_index, slice_set}
 use Rattle.bits.specs.steps.Packing.{all_bits}
 
 -- the words in a slot
@@ -60,6 +60,12 @@ GivesUp at old new = all_bits new ≡ remove (all_bits old) at ++ false ∷ []
 -- a bit is written at a place of a row's words
 abbrev pub Writes : ℕ → Bool → List ℕ → List ℕ → Type 0
 Writes at bit old new = all_bits new ≡ slice_set (all_bits old) at bit
+
+-- a bit is written at a place of the words in the first so many of some slots, and in all other slots, of `count`, they are as before
+pub record AreWritten (at : ℕ) (bit : Bool) (width count upto : ℕ) (slots old new : List ℕ) : Type 0 where
+  pub as_long : length new ≡ length old
+  pub written : (k : ℕ) → k < upto → Writes at bit (words_in width old (slice_index slots k)) (words_in width new (slice_index slots k))
+  pub others : (slot : ℕ) → slot < count → ((k : ℕ) → k < upto → slice_index slots k ≢ slot) → words_in width new slot ≡ words_in width old slot
 
 -- R holds of the words in each slot before and after
 abbrev pub EachSlot : (List ℕ → List ℕ → Type 0) → ℕ → List ℕ → List ℕ → ℕ → Type 0

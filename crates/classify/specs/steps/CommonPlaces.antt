@@ -64,10 +64,20 @@ pub record IsRowAt (margin : ℕ) (c : Classified) (place x : ℕ) (row : Turned
 abbrev pub IsRowOfPoint : ℕ → Classified → List ℕ → TurnedWords → Type 0
 IsRowOfPoint margin c point row = (k : ℕ) × (k < FIELDS) × IsRowAt margin c k (slice_index point k) row
 
--- rows of fields at a point, at least one, which stand for those of the first fields, as far as a place: a box that all of
--- them allow is one that each of these fields allows
-pub record AreRowsAt (margin : ℕ) (c : Classified) (point : List ℕ) (rows : List TurnedWords) (upto : ℕ) : Type 0 where
+-- the box at a place allows the point's number on the field
+abbrev pub AllowsOn : Classified → List ℕ → ℕ → ℕ → Type 0
+AllowsOn c point k p = slice_index_or (row_in (slice_index_or c.lines k []) (slice_index point k)) p false ≡ true
+
+-- rows of fields at a point: those of the first fields of a list, as far as a place. A box that all of them allow is one that
+-- each of these fields allows
+pub record AreRowsAt (margin : ℕ) (c : Classified) (point : List ℕ) (rows : List TurnedWords) (fields : List ℕ) (upto : ℕ) : Type 0 where
+  pub long : length rows ≡ upto
+  pub are : All (IsRowOfPoint margin c point) rows
+  pub stand : (p i : ℕ) → p < c.len → i < upto → HaveAll rows (margin + p) → AllowsOn c point (slice_index fields i) p
+
+-- rows of fields at a point, at least one, which stand for those of all fields: a box that all of them allow is one that each
+-- field allows
+pub record AreRowsOf (margin : ℕ) (c : Classified) (point : List ℕ) (rows : List TurnedWords) : Type 0 where
   pub some : 0 < length rows
   pub are : All (IsRowOfPoint margin c point) rows
-  pub stand : (p k : ℕ) → p < c.len → k < upto → HaveAll rows (margin + p)
-      → slice_index_or (row_in (slice_index_or c.lines k []) (slice_index point k)) p false ≡ true
+  pub stand : (p k : ℕ) → p < c.len → k < FIELDS → HaveAll rows (margin + p) → AllowsOn c point k p

@@ -2,9 +2,10 @@
 
 ghost use Rattle.std.specs.Prelude.{◌≡◌, ◌↔◌, ℕ, IsTrue, false, length, slice_index_or};
 ghost use Rattle.fields.specs.numbers.Spans.{SpanSet};
-ghost use Rattle.classify.specs.steps.Whole.{IsEverything};
+ghost use Rattle.classify.specs.steps.Whole.{IsEverything, AreOthers, AreUnmarked};
 
-use fields::Spans;
+use arrayvec::ArrayVec;
+use fields::{FIELDS, Spans};
 
 // Whether a set has every number up to its top.
 fn is_everything(spans: &Spans) -> bool
@@ -27,4 +28,29 @@ pub(crate) fn unmark(marks: &mut [bool], spans: &[Spans])
             marks[k] = false;
         }
     }
+}
+
+// The places of the lines that aren't marked, in rising order.
+fn unmarked(marks: &[bool; FIELDS]) -> ArrayVec<usize, FIELDS>
+    ensures { AreUnmarked marks.now FIELDS result.items }
+{
+    let mut places = ArrayVec::new();
+    for k in 0..FIELDS {
+        if !marks[k] {
+            places.push(k);
+        }
+    }
+    places
+}
+
+/// The places of the lines that a search looks at: of those that aren't marked, and where all are, of the first, since the
+/// search wants a row.
+pub(crate) fn others(marks: &[bool; FIELDS]) -> ArrayVec<usize, FIELDS>
+    ensures { AreOthers marks.now result.items }
+{
+    let mut places = unmarked(marks);
+    if places.is_empty() {
+        places.push(0);
+    }
+    places
 }

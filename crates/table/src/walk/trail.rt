@@ -116,10 +116,11 @@ impl Parts {
     {
         let mut at = Pending::start(self.order[hook]);
         let mut stack: ArrayVec<Pending, DEPTH> = ArrayVec::new();
+        let found = self.find(packet, at.chain);
         let mut left = LIMIT;
         let mut steps = Vec::new(self.alloc);
         'walk: loop {
-            let Some(flow) = self.advance(packet, &mut at, &mut stack) else {
+            let Some(flow) = self.advance(packet, &mut at, &mut stack, &found) else {
                 return Ok(Some(Trail::undecided(steps, policy)));
             };
             if left == 0 {

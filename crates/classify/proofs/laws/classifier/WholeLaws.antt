@@ -1,20 +1,23 @@
 -- Whole lines: each box allows every number of their field, and then they stay whole.
 use Rattle.fields.specs.declared.numbers.spans.Interval.{Interval}
-use Rattle.std.proofs.Common.{◌≡◌, ◌↔◌, inl, inr, ℕ, suc, ◌+◌, ◌<◌, ◌≤◌, Bool, true, false, cond, List, [], ◌∷◌, length, take, drop, get_or, replicate, All, refl, sym, ◌∙◌, arith, subst}
+use Rattle.std.proofs.Common.{◌≡◌, ◌↔◌, inl, inr, ℕ, suc, ◌+◌, ◌<◌, ◌≤◌, Bool, true, false, cond, List, [], ◌∷◌, ◌++◌, length, length-append, take, drop, get_or, replicate, All, refl, sym, ◌∙◌, arith, subst}
 use Rattle.std.specs.List.{insert, remove}
 use lib.ListN.{get_or-eq_default}
+use Rattle.std.proofs.Math.ListN.{get_or-append}
+use Rattle.std.proofs.Math.Seq.{get_or-append_seam}
 use Rattle.std.proofs.Math.Dec.{leb}
 use Rattle.std.proofs.Math.ListN.{set}
 use Rattle.std.proofs.lemmas.Bool.{cases_eq, cases_lt, true≢false}
 use Rattle.std.proofs.lemmas.List.{get_or_default, get_or-set_other, get_or-set_same, length-map, length-replicate, same_lists}
-use Rattle.std.proofs.lemmas.List.Elements.{All-append, All-cons, All-drop, All-head, All-map, All-nil, All-replicate, All-same, All-set, All-tail, All-take, All-weaker}
+use Rattle.std.proofs.lemmas.List.Elements.{All-append, All-cons, All-drop, All-head, All-map, All-nil, All-push, All-replicate, All-same, All-set, All-tail, All-take, All-weaker}
 use Rattle.fields.specs.numbers.Spans.{SpanSet, has, AreSpansFrom}
 use Rattle.fields.proofs.laws.numbers.SpanLaws.{has_above, has_first, none_below}
 use Rattle.classify.specs.line.Line.{IsLineOf, row_at}
 use Rattle.classify.specs.steps.Fields.{InsertsSet, LosesBox, ReplacesSet}
 use Rattle.classify.specs.steps.Kept.{IsSound, PiecesAndRoom}
 use Rattle.classify.specs.steps.Pieces.{IsRising, IsRisingFrom, piece_at, row_in}
-use Rattle.classify.specs.steps.Whole.{IsEverything, IsWhole}
+use Rattle.fields.specs.declared.numbers.field.TheConstants.{FIELDS}
+use Rattle.classify.specs.steps.Whole.{AreUnmarked, IsAmong, IsEverything, IsWhole}
 use Rattle.classify.proofs.laws.line.BoxLaws.{rising_from_line, steps_of_line}
 use Rattle.classify.proofs.laws.line.KeptLaws.{said_long}
 use Rattle.classify.proofs.laws.line.LineLaws.{line_from_steps}
@@ -170,3 +173,33 @@ marks_left old now spans k long le h j s = (
       elim (cases_lt j k) [ inl lt ↦ (was.0, was.1 lt) | inr ge ↦ absurd (true≢false (sym was.0 ∙ get_or-eq_default old false {n = j} (omega arith))) ]),
   λ both. (h j s).1 (both.0, λ _. both.1),
 )
+
+-- ---- the places of lines that aren't marked, as far as one of them
+
+among_more : (xs : List ℕ) (x k : ℕ) → IsAmong xs k → IsAmong (xs ++ x ∷ []) k
+among_more xs x k a = (a.0, omega (arith, a.1, length-append xs (x ∷ [])), get_or-append xs (x ∷ []) 0 a.0 a.1 ∙ a.2)
+
+among_last : (xs : List ℕ) (x : ℕ) → IsAmong (xs ++ x ∷ []) x
+among_last xs x = (length xs, omega (arith, length-append xs (x ∷ [])), get_or-append_seam xs x [] 0)
+
+pub one_unmarked : (marks : List Bool) (k : ℕ) (places : List ℕ) → k < FIELDS → AreUnmarked marks k places → AreUnmarked marks (k + 1) (places ++ k ∷ [])
+one_unmarked marks k places lt h = record {
+  few = omega (arith, h.few, length-append places (k ∷ []));
+  fields = All-push (λ j. j < FIELDS) places k h.fields lt;
+  every = λ j below off.
+      elim (cases_lt j k) [
+        | inl before ↦ among_more places k j (h.every j before off)
+        | inr past ↦ (let e : j ≡ k = omega arith in let P : ℕ → Type 0 = λ i. IsAmong (places ++ k ∷ []) i in subst P (sym e) (among_last places k))
+      ];
+}
+
+pub mark_passed : (marks : List Bool) (k : ℕ) (places : List ℕ) → IsOn (get_or marks k false) → AreUnmarked marks k places → AreUnmarked marks (k + 1) places
+mark_passed marks k places on h = record {
+  few = omega (arith, h.few);
+  fields = h.fields;
+  every = λ j below off.
+      elim (cases_lt j k) [
+        | inl before ↦ h.every j before off
+        | inr past ↦ (let e : j ≡ k = omega arith in let P : ℕ → Type 0 = λ i. IsOn (get_or marks i false) in absurd (true≢false (sym (subst P (sym e) on) ∙ off)))
+      ];
+}

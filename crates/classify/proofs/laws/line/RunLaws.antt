@@ -9,7 +9,7 @@ use Rattle.std.proofs.lemmas.List.{length-map, length-set, get_or-map, get_or_de
 use Rattle.std.proofs.lemmas.Slice.Zip.{firsts-zip, get_or-zip}
 use Rattle.std.proofs.lemmas.Bool.{cases_lt}
 use Rattle.classify.specs.line.Line.{starts}
-use Rattle.bits.specs.TurnedRows.{IsRunWritten as AreRowsWritten}
+use Rattle.bits.specs.Rows.{IsRunWritten as AreRowsWritten}
 use Rattle.classify.specs.steps.Kept.{IsLine, PiecesAndRoom, most_start}
 use Rattle.classify.specs.steps.Pieces.{EachRow, IsRising, IsRisingFrom, StartsAt, row_bits}
 use Rattle.classify.specs.steps.Edits.{with_bit}

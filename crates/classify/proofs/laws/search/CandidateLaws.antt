@@ -5,13 +5,12 @@ use Rattle.std.proofs.lemmas.Bool.{cases_lt, true≢false}
 use Rattle.std.proofs.lemmas.List.{get_or-take, get_or-drop, get_or-map, length-drop, length-map, same_lists}
 use Rattle.std.proofs.lemmas.List.FromFn.{get_or-map-range_with_len, length-map-range_with_len}
 use Rattle.std.proofs.lemmas.List.Sums.{AllPass-from_list_all, list_all-from_AllPass}
-use Rattle.fields.specs.declared.numbers.field.TheConstants.{FIELDS}
 use Rattle.fields.specs.numbers.Spans.{SpanSet}
 use Rattle.bits.specs.steps.First.{IsFirst}
 use Rattle.bits.specs.declared.turned_rows.TurnedWords.{TurnedWords}
 use Rattle.classify.specs.classifier.Classifier.{Classified, IsClassifierOf, IsPoint, box_matches}
 use Rattle.classify.specs.search.NextMatch.{next_match}
-use Rattle.classify.specs.steps.CommonPlaces.{AreRowsAt, AreWide, HaveAll, all_have, bits_of, common_bits}
+use Rattle.classify.specs.steps.CommonPlaces.{AreRowsOf, AreWide, HaveAll, all_have, bits_of, common_bits}
 use Rattle.classify.specs.steps.Summaries.{AreCandidates, IsOfAll, SumUpAll}
 use Rattle.classify.proofs.laws.search.NextLaws.{have_to_allow, next_from_first}
 use Rattle.classify.proofs.laws.search.TurnedLaws.{none_past, row_wide}
@@ -36,7 +35,7 @@ common_at len p rows d lt = get_or-map-range_with_len (all_have rows) 0 len p p 
 
 -- ---- the rows of a point
 
-pub rows_are_candidates : (m : ℕ) (c : Classified) (point : List ℕ) (rows : Rows) (summary : ℕ) → AreRowsAt m c point rows FIELDS → IsOfAll summary rows → AreCandidates (m + c.len) summary rows
+pub rows_are_candidates : (m : ℕ) (c : Classified) (point : List ℕ) (rows : Rows) (summary : ℕ) → AreRowsOf m c point rows → IsOfAll summary rows → AreCandidates (m + c.len) summary rows
 rows_are_candidates m c point rows summary h sum = record {
   some = h.some;
   packed = λ k d lt. (h.are k d lt).2.packed;
@@ -45,7 +44,7 @@ rows_are_candidates m c point rows summary h sum = record {
       r.summed p (sym (ap (λ (bs : List Bool). get_or bs p false) r.bits) ∙ get_or-take (m + c.len) (bits_of (get_or rows j d)) p false within ∙ every j d below));
 }
 
-pub common_answers : (m : ℕ) (c : Classified) (boxes : List (List SpanSet)) (point : List ℕ) (rows : Rows) → IsClassifierOf boxes c → IsPoint point → AreRowsAt m c point rows FIELDS → drop m (common_bits (m + c.len) rows) ≡ map (box_matches point) boxes
+pub common_answers : (m : ℕ) (c : Classified) (boxes : List (List SpanSet)) (point : List ℕ) (rows : Rows) → IsClassifierOf boxes c → IsPoint point → AreRowsOf m c point rows → drop m (common_bits (m + c.len) rows) ≡ map (box_matches point) boxes
 common_answers m c boxes point rows h within rs =
     let all : List Bool = common_bits (m + c.len) rows in
     let long : length (drop m all) ≡ c.len = omega (arith, length-drop m all, common_long (m + c.len) rows) in

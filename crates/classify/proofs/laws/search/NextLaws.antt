@@ -1,8 +1,8 @@
 -- The first place that every row has is the next box that box_allows the point.
-use Rattle.std.proofs.Common.{◌≡◌, ◌↔◌, inl, inr, ℕ, zero, suc, ◌+◌, ◌-◌, ◌*◌, ◌<◌, ◌≤◌, Bool, true, false, cond, not, List, [], ◌∷◌, length, drop, take, get_or, ◌++◌, map, refl, sym, ◌∙◌, ap, arith, subst, length-append, Option, Some, None}
+use Rattle.std.proofs.Common.{◌≡◌, ◌↔◌, inl, inr, ℕ, zero, suc, ◌+◌, ◌-◌, ◌*◌, ◌^◌, ◌<◌, ◌≤◌, Bool, true, false, cond, not, List, [], ◌∷◌, length, drop, take, get_or, ◌++◌, map, refl, sym, ◌∙◌, ap, arith, subst, length-append, Option, Some, None}
 use Rattle.std.specs.Prelude.{◌/◌, ◌%◌, slice_index, bit_and}
 use Rattle.std.specs.Int.{bit_at}
-use Rattle.std.proofs.lemmas.Nat.Bits.{bit_at_and}
+use Rattle.std.proofs.lemmas.Nat.Bits.{bit_at_and, bit_at_ones}
 use Rattle.bits.specs.MarginRows.{after_margin}
 use Rattle.bits.proofs.laws.MarginLaws.{get-after, length-after}
 use Rattle.bits.specs.declared.turned_rows.TurnedWords.{TurnedWords}
@@ -25,7 +25,7 @@ use Rattle.classify.specs.line.Line.{row_at}
 use Rattle.classify.specs.steps.Pieces.{row_in}
 use Rattle.classify.specs.steps.Fields.{shown_line, shown_by, IsKept}
 use Rattle.bits.specs.steps.First.{IsFirst}
-use Rattle.classify.specs.steps.CommonPlaces.{ArePacked, AreRowsAt, AreWide, HaveAll, IsRowAt, IsRowOfPoint, IsWide, bits_of}
+use Rattle.classify.specs.steps.CommonPlaces.{AllowsOn, ArePacked, AreRowsAt, AreRowsOf, AreWide, HaveAll, IsRowAt, IsRowOfPoint, IsWide, bits_of}
 use Rattle.rules.specs.boxing.Boxed.{set_on}
 use Rattle.rules.proofs.laws.boxing.BoxLaws.{index-lt, here_is}
 use Rattle.classify.specs.classifier.Classifier.{box_allows, line_on, Classified, IsClassifierOf, IsPoint, box_matches}
@@ -34,7 +34,7 @@ use Rattle.classify.specs.search.NextMatch.{next_match}
 use Rattle.classify.proofs.laws.line.BoxLaws.{says_from_line}
 use Rattle.classify.proofs.laws.search.TurnedLaws.{none_past, own_wide}
 use Rattle.classify.proofs.laws.classifier.ClassifierLaws.{field_at, row_of_sets, line_of_sets, shown_at_place}
-use Rattle.classify.specs.steps.Whole.{IsWhole}
+use Rattle.classify.specs.steps.Whole.{AreMarked, AreOthers}
 use Rattle.classify.proofs.laws.classifier.WholeLaws.{said_on}
 use Rattle.classify.proofs.laws.line.KeptLaws.{said_long}
 use Rattle.classify.specs.steps.Kept.{PiecesAndRoom}
@@ -94,49 +94,44 @@ row_gives m c k x row p r lt on = sym (row_same m c k x row p r lt) ∙ on
 have_more : (rows : List TurnedWords) (row : TurnedWords) (p : ℕ) → HaveAll (rows ++ row ∷ []) p → HaveAll rows p × (get_or (bits_of row) p false ≡ true)
 have_more rows row p every = All-pop (λ (s : TurnedWords). get_or (bits_of s) p false ≡ true) (rows ++ row ∷ []) rows (Some row) refl every
 
--- the row of the first field
-pub point_first : (m : ℕ) (c : Classified) (point : List ℕ) (row : TurnedWords) → IsRowAt m c 0 (slice_index point 0) row → AreRowsAt m c point (row ∷ []) 1
-point_first m c point row r = record {
-  some = omega arith;
-  are = All-cons (IsRowOfPoint m c point) row [] (0, omega arith, r) (All-nil (IsRowOfPoint m c point));
-  stand = λ p k lt first every.
-      (let e : k ≡ 0 = omega arith in
-      let P : ℕ → Type 0 = λ j. get_or (row_in (get_or c.lines j []) (slice_index point j)) p false ≡ true in
-      subst P (sym e) (row_gives m c 0 (slice_index point 0) row p r lt (All-head (λ (s : TurnedWords). get_or (bits_of s) (m + p) false ≡ true) row [] every)));
-}
+-- none so far
+pub point_none : (m : ℕ) (c : Classified) (point : List ℕ) (fields : List ℕ) → AreRowsAt m c point [] fields 0
+point_none m c point fields = record { long = refl; are = All-nil (IsRowOfPoint m c point); stand = λ p i lt below every. absurd (omega arith) }
 
 -- and that of one more
-pub point_more : (m : ℕ) (c : Classified) (point : List ℕ) (rows : List TurnedWords) (k : ℕ) (row : TurnedWords) → AreRowsAt m c point rows k → k < FIELDS → IsRowAt m c k (slice_index point k) row → AreRowsAt m c point (rows ++ row ∷ []) (k + 1)
-point_more m c point rows k row h lt r = record {
-  some = omega (arith, h.some, length-append rows (row ∷ []));
+pub point_more : (m : ℕ) (c : Classified) (point : List ℕ) (rows : List TurnedWords) (fields : List ℕ) (i k : ℕ) (row : TurnedWords) → AreRowsAt m c point rows fields i → k ≡ slice_index fields i → k < FIELDS
+    → IsRowAt m c k (slice_index point k) row → AreRowsAt m c point (rows ++ row ∷ []) fields (i + 1)
+point_more m c point rows fields i k row h here lt r = record {
+  long = omega (arith, h.long, length-append rows (row ∷ []));
   are = All-push (IsRowOfPoint m c point) rows row h.are (k, lt, r);
   stand = λ p j in' below every.
       (let parts = have_more rows row (m + p) every in
-      elim (cases_lt j k) [
+      elim (cases_lt j i) [
         | inl before ↦ h.stand p j in' before parts.0
         | inr past ↦ (
-            let e : j ≡ k = omega arith in
-            let P : ℕ → Type 0 = λ i. get_or (row_in (get_or c.lines i []) (slice_index point i)) p false ≡ true in
-            subst P (sym e) (row_gives m c k (slice_index point k) row p r in' parts.1))
+            let e : j ≡ i = omega arith in
+            let P : ℕ → Type 0 = λ n. AllowsOn c point n p in
+            subst P (here ∙ sym (ap (λ n. slice_index fields n) e)) (row_gives m c k (slice_index point k) row p r in' parts.1))
       ]);
 }
 
--- the line of one field more is whole
-pub point_passed : (lines : List PiecesAndRoom) (len m : ℕ) (point : List ℕ) (rows : List TurnedWords) (k : ℕ) (d : PiecesAndRoom) → IsKept len lines → k < FIELDS → IsWhole (get_or lines k d)
-    → AreRowsAt m (shown_by len lines) point rows k → AreRowsAt m (shown_by len lines) point rows (k + 1)
-point_passed lines len m point rows k d kept lt whole h = record {
-  some = h.some;
+-- those of the lines that aren't marked stand for all
+pub point_whole : (lines : List PiecesAndRoom) (len m : ℕ) (point : List ℕ) (rows : List TurnedWords) (marks : List Bool) (fields : List ℕ) (upto : ℕ) (d : PiecesAndRoom) → IsKept len lines → AreMarked marks lines → AreOthers marks fields
+    → upto ≡ length fields → AreRowsAt m (shown_by len lines) point rows fields upto → AreRowsOf m (shown_by len lines) point rows
+point_whole lines len m point rows marks fields upto d kept marked others end h = record {
+  some = omega (arith, h.long, end, others.some);
   are = h.are;
-  stand = λ p j in' below every.
-      elim (cases_lt j k) [
-        | inl before ↦ h.stand p j in' before every
-        | inr past ↦ (
-            let e : j ≡ k = omega arith in
-            let P : ℕ → Type 0 = λ i. get_or (row_in (get_or (map shown_line lines) i []) (slice_index point i)) p false ≡ true in
+  stand = λ p k in' below every.
+      elim (cases_Bool (get_or marks k false)) [
+        | inl on ↦ (
             let Q : List (ℕ × List Bool) → Type 0 = λ line. get_or (row_in line (slice_index point k)) p false ≡ true in
-            let f = field_row lines len k (slice_index point k) d kept lt in
-            let all = said_on (get_or lines k d) (slice_index point k) whole in
-            subst P (sym e) (subst Q f.same (all p false (omega (arith, f.long, in')))))
+            let f = field_row lines len k (slice_index point k) d kept below in
+            let all = said_on (get_or lines k d) (slice_index point k) (marked k d (omega (arith, kept.fields)) on) in
+            subst Q f.same (all p false (omega (arith, f.long, in'))))
+        | inr off ↦ (
+            let a = others.every k below off in
+            let P : ℕ → Type 0 = λ n. AllowsOn (shown_by len lines) point n p in
+            subst P a.2 (h.stand p a.0 in' (omega (arith, a.1, end)) every))
       ];
 }
 
@@ -161,7 +156,7 @@ passes_each test h field =
     ]
 
 pub have_to_allow : (m : ℕ) (c : Classified) (boxes : List (List SpanSet)) (point : List ℕ) (rows : List TurnedWords) (p : ℕ) (b : List SpanSet) → IsClassifierOf boxes c → IsPoint point
-    → AreRowsAt m c point rows FIELDS → p < length boxes → HaveAll rows (m + p) ↔ (box_matches point (get_or boxes p b) ≡ true)
+    → AreRowsOf m c point rows → p < length boxes → HaveAll rows (m + p) ↔ (box_matches point (get_or boxes p b) ≡ true)
 have_to_allow m c boxes point rows p b h within rs lt =
     let in' : p < c.len = omega (arith, h.len) in
     let test : Field → Bool = λ field. box_allows (get_or boxes p b) field (number_on point field) in (
@@ -176,8 +171,8 @@ have_to_allow m c boxes point rows p b h within rs lt =
 
 -- ---- the summary of all rows
 
-pub sum_first : (row : TurnedWords) → IsOfAll row.summary (row ∷ [])
-sum_first row word every = All-head (λ (s : TurnedWords). IsMarked s.summary word) row [] every
+pub sum_none : IsOfAll (2 ^ 64 - 1) []
+sum_none word every = bit_at_ones 64 (word / 2 % 64) (omega arith)
 
 pub sum_more : (rows : List TurnedWords) (summary : ℕ) (row : TurnedWords) → IsOfAll summary rows → IsOfAll (bit_and summary row.summary) (rows ++ row ∷ [])
 sum_more rows summary row h word every =

@@ -7,7 +7,7 @@ use Rattle.std.proofs.lemmas.List.Elements.{All-nil, All-more, All-take}
 use Rattle.std.proofs.lemmas.Nat.{le_or_l, le_or_r}
 use Rattle.std.proofs.lemmas.Simd.{length-zip2, get_or-zip2, length-chunk, get_or-chunk, length-replicate, get_or-replicate}
 use lib.Lanes.{zip2, chunk, fold_l}
-use Rattle.std.proofs.lemmas.Nat.Bits.{bit_at_and, bit_at_ones, bit_at-lt}
+use Rattle.std.proofs.lemmas.Nat.Bits.{bit_at_and, bit_at_ones, bit_at-lt, bit_at-zero}
 use Rattle.std.proofs.lemmas.Bool.{cases_lt}
 use Rattle.bits.specs.declared.turned_rows.TurnedWords.{TurnedWords}
 use Rattle.bits.specs.steps.First.{Nowhere, IsFirst}
@@ -46,6 +46,16 @@ and_more rows k all place d lt h =
                 let a : bit_at all i ≡ 1 = (h.each i in').1 front in
                 e ∙ omega arith),
           ));
+    }
+
+-- what some of the rows lack all of them lack
+pub and_none : (rows : List TurnedWords) (count place : ℕ) → IsAndAt 0 (take count rows) place → IsAndAt 0 rows place
+and_none rows count place h =
+    record {
+      each = λ i lt. (
+        λ one. absurd (omega (arith, bit_at-zero i, one)),
+        λ every. (h.each i lt).1 (All-take (λ (row : TurnedWords). bit_at (word_at row place) i ≡ 1) count rows every),
+      );
     }
 
 -- ---- the bits of the and are the places that every row has

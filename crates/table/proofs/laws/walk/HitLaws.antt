@@ -1,5 +1,5 @@
 -- The first rule that matches, by the classifiers of the chains under keys.
-use Rattle.std.proofs.Common.{◌≡◌, ℕ, ◌+◌, ◌<◌, true, false, List, [], ◌∷◌, length, get_or, refl, sym, ◌∙◌, ap, arith, subst, Option, Some, None, Contains}
+use Rattle.std.proofs.Common.{◌≡◌, ℕ, ◌+◌, ◌<◌, true, false, List, [], ◌∷◌, length, get_or, refl, sym, ◌∙◌, ap, arith, subst, Option, Some, None}
 use Rattle.table.proofs.laws.walk.WalkLaws.{hit_by}
 use Rattle.std.proofs.lemmas.Bool.{false≢true}
 use Rattle.std.proofs.lemmas.List.{get_or-map}
@@ -19,17 +19,16 @@ use Rattle.table.specs.declared.chain.entry.Entry.{Entry}
 use Rattle.table.specs.declared.walk.Pending.{Pending}
 use Rattle.table.proofs.laws.walk.StackLaws.{stored_is, rules_under, linked_under}
 
--- what the classifier of the chain under the key answers is the next match in the chain
-found_under : (ps : List Policy) (slots : List (Option StoredChain)) (order values : List ℕ) (at : Pending) (stack : List Pending) (stored_chain : StoredChain) (o : Option ℕ) → IsStored ps slots order → IsState order at stack → slot_at slots at.chain ≡ Some stored_chain
-    → o ≡ next_match (matches values) (rules_in stored_chain) at.passed → first_hit (listed slots order) values (state_of slots at stack) ≡ hit_by (listed slots order) values (rest_of slots at) (rests_of slots stack) o
-found_under ps slots order values at stack stored_chain o h s is e =
-    let rules : rules_of (listed slots order) (stored_at slots at.chain).name ≡ rules_in stored_chain = rules_under ps slots order at.chain h s.present ∙ ap rules_in (stored_is slots at.chain stored_chain is) in
-    ap (hit_by (listed slots order) values (rest_of slots at) (rests_of slots stack)) (ap (λ (rs : List Rule). next_match (matches values) rs at.passed) rules ∙ sym e)
+-- the first hit is the next match in the chain under the key, if there is one
+found_under : (ps : List Policy) (slots : List (Option StoredChain)) (order values : List ℕ) (at : Pending) (stack : List Pending) (o : Option ℕ) → IsStored ps slots order → IsState order at stack
+    → o ≡ next_match (matches values) (rules_in (stored_at slots at.chain)) at.passed → first_hit (listed slots order) values (state_of slots at stack) ≡ hit_by (listed slots order) values (rest_of slots at) (rests_of slots stack) o
+found_under ps slots order values at stack o h s e =
+    ap (hit_by (listed slots order) values (rest_of slots at) (rests_of slots stack)) (ap (λ (rs : List Rule). next_match (matches values) rs at.passed) (rules_under ps slots order at.chain h s.present) ∙ sym e)
 
 -- none in the present chain
-pub past_chain : (ps : List Policy) (slots : List (Option StoredChain)) (order values : List ℕ) (at : Pending) (stack : List Pending) (stored_chain : StoredChain) → IsStored ps slots order → IsState order at stack → slot_at slots at.chain ≡ Some stored_chain
-    → None ≡ next_match (matches values) (rules_in stored_chain) at.passed → first_hit (listed slots order) values (state_of slots at stack) ≡ first_hit (listed slots order) values (rests_of slots stack)
-past_chain ps slots order values at stack stored_chain h s is e = found_under ps slots order values at stack stored_chain None h s is e
+pub past_chain : (ps : List Policy) (slots : List (Option StoredChain)) (order values : List ℕ) (at : Pending) (stack : List Pending) → IsStored ps slots order → IsState order at stack
+    → None ≡ next_match (matches values) (rules_in (stored_at slots at.chain)) at.passed → first_hit (listed slots order) values (state_of slots at stack) ≡ first_hit (listed slots order) values (rests_of slots stack)
+past_chain ps slots order values at stack h s e = found_under ps slots order values at stack None h s e
 
 -- Where a rule leaves the walk
 
@@ -59,21 +58,21 @@ leads_in slots order (Some (target.Goto name)) key l = user_in order key l.0
 
 -- a match in the present chain
 pub hit_under : (ps : List Policy) (slots : List (Option StoredChain)) (order values : List ℕ) (at : Pending) (stack : List Pending) (stored_chain : StoredChain) (place : ℕ) (e : Entry) (flow : Flow) (found : Option Hit) → IsStored ps slots order → IsState order at stack
-    → slot_at slots at.chain ≡ Some stored_chain → Some place ≡ next_match (matches values) (rules_in stored_chain) at.passed → place < length stored_chain.entries → e ≡ get_or stored_chain.entries place e → flow ≡ e.flow
+    → slot_at slots at.chain ≡ Some stored_chain → Some place ≡ next_match (matches values) (rules_in (stored_at slots at.chain)) at.passed → place < length (stored_at slots at.chain).entries → e ≡ get_or stored_chain.entries place e → flow ≡ e.flow
     → found ≡ first_hit (listed slots order) values (state_of slots at stack) → IsHit slots order found flow (record { chain = at.chain; passed = place + 1 }) stack
 hit_under ps slots order values at stack stored_chain place e flow found h s is next lt own by same =
     let now : Pending = record { chain = at.chain; passed = place + 1 } in
     let cs : List Chain = listed slots order in
-    let name : List ℕ = (stored_at slots at.chain).name in
-    let P : StoredChain → Type 0 = λ r. Contains r.entries e in
-    let link : IsLinked slots order e = linked_under ps slots order at.chain e h s.present (subst P (sym (stored_is slots at.chain stored_chain is)) (place, lt, sym own)) in
-    let rules : rules_of cs name ≡ rules_in stored_chain = rules_under ps slots order at.chain h s.present ∙ ap rules_in (stored_is slots at.chain stored_chain is) in
-    let rule : get_or (rules_of cs name) place empty_rule ≡ e.rule = ap (λ (rs : List Rule). get_or rs place empty_rule) rules ∙ get_or-map rule_in stored_chain.entries place e empty_rule lt ∙ ap rule_in (sym own) in
+    let here : StoredChain = stored_at slots at.chain in
+    let here_own : e ≡ get_or here.entries place e = own ∙ ap (λ (r : StoredChain). get_or r.entries place e) (sym (stored_is slots at.chain stored_chain is)) in
+    let link : IsLinked slots order e = linked_under ps slots order at.chain e h s.present (place, lt, sym here_own) in
+    let rules : rules_of cs here.name ≡ rules_in here = rules_under ps slots order at.chain h s.present in
+    let rule : get_or (rules_of cs here.name) place empty_rule ≡ e.rule = ap (λ (rs : List Rule). get_or rs place empty_rule) rules ∙ get_or-map rule_in here.entries place e empty_rule lt ∙ ap rule_in (sym here_own) in
     let Q : Flow → Type 0 = λ (c : Flow). LeadsIn order c in
     let way : e.flow ≡ flow_of (target_of e.rule) link.0 = link.1 in
     record {
-      hit = hit_at cs name (rests_of slots stack) place;
-      is = same ∙ found_under ps slots order values at stack stored_chain (Some place) h s is next;
+      hit = hit_at cs here.name (rests_of slots stack) place;
+      is = same ∙ found_under ps slots order values at stack (Some place) h s next;
       entry = refl;
       next = ap (λ (r : Rule). after_match (target_of r) (rest_of slots now) (rests_of slots stack)) rule
           ∙ next_is slots order (target_of e.rule) link.0 now stack link.2

@@ -7,7 +7,7 @@ use Rattle.bits.proofs.laws.BlockEditLaws.{cut_first_kept, cut_first_shown, kept
 use Rattle.bits.proofs.blocks.Blocks.cut_first.Goals as goal
 
 pub get-requires : goal.get-requires
-get-requires c = omega (arith, length-drop 128 c.self.inside.first, ap (λ (ns : List ℕ). length ns) c.in_ok-block.ensures, c.len.ensures, c.if-len-lt-MOST.false)
+get-requires c = omega (arith, length-drop 128 c.self.inside.first, ap (λ (ns : List ℕ). length ns) c.in_ok-block.ensures, c.len.ensures, c.if-len-most.false)
 
 pub invariant_of-self-2 : goal.invariant_of-self-2
 invariant_of-self-2 c =
@@ -17,7 +17,7 @@ invariant_of-self-2 c =
     (on_ok c.insert_at.result c.insert_at.ensures.ok (c.insert_at.ensures.there free_heads) ∙ ap (λ (ns : List ℕ). c.get.result ∷ ns) c.in_ok-reserve.ensures.items ∙ ap (λ n. n ∷ c.self.inside.heads.items) (c.get.ensures ∙ ap head_of c.in_ok-block.ensures))
     (on_ok c.insert_at-2.result c.insert_at-2.ensures.ok (c.insert_at-2.ensures.there free_begins) ∙ ap (λ (ns : List ℕ). 128 ∷ ns) c.in_ok-reserve-2.ensures.items)
     (put_in_room c.insert.result _ _ _ c.insert.ensures.items (c.insert.ensures.succeeds (omega (arith, c.in_ok-reserve-3.ensures.ok))) ∙ ap (λ (bs : List (List ℕ)). c.in_ok-block.block ∷ bs) c.in_ok-reserve-3.ensures.items ∙ ap (λ (b : List ℕ). b ∷ c.self.inside.later.items) c.in_ok-block.ensures)
-    (cut_first_kept c.self.inside.first _ _ _ 128 c.self.invariant (omega (arith, c.len.ensures, c.if-len-lt-MOST.false)))
+    (cut_first_kept c.self.inside.first _ _ _ 128 c.self.invariant (omega (arith, c.len.ensures, c.if-len-most.false)))
 
 pub returns : goal.returns
 returns c =

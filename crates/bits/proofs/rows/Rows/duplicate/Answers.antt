@@ -1,6 +1,6 @@
 use Rattle.std.proofs.Common.{◌≡◌, ◌+◌, ◌++◌, ◌∙◌, ap, arith, length, [], get_or, rules, vec_len, ℕ, List, insert}
 use Rattle.bits.specs.Rows.{RowsAndRoom}
-use Rattle.bits.proofs.laws.RowsLaws.{row_there, row_within, slot_below, whole_row, slot_read}
+use Rattle.bits.proofs.laws.RowsLaws.{row_there, row_within, slot_below, slot_read}
 use Rattle.bits.proofs.laws.SlotRowLaws.{doubled_shown}
 use Rattle.bits.proofs.laws.SummaryLaws.{doubled_both, pushed}
 use Rattle.bits.proofs.rows.Rows.duplicate.Goals as goal
@@ -12,19 +12,11 @@ overflow_mul-start c =
     let slot = slot_read _ c.args.row c.get-from.result row c.get-from.ensures in
     omega (arith, c.self.inside.words.ok.1, row_within _ _ _ _ c.args.row c.get-from.result c.self.invariant.0 row slot)
 
-pub overflow_add-start : goal.overflow_add-start
-overflow_add-start c =
-    let held : vec_len c.self.inside.words ≡ length c.self.inside.words.items = search rules in
+pub append-requires : goal.append-requires
+append-requires c =
     let row = row_there _ _ _ _ c.args.self.now c.args.row c.self.view_is c.requires in
     let slot = slot_read _ c.args.row c.get-from.result row c.get-from.ensures in
-    omega (arith, c.self.inside.words.ok.1, row_within _ _ _ _ c.args.row c.get-from.result c.self.invariant.0 row slot)
-
-pub extend_from_within-requires-clause-in_bounds : goal.extend_from_within-requires-clause-in_bounds
-extend_from_within-requires-clause-in_bounds c =
-    let held : vec_len c.self.inside.words ≡ length c.self.inside.words.items = search rules in
-    let row = row_there _ _ _ _ c.args.self.now c.args.row c.self.view_is c.requires in
-    let slot = slot_read _ c.args.row c.get-from.result row c.get-from.ensures in
-    omega (arith, row_within _ _ _ _ c.args.row c.get-from.result c.self.invariant.0 row slot)
+    row_within _ _ _ _ c.args.row c.get-from.result c.self.invariant.0 row slot
 
 pub index-requires : goal.index-requires
 index-requires c =
@@ -45,7 +37,7 @@ invariant_of-self-in-Ok c =
       slot = slot;
       few_rows = omega (arith, count);
       slots_are = c.in-Ok.ensures.ok ∙ ap (λ n. insert c.self.inside.slots (c.args.row + 1) n) count;
-      words_are = c.in_ok-extend_from_within.ensures.items ∙ ap (λ (row : List ℕ). c.self.inside.words.items ++ row) (whole_row c.self.inside.width c.get-from.result c.self.inside.words.items);
+      words_are = c.in_ok-append.ensures.ok;
     })
     c.self.invariant.1 (c.index.ensures ∙ ap (λ (ss : List ℕ). get_or ss c.get-from.result c.index.result.now) c.in_ok-reserve.ensures.items) _ (pushed _ c.reserve.new.self.items c.self.inside.summaries.items c.index.result.now _ c.in_ok-reserve.ensures.items c.push.ensures.items (c.push.ensures.succeeds (omega (arith, c.in_ok-reserve.ensures.ok))))
 
@@ -61,6 +53,6 @@ returns-in-Ok-clause-ok c =
       slot = slot;
       few_rows = omega (arith, count);
       slots_are = c.in-Ok.ensures.ok ∙ ap (λ n. insert c.self.inside.slots (c.args.row + 1) n) count;
-      words_are = c.in_ok-extend_from_within.ensures.items ∙ ap (λ (row : List ℕ). c.self.inside.words.items ++ row) (whole_row c.self.inside.width c.get-from.result c.self.inside.words.items);
+      words_are = c.in_ok-append.ensures.ok;
     })
     ∙ ap (λ (r : RowsAndRoom). insert r.rows (c.args.row + 1) (get_or r.rows c.args.row [])) c.self.view_is

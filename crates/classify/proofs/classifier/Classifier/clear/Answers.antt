@@ -13,6 +13,7 @@ invariant_of-self c = (
   kept_empty c.clear_lines.new.lines (c.clear_lines.auto.lines ∙ c.self.invariant.0.fields) (λ k l lt. c.clear_lines.ensures.empty k l (omega (arith, c.clear_lines.auto.lines)))
       (none_before c.clear_lines.new.lines (λ k l lt. (c.clear_lines.ensures.room k l (omega (arith, c.clear_lines.auto.lines))).before)),
   λ k l lt _. whole_empty (get_or c.clear_lines.new.lines k l) (c.clear_lines.ensures.empty k l (omega (arith, c.clear_lines.auto.lines))),
+  c.others-self-inside.ensures,
 )
 
 pub returns-clause-boxes : goal.returns-clause-boxes

@@ -17,6 +17,7 @@ invariant_of-result c =
           (margin_by (λ m. m) _ _ (ok.long ∙ sym n) (λ k l lt. ap (λ (m : PiecesAndRoom). m.room.before) (all k l lt)) c.self.invariant.0.margin) c.self.invariant.0,
       λ k l lt on. (let lt' : k < length c.self.inside.lines = omega (arith, ok.long, n) in
           whole_same (get_or c.self.inside.lines k l) (get_or c.in_ok-lines.lines k l) (ap shown_line (all k l lt')) (c.self.invariant.1 k l lt' on)),
+      c.others.ensures,
     )
 
 pub returns : goal.returns

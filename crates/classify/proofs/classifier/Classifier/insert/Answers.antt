@@ -29,6 +29,7 @@ invariant_of-self-2 c =
           let P : List SpanSet → Type 0 = λ spans. IsEverything (get_or spans k s) in
           whole_inserted c.self.inside.len c.args.at (get_or c.spans.result.now k s) (get_or c.self.inside.lines k l) (get_or c.insert_lines.new.lines k l) (sound k s l lt') (c.self.invariant.1 k l lt' was.0)
           (subst P (c.spans-2.ensures.value ∙ sym c.spans.ensures.value) was.1) (c.in_ok-insert_lines.ensures.ok k s l lt')),
+      c.others-self-inside.ensures,
     )
 
 pub returns-clause-boxes : goal.returns-clause-boxes
@@ -47,6 +48,7 @@ invariant_of-self c = (
   kept_shown c.self.inside.lines c.insert_lines.new.lines c.self.inside.len c.insert_lines.auto.lines c.in_err-insert_lines.ensures.err (c.insert_lines.ensures.margin c.self.invariant.0.margin) c.self.invariant.0,
   λ k l lt on. (let lt' : k < length c.self.inside.lines = omega (arith, c.insert_lines.auto.lines) in
       whole_same (get_or c.self.inside.lines k l) (get_or c.insert_lines.new.lines k l) (c.in_err-insert_lines.ensures.err k l lt') (c.self.invariant.1 k l lt' on)),
+  c.self.invariant.2,
 )
 
 pub returns-in_err-insert_lines-clause-err : goal.returns-in_err-insert_lines-clause-err

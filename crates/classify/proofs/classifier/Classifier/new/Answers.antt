@@ -11,6 +11,7 @@ invariant_of-result c =
       kept_empty c.in_ok-lines.lines ok.long (λ k l lt. let h = (ok.at k l (omega (arith, ok.long))).2 in search of_calls)
           (none_before c.in_ok-lines.lines (λ k l lt. let h = (ok.at k l (omega (arith, ok.long))).2 in search of_calls)),
       λ k l lt _. whole_empty (get_or c.in_ok-lines.lines k l) (let h = (ok.at k l (omega (arith, ok.long))).2 in search of_calls),
+      c.others.ensures,
     )
 
 pub returns-clause-boxes : goal.returns-clause-boxes

@@ -28,6 +28,7 @@ invariant_of-self c = (
   },
   λ k l lt on. (let lt' : k < length c.self.inside.lines = omega (arith, c.remove_lines.auto.lines) in
       whole_removed (slice_index tops k) c.self.inside.len c.args.at (get_or c.self.inside.lines k l) (get_or c.remove_lines.new.lines k l) (c.self.invariant.0.sound k l lt') (c.self.invariant.1 k l lt' on) (c.remove_lines.ensures k l lt')),
+  c.self.invariant.2,
 )
 
 pub returns-clause-boxes : goal.returns-clause-boxes

@@ -31,6 +31,7 @@ invariant_of-self-2 c =
           let P : List SpanSet → Type 0 = λ spans. IsEverything (get_or spans k s) in
           whole_replaced c.self.inside.len c.args.at (get_or c.spans.result.now k s) (get_or c.self.inside.lines k l) (get_or c.replace_lines.new.lines k l) (sound k s l lt') (c.self.invariant.1 k l lt' was.0)
           (subst P (c.spans-2.ensures.value ∙ sym c.spans.ensures.value) was.1) (c.in_ok-replace_lines.ensures.ok k s l lt')),
+      c.others-self-inside.ensures,
     )
 
 pub returns-clause-boxes : goal.returns-clause-boxes
@@ -50,6 +51,7 @@ invariant_of-self c = (
       (margin_by (λ n. n) _ _ c.replace_lines.auto.lines (λ k l lt. ap (λ (r : Room). r.before) (c.replace_lines.ensures.room k l lt)) c.self.invariant.0.margin) c.self.invariant.0,
   λ k l lt on. (let lt' : k < length c.self.inside.lines = omega (arith, c.replace_lines.auto.lines) in
       whole_same (get_or c.self.inside.lines k l) (get_or c.replace_lines.new.lines k l) (c.in_err-replace_lines.ensures.err k l lt') (c.self.invariant.1 k l lt' on)),
+  c.self.invariant.2,
 )
 
 pub returns-in_err-replace_lines-clause-err : goal.returns-in_err-replace_lines-clause-err

@@ -1,0 +1,5 @@
+use Rattle.classify.specs.steps.Whole.{AreUnmarked}
+use Rattle.classify.proofs.classifier.whole.unmarked.Given as goal
+
+abbrev pub invariant-loop-k : goal.invariant-loop-k
+invariant-loop-k l = AreUnmarked l.marks l.k l.places.items
