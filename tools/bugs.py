@@ -48,7 +48,7 @@ KEPT = [
                 self.rows.remove(k + 1);""",
         """                self.rows.remove(k + 1);""", "faults", "a table with all kinds"),
     Bug("keeps-words-of-a-row", "the words of the first of two rows stay where those of the second are refused", "bits/src/each_row.rt",
-        """            words.truncate(before);
+        """            words.truncate(count);
             Err(refused)""",
         """            Err(refused)""", "faults", "cuts the piece of the one before"),
     Bug("keeps-a-start", "of two starts one stays where the other is refused memory", "classify/src/line/starts.rt",
@@ -85,16 +85,20 @@ KEPT = [
         count_in(&mut self.chains, link);""", "faults", "a table with all kinds"),
     Bug("words-without-a-slot", "the words of a row stay where its slot is refused", "bits/src/rows.rt",
         """            Err(refused) => {
-                self.words.truncate(end);
+                self.words.truncate(count);
                 Err(refused)
             }""",
         """            Err(refused) => Err(refused),""", "faults", "classifiers.cases: two rules"),
-    Bug("wider-before-words", "rows count as wider before their words are there", "bits/src/rows.rt",
-        """        self.words = widen(&self.words, count, self.width, wider, alloc)?;
+    Bug("wider-before-words", "rows count as wider before their words are there", "bits/src/slot_words.rt",
+        """        let mut wide = widen(&self.wholes, self.owners.len(), self.width, wider, alloc)?;
+        make_room(&mut wide, room)?;
+        self.wholes = wide;
         self.width = wider;""",
         """        let width = self.width;
         self.width = wider;
-        self.words = widen(&self.words, count, width, wider, alloc)?;""", "faults", "classifiers.cases: two rules"),
+        let mut wide = widen(&self.wholes, self.owners.len(), width, wider, alloc)?;
+        make_room(&mut wide, room)?;
+        self.wholes = wide;""", "faults", "classifiers.cases: two rules"),
     Bug("flushes-a-refused-section", "a section that is refused memory as it begins takes the table's rules", "restore/src/restore.rt",
         """    match Transaction::begin(alloc, table, noflush) {
         Ok(section) => Ok(SectionState::Building(section)),
@@ -112,11 +116,11 @@ UNTOLD = [
         };""",
         """        let _ = search::reserve_mark(&mut self.seen, key);""", "faults", "names that a chain may have"),
     Bug("step-untold", "a step of a walk is left out", "table/src/walk/trail.rt",
-        "            steps.push(self.step_before(hook, at))?;",
-        "            let _ = steps.push(self.step_before(hook, at));", "faults", "a jump comes back"),
+        "            steps.push(step)?;",
+        "            let _ = steps.push(step);", "faults", "a jump comes back"),
     Bug("walk-in-part", "a walk ends where its next step is refused memory, and is printed so far", "table/src/walk/trail.rt",
-        "            steps.push(self.step_before(hook, at))?;",
-        """            if steps.push(self.step_before(hook, at)).is_err() {
+        "            steps.push(step)?;",
+        """            if steps.push(step).is_err() {
                 return Ok(Some(Trail::undecided(steps, policy)));
             }""", "faults", "a jump comes back"),
     Bug("condition-untold", "a condition doesn't narrow its field", "rules/src/boxing/boxed.rt",
@@ -314,11 +318,11 @@ TAKING = [
         """        if self.room() > 0 {
             return Ok(());
         }
-        let wider""",
+        self.words.widen()?;""",
         """        if self.room() > 64 {
             return Ok(());
         }
-        let wider""", "faults"),
+        self.words.widen()?;""", "faults"),
     Bug("end-line-takes", "the line that ends a restore takes memory", "sessions/src/line/outcome.rt",
         """    if is_end(&word, line, too_long) {
         return match restore.finish() {""",

@@ -5,5 +5,9 @@ pub mod Held
 pub mod Moves
 pub mod Packing
 pub mod RowMoves
+pub mod RowParts
+pub mod RowWords
 pub mod Shifts
+pub mod SlotWords
+pub mod StoredRows
 pub mod Summaries

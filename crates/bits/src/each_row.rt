@@ -1,16 +1,107 @@
-//! The words of all rows, one row after another: a change of each, a bit of some, and more room.
+//! The words of all rows, each in a slot: a change of each, a bit of some, and more room.
 
-ghost use Rattle.std.specs.Prelude.{◌≡◌, ◌≢◌, ◌<◌, ◌≤◌, ◌+◌, ◌-◌, ◌*◌, ◌^◌, length, take, drop, slice_index, slice_index_or, IfOk, OnOk, OnErr};
+ghost use Rattle.std.specs.Prelude.{◌≡◌, ◌≢◌, ◌<◌, ◌≤◌, ◌+◌, ◌-◌, ◌*◌, length, take, drop, slice_index, slice_index_or, IfOk, OnOk, OnErr};
 ghost use Rattle.std.specs.Prelude.{ℕ, false, replicate, ◌++◌};
+ghost use Rattle.std.specs.Vec.{vec_capacity};
 ghost use Rattle.bits.specs.steps.Held.{words_in, AreWritten, EachSlot};
 ghost use Rattle.bits.specs.steps.Packing.{all_bits};
 ghost use Rattle.bits.specs.steps.RowMoves.{Fits, Makes};
+ghost use Rattle.bits.specs.steps.SlotWords.{AreAsMany, IsAppended, WordsInSlots};
 ghost use Rattle.bits.specs.steps.Summaries.{SumUp};
 
-use crate::row_move::{Move, make};
+use crate::row_move::Move;
+use crate::slot_words::SlotWords;
 use crate::summary::marked;
-use crate::words::set_bit;
 use std::alloc::{AllocError, Global};
+
+// Makes a move of bits in each slot.
+pub(crate) fn move_all(words: &mut SlotWords, summaries: &mut Vec<u64>, how: Move)
+    requires fits { Fits how words.old.width }
+    requires counted { words.old.count ≡ length summaries.old.items }
+    requires summed { SumUp words.old.width summaries.old.items words.old.words (length summaries.old.items) }
+    ensures as_many { AreAsMany words.old words.new }
+    ensures rows { EachSlot (Makes how) words.old.width words.old.words words.new.words (length summaries.old.items) }
+    ensures counted { length summaries.new.items ≡ length summaries.old.items }
+    ensures summed { SumUp words.old.width summaries.new.items words.new.words (length summaries.old.items) }
+{
+    for slot in 0..summaries.len() {
+        let mut summary = summaries[slot];
+        words.move_bits(slot, &mut summary, how);
+        summaries[slot] = summary;
+    }
+}
+
+// Writes a bit at a place of the rows in some slots. Slots and summaries are lent, so the loop asks neither a vector nor a block where they are.
+pub(crate) fn write_each(
+    words: &mut SlotWords,
+    summaries: &mut [u64],
+    slots: &[u32],
+    at: usize,
+    bit: bool,
+)
+    requires place { at < 64 * words.old.width }
+    requires below { (k : ℕ) → k < length slots.now → slice_index slots.now k < length summaries.old }
+    requires apart { (j k : ℕ) → j < k → k < length slots.now → slice_index slots.now j ≢ slice_index slots.now k }
+    requires counted { words.old.count ≡ length summaries.old }
+    requires summed { SumUp words.old.width summaries.old words.old.words (length summaries.old) }
+    ensures as_many { AreAsMany words.old words.new }
+    ensures written { AreWritten at bit words.old.width (length summaries.old) (length slots.now) slots.now words.old.words words.new.words }
+    ensures counted { length summaries.new ≡ length summaries.old }
+    ensures summed { SumUp words.old.width summaries.new words.new.words (length summaries.old) }
+{
+    for k in 0..slots.len() {
+        let slot = slots[k] as usize;
+        words.write(slot, at, bit);
+        summaries[slot] = marked(summaries[slot], at / 64, bit);
+    }
+}
+
+// The bit at a place of the row in a slot.
+fn bit_in(words: &SlotWords, slot: usize, at: usize) -> bool
+    requires slot { slot < words.now.count }
+    requires place { at < 64 * words.now.width }
+    ensures { result ≡ slice_index_or (all_bits (words_in words.now.width words.now.words slot)) at false }
+{
+    (words.word(slot, at / 64) >> (at % 64)) % 2 == 1
+}
+
+// Where those of some slots begin, side by side up to the last, whose rows have a bit at a place.
+pub(crate) fn alike_from(words: &SlotWords, slots: &[u32], at: usize, bit: bool) -> usize
+    requires place { at < 64 * words.now.width }
+    requires below { (k : ℕ) → k < length slots.now → slice_index slots.now k < words.now.count }
+    ensures few { result ≤ length slots.now }
+    ensures alike { (k : ℕ) → result ≤ k → k < length slots.now
+        → slice_index_or (all_bits (words_in words.now.width words.now.words (slice_index slots.now k))) at false ≡ bit }
+    ensures first { 0 < result → slice_index_or (all_bits (words_in words.now.width words.now.words (slice_index slots.now (result - 1)))) at false ≢ bit }
+{
+    let mut first = slots.len();
+    while first > 0 && bit_in(words, slots[first - 1] as usize, at) == bit {
+        first -= 1;
+    }
+    first
+}
+
+// Adds two slots to so many, with the words of another.
+pub(crate) fn append_twice(
+    words: &mut SlotWords,
+    count: usize,
+    slot: usize,
+) -> Result<(), AllocError>
+    requires count { words.old.count ≡ count }
+    requires whole { length words.old.words ≡ count * words.old.width }
+    requires slot { slot < count }
+    ensures ok { OnOk result ((once : WordsInSlots) × IsAppended slot words.old once × IsAppended slot once words.new) }
+    ensures err { OnErr result (words.new ≡ words.old) }
+{
+    words.append(slot)?;
+    match words.append(slot) {
+        Ok(()) => Ok(()),
+        Err(refused) => {
+            words.truncate(count);
+            Err(refused)
+        }
+    }
+}
 
 // So many words from a place on; they are lent.
 pub(crate) fn part(words: &[u64], start: usize, count: usize) -> &[u64]
@@ -18,77 +109,6 @@ pub(crate) fn part(words: &[u64], start: usize, count: usize) -> &[u64]
     ensures { result.now ≡ take count (drop start words.now) }
 {
     &words[start..start + count]
-}
-
-// Makes a move of bits in each row of so many words.
-pub(crate) fn move_all(words: &mut Vec<u64>, summaries: &mut Vec<u64>, width: usize, how: Move)
-    requires fits { Fits how width }
-    requires whole { length words.old.items ≡ length summaries.old.items * width }
-    requires few { width < 2 ^ 58 }
-    requires summed { SumUp width summaries.old.items words.old.items (length summaries.old.items) }
-    ensures len { length words.new.items ≡ length words.old.items }
-    ensures rows { EachSlot (Makes how) width words.old.items words.new.items (length summaries.old.items) }
-    ensures counted { length summaries.new.items ≡ length summaries.old.items }
-    ensures summed { SumUp width summaries.new.items words.new.items (length summaries.old.items) }
-{
-    for slot in 0..summaries.len() {
-        let start = slot * width;
-        let mut summary = summaries[slot];
-        make(words.slice_mut(start..start + width), &mut summary, how);
-        summaries[slot] = summary;
-    }
-}
-
-// Writes a bit at a place of the rows in some slots. All is lent, so the loop asks neither a vector nor a block where things are.
-pub(crate) fn write_each(
-    words: &mut [u64],
-    summaries: &mut [u64],
-    slots: &[u32],
-    width: usize,
-    at: usize,
-    bit: bool,
-)
-    requires place { at < 64 * width }
-    requires below { (k : ℕ) → k < length slots.now → slice_index slots.now k < length summaries.old }
-    requires apart { (j k : ℕ) → j < k → k < length slots.now → slice_index slots.now j ≢ slice_index slots.now k }
-    requires whole { length words.old ≡ length summaries.old * width }
-    requires summed { SumUp width summaries.old words.old (length summaries.old) }
-    ensures written { AreWritten at bit width (length summaries.old) (length slots.now) slots.now words.old words.new }
-    ensures counted { length summaries.new ≡ length summaries.old }
-    ensures summed { SumUp width summaries.new words.new (length summaries.old) }
-{
-    for k in 0..slots.len() {
-        let slot = slots[k] as usize;
-        let place = slot * width + at / 64;
-        let word = words[place];
-        words[place] = set_bit(word, (at % 64) as u32, bit);
-        summaries[slot] = marked(summaries[slot], at / 64, bit);
-    }
-}
-
-// The bit at a place of the row in a slot.
-fn bit_in(words: &[u64], slot: usize, width: usize, at: usize) -> bool
-    requires place { at < 64 * width }
-    requires within { slot * width + width ≤ length words.now }
-    ensures { result ≡ slice_index_or (all_bits (words_in width words.now slot)) at false }
-{
-    (words[slot * width + at / 64] >> (at % 64)) % 2 == 1
-}
-
-// Where those of some slots begin, side by side up to the last, whose rows have a bit at a place.
-pub(crate) fn alike_from(words: &[u64], slots: &[u32], width: usize, at: usize, bit: bool) -> usize
-    requires place { at < 64 * width }
-    requires within { (k : ℕ) → k < length slots.now → slice_index slots.now k * width + width ≤ length words.now }
-    ensures few { result ≤ length slots.now }
-    ensures alike { (k : ℕ) → result ≤ k → k < length slots.now
-        → slice_index_or (all_bits (words_in width words.now (slice_index slots.now k))) at false ≡ bit }
-    ensures first { 0 < result → slice_index_or (all_bits (words_in width words.now (slice_index slots.now (result - 1)))) at false ≢ bit }
-{
-    let mut first = slots.len();
-    while first > 0 && bit_in(words, slots[first - 1] as usize, width, at) == bit {
-        first -= 1;
-    }
-    first
 }
 
 // The words of so many rows, each with words of zeros after it.
@@ -122,30 +142,10 @@ pub(crate) fn append(words: &mut Vec<u64>, start: usize, width: usize) -> Result
     requires { start + width ≤ length words.old.items }
     ensures ok { OnOk result (words.new.items ≡ words.old.items ++ take width (drop start words.old.items)) }
     ensures err { OnErr result (words.new.items ≡ words.old.items) }
+    ensures room { vec_capacity words.old ≤ vec_capacity words.new }
 {
     let end = words.len();
     words.resize(end + width, 0)?;
     words.copy_within(start..start + width, end);
     Ok(())
-}
-
-// Puts the words of a row after all words, twice.
-pub(crate) fn append_twice(
-    words: &mut Vec<u64>,
-    start: usize,
-    width: usize,
-) -> Result<(), AllocError>
-    requires { start + width ≤ length words.old.items }
-    ensures ok { OnOk result (words.new.items ≡ (words.old.items ++ take width (drop start words.old.items)) ++ take width (drop start words.old.items)) }
-    ensures err { OnErr result (words.new.items ≡ words.old.items) }
-{
-    let before = words.len();
-    append(words, start, width)?;
-    match append(words, start, width) {
-        Ok(()) => Ok(()),
-        Err(refused) => {
-            words.truncate(before);
-            Err(refused)
-        }
-    }
 }

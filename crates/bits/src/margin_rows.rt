@@ -5,8 +5,10 @@ ghost use Rattle.std.specs.Prelude.{false, take, All, IfOk, OnOk, OnErr, IsOk, I
 ghost use Rattle.bits.specs.MarginRows.{after_margin, closed_up};
 ghost use Rattle.bits.specs.Rows.{two_words, IsRunWritten};
 ghost use Rattle.bits.specs.steps.Packing.{all_bits, IsPacked};
+ghost use Rattle.bits.specs.steps.RowWords.{words_of};
 ghost use Rattle.bits.specs.steps.Summaries.{IsSummaryOf};
 
+use crate::row_words::RowWords;
 use crate::rows::{Rows, TWO_WORDS};
 use std::alloc::{AllocError, Global};
 use std::marker::Model;
@@ -36,13 +38,13 @@ impl Model for MarginRows {
 }
 
 impl MarginRows {
-    /// One row without a bit or a margin.
+    /// One row without a bit or a margin, and room for 256 bits.
     ///
     /// # Errors
     ///
     /// `AllocError` where memory was refused.
     pub fn with_one_row(alloc: Global) -> Result<MarginRows, AllocError>
-        ensures { IfOk result (λ rows. (rows.rows ≡ [] ∷ []) × (rows.room.places ≡ 0) × (rows.room.before ≡ 0)) }
+        ensures { IfOk result (λ rows. (rows.rows ≡ [] ∷ []) × (rows.room.places ≡ 256) × (rows.room.before ≡ 0)) }
     {
         Ok(MarginRows {
             rows: Rows::with_one_row(alloc)?,
@@ -73,10 +75,10 @@ impl MarginRows {
     }
 
     /// The words of a row and its margin; they are lent.
-    pub fn row(&self, row: usize) -> &[u64]
+    pub fn row(&self, row: usize) -> RowWords<'_>
         requires { row < length self.now.rows }
-        ensures packed { IsPacked result.now (length (after_margin self.now.room.before (slice_index_or self.now.rows row []))) }
-        ensures bits { take (length (after_margin self.now.room.before (slice_index_or self.now.rows row []))) (all_bits result.now)
+        ensures packed { IsPacked (words_of result) (length (after_margin self.now.room.before (slice_index_or self.now.rows row []))) }
+        ensures bits { take (length (after_margin self.now.room.before (slice_index_or self.now.rows row []))) (all_bits (words_of result))
             ≡ after_margin self.now.room.before (slice_index_or self.now.rows row []) }
     {
         self.rows.row(row)

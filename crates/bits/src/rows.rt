@@ -1,5 +1,5 @@
-//! Rows of equally many bits, packed 64 to a word, all in one vector of words. Each row has a slot of its own, so
-//! that another row is one copy and moves none.
+//! Rows of equally many bits, packed 64 to a word. Each row has a slot of its own for its words, so that another row
+//! is one copy and moves none.
 
 ghost use Rattle.std.specs.Prelude.{◌≡◌, ◌≢◌, ◌<◌, ◌≤◌, ◌+◌, ◌-◌, ◌*◌, ◌^◌, [], ◌∷◌, length, map, insert, remove, slice_set, slice_index_or};
 ghost use Rattle.std.specs.Prelude.{false, take, drop, IfOk, OnOk, OnErr, IsOk, IsTrue, ◌↔◌, ◌%◌};
@@ -7,32 +7,22 @@ ghost use Rattle.std.specs.Prelude.{ℕ, All, replicate, ◌++◌};
 ghost use Rattle.bits.specs.Rows.{two_words, IsRunWritten};
 ghost use Rattle.bits.specs.steps.Packing.{all_bits, IsPacked};
 ghost use Rattle.bits.specs.steps.Held.{AreApart, AreFirstTwo};
+ghost use Rattle.bits.specs.steps.RowWords.{words_of};
 ghost use Rattle.bits.specs.steps.Summaries.{IsSummaryOf};
 
-use crate::bit_row::MOST_WORDS;
 use crate::blocks::Blocks;
-use crate::each_row::{alike_from, append, append_twice, move_all, part, widen, write_each};
+use crate::each_row::{alike_from, append_twice, move_all, write_each};
 use crate::row_move::Move;
+use crate::row_words::RowWords;
+use crate::slot_words::SlotWords;
 use crate::sparse::Way;
 use crate::summary::{is_marked, marked};
-use crate::words::{bit_at, same_beside, same_bits, set_bit};
+use crate::words::{same_beside, same_bits};
 use std::alloc::{AllocError, Global};
 use std::marker::Model;
 
 /// The places of two words: a summary has one bit for both.
 pub const TWO_WORDS: usize = 128;
-
-// Twice as many words, and one where there is none.
-fn twice(width: usize) -> usize
-    requires { width < 2 ^ 58 }
-    ensures none { width ≡ 0 → result ≡ 1 }
-    ensures some { 0 < width → result ≡ 2 * width }
-{
-    if width == 0 {
-        return 1;
-    }
-    2 * width
-}
 
 // The slot after so many: refused where it is no `u32`.
 fn slot_after(count: usize) -> Result<u32, AllocError>
@@ -78,14 +68,13 @@ fn renumber(slots: &mut Blocks)
 #[derive(Drop)]
 pub struct Rows {
     len: usize,
-    width: usize,
     slots: Blocks,
     summaries: Vec<u64>,
-    words: Vec<u64>,
+    words: SlotWords,
 }
 
 impl Model for Rows {
-    ghost use Rattle.std.specs.Prelude.{map, length, ◌*◌, ◌-◌};
+    ghost use Rattle.std.specs.Prelude.{map, length, ◌≡◌, ◌*◌, ◌-◌};
     ghost use Rattle.bits.specs.Rows.{RowsAndRoom};
     ghost use Rattle.bits.specs.steps.Held.{AreHeld, bits_in};
     ghost use Rattle.bits.specs.steps.Summaries.{AreSummaries};
@@ -93,32 +82,31 @@ impl Model for Rows {
     ghost Value = { RowsAndRoom };
 
     ghost view = { λ r. record {
-      rows = map (bits_in r.len r.width r.words.items) r.slots;
-      room = 64 * r.width - r.len;
+      rows = map (bits_in r.len r.words.width r.words.words) r.slots;
+      room = 64 * r.words.width - r.len;
     } };
 
-    ghost invariant = { λ r. AreHeld r.len r.width r.slots r.words.items
-        × AreSummaries r.width r.summaries.items r.words.items (length r.slots) };
+    ghost invariant = { λ r. AreHeld r.len r.words.width r.slots r.words.words
+        × AreSummaries r.words.width r.summaries.items r.words.words (length r.slots) × (r.words.count ≡ length r.slots) };
 }
 
 impl Rows {
-    /// One row without a bit.
+    /// One row without a bit, and room for 256 bits.
     ///
     /// # Errors
     ///
     /// `AllocError` where memory was refused.
     pub fn with_one_row(alloc: Global) -> Result<Rows, AllocError>
-        ensures { IfOk result (λ rows. (rows.rows ≡ [] ∷ []) × (rows.room ≡ 0)) }
+        ensures { IfOk result (λ rows. (rows.rows ≡ [] ∷ []) × (rows.room ≡ 256)) }
     {
         let slots = Blocks::one(alloc, 0)?;
         let mut summaries = Vec::new(alloc);
         summaries.push(0)?;
         Ok(Rows {
             len: 0,
-            width: 0,
             slots,
             summaries,
-            words: Vec::new(alloc),
+            words: SlotWords::one(alloc)?,
         })
     }
 
@@ -139,13 +127,13 @@ impl Rows {
     }
 
     /// The words of a row that its bits need; they are lent.
-    pub fn row(&self, row: usize) -> &[u64]
+    pub fn row(&self, row: usize) -> RowWords<'_>
         requires { row < length self.now.rows }
-        ensures packed { IsPacked result.now (length (slice_index_or self.now.rows row [])) }
-        ensures bits { take (length (slice_index_or self.now.rows row [])) (all_bits result.now) ≡ slice_index_or self.now.rows row [] }
+        ensures packed { IsPacked (words_of result) (length (slice_index_or self.now.rows row [])) }
+        ensures bits { take (length (slice_index_or self.now.rows row [])) (all_bits (words_of result)) ≡ slice_index_or self.now.rows row [] }
     {
-        let start = self.slots.get(row) as usize * self.width;
-        part(&self.words, start, self.len.div_ceil(64))
+        self.words
+            .row(self.slots.get(row) as usize, self.len.div_ceil(64))
     }
 
     /// A row's summary: it has the bit of each word in which the row has a bit.
@@ -164,7 +152,7 @@ impl Rows {
         ensures { result ≡ slice_index_or (slice_index_or self.now.rows row []) at false }
     {
         let _len = self.len;
-        is_marked(self.summary(row), at / 64) && bit_at(self.row(row), at)
+        is_marked(self.summary(row), at / 64) && self.row(row).bit(at)
     }
 
     /// Writes the bit at a place of a row.
@@ -176,9 +164,7 @@ impl Rows {
     {
         let _len = self.len;
         let slot = self.slots.get(row) as usize;
-        let place = slot * self.width + at / 64;
-        let word = self.words[place];
-        self.words[place] = set_bit(word, (at % 64) as u32, bit);
+        self.words.write(slot, at, bit);
         self.summaries[slot] = marked(self.summaries[slot], at / 64, bit);
     }
 
@@ -198,10 +184,9 @@ impl Rows {
         let slots = &run[..run.len().min(to - from)];
         let end = from + slots.len();
         write_each(
-            self.words.as_mut_slice(),
+            &mut self.words,
             self.summaries.as_mut_slice(),
             slots,
-            self.width,
             at,
             bit,
         );
@@ -229,7 +214,7 @@ impl Rows {
         ensures { IsTrue result ↔ (slice_index_or self.now.rows one [] ≡ slice_index_or self.now.rows other []) }
     {
         let _len = self.len;
-        same_bits(self.row(one), self.row(other))
+        same_bits(&self.row(one), &self.row(other))
     }
 
     /// Whether two rows are equal beside the bits at a place.
@@ -239,7 +224,7 @@ impl Rows {
         ensures { IsTrue result ↔ (remove (slice_index_or self.now.rows one []) at ≡ remove (slice_index_or self.now.rows other []) at) }
     {
         let _len = self.len;
-        same_beside(self.row(one), self.row(other), at)
+        same_beside(&self.row(one), &self.row(other), at)
     }
 
     /// Where the rows begin, side by side up to one of them, that have its bit at a place.
@@ -256,7 +241,7 @@ impl Rows {
         let mut first = row;
         while first > 0 {
             let slots = self.slots.run_to(first - 1);
-            let alike = alike_from(&self.words, slots, self.width, at, bit);
+            let alike = alike_from(&self.words, slots, at, bit);
             first -= slots.len() - alike;
             if alike > 0 {
                 return first;
@@ -277,19 +262,18 @@ impl Rows {
         ensures few { OnOk result (length self.new.rows ≤ 2 ^ 32) }
         ensures room { self.new.room ≡ self.old.room }
     {
-        let slot = slot_after(self.slots.len())?;
+        let count = self.slots.len();
+        let slot = slot_after(count)?;
         self.summaries.reserve(1)?;
         let from = self.slots.get(row) as usize;
-        let start = from * self.width;
-        let end = self.words.len();
-        append(&mut self.words, start, self.width)?;
+        self.words.append(from)?;
         match self.slots.insert(row + 1, slot) {
             Ok(()) => {
                 let _ = self.summaries.push(self.summaries[from]);
                 Ok(())
             }
             Err(refused) => {
-                self.words.truncate(end);
+                self.words.truncate(count);
                 Err(refused)
             }
         }
@@ -308,12 +292,12 @@ impl Rows {
         ensures few { OnOk result (length self.new.rows ≤ 2 ^ 32) }
         ensures room { self.new.room ≡ self.old.room }
     {
-        let slot = slot_after(self.slots.len())?;
-        let next = slot_after(self.slots.len() + 1)?;
+        let before = self.slots.len();
+        let slot = slot_after(before)?;
+        let next = slot_after(before + 1)?;
         self.summaries.reserve(2)?;
         let from = self.slots.get(row) as usize;
-        let before = self.words.len();
-        append_twice(&mut self.words, from * self.width, self.width)?;
+        append_twice(&mut self.words, before, from)?;
         match self.slots.insert_pair(row + 1, next, slot) {
             Ok(()) => {
                 let summary = self.summaries[from];
@@ -337,10 +321,7 @@ impl Rows {
         let _len = self.len;
         let slot = self.slots.remove(row);
         let last = self.slots.len();
-        let start = last * self.width;
-        self.words
-            .copy_within(start..start + self.width, slot as usize * self.width);
-        self.words.truncate(start);
+        self.words.remove(slot as usize);
         self.summaries[slot as usize] = self.summaries[last];
         self.summaries.truncate(last);
         self.slots.redirect(last as u32, slot);
@@ -363,7 +344,6 @@ impl Rows {
         move_all(
             &mut self.words,
             &mut self.summaries,
-            self.width,
             Move::Bits(Way::In, at),
         );
         self.len += 1;
@@ -380,7 +360,6 @@ impl Rows {
         move_all(
             &mut self.words,
             &mut self.summaries,
-            self.width,
             Move::Bits(Way::Out, at),
         );
         self.len -= 1;
@@ -393,12 +372,7 @@ impl Rows {
         ensures rows { self.new.rows ≡ map (λ row. replicate two_words false ++ row) self.old.rows }
         ensures room { self.new.room + two_words ≡ self.old.room }
     {
-        move_all(
-            &mut self.words,
-            &mut self.summaries,
-            self.width,
-            Move::Words(Way::In),
-        );
+        move_all(&mut self.words, &mut self.summaries, Move::Words(Way::In));
         self.len += TWO_WORDS;
     }
 
@@ -410,12 +384,7 @@ impl Rows {
         ensures rows { self.new.rows ≡ map (drop two_words) self.old.rows }
         ensures room { self.new.room ≡ self.old.room + two_words }
     {
-        move_all(
-            &mut self.words,
-            &mut self.summaries,
-            self.width,
-            Move::Words(Way::Out),
-        );
+        move_all(&mut self.words, &mut self.summaries, Move::Words(Way::Out));
         self.len -= TWO_WORDS;
     }
 
@@ -423,7 +392,7 @@ impl Rows {
     pub fn room(&self) -> usize
         ensures { result ≡ self.now.room }
     {
-        64 * self.width - self.len
+        64 * self.words.width() - self.len
     }
 
     /// Takes the memory that one more bit in each row needs. Where there is no room, all rows move, and then have
@@ -444,14 +413,7 @@ impl Rows {
         if self.room() > 0 {
             return Ok(());
         }
-        let wider = twice(self.width);
-        if wider > MOST_WORDS {
-            return Err(AllocError);
-        }
-        let alloc = *self.words.allocator();
-        let count = self.slots.len();
-        self.words = widen(&self.words, count, self.width, wider, alloc)?;
-        self.width = wider;
+        self.words.widen()?;
         Ok(())
     }
 
@@ -466,8 +428,7 @@ impl Rows {
         renumber(&mut self.slots);
         self.summaries.truncate(2);
         self.summaries.fill(0);
-        self.words.truncate(2 * self.width);
-        self.words.fill(0);
+        self.words.clear();
         self.len = 0;
     }
 
@@ -481,10 +442,9 @@ impl Rows {
     {
         let slots = self.slots.copy(alloc)?;
         let summaries = Vec::from_slice(alloc, &self.summaries)?;
-        let words = Vec::from_slice(alloc, &self.words)?;
+        let words = self.words.copy(alloc)?;
         Ok(Rows {
             len: self.len,
-            width: self.width,
             slots,
             summaries,
             words,

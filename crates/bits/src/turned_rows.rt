@@ -6,17 +6,19 @@ ghost use Rattle.bits.specs.MarginRows.{after_margin, closed_up};
 ghost use Rattle.bits.specs.Rows.{two_words, IsRunWritten};
 ghost use Rattle.bits.specs.TurnedRows.{turned};
 ghost use Rattle.bits.specs.steps.Packing.{all_bits, IsPacked};
+ghost use Rattle.bits.specs.steps.RowWords.{words_of};
 ghost use Rattle.bits.specs.steps.Summaries.{IsSummaryOf};
 
 use crate::margin_rows::MarginRows;
+use crate::row_words::RowWords;
 use std::alloc::{AllocError, Global};
 use std::marker::Model;
 
 /// A row as it is lent: its own words, the words of the row that turns it, and a summary of the bits that it has then.
 #[derive(Clone, Copy)]
 pub struct TurnedWords<'a> {
-    pub own: &'a [u64],
-    pub turn: &'a [u64],
+    pub own: RowWords<'a>,
+    pub turn: RowWords<'a>,
     pub summary: u64,
 }
 
@@ -41,13 +43,13 @@ impl Model for TurnedRows {
 }
 
 impl TurnedRows {
-    /// One row without a bit or a margin.
+    /// One row without a bit or a margin, and room for 256 bits.
     ///
     /// # Errors
     ///
     /// `AllocError` where memory was refused.
     pub fn with_one_row(alloc: Global) -> Result<TurnedRows, AllocError>
-        ensures { IfOk result (λ rows. (rows.rows ≡ [] ∷ []) × (rows.room.places ≡ 0) × (rows.room.before ≡ 0)) }
+        ensures { IfOk result (λ rows. (rows.rows ≡ [] ∷ []) × (rows.room.places ≡ 256) × (rows.room.before ≡ 0)) }
     {
         let mut rows = MarginRows::with_one_row(alloc)?;
         rows.duplicate(0)?;
@@ -88,9 +90,9 @@ impl TurnedRows {
     /// The words of a row and its margin, and those that turn them; they are lent.
     pub fn row(&self, row: usize) -> TurnedWords<'_>
         requires { row < length self.now.rows }
-        ensures own { IsPacked result.own.now (length (after_margin self.now.room.before (slice_index_or self.now.rows row []))) }
-        ensures turn { IsPacked result.turn.now (length (after_margin self.now.room.before (slice_index_or self.now.rows row []))) }
-        ensures bits { take (length (after_margin self.now.room.before (slice_index_or self.now.rows row []))) (turned (all_bits result.turn.now) (all_bits result.own.now))
+        ensures own { IsPacked (words_of result.own) (length (after_margin self.now.room.before (slice_index_or self.now.rows row []))) }
+        ensures turn { IsPacked (words_of result.turn) (length (after_margin self.now.room.before (slice_index_or self.now.rows row []))) }
+        ensures bits { take (length (after_margin self.now.room.before (slice_index_or self.now.rows row []))) (turned (all_bits (words_of result.turn)) (all_bits (words_of result.own)))
             ≡ after_margin self.now.room.before (slice_index_or self.now.rows row []) }
         ensures summed { IsSummaryOf result.summary (after_margin self.now.room.before (slice_index_or self.now.rows row [])) }
     {

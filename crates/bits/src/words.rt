@@ -2,9 +2,12 @@
 
 ghost use Rattle.std.specs.Prelude.{◌≡◌, ◌≢◌, ◌++◌, ◌∷◌, [], ◌<◌, ◌≤◌, ◌+◌, ◌*◌, length, false, insert, remove, slice_set, slice_index, slice_index_or, take, ℕ, IsTrue, ◌↔◌};
 ghost use Rattle.bits.specs.steps.Packing.{word_bits, all_bits, low_bit, top_bit, AreAlikeBeside, IsPacked};
+ghost use Rattle.bits.specs.steps.RowWords.{words_of};
+
+use crate::row_words::RowWords;
 
 /// The bit at a place of some words.
-pub fn bit_at(words: &[u64], at: usize) -> bool
+pub(crate) fn bit_at(words: &[u64], at: usize) -> bool
     requires { at < 64 * length words.now }
     ensures { result ≡ slice_index_or (all_bits words.now) at false }
 {
@@ -12,14 +15,14 @@ pub fn bit_at(words: &[u64], at: usize) -> bool
 }
 
 /// Whether the words of two rows of one length have equal bits.
-pub(crate) fn same_bits(one: &[u64], other: &[u64]) -> bool
-    requires { (len : ℕ) × IsPacked one.now len × IsPacked other.now len }
-    ensures { (len : ℕ) → IsPacked one.now len → IsPacked other.now len
-        → (IsTrue result ↔ (take len (all_bits one.now) ≡ take len (all_bits other.now))) }
+pub(crate) fn same_bits(one: &RowWords<'_>, other: &RowWords<'_>) -> bool
+    requires { (len : ℕ) × IsPacked (words_of one.now) len × IsPacked (words_of other.now) len }
+    ensures { (len : ℕ) → IsPacked (words_of one.now) len → IsPacked (words_of other.now) len
+        → (IsTrue result ↔ (take len (all_bits (words_of one.now)) ≡ take len (all_bits (words_of other.now)))) }
 {
     for k in 0..one.len() {
-        let word = one[k];
-        let others = other[k];
+        let word = one.word(k);
+        let others = other.word(k);
         if word != others {
             return false;
         }
@@ -43,12 +46,12 @@ fn same_word_beside(word: u64, other: u64, k: usize, at: usize) -> bool
 }
 
 /// Whether the words of two rows have equal bits beside those at one place.
-pub(crate) fn same_beside(one: &[u64], other: &[u64], at: usize) -> bool
-    requires { length one.now ≡ length other.now }
-    ensures { IsTrue result ↔ AreAlikeBeside at (64 * length one.now) (all_bits one.now) (all_bits other.now) }
+pub(crate) fn same_beside(one: &RowWords<'_>, other: &RowWords<'_>, at: usize) -> bool
+    requires { length (words_of one.now) ≡ length (words_of other.now) }
+    ensures { IsTrue result ↔ AreAlikeBeside at (64 * length (words_of one.now)) (all_bits (words_of one.now)) (all_bits (words_of other.now)) }
 {
     for k in 0..one.len() {
-        if !same_word_beside(one[k], other[k], k, at) {
+        if !same_word_beside(one.word(k), other.word(k), k, at) {
             return false;
         }
     }

@@ -2,6 +2,7 @@ pub mod CommonPlaces
 pub mod Cuts
 pub mod Edits
 pub mod Fields
+pub mod Found
 pub mod Kept
 pub mod Pieces
 pub mod Runs

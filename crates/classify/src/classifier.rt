@@ -13,7 +13,7 @@ use crate::classifier::candidates::Candidates;
 use crate::line::owned::OwnedLine;
 use crate::line::view::Line;
 use arrayvec::ArrayVec;
-use bits::{MOST_BITS, TurnedWords};
+use bits::MOST_BITS;
 use fields::{FIELDS, Field};
 use rules::Boxed;
 use std::alloc::{AllocError, Global};
@@ -23,6 +23,7 @@ use std::marker::Model;
 pub(crate) mod candidates;
 pub(crate) mod lines;
 pub(crate) mod of_rules;
+pub(crate) mod rows;
 pub(crate) mod whole;
 
 /// The classifier of a list of boxes: on each field the line of their answers, and no more. A line is cut exactly
@@ -213,30 +214,20 @@ impl Classifier {
         ensures rules { (rules : List Rule) → IsClassifierOfRules rules self.now.shown
             → result ≡ map (allows_each point.now) rules }
     {
-        let margin = self.lines[0].margin();
         let len = self.len;
-        let blank = TurnedWords {
-            own: &[],
-            turn: &[],
-            summary: 0,
-        };
-        let mut all = Candidates {
-            margin,
-            len,
-            rows: [blank; FIELDS],
-            count: 0,
-            summary: u64::MAX,
-        };
         // A line that isn't among these has every bit in each row: what the others have in common it has.
-        for other in self.others.as_slice() {
-            let place = *other;
-            let line = &self.lines[place];
-            let row = line.row_at(point[place]);
-            all.rows[all.count] = row;
-            all.count += 1;
-            all.summary &= row.summary;
+        let others = self.others.as_slice();
+        let mut places = [0; FIELDS];
+        for i in 0..others.len() {
+            let field = others[i];
+            places[i] = self.lines[field].place_at(point[field]);
         }
-        all
+        Candidates {
+            lines: &self.lines,
+            others,
+            places,
+            len,
+        }
     }
 
     /// The least place, at or after `from`, of a box that allows the point; there may be none. The point is as in

@@ -13,6 +13,6 @@ pub use classifier::of_rules::{
     boxes_stand_for_their_rules, rules_have_one_classifier, rules_have_the_computed_line,
     targets_leave_the_classifier,
 };
+pub use classifier::rows::CandidateRows;
 pub use line::boxes_have_one_line;
-pub use line::owned::PIECE_BYTES;
 pub use line::view::{Line, Piece, Pieces, Row};

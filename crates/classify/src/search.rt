@@ -16,9 +16,7 @@ fn and_at(rows: &[TurnedWords<'_>], place: usize) -> u64
 {
     let mut all = u64::MAX;
     for row in rows {
-        let own = row.own;
-        let turn = row.turn;
-        all &= own[place] ^ turn[place];
+        all &= row.own.word(place) ^ row.turn.word(place);
         if all == 0 {
             return 0;
         }
@@ -34,14 +32,21 @@ fn is_clear(rows: &[TurnedWords<'_>], place: usize) -> bool
 {
     let mut all = u64x4::splat(u64::MAX);
     for row in rows {
-        let own = row.own;
-        let turn = row.turn;
-        all &= u64x4::from_slice(&own[place..]) ^ u64x4::from_slice(&turn[place..]);
+        all &= row.own.four(place) ^ row.turn.four(place);
         if all.reduce_or() == 0 {
             return true;
         }
     }
     false
+}
+
+// Where the four words begin that a word stands among: a row keeps four such words, mostly.
+#[inline(always)]
+fn group(place: usize) -> usize
+    ensures low { result ≤ place }
+    ensures high { place < result + 4 }
+{
+    place / 4 * 4
 }
 
 // Passes over words that no such place is in: those that the summary lacks, and of the others four at a time. It stops
@@ -56,8 +61,10 @@ fn skip(rows: &[TurnedWords<'_>], summary: u64, start: usize, words: usize) -> u
     ensures none { Nowhere (HaveAll rows.now) (64 * start) (64 * result) }
 {
     let mut place = next_marked(summary, start, words);
-    while place + 4 <= words && is_clear(rows, place) {
-        place = next_marked(summary, place + 4, words);
+    let mut four = group(place);
+    while four + 4 <= words && is_clear(rows, four) {
+        place = next_marked(summary, four + 4, words);
+        four = group(place);
     }
     place
 }

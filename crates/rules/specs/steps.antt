@@ -1,4 +1,5 @@
 pub mod Conditions
+pub mod Keeping
 pub mod MatchRows
 pub mod OptionNames
 pub mod OptionRows

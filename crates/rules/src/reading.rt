@@ -152,5 +152,8 @@ pub fn read_rule(alloc: Global, words: &Words, from: usize) -> Result<Rule, Rule
     ensures readable { IfOk result IsReadable }
 {
     let spec = rule_of(alloc, words.len(), words.after(from))?;
-    Ok(Rule::of(spec))
+    match Rule::of(alloc, spec) {
+        Ok(rule) => Ok(rule),
+        Err(_) => Err(RuleFault::NoMemory),
+    }
 }

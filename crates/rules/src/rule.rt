@@ -2,7 +2,7 @@
 ghost use Rattle.std.specs.Prelude.{◌≡◌, ℕ, List, Option, Some, None, true, false};
 ghost use Rattle.std.specs.List.{list_any};
 ghost use Rattle.fields.specs.declared.numbers.field.Field.{Field};
-ghost use Rattle.rules.specs.rule.Actions.{reject_in, target_with, action_with_chain_name};
+ghost use Rattle.rules.specs.rule.Actions.{reject_in, target_with};
 ghost use Rattle.rules.specs.rule.Allows.{asks};
 ghost use Rattle.rules.specs.rule.Crossing.{asks_both, cross, has_both};
 ghost use Rattle.rules.specs.steps.Views.{view_spec};
@@ -10,6 +10,7 @@ ghost use Rattle.rules.specs.steps.Views.{view_spec};
 pub(crate) mod action;
 pub(crate) mod copy;
 pub(crate) mod crossing;
+pub(crate) mod kept;
 pub(crate) mod port_sets;
 pub(crate) mod renamed;
 pub(crate) mod spec;
@@ -18,8 +19,8 @@ pub(crate) mod target;
 use crate::options::option_value::OptionValue;
 use crate::options::value::Value;
 use crate::rule::action::Action;
-use crate::rule::copy::copy_spec;
 use crate::rule::crossing::ask_both;
+use crate::rule::kept::Kept;
 use crate::rule::spec::{Match, RuleSpec, same_spec};
 use crate::rule::target::Target;
 use fields::{Field, Name, RejectType};
@@ -30,16 +31,18 @@ use std::mem::size_of;
 /// A rule: what it tests of a packet, and its target, where the packets go that it matches.
 ///
 /// Every rule was read from words, or is a copy or a renamed one of such a rule, and its text reads back as it. A
-/// rule has 136 bytes and, in memory of their own, its options with 88 bytes each and its matches with 32 bytes each
-/// beside their options. Only a comment has further memory, of at most 272 bytes.
+/// rule has 24 bytes and, in memory that its copies share unless it leads to a chain, 144 bytes, its options with 88 bytes
+/// each and its matches with 32 bytes each beside their options. Only a comment has further memory, of at most 272 bytes.
 #[derive(Drop)]
 pub struct Rule {
-    spec: RuleSpec,
+    kept: Kept,
     asks_both: bool,
-    ghost asked: { asks_both ≡ list_any has_both (view_spec spec).matches },
+    ghost asked: { asks_both ≡ list_any has_both kept.matches },
 }
 
-const _: () = prove!(size_of::<Rule>() == 136);
+const _: () = prove!(size_of::<Rule>() == 24);
+
+const _: () = prove!(size_of::<RuleSpec>() == 128);
 
 const _: () = prove!(size_of::<Match>() == 32);
 
@@ -52,9 +55,9 @@ impl Model for Rule {
 
     ghost Value = { Specified };
 
-    ghost view = { λ r. view_spec r.spec };
+    ghost view = { λ r. r.kept };
 
-    ghost invariant = { λ r. ReadsItself (view_spec r.spec) };
+    ghost invariant = { λ r. ReadsItself r.kept };
 }
 
 // Rules are equal where they have one text (`Rule::equals` says more).
@@ -108,17 +111,6 @@ fn target_with(action: &Action, target_options: &[OptionValue]) -> Target
     }
 }
 
-// Changes the name of the action's chain.
-fn rename(action: &mut Option<Action>, name: &Name)
-    ensures { action.new ≡ action_with_chain_name name.now action.old }
-{
-    match action {
-        Some(Action::Jump(_)) => *action = Some(Action::Jump(name.copy())),
-        Some(Action::Goto(_)) => *action = Some(Action::Goto(name.copy())),
-        _ => {}
-    }
-}
-
 // Whether the option asks for an incoming interface.
 fn is_in(option_value: &OptionValue) -> bool
     ensures { result ≡ asks Field.InIface option_value.now }
@@ -158,12 +150,13 @@ impl Rule {
     ghost use Rattle.rules.specs.steps.Views.{view_spec};
 
     // The rule of what was read.
-    pub(crate) fn of(spec: RuleSpec) -> Rule
+    pub(crate) fn of(alloc: Global, spec: RuleSpec) -> Result<Rule, AllocError>
         requires { ReadsItself (view_spec spec) }
-        ensures { result ≡ view_spec spec }
+        ensures { IfOk result (λ rule. rule ≡ view_spec spec) }
     {
         let asks_both = ask_both(spec.matches.as_slice());
-        Rule { spec, asks_both }
+        let kept = Kept::of(alloc, spec)?;
+        Ok(Rule { kept, asks_both })
     }
 
     /// Whether a condition of the rule tests several fields at once, as `--ports` does. Where none does, `cross`
@@ -182,7 +175,7 @@ impl Rule {
         ensures ordered { IsInOrder self.now }
         ensures readable { IsReadable self.now }
     {
-        &self.spec
+        self.kept.spec()
     }
 
     /// The law that every rule is readable, and that its text reads back as it. The call does nothing.
@@ -194,7 +187,7 @@ impl Rule {
         let _spec = self.spec();
     }
 
-    /// An equal rule. It takes as much memory as the rule has.
+    /// An equal rule. It takes no memory, unless the rule leads to a chain: then it takes as much as the rule has.
     ///
     /// # Errors
     ///
@@ -202,9 +195,8 @@ impl Rule {
     pub fn copy(&self, alloc: Global) -> Result<Rule, AllocError>
         ensures { IfOk result (λ copy. copy ≡ self.now) }
     {
-        let spec = copy_spec(alloc, &self.spec)?;
         Ok(Rule {
-            spec,
+            kept: self.kept.copy(alloc)?,
             asks_both: self.asks_both,
         })
     }
@@ -222,9 +214,10 @@ impl Rule {
     pub fn target(&self) -> Option<Target>
         ensures { result ≡ target_of self.now }
     {
-        match &self.spec.action {
+        let spec = self.spec();
+        match &spec.action {
             None => None,
-            Some(action) => Some(target_with(action, self.spec.target_options.as_slice())),
+            Some(action) => Some(target_with(action, spec.target_options.as_slice())),
         }
     }
 
@@ -235,7 +228,7 @@ impl Rule {
         ensures { self.new ≡ with_chain_name name.now self.old }
     {
         let _name = name.bytes();
-        rename(&mut self.spec.action, name);
+        self.kept.rename(name);
     }
 
     /// Whether the rule has a condition on the incoming interface (`-i`; no condition is `-i +`). Without one it allows
@@ -245,7 +238,7 @@ impl Rule {
         ensures value { result ≡ asks_on Field.InIface self.now }
         ensures free { result ≡ false → (n : ℕ) → allows self.now Field.InIface n ≡ true }
     {
-        asks_in(self.spec.option_values.as_slice())
+        asks_in(self.spec().option_values.as_slice())
     }
 
     /// Whether the rule has a condition on the outgoing interface (`-o`; no condition is `-o +`). Without one it allows
@@ -255,6 +248,6 @@ impl Rule {
         ensures value { result ≡ asks_on Field.OutIface self.now }
         ensures free { result ≡ false → (n : ℕ) → allows self.now Field.OutIface n ≡ true }
     {
-        asks_out(self.spec.option_values.as_slice())
+        asks_out(self.spec().option_values.as_slice())
     }
 }

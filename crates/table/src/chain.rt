@@ -282,8 +282,29 @@ impl Chain {
         ensures within { IfSome result (λ place. place < length self.now.entries) }
         ensures small { IfSome result (λ place. place + 1 < 2 ^ 64) }
     {
+        match candidates.next(from) {
+            Some(place) => {
+                if !cross(&self.entries[place].rule, packet) {
+                    return self.next_among(candidates, packet, place + 1);
+                }
+                Some(place)
+            }
+            None => None,
+        }
+    }
+
+    // The same where more than one candidate is asked: their rows are lent once for all. It isn't inlined, so that who finds a
+    // rule at once doesn't pay for their place.
+    #[inline(never)]
+    fn next_among(&self, candidates: &Candidates<'_>, packet: &Packet, from: usize) -> Option<usize>
+        requires { candidates.now ≡ map (allows_each packet.now.values) (rules_in self.now) }
+        ensures next { result ≡ next_match (matches packet.now.values) (rules_in self.now) from }
+        ensures within { IfSome result (λ place. place < length self.now.entries) }
+        ensures small { IfSome result (λ place. place + 1 < 2 ^ 64) }
+    {
+        let rows = candidates.rows();
         let mut start = from;
-        while let Some(place) = candidates.next(start) {
+        while let Some(place) = rows.next(start) {
             if cross(&self.entries[place].rule, packet) {
                 return Some(place);
             }

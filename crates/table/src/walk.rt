@@ -1,7 +1,7 @@
 //! The walk of a packet, by the keys of chains, with a return stack of fixed size: a short one first, and the deep
 //! one where that is full.
 ghost use Rattle.std.specs.Prelude.{◌≡◌, ◌<◌, ◌≤◌, ℕ, List, length, IfSome, IfNone, Option, Some, None};
-ghost use Rattle.table.specs.steps.Found.{IsFound};
+ghost use Rattle.table.specs.steps.Found.{AreFound};
 ghost use Rattle.table.specs.steps.Kept.{AreStored, listed};
 ghost use Rattle.table.specs.steps.StoredChains.{StoredChain};
 ghost use Rattle.table.specs.steps.Walking.{Follows, IsHit, IsState, LeadsIn, NoRoom, next_by, start, state_of};
@@ -15,7 +15,7 @@ pub(crate) mod trail;
 use crate::chain::entry::Flow;
 use crate::parts::Parts;
 use crate::verdict::Verdict;
-use crate::walk::found::Found;
+use crate::walk::found::FoundChains;
 use arrayvec::ArrayVec;
 use fields::Packet;
 
@@ -57,24 +57,25 @@ const SHORT: usize = 16;
 
 impl Parts {
     // Goes to the first rule that matches.
-    pub(crate) fn advance<const DEPTH: usize>(
-        &self,
+    pub(crate) fn advance<'a, const DEPTH: usize>(
+        &'a self,
         packet: &Packet,
         at: &mut Pending,
         stack: &mut ArrayVec<Pending, DEPTH>,
-        found: &Found<'_>,
+        found: &mut FoundChains<'a>,
     ) -> Option<Flow>
         requires kept { AreStored self.now }
         requires state { IsState self.now.order.items at.old stack.old.items }
-        requires found { IsFound self.now.chains.slots packet.now.values found.now }
+        requires found { AreFound self.now.chains.slots packet.now.values found.old }
         ensures none { IfNone result (first_hit (listed self.now.chains.slots self.now.order.items) packet.now.values
             (state_of self.now.chains.slots at.old stack.old.items) ≡ None) }
         ensures some { IfSome result (λ flow. IsHit self.now.chains.slots self.now.order.items
             (first_hit (listed self.now.chains.slots self.now.order.items) packet.now.values
             (state_of self.now.chains.slots at.old stack.old.items)) flow at.new stack.new.items) }
+        ensures found { AreFound self.now.chains.slots packet.now.values found.new }
     {
         'rests: loop {
-            match self.next_rule(packet, *at, found) {
+            match self.next_rule(packet, *at, stack.len(), found) {
                 Some(place) => {
                     at.passed = place + 1;
                     return Some(self.chains[at.chain].entry(place).flow);
@@ -148,10 +149,14 @@ impl Parts {
     {
         let mut at = Pending::start(self.order[hook]);
         let mut stack: ArrayVec<Pending, DEPTH> = ArrayVec::new();
-        let found = self.find(packet, at.chain);
+        let mut found = FoundChains {
+            first: self.find(packet, at.chain),
+            odd: None,
+            even: None,
+        };
         let mut left = LIMIT;
         'walk: loop {
-            let Some(flow) = self.advance(packet, &mut at, &mut stack, &found) else {
+            let Some(flow) = self.advance(packet, &mut at, &mut stack, &mut found) else {
                 return Some(policy);
             };
             if left == 0 {

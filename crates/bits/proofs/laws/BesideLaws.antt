@@ -50,7 +50,7 @@ cleared_alike at k v w v' w' a b here e f h =
 
 -- a bit of a row by that of its word
 bit_in_word : (ws : List ℕ) (k r : ℕ) → k < length ws → r < 64 → get_or (all_bits ws) (64 * k + r) false ≡ get_or (word_bits 64 (get_or ws k 0)) r false
-bit_in_word ws k r lt lt64 = all_bit_at ws k r lt lt64 ∙ sym (word_bit_at 64 (get_or ws k 0) r lt64)
+bit_in_word ws k r lt lt64 = all_bit_at ws k r lt64 ∙ sym (word_bit_at 64 (get_or ws k 0) r lt64)
 
 pub alike_more : (at k : ℕ) (vs ws : List ℕ) → k < length vs → k < length ws → AreAlikeBeside at (64 * k) (all_bits vs) (all_bits ws) → WordsAlike at k (get_or vs k 0) (get_or ws k 0)
     → AreAlikeBeside at (64 * (k + 1)) (all_bits vs) (all_bits ws)

@@ -17,18 +17,18 @@ word_bit_at (suc n) w (suc i) lt =
     let e : 1 + i ≡ suc i = omega arith in
     word_bit_at n (w / 2) i (omega arith) ∙ ap low_bit (shr-shr w 1 i ∙ ap (λ k. w / 2 ^ k) e)
 
-pub all_bit_at : (ws : List ℕ) (q r : ℕ) → q < length ws → r < 64 → get_or (all_bits ws) (64 * q + r) false ≡ low_bit (get_or ws q 0 / 2 ^ r)
-all_bit_at [] q r lt in' = absurd (omega arith)
-all_bit_at (w ∷ ws) zero r lt in' =
+pub all_bit_at : (ws : List ℕ) (q r : ℕ) → r < 64 → get_or (all_bits ws) (64 * q + r) false ≡ low_bit (get_or ws q 0 / 2 ^ r)
+all_bit_at [] q r in' = let e : 0 / 2 ^ r ≡ 0 = omega arith in ap low_bit (sym e)
+all_bit_at (w ∷ ws) zero r in' =
     let z : 64 * 0 + r ≡ r = omega arith in
     let long : length (word_bits 64 w) ≡ 64 = length-word_bits 64 w in
     let in'' : r < length (word_bits 64 w) = omega arith in
     ap (λ k. get_or (word_bits 64 w ++ all_bits ws) k false) z ∙ get_or_append_left (word_bits 64 w) (all_bits ws) false r in'' ∙ word_bit_at 64 w r in'
-all_bit_at (w ∷ ws) (suc q) r lt in' =
+all_bit_at (w ∷ ws) (suc q) r in' =
     let long : length (word_bits 64 w) ≡ 64 = length-word_bits 64 w in
     let past : 64 ≤ 64 * suc q + r = omega arith in
     let e : 64 * suc q + r - 64 ≡ 64 * q + r = omega arith in
-    get_or-append_right (word_bits 64 w) (all_bits ws) 64 (64 * suc q + r) false long past ∙ ap (λ k. get_or (all_bits ws) k false) e ∙ all_bit_at ws q r (omega arith) in'
+    get_or-append_right (word_bits 64 w) (all_bits ws) 64 (64 * suc q + r) false long past ∙ ap (λ k. get_or (all_bits ws) k false) e ∙ all_bit_at ws q r in'
 
 -- ---- a bit written
 

@@ -1,9 +1,8 @@
 -- Laws of words that hold so many bits, with no bit set past them.
 use Rattle.std.proofs.Common.{All, ◌≡◌, ℕ, zero, suc, ◌+◌, ◌-◌, ◌*◌, ◌/◌, ◌%◌, ◌^◌, ◌<◌, ◌≤◌, Bool, false, List, [], ◌∷◌, ◌++◌, length, take, drop, get_or, refl, sym, ◌∙◌, ap, arith, append_assoc, drop-drop, length-drop}
 use Rattle.std.proofs.Math.ListN.{set}
-use Rattle.std.proofs.Math.Seq.{take-set-lt}
 use Rattle.std.specs.List.{insert, remove}
-use Rattle.std.proofs.lemmas.List.{take-append-drop, length-take-le, take_at, drop_at, drop-append-le, take-append-le, take_more, get_or-drop, get_or-take, get_or_read, drop-set-lt}
+use Rattle.std.proofs.lemmas.List.{take-append-drop, length-take-le, take_at, drop_at, drop-append-le, take-append-le, take_more, get_or-drop, get_or-take, get_or_read}
 use Rattle.std.proofs.lemmas.List.Edits.{insert-append_left, remove-append_left, length-insert, length-remove, insert_end}
 use Rattle.std.proofs.lemmas.List.Elements.{All-append, All-take, All-same, All-cons, All-nil, All-drop, All-get_or}
 use Rattle.bits.specs.steps.Packing.{word_bits, all_bits, low_bit}
@@ -106,7 +105,7 @@ pub bit_at : (ws : List ℕ) (len at w : ℕ) → len ≤ 64 * length ws → at 
 bit_at ws len at w le lt is =
     let e : 64 * (at / 64) + at % 64 ≡ at = omega arith in
     let in' : at / 64 < length ws = omega arith in
-    get_or-take len (all_bits ws) at false lt ∙ ap (λ k. get_or (all_bits ws) k false) (sym e) ∙ all_bit_at ws (at / 64) (at % 64) in' (omega arith)
+    get_or-take len (all_bits ws) at false lt ∙ ap (λ k. get_or (all_bits ws) k false) (sym e) ∙ all_bit_at ws (at / 64) (at % 64) (omega arith)
     ∙ ap (λ v. low_bit (v / 2 ^ (at % 64))) (sym (get_or_read ws (at / 64) w in' is 0))
 
 pub set_whole : (ws : List ℕ) (at w word : ℕ) (b : Bool) → at < 64 * length ws → word ≡ get_or ws (at / 64) word → word_bits 64 w ≡ set (word_bits 64 word) (at % 64) b
@@ -115,12 +114,3 @@ set_whole ws at w word b lt is e =
     let f : 64 * (at / 64) + at % 64 ≡ at = omega arith in
     let in' : at / 64 < length ws = omega arith in
     all_bits-set ws (at / 64) (at % 64) w b in' (omega arith) (e ∙ ap (λ v. set (word_bits 64 v) (at % 64) b) (get_or_read ws (at / 64) word in' is 0)) ∙ ap (λ k. set (all_bits ws) k b) f
-
-pub set_front : (ws : List ℕ) (len at w word : ℕ) (b : Bool) → len ≤ 64 * length ws → at < len → word ≡ get_or ws (at / 64) word → word_bits 64 w ≡ set (word_bits 64 word) (at % 64) b
-    → take len (all_bits (set ws (at / 64) w)) ≡ set (take len (all_bits ws)) at b
-set_front ws len at w word b le lt is e = ap (λ (bs : List Bool). take len bs) (set_whole ws at w word b (omega arith) is e) ∙ take-set-lt len (all_bits ws) at b lt
-
-pub set_padded : (ws : List ℕ) (len at w word : ℕ) (b : Bool) → len ≤ 64 * length ws → IsPadded ws len → at < len → word ≡ get_or ws (at / 64) word → word_bits 64 w ≡ set (word_bits 64 word) (at % 64) b
-    → IsPadded (set ws (at / 64) w) len
-set_padded ws len at w word b le h lt is e =
-    All-same Off (drop len (all_bits (set ws (at / 64) w))) (drop len (all_bits ws)) (ap (λ (bs : List Bool). drop len bs) (set_whole ws at w word b (omega arith) is e) ∙ drop-set-lt len (all_bits ws) at b lt) h

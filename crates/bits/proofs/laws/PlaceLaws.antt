@@ -149,23 +149,12 @@ cleared_shown w (s ∷ []) ws two = absurd (omega arith)
 cleared_shown w (s ∷ t ∷ []) ws two = refl
 cleared_shown w (s ∷ t ∷ u ∷ ss) ws two = absurd (omega arith)
 
-pub two_rows_within : (len w : ℕ) (slots ws : List ℕ) → AreHeld len w slots ws → 1 < length slots → 2 * w ≤ length ws
-two_rows_within len w slots ws h some =
-    let o : 1 * w + w ≤ length slots * w = slots_in_order w 1 (length slots) some in
-    omega (arith, h.wide)
-
 pub cleared_room : (len w : ℕ) (slots ws : List ℕ) (shown : RowsAndRoom) → AreHeld len w slots ws → record { rows = map (bits_in len w ws) slots; room = 64 * w - len } ≡ shown → 0 < length shown.rows
     → 64 * w - 0 ≡ shown.room + length (get_or shown.rows 0 [])
 cleared_room len w slots ws shown h is some =
     let room : 64 * w - len ≡ shown.room = ap (λ (r : RowsAndRoom). r.room) is in
     omega (arith, room, first_there len w slots ws shown h is some, h.covers)
 
--- twice as many, or one where there is none, is more
-pub wider : (width twice : ℕ) → (width ≡ 0 → twice ≡ 1) → (0 < width → twice ≡ 2 * width) → width < twice
-wider zero twice none some = omega (arith, none refl)
-wider (suc width) twice none some = omega (arith, some (omega arith))
-
--- and so at least as many bits go in as there are
-pub doubled_room : (len width twice : ℕ) → (width ≡ 0 → twice ≡ 1) → (0 < width → twice ≡ 2 * width) → len ≤ 64 * width → len ≤ 64 * twice - len
-doubled_room len zero twice none some full = omega (arith, full)
-doubled_room len (suc width) twice none some full = omega (arith, full, some (omega arith))
+-- in twice as many words at least as many bits go in as there are
+pub doubled_room : (len width twice : ℕ) → twice ≡ 2 * width → len ≤ 64 * width → len ≤ 64 * twice - len
+doubled_room len width twice is full = omega (arith, full, is)

@@ -1,18 +1,18 @@
 -- Rows of equally many bits in one list of words: what a change of one row leaves of the others.
-use Rattle.std.proofs.Common.{append_assoc, ◌≡◌, ◌≢◌, inl, inr, ℕ, suc, ◌+◌, ◌-◌, ◌*◌, ◌/◌, ◌%◌, ◌^◌, ◌<◌, ◌≤◌, Bool, false, List, [], ◌++◌, length, take, drop, get_or, refl, sym, ◌∙◌, ap, arith, subst, map}
+use Rattle.std.proofs.Common.{append_assoc, ◌≡◌, ◌≢◌, inl, inr, ℕ, suc, ◌+◌, ◌-◌, ◌*◌, ◌^◌, ◌<◌, ◌≤◌, Bool, false, List, [], ◌++◌, length, take, drop, get_or, refl, sym, ◌∙◌, ap, arith, subst, map}
 use Rattle.std.proofs.Math.ListN.{set}
 use Rattle.std.proofs.Math.Seq.{take-set-lt}
 use Rattle.std.proofs.lemmas.Nat.{mul-le}
 use Rattle.std.proofs.lemmas.Bool.{cases_lt, cases_eq}
-use Rattle.std.proofs.lemmas.List.{get_or_default, length-take-le, length-drop, length-set, length-append, get_or-take, get_or-drop, get_or-set_other, same_lists, drop-set-add, get_or_append_left, get_or-append_right, take_at, drop_at, get_or-map, length-map, take-append-le, drop-append-le, take-take, drop-drop}
+use Rattle.std.proofs.lemmas.List.{get_or_default, length-take-le, length-drop, length-set, length-append, get_or-take, get_or-drop, get_or-set_other, same_lists, drop-set-add, get_or_append_left, get_or-append_right, take_at, drop_at, get_or-map, length-map, take-append-le, drop-append-le, drop-drop}
 use Rattle.std.specs.Int.{div_ceil}
 use Rattle.std.proofs.lemmas.List.Elements.{All-same, All-take}
-use Rattle.bits.specs.steps.Packing.{all_bits, word_bits, IsPacked}
+use Rattle.bits.specs.steps.Packing.{all_bits, IsPacked}
 use Rattle.bits.proofs.laws.WordLaws.{length-all_bits, all_bits-cut}
 use Rattle.bits.specs.steps.Held.{words_in, bits_in, IsPadded, AreHeld}
 use Rattle.bits.specs.Rows.{RowsAndRoom}
-use Rattle.bits.proofs.laws.PaddedLaws.{set_padded, set_front, front_size}
-use Rattle.bits.proofs.laws.SlotLaws.{below_at, one_written}
+use Rattle.bits.proofs.laws.PaddedLaws.{front_size}
+use Rattle.bits.proofs.laws.SlotLaws.{below_at}
 
 -- a slot's words end where the next slot's begin
 pub slots_in_order : (w s t : ℕ) → s < t → s * w + w ≤ t * w
@@ -64,75 +64,8 @@ slot_read slots k s lt is = is ∙ get_or_default slots k 0 s lt
 pub slot_below : (len w : ℕ) (slots ws : List ℕ) (k s : ℕ) → AreHeld len w slots ws → k < length slots → s ≡ get_or slots k s → s < length slots
 slot_below len w slots ws k s h lt is = let P : ℕ → Type 0 = λ x. x < length slots in subst P (sym is) (below_at (length slots) slots k s h.below lt)
 
--- where the word of a bit is
-pub word_place : (len w at : ℕ) → len ≤ 64 * w → at < len → at / 64 < w
-word_place len w at le lt = omega arith
-
-pub place_within : (len w : ℕ) (slots ws : List ℕ) (k s at : ℕ) → AreHeld len w slots ws → k < length slots → s ≡ get_or slots k s → at < len → s * w + at / 64 < length ws
-place_within len w slots ws k s at h lt is in' =
-    let below : s < length slots = slot_below len w slots ws k s h lt is in
-    omega (arith, slots_in_order w s (length slots) below, word_place len w at h.covers in', h.wide)
-
 pub shown_at : (len w : ℕ) (slots ws : List ℕ) (k s : ℕ) (e : List Bool) → k < length slots → s ≡ get_or slots k s → get_or (map (bits_in len w ws) slots) k e ≡ bits_in len w ws s
 shown_at len w slots ws k s e lt is = get_or-map (bits_in len w ws) slots k s e lt ∙ ap (bits_in len w ws) (sym is)
-
--- ---- one bit written
-
--- the bit of a slot's row that was written, and the word that it is in
-pub record IsWritten (len w : ℕ) (slots ws : List ℕ) (k s at word v : ℕ) (b : Bool) : Type 0 where
-  pub held : AreHeld len w slots ws
-  pub row : k < length slots
-  pub slot : s ≡ get_or slots k s
-  pub place : at < len
-  pub read : word ≡ get_or ws (s * w + at / 64) word
-  pub bits : word_bits 64 v ≡ set (word_bits 64 word) (at % 64) b
-
-written_below : (len w : ℕ) (slots ws : List ℕ) (k s at word v : ℕ) (b : Bool) → IsWritten len w slots ws k s at word v b → s < length slots
-written_below len w slots ws k s at word v b h =
-    slot_below len w slots ws k s h.held h.row h.slot
-
-written_word : (len w : ℕ) (slots ws : List ℕ) (k s at word v : ℕ) (b : Bool) → IsWritten len w slots ws k s at word v b → word ≡ get_or (words_in w ws s) (at / 64) word
-written_word len w slots ws k s at word v b h = h.read ∙ sym (word_in w s (at / 64) word ws (word_place len w at h.held.covers h.place))
-
-written_here : (len w : ℕ) (slots ws : List ℕ) (k s at word v : ℕ) (b : Bool) → IsWritten len w slots ws k s at word v b → words_in w (set ws (s * w + at / 64) v) s ≡ set (words_in w ws s) (at / 64) v
-written_here len w slots ws k s at word v b h = word_set_here w s (at / 64) v ws (word_place len w at h.held.covers h.place)
-
-written_other : (len w : ℕ) (slots ws : List ℕ) (k s at word v : ℕ) (b : Bool) → IsWritten len w slots ws k s at word v b → (t : ℕ) → t < length slots → t ≢ s
-    → words_in w (set ws (s * w + at / 64) v) t ≡ words_in w ws t
-written_other len w slots ws k s at word v b h t lt ne =
-    word_set_other w (length slots) s t (at / 64) v ws h.held.wide (written_below len w slots ws k s at word v b h) lt ne (word_place len w at h.held.covers h.place)
-
-pub written_held : (len w : ℕ) (slots ws : List ℕ) (k s at word v : ℕ) (b : Bool) → IsWritten len w slots ws k s at word v b → AreHeld len w slots (set ws (s * w + at / 64) v)
-written_held len w slots ws k s at word v b h =
-    let P : List ℕ → Type 0 = λ row. IsPadded row len in
-    let lt : s < length slots = written_below len w slots ws k s at word v b h in
-    record {
-      covers = h.held.covers;
-      few = h.held.few;
-      counted = h.held.counted;
-      wide = length-set ws (s * w + at / 64) v ∙ h.held.wide;
-      below = h.held.below;
-      apart = h.held.apart;
-      padded = λ t lt'. elim (cases_eq t s) [
-        | inl e ↦ (let Q : ℕ → Type 0 = λ x. IsPadded (words_in w (set ws (s * w + at / 64) v) x) len in
-            subst Q (sym e) (subst P (sym (written_here len w slots ws k s at word v b h))
-            (set_padded (words_in w ws s) len at v word b (covers_row len w slots ws s h.held lt) (h.held.padded s lt) h.place (written_word len w slots ws k s at word v b h) h.bits)))
-        | inr ne ↦ subst P (sym (written_other len w slots ws k s at word v b h t lt' ne)) (h.held.padded t lt')
-      ];
-    }
-
-pub written_shown : (len w : ℕ) (slots ws : List ℕ) (k s at word v : ℕ) (b : Bool) → IsWritten len w slots ws k s at word v b
-    → map (bits_in len w (set ws (s * w + at / 64) v)) slots ≡ set (map (bits_in len w ws) slots) k (set (get_or (map (bits_in len w ws) slots) k []) at b)
-written_shown len w slots ws k s at word v b h =
-    let lt : s < length slots = written_below len w slots ws k s at word v b h in
-    let f : ℕ → List Bool = bits_in len w ws in
-    let g : ℕ → List Bool = bits_in len w (set ws (s * w + at / 64) v) in
-    let here : g s ≡ set (f s) at b =
-    ap (λ (row : List ℕ). take len (all_bits row)) (written_here len w slots ws k s at word v b h)
-    ∙ set_front (words_in w ws s) len at v word b (covers_row len w slots ws s h.held lt) h.place (written_word len w slots ws k s at word v b h) h.bits in
-    one_written f g (length slots) slots k s (set (get_or (map f slots) k []) at b) h.held.below h.held.apart h.row
-    (λ t lt' ne. ap (λ (row : List ℕ). take len (all_bits row)) (written_other len w slots ws k s at word v b h t lt' (λ e. ne (e ∙ h.slot))))
-    (ap g (sym h.slot) ∙ here ∙ ap (λ (row : List Bool). set row at b) (sym (shown_at len w slots ws k s [] h.row h.slot)))
 
 -- ---- what a call asks of a row, asked of the slots
 
@@ -152,19 +85,13 @@ bit_there len w slots ws shown k at s h is lt slot in' =
 
 -- ---- a row read
 
--- the words of a row that its bits need
-pub need_within : (len w : ℕ) (slots ws : List ℕ) (k s used : ℕ) → AreHeld len w slots ws → k < length slots → s ≡ get_or slots k s → used ≡ div_ceil len 64 → s * w + used ≤ length ws
-need_within len w slots ws k s used h lt slot is =
-    let below : s < length slots = slot_below len w slots ws k s h lt slot in
-    omega (arith, slots_in_order w s (length slots) below, h.covers, h.wide)
-
 front_words : (row : List ℕ) (used len : ℕ) → len ≤ 64 * used → used ≤ length row → take len (all_bits (take used row)) ≡ take len (all_bits row)
 front_words row used len le lt =
     let n : length (all_bits (take used row)) ≡ 64 * used = length-all_bits (take used row) ∙ ap (λ k. 64 * k) (length-take-le used row lt) in
     let le' : len ≤ length (all_bits (take used row)) = omega arith in
     sym (ap (λ (bs : List Bool). take len bs) (all_bits-cut row used) ∙ take-append-le len (all_bits (take used row)) (all_bits (drop used row)) le')
 
-pub front_packed : (row : List ℕ) (used len : ℕ) → len ≤ 64 * used → 64 * used < len + 64 → used < 2 ^ 58 → used ≤ length row → IsPadded row len → IsPacked (take used row) len
+front_packed : (row : List ℕ) (used len : ℕ) → len ≤ 64 * used → 64 * used < len + 64 → used < 2 ^ 58 → used ≤ length row → IsPadded row len → IsPacked (take used row) len
 front_packed row used len le tight few lt h =
     let n : length (take used row) ≡ used = length-take-le used row lt in
     let m : length (all_bits (take used row)) ≡ 64 * used = length-all_bits (take used row) ∙ ap (λ k. 64 * k) n in
@@ -181,24 +108,20 @@ front_packed row used len le tight few lt h =
           (sym (ap (λ (bs : List Bool). take k bs) cut ∙ take_at (drop len (all_bits (take used row))) (all_bits (drop used row)) k refl)) (All-take Off k (drop len (all_bits row)) h);
     }
 
-part_is : (w s used : ℕ) (ws : List ℕ) → used ≤ w → take used (drop (s * w) ws) ≡ take used (words_in w ws s)
-part_is w s used ws le = sym (take-take used w (drop (s * w) ws) le)
-
-pub lent_packed : (len w : ℕ) (slots ws : List ℕ) (k s used : ℕ) → AreHeld len w slots ws → k < length slots → s ≡ get_or slots k s → used ≡ div_ceil len 64 → IsPacked (take used (drop (s * w) ws)) len
+pub lent_packed : (len w : ℕ) (slots ws : List ℕ) (k s used : ℕ) → AreHeld len w slots ws → k < length slots → s ≡ get_or slots k s → used ≡ div_ceil len 64 → IsPacked (take used (words_in w ws s)) len
 lent_packed len w slots ws k s used h lt slot is =
     let below : s < length slots = slot_below len w slots ws k s h lt slot in
     let n : length (words_in w ws s) ≡ w = length-words_in w (length slots) s ws h.wide below in
     let le : used ≤ w = omega (arith, h.covers) in
-    let P : List ℕ → Type 0 = λ row. IsPacked row len in
-    subst P (sym (part_is w s used ws le)) (front_packed (words_in w ws s) used len (omega arith) (omega arith) (omega (arith, h.few)) (omega arith) (h.padded s below))
+    front_packed (words_in w ws s) used len (omega arith) (omega arith) (omega (arith, h.few)) (omega arith) (h.padded s below)
 
 pub lent_bits : (len w : ℕ) (slots ws : List ℕ) (k s used : ℕ) → AreHeld len w slots ws → k < length slots → s ≡ get_or slots k s → used ≡ div_ceil len 64
-    → take len (all_bits (take used (drop (s * w) ws))) ≡ get_or (map (bits_in len w ws) slots) k []
+    → take len (all_bits (take used (words_in w ws s))) ≡ get_or (map (bits_in len w ws) slots) k []
 lent_bits len w slots ws k s used h lt slot is =
     let below : s < length slots = slot_below len w slots ws k s h lt slot in
     let n : length (words_in w ws s) ≡ w = length-words_in w (length slots) s ws h.wide below in
     let le : used ≤ w = omega (arith, h.covers) in
-    ap (λ (row : List ℕ). take len (all_bits row)) (part_is w s used ws le) ∙ front_words (words_in w ws s) used len (omega arith) (omega arith) ∙ sym (shown_at len w slots ws k s [] lt slot)
+    front_words (words_in w ws s) used len (omega arith) (omega arith) ∙ sym (shown_at len w slots ws k s [] lt slot)
 
 -- a row has so many bits
 pub row_size : (len w : ℕ) (slots ws : List ℕ) (shown : RowsAndRoom) (k s : ℕ) → AreHeld len w slots ws → record { rows = map (bits_in len w ws) slots; room = 64 * w - len } ≡ shown → k < length slots
@@ -281,17 +204,6 @@ changed_by R w n old now new row i h lt same r here others =
       ];
       rest = λ t ge lt'. (let ne : t ≢ i = λ e. absurd (omega (arith, e, ge)) in others t lt' ne ∙ h.rest t (omega (arith, ge)) lt');
     }
-
-pub changed_more : (R : List ℕ → List ℕ → Type 0) (w n : ℕ) (old now new row : List ℕ) (i : ℕ) → Changed R w n old now i → length old ≡ n * w → i < n → length row ≡ w → R (words_in w now i) row
-    → IsRowWritten w i row now new → Changed R w n old new (i + 1)
-changed_more R w n old now new row i h size lt long r is =
-    let size' : length now ≡ n * w = h.as_long ∙ size in
-    changed_by R w n old now new row i h lt (row_written_size w n i row now new size' lt long is) r (row_written_here w n i row now new size' lt long is)
-    (λ t lt' ne. row_written_other w n i t row now new size' lt lt' long ne is)
-
--- a row's words are within all words
-pub row_within : (len w : ℕ) (slots ws : List ℕ) (k s : ℕ) → AreHeld len w slots ws → k < length slots → s ≡ get_or slots k s → s * w + w ≤ length ws
-row_within len w slots ws k s h lt slot = omega (arith, slots_in_order w s (length slots) (slot_below len w slots ws k s h lt slot), h.wide)
 
 -- the words between a slot's first and the next slot's
 pub whole_row : (w s : ℕ) (ws : List ℕ) → take (s * w + w - s * w) (drop (s * w) ws) ≡ words_in w ws s

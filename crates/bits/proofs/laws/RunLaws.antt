@@ -3,8 +3,8 @@ use Rattle.std.proofs.Common.{◌≡◌, inl, inr, ℕ, zero, suc, ◌+◌, ◌<
 use Rattle.std.proofs.Math.Bool.{xor}
 use Rattle.std.specs.List.{AllByRecursion}
 use Rattle.std.proofs.Math.ListN.{set}
-use Rattle.std.proofs.lemmas.List.{length-set, get_or_default}
-use Rattle.std.proofs.lemmas.Bool.{cases_lt}
+use Rattle.std.proofs.lemmas.List.{length-set, get_or_default, get_or-set_same, get_or-set_other, same_lists}
+use Rattle.std.proofs.lemmas.Bool.{cases_lt, cases_eq}
 use Rattle.bits.specs.Rows.{IsRunWritten}
 use Rattle.bits.specs.TurnedRows.{turned, turned_rows, AreAsLong}
 use Rattle.bits.proofs.laws.TurnLaws.{set-turned}
@@ -29,6 +29,19 @@ run_joined at bit from k to old now new one other begun ended = record {
   before = λ j less. other.before j (omega (arith, less, begun)) ∙ one.before j less;
   after = λ j past. other.after j past ∙ one.after j (omega (arith, past, ended));
 }
+
+-- a run of one row
+pub one_written : (at : ℕ) (bit : Bool) (k : ℕ) (old new : List Row) → k < length old → IsRunWritten at bit k (k + 1) old new → new ≡ set old k (set (get_or old k []) at bit)
+one_written at bit k old new lt h =
+    let row : Row = set (get_or old k []) at bit in
+    same_lists new (set old k row) (h.as_long ∙ sym (length-set old k row)) (λ i d in'.
+    get_or_default new i d [] in'
+    ∙ elim (cases_eq i k) [
+      | inl e ↦ (ap (λ j. get_or new j []) e ∙ h.written k (omega arith) (omega arith) ∙ sym (get_or-set_same old k row d lt) ∙ sym (ap (λ j. get_or (set old k row) j d) e))
+      | inr ne ↦ (
+          let beside : get_or new i [] ≡ get_or old i [] = elim (cases_lt i k) [ inl less ↦ h.before i less | inr ge ↦ h.after i (omega (arith, ge, ne)) ] in
+          beside ∙ sym (get_or_default old i d [] (omega (arith, in', h.as_long))) ∙ sym (get_or-set_other old k i row d ne))
+    ])
 
 -- each row is as long as before
 long_run : (at : ℕ) (bit : Bool) (from to : ℕ) (old new : List Row) → IsRunWritten at bit from to old new → (j : ℕ) → length (get_or new j []) ≡ length (get_or old j [])

@@ -106,7 +106,7 @@ hides_none summary ws h k none = blank_of (get_or ws k 0) (λ i lt. elim (cases_
         let e : (64 * k + i) / 64 ≡ k = omega arith in
         let P : ℕ → Type 0 = λ j. IsMarked summary j in
         absurd (none (subst P e (h (64 * k + i) on))))
-    | inr off ↦ sym (all_bit_at ws k i in' lt) ∙ off
+    | inr off ↦ sym (all_bit_at ws k i lt) ∙ off
   ]
   | inr past ↦ ap (λ w. low_bit (w / 2 ^ i)) (get_or_past ws k 0 past) ∙ (let e : 0 / 2 ^ i ≡ 0 = omega arith in ap low_bit e)
 ])
@@ -120,7 +120,7 @@ sums_all summary ws upto h le p on =
             let size : length (all_bits ws) ≡ 64 * length ws = length-all_bits ws in
             let e : 64 * (p / 64) + p % 64 ≡ p = omega arith in
             let in' : p / 64 < length ws = omega arith in
-            absurd (true≢false (sym on ∙ sym (ap (λ k. get_or (all_bits ws) k false) e) ∙ all_bit_at ws (p / 64) (p % 64) in' (omega arith) ∙ blank_read (get_or ws (p / 64) 0) (p % 64) (h (p / 64) (omega arith) none) (omega arith))))
+            absurd (true≢false (sym on ∙ sym (ap (λ k. get_or (all_bits ws) k false) e) ∙ all_bit_at ws (p / 64) (p % 64) (omega arith) ∙ blank_read (get_or ws (p / 64) 0) (p % 64) (h (p / 64) (omega arith) none) (omega arith))))
         | inr ge ↦ absurd (true≢false (sym on ∙ get_or_past (all_bits ws) p false ge))
       ]
     ]

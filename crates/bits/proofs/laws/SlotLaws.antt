@@ -1,6 +1,5 @@
 -- Slots of rows: what a change of one leaves of the others.
 use Rattle.std.proofs.Common.{◌≡◌, ◌≢◌, inl, inr, ℕ, zero, suc, ◌+◌, ◌<◌, ◌≤◌, Bool, List, [], ◌∷◌, length, get_or, refl, sym, ◌∙◌, ap, arith, subst, map}
-use Rattle.std.proofs.Math.ListN.{set}
 use Rattle.std.specs.List.{insert, remove}
 use Rattle.std.specs.Prelude.{cond}
 use Rattle.std.proofs.lemmas.Bool.{cases_eq, eq-eqb, ne_eqb}
@@ -127,21 +126,6 @@ all_mapped {X} h f g n (s ∷ ss) below e =
 pub same_mapped : {X : Type 0} (f g : ℕ → X) (n : ℕ) (ss : List ℕ) → AreBelow n ss → ((s : ℕ) → s < n → g s ≡ f s) → map g ss ≡ map f ss
 same_mapped f g n [] below e = refl
 same_mapped {X} f g n (s ∷ ss) below e = ap (λ (x : X). x ∷ map g ss) (e s below.0) ∙ ap (λ (xs : List X). f s ∷ xs) (same_mapped f g n ss below.1 e)
-
-others_mapped : {X : Type 0} (f g : ℕ → X) (n x : ℕ) (ss : List ℕ) → AreBelow n ss → IsNoneOf x ss → ((s : ℕ) → s < n → s ≢ x → g s ≡ f s) → map g ss ≡ map f ss
-others_mapped f g n x [] below none e = refl
-others_mapped {X} f g n x (s ∷ ss) below none e =
-    ap (λ (y : X). y ∷ map g ss) (e s below.0 none.0) ∙ ap (λ (ys : List X). f s ∷ ys) (others_mapped f g n x ss below.1 none.1 e)
-
--- one slot was written
-pub one_written : {X : Type 0} (f g : ℕ → X) (n : ℕ) (ss : List ℕ) (k d : ℕ) (v : X) → AreBelow n ss → AreApart ss → k < length ss
-    → ((s : ℕ) → s < n → s ≢ get_or ss k d → g s ≡ f s) → g (get_or ss k d) ≡ v → map g ss ≡ set (map f ss) k v
-one_written f g n [] k d v below apart lt e is = absurd (omega arith)
-one_written {X} f g n (s ∷ ss) zero d v below apart lt e is =
-    ap (λ (x : X). x ∷ map g ss) is ∙ ap (λ (xs : List X). v ∷ xs) (others_mapped f g n s ss below.1 apart.0 e)
-one_written {X} f g n (s ∷ ss) (suc k) d v below apart lt e is =
-    let ne : s ≢ get_or ss k d = λ same. none_at s ss k d apart.0 (omega arith) (sym same) in
-    ap (λ (x : X). x ∷ map g ss) (e s below.0 ne) ∙ ap (λ (xs : List X). f s ∷ xs) (one_written f g n ss k d v below.1 apart.1 (omega arith) e is)
 
 pub map-insert : {Y X : Type 0} (g : Y → X) (ss : List Y) (k : ℕ) (x : Y) → map g (insert ss k x) ≡ insert (map g ss) k (g x)
 map-insert g [] zero x = refl

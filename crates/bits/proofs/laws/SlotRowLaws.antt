@@ -1,13 +1,13 @@
 -- Rows of equally many bits as they are held: a row more, and a row less.
-use Rattle.std.proofs.Common.{◌≡◌, ◌≢◌, OnOk, IsOk, Ok, Err, Result, inl, inr, ℕ, ◌+◌, ◌-◌, ◌*◌, ◌^◌, ◌<◌, ◌≤◌, Bool, List, [], ◌++◌, length, take, drop, get_or, sym, ◌∙◌, ap, arith, subst, map, length-append}
+use Rattle.std.proofs.Common.{◌≡◌, ◌≢◌, OnOk, IsOk, Ok, Err, Result, inl, inr, ℕ, ◌+◌, ◌*◌, ◌^◌, ◌<◌, ◌≤◌, Bool, List, [], ◌++◌, length, take, drop, get_or, sym, ◌∙◌, ap, arith, subst, map, length-append}
 use Rattle.std.specs.List.{insert, remove}
 use Rattle.std.proofs.lemmas.Bool.{cases_lt, cases_eq, false≢true}
-use Rattle.std.proofs.lemmas.List.{length-take-le, length-drop, length-map, take_at, drop_at, take_all, take-append-le, drop-append-le, drop-take, take-take}
+use Rattle.std.proofs.lemmas.List.{length-drop, length-map, take_at, drop_at, take_all, take-append-le, drop-append-le}
 use Rattle.std.proofs.lemmas.List.Edits.{length-insert, length-remove}
 use Rattle.bits.specs.steps.Packing.{all_bits}
 use Rattle.bits.specs.steps.Held.{words_in, bits_in, IsPadded, AreBelow, AreApart, AreHeld, IsNoneOf, redirected}
 use Rattle.bits.proofs.laws.SlotLaws.{below_more, below-insert, apart-insert, below-remove, apart-remove, gone, below-redirect, apart-redirect, one_more, one_less, redirected_same, redirected_other}
-use Rattle.bits.proofs.laws.RowsLaws.{slots_in_order, length-words_in, shown_at, slot_below, IsRowWritten, row_written_size, row_written_here, row_written_other}
+use Rattle.bits.proofs.laws.RowsLaws.{slots_in_order, length-words_in, shown_at, slot_below}
 
 -- ---- a row put after all others
 
@@ -84,53 +84,28 @@ doubled_shown len w slots ws k s slots' ws' h =
 
 -- ---- a row taken out
 
-truncated : (w n t : ℕ) (ws : List ℕ) → t < n → n * w ≤ length ws → words_in w (take (n * w) ws) t ≡ words_in w ws t
-truncated w n t ws lt le =
-    let o : t * w + w ≤ n * w = slots_in_order w t n lt in
-    let e : t * w + (n * w - t * w) ≡ n * w = omega arith in
-    let le' : w ≤ n * w - t * w = omega arith in
-    ap (λ m. take w (drop (t * w) (take m ws))) (sym e) ∙ ap (λ (us : List ℕ). take w us) (drop-take (t * w) (n * w - t * w) ws) ∙ take-take w (n * w - t * w) (drop (t * w) ws) le'
-
 -- the row in slot s, the k-th, taken out: the row in the last slot has moved to its slot
-pub record IsTakenOut (len w : ℕ) (slots ws : List ℕ) (k s last : ℕ) (us slots' ws' : List ℕ) : Type 0 where
+pub record IsTakenOut (len w : ℕ) (slots ws : List ℕ) (k s last : ℕ) (slots' ws' : List ℕ) : Type 0 where
   pub held : AreHeld len w slots ws
   pub row : k < length slots
   pub slot : s ≡ get_or slots k s
   pub count : length slots ≡ last + 1
-  pub moved : IsRowWritten w s (words_in w ws last) ws us
   pub slots_are : slots' ≡ map (redirected last s) (remove slots k)
-  pub words_are : ws' ≡ take (last * w) us
+  pub long : length ws' ≡ last * w
+  pub here : s < last → words_in w ws' s ≡ words_in w ws last
+  pub others : (t : ℕ) → t < last → t ≢ s → words_in w ws' t ≡ words_in w ws t
 
-taken_below : (len w : ℕ) (slots ws : List ℕ) (k s last : ℕ) (us slots' ws' : List ℕ) → IsTakenOut len w slots ws k s last us slots' ws' → s < length slots
-taken_below len w slots ws k s last us slots' ws' h = slot_below len w slots ws k s h.held h.row h.slot
+taken_below : (len w : ℕ) (slots ws : List ℕ) (k s last : ℕ) (slots' ws' : List ℕ) → IsTakenOut len w slots ws k s last slots' ws' → s < length slots
+taken_below len w slots ws k s last slots' ws' h = slot_below len w slots ws k s h.held h.row h.slot
 
-last_long : (len w : ℕ) (slots ws : List ℕ) (k s last : ℕ) (us slots' ws' : List ℕ) → IsTakenOut len w slots ws k s last us slots' ws' → length (words_in w ws last) ≡ w
-last_long len w slots ws k s last us slots' ws' h = length-words_in w (length slots) last ws h.held.wide (omega (arith, h.count))
-
-moved_size : (len w : ℕ) (slots ws : List ℕ) (k s last : ℕ) (us slots' ws' : List ℕ) → IsTakenOut len w slots ws k s last us slots' ws' → last * w ≤ length us
-moved_size len w slots ws k s last us slots' ws' h =
-    let o : last * w + w ≤ length slots * w = slots_in_order w last (length slots) (omega (arith, h.count)) in
-    omega (arith, row_written_size w (length slots) s (words_in w ws last) ws us h.held.wide (taken_below len w slots ws k s last us slots' ws' h) (last_long len w slots ws k s last us slots' ws' h) h.moved, h.held.wide)
-
--- the words in the slots that are left
-pub taken_other : (len w : ℕ) (slots ws : List ℕ) (k s last : ℕ) (us slots' ws' : List ℕ) → IsTakenOut len w slots ws k s last us slots' ws' → (t : ℕ) → t < last → t ≢ s → words_in w ws' t ≡ words_in w ws t
-taken_other len w slots ws k s last us slots' ws' h t lt ne =
-    ap (λ (vs : List ℕ). words_in w vs t) h.words_are ∙ truncated w last t us lt (moved_size len w slots ws k s last us slots' ws' h)
-    ∙ row_written_other w (length slots) s t (words_in w ws last) ws us h.held.wide (taken_below len w slots ws k s last us slots' ws' h) (omega (arith, h.count)) (last_long len w slots ws k s last us slots' ws' h) ne h.moved
-
-pub taken_here : (len w : ℕ) (slots ws : List ℕ) (k s last : ℕ) (us slots' ws' : List ℕ) → IsTakenOut len w slots ws k s last us slots' ws' → s < last → words_in w ws' s ≡ words_in w ws last
-taken_here len w slots ws k s last us slots' ws' h lt =
-    ap (λ (vs : List ℕ). words_in w vs s) h.words_are ∙ truncated w last s us lt (moved_size len w slots ws k s last us slots' ws' h)
-    ∙ row_written_here w (length slots) s (words_in w ws last) ws us h.held.wide (taken_below len w slots ws k s last us slots' ws' h) (last_long len w slots ws k s last us slots' ws' h) h.moved
-
-pub taken_size : (len w : ℕ) (slots ws : List ℕ) (k s last : ℕ) (us slots' ws' : List ℕ) → IsTakenOut len w slots ws k s last us slots' ws' → length slots' ≡ last
-taken_size len w slots ws k s last us slots' ws' h =
+pub taken_size : (len w : ℕ) (slots ws : List ℕ) (k s last : ℕ) (slots' ws' : List ℕ) → IsTakenOut len w slots ws k s last slots' ws' → length slots' ≡ last
+taken_size len w slots ws k s last slots' ws' h =
     ap (λ (ss : List ℕ). length ss) h.slots_are ∙ length-map (remove slots k) (redirected last s) ∙ (let m = length-remove slots k h.row in omega (arith, m, h.count))
 
-pub taken_held : (len w : ℕ) (slots ws : List ℕ) (k s last : ℕ) (us slots' ws' : List ℕ) → IsTakenOut len w slots ws k s last us slots' ws' → AreHeld len w slots' ws'
-taken_held len w slots ws k s last us slots' ws' h =
-    let n : length slots' ≡ last = taken_size len w slots ws k s last us slots' ws' h in
-    let lt : s < last + 1 = omega (arith, taken_below len w slots ws k s last us slots' ws' h, h.count) in
+pub taken_held : (len w : ℕ) (slots ws : List ℕ) (k s last : ℕ) (slots' ws' : List ℕ) → IsTakenOut len w slots ws k s last slots' ws' → AreHeld len w slots' ws'
+taken_held len w slots ws k s last slots' ws' h =
+    let n : length slots' ≡ last = taken_size len w slots ws k s last slots' ws' h in
+    let lt : s < last + 1 = omega (arith, taken_below len w slots ws k s last slots' ws' h, h.count) in
     let le : last ≤ length slots = omega (arith, h.count) in
     let P : List ℕ → Type 0 = λ row. IsPadded row len in
     let Q : ℕ → Type 0 = λ m. AreBelow m slots' in
@@ -144,7 +119,7 @@ taken_held len w slots ws k s last us slots' ws' h =
       covers = h.held.covers;
       few = h.held.few;
       counted = omega (arith, n, h.count, h.held.counted);
-      wide = ap (λ (vs : List ℕ). length vs) h.words_are ∙ length-take-le (last * w) us (moved_size len w slots ws k s last us slots' ws' h) ∙ ap (λ m. m * w) (sym n);
+      wide = h.long ∙ ap (λ m. m * w) (sym n);
       below = subst Q (sym n) (subst R (sym h.slots_are) (below-redirect last s (remove slots k) below free lt));
       apart = subst S (sym h.slots_are) (apart-redirect last s (remove slots k) (apart-remove slots k h.held.apart) free);
       padded = λ t lt'. (
@@ -152,25 +127,25 @@ taken_held len w slots ws k s last us slots' ws' h =
           elim (cases_eq t s) [
             | inl e ↦ (
                 let V : ℕ → Type 0 = λ x. IsPadded (words_in w ws' x) len in
-                subst V (sym e) (subst P (sym (taken_here len w slots ws k s last us slots' ws' h (omega (arith, e, in')))) (h.held.padded last (omega (arith, h.count)))))
-            | inr ne ↦ subst P (sym (taken_other len w slots ws k s last us slots' ws' h t in' ne)) (h.held.padded t (omega (arith, in', le)))
+                subst V (sym e) (subst P (sym (h.here (omega (arith, e, in')))) (h.held.padded last (omega (arith, h.count)))))
+            | inr ne ↦ subst P (sym (h.others t in' ne)) (h.held.padded t (omega (arith, in', le)))
           ]);
     }
 
-pub taken_shown : (len w : ℕ) (slots ws : List ℕ) (k s last : ℕ) (us slots' ws' : List ℕ) → IsTakenOut len w slots ws k s last us slots' ws' → map (bits_in len w ws') slots' ≡ remove (map (bits_in len w ws) slots) k
-taken_shown len w slots ws k s last us slots' ws' h =
+pub taken_shown : (len w : ℕ) (slots ws : List ℕ) (k s last : ℕ) (slots' ws' : List ℕ) → IsTakenOut len w slots ws k s last slots' ws' → map (bits_in len w ws') slots' ≡ remove (map (bits_in len w ws) slots) k
+taken_shown len w slots ws k s last slots' ws' h =
     let f : ℕ → List Bool = bits_in len w ws in
     let g : ℕ → List Bool = bits_in len w ws' in
-    let lt : s < last + 1 = omega (arith, taken_below len w slots ws k s last us slots' ws' h, h.count) in
+    let lt : s < last + 1 = omega (arith, taken_below len w slots ws k s last slots' ws' h, h.count) in
     let gone_slot : get_or slots k s ≡ s = sym h.slot in
     let each : (t : ℕ) → t < length slots → t ≢ get_or slots k s → g (redirected last (get_or slots k s) t) ≡ f t = λ t lt' ne.
     let ne' : t ≢ s = λ e. ne (e ∙ h.slot) in
     ap (λ x. g (redirected last x t)) gone_slot
     ∙ elim (cases_eq t last) [
       | inl e ↦ (ap g (redirected_same last s t e)
-          ∙ ap (λ (row : List ℕ). take len (all_bits row)) (taken_here len w slots ws k s last us slots' ws' h (omega (arith, lt, e, ne'))) ∙ ap f (sym e))
+          ∙ ap (λ (row : List ℕ). take len (all_bits row)) (h.here (omega (arith, lt, e, ne'))) ∙ ap f (sym e))
       | inr other ↦ (ap g (redirected_other last s t other)
-          ∙ ap (λ (row : List ℕ). take len (all_bits row)) (taken_other len w slots ws k s last us slots' ws' h t (omega (arith, lt', h.count, other)) ne'))
+          ∙ ap (λ (row : List ℕ). take len (all_bits row)) (h.others t (omega (arith, lt', h.count, other)) ne'))
     ] in
     ap (λ (ss : List ℕ). map g ss) (h.slots_are ∙ ap (λ x. map (redirected last x) (remove slots k)) (sym gone_slot))
     ∙ one_less f g (length slots) last slots k s h.held.below h.held.apart h.row each
@@ -182,14 +157,6 @@ on_ok (Ok x) h i = h
 on_ok (Err e) h i = absurd (false≢true i)
 
 -- ---- the last row moved
-
-pub last_moved : (w s last : ℕ) (ws us : List ℕ) → us ≡ take (s * w) ws ++ take (last * w + w - last * w) (drop (last * w) ws) ++ drop (s * w + (last * w + w - last * w)) ws → IsRowWritten w s (words_in w ws last) ws us
-last_moved w s last ws us is =
-    let e : last * w + w - last * w ≡ w = omega arith in
-    is ∙ ap (λ m. take (s * w) ws ++ take m (drop (last * w) ws) ++ drop (s * w + m) ws) e
-
-pub moved_within : (w s last n : ℕ) → s * w + w ≤ n → s * w + (last * w + w - last * w) ≤ n
-moved_within w s last n le = let e : last * w + w - last * w ≡ w = omega arith in let P : ℕ → Type 0 = λ m. s * w + m ≤ n in subst P (sym e) le
 
 -- what a call wrote over all of a vector
 pub all_written : {X : Type 0} (n : ℕ) (us ws : List X) → length us ≡ n → take n (us ++ drop (length us) ws) ≡ us

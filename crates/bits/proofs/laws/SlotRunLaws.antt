@@ -1,66 +1,14 @@
 -- Slots side by side in the list of all: a bit written in their rows, and a bit read there.
-use Rattle.std.proofs.Common.{◌≡◌, ◌≢◌, inl, inr, ◌⊎◌, ℕ, zero, suc, ◌+◌, ◌-◌, ◌*◌, ◌/◌, ◌%◌, ◌<◌, ◌≤◌, Bool, true, false, List, [], length, take, drop, get_or, refl, sym, ◌∙◌, ap, arith, subst, map}
+use Rattle.std.proofs.Common.{◌≡◌, ◌≢◌, inl, inr, ◌⊎◌, ℕ, zero, suc, ◌+◌, ◌-◌, ◌*◌, ◌<◌, ◌≤◌, Bool, false, List, [], ◌∷◌, length, take, drop, get_or, sym, ◌∙◌, ap, arith, subst, map}
 use Rattle.std.proofs.Math.ListN.{set}
 use Rattle.std.proofs.Math.Seq.{take-set-lt}
 use Rattle.std.proofs.lemmas.Bool.{cases_lt, cases_eq}
-use Rattle.std.proofs.lemmas.List.{get_or-drop, get_or-map, get_or-take, get_or_default, get_or_past, length-drop, length-map, length-set, length-take, drop-set-lt}
+use Rattle.std.proofs.lemmas.List.{get_or-drop, get_or-map, get_or-take, get_or_past, length-drop, length-map, length-take, drop-set-lt}
 use Rattle.std.proofs.lemmas.List.Elements.{All-same}
 use Rattle.bits.specs.Rows.{RowsAndRoom, IsRunWritten}
-use Rattle.bits.specs.steps.Packing.{all_bits, word_bits}
+use Rattle.bits.specs.steps.Packing.{all_bits}
 use Rattle.bits.specs.steps.Held.{words_in, bits_in, IsPadded, AreHeld, AreWritten, Writes}
-use Rattle.bits.specs.steps.Summaries.{IsMarked, SumUp}
-use Rattle.bits.proofs.laws.PaddedLaws.{set_whole}
-use Rattle.bits.proofs.laws.RowsLaws.{length-words_in, word_in, word_set_here, word_set_other}
 use Rattle.bits.proofs.laws.SlotLaws.{apart_at, below_at}
-use Rattle.bits.proofs.laws.SummaryLaws.{word_summed}
-
--- ---- one slot after another
-
--- a bit written in the rows of the first so many slots, while each summary fits its row
-pub record WrittenAndSummed (at : ℕ) (b : Bool) (w n k : ℕ) (slots old now ss : List ℕ) : Type 0 where
-  pub written : AreWritten at b w n k slots old now
-  pub counted : length ss ≡ n
-  pub summed : SumUp w ss now n
-
-pub none_written : (at : ℕ) (b : Bool) (w n : ℕ) (slots old : List ℕ) → AreWritten at b w n 0 slots old old
-none_written at b w n slots old = record { as_long = refl; written = λ k lt. absurd (omega arith); others = λ t lt none. refl }
-
--- the k-th of them written
-pub slot_written : (at : ℕ) (b : Bool) (w n k v x : ℕ) (slots old now ss : List ℕ) → WrittenAndSummed at b w n k slots old now ss → length old ≡ n * w → at < 64 * w → k < length slots
-    → ((j : ℕ) → j < length slots → get_or slots j 0 < n) → ((i j : ℕ) → i < j → j < length slots → get_or slots i 0 ≢ get_or slots j 0)
-    → word_bits 64 v ≡ set (word_bits 64 (get_or now (get_or slots k 0 * w + at / 64) 0)) (at % 64) b
-    → ((m : ℕ) → IsMarked (get_or ss (get_or slots k 0) 0) m → IsMarked x m) → (b ≡ true → IsMarked x (at / 64))
-    → WrittenAndSummed at b w n (k + 1) slots old (set now (get_or slots k 0 * w + at / 64) v) (set ss (get_or slots k 0) x)
-slot_written at b w n k v x slots old now ss h size in' lt below apart bits kept more =
-    let s : ℕ = get_or slots k 0 in
-    let here : s < n = below k lt in
-    let new : List ℕ = set now (s * w + at / 64) v in
-    let word : ℕ = get_or now (s * w + at / 64) 0 in
-    let size' : length now ≡ n * w = h.written.as_long ∙ size in
-    let q : at / 64 < w = omega (arith, in') in
-    let long : length (words_in w now s) ≡ w = length-words_in w n s now size' here in
-    let word' : word ≡ get_or (words_in w now s) (at / 64) word = sym (word_in w s (at / 64) 0 now q) ∙ get_or_default (words_in w now s) (at / 64) 0 word (omega (arith, long, q)) in
-    let read : word ≡ get_or now (s * w + at / 64) word = word' ∙ word_in w s (at / 64) word now q in
-    let was : get_or ss s 0 ≡ get_or ss s (get_or ss s 0) = get_or_default ss s 0 (get_or ss s 0) (omega (arith, h.counted, here)) in
-    let others : (t : ℕ) → t < n → t ≢ s → words_in w new t ≡ words_in w now t = λ t lt' ne. word_set_other w n s t (at / 64) v now size' here lt' ne q in
-    let once : Writes at b (words_in w now s) (words_in w new s) = ap all_bits (word_set_here w s (at / 64) v now q) ∙ set_whole (words_in w now s) at v word b (omega (arith, long, in')) word' bits in
-    let P : List ℕ → Type 0 = λ ws. Writes at b ws (words_in w new s) in
-    let whole : Writes at b (words_in w old s) (words_in w new s) = subst P (h.written.others s here (λ j less. apart j k less lt)) once in
-    record {
-      written = record {
-        as_long = length-set now (s * w + at / 64) v ∙ h.written.as_long;
-        written = λ j lt'. elim (cases_eq j k) [
-          | inl e ↦ (let Q : ℕ → Type 0 = λ i. Writes at b (words_in w old (get_or slots i 0)) (words_in w new (get_or slots i 0)) in subst Q (sym e) whole)
-          | inr ne ↦ (
-              let less : j < k = omega (arith, lt', ne) in
-              let R : List ℕ → Type 0 = λ ws. Writes at b (words_in w old (get_or slots j 0)) ws in
-              subst R (sym (others (get_or slots j 0) (below j (omega (arith, less, lt))) (apart j k less lt))) (h.written.written j less))
-        ];
-        others = λ t lt' none. others t lt' (λ e. none k (omega arith) (sym e)) ∙ h.written.others t lt' (λ j less. none j (omega (arith, less)));
-      };
-      counted = length-set ss s x ∙ h.counted;
-      summed = word_summed w n s at v word x (get_or ss s 0) b now ss size' here in' h.counted h.summed read bits was kept more;
-    }
 
 -- ---- slots side by side
 
@@ -79,6 +27,14 @@ run_from all from n run slots le is front =
       each = λ k lt. ap (λ (xs : List ℕ). get_or xs k 0) front ∙ get_or-take n run k 0 (omega (arith, lt, few)) ∙ ap (λ (xs : List ℕ). get_or xs k 0) is
           ∙ get_or-take (length run) (drop from all) k 0 (omega (arith, lt, size)) ∙ get_or-drop from all k 0;
     }
+
+-- one of them alone
+pub run_of_one : (all : List ℕ) (k s : ℕ) → k < length all → s ≡ get_or all k 0 → IsRun all k (s ∷ [])
+run_of_one all k s lt is = record { within = omega (arith, lt); each = at_first }
+  where
+    at_first : (i : ℕ) → i < 1 → get_or (s ∷ []) i 0 ≡ get_or all (k + i) 0
+    at_first zero lt' = let e : k + 0 ≡ k = omega arith in is ∙ ap (λ j. get_or all j 0) (sym e)
+    at_first (suc i) lt' = absurd (omega arith)
 
 -- those that are lent up to a place
 pub run_up_to : (all : List ℕ) (end : ℕ) (slots : List ℕ) → end ≤ length all → length slots ≤ end → slots ≡ drop (end - length slots) (take end all) → IsRun all (end - length slots) slots
@@ -174,9 +130,7 @@ bit_shown len w at all ws shown k is lt in' =
     ∙ get_or-take len (all_bits (words_in w ws (get_or all k 0))) at false in'
 
 -- a row in one of the slots side by side
-pub bit_lent : (len w at : ℕ) (all ws us : List ℕ) (shown : RowsAndRoom) (from : ℕ) (slots : List ℕ) (k i : ℕ) → record { rows = map (bits_in len w ws) all; room = 64 * w - len } ≡ shown → at < len → us ≡ ws → IsRun all from slots → i < length slots
-    → from + i ≡ k → get_or (get_or shown.rows k []) at false ≡ get_or (all_bits (words_in w us (get_or slots i 0))) at false
-bit_lent len w at all ws us shown from slots k i is in' same r lt e =
-    bit_shown len w at all ws shown k is (omega (arith, r.within, lt, e)) in'
-    ∙ ap (λ s. get_or (all_bits (words_in w ws s)) at false) (ap (λ j. get_or all j 0) (sym e) ∙ sym (r.each i lt))
-    ∙ ap (λ (vs : List ℕ). get_or (all_bits (words_in w vs (get_or slots i 0))) at false) (sym same)
+pub bit_lent : (len w at : ℕ) (all ws : List ℕ) (shown : RowsAndRoom) (from : ℕ) (slots : List ℕ) (k i : ℕ) → record { rows = map (bits_in len w ws) all; room = 64 * w - len } ≡ shown → at < len → IsRun all from slots → i < length slots
+    → from + i ≡ k → get_or (get_or shown.rows k []) at false ≡ get_or (all_bits (words_in w ws (get_or slots i 0))) at false
+bit_lent len w at all ws shown from slots k i is in' r lt e =
+    bit_shown len w at all ws shown k is (omega (arith, r.within, lt, e)) in' ∙ ap (λ s. get_or (all_bits (words_in w ws s)) at false) (ap (λ j. get_or all j 0) (sym e) ∙ sym (r.each i lt))

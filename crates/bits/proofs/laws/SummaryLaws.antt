@@ -7,16 +7,15 @@ use Rattle.std.proofs.lemmas.Bool.{cases_lt, cases_eq, true≢false}
 use Rattle.std.proofs.lemmas.List.{get_or-take, get_or_append_left, get_or-append_right, get_or_past, length-take, get_or-set_same, get_or-set_other, get_or_read, length-set, length-append, length-take-le}
 use Rattle.std.proofs.lemmas.List.Elements.{All-get_or}
 use Rattle.std.proofs.lemmas.Nat.Bits.{bit_at_set_same, bit_at_set_other}
-use Rattle.bits.specs.steps.Packing.{all_bits, word_bits}
+use Rattle.bits.specs.steps.Packing.{all_bits}
 use Rattle.bits.specs.Rows.{RowsAndRoom}
-use Rattle.bits.specs.steps.Held.{words_in, bits_in, AreHeld}
+use Rattle.bits.specs.steps.Held.{words_in, bits_in, AreHeld, IsPadded, Writes}
 use Rattle.bits.specs.steps.Summaries.{IsMarked, IsSummaryOf, SumUp, AreSummaries}
-use Rattle.bits.proofs.laws.PaddedLaws.{set_whole}
 use Rattle.bits.proofs.laws.PlaceLaws.{all_zeros, cleared_row}
-use Rattle.bits.proofs.laws.RowsLaws.{Changed, IsRowWritten, row_written_other, length-words_in, word_in, word_set_here, word_set_other, shown_at, slot_below}
-use Rattle.bits.proofs.laws.SlotRowLaws.{IsDoubled, doubled_held, doubled_here, doubled_other, doubled_size, IsTakenOut, taken_held, taken_here, taken_other, taken_size}
+use Rattle.bits.proofs.laws.RowsLaws.{shown_at, slot_below}
+use Rattle.bits.proofs.laws.SlotRowLaws.{IsDoubled, doubled_held, doubled_here, doubled_other, doubled_size, IsTakenOut, taken_held, taken_size}
 use Rattle.bits.proofs.laws.WidenLaws.{Widened}
-use Rattle.bits.proofs.laws.WordLaws.{length-all_bits, all_bits-append}
+use Rattle.bits.proofs.laws.WordLaws.{all_bits-append}
 
 -- ---- the bit of a word
 
@@ -44,14 +43,17 @@ front_sums_up summary n bits h p on =
     past n bits p le = get_or_past (take n bits) p false (omega (arith, length-take n bits))
 
 -- a bit of a row written
-pub bit_sums_up : (summary after at : ℕ) (b : Bool) (bits new : List Bool) → at < length bits → new ≡ set bits at b → IsSummaryOf summary bits → ((k : ℕ) → IsMarked summary k → IsMarked after k) → (b ≡ true → IsMarked after (at / 64))
-    → IsSummaryOf after new
-bit_sums_up summary after at b bits new in' is h kept more p on =
+bit_sums_up : (summary after at : ℕ) (b : Bool) (bits new : List Bool) → new ≡ set bits at b → IsSummaryOf summary bits → ((k : ℕ) → IsMarked summary k → IsMarked after k) → (b ≡ true → IsMarked after (at / 64)) → IsSummaryOf after new
+bit_sums_up summary after at b bits new is h kept more p on =
+    let on' : get_or (set bits at b) p false ≡ true = sym (ap (λ (bs : List Bool). get_or bs p false) is) ∙ on in
     elim (cases_eq p at) [
-      | inl e ↦ (
-          let P : ℕ → Type 0 = λ k. IsMarked after (k / 64) in
-          subst P (sym e) (more (sym (get_or-set_same bits at b false in') ∙ sym (ap (λ (bs : List Bool). get_or bs at false) is) ∙ sym (ap (λ k. get_or new k false) e) ∙ on)))
-      | inr ne ↦ kept (p / 64) (h p (sym (get_or-set_other bits at p b false ne) ∙ sym (ap (λ (bs : List Bool). get_or bs p false) is) ∙ on))
+      | inl e ↦ elim (cases_lt at (length bits)) [
+        | inl in' ↦ (
+            let P : ℕ → Type 0 = λ k. IsMarked after (k / 64) in
+            subst P (sym e) (more (sym (get_or-set_same bits at b false in') ∙ sym (ap (λ k. get_or (set bits at b) k false) e) ∙ on')))
+        | inr past ↦ absurd (true≢false (sym on' ∙ get_or_past (set bits at b) p false (omega (arith, e, past, length-set bits at b))))
+      ]
+      | inr ne ↦ kept (p / 64) (h p (sym (get_or-set_other bits at p b false ne) ∙ on'))
     ]
 
 -- a word of 0 has no bit
@@ -90,30 +92,13 @@ summed_at w m n i v now new ss in' h others here t lt =
           subst P (sym (get_or-set_other ss i t v 0 ne)) (subst S (sym o.1) (h t o.0)))
     ]
 
--- a row that a call changed, with the summary that it then has
-pub row_summed : (w n i v : ℕ) (now new row ss : List ℕ) → length now ≡ n * w → i < n → length row ≡ w → IsRowWritten w i row now new → length ss ≡ n → SumUp w ss now n → IsSummaryOf v (all_bits (words_in w new i)) → SumUp w (set ss i v) new n
-row_summed w n i v now new row ss size lt long is count h here =
-    summed_at w n n i v now new ss (omega arith) h (λ t below ne. (below, row_written_other w n i t row now new size lt below long ne is)) here
-
--- one bit written into the word of a slot
-pub word_summed : (w n s at v word x y : ℕ) (b : Bool) (ws ss : List ℕ) → length ws ≡ n * w → s < n → at < 64 * w → length ss ≡ n → SumUp w ss ws n → word ≡ get_or ws (s * w + at / 64) word → word_bits 64 v ≡ set (word_bits 64 word) (at % 64) b
-    → y ≡ get_or ss s y → ((k : ℕ) → IsMarked y k → IsMarked x k) → (b ≡ true → IsMarked x (at / 64)) → SumUp w (set ss s x) (set ws (s * w + at / 64) v) n
-word_summed w n s at v word x y b ws ss size lt in' count h read bits was kept more =
+-- a bit written in the words of a slot
+pub word_summed : (w n s at x y : ℕ) (b : Bool) (ws us ss : List ℕ) → length ss ≡ n → s < n → SumUp w ss ws n → Writes at b (words_in w ws s) (words_in w us s) → ((t : ℕ) → t < n → t ≢ s → words_in w us t ≡ words_in w ws t)
+    → y ≡ get_or ss s y → ((k : ℕ) → IsMarked y k → IsMarked x k) → (b ≡ true → IsMarked x (at / 64)) → SumUp w (set ss s x) us n
+word_summed w n s at x y b ws us ss count lt h here others was kept more =
     let P : ℕ → Type 0 = λ z. IsSummaryOf z (all_bits (words_in w ws s)) in
     let before : IsSummaryOf y (all_bits (words_in w ws s)) = subst P (sym (get_or_read ss s y (omega arith) was 0)) (h s lt) in
-    let q : at / 64 < w = omega arith in
-    let long : length (words_in w ws s) ≡ w = length-words_in w n s ws size lt in
-    let there : at < length (all_bits (words_in w ws s)) = omega (arith, length-all_bits (words_in w ws s)) in
-    let here : all_bits (words_in w (set ws (s * w + at / 64) v) s) ≡ set (all_bits (words_in w ws s)) at b =
-    ap all_bits (word_set_here w s (at / 64) v ws q) ∙ set_whole (words_in w ws s) at v word b (omega arith) (read ∙ sym (word_in w s (at / 64) word ws q)) bits in
-    summed_at w n n s x ws (set ws (s * w + at / 64) v) ss (omega arith) h (λ t lt' ne. (lt', word_set_other w n s t (at / 64) v ws size lt lt' ne q))
-    (bit_sums_up y x at b (all_bits (words_in w ws s)) (all_bits (words_in w (set ws (s * w + at / 64) v) s)) there here before kept more)
-
--- each row changed as far as slot i, while each summary fits its row
-pub record ChangedAndSummed (R : List ℕ → List ℕ → Type 0) (w n : ℕ) (old now ss : List ℕ) (i : ℕ) : Type 0 where
-  pub changed : Changed R w n old now i
-  pub counted : length ss ≡ n
-  pub summed : SumUp w ss now n
+    summed_at w n n s x ws us ss (omega arith) h (λ t lt' ne. (lt', others t lt' ne)) (bit_sums_up y x at b (all_bits (words_in w ws s)) (all_bits (words_in w us s)) here before kept more)
 
 -- ---- the summaries of rows as they are held
 
@@ -153,9 +138,9 @@ doubled_both len w slots ws k s slots' ws' ss x h sum is ss' made =
 pub pushed : (new now old : List ℕ) (x : ℕ) (b : Bool) → now ≡ old → new ≡ cond b (now ++ x ∷ []) now → b ≡ true → new ≡ old ++ x ∷ []
 pushed new now old x b same e t = e ∙ ap (λ (c : Bool). cond c (now ++ x ∷ []) now) t ∙ ap (λ (ss : List ℕ). ss ++ x ∷ []) same
 
-pub taken_summed : (len w : ℕ) (slots ws : List ℕ) (k s last : ℕ) (us slots' ws' ss : List ℕ) (x : ℕ) → IsTakenOut len w slots ws k s last us slots' ws' → AreSummaries w ss ws (length slots) → x ≡ get_or ss last x → s < length slots → length slots' ≡ last
+pub taken_summed : (len w : ℕ) (slots ws : List ℕ) (k s last : ℕ) (slots' ws' ss : List ℕ) (x : ℕ) → IsTakenOut len w slots ws k s last slots' ws' → AreSummaries w ss ws (length slots) → x ≡ get_or ss last x → s < length slots → length slots' ≡ last
     → AreSummaries w (take last (set ss s x)) ws' (length slots')
-taken_summed len w slots ws k s last us slots' ws' ss x h sum is below n =
+taken_summed len w slots ws k s last slots' ws' ss x h sum is below n =
     let count : length ss ≡ last + 1 = sum.counted ∙ h.count in
     let size : length (set ss s x) ≡ last + 1 = length-set ss s x ∙ count in
     let here : x ≡ get_or ss last 0 = get_or_read ss last x (omega arith) is 0 in
@@ -172,19 +157,19 @@ taken_summed len w slots ws k s last us slots' ws' ss x h sum is below n =
                 let S : List ℕ → Type 0 = λ row. IsSummaryOf x (all_bits row) in
                 let T : ℕ → Type 0 = λ y. IsSummaryOf y (all_bits (words_in w ws last)) in
                 subst Q (sym e) (subst R (sym (get_or-set_same ss s x 0 (omega (arith, below, sum.counted))))
-                (subst S (sym (taken_here len w slots ws k s last us slots' ws' h (omega (arith, e, in')))) (subst T (sym here) (sum.each last (omega (arith, h.count)))))))
+                (subst S (sym (h.here (omega (arith, e, in')))) (subst T (sym here) (sum.each last (omega (arith, h.count)))))))
             | inr ne ↦ (
                 let S : List ℕ → Type 0 = λ row. IsSummaryOf (get_or ss t 0) (all_bits row) in
-                subst P (sym (get_or-set_other ss s t x 0 ne)) (subst S (sym (taken_other len w slots ws k s last us slots' ws' h t in' ne)) (sum.each t (omega (arith, in', h.count)))))
+                subst P (sym (get_or-set_other ss s t x 0 ne)) (subst S (sym (h.others t in' ne)) (sum.each t (omega (arith, in', h.count)))))
           ]));
     }
 
-pub taken_both : (len w : ℕ) (slots ws : List ℕ) (k s last : ℕ) (us slots' ws' ss : List ℕ) (x : ℕ) → IsTakenOut len w slots ws k s last us slots' ws' → AreSummaries w ss ws (length slots) → x ≡ get_or ss last x
+pub taken_both : (len w : ℕ) (slots ws : List ℕ) (k s last : ℕ) (slots' ws' ss : List ℕ) (x : ℕ) → IsTakenOut len w slots ws k s last slots' ws' → AreSummaries w ss ws (length slots) → x ≡ get_or ss last x
     → (ss' : List ℕ) → ss' ≡ take last (set ss s x) → AreHeld len w slots' ws' × AreSummaries w ss' ws' (length slots')
-taken_both len w slots ws k s last us slots' ws' ss x h sum is ss' made =
+taken_both len w slots ws k s last slots' ws' ss x h sum is ss' made =
     let P : List ℕ → Type 0 = λ vs. AreSummaries w vs ws' (length slots') in (
-      taken_held len w slots ws k s last us slots' ws' h,
-      subst P (sym made) (taken_summed len w slots ws k s last us slots' ws' ss x h sum is (slot_below len w slots ws k s h.held h.row h.slot) (taken_size len w slots ws k s last us slots' ws' h)),
+      taken_held len w slots ws k s last slots' ws' h,
+      subst P (sym made) (taken_summed len w slots ws k s last slots' ws' ss x h sum is (slot_below len w slots ws k s h.held h.row h.slot) (taken_size len w slots ws k s last slots' ws' h)),
     )
 
 pub widened_summed : (w v count : ℕ) (ws us ss : List ℕ) → Widened w v ws us count → AreSummaries w ss ws count → AreSummaries v ss us count
@@ -202,6 +187,32 @@ cleared_summed w = record {
       let P : List ℕ → Type 0 = λ row. IsSummaryOf (get_or (0 ∷ 0 ∷ []) slot 0) (all_bits row) in
       subst P (sym (cleared_row w 2 slot lt)) (λ p on. absurd (true≢false (sym on ∙ off w p))));
 }
+
+-- one row without a bit, in a slot of blank words
+pub first_kept : (w n : ℕ) (slots ws ss : List ℕ) → w ≡ 4 → n ≡ 1 → slots ≡ 0 ∷ [] → ws ≡ replicate 4 0 → ss ≡ 0 ∷ [] → AreHeld 0 w slots ws × AreSummaries w ss ws (length slots) × (n ≡ length slots)
+first_kept w n slots ws ss wide one first blank none =
+    let row : (slot : ℕ) → slot < 1 → words_in 4 (replicate 4 0) slot ≡ replicate 4 0 = cleared_row 4 1 in
+    let held : AreHeld 0 4 (0 ∷ []) (replicate 4 0) = record {
+      covers = omega arith;
+      few = omega arith;
+      counted = omega arith;
+      wide = refl;
+      below = (omega arith, tt);
+      apart = (tt, tt);
+      padded = λ slot lt. (let P : List ℕ → Type 0 = λ row. IsPadded row 0 in subst P (sym (row slot lt)) (all_zeros 4));
+    } in
+    let sum : AreSummaries 4 (0 ∷ []) (replicate 4 0) 1 = record {
+      counted = refl;
+      each = λ slot lt. (
+          let P : List ℕ → Type 0 = λ row. IsSummaryOf (get_or (0 ∷ []) slot 0) (all_bits row) in
+          subst P (sym (row slot lt)) (λ p on. absurd (true≢false (sym on ∙ off 4 p))));
+    } in
+    let P : List ℕ → Type 0 = λ sums. AreHeld 0 w slots ws × AreSummaries w sums ws (length slots) in
+    let Q : List ℕ → Type 0 = λ vs. AreHeld 0 w slots vs × AreSummaries w (0 ∷ []) vs (length slots) in
+    let R : List ℕ → Type 0 = λ at. AreHeld 0 w at (replicate 4 0) × AreSummaries w (0 ∷ []) (replicate 4 0) (length at) in
+    let S : ℕ → Type 0 = λ v. AreHeld 0 v (0 ∷ []) (replicate 4 0) × AreSummaries v (0 ∷ []) (replicate 4 0) 1 in
+    let both = subst P (sym none) (subst Q (sym blank) (subst R (sym first) (subst S (sym wide) (held, sum)))) in
+    (both.0, both.1, one ∙ sym (ap (λ (at : List ℕ). length at) first))
 
 -- a row's summary, as the row is shown
 pub shown_summed : (len w : ℕ) (slots ws : List ℕ) (shown : RowsAndRoom) (k s x : ℕ) (ss : List ℕ) → AreHeld len w slots ws → record { rows = map (bits_in len w ws) slots; room = 64 * w - len } ≡ shown → AreSummaries w ss ws (length slots) → k < length slots → s ≡ get_or slots k s

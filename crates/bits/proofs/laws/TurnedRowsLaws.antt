@@ -2,7 +2,6 @@
 use Rattle.std.proofs.Common.{◌≡◌, ℕ, zero, suc, ◌+◌, ◌<◌, Bool, false, not, List, [], ◌∷◌, length, get_or, refl, sym, ◌∙◌, ap, arith, subst, map, All}
 use Rattle.std.proofs.Math.Bool.{xor}
 use Rattle.std.specs.List.{AllByRecursion, insert, remove}
-use Rattle.std.specs.Prelude.{Result, Ok, Err, OnOk, OnErr}
 use Rattle.std.proofs.Math.ListN.{set}
 use Rattle.std.proofs.lemmas.List.{length-map, length-set, get_or_default}
 use Rattle.bits.specs.MarginRows.{RowsInRoom}
@@ -255,8 +254,3 @@ removed_seen kept shown k j s is = by_turning (λ rs. IsSeen (remove kept j) (re
     go (t ∷ own) h e =
         let P : ℕ → Type 0 = λ i. IsSeen (remove (t ∷ own) i) (remove (map (turned t) own) k) in
         subst P (sym e) (record { alike = all_removed (length t) own k h; seen = map-removed t own k })
-
--- whether a call is refused or not, the rows are seen
-pub either_seen : {T E : Type 0} (r : Result T E) (kept shown edited new more : List Row) → IsSeen edited more → IsSeen kept shown → OnOk r (new ≡ edited) → OnErr r (new ≡ kept) → AreAsLong new
-either_seen (Ok x) kept shown edited new more s was ok err = subst AreAsLong (sym ok) s.alike
-either_seen (Err x) kept shown edited new more s was ok err = subst AreAsLong (sym err) was.alike

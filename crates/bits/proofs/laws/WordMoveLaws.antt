@@ -54,12 +54,12 @@ lowered ws rest end two is last =
 
 -- ---- their bits
 
-zero_word : (n : ℕ) → word_bits n 0 ≡ replicate n false
+pub zero_word : (n : ℕ) → word_bits n 0 ≡ replicate n false
 unfolding word_bits
 zero_word zero = refl
 zero_word (suc n) = ap (λ (bs : List Bool). false ∷ bs) (zero_word n)
 
-blank_first : (bits : List Bool) → word_bits 64 0 ++ (word_bits 64 0 ++ bits) ≡ replicate two_words false ++ bits
+pub blank_first : (bits : List Bool) → word_bits 64 0 ++ (word_bits 64 0 ++ bits) ≡ replicate two_words false ++ bits
 blank_first bits =
     (λ i. zero_word 64 i ++ (zero_word 64 i ++ bits)) ∙ sym (append_assoc (replicate 64 false) (replicate 64 false) bits)
     ∙ ap (λ (bs : List Bool). bs ++ bits) (replicate-append-replicate 64 64 false)

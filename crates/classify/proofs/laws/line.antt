@@ -3,6 +3,7 @@ pub mod BoxLaws
 pub mod DropLaws
 pub mod EditLaws
 pub mod EndLaws
+pub mod GapLaws
 pub mod JoinLaws
 pub mod KeepApartLaws
 pub mod KeptLaws

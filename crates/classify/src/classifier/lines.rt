@@ -125,19 +125,24 @@ fn close_margins(lines: &mut [OwnedLine])
 }
 
 // Makes way for a box at a place: room after the rows where it isn't before all others and some line has none, and blank
-// places before them where it is and there are none.
-fn make_way(lines: &mut [OwnedLine], at: usize)
-    requires { EachLine (λ l. 0 < l.room.places) lines.old }
+// places before them where it is and there are none. The first box needs none: those after it mostly come behind it.
+fn make_way(lines: &mut [OwnedLine], len: usize, at: usize)
+    requires place { at ≤ len }
+    requires room { EachLine (λ l. 0 < l.room.places) lines.old }
     ensures same { EachEdit (λ l m. (m.pieces ≡ l.pieces) × (m.room.places ≡ l.room.places)) lines.old lines.new }
     ensures after { 0 < at → EachLine (HasRoomAfter 1) lines.new }
     ensures margin { HaveOneMargin lines.old → HaveOneMargin lines.new }
-    ensures opened { at ≡ 0 → EachLine (λ l. l.room.before ≡ 0) lines.old → EachLine (HasRoomAfter two_words) lines.old
+    ensures first { len ≡ 0 → lines.new ≡ lines.old }
+    ensures opened { 0 < len → at ≡ 0 → EachLine (λ l. l.room.before ≡ 0) lines.old → EachLine (HasRoomAfter two_words) lines.old
         → EachEdit IsOpenedUp lines.old lines.new }
     ensures blank { at ≡ 0 → EachLine (λ l. 0 < l.room.before) lines.old → lines.new ≡ lines.old }
     ensures full { at ≡ 0 → (EachLine (HasRoomAfter two_words) lines.old → ⊥) → lines.new ≡ lines.old }
     ensures closed { 0 < at → (EachLine (HasRoomAfter 1) lines.old → ⊥) → EachEdit IsClosedUp lines.old lines.new }
     ensures fits { 0 < at → EachLine (HasRoomAfter 1) lines.old → lines.new ≡ lines.old }
 {
+    if len == 0 {
+        return;
+    }
     if at > 0 {
         if !have_room_after(lines, 1) {
             close_margins(lines);
@@ -170,7 +175,7 @@ pub(crate) fn insert_lines(
 {
     match prepare_lines(lines, at, spans) {
         Ok(()) => {
-            make_way(lines, at);
+            make_way(lines, len, at);
             insert_prepared_lines(lines, at, spans);
             Ok(())
         }

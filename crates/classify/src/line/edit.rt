@@ -3,7 +3,7 @@
 
 ghost use Rattle.fields.specs.declared.numbers.spans.Interval.{Interval};
 ghost use Rattle.std.specs.Prelude.{◌≡◌, ◌<◌, ◌≤◌, ◌+◌, ◌-◌, ℕ, length, OnOk, IsOk, List, map, insert};
-ghost use Rattle.std.specs.Prelude.{remove, slice_set, slice_index, slice_index_or, false, [], ◌∷◌, IsTrue};
+ghost use Rattle.std.specs.Prelude.{remove, slice_set, slice_index, slice_index_or, false, true, [], ◌∷◌, IsTrue};
 ghost use Rattle.classify.specs.line.Line.{IsLineOf, starts};
 ghost use Rattle.classify.specs.steps.Pieces.{Differ, IsRising, IsSplitOf, StartsAt, row_bits};
 ghost use Rattle.fields.specs.numbers.Spans.{has};
@@ -49,7 +49,39 @@ fn are_inside(line: &OwnedLine, place: usize, x: u128, y: u128) -> bool
     line.start(place) < x && x < y
 }
 
-// Cuts a line where an interval begins, and after its end: by one move where both cuts fall into one piece.
+// Cuts a line at a number.
+fn split_at(line: &mut OwnedLine, x: u128) -> Result<(), AllocError>
+    ensures split { (top : ℕ) (spans : List Interval) → x ≤ top → ChangesAt spans x → IsRising top line.old.pieces
+        → IsSplitOf top spans line.old.pieces line.new.pieces }
+    ensures ok { OnOk result (StartsAt x line.new.pieces) }
+    ensures there { StartsAt x line.old.pieces → IsOk result }
+    ensures kept { StartsAt x line.old.pieces → line.new.pieces ≡ line.old.pieces }
+    ensures room { line.new.room ≡ line.old.room }
+{
+    let place = line.place_of(x);
+    split(line, place, x)
+}
+
+// Cuts a line at two numbers: by one move where both cuts fall into one piece.
+fn split_pair(line: &mut OwnedLine, x: u128, y: u128) -> Result<(), AllocError>
+    ensures split { (top : ℕ) (spans : List Interval) → x ≤ top → y ≤ top → ChangesAt spans x → ChangesAt spans y
+        → IsRising top line.old.pieces → IsSplitOf top spans line.old.pieces line.new.pieces }
+    ensures ok { OnOk result (StartsAt x line.new.pieces × StartsAt y line.new.pieces) }
+    ensures there { StartsAt x line.old.pieces → StartsAt y line.old.pieces → IsOk result }
+    ensures kept { StartsAt x line.old.pieces → StartsAt y line.old.pieces → line.new.pieces ≡ line.old.pieces }
+    ensures room { line.new.room ≡ line.old.room }
+{
+    let place = line.place_of(x);
+    if are_inside(line, place, x, y) {
+        line.split_twice_at(place, x, y)?;
+        return Ok(());
+    }
+    split(line, place, x)?;
+    split_at(line, y)?;
+    Ok(())
+}
+
+// Cuts a line where an interval begins, and after its end.
 fn split_interval(line: &mut OwnedLine, top: u128, interval: Interval) -> Result<(), AllocError>
     requires rising { IsRising top line.old.pieces }
     requires begins { interval.first ≤ top }
@@ -61,23 +93,14 @@ fn split_interval(line: &mut OwnedLine, top: u128, interval: Interval) -> Result
     ensures kept { EndsStart top line.old.pieces interval → line.new.pieces ≡ line.old.pieces }
     ensures room { line.new.room ≡ line.old.room }
 {
-    let place = line.place_of(interval.first);
     if interval.last >= top {
-        return split(line, place, interval.first);
+        return split_at(line, interval.first);
     }
-    let after = interval.last + 1;
-    if are_inside(line, place, interval.first, after) {
-        line.split_twice_at(place, interval.first, after)?;
-        return Ok(());
-    }
-    split(line, place, interval.first)?;
-    let later = line.place_of(after);
-    split(line, later, after)?;
-    Ok(())
+    split_pair(line, interval.first, interval.last + 1)
 }
 
-// Cuts a line wherever a set begins or ends. It says what it said. Its room stays.
-pub(crate) fn split_all(line: &mut OwnedLine, spans: &Spans) -> Result<(), AllocError>
+// Cuts a line wherever a set begins or ends, interval by interval.
+fn split_intervals(line: &mut OwnedLine, spans: &Spans) -> Result<(), AllocError>
     requires { IsRising spans.now.top line.old.pieces }
     ensures split { IsSplitOf spans.now.top spans.now.intervals line.old.pieces line.new.pieces }
     ensures ok { OnOk result (CutsStart spans.now.top spans.now.intervals line.new.pieces) }
@@ -90,6 +113,45 @@ pub(crate) fn split_all(line: &mut OwnedLine, spans: &Spans) -> Result<(), Alloc
         split_interval(line, top, *interval)?;
     }
     Ok(())
+}
+
+// The same of a set that begins with the line: gap by gap, and after the last interval.
+fn split_gaps(line: &mut OwnedLine, spans: &Spans) -> Result<(), AllocError>
+    requires rising { IsRising spans.now.top line.old.pieces }
+    requires first { has spans.now.intervals 0 ≡ true }
+    ensures split { IsSplitOf spans.now.top spans.now.intervals line.old.pieces line.new.pieces }
+    ensures ok { OnOk result (CutsStart spans.now.top spans.now.intervals line.new.pieces) }
+    ensures there { CutsStart spans.now.top spans.now.intervals line.old.pieces → IsOk result }
+    ensures kept { CutsStart spans.now.top spans.now.intervals line.old.pieces → line.new.pieces ≡ line.old.pieces }
+    ensures room { line.new.room ≡ line.old.room }
+{
+    let intervals = spans.intervals();
+    for k in 1..intervals.len() {
+        let next = intervals[k].first;
+        split_pair(line, intervals[k - 1].last + 1, next)?;
+    }
+    let last = intervals[intervals.len() - 1].last;
+    if last >= spans.top() {
+        return Ok(());
+    }
+    split_at(line, last + 1)?;
+    Ok(())
+}
+
+// Cuts a line wherever a set begins or ends. It says what it said. Its room stays. Both cuts of an interval or, where the set begins
+// with the line, of a gap are made at once.
+pub(crate) fn split_all(line: &mut OwnedLine, spans: &Spans) -> Result<(), AllocError>
+    requires { IsRising spans.now.top line.old.pieces }
+    ensures split { IsSplitOf spans.now.top spans.now.intervals line.old.pieces line.new.pieces }
+    ensures ok { OnOk result (CutsStart spans.now.top spans.now.intervals line.new.pieces) }
+    ensures there { CutsStart spans.now.top spans.now.intervals line.old.pieces → IsOk result }
+    ensures kept { CutsStart spans.now.top spans.now.intervals line.old.pieces → line.new.pieces ≡ line.old.pieces }
+    ensures room { line.new.room ≡ line.old.room }
+{
+    if spans.has(0) {
+        return split_gaps(line, spans);
+    }
+    split_intervals(line, spans)
 }
 
 // Takes the cut at x back where the rows on its two sides are equal.

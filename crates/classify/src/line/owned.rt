@@ -1,6 +1,6 @@
 //! The line of a field as the classifier keeps it: the starts of its pieces, and their rows apart from them.
 
-ghost use Rattle.std.specs.Prelude.{ℕ, ◌≡◌, ◌<◌, ◌≤◌, ◌+◌, ◌-◌, ◌%◌, length, map, insert, remove, slice_set, slice_index, slice_index_or, take};
+ghost use Rattle.std.specs.Prelude.{ℕ, ◌≡◌, ◌<◌, ◌≤◌, ◌+◌, ◌-◌, ◌%◌, ◌^◌, length, map, insert, remove, slice_set, slice_index, slice_index_or, take};
 ghost use Rattle.std.specs.Prelude.{◌≢◌, false, true, IfOk, IsOk, OnOk, OnErr, IsTrue, ◌↔◌, [], ◌∷◌};
 ghost use Rattle.bits.specs.MarginRows.{after_margin};
 ghost use Rattle.bits.specs.Rows.{two_words};
@@ -12,6 +12,7 @@ ghost use Rattle.classify.specs.steps.Pieces.{row_bits, row_in};
 ghost use Rattle.classify.specs.steps.Edits.{row_of};
 ghost use Rattle.classify.specs.steps.Fields.{HasRoomAfter, TakesPlace, LeavesPlace, IsOpenedUp, IsClosedUp, IsRoomier, TakesNoneBeside, FreesRoom, FreesAll};
 ghost use Rattle.classify.specs.steps.Runs.{IsRunWritten};
+ghost use Rattle.bits.specs.steps.RowWords.{words_of};
 ghost use Rattle.bits.specs.steps.Summaries.{IsSummaryOf};
 ghost use Rattle.std.specs.List.{zip};
 
@@ -19,11 +20,6 @@ use crate::line::starts::Starts;
 use bits::{TurnedRows, TurnedWords};
 use std::alloc::{AllocError, Global};
 use std::marker::Model;
-use std::mem::size_of;
-
-/// How many bytes a piece takes beside the words of its row, where its start has 32 bits: its start, and the slot of its row
-/// and its summary.
-pub const PIECE_BYTES: usize = size_of::<u32>() + size_of::<u32>() + size_of::<u64>();
 
 /// The pieces of a line, in rising order from 0: the first number of each, and the answer of each box, at the box's place.
 #[derive(Drop)]
@@ -48,9 +44,9 @@ impl Model for OwnedLine {
 }
 
 impl OwnedLine {
-    // The line of no box: one piece without a bit.
+    // The line of no box: one piece without a bit, and room for 256 bits.
     pub(crate) fn open(alloc: Global) -> Result<OwnedLine, AllocError>
-        ensures { IfOk result (λ line. (line.pieces ≡ (0, []) ∷ []) × (line.room.places ≡ 0) × (line.room.before ≡ 0)) }
+        ensures { IfOk result (λ line. (line.pieces ≡ (0, []) ∷ []) × (line.room.places ≡ 256) × (line.room.before ≡ 0)) }
     {
         Ok(OwnedLine {
             starts: Starts::zero(alloc)?,
@@ -78,11 +74,21 @@ impl OwnedLine {
         ensures within { result < length self.now.pieces }
         ensures low { slice_index (starts self.now.pieces) result ≤ x }
         ensures high { result + 1 < length self.now.pieces → x < slice_index (starts self.now.pieces) (result + 1) }
+        ensures few { result < 2 ^ 32 }
     {
         if self.rows.count() == 1 {
             return 0;
         }
         self.starts.count_to(x) - 1
+    }
+
+    // The same in 32 bits: a line has no more pieces than these can count.
+    #[inline(always)]
+    pub(crate) fn place_at(&self, x: u128) -> u32
+        ensures within { result < length self.now.pieces }
+        ensures here { row_of self.now.pieces result ≡ row_in self.now.pieces x }
+    {
+        self.place_of(x) as u32
     }
 
     // How many blank places stand before the first bit of each row.
@@ -103,24 +109,13 @@ impl OwnedLine {
     // A row and its margin, as it is turned; they are lent.
     pub(crate) fn row(&self, k: usize) -> TurnedWords<'_>
         requires { k < length self.now.pieces }
-        ensures own { IsPacked result.own.now (length (after_margin self.now.room.before (row_of self.now.pieces k))) }
-        ensures turn { IsPacked result.turn.now (length (after_margin self.now.room.before (row_of self.now.pieces k))) }
+        ensures own { IsPacked (words_of result.own) (length (after_margin self.now.room.before (row_of self.now.pieces k))) }
+        ensures turn { IsPacked (words_of result.turn) (length (after_margin self.now.room.before (row_of self.now.pieces k))) }
         ensures bits { take (length (after_margin self.now.room.before (row_of self.now.pieces k)))
-            (turned (all_bits result.turn.now) (all_bits result.own.now)) ≡ after_margin self.now.room.before (row_of self.now.pieces k) }
+            (turned (all_bits (words_of result.turn)) (all_bits (words_of result.own))) ≡ after_margin self.now.room.before (row_of self.now.pieces k) }
         ensures summed { IsSummaryOf result.summary (after_margin self.now.room.before (row_of self.now.pieces k)) }
     {
         self.rows.row(k)
-    }
-
-    // The row of the piece that a number is in, and its margin; they are lent.
-    pub(crate) fn row_at(&self, x: u128) -> TurnedWords<'_>
-        ensures own { IsPacked result.own.now (length (after_margin self.now.room.before (row_in self.now.pieces x))) }
-        ensures turn { IsPacked result.turn.now (length (after_margin self.now.room.before (row_in self.now.pieces x))) }
-        ensures bits { take (length (after_margin self.now.room.before (row_in self.now.pieces x)))
-            (turned (all_bits result.turn.now) (all_bits result.own.now)) ≡ after_margin self.now.room.before (row_in self.now.pieces x) }
-        ensures summed { IsSummaryOf result.summary (after_margin self.now.room.before (row_in self.now.pieces x)) }
-    {
-        self.row(self.place_of(x))
     }
 
     // The bit at a place of a row.

@@ -54,6 +54,7 @@ impl Starts {
     pub(crate) fn count_to(&self, x: u128) -> usize
         requires { IsNonDecreasingBy (λ (s : ℕ). s) self.now }
         ensures bound { result ≤ length self.now }
+        ensures few { result ≤ 2 ^ 32 }
         ensures low { (k : ℕ) → k < result → slice_index self.now k ≤ x }
         ensures high { (k : ℕ) → result ≤ k → k < length self.now → x < slice_index self.now k }
     {

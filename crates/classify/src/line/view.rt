@@ -6,7 +6,7 @@ ghost use Rattle.classify.specs.search.NextMatch.{next_match};
 
 use crate::line::owned::OwnedLine;
 use crate::search;
-use bits::{TurnedWords, bit_at};
+use bits::TurnedWords;
 use std::marker::Model;
 
 /// The answers of each box in a piece, at the box's place.
@@ -44,7 +44,7 @@ impl<'a> Row<'a> {
         ensures { result ≡ slice_index_or self.now at false }
     {
         let place = self.margin + at;
-        bit_at(self.words.turn, place) != bit_at(self.words.own, place)
+        self.words.turn.bit(place) != self.words.own.bit(place)
     }
 
     /// The least place, at or after `from`, of a box that allows the numbers of the piece; there may be none.

@@ -88,6 +88,17 @@ target_with (action.Goto name) target_options = target.Goto name
 abbrev pub target_of : Rule → Option Target
 target_of r = option_map (λ a. target_with a r.target_options) r.action
 
+-- the target is a chain, as it was read
+abbrev pub leads_to_chain : Option Action → Bool
+leads_to_chain None = false
+leads_to_chain (Some action.Accept) = false
+leads_to_chain (Some action.Drop) = false
+leads_to_chain (Some action.Return) = false
+leads_to_chain (Some action.Reject) = false
+leads_to_chain (Some action.Log) = false
+leads_to_chain (Some (action.Jump name)) = true
+leads_to_chain (Some (action.Goto name)) = true
+
 -- the target with another chain's name, if it names a chain
 abbrev pub action_with_chain_name : List ℕ → Option Action → Option Action
 action_with_chain_name name None = None

@@ -6,6 +6,7 @@ ghost use Rattle.table.specs.walk.Trail.{Shows, shown};
 
 use crate::parts::Parts;
 use crate::verdict::Verdict;
+use crate::walk::found::FoundChains;
 use crate::walk::{LIMIT, Pending, SHORT, STACK, StepResult, follow};
 use arrayvec::ArrayVec;
 use fields::Packet;
@@ -74,17 +75,25 @@ impl Trail {
 }
 
 impl Parts {
-    // The rule just before a place, as a step of the trail. Where its chain is the one at a place that is given, no name is
-    // looked up.
-    fn step_before(&self, hook: usize, at: Pending) -> Step
+    // The rule just before a place, as a step of the trail. Where its chain is one of those at two places that are given, no name
+    // is looked up.
+    fn step_before(&self, hook: usize, last: usize, at: Pending) -> Step
         requires kept { AreStored self.now }
         requires hook { hook < length self.now.order.items }
+        requires last { last < length self.now.order.items }
         requires present { IsIn self.now.order.items at.chain }
-        ensures { shown (listed self.now.chains.slots self.now.order.items) (entry_before self.now.chains.slots at) ≡ Some result }
+        ensures shown { shown (listed self.now.chains.slots self.now.order.items) (entry_before self.now.chains.slots at) ≡ Some result }
+        ensures within { result.chain < length self.now.order.items }
     {
         if at.chain == self.order[hook] {
             return Step {
                 chain: hook,
+                number: at.passed,
+            };
+        }
+        if at.chain == self.order[last] {
+            return Step {
+                chain: last,
                 number: at.passed,
             };
         }
@@ -116,18 +125,25 @@ impl Parts {
     {
         let mut at = Pending::start(self.order[hook]);
         let mut stack: ArrayVec<Pending, DEPTH> = ArrayVec::new();
-        let found = self.find(packet, at.chain);
+        let mut found = FoundChains {
+            first: self.find(packet, at.chain),
+            odd: None,
+            even: None,
+        };
         let mut left = LIMIT;
         let mut steps = Vec::new(self.alloc);
+        let mut last = hook;
         'walk: loop {
-            let Some(flow) = self.advance(packet, &mut at, &mut stack, &found) else {
+            let Some(flow) = self.advance(packet, &mut at, &mut stack, &mut found) else {
                 return Ok(Some(Trail::undecided(steps, policy)));
             };
             if left == 0 {
                 return Ok(Some(Trail::decided(Vec::new(self.alloc), Verdict::TooLong)));
             }
             left -= 1;
-            steps.push(self.step_before(hook, at))?;
+            let step = self.step_before(hook, last, at);
+            last = step.chain;
+            steps.push(step)?;
             match follow(flow, &mut at, &mut stack) {
                 StepResult::Decided(verdict) => return Ok(Some(Trail::decided(steps, verdict))),
                 StepResult::ByPolicy => return Ok(Some(Trail::undecided(steps, policy))),

@@ -7,7 +7,7 @@ use Rattle.bits.proofs.each_row.alike_from.Given as goal
 abbrev pub invariant-loop-first : goal.invariant-loop-first
 invariant-loop-first l = record {
   within : l.first ≤ length l.slots;
-  alike : (k : ℕ) → l.first ≤ k → k < length l.slots → get_or (all_bits (words_in l.width l.words (slice_index l.slots k))) l.at false ≡ l.bit;
+  alike : (k : ℕ) → l.first ≤ k → k < length l.slots → get_or (all_bits (words_in l.words.width l.words.words (slice_index l.slots k))) l.at false ≡ l.bit;
 }
 
 abbrev pub decreases-loop-first : goal.decreases-loop-first

@@ -35,7 +35,7 @@ rises_next top d [] j h lt = absurd (omega arith)
 rises_next top d (p ∷ ps) zero h lt = h.0
 rises_next top d (p ∷ ps) (suc j) h lt = rises_next top p ps j h.2 (omega arith)
 
-within_at : (top a : ℕ) (ps : List Cut) (j : ℕ) → IsRisingFrom top a ps → j < length ps → (get_or ps j none).0 ≤ top
+pub within_at : (top a : ℕ) (ps : List Cut) (j : ℕ) → IsRisingFrom top a ps → j < length ps → (get_or ps j none).0 ≤ top
 within_at top a [] j h lt = absurd (omega arith)
 within_at top a (p ∷ ps) zero h lt = h.1
 within_at top a (p ∷ ps) (suc j) h lt = within_at top p.0 ps j h.2 (omega arith)

@@ -1,27 +1,28 @@
 -- A box's answers written into the rows of a line, interval by interval.
 use Rattle.fields.specs.declared.numbers.spans.Interval.{Interval}
 use Rattle.classify.proofs.laws.line.LineLaws.{and_first_true, and_second_true}
-use Rattle.std.proofs.Common.{◌≡◌, inl, inr, ℕ, zero, suc, ◌+◌, ◌-◌, ◌<◌, ◌≤◌, ◌⊎◌, min, max, cond, ◌||◌, ◌&&◌, Bool, true, false, List, [], ◌∷◌, take, length, get_or, refl, sym, ◌∙◌, ap, arith, subst, map}
-use Rattle.std.specs.List.{count_by, insert, list_all}
-use Rattle.std.proofs.lemmas.List.Sums.{count_by_more_no, count_by_more_yes, sum_by-cons}
+use Rattle.std.proofs.Common.{◌≡◌, inl, inr, ℕ, zero, suc, ◌+◌, ◌-◌, ◌<◌, ◌≤◌, ◌||◌, ◌&&◌, Bool, true, false, List, [], ◌∷◌, take, length, get_or, refl, sym, ◌∙◌, ap, arith, subst, map}
+use Rattle.std.specs.List.{insert, list_all}
 use Rattle.std.specs.Prelude.{slice_index}
 use Rattle.std.proofs.Math.ListN.{set}
 use Rattle.std.proofs.Math.Dec.{leb}
-use Rattle.std.proofs.lemmas.Bool.{le-leb, lt-leb, leb-true, cases_lt, or_right, and_right}
+use Rattle.std.proofs.lemmas.Bool.{le-leb, lt-leb, leb-true, cases_lt, or_right, and_right, false≢true}
 use Rattle.std.proofs.lemmas.List.{length-map, get_or-map, same_lists, set-get_or, take_all, take_more}
 use Rattle.std.proofs.lemmas.List.Edits.{length-insert, get_or-insert_at}
 use Rattle.std.proofs.lemmas.List.Folds.{list_all-append, list_any-append}
 use Rattle.fields.specs.numbers.Spans.{has, in_span, AreSpansFrom}
-use Rattle.fields.proofs.laws.numbers.SpanLaws.{in_it, out_above, out_below}
+use Rattle.fields.proofs.laws.numbers.SpanLaws.{in_it, none_below, out_above, out_below}
 use Rattle.classify.specs.line.Line.{starts}
 use Rattle.classify.specs.steps.Cuts.{CutsStart}
-use Rattle.classify.specs.steps.Pieces.{IsRising, StartsAt, row_bits}
+use Rattle.classify.specs.steps.Pieces.{IsRising, IsRisingFrom, StartsAt, row_bits}
 use Rattle.classify.specs.steps.Kept.{PiecesAndRoom, most_start}
 use Rattle.classify.specs.steps.Edits.{with_answer, with_bit, with_test, with_written, row_of}
 use Rattle.classify.specs.steps.Runs.{IsRunIn, IsRunWritten}
-use Rattle.classify.proofs.laws.line.ShownLaws.{Cut, start_in}
+use Rattle.classify.proofs.laws.line.ShownLaws.{Cut}
 use Rattle.classify.proofs.laws.line.KeptLaws.{row_long}
 use Rattle.classify.proofs.laws.line.EndLaws.{ends_from_cuts, starts_zero}
+use Rattle.classify.proofs.laws.line.KeepApartLaws.{within_at}
+use Rattle.classify.proofs.laws.line.LoopLaws.{spans_within}
 use Rattle.classify.proofs.laws.line.RunLaws.{bits_as_long, bits_start, bits_written, start_was}
 
 abbrev none : Cut
@@ -132,83 +133,153 @@ few_more at i spans d from to old now new lt is run h =
 abbrev pub is_open : List Interval → ℕ → Bool
 is_open spans x = has spans x || is_past spans x
 
--- the pieces past the first intervals are those from a place on
-abbrev pub ArePast : List Interval → List Cut → ℕ → Type 0
-ArePast spans line next = (j : ℕ) → j < length line → is_past spans (get_or line j none).0 ≡ leb next j
+past_later : (spans : List Interval) (y x : ℕ) → y ≤ x → is_past spans y ≡ true → is_past spans x ≡ true
+past_later [] y x le e = refl
+past_later (s ∷ ss) y x le e =
+    both (leb (s.last + 1) x) (is_past ss x) (le-leb (s.last + 1) x (omega (arith, le, leb-true (s.last + 1) y (and_first_true (leb (s.last + 1) y) (is_past ss y) e))))
+    ∙ past_later ss y x le (and_second_true (leb (s.last + 1) y) (is_past ss y) e)
 
-pub past_next : (at i : ℕ) (spans : List Interval) (d : Interval) (next from to : ℕ) (old now : List Cut) → i < length spans → now ≡ map (with_bit at (is_open (take i spans))) old
-    → IsRunIn (get_or spans i d) from to now → next ≤ from → ArePast (take i spans) old next → ArePast (take (i + 1) spans) old to
-past_next at i spans d next from to old now lt is run order h j in' =
-    let s : Interval = get_or spans i d in
-    let x : ℕ = (get_or old j none).0 in
-    let start : slice_index (starts now) j ≡ x = start_was at (is_open (take i spans)) old now j is in' in
-    let long : length now ≡ length old = ap (λ (l : List Cut). length l) is ∙ length-map old (with_bit at (is_open (take i spans))) in
-    past_more spans i x d lt
-    ∙ elim (cases_lt j to) [
-      | inl below ↦ and_right (is_past (take i spans) x) (leb (s.last + 1) x) (lt-leb (s.last + 1) x (omega (arith, run.high j below))) ∙ sym (lt-leb to j below)
-      | inr ge ↦ (both (is_past (take i spans) x) (leb (s.last + 1) x) (h j in' ∙ le-leb next j (omega (arith, run.some))) ∙ le-leb (s.last + 1) x (omega (arith, run.above j ge (omega arith))) ∙ sym (le-leb to j ge))
+-- above the k-th interval the first k are passed, and up to its end they aren't
+past_above : (top k x : ℕ) (spans : List Interval) (d : Interval) → AreSpansFrom top 0 spans → 0 < k → k ≤ length spans → (get_or spans (k - 1) d).last < x → is_past (take k spans) x ≡ true
+past_above top k x spans d h some le above =
+    let last : ℕ = k - 1 in
+    let e : k ≡ last + 1 = omega arith in
+    let s : Interval = get_or spans last d in
+    ap (λ n. is_past (take n spans) x) e ∙ past_more spans last x d (omega arith)
+    ∙ both (is_past (take last spans) x) (leb (s.last + 1) x)
+    (past_later (take last spans) s.first x (omega (arith, above, interval_some top 0 spans last d h (omega arith))) (past_first top 0 spans last d h (omega arith)))
+    ∙ le-leb (s.last + 1) x (omega (arith, above))
+
+past_within : (k x : ℕ) (spans : List Interval) (d : Interval) → 0 < k → k ≤ length spans → x ≤ (get_or spans (k - 1) d).last → is_past (take k spans) x ≡ false
+past_within k x spans d some le within =
+    let last : ℕ = k - 1 in
+    let e : k ≡ last + 1 = omega arith in
+    ap (λ n. is_past (take n spans) x) e ∙ past_more spans last x d (omega arith)
+    ∙ and_right (is_past (take last spans) x) (leb ((get_or spans last d).last + 1) x) (lt-leb ((get_or spans last d).last + 1) x (omega (arith, within)))
+
+-- nothing is written
+same_bits : (at : ℕ) (f g : ℕ → Bool) (old now : List Cut) → now ≡ map (with_bit at f) old → ((j : ℕ) → j < length old → g (get_or old j none).0 ≡ f (get_or old j none).0) → now ≡ map (with_bit at g) old
+same_bits at f g old now is same =
+    bits_written at false 0 0 f g old now now is
+    (record { as_long = refl; written = λ j d ge lt. absurd (omega (arith, lt)); before = λ j d lt. refl; after = λ j d ge. refl })
+    (λ j in' ge lt. absurd (omega (arith, lt))) (λ j in' lt. same j in') (λ j in' ge. same j in')
+
+-- where the first interval begins with 0, all numbers are in it or above it
+open_all : (s : Interval) (x : ℕ) → s.first ≡ 0 → is_open (s ∷ []) x ≡ true
+open_all s x z =
+    elim (cases_lt s.last x) [
+      | inl above ↦ or_right (has (s ∷ []) x) (is_past (s ∷ []) x) (both (leb (s.last + 1) x) true (le-leb (s.last + 1) x (omega (arith, above))))
+      | inr within ↦ ap (λ (b : Bool). (b || false) || is_past (s ∷ []) x) (in_it s x (omega (arith, z)) within)
     ]
 
--- the next interval's pieces are not among those passed
-pub next_before : (top at i : ℕ) (spans : List Interval) (d : Interval) (next from to : ℕ) (old now : List Cut) → AreSpansFrom top 0 spans → i < length spans → now ≡ map (with_bit at (is_open (take i spans))) old
-    → IsRunIn (get_or spans i d) from to now → ArePast (take i spans) old next → next ≤ from
-next_before top at i spans d next from to old now canonical lt is run h =
-    let long : length now ≡ length old = ap (λ (l : List Cut). length l) is ∙ length-map old (with_bit at (is_open (take i spans))) in
-    let in' : from < length old = omega (arith, run.some, run.ends) in
-    let x : ℕ = (get_or old from none).0 in
-    let start : x ≡ (get_or spans i d).first = sym (start_was at (is_open (take i spans)) old now from is in') ∙ run.start in
-    leb-true next from (sym (h from in') ∙ ap (is_past (take i spans)) start ∙ past_first top 0 spans i d canonical lt)
+-- a set that has 0 begins with it
+pub begins_with_0 : (top : ℕ) (spans : List Interval) (d : Interval) → AreSpansFrom top 0 spans → has spans 0 ≡ true → (0 < length spans) × ((get_or spans 0 d).first ≡ 0)
+begins_with_0 top [] d h e = absurd (false≢true e)
+begins_with_0 top (s ∷ ss) d h e = (
+  omega arith,
+  elim (cases_lt 0 s.first) [
+    | inl later ↦ absurd (false≢true (sym (ap (λ (b : Bool). b || has ss 0) (out_below s 0 later) ∙ none_below top (s.last + 2) 0 ss h.3 (omega arith)) ∙ e))
+    | inr zero' ↦ omega (arith, zero')
+  ],
+)
 
-pub most_more : (at i : ℕ) (spans : List Interval) (d : Interval) (next from to : ℕ) (old now new : List Cut) → i < length spans → now ≡ map (with_bit at (is_open (take i spans))) old
-    → IsRunIn (get_or spans i d) from to now → next ≤ from → ArePast (take i spans) old next → IsRunWritten at false next from now new → new ≡ map (with_bit at (is_open (take (i + 1) spans))) old
-most_more at i spans d next from to old now new lt is run order h w =
-    let s : Interval = get_or spans i d in
-    let before : ℕ → Bool = has (take i spans) in
-    let past : ℕ → Bool = is_past (take i spans) in
-    let f : ℕ → Bool = is_open (take i spans) in
-    let g : ℕ → Bool = is_open (take (i + 1) spans) in
+pub gaps_first : (top at : ℕ) (spans own : List Interval) (old now : List Cut) → spans ≡ own → AreSpansFrom top 0 own → has own 0 ≡ true → now ≡ map (with_bit at (λ _. true)) old → now ≡ map (with_bit at (is_open (take 1 spans))) old
+gaps_first top at [] own old now same h e is = let P : List Interval → Type 0 = λ ss. has ss 0 ≡ true in absurd (false≢true (subst P (sym same) e))
+gaps_first top at (s ∷ ss) own old now same h e is =
+    let P : List Interval → Type 0 = λ all. (AreSpansFrom top 0 all) × (has all 0 ≡ true) in
+    let own' = subst P (sym same) (h, e) in
+    same_bits at (λ _. true) (is_open (s ∷ [])) old now is (λ j in'. open_all s (get_or old j none).0 (begins_with_0 top (s ∷ ss) s own'.0 own'.1).1)
+
+-- the numbers between two neighbours
+pub record IsGap (spans : List Interval) (d : Interval) (k : ℕ) (gap : Interval) : Type 0 where
+  pub later : 0 < k
+  pub within : k < length spans
+  pub first : gap.first ≡ (get_or spans (k - 1) d).last + 1
+  pub last : gap.last + 1 ≡ (get_or spans k d).first
+
+-- there is one between any two
+gap_next : (top low j : ℕ) (spans : List Interval) (d : Interval) → AreSpansFrom top low spans → suc j < length spans → (get_or spans j d).last + 2 ≤ (get_or spans (suc j) d).first
+gap_next top low j [] d h lt = absurd (omega arith)
+gap_next top low zero (s ∷ []) d h lt = absurd (omega arith)
+gap_next top low zero (s ∷ t ∷ ss) d h lt = h.3.0
+gap_next top low (suc j) (s ∷ ss) d h lt = gap_next top (s.last + 2) j ss d h.3 (omega arith)
+
+pub gap_some : (top k : ℕ) (spans : List Interval) (d : Interval) → AreSpansFrom top 0 spans → 0 < k → k < length spans → (get_or spans (k - 1) d).last + 2 ≤ (get_or spans k d).first
+gap_some top k spans d h some lt =
+    let e : suc (k - 1) ≡ k = omega (arith, some) in
+    let P : ℕ → Type 0 = λ n. (get_or spans (k - 1) d).last + 2 ≤ (get_or spans n d).first in
+    subst P e (gap_next top 0 (k - 1) spans d h (omega (arith, some, lt)))
+
+pub gap_begins : (top at k : ℕ) (test : ℕ → Bool) (spans own : List Interval) (d gap : Interval) (l : PiecesAndRoom) (now : List Cut) → now ≡ map (with_bit at test) l.pieces → spans ≡ own → AreSpansFrom top 0 own → CutsStart top own l.pieces → IsGap spans d k gap
+    → StartsAt gap.first now
+gap_begins top at k test spans own d gap l now is same canonical cuts g =
+    let all = ends_from_cuts top 0 l.pieces own canonical (λ x _ le ne. cuts x le ne) (λ _. starts_zero most_start l.pieces l.stands.rising) in
+    let lt : k - 1 < length own = omega (arith, g.later, g.within, ap (λ (ss : List Interval). length ss) same) in
+    let C : List Interval → Type 0 = AreSpansFrom top 0 in
+    let canonical' : AreSpansFrom top 0 spans = subst C (sym same) canonical in
+    let low : (get_or spans (k - 1) d).last < top = omega (arith, gap_some top k spans d canonical' g.later g.within, (spans_within top 0 spans k d canonical' g.within).0) in
+    let P : List Cut → Type 0 = λ line. StartsAt gap.first line in
+    let Q : List Interval → Type 0 = λ ss. (get_or ss (k - 1) d).last < top → StartsAt ((get_or ss (k - 1) d).last + 1) l.pieces in
+    let R : ℕ → Type 0 = λ x. StartsAt x l.pieces in
+    subst P (sym is) (bits_start at gap.first test l.pieces (subst R (sym g.first) (subst Q (sym same) (all (k - 1) d lt).1 low)))
+
+pub gap_more : (top at k : ℕ) (spans : List Interval) (d gap : Interval) (from to : ℕ) (old now new : List Cut) → AreSpansFrom top 0 spans → IsGap spans d k gap → now ≡ map (with_bit at (is_open (take k spans))) old
+    → IsRunIn gap from to now → IsRunWritten at false from to now new → new ≡ map (with_bit at (is_open (take (k + 1) spans))) old
+gap_more top at k spans d gap from to old now new canonical g is run w =
+    let s : Interval = get_or spans k d in
+    let before : ℕ → Bool = has (take k spans) in
+    let past : ℕ → Bool = is_past (take k spans) in
+    let f : ℕ → Bool = is_open (take k spans) in
+    let open_next : ℕ → Bool = is_open (take (k + 1) spans) in
+    let order = gap_some top k spans d canonical g.later g.within in
+    let long' = interval_some top 0 spans k d canonical g.within in
     let start : (j : ℕ) → j < length old → slice_index (starts now) j ≡ (get_or old j none).0 = λ j in'. start_was at f old now j is in' in
     let long : length now ≡ length old = ap (λ (l : List Cut). length l) is ∙ length-map old (with_bit at f) in
-    let parts : (x : ℕ) (a b : Bool) → in_span x s ≡ a → leb (s.last + 1) x ≡ b → g x ≡ ((before x || a) || (past x && b)) =
-    λ x a b e e'. (let one = has_more spans i x d lt ∙ ap (λ (c : Bool). before x || c) e in let two = past_more spans i x d lt ∙ ap (λ (c : Bool). past x && c) e' in λ k. one k || two k) in
-    bits_written at false next from f g old now new is w
+    let parts : (x : ℕ) (a b : Bool) → in_span x s ≡ a → leb (s.last + 1) x ≡ b → open_next x ≡ ((before x || a) || (past x && b)) =
+    λ x a b e e'. (let one = has_more spans k x d g.within ∙ ap (λ (c : Bool). before x || c) e in let two = past_more spans k x d g.within ∙ ap (λ (c : Bool). past x && c) e' in λ i. one i || two i) in
+    bits_written at false from to f open_next old now new is w
     (λ j in' ge below. (let x : ℕ = (get_or old j none).0 in
-    let is_past' : past x ≡ true = h j in' ∙ le-leb next j ge in
-    let lt' : x < s.first = omega (arith, start j in', run.below j below) in
-    let lt'' : x ≤ s.last = omega (arith, start j in', run.high j (omega (arith, run.some))) in
-    parts x false false (out_below s x lt') (lt-leb (s.last + 1) x (omega arith)) ∙ or_false (before x || false) (past x && false) (and_right (past x) false refl) ∙ or_false (before x) false refl ∙ past_none (take i spans) x is_past'))
+    let low : gap.first ≤ x = omega (arith, start j in', run.low j ge (omega arith)) in
+    let high : x ≤ gap.last = omega (arith, start j in', run.high j below) in
+    let is_past' : past x ≡ true = past_above top k x spans d canonical g.later (omega (arith, g.within)) (omega (arith, g.first, low)) in
+    parts x false false (out_below s x (omega (arith, g.last, high))) (lt-leb (s.last + 1) x (omega (arith, g.last, high, long')))
+    ∙ or_false (before x || false) (past x && false) (and_right (past x) false refl) ∙ or_false (before x) false refl ∙ past_none (take k spans) x is_past'))
     (λ j in' less. (let x : ℕ = (get_or old j none).0 in
-    let not_past : past x ≡ false = h j in' ∙ lt-leb next j less in
-    let lt' : x < s.first = omega (arith, start j in', run.below j (omega arith)) in
-    let lt'' : x ≤ s.last = omega (arith, start j in', run.high j (omega (arith, run.some))) in
-    parts x false false (out_below s x lt') (lt-leb (s.last + 1) x (omega arith)) ∙ or_false (before x || false) (past x && false) (and_right (past x) false refl) ∙ or_false (before x) false refl
+    let low : x < gap.first = omega (arith, start j in', run.below j less) in
+    let not_past : past x ≡ false = past_within k x spans d g.later (omega (arith, g.within)) (omega (arith, g.first, low)) in
+    parts x false false (out_below s x (omega (arith, g.first, low, order))) (lt-leb (s.last + 1) x (omega (arith, g.first, low, order, long')))
+    ∙ or_false (before x || false) (past x && false) (and_right (past x) false refl) ∙ or_false (before x) false refl
     ∙ sym (or_false (before x) (past x) not_past)))
     (λ j in' ge. (let x : ℕ = (get_or old j none).0 in
-    let is_past' : past x ≡ true = h j in' ∙ le-leb next j (omega arith) in
+    let above : gap.last < x = omega (arith, start j in', run.above j ge (omega arith)) in
+    let is_past' : past x ≡ true = past_above top k x spans d canonical g.later (omega (arith, g.within)) (omega (arith, above, g.first, g.last, order)) in
     let was : f x ≡ true = or_right (before x) (past x) is_past' in
-    elim (cases_lt j to) [
-      | inl below ↦ (
-          let inside : in_span x s ≡ true = in_it s x (omega (arith, start j in', run.low j ge (omega arith))) (omega (arith, start j in', run.high j below)) in
-          parts x true false inside (lt-leb (s.last + 1) x (omega (arith, start j in', run.high j below)))
+    elim (cases_lt s.last x) [
+      | inr within ↦ (
+          parts x true false (in_it s x (omega (arith, g.last, above)) within) (lt-leb (s.last + 1) x (omega (arith, within)))
           ∙ ap (λ (c : Bool). c || (past x && false)) (or_right (before x) true refl) ∙ sym was)
-      | inr past_it ↦ (
-          let above : s.last < x = omega (arith, start j in', run.above j past_it (omega arith)) in
-          parts x false true (out_above s x above) (le-leb (s.last + 1) x (omega arith))
+      | inl beyond ↦ (
+          parts x false true (out_above s x beyond) (le-leb (s.last + 1) x (omega (arith, beyond)))
           ∙ or_right (before x || false) (past x && true) (both (past x) true is_past') ∙ sym was)
     ]))
 
--- the pieces past the last interval
-pub most_last : (at i : ℕ) (spans own : List Interval) (next end : ℕ) (old now new : List Cut) → length spans ≤ i → spans ≡ own → end ≡ length now → now ≡ map (with_bit at (is_open (take i spans))) old
-    → ArePast (take i spans) old next → IsRunWritten at false next end now new → new ≡ map (with_bit at (has own)) old
-most_last at i spans own next end old now new ge same is_end is h w =
-    let f : ℕ → Bool = is_open (take i spans) in
-    let all : take i spans ≡ own = take_all i spans ge ∙ same in
-    let long : length now ≡ length old = ap (λ (l : List Cut). length l) is ∙ length-map old (with_bit at f) in
-    let g_is : (x : ℕ) → has own x ≡ has (take i spans) x = λ x. ap (λ (ss : List Interval). has ss x) (sym all) in
-    bits_written at false next end f (has own) old now new is w
-    (λ j in' ge' below. (let x : ℕ = (get_or old j none).0 in g_is x ∙ past_none (take i spans) x (h j in' ∙ le-leb next j ge')))
-    (λ j in' less. (let x : ℕ = (get_or old j none).0 in g_is x ∙ sym (or_false (has (take i spans) x) (is_past (take i spans) x) (h j in' ∙ lt-leb next j less))))
-    (λ j in' past. absurd (omega arith))
+if_not : (b : Bool) → (b ≡ true → ⊥) → b ≡ false
+if_not true f = absurd (f refl)
+if_not false f = refl
+
+start_within : (top : ℕ) (line : List Cut) (j : ℕ) → IsRising top line → j < length line → (get_or line j none).0 ≤ top
+start_within top [] j r lt = absurd r
+start_within top (p ∷ ps) zero r lt = omega (arith, r.0)
+start_within top (p ∷ ps) (suc j) r lt = within_at top 0 ps j r.1 (omega arith)
+
+-- where the last interval ends with the line, no piece is above it
+pub gaps_last : (top at k : ℕ) (spans own : List Interval) (old now : List Cut) → length spans ≤ k → spans ≡ own → has own top ≡ true → IsRising top old → now ≡ map (with_bit at (is_open (take k spans))) old → now ≡ map (with_bit at (has own)) old
+gaps_last top at k spans own old now ge same e rising is =
+    let all : take k spans ≡ own = take_all k spans ge ∙ same in
+    same_bits at (is_open (take k spans)) (has own) old now is (λ j in'.
+    (let x : ℕ = (get_or old j none).0 in
+    let not_past : is_past own x ≡ false = if_not (is_past own x) (λ yes. false≢true (sym (past_none own top (past_later own x top (start_within top old j rising in') yes)) ∙ e)) in
+    sym (ap (λ (ss : List Interval). is_open ss x) all ∙ or_false (has own x) (is_past own x) not_past)))
 
 -- ---- a place opened, and answers written into it
 
@@ -221,6 +292,19 @@ tests_start at x test (p ∷ ps) s = elim s [ inl e ↦ inl e | inr t ↦ inr (t
 
 pub opened_cuts : (top at : ℕ) (spans : List Interval) (old now : List Cut) → IsOpened at old now → CutsStart top spans old → CutsStart top spans now
 opened_cuts top at spans old now is cuts x le ne = let P : List Cut → Type 0 = λ line. StartsAt (suc x) line in subst P (sym is) (tests_start at (suc x) (λ _. false) old (cuts x le ne))
+
+pub opened_rising : (top at : ℕ) (old now : List Cut) → IsOpened at old now → IsRising top old → IsRising top now
+opened_rising top at old now is rising =
+    let P : List Cut → Type 0 = λ line. IsRising top line in
+    subst P (sym is) (go old rising)
+  where
+    from : (a : ℕ) (line : List Cut) → IsRisingFrom top a line → IsRisingFrom top a (map (with_test at (λ _. false)) line)
+    from a [] r = r
+    from a (p ∷ ps) r = (r.0, r.1, from p.0 ps r.2)
+
+    go : (line : List Cut) → IsRising top line → IsRising top (map (with_test at (λ _. false)) line)
+    go [] r = r
+    go (p ∷ ps) r = (r.0, from 0 ps r.1)
 
 opened_row : (at j : ℕ) (old now : List Cut) → IsOpened at old now → j < length now → (j < length old) × (row_of now j ≡ insert (row_of old j) at false)
 opened_row at j old now is lt =
@@ -251,71 +335,3 @@ written_again at test (p ∷ ps) place =
 pub opened_written : (at : ℕ) (spans : List Interval) (l : PiecesAndRoom) (now new : List Cut) → IsOpened at l.pieces now → at ≤ row_bits l.pieces → new ≡ map (with_written at spans) now → new ≡ map (with_answer at spans) l.pieces
 opened_written at spans l now new is le made =
     made ∙ ap (λ (line : List Cut). map (with_written at spans) line) is ∙ written_again at (has spans) l.pieces (λ j lt. omega (arith, row_long l j lt))
-
--- ---- how many pieces are allowed
-
-pub begins_there : (top i : ℕ) (spans own : List Interval) (d : Interval) (l : PiecesAndRoom) → spans ≡ own → AreSpansFrom top 0 own → CutsStart top own l.pieces → i < length spans
-    → StartsAt (get_or spans i d).first l.pieces
-begins_there top i spans own d l same canonical cuts lt =
-    let all = ends_from_cuts top 0 l.pieces own canonical (λ x _ le ne. cuts x le ne) (λ _. starts_zero most_start l.pieces l.stands.rising) in
-    let Q : Interval → Type 0 = λ s. StartsAt s.first l.pieces in
-    subst Q (ap (λ (ss : List Interval). get_or ss i d) (sym same)) (all i d (omega (arith, ap length same))).0
-
-past_later : (spans : List Interval) (y x : ℕ) → y ≤ x → is_past spans y ≡ true → is_past spans x ≡ true
-past_later [] y x le e = refl
-past_later (s ∷ ss) y x le e =
-    both (leb (s.last + 1) x) (is_past ss x) (le-leb (s.last + 1) x (omega (arith, le, leb-true (s.last + 1) y (and_first_true (leb (s.last + 1) y) (is_past ss y) e))))
-    ∙ past_later ss y x le (and_second_true (leb (s.last + 1) y) (is_past ss y) e)
-
--- a piece more, which two tests answer alike
-same_counted : (p q : Cut → Bool) (line : List Cut) (k : ℕ) (b : Bool) → k < length line → p (get_or line k none) ≡ b → q (get_or line k none) ≡ b
-    → count_by q (take (k + 1) line) + count_by p (take k line) ≡ count_by p (take (k + 1) line) + count_by q (take k line)
-same_counted p q line k true lt e f = omega (arith, count_by_more_yes q line k none lt f, count_by_more_yes p line k none lt e)
-same_counted p q line k false lt e f = omega (arith, count_by_more_no q line k none lt f, count_by_more_no p line k none lt e)
-
--- a test that passes the pieces from one place up to another beside those that a second one passes
-counted_upto : (p q : Cut → Bool) (from to : ℕ) (line : List Cut)
-    → ((j : ℕ) → from ≤ j → j < to → j < length line → (p (get_or line j none) ≡ false) × (q (get_or line j none) ≡ true))
-    → ((j : ℕ) → j < length line → (j < from) ⊎ (to ≤ j) → q (get_or line j none) ≡ p (get_or line j none)) → from ≤ to → (k : ℕ) → k ≤ length line
-    → count_by q (take k line) + from ≡ count_by p (take k line) + max from (min k to)
-counted_upto p q from to line inside outside order zero le = let a : max from (min 0 to) ≡ from = omega arith in omega (arith, a)
-counted_upto p q from to line inside outside order (suc k) le =
-    let next : suc k ≡ k + 1 = omega arith in
-    let lt : k < length line = omega (arith, le) in
-    let before = counted_upto p q from to line inside outside order k (omega (arith, le)) in
-    let qs = ap (λ n. count_by q (take n line)) next in
-    let ps = ap (λ n. count_by p (take n line)) next in
-    elim (cases_lt k from) [
-      | inl less ↦ omega (arith, order, less, before, qs, ps, same_counted p q line k (p (get_or line k none)) lt refl (outside k lt (inl less)))
-      | inr ge ↦ elim (cases_lt k to) [
-        | inl below ↦ (
-            let here = inside k ge below lt in
-            omega (arith, order, ge, below, before, qs, ps, count_by_more_yes q line k none lt here.1, count_by_more_no p line k none lt here.0))
-        | inr past ↦ omega (arith, order, ge, past, before, qs, ps, same_counted p q line k (p (get_or line k none)) lt refl (outside k lt (inr past)))
-      ]
-    ]
-
-pub none_counted : (line : List Cut) → count_by (λ p. has [] p.0) line ≡ 0
-none_counted [] = refl
-none_counted (p ∷ ps) = omega (arith, none_counted ps, sum_by-cons (λ (c : Cut). cond (has [] c.0) 1 0) p ps)
-
--- the pieces of one interval more
-pub counted_more : (top i : ℕ) (spans : List Interval) (d : Interval) (from to : ℕ) (line : List Cut) → AreSpansFrom top 0 spans → i < length spans → IsRunIn (get_or spans i d) from to line
-    → count_by (λ p. has (take (i + 1) spans) p.0) line ≡ count_by (λ p. has (take i spans) p.0) line + (to - from)
-counted_more top i spans d from to line canonical lt run =
-    let s : Interval = get_or spans i d in
-    let f : ℕ → Bool = has (take i spans) in
-    let past = past_first top 0 spans i d canonical lt in
-    let all = counted_upto (λ p. f p.0) (λ p. has (take (i + 1) spans) p.0) from to line
-    (λ j ge below in'. (let x : ℕ = (get_or line j none).0 in
-    let low : s.first ≤ x = omega (arith, start_in line j none in', run.low j ge in') in
-    let high : x ≤ s.last = omega (arith, start_in line j none in', run.high j below) in
-    (past_none (take i spans) x (past_later (take i spans) s.first x low past), has_more spans i x d lt ∙ or_right (f x) (in_span x s) (in_it s x low high))))
-    (λ j in' out. (let x : ℕ = (get_or line j none).0 in
-    has_more spans i x d lt ∙ or_false (f x) (in_span x s) (elim out [
-      | inl less ↦ out_below s x (omega (arith, start_in line j none in', run.below j less))
-      | inr above ↦ out_above s x (omega (arith, start_in line j none in', run.above j above in'))
-    ])))
-    (omega (arith, run.some)) (length line) (omega arith) in
-    let whole = take_all (length line) line (omega arith) in
-    omega (arith, run.some, run.ends, all, ap (λ (l : List Cut). count_by (λ p. has (take (i + 1) spans) p.0) l) whole, ap (λ (l : List Cut). count_by (λ p. f p.0) l) whole)

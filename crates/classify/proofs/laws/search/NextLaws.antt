@@ -1,5 +1,5 @@
 -- The first place that every row has is the next box that box_allows the point.
-use Rattle.std.proofs.Common.{◌≡◌, ◌↔◌, inl, inr, ℕ, zero, suc, ◌+◌, ◌-◌, ◌*◌, ◌^◌, ◌<◌, ◌≤◌, Bool, true, false, cond, not, List, [], ◌∷◌, length, drop, take, get_or, ◌++◌, map, refl, sym, ◌∙◌, ap, arith, subst, length-append, Option, Some, None}
+use Rattle.std.proofs.Common.{◌≡◌, ◌↔◌, All, inl, inr, ℕ, zero, suc, ◌+◌, ◌-◌, ◌*◌, ◌^◌, ◌<◌, ◌≤◌, Bool, true, false, cond, not, List, [], ◌∷◌, length, drop, take, get_or, ◌++◌, map, refl, sym, ◌∙◌, ap, arith, subst, length-append, Option, Some, None}
 use Rattle.std.specs.Prelude.{◌/◌, ◌%◌, slice_index, bit_and}
 use Rattle.std.specs.Int.{bit_at}
 use Rattle.std.proofs.lemmas.Nat.Bits.{bit_at_and, bit_at_ones}
@@ -12,9 +12,9 @@ use Rattle.std.specs.List.{list_all, position_or_len}
 use Rattle.std.specs.Option.{option_map}
 use Rattle.std.proofs.Math.Dec.{ltb}
 use Rattle.std.proofs.lemmas.Bool.{cases_lt, cases_Bool, true≢false, lt-ltb, le-ltb, false_from_ne_true}
-use Rattle.std.proofs.lemmas.List.{get_or-drop, get_or-take, get_or-map, get_or_default, length-drop}
+use Rattle.std.proofs.lemmas.List.{get_or-drop, get_or-take, get_or-map, get_or_append_left, get_or_push, length-drop}
 use Rattle.std.proofs.lemmas.List.Folds.{list_all_at}
-use Rattle.std.proofs.lemmas.List.Elements.{All-cons, All-head, All-nil, All-pop, All-push}
+use Rattle.std.proofs.lemmas.List.Elements.{All-cons, All-head, All-nil, All-pop}
 use Rattle.fields.specs.declared.numbers.field.TheConstants.{FIELDS}
 use Rattle.fields.specs.declared.numbers.field.TheConstants.Field.{ALL}
 use Rattle.fields.specs.declared.numbers.field.Field.{Field}
@@ -23,9 +23,10 @@ use Rattle.fields.specs.numbers.Spans.{SpanSet}
 use Rattle.bits.specs.steps.Packing.{IsPacked}
 use Rattle.classify.specs.line.Line.{row_at}
 use Rattle.classify.specs.steps.Pieces.{row_in}
-use Rattle.classify.specs.steps.Fields.{shown_line, shown_by, IsKept}
+use Rattle.classify.specs.steps.Fields.{shown_by, IsKept}
 use Rattle.bits.specs.steps.First.{IsFirst}
-use Rattle.classify.specs.steps.CommonPlaces.{AllowsOn, ArePacked, AreRowsAt, AreRowsOf, AreWide, HaveAll, IsRowAt, IsRowOfPoint, IsWide, bits_of}
+use Rattle.bits.specs.steps.RowWords.{words_of}
+use Rattle.classify.specs.steps.CommonPlaces.{ArePacked, AreRowsOf, AreWide, HaveAll, IsRowOf, IsWide, bits_of}
 use Rattle.rules.specs.boxing.Boxed.{set_on}
 use Rattle.rules.proofs.laws.boxing.BoxLaws.{index-lt, here_is}
 use Rattle.classify.specs.classifier.Classifier.{box_allows, line_on, Classified, IsClassifierOf, IsPoint, box_matches}
@@ -39,101 +40,79 @@ use Rattle.classify.proofs.laws.classifier.WholeLaws.{said_on}
 use Rattle.classify.proofs.laws.line.KeptLaws.{said_long}
 use Rattle.classify.specs.steps.Kept.{PiecesAndRoom}
 
--- ---- the row of a field at a number
+-- ---- the rows of pieces
 
-record IsField (lines : List PiecesAndRoom) (len k x : ℕ) (now : PiecesAndRoom) : Type 0 where
-  long : length (row_in now.pieces x) ≡ len
-  same : now.pieces ≡ get_or (map shown_line lines) k []
+-- what a line lends: a row, after the margin of the line
+pub record IsLent (now : PiecesAndRoom) (bits : List Bool) (row : TurnedWords) : Type 0 where
+  pub own : IsPacked (words_of row.own) (length (after_margin now.room.before bits))
+  pub turn : IsPacked (words_of row.turn) (length (after_margin now.room.before bits))
+  pub has : take (length (after_margin now.room.before bits)) (bits_of row) ≡ after_margin now.room.before bits
+  pub summed : IsSummaryOf row.summary (after_margin now.room.before bits)
 
-field_row : (lines : List PiecesAndRoom) (len k x : ℕ) (d : PiecesAndRoom) → IsKept len lines → k < FIELDS → IsField lines len k x (get_or lines k d)
-field_row lines len k x d h lt =
-    let lt' : k < length lines = omega (arith, h.fields) in
-    record { long = said_long (get_or lines k d) x ∙ (h.sound k d lt').bits; same = sym (shown_at_place lines k d lt') }
-
--- what a line lends at a number: the row there, after the margin of the line
-pub record IsLent (now : PiecesAndRoom) (x : ℕ) (row : TurnedWords) : Type 0 where
-  pub own : IsPacked row.own.now (length (after_margin now.room.before (row_in now.pieces x)))
-  pub turn : IsPacked row.turn.now (length (after_margin now.room.before (row_in now.pieces x)))
-  pub bits : take (length (after_margin now.room.before (row_in now.pieces x))) (bits_of row) ≡ after_margin now.room.before (row_in now.pieces x)
-  pub summed : IsSummaryOf row.summary (after_margin now.room.before (row_in now.pieces x))
-
--- it is the field's row, after the margin of all lines, which is that of the first
-pub field_lent : (lines : List PiecesAndRoom) (len m k x : ℕ) (d e : PiecesAndRoom) (row : TurnedWords) → IsKept len lines → k < FIELDS → m ≡ (get_or lines 0 e).room.before → IsLent (get_or lines k d) x row
-    → IsRowAt m (shown_by len lines) k x row
-field_lent lines len m k x d e row kept lt first h =
-    let now : PiecesAndRoom = get_or lines k d in
-    let f = field_row lines len k x d kept lt in
-    let some : 0 < length lines = omega (arith, kept.fields) in
-    let margin : now.room.before ≡ m =
-    kept.margin k 0 d (omega (arith, kept.fields)) some ∙ ap (λ (l : PiecesAndRoom). l.room.before) (get_or_default lines 0 d e some) ∙ sym first in
-    let own : List Bool = row_in now.pieces x in
-    let long : length (after_margin now.room.before own) ≡ m + len = length-after now.room.before own ∙ omega (arith, f.long) in
-    let here : after_margin now.room.before own ≡ after_margin m (row_in (get_or (map shown_line lines) k []) x) =
-    ap (λ n. after_margin n own) margin ∙ ap (λ (line : List (ℕ × List Bool)). after_margin m (row_in line x)) f.same in
+pub row_lent : (now : PiecesAndRoom) (m : ℕ) (bits : List Bool) (row : TurnedWords) → now.room.before ≡ m → IsLent now bits row → IsRowOf m bits row
+row_lent now m bits row margin h =
+    let long : length (after_margin now.room.before bits) ≡ m + length bits = length-after now.room.before bits ∙ omega (arith, margin) in
+    let here : after_margin now.room.before bits ≡ after_margin m bits = ap (λ n. after_margin n bits) margin in
     let P : List ℕ → ℕ → Type 0 = λ words n. IsPacked words n in
-    let Q : List Bool → Type 0 = λ bits. IsSummaryOf row.summary bits in
+    let Q : List Bool → Type 0 = λ bs. IsSummaryOf row.summary bs in
     record {
-      packed = record { own = subst (P row.own.now) long h.own; turn = subst (P row.turn.now) long h.turn };
-      bits = ap (λ n. take n (bits_of row)) (sym long) ∙ h.bits ∙ here;
+      packed = record { own = subst (P (words_of row.own)) long h.own; turn = subst (P (words_of row.turn)) long h.turn };
+      has = ap (λ n. take n (bits_of row)) (sym long) ∙ h.has ∙ here;
       summed = subst Q here h.summed;
     }
 
--- a bit of the row, past the margin, is that of the line
-row_same : (m : ℕ) (c : Classified) (k x : ℕ) (row : TurnedWords) (p : ℕ) → IsRowAt m c k x row → p < c.len → get_or (bits_of row) (m + p) false ≡ get_or (row_in (get_or c.lines k []) x) p false
-row_same m c k x row p r lt =
-    let in' : m + p < m + c.len = omega arith in
-    let here : List Bool = row_in (get_or c.lines k []) x in
-    sym (get_or-take (m + c.len) (bits_of row) (m + p) false in') ∙ ap (λ (bs : List Bool). get_or bs (m + p) false) r.bits ∙ get-after m p here false
-
-row_gives : (m : ℕ) (c : Classified) (k x : ℕ) (row : TurnedWords) (p : ℕ) → IsRowAt m c k x row → p < c.len → get_or (bits_of row) (m + p) false ≡ true → get_or (row_in (get_or c.lines k []) x) p false ≡ true
-row_gives m c k x row p r lt on = sym (row_same m c k x row p r lt) ∙ on
-
--- ---- all rows
-
--- what all rows have with one more, those without it have, and it
-have_more : (rows : List TurnedWords) (row : TurnedWords) (p : ℕ) → HaveAll (rows ++ row ∷ []) p → HaveAll rows p × (get_or (bits_of row) p false ≡ true)
-have_more rows row p every = All-pop (λ (s : TurnedWords). get_or (bits_of s) p false ≡ true) (rows ++ row ∷ []) rows (Some row) refl every
-
 -- none so far
-pub point_none : (m : ℕ) (c : Classified) (point : List ℕ) (fields : List ℕ) → AreRowsAt m c point [] fields 0
-point_none m c point fields = record { long = refl; are = All-nil (IsRowOfPoint m c point); stand = λ p i lt below every. absurd (omega arith) }
+pub rows_none : (m : ℕ) (found : List (List Bool)) → AreRowsOf m found 0 []
+rows_none m found = record { long = refl; each = λ i d lt. absurd (omega arith) }
 
--- and that of one more
-pub point_more : (m : ℕ) (c : Classified) (point : List ℕ) (rows : List TurnedWords) (fields : List ℕ) (i k : ℕ) (row : TurnedWords) → AreRowsAt m c point rows fields i → k ≡ slice_index fields i → k < FIELDS
-    → IsRowAt m c k (slice_index point k) row → AreRowsAt m c point (rows ++ row ∷ []) fields (i + 1)
-point_more m c point rows fields i k row h here lt r = record {
+-- and one more
+pub rows_more : (m : ℕ) (found : List (List Bool)) (i : ℕ) (rows : List TurnedWords) (row : TurnedWords) → AreRowsOf m found i rows → IsRowOf m (get_or found i []) row → AreRowsOf m found (i + 1) (rows ++ row ∷ [])
+rows_more m found i rows row h r = record {
   long = omega (arith, h.long, length-append rows (row ∷ []));
-  are = All-push (IsRowOfPoint m c point) rows row h.are (k, lt, r);
-  stand = λ p j in' below every.
-      (let parts = have_more rows row (m + p) every in
+  each = λ j d lt.
       elim (cases_lt j i) [
-        | inl before ↦ h.stand p j in' before parts.0
+        | inl before ↦ (let P : TurnedWords → Type 0 = λ s. IsRowOf m (get_or found j []) s in subst P (sym (get_or_append_left rows (row ∷ []) d j (omega (arith, h.long)))) (h.each j d before))
         | inr past ↦ (
-            let e : j ≡ i = omega arith in
-            let P : ℕ → Type 0 = λ n. AllowsOn c point n p in
-            subst P (here ∙ sym (ap (λ n. slice_index fields n) e)) (row_gives m c k (slice_index point k) row p r in' parts.1))
-      ]);
-}
-
--- those of the lines that aren't marked stand for all
-pub point_whole : (lines : List PiecesAndRoom) (len m : ℕ) (point : List ℕ) (rows : List TurnedWords) (marks : List Bool) (fields : List ℕ) (upto : ℕ) (d : PiecesAndRoom) → IsKept len lines → AreMarked marks lines → AreOthers marks fields
-    → upto ≡ length fields → AreRowsAt m (shown_by len lines) point rows fields upto → AreRowsOf m (shown_by len lines) point rows
-point_whole lines len m point rows marks fields upto d kept marked others end h = record {
-  some = omega (arith, h.long, end, others.some);
-  are = h.are;
-  stand = λ p k in' below every.
-      elim (cases_Bool (get_or marks k false)) [
-        | inl on ↦ (
-            let Q : List (ℕ × List Bool) → Type 0 = λ line. get_or (row_in line (slice_index point k)) p false ≡ true in
-            let f = field_row lines len k (slice_index point k) d kept below in
-            let all = said_on (get_or lines k d) (slice_index point k) (marked k d (omega (arith, kept.fields)) on) in
-            subst Q f.same (all p false (omega (arith, f.long, in'))))
-        | inr off ↦ (
-            let a = others.every k below off in
-            let P : ℕ → Type 0 = λ n. AllowsOn (shown_by len lines) point n p in
-            subst P a.2 (h.stand p a.0 in' (omega (arith, a.1, end)) every))
+            let e : i ≡ j = omega arith in
+            let P : TurnedWords → Type 0 = λ s. IsRowOf m (get_or found i []) s in
+            let Q : ℕ → Type 0 = λ n. IsRowOf m (get_or found n []) (get_or (rows ++ row ∷ []) n d) in
+            subst Q e (subst P (sym (get_or_push rows row d i h.long)) r))
       ];
 }
+
+-- a bit past the margin is that of the piece
+pub row_same : (m : ℕ) (bits : List Bool) (row : TurnedWords) (p : ℕ) → IsRowOf m bits row → p < length bits → get_or (bits_of row) (m + p) false ≡ get_or bits p false
+row_same m bits row p r lt =
+    sym (get_or-take (m + length bits) (bits_of row) (m + p) false (omega arith)) ∙ ap (λ (bs : List Bool). get_or bs (m + p) false) r.has ∙ get-after m p bits false
+
+-- ---- the rows of all fields at a point
+
+-- the box at a place allows the point's number on the field
+abbrev pub AllowsOn : Classified → List ℕ → ℕ → ℕ → Type 0
+AllowsOn c point k p = get_or (row_in (get_or c.lines k []) (slice_index point k)) p false ≡ true
+
+-- a line, where there is one
+pub some_line : (lines : List PiecesAndRoom) → 0 < length lines → PiecesAndRoom
+some_line [] lt = absurd (omega arith)
+some_line (l ∷ ls) lt = l
+
+-- those of the lines that aren't marked stand for all
+pub others_stand : (lines : List PiecesAndRoom) (len : ℕ) (point : List ℕ) (marks : List Bool) (fields : List ℕ) (p : ℕ) → IsKept len lines → AreMarked marks lines → AreOthers marks fields → p < len
+    → ((i : ℕ) → i < length fields → AllowsOn (shown_by len lines) point (slice_index fields i) p) → (k : ℕ) → k < FIELDS → AllowsOn (shown_by len lines) point k p
+others_stand lines len point marks fields p kept marked others lt every k below =
+    let d : PiecesAndRoom = some_line lines (omega (arith, kept.fields)) in
+    elim (cases_Bool (get_or marks k false)) [
+      | inl on ↦ (
+          let now : PiecesAndRoom = get_or lines k d in
+          let in' : k < length lines = omega (arith, kept.fields) in
+          let Q : List (ℕ × List Bool) → Type 0 = λ line. get_or (row_in line (slice_index point k)) p false ≡ true in
+          let all = said_on now (slice_index point k) (marked k d in' on) in
+          subst Q (sym (shown_at_place lines k d in')) (all p false (omega (arith, said_long now (slice_index point k), (kept.sound k d in').bits))))
+      | inr off ↦ (
+          let a = others.every k below off in
+          let P : ℕ → Type 0 = λ n. AllowsOn (shown_by len lines) point n p in
+          subst P a.2 (every a.0 a.1))
+    ]
 
 -- a bit of a field's line is a box's answer
 line_answer : (c : Classified) (boxes : List (List SpanSet)) (point : List ℕ) (field : Field) (p : ℕ) (b : List SpanSet) → IsClassifierOf boxes c → IsPoint point → p < length boxes
@@ -155,18 +134,17 @@ passes_each test h field =
       | inr f ↦ absurd (true≢false (sym h ∙ list_all_at test ALL (index field) field (index-lt field) (ap test (here_is field field) ∙ f)))
     ]
 
-pub have_to_allow : (m : ℕ) (c : Classified) (boxes : List (List SpanSet)) (point : List ℕ) (rows : List TurnedWords) (p : ℕ) (b : List SpanSet) → IsClassifierOf boxes c → IsPoint point
-    → AreRowsOf m c point rows → p < length boxes → HaveAll rows (m + p) ↔ (box_matches point (get_or boxes p b) ≡ true)
-have_to_allow m c boxes point rows p b h within rs lt =
-    let in' : p < c.len = omega (arith, h.len) in
+-- the box at a place allows the point where it allows its number on each field, and so where it does on those that stand for all
+pub have_to_allow : (c : Classified) (boxes : List (List SpanSet)) (point fields : List ℕ) (p : ℕ) (b : List SpanSet) → IsClassifierOf boxes c → IsPoint point → All (λ k. k < FIELDS) fields
+    → (((i : ℕ) → i < length fields → AllowsOn c point (slice_index fields i) p) → (k : ℕ) → k < FIELDS → AllowsOn c point k p) → p < length boxes
+    → ((i : ℕ) → i < length fields → AllowsOn c point (slice_index fields i) p) ↔ (box_matches point (get_or boxes p b) ≡ true)
+have_to_allow c boxes point fields p b h within among stand lt =
     let test : Field → Bool = λ field. box_allows (get_or boxes p b) field (number_on point field) in (
-      λ every. every_passes test ALL (λ field. sym (line_answer c boxes point field p b h within lt) ∙ rs.stand p (index field) in' (index-lt field) every),
-      λ pass k d below.
-          (let of = rs.are k d below in
-          let f = field_at of.0 of.1 in
-          let row : TurnedWords = get_or rows k d in
-          let P : ℕ → Type 0 = λ j. get_or (row_in (get_or c.lines j []) (slice_index point j)) p false ≡ true in
-          row_same m c of.0 (slice_index point of.0) row p of.2 in' ∙ subst P f.1 (line_answer c boxes point f.0 p b h within lt ∙ passes_each test pass f.0)),
+      λ every. every_passes test ALL (λ field. sym (line_answer c boxes point field p b h within lt) ∙ stand every (index field) (index-lt field)),
+      λ pass i below.
+          (let f = field_at (slice_index fields i) (among i 0 below) in
+          let P : ℕ → Type 0 = λ k. AllowsOn c point k p in
+          subst P f.1 (line_answer c boxes point f.0 p b h within lt ∙ passes_each test pass f.0)),
     )
 
 -- ---- the summary of all rows
@@ -228,13 +206,13 @@ have_one row p t =
 one_is : (row : TurnedWords) (p : ℕ) → HaveAll (row ∷ []) p → get_or (bits_of row) p false ≡ true
 one_is row p h = All-head (λ (r : TurnedWords). get_or (bits_of r) p false ≡ true) row [] h
 
-one_within : (row : TurnedWords) (len p : ℕ) → ArePacked len row → p < 64 * length row.own.now → HaveAll (row ∷ []) p → p < len
+one_within : (row : TurnedWords) (len p : ℕ) → ArePacked len row → p < 64 * length (words_of row.own) → HaveAll (row ∷ []) p → p < len
 one_within row len p h lt have =
     elim (cases_lt p len) [ inl in' ↦ in' | inr le ↦ absurd (true≢false (sym (one_is row p have) ∙ none_past row len p h le lt)) ]
 
 -- after a margin
 pub next_of_one : (row : TurnedWords) (bits : List Bool) (m from : ℕ) (r : Option ℕ) → ArePacked (length bits) row → take (length bits) (bits_of row) ≡ bits → m ≤ length bits
-    → IsFirst (λ p. HaveAll (row ∷ []) (m + p)) from (64 * length row.own.now - m) r → r ≡ next_match (λ bit. bit) (drop m bits) from
+    → IsFirst (λ p. HaveAll (row ∷ []) (m + p)) from (64 * length (words_of row.own) - m) r → r ≡ next_match (λ bit. bit) (drop m bits) from
 next_of_one row bits m from None h e le first =
     next_from_first (λ (bit : Bool). bit) (drop m bits) from false None (λ k ge lt t.
     let in' : m + k < length bits = omega (arith, length-drop m bits) in
@@ -248,8 +226,8 @@ next_of_one row bits m from (Some n) h e le first =
       λ k ge lt t. first.3 k ge lt (have_one row (m + k) (sym (one_has row bits (m + k) e (omega arith)) ∙ sym (get_or-drop m bits k false) ∙ t)),
     )
 
-pub one_wide : (row : TurnedWords) (len : ℕ) → ArePacked len row → AreWide (length row.own.now) (row ∷ [])
-one_wide row len h = All-cons (IsWide (length row.own.now)) row [] (own_wide row len h) (All-nil (IsWide (length row.own.now)))
+pub one_wide : (row : TurnedWords) (len : ℕ) → ArePacked len row → AreWide (length (words_of row.own)) (row ∷ [])
+one_wide row len h = All-cons (IsWide (length (words_of row.own))) row [] (own_wide row len h) (All-nil (IsWide (length (words_of row.own))))
 
-pub one_sums_up : (row : TurnedWords) (bits : List Bool) → ArePacked (length bits) row → take (length bits) (bits_of row) ≡ bits → IsSummaryOf row.summary bits → SumUpAll row.summary (length row.own.now) (row ∷ [])
+pub one_sums_up : (row : TurnedWords) (bits : List Bool) → ArePacked (length bits) row → take (length bits) (bits_of row) ≡ bits → IsSummaryOf row.summary bits → SumUpAll row.summary (length (words_of row.own)) (row ∷ [])
 one_sums_up row bits h e sum p lt have = sum p (one_has row bits p e (one_within row (length bits) p h lt have) ∙ one_is row p have)

@@ -15,6 +15,7 @@ use Rattle.classify.specs.steps.CommonPlaces.{IsAndAt, AreAndsAt, AreWide, HaveA
 use Rattle.bits.specs.steps.Summaries.{IsMarked}
 use Rattle.classify.specs.steps.Summaries.{SumUpAll}
 use Rattle.bits.proofs.laws.MarkLaws.{MarksPlaces, word_empty, masked_marks}
+use Rattle.bits.specs.steps.RowWords.{words_of}
 use Rattle.classify.proofs.laws.search.TurnedLaws.{row_has}
 
 -- ---- the and of the rows so far
@@ -92,19 +93,19 @@ four_first place = record {
 
 -- four words of a row
 abbrev four_of : ℕ → TurnedWords → List ℕ
-four_of place row = zip2 bit_xor (chunk place 4 row.own.now) (chunk place 4 row.turn.now)
+four_of place row = zip2 bit_xor (chunk place 4 (words_of row.own)) (chunk place 4 (words_of row.turn))
 
 four_long : (place words : ℕ) (row : TurnedWords) → IsWide words row → place + 4 ≤ words → length (four_of place row) ≡ 4
 four_long place words row wide room =
-    let own = length-chunk place 4 row.own.now (omega (arith, wide.0)) in
-    let turn = length-chunk place 4 row.turn.now (omega (arith, wide.1)) in
-    length-zip2 bit_xor (chunk place 4 row.own.now) (chunk place 4 row.turn.now) (own ∙ sym turn) ∙ own
+    let own = length-chunk place 4 (words_of row.own) (omega (arith, wide.0)) in
+    let turn = length-chunk place 4 (words_of row.turn) (omega (arith, wide.1)) in
+    length-zip2 bit_xor (chunk place 4 (words_of row.own)) (chunk place 4 (words_of row.turn)) (own ∙ sym turn) ∙ own
 
 four_at : (place words j : ℕ) (row : TurnedWords) → IsWide words row → place + 4 ≤ words → j < 4 → get_or (four_of place row) j 0 ≡ word_at row (place + j)
 four_at place words j row wide room lt =
-    let own = length-chunk place 4 row.own.now (omega (arith, wide.0)) in
-    let turn = length-chunk place 4 row.turn.now (omega (arith, wide.1)) in
-    get_or-zip2 bit_xor (chunk place 4 row.own.now) (chunk place 4 row.turn.now) j 0 0 0 (omega arith) (omega arith) ∙ ap₂ bit_xor (get_or-chunk place 4 row.own.now j 0 lt) (get_or-chunk place 4 row.turn.now j 0 lt)
+    let own = length-chunk place 4 (words_of row.own) (omega (arith, wide.0)) in
+    let turn = length-chunk place 4 (words_of row.turn) (omega (arith, wide.1)) in
+    get_or-zip2 bit_xor (chunk place 4 (words_of row.own)) (chunk place 4 (words_of row.turn)) j 0 0 0 (omega arith) (omega arith) ∙ ap₂ bit_xor (get_or-chunk place 4 (words_of row.own) j 0 lt) (get_or-chunk place 4 (words_of row.turn) j 0 lt)
 
 pub four_more : (rows : List TurnedWords) (k words place : ℕ) (all : List ℕ) (d : TurnedWords) → k < length rows → AreWide words rows → place + 4 ≤ words → AreAndsAt all (take k rows) place
     → AreAndsAt (zip2 bit_and all (four_of place (get_or rows k d))) (take (k + 1) rows) place

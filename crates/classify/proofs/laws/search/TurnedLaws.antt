@@ -12,6 +12,7 @@ use Rattle.bits.specs.declared.turned_rows.TurnedWords.{TurnedWords}
 use Rattle.bits.specs.steps.Packing.{all_bits, IsPacked}
 use Rattle.bits.proofs.laws.GetLaws.{all_bit_at}
 use Rattle.bits.proofs.laws.WordLaws.{length-all_bits}
+use Rattle.bits.specs.steps.RowWords.{words_of}
 use Rattle.classify.specs.steps.CommonPlaces.{ArePacked, IsWide, bits_of, word_at}
 
 length-turned : (turn own : List Bool) → length (turned turn own) ≡ length own
@@ -27,18 +28,18 @@ turned_bit (t ∷ turn) (b ∷ own) (suc p) lt n = turned_bit turn own p (omega 
 
 -- ---- the bits of a row
 
-pub length-bits_of : (row : TurnedWords) → length (bits_of row) ≡ 64 * length row.own.now
-length-bits_of row = length-turned (all_bits row.turn.now) (all_bits row.own.now) ∙ length-all_bits row.own.now
+pub length-bits_of : (row : TurnedWords) → length (bits_of row) ≡ 64 * length (words_of row.own)
+length-bits_of row = length-turned (all_bits (words_of row.turn)) (all_bits (words_of row.own)) ∙ length-all_bits (words_of row.own)
 
 -- each is that of its own words, turned
-pub row_bit : (row : TurnedWords) (words p : ℕ) → IsWide words row → p < 64 * words → get_or (bits_of row) p false ≡ xor (get_or (all_bits row.turn.now) p false) (get_or (all_bits row.own.now) p false)
+pub row_bit : (row : TurnedWords) (words p : ℕ) → IsWide words row → p < 64 * words → get_or (bits_of row) p false ≡ xor (get_or (all_bits (words_of row.turn)) p false) (get_or (all_bits (words_of row.own)) p false)
 row_bit row words p wide lt =
-    let own = length-all_bits row.own.now in
-    let turn = length-all_bits row.turn.now in
-    turned_bit (all_bits row.turn.now) (all_bits row.own.now) p (omega (arith, wide.0)) (omega (arith, wide.0, wide.1))
+    let own = length-all_bits (words_of row.own) in
+    let turn = length-all_bits (words_of row.turn) in
+    turned_bit (all_bits (words_of row.turn)) (all_bits (words_of row.own)) p (omega (arith, wide.0)) (omega (arith, wide.0, wide.1))
 
 -- where the bits that turn and are turned differ
-pub turned_differ : (row : TurnedWords) (words p : ℕ) (turn own : Bool) → IsWide words row → p < 64 * words → turn ≡ get_or (all_bits row.turn.now) p false → own ≡ get_or (all_bits row.own.now) p false
+pub turned_differ : (row : TurnedWords) (words p : ℕ) (turn own : Bool) → IsWide words row → p < 64 * words → turn ≡ get_or (all_bits (words_of row.turn)) p false → own ≡ get_or (all_bits (words_of row.own)) p false
     → not (beq turn own) ≡ get_or (bits_of row) p false
 unfolding xor
 turned_differ row words p turn own wide lt t o = ap₂ xor t o ∙ sym (row_bit row words p wide lt)
@@ -57,10 +58,10 @@ sum_is_xor a (suc (suc b)) la lb = absurd (omega arith)
 
 pub row_has : (row : TurnedWords) (place i words : ℕ) → IsWide words row → place < words → i < 64 → (bit_at (word_at row place) i ≡ 1) ↔ (get_or (bits_of row) (64 * place + i) false ≡ true)
 row_has row place i words wide lt in' =
-    let own : ℕ = get_or row.own.now place 0 in
-    let turn : ℕ = get_or row.turn.now place 0 in
+    let own : ℕ = get_or (words_of row.own) place 0 in
+    let turn : ℕ = get_or (words_of row.turn) place 0 in
     let bits : get_or (bits_of row) (64 * place + i) false ≡ xor (nat_eq (bit_at turn i) 1) (nat_eq (bit_at own i) 1) =
-    row_bit row words (64 * place + i) wide (omega arith) ∙ ap₂ xor (all_bit_at row.turn.now place i (omega (arith, wide.1)) in') (all_bit_at row.own.now place i (omega (arith, wide.0)) in') in
+    row_bit row words (64 * place + i) wide (omega arith) ∙ ap₂ xor (all_bit_at (words_of row.turn) place i in') (all_bit_at (words_of row.own) place i in') in
     let e : get_or (bits_of row) (64 * place + i) false ≡ nat_eq (bit_at (word_at row place) i) 1 =
     bits ∙ sym (sum_is_xor (bit_at turn i) (bit_at own i) (bit_at-lt turn i) (bit_at-lt own i)) ∙ sym (ap (λ n. nat_eq n 1) (bit_at_xor own turn i)) in
     (λ one. e ∙ eq-eqb (bit_at (word_at row place) i) 1 one, λ on. eqb-true (bit_at (word_at row place) i) 1 (sym e ∙ on))
@@ -71,8 +72,8 @@ row_has row place i words wide lt in' =
 pub row_wide : (row : TurnedWords) (len words : ℕ) → ArePacked len row → len ≤ 64 * words → 64 * words < len + 64 → IsWide words row
 row_wide row len words h covers tight = (omega (arith, h.own.covers, h.own.tight), omega (arith, h.turn.covers, h.turn.tight))
 
-pub own_wide : (row : TurnedWords) (len : ℕ) → ArePacked len row → IsWide (length row.own.now) row
-own_wide row len h = row_wide row len (length row.own.now) h h.own.covers h.own.tight
+pub own_wide : (row : TurnedWords) (len : ℕ) → ArePacked len row → IsWide (length (words_of row.own)) row
+own_wide row len h = row_wide row len (length (words_of row.own)) h h.own.covers h.own.tight
 
 pub packed_long : (row : TurnedWords) (len : ℕ) → ArePacked len row → length (take len (bits_of row)) ≡ len
 packed_long row len h = length-take-le len (bits_of row) (omega (arith, h.own.covers, length-bits_of row))
@@ -89,7 +90,7 @@ unfolding xor
 none_is = refl
 
 -- no row has a bit past those
-pub none_past : (row : TurnedWords) (len p : ℕ) → ArePacked len row → len ≤ p → p < 64 * length row.own.now → get_or (bits_of row) p false ≡ false
+pub none_past : (row : TurnedWords) (len p : ℕ) → ArePacked len row → len ≤ p → p < 64 * length (words_of row.own) → get_or (bits_of row) p false ≡ false
 none_past row len p h le lt =
     let wide = own_wide row len h in
-    row_bit row (length row.own.now) p wide lt ∙ ap₂ xor (blank_past row.turn.now len p h.turn le (omega (arith, wide.1))) (blank_past row.own.now len p h.own le lt) ∙ none_is
+    row_bit row (length (words_of row.own)) p wide lt ∙ ap₂ xor (blank_past (words_of row.turn) len p h.turn le (omega (arith, wide.1))) (blank_past (words_of row.own) len p h.own le lt) ∙ none_is

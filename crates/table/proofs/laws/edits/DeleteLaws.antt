@@ -1,5 +1,5 @@
 -- A chain taken away.
-use Rattle.std.proofs.Common.{◌≡◌, ◌≢◌, ◌⊎◌, inl, inr, ℕ, suc, ◌+◌, ◌-◌, ◌<◌, ◌≤◌, Bool, true, false, cond, ◌||◌, List, [], ◌∷◌, length, get_or, refl, sym, ◌∙◌, ap, arith, subst, Option, Some, None, IsSome, unwrap_or, All, nat_eq}
+use Rattle.std.proofs.Common.{◌≡◌, ◌≢◌, ◌⊎◌, inl, inr, ℕ, suc, ◌+◌, ◌<◌, ◌≤◌, Bool, true, false, cond, ◌||◌, List, [], ◌∷◌, length, get_or, refl, sym, ◌∙◌, ap, arith, subst, Option, Some, None, IsSome, unwrap_or, All, nat_eq}
 use Rattle.table.proofs.laws.chains.RenamedLaws.{without_at}
 use Rattle.table.proofs.laws.edits.RenameLaws.{leading_remove}
 use Rattle.std.specs.Prelude.{count_by, remove, nat_lt}

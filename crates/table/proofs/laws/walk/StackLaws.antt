@@ -1,14 +1,16 @@
 -- The stack of a walk over keys, and the chain under a key.
-use Rattle.std.proofs.Common.{◌≡◌, ℕ, ◌+◌, List, [], ◌∷◌, ◌++◌, length, get_or, map, refl, sym, ◌∙◌, ap, arith, subst, Option, Some, None, unwrap_or, All, Contains}
-use Rattle.std.proofs.lemmas.List.{get_or-map, length-map, reverse-append, get_or_append_left, get_or_push, length_push}
+use Rattle.std.proofs.Common.{◌≡◌, ℕ, ◌+◌, ◌<◌, List, [], ◌∷◌, ◌++◌, length, get_or, map, refl, sym, ◌∙◌, ap, arith, subst, Option, Some, None, option_map, unwrap_or, All, Contains}
+use Rattle.std.proofs.lemmas.List.{get_or_default, get_or-map, length-map, reverse-append, get_or_append_left, get_or_push, length_push}
 use Rattle.std.proofs.lemmas.List.Elements.{All-contains, All-push}
 use Rattle.std.specs.List.{position}
 use Rattle.table.specs.chains.Table.{Policy, Chain, is_named, rules_of}
 use Rattle.table.specs.steps.Kept.{blank, slot_at, stored_at, name_at, listed_at, listed, table_with, IsIn, IsLinked, IsStored}
 use Rattle.table.specs.steps.StoredChains.{StoredChain, rules_in}
-use Rattle.table.specs.steps.Walking.{rest_of, rests_of, state_of, start, IsState}
+use Rattle.table.specs.steps.Walking.{entry_before, rest_of, rests_of, state_of, start, IsState}
+use Rattle.table.specs.walk.Trail.{shown}
 use Rattle.table.specs.declared.chain.entry.Entry.{Entry}
 use Rattle.table.specs.declared.walk.Pending.{Pending}
+use Rattle.table.specs.declared.walk.trail.Step.{Step}
 use Rattle.table.proofs.laws.chains.KeepLaws.{rules_by_name}
 use Rattle.table.proofs.laws.chains.StoreLaws.{place_is}
 
@@ -59,3 +61,11 @@ place_under ps slots order key stored_chain name h at is e none =
     let own : name_at slots order at.0 ≡ name = ap (λ k. (stored_at slots k).name) at.2 ∙ ap (λ (r : StoredChain). r.name) (stored_is slots key stored_chain is) ∙ sym e in
     let some : Some at.0 ≡ None = sym (place_is ps slots order name at.0 h at.1 own) ∙ none in
     cc
+
+-- the rule before a place in the chain at a place of the listing, whose key is looked at
+pub step_there : (ps : List Policy) (slots : List (Option StoredChain)) (order : List ℕ) (place key : ℕ) (at : Pending) → IsStored ps slots order → place < length order → at.chain ≡ key → key ≡ get_or order place key
+    → shown (listed slots order) (entry_before slots at) ≡ Some (record { chain = place; number = at.passed })
+step_there ps slots order place key at h lt same is =
+    let name : ℕ → List ℕ = λ k. (stored_at slots k).name in
+    let step : ℕ → Step = λ k. record { chain = k; number = at.passed } in
+    ap (option_map step) (place_is ps slots order (name at.chain) place h lt (ap name (get_or_default order place 0 key lt ∙ sym (same ∙ is))))

@@ -1,9 +1,9 @@
-use Rattle.std.proofs.Common.{◌≡◌, ◌<◌, ◌≤◌, ◌+◌, ◌-◌, ◌∙◌, inl, inr, sym, ap, arith, length, get_or, false, [], List, ℕ}
+use Rattle.std.proofs.Common.{◌≡◌, ◌<◌, ◌≤◌, ◌+◌, ◌-◌, ◌∙◌, inl, inr, sym, arith, length, get_or, false, [], ℕ}
 use Rattle.std.proofs.lemmas.Bool.{cases_lt}
 use Rattle.bits.specs.steps.Held.{words_in}
 use Rattle.bits.specs.steps.Packing.{all_bits}
 use Rattle.bits.proofs.laws.PlaceLaws.{place_below}
-use Rattle.bits.proofs.laws.RowsLaws.{row_there, slots_in_order}
+use Rattle.bits.proofs.laws.RowsLaws.{row_there}
 use Rattle.bits.proofs.laws.SlotRunLaws.{IsRun, bit_lent, run_below, run_up_to}
 use Rattle.bits.proofs.rows.Rows.run_start.Goals.{After-run_to-slots, After-alike_from-alike}
 use Rattle.bits.proofs.rows.Rows.run_start.Goals as goal
@@ -20,9 +20,9 @@ run c =
 -- the bit of a row whose slot is one of them
 bit : (c : After-alike_from-alike) → IsRun c.self.inside.slots (c.loop-first.first - 1 + 1 - length c.run_to-slots.result.now) c.run_to-slots.result.now → c.args.at < c.self.inside.len
     → (k i : ℕ) → i < length c.run_to-slots.result.now → k + length c.run_to-slots.result.now ≡ c.loop-first.first + i
-    → get_or (get_or c.args.self.now.rows k []) c.args.at false ≡ get_or (all_bits (words_in c.self.inside.width c.deref.result.now (get_or c.run_to-slots.result.now i 0))) c.args.at false
+    → get_or (get_or c.args.self.now.rows k []) c.args.at false ≡ get_or (all_bits (words_in c.self.inside.words.width c.self.inside.words.words (get_or c.run_to-slots.result.now i 0))) c.args.at false
 bit c r in' k i lt e =
-    bit_lent _ _ c.args.at _ _ c.deref.result.now c.args.self.now _ c.run_to-slots.result.now k i c.self.view_is in' c.deref.ensures.value r lt (omega (arith, e, c.loop-first-test.true, c.run_to-slots.ensures.within))
+    bit_lent _ _ c.args.at _ _ c.args.self.now _ c.run_to-slots.result.now k i c.self.view_is in' r lt (omega (arith, e, c.loop-first-test.true, c.run_to-slots.ensures.within))
 
 -- so the rows from where those begin that are alike have the bit
 alike : (c : After-alike_from-alike) → IsRun c.self.inside.slots (c.loop-first.first - 1 + 1 - length c.run_to-slots.result.now) c.run_to-slots.result.now → c.args.at < c.self.inside.len
@@ -41,10 +41,8 @@ alike c r in' k low high =
 pub alike_from-alike-requires-clause-place : goal.alike_from-alike-requires-clause-place
 alike_from-alike-requires-clause-place c = omega (arith, place (goal.at.alike_from-alike-requires-clause-place c).After-run_to-slots, c.self.invariant.0.covers)
 
-pub alike_from-alike-requires-clause-within : goal.alike_from-alike-requires-clause-within
-alike_from-alike-requires-clause-within c = λ k lt.
-    let below = run_below _ _ _ _ _ _ k c.self.invariant.0 (run (goal.at.alike_from-alike-requires-clause-within c).After-run_to-slots) lt in
-    omega (arith, slots_in_order c.self.inside.width (get_or c.run_to-slots.result.now k 0) (length c.self.inside.slots) below, c.self.invariant.0.wide, ap (λ (ws : List ℕ). length ws) c.deref.ensures.value)
+pub alike_from-alike-requires-clause-below : goal.alike_from-alike-requires-clause-below
+alike_from-alike-requires-clause-below c = λ k lt. omega (arith, run_below _ _ _ _ _ _ k c.self.invariant.0 (run (goal.at.alike_from-alike-requires-clause-below c).After-run_to-slots) lt, c.self.invariant.2)
 
 pub returns-then-alike-gt0-clause-alike : goal.returns-then-alike-gt0-clause-alike
 returns-then-alike-gt0-clause-alike c = λ k low high.

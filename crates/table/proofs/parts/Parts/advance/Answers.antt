@@ -19,6 +19,7 @@ rests-preserved g c = record {
       ∙ ap (λ (rs : List Rest). first_hit (listed c.args.self.now.chains.slots c.args.self.now.order.items) c.args.packet.now.values rs)
       (rests_pop c.args.self.now.chains.slots c.rests.stack.items c.pop.new.self.items c.in-Some-pop.rest c.in-Some-pop.ensures.items);
   state = state_pop c.args.self.now.order.items c.rests.at c.in-Some-pop.rest c.rests.stack.items c.pop.new.self.items c.in-Some-pop.ensures.items c.rests.invariant.state;
+  found = c.next_rule.ensures.found;
 }
 
 pub returns-in-None-pop-clause-none : goal.returns-in-None-pop-clause-none

@@ -12,6 +12,7 @@ walk-init g c =
       same = ap (λ (rs : List Rest). verdict_in (walk_within 65536 (listed c.args.self.now.chains.slots c.args.self.now.order.items) c.args.policy c.args.packet.now.values rs)) rests;
       state = start_state c.args.self.now.order.items c.args.hook c.index.result.now c.start-at.result c.new-stack.result.items c.requires.hook c.index.ensures c.start-at.ensures c.new-stack.ensures;
       depth = start_depth c.args.self.now.policies 65536 c.args.self.now.chains.slots c.args.self.now.order.items c.args.packet.now.values _ _ c.requires.kept rests;
+      found = record { first = c.find.ensures.found; odd = tt; even = tt };
     }
 
 pub returns-in_default-clause-some : goal.returns-in_default-clause-some
@@ -51,6 +52,7 @@ walk-preserved g c =
           ∙ sym (ap verdict_in (within_hit c.walk.left (listed c.args.self.now.chains.slots c.args.self.now.order.items) c.args.policy c.args.packet.now.values (state_of c.args.self.now.chains.slots c.walk.at c.walk.stack.items)
           c.in-Some.ensures.some.hit (GoesOn (state_of c.args.self.now.chains.slots c.follow.new.at c.follow.new.stack.items)) c.in-Some.ensures.some.is goes (omega arith)))
           ∙ c.walk.invariant.same;
+      found = c.advance.ensures.found;
       state = c.in-Continues.ensures.state c.args.self.now.order.items c.in-Some.ensures.some.state c.in-Some.ensures.some.leads refl;
       depth = depth_after c.walk.left 1024 (listed c.args.self.now.chains.slots c.args.self.now.order.items) c.args.packet.now.values (state_of c.args.self.now.chains.slots c.walk.at c.walk.stack.items)
           (state_of c.args.self.now.chains.slots c.follow.new.at c.follow.new.stack.items) c.in-Some.ensures.some.hit c.in-Some.ensures.some.is goes (omega arith) c.walk.invariant.depth;

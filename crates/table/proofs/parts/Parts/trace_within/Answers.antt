@@ -18,6 +18,8 @@ walk-init g c =
       same = after_none (within (state_of c.args.self.now.chains.slots c.start-at.result c.new-stack.result.items)) ∙ ap (λ (rs : List Rest). unwrap_or (within rs) too_long) rests;
       state = start_state c.args.self.now.order.items c.args.hook c.index.result.now c.start-at.result c.new-stack.result.items c.requires.hook c.index.ensures c.start-at.ensures c.new-stack.ensures;
       depth = start_depth c.args.self.now.policies 65536 c.args.self.now.chains.slots c.args.self.now.order.items c.args.packet.now.values _ _ c.requires.kept rests;
+      found = record { first = c.find.ensures.found; odd = tt; even = tt };
+      last = c.requires.hook;
     }
 
 pub returns-in_default-clause-some : goal.returns-in_default-clause-some
@@ -34,13 +36,13 @@ pub returns-in-Decided-clause-some : goal.returns-in-Decided-clause-some
 returns-in-Decided-clause-some g c =
     shows_end (listed c.args.self.now.chains.slots c.args.self.now.order.items) c.walk.invariant.entries (walk_within c.walk.left (listed c.args.self.now.chains.slots c.args.self.now.order.items) c.args.policy c.args.packet.now.values (state_of c.args.self.now.chains.slots c.walk.at c.walk.stack.items)) (decided c.in-Some.ensures.some.hit.entry c.in-Decided.verdict) _ (record { steps = c.push.new.self; verdict = c.in-Decided.verdict; by_policy = false }) c.decided-in-Decided.result
     (within_hit c.walk.left (listed c.args.self.now.chains.slots c.args.self.now.order.items) c.args.policy c.args.packet.now.values (state_of c.args.self.now.chains.slots c.walk.at c.walk.stack.items) c.in-Some.ensures.some.hit (Ends c.in-Decided.verdict) c.in-Some.ensures.some.is (c.in-Some.ensures.some.next ∙ c.in-Decided.ensures.follows c.args.self.now.chains.slots) (omega arith)) c.walk.invariant.same
-    (shown_one (listed c.args.self.now.chains.slots c.args.self.now.order.items) c.walk.invariant.entries c.walk.steps.items c.push.new.self.items c.in-Some.ensures.some.hit.entry c.step_before.result c.walk.invariant.shown (ap (shown (listed c.args.self.now.chains.slots c.args.self.now.order.items)) c.in-Some.ensures.some.entry ∙ c.step_before.ensures) c.in_ok-push.ensures.items) refl refl c.decided-in-Decided.ensures
+    (shown_one (listed c.args.self.now.chains.slots c.args.self.now.order.items) c.walk.invariant.entries c.walk.steps.items c.push.new.self.items c.in-Some.ensures.some.hit.entry c.step_before-step.result c.walk.invariant.shown (ap (shown (listed c.args.self.now.chains.slots c.args.self.now.order.items)) c.in-Some.ensures.some.entry ∙ c.step_before-step.ensures.shown) c.in_ok-push.ensures.items) refl refl c.decided-in-Decided.ensures
 
 pub returns-in-ByPolicy-clause-some : goal.returns-in-ByPolicy-clause-some
 returns-in-ByPolicy-clause-some g c =
     shows_end (listed c.args.self.now.chains.slots c.args.self.now.order.items) c.walk.invariant.entries (walk_within c.walk.left (listed c.args.self.now.chains.slots c.args.self.now.order.items) c.args.policy c.args.packet.now.values (state_of c.args.self.now.chains.slots c.walk.at c.walk.stack.items)) (with_entry c.in-Some.ensures.some.hit.entry (at_end c.args.policy)) _ (record { steps = c.push.new.self; verdict = c.args.policy; by_policy = true }) c.undecided-in-ByPolicy.result
     (within_policy c.walk.left (listed c.args.self.now.chains.slots c.args.self.now.order.items) c.args.policy c.args.packet.now.values (state_of c.args.self.now.chains.slots c.walk.at c.walk.stack.items) c.in-Some.ensures.some.hit c.in-Some.ensures.some.is (c.in-Some.ensures.some.next ∙ c.in-ByPolicy.ensures.follows c.args.self.now.chains.slots) (omega arith)) c.walk.invariant.same
-    (shown_one (listed c.args.self.now.chains.slots c.args.self.now.order.items) c.walk.invariant.entries c.walk.steps.items c.push.new.self.items c.in-Some.ensures.some.hit.entry c.step_before.result c.walk.invariant.shown (ap (shown (listed c.args.self.now.chains.slots c.args.self.now.order.items)) c.in-Some.ensures.some.entry ∙ c.step_before.ensures) c.in_ok-push.ensures.items) refl refl c.undecided-in-ByPolicy.ensures
+    (shown_one (listed c.args.self.now.chains.slots c.args.self.now.order.items) c.walk.invariant.entries c.walk.steps.items c.push.new.self.items c.in-Some.ensures.some.hit.entry c.step_before-step.result c.walk.invariant.shown (ap (shown (listed c.args.self.now.chains.slots c.args.self.now.order.items)) c.in-Some.ensures.some.entry ∙ c.step_before-step.ensures.shown) c.in_ok-push.ensures.items) refl refl c.undecided-in-ByPolicy.ensures
 
 pub returns-in-StackFull-clause-none : goal.returns-in-StackFull-clause-none
 returns-in-StackFull-clause-none g c =
@@ -52,12 +54,14 @@ walk-preserved g c =
     let goes : _ ≡ GoesOn (state_of c.args.self.now.chains.slots c.follow.new.at c.follow.new.stack.items) = c.in-Some.ensures.some.next ∙ c.in-Continues.ensures.follows c.args.self.now.chains.slots in
     record {
       entries = c.walk.invariant.entries ++ c.in-Some.ensures.some.hit.entry ∷ [];
-      shown = shown_one (listed c.args.self.now.chains.slots c.args.self.now.order.items) c.walk.invariant.entries c.walk.steps.items c.push.new.self.items c.in-Some.ensures.some.hit.entry c.step_before.result c.walk.invariant.shown (ap (shown (listed c.args.self.now.chains.slots c.args.self.now.order.items)) c.in-Some.ensures.some.entry ∙ c.step_before.ensures) c.in_ok-push.ensures.items;
+      shown = shown_one (listed c.args.self.now.chains.slots c.args.self.now.order.items) c.walk.invariant.entries c.walk.steps.items c.push.new.self.items c.in-Some.ensures.some.hit.entry c.step_before-step.result c.walk.invariant.shown (ap (shown (listed c.args.self.now.chains.slots c.args.self.now.order.items)) c.in-Some.ensures.some.entry ∙ c.step_before-step.ensures.shown) c.in_ok-push.ensures.items;
       same = sym (after_one c.walk.invariant.entries c.in-Some.ensures.some.hit.entry
           (walk_within (c.walk.left - 1) (listed c.args.self.now.chains.slots c.args.self.now.order.items) c.args.policy c.args.packet.now.values (state_of c.args.self.now.chains.slots c.follow.new.at c.follow.new.stack.items)))
           ∙ sym (ap (after c.walk.invariant.entries) (within_hit c.walk.left (listed c.args.self.now.chains.slots c.args.self.now.order.items) c.args.policy c.args.packet.now.values (state_of c.args.self.now.chains.slots c.walk.at c.walk.stack.items)
           c.in-Some.ensures.some.hit (GoesOn (state_of c.args.self.now.chains.slots c.follow.new.at c.follow.new.stack.items)) c.in-Some.ensures.some.is goes (omega arith)))
           ∙ c.walk.invariant.same;
+      found = c.advance.ensures.found;
+      last = c.step_before-step.ensures.within;
       state = c.in-Continues.ensures.state c.args.self.now.order.items c.in-Some.ensures.some.state c.in-Some.ensures.some.leads refl;
       depth = depth_after c.walk.left 1024 (listed c.args.self.now.chains.slots c.args.self.now.order.items) c.args.packet.now.values (state_of c.args.self.now.chains.slots c.walk.at c.walk.stack.items)
           (state_of c.args.self.now.chains.slots c.follow.new.at c.follow.new.stack.items) c.in-Some.ensures.some.hit c.in-Some.ensures.some.is goes (omega arith) c.walk.invariant.depth;

@@ -34,5 +34,6 @@ returns c =
     record {
       within = omega (arith, c.count_to.ensures.bound, long);
       low = low (c.count_to.result - 1) (omega arith);
+      few = omega (arith, c.count_to.ensures.few, some);
       high = λ lt. high (c.count_to.result - 1 + 1) (omega arith) (omega (arith, long, ap length ss));
     }

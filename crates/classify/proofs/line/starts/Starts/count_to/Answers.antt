@@ -36,6 +36,7 @@ returns c =
     let Out : List ℕ → Type 0 = λ xs. (k : ℕ) → c.count_to-narrow.result + c.partition_point-wide.result ≤ k → k < length xs → c.args.x < slice_index xs k in
     record {
       bound = omega (arith, length-append narrow wide, ap length c.self.view_is, low.bound, high_bound);
+      few = omega (arith, c.self.invariant.few, low.bound, high_bound);
       low = subst In c.self.view_is (counted_in narrow wide c.args.x _ _ counts);
       high = subst Out c.self.view_is (counted_out narrow wide c.args.x _ _ counts);
     }
