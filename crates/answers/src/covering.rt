@@ -17,30 +17,21 @@ struct Covering<'a, 'b, R, E> {
     dump: &'a Dump,
     open: &'a OpenConditions,
     marks: Marks,
-    // Whether the walks of each packet are known.
-    is_clear: bool,
 }
 
 impl<'a, 'b, R: Clock, E: Print + IsTerminal> TakesPackets for Covering<'a, 'b, R, E> {
     fn take(&mut self, number: u64, _line: &[u8], packet: WrittenPacket) -> Result<(), AllocError> {
         let (dump, open) = (self.dump, self.open);
         if !mark_packet(self.asking, dump, open, &packet, &mut self.marks)? {
-            self.is_clear = false;
+            self.marks.note_unclear(number)?;
             let _ = println!(self.errors; "line {number}: unclear");
         }
         Ok(())
     }
 }
 
-/// Rules that match packets, and whether the walks of all these packets are known.
-#[derive(Drop)]
-pub(crate) struct Covered {
-    pub(crate) marks: Marks,
-    pub(crate) is_clear: bool,
-}
-
-/// Marks the rules that match a packet of standard input under some answers. There are no marks where a line of it was refused, whose fault was
-/// written. A packet whose walks aren't known is told of on `errors`, and marks none.
+/// Marks the rules that match a packet of standard input under some answers, and those that one may match whose walks aren't known, of which
+/// `errors` is told. There are no marks where a line of it was refused, whose fault was written.
 ///
 /// # Errors
 ///
@@ -51,7 +42,7 @@ pub(crate) fn read_covered<'a, R, E>(
     asking: &Asking<'_, R, E>,
     dump: &Dump,
     open: &OpenConditions,
-) -> Result<Option<Covered>, Fault<'a>>
+) -> Result<Option<Marks>, Fault<'a>>
 where
     R: Clock + Input + AllocGlobal,
     E: Print + IsTerminal,
@@ -63,15 +54,9 @@ where
         dump,
         open,
         marks: Marks::new(rt.alloc(), dump.table())?,
-        is_clear: true,
     };
     if !take_packets(rt.alloc(), &mut input, errors, &mut covering)? {
         return Ok(None);
     }
-    let Covering {
-        marks,
-        is_clear,
-        ..
-    } = covering;
-    Ok(Some(Covered { marks, is_clear }))
+    Ok(Some(covering.marks))
 }

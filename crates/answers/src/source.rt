@@ -2,7 +2,7 @@
 ghost use Rattle.std.specs.Prelude.{◌≡◌, All, IfSome};
 ghost use Rattle.fields.specs.numbers.Field.{top};
 
-use crate::covering::{Covered, read_covered};
+use crate::covering::read_covered;
 use crate::fault::Fault;
 use audits::{Asking, ask_difference, ask_outcomes, ask_packets, ask_rules};
 use documents::{
@@ -199,8 +199,8 @@ where
         write_form(asking, &self.one(file)?, form, self.audit.json, output)
     }
 
-    // Asks which rules of a file match none of the packets on standard input, and answers the status: 3 where the walks of one of these aren't
-    // known.
+    // Asks which rules of a file match none of the packets on standard input, and answers the status: 1 where one could, else 3 where something
+    // isn't known, of a rule or of one of these packets.
     fn write_cover<W: Write>(
         &self,
         file: &'a str,
@@ -209,11 +209,10 @@ where
     ) -> Result<u8, Fault<'a>> {
         let one = self.one(file)?;
         let found = read_covered(self.rt, self.errors, asking, &one.dump, &one.open)?;
-        let Some(Covered { marks, is_clear }) = found else {
+        let Some(marks) = found else {
             return Ok(2);
         };
-        let status = write_form(asking, &one, Form::Cover(&marks), self.audit.json, output)?;
-        Ok(if is_clear { status } else { 3 })
+        write_form(asking, &one, Form::Cover(&marks), self.audit.json, output)
     }
 
     // Asks whether two files give each packet the same verdict, and answers the status.

@@ -19,6 +19,14 @@ fn covered(form: Form<'_>, at: Step) -> Option<&[Need]> {
     }
 }
 
+// Whether a packet that was given may match the rule, and none is known to.
+fn may_be_covered(form: Form<'_>, at: Step) -> bool {
+    match form {
+        Form::Cover(marks) => marks.is_unclear(at),
+        Form::Dead | Form::Tests => false,
+    }
+}
+
 // Whether it is asked why a rule is dead.
 fn has_reasons(form: Form<'_>) -> bool {
     matches!(form, Form::Dead)
@@ -73,6 +81,7 @@ fn ask_rule<R: Clock, E: Print + IsTerminal>(
         return Ok(Known::Covered(given.to_vec(asking.alloc())?));
     }
     match asking.life(subject, at)? {
+        Life::Live(_, _) if may_be_covered(course.form, at) => Ok(Known::Unclear),
         Life::Live(words, answers) => {
             let given = course.open.shown(asking.alloc(), &answers)?;
             Ok(Known::Live(words, given))

@@ -10,6 +10,7 @@ mod each_rule;
 mod marking;
 mod outcomes;
 mod packet_walks;
+mod possible;
 mod progress;
 mod walking;
 

@@ -1,6 +1,7 @@
 //! A packet marks the rules that it matches.
 use crate::asking::Asking;
 use crate::covering_answers::{all_have, fewest_answers};
+use crate::possible::mark_possible;
 use crate::walking::walks_of;
 use findings::{Dump, Marks, OpenConditions, Passed, Walk};
 use questions::WrittenPacket;
@@ -43,7 +44,8 @@ fn mark_all(marks: &mut Marks, alloc: Global, walks: &[Walk]) -> Result<(), Allo
     Ok(())
 }
 
-/// Marks the rules that a packet matches under some answers. Where its walks aren't known it marks none, and that is told.
+/// Marks the rules that a packet matches under some answers. Where its walks aren't known it marks those that it may match as unclear, and that
+/// is told.
 ///
 /// # Errors
 ///
@@ -60,6 +62,9 @@ pub fn mark_packet<R: Clock, E: Print + IsTerminal>(
             mark_all(marks, asking.alloc(), walks.as_slice())?;
             Ok(true)
         }
-        None => Ok(false),
+        None => {
+            mark_possible(asking.alloc(), dump, packet, marks)?;
+            Ok(false)
+        }
     }
 }

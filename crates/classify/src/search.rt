@@ -1,9 +1,9 @@
 //! The search for the first place that every row has: four words of each are turned and combined at a time, where their
 //! summaries leave a word.
 
-ghost use Rattle.std.specs.Prelude.{IsTrue, ◌<◌, ◌≤◌, ◌+◌, ◌-◌, ◌*◌, ◌/◌, ◌^◌, ℕ};
+ghost use Rattle.std.specs.Prelude.{◌≡◌, ◌<◌, ◌≤◌, ◌+◌, ◌-◌, ◌*◌, ◌/◌, ◌%◌, ◌^◌, ℕ, MatchOption};
 ghost use Rattle.bits.specs.steps.First.{Nowhere, IsFirst};
-ghost use Rattle.classify.specs.steps.CommonPlaces.{IsAndAt, AreWide, HaveAll};
+ghost use Rattle.classify.specs.steps.CommonPlaces.{AreAndsAt, AreWide, HaveAll, IsAndAt};
 ghost use Rattle.classify.specs.steps.Summaries.{SumUpAll};
 
 use bits::{TurnedWords, is_marked, next_marked};
@@ -24,20 +24,46 @@ fn and_at(rows: &[TurnedWords<'_>], place: usize) -> u64
     all
 }
 
-// Whether four words at a place are seen to have no place that every row has: their words are and-ed in lanes, row by row,
-// until no bit is left. The addresses come first, which tell most.
-fn is_clear(rows: &[TurnedWords<'_>], place: usize) -> bool
+// The same, where the rows have a summary: they aren't looked at where it lacks the word.
+fn common_word(rows: &[TurnedWords<'_>], summary: u64, place: usize) -> u64
+    requires { (words : ℕ) × AreWide words rows.now × (place < words) × SumUpAll summary words rows.now }
+    ensures { IsAndAt result rows.now place }
+{
+    if is_marked(summary, place) {
+        return and_at(rows, place);
+    }
+    0
+}
+
+// Four words at a place of every row, and-ed in lanes: row by row, until no bit is left. The addresses come first, which
+// tell most. There are none where no place is in every row.
+fn common_four(rows: &[TurnedWords<'_>], place: usize) -> Option<[u64; 4]>
     requires { (words : ℕ) × AreWide words rows.now × (place + 4 ≤ words) }
-    ensures { IsTrue result → Nowhere (HaveAll rows.now) (64 * place) (64 * (place + 4)) }
+    ensures { MatchOption result (Nowhere (HaveAll rows.now) (64 * place) (64 * (place + 4))) (λ all. AreAndsAt all rows.now place) }
 {
     let mut all = u64x4::splat(u64::MAX);
     for row in rows {
         all &= row.own.four(place) ^ row.turn.four(place);
         if all.reduce_or() == 0 {
-            return true;
+            return None;
         }
     }
-    false
+    Some(all.to_array())
+}
+
+// The first place that every row has among four words.
+fn first_of_four(rows: &[TurnedWords<'_>], place: usize) -> Option<usize>
+    requires { (words : ℕ) × AreWide words rows.now × (place + 4 ≤ words) × (words < 2 ^ 58) }
+    ensures { IsFirst (HaveAll rows.now) (64 * place) (64 * (place + 4)) result }
+{
+    let all = common_four(rows, place)?;
+    for lane in 0..4 {
+        let word = all[lane];
+        if word != 0 {
+            return Some(64 * (place + lane) + word.trailing_zeros() as usize);
+        }
+    }
+    None
 }
 
 // Where the four words begin that a word stands among: a row keeps four such words, mostly.
@@ -45,38 +71,18 @@ fn is_clear(rows: &[TurnedWords<'_>], place: usize) -> bool
 fn group(place: usize) -> usize
     ensures low { result ≤ place }
     ensures high { place < result + 4 }
+    ensures aligned { result % 4 ≡ 0 }
 {
     place / 4 * 4
 }
 
-// Passes over words that no such place is in: those that the summary lacks, and of the others four at a time. It stops
-// before four that aren't seen to be so, or where fewer than four are left.
-fn skip(rows: &[TurnedWords<'_>], summary: u64, start: usize, words: usize) -> usize
-    requires wide { AreWide words rows.now }
-    requires few { words < 2 ^ 58 }
-    requires summed { SumUpAll summary words rows.now }
-    requires within { start ≤ words }
-    ensures low { start ≤ result }
-    ensures high { result ≤ words }
-    ensures none { Nowhere (HaveAll rows.now) (64 * start) (64 * result) }
+// The first place that every row has, from a word on, word by word.
+fn scan(rows: &[TurnedWords<'_>], summary: u64, start: usize, end: usize) -> Option<usize>
+    requires { (words : ℕ) × AreWide words rows.now × (end ≤ words) × (words < 2 ^ 58) × SumUpAll summary words rows.now }
+    ensures { IsFirst (HaveAll rows.now) (64 * start) (64 * end) result }
 {
-    let mut place = next_marked(summary, start, words);
-    let mut four = group(place);
-    while four + 4 <= words && is_clear(rows, four) {
-        place = next_marked(summary, four + 4, words);
-        four = group(place);
-    }
-    place
-}
-
-// The first place that every row has, from a word on.
-fn scan(rows: &[TurnedWords<'_>], start: usize, words: usize) -> Option<usize>
-    requires wide { AreWide words rows.now }
-    requires few { words < 2 ^ 58 }
-    ensures { IsFirst (HaveAll rows.now) (64 * start) (64 * words) result }
-{
-    for place in start..words {
-        let all = and_at(rows, place);
+    for place in start..end {
+        let all = common_word(rows, summary, place);
         if all != 0 {
             return Some(64 * place + all.trailing_zeros() as usize);
         }
@@ -84,21 +90,55 @@ fn scan(rows: &[TurnedWords<'_>], start: usize, words: usize) -> Option<usize>
     None
 }
 
-// The first place at or after `from` that every row has and that is in the word of `from`. The rows aren't looked at where
-// their summary lacks that word.
+// The first place that every row has, from a word on at which four begin: four words at a time, but for those that the
+// summary lacks; and word by word where fewer than four are left.
+fn scan_fours(rows: &[TurnedWords<'_>], summary: u64, start: usize, words: usize) -> Option<usize>
+    requires wide { AreWide words rows.now }
+    requires few { words < 2 ^ 58 }
+    requires summed { SumUpAll summary words rows.now }
+    requires within { start ≤ words }
+    requires aligned { start % 4 ≡ 0 }
+    ensures { IsFirst (HaveAll rows.now) (64 * start) (64 * words) result }
+{
+    let mut four = group(next_marked(summary, start, words));
+    while four + 4 <= words {
+        if let Some(place) = first_of_four(rows, four) {
+            return Some(place);
+        }
+        four = group(next_marked(summary, four + 4, words));
+    }
+    scan(rows, summary, four, words)
+}
+
+// The first place at or after `from` that every row has and that is in the word of `from`.
 fn head(rows: &[TurnedWords<'_>], summary: u64, from: usize) -> Option<usize>
     requires { (words : ℕ) × AreWide words rows.now × (from / 64 < words) × (words < 2 ^ 58) × SumUpAll summary words rows.now }
     ensures { IsFirst (HaveAll rows.now) from (64 * (from / 64 + 1)) result }
 {
     let place = from / 64;
-    if !is_marked(summary, place) {
-        return None;
-    }
-    let all = and_at(rows, place) & (u64::MAX << (from % 64));
+    let all = common_word(rows, summary, place) & (u64::MAX << (from % 64));
     if all != 0 {
         return Some(64 * place + all.trailing_zeros() as usize);
     }
     None
+}
+
+// The first place that every row has, from a word on: word by word up to where four begin.
+fn tail(rows: &[TurnedWords<'_>], summary: u64, start: usize, words: usize) -> Option<usize>
+    requires wide { AreWide words rows.now }
+    requires few { words < 2 ^ 58 }
+    requires summed { SumUpAll summary words rows.now }
+    requires within { start ≤ words }
+    ensures { IsFirst (HaveAll rows.now) (64 * start) (64 * words) result }
+{
+    let four = group(start + 3);
+    if four >= words {
+        return scan(rows, summary, start, words);
+    }
+    match scan(rows, summary, start, four) {
+        Some(place) => Some(place),
+        None => scan_fours(rows, summary, four, words),
+    }
 }
 
 // The first place at or after `from` that every row has. The rows have one summary, with the bit of each word in which all
@@ -114,14 +154,7 @@ fn first_common(rows: &[TurnedWords<'_>], summary: u64, words: usize, from: usiz
     }
     match head(rows, summary, from) {
         Some(place) => Some(place),
-        None => {
-            let next = from / 64 + 1;
-            if next == words {
-                return None;
-            }
-            let start = skip(rows, summary, next, words);
-            scan(rows, start, words)
-        }
+        None => tail(rows, summary, from / 64 + 1, words),
     }
 }
 

@@ -29,6 +29,9 @@ pub(crate) enum Answer {
     Cover {
         rules: Vec<RuleEntry>,
         counts: Counts,
+        /// The lines of the packets whose walks aren't known.
+        #[serde(skip_serializing_if = "Vec::is_empty")]
+        unclear_lines: Vec<u64>,
         #[serde(skip_serializing_if = "Vec::is_empty")]
         open: Vec<OpenEntry>,
     },

@@ -130,19 +130,26 @@ fn rule_entries(
 }
 
 // The answer of these entries.
-fn answer_of(form: Form<'_>, found: &Found, rules: Vec<RuleEntry>, open: Vec<OpenEntry>) -> Answer {
+fn answer_of(
+    alloc: Global,
+    form: Form<'_>,
+    found: &Found,
+    rules: Vec<RuleEntry>,
+    open: Vec<OpenEntry>,
+) -> Result<Answer, AllocError> {
     match form {
-        Form::Dead => Answer::Dead {
+        Form::Dead => Ok(Answer::Dead {
             rules,
             counts: dead_counts(&found.tally),
             open,
-        },
-        Form::Tests => Answer::Tests { rules, open },
-        Form::Cover(_) => Answer::Cover {
+        }),
+        Form::Tests => Ok(Answer::Tests { rules, open }),
+        Form::Cover(marks) => Ok(Answer::Cover {
             rules,
             counts: coverage_counts(&found.tally),
+            unclear_lines: marks.unclear_lines().to_vec(alloc)?,
             open,
-        },
+        }),
     }
 }
 
@@ -160,5 +167,5 @@ pub fn rules_document(
 ) -> Result<Vec<u8>, AllocError> {
     let rules = rule_entries(alloc, table, course, found)?;
     let open = open_entries(alloc, course.open, counts)?;
-    text_of(alloc, &answer_of(course.form, found, rules, open))
+    text_of(alloc, &answer_of(alloc, course.form, found, rules, open)?)
 }

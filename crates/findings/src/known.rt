@@ -24,7 +24,7 @@ impl Form<'_> {
     pub fn status(self, tally: &Tally) -> u8 {
         match self {
             Form::Dead | Form::Tests => tally.status(),
-            Form::Cover(_) => tally.coverage_status(),
+            Form::Cover(marks) => tally.coverage_status(marks.unclear_lines().is_empty()),
         }
     }
 }

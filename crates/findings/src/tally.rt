@@ -72,9 +72,10 @@ impl Tally {
         status(self.dead > 0, self.unclear > 0)
     }
 
-    /// 1 where a rule can match and no packet that was given shows it, else 3 where it isn't known of some, else 0.
-    pub fn coverage_status(&self) -> u8 {
-        status(self.live > 0, self.unclear > 0)
+    /// 1 where a rule can match and no packet that was given shows it, else 3 where it isn't known of some, or where the walks of these packets
+    /// aren't known, else 0.
+    pub fn coverage_status(&self, are_known: bool) -> u8 {
+        status(self.live > 0, self.unclear > 0 || !are_known)
     }
 }
 

@@ -102,6 +102,17 @@ fn carried<'a>(
     Ok(area)
 }
 
+// Sees that packets at a hook carry the key of each word but `by=FIELD`.
+fn expect_at_hook<'a>(alloc: Global, hook: Hook, words: &[&'a str]) -> Result<(), InputFault<'a>> {
+    for word in words {
+        if field_by(word)?.is_none() {
+            let (field, _) = field_of(word)?;
+            carried(alloc, Area::at_hook(alloc, hook)?, hook, field, word)?;
+        }
+    }
+    Ok(())
+}
+
 // The packets at a hook that have the values of all words but `by=FIELD`, whether they carry them or not.
 fn valued_area<'a>(alloc: Global, hook: Hook, words: &[&'a str]) -> Result<Area, InputFault<'a>> {
     let mut area = Area::at_hook(alloc, hook)?;
@@ -149,6 +160,7 @@ fn expect_carried<'a>(
 // the field.
 fn asked_area<'a>(alloc: Global, hook: Hook, words: &[&'a str]) -> Result<Area, InputFault<'a>> {
     let valued = valued_area(alloc, hook, words)?;
+    expect_at_hook(alloc, hook, words)?;
     let area = carried_area(alloc, valued, hook, words)?;
     expect_carried(alloc, &area, hook, words)?;
     Ok(area)
@@ -161,8 +173,8 @@ impl Asked {
     /// # Errors
     ///
     /// `NoHook`, `BadWord` and `NoField` by the first word at fault, or where `by=FIELD` is missing; `NotCarried` for the first
-    /// word whose key is carried by no packet that the words before it, and the values of all others, allow; or where memory was
-    /// refused.
+    /// word whose key no packet at the hook carries, and else for the first whose key is carried by no packet that the words before
+    /// it, and the values of all others, allow; or where memory was refused.
     pub fn read<'a>(alloc: Global, words: &[&'a str]) -> Result<Asked, InputFault<'a>> {
         let Some((first, words)) = words.split_first() else {
             return Err(InputFault::NoField);

@@ -5,6 +5,7 @@ pub(crate) mod candidates;
 pub(crate) mod cut;
 pub(crate) mod ends;
 pub(crate) mod lying;
+pub(crate) mod matched;
 pub(crate) mod meeting;
 pub(crate) mod rule_box;
 pub(crate) mod transport;

@@ -24,6 +24,7 @@ pub use asked::takers::Takers;
 pub use asked::walks::walks;
 pub use boxes::area::Area;
 pub use boxes::boxed_table::BoxedTable;
+pub use boxes::matched::rule_matches;
 pub use boxes::transport::carrying;
 pub use foreign::answers::{Answer, Answers};
 pub use foreign::laws::{answers_can_be_given, conditions_leave_a_table};

@@ -187,7 +187,8 @@ impl Rule {
         let _spec = self.spec();
     }
 
-    /// An equal rule. It takes no memory, unless the rule leads to a chain: then it takes as much as the rule has.
+    /// An equal rule. It takes no memory, unless the rule leads to a chain: then it takes as much as the rule has. That is tested, since std's
+    /// `Rc::clone` doesn't promise it.
     ///
     /// # Errors
     ///

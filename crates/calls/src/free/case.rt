@@ -10,6 +10,8 @@ pub enum Case {
     Spans,
     /// The target of a rule.
     Target,
+    /// A copy of a rule that leads to no chain.
+    Copy,
     /// What a rule asks of several fields at once, of a packet.
     Cross,
     /// What the box of a rule lends.
@@ -24,9 +26,10 @@ pub enum Case {
 
 impl Case {
     /// All cases.
-    pub const ALL: [Case; 7] = [
+    pub const ALL: [Case; 8] = [
         Case::Spans,
         Case::Target,
+        Case::Copy,
         Case::Cross,
         Case::Box,
         Case::BitRow,
@@ -39,6 +42,7 @@ impl Case {
         match self {
             Case::Spans => "spans",
             Case::Target => "target",
+            Case::Copy => "copy",
             Case::Cross => "cross",
             Case::Box => "box",
             Case::BitRow => "bit-row",
@@ -52,6 +56,7 @@ impl Case {
         match self {
             Case::Spans => sets::spans(alloc, times),
             Case::Target => rulings::target(alloc, times),
+            Case::Copy => rulings::copies(alloc, times),
             Case::Cross => rulings::crossing(alloc, times),
             Case::Box => rulings::boxed(alloc, times),
             Case::BitRow => rows::bit_row(alloc, times),

@@ -37,6 +37,18 @@ pub fn target(alloc: Global, times: u32) -> Result<(), Trouble> {
     Ok(())
 }
 
+/// `Rule::copy` of a rule that leads to no chain.
+pub fn copies(alloc: Global, times: u32) -> Result<(), Trouble> {
+    let rule = rule_of(
+        alloc,
+        b"-p udp -m multiport --ports 22,80:90 -m comment --comment \"a b\" -j DROP",
+    )?;
+    for _ in 0..times {
+        expect(rule.copy(alloc)?.equals(&rule))?;
+    }
+    Ok(())
+}
+
 /// Whether what a rule asks of both ports holds of one packet, and fails of another.
 fn tells(rule: &Rule, one: &Packet, other: &Packet) -> bool {
     cross(rule, one) && !cross(rule, other)

@@ -69,11 +69,15 @@ at_place box numbers k lt h =
     let P : ℕ → Type 0 = λ j. has_at box numbers j ≡ true in
     subst P f.1 (on_field box numbers f.0 h)
 
+-- the set at a field's place has the numbers that the box allows on the field
+pub set_at : (box : List SpanSet) (k : ℕ) (f : Field) (s : SpanSet) (x : ℕ) → IsBox box → k ≡ index f → s ≡ get_or box k s → has s.intervals x ≡ box_allows box f x
+set_at box k f s x is at own =
+    let P : ℕ → Type 0 = λ j. s ≡ get_or box j s in
+    ap (λ (y : SpanSet). has y.intervals x) (subst P at own ∙ get_or_default box (index f) s no_set (omega (arith, index-lt f, box_long box is)))
+
 -- the set at a field's place has the number on it
 pub set_has : (box : List SpanSet) (numbers : List ℕ) (k : ℕ) (f : Field) (s : SpanSet) → IsBox box → k ≡ index f → s ≡ get_or box k s → Has box numbers → has s.intervals (number_on numbers f) ≡ true
-set_has box numbers k f s is at own inside =
-    let P : ℕ → Type 0 = λ j. s ≡ get_or box j s in
-    ap (λ (x : SpanSet). has x.intervals (number_on numbers f)) (subst P at own ∙ get_or_default box (index f) s no_set (omega (arith, index-lt f, box_long box is))) ∙ on_field box numbers f inside.each
+set_has box numbers k f s is at own inside = set_at box k f s (number_on numbers f) is at own ∙ on_field box numbers f inside.each
 
 -- and the other way round
 pub from_places : (box : List SpanSet) (numbers : List ℕ) → ((k : ℕ) → k < FIELDS → has_at box numbers k ≡ true) → box_matches numbers box ≡ true

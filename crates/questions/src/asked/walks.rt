@@ -1,6 +1,5 @@
 //! The walks of one packet, whatever holds that rules need.
 ghost use Rattle.std.specs.Prelude.{◌≡◌, IfOk, MatchOption};
-ghost use Rattle.classify.specs.classifier.Classifier.{box_matches};
 ghost use Rattle.fields.specs.packet.Packet.{IsPacket};
 ghost use Rattle.questions.specs.Foreign.{Assignment};
 ghost use Rattle.questions.specs.Scopes.{answered, known_by};
@@ -9,6 +8,7 @@ ghost use Rattle.questions.specs.asked.Walks.{AreWalks, AreWalksUnder};
 ghost use Rattle.questions.specs.boxes.Area.{IsAtHook, IsIn};
 
 use crate::boxes::area::Area;
+use crate::boxes::matched::has;
 use crate::foreign::answers::Answers;
 use crate::foreign::subject::Subject;
 use crate::walking::engine::leaves_under;
@@ -55,18 +55,6 @@ pub(crate) fn walks_of(
     Ok(found)
 }
 
-// Whether a box has a packet.
-fn has(area: &Area, packet: &Packet) -> bool
-    ensures { result ≡ box_matches packet.now.values area.now }
-{
-    for field in Field::ALL {
-        if !area.on(field).has(packet.point(field)) {
-            return false;
-        }
-    }
-    true
-}
-
 /// The walks of a packet that a line writes, as leaves: under each assignment that gives the answers the packet has the walk that one of them
 /// shows; and each of them shows the walk that the packet has under each assignment that gives the leaf's answers, which are these and
 /// perhaps more. Each leaf's answers can be given. There are none only where the steps of `leaves_under` for the packet's own box use
@@ -91,6 +79,6 @@ pub fn walks(
     let Some(mut found) = walks_of(alloc, subject, &whole, packet, answers, budget)? else {
         return Ok(None);
     };
-    found.retain(|leaf| has(&leaf.area, packet));
+    found.retain(|leaf| has(leaf.area.sets(), packet));
     Ok(Some(found))
 }

@@ -36,7 +36,7 @@ enum Owner {
     Own(Box<RuleSpec>),
 }
 
-/// What a rule holds. A copy shares it, and so takes no memory; but a rule that leads to a chain has its own, so that the
+/// What a rule holds. A copy shares it, and so takes no memory (tested); but a rule that leads to a chain has its own, so that the
 /// chain's name can be changed without memory.
 #[derive(Drop)]
 pub(crate) struct Kept {

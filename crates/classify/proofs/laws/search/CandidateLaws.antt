@@ -80,7 +80,7 @@ module _ (m len : ℕ) (found : List (List Bool)) (rows : Rows) (whole : (i : �
       record {
         some = omega (arith, h.long);
         packed = packed;
-        summed = λ p within every. sum (p / 64) (λ j d below.
+        summed = λ p within every. (sum (p / 64)).0 (λ j d below.
             let in' : j < length found = omega (arith, h.long) in
             let r = h.each j d in' in
             let n : ℕ = length (get_or found j []) in

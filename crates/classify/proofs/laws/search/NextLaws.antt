@@ -1,10 +1,11 @@
 -- The first place that every row has is the next box that box_allows the point.
-use Rattle.std.proofs.Common.{◌≡◌, ◌↔◌, All, inl, inr, ℕ, zero, suc, ◌+◌, ◌-◌, ◌*◌, ◌^◌, ◌<◌, ◌≤◌, Bool, true, false, cond, not, List, [], ◌∷◌, length, drop, take, get_or, ◌++◌, map, refl, sym, ◌∙◌, ap, arith, subst, length-append, Option, Some, None}
+use Rattle.std.proofs.Common.{◌≡◌, ◌↔◌, All, inl, inr, ℕ, zero, suc, ◌+◌, ◌-◌, ◌*◌, ◌^◌, ◌<◌, ◌≤◌, Bool, true, false, cond, not, List, [], ◌∷◌, length, drop, take, get_or, ◌++◌, map, min, refl, sym, ◌∙◌, ap, arith, subst, length-append, Option, Some, None}
 use Rattle.std.specs.Prelude.{◌/◌, ◌%◌, slice_index, bit_and}
 use Rattle.std.specs.Int.{bit_at}
-use Rattle.std.proofs.lemmas.Nat.Bits.{bit_at_and, bit_at_ones}
+use Rattle.std.proofs.lemmas.Nat.Bits.{bit_at-lt, bit_at_and, bit_at_ones}
 use Rattle.bits.specs.MarginRows.{after_margin}
 use Rattle.bits.proofs.laws.MarginLaws.{get-after, length-after}
+use Rattle.classify.proofs.laws.search.SearchLaws.{both_bits}
 use Rattle.bits.specs.declared.turned_rows.TurnedWords.{TurnedWords}
 use Rattle.bits.specs.steps.Summaries.{IsMarked, IsSummaryOf}
 use Rattle.classify.specs.steps.Summaries.{IsOfAll, SumUpAll}
@@ -14,7 +15,7 @@ use Rattle.std.proofs.Math.Dec.{ltb}
 use Rattle.std.proofs.lemmas.Bool.{cases_lt, cases_Bool, true≢false, lt-ltb, le-ltb, false_from_ne_true}
 use Rattle.std.proofs.lemmas.List.{get_or-drop, get_or-take, get_or-map, get_or_append_left, get_or_push, length-drop}
 use Rattle.std.proofs.lemmas.List.Folds.{list_all_at}
-use Rattle.std.proofs.lemmas.List.Elements.{All-cons, All-head, All-nil, All-pop}
+use Rattle.std.proofs.lemmas.List.Elements.{All-cons, All-head, All-nil, All-pop, All-push}
 use Rattle.fields.specs.declared.numbers.field.TheConstants.{FIELDS}
 use Rattle.fields.specs.declared.numbers.field.TheConstants.Field.{ALL}
 use Rattle.fields.specs.declared.numbers.field.Field.{Field}
@@ -150,14 +151,21 @@ have_to_allow c boxes point fields p b h within among stand lt =
 -- ---- the summary of all rows
 
 pub sum_none : IsOfAll (2 ^ 64 - 1) []
-sum_none word every = bit_at_ones 64 (word / 2 % 64) (omega arith)
+sum_none word = (λ every. bit_at_ones 64 (word / 2 % 64) (omega arith), λ on. All-nil (λ (s : TurnedWords). IsMarked s.summary word))
 
 pub sum_more : (rows : List TurnedWords) (summary : ℕ) (row : TurnedWords) → IsOfAll summary rows → IsOfAll (bit_and summary row.summary) (rows ++ row ∷ [])
-sum_more rows summary row h word every =
-    let parts = All-pop (λ (s : TurnedWords). IsMarked s.summary word) (rows ++ row ∷ []) rows (Some row) refl every in
-    let all : bit_at summary (word / 2 % 64) ≡ 1 = h word parts.0 in
-    let last : bit_at row.summary (word / 2 % 64) ≡ 1 = parts.1 in
-    bit_at_and summary row.summary (word / 2 % 64) ∙ omega arith
+sum_more rows summary row h word =
+    let Q : TurnedWords → Type 0 = λ s. IsMarked s.summary word in
+    let both : bit_at (bit_and summary row.summary) (word / 2 % 64) ≡ min (bit_at summary (word / 2 % 64)) (bit_at row.summary (word / 2 % 64)) = bit_at_and summary row.summary (word / 2 % 64) in (
+      λ every.
+          (let parts = All-pop Q (rows ++ row ∷ []) rows (Some row) refl every in
+          let all : bit_at summary (word / 2 % 64) ≡ 1 = (h word).0 parts.0 in
+          let last : bit_at row.summary (word / 2 % 64) ≡ 1 = parts.1 in
+          both ∙ omega arith),
+      λ on.
+          (let parts = both_bits (bit_at summary (word / 2 % 64)) (bit_at row.summary (word / 2 % 64)) (bit_at-lt summary (word / 2 % 64)) (bit_at-lt row.summary (word / 2 % 64)) (sym both ∙ on) in
+          All-push Q rows row ((h word).1 parts.0) parts.1),
+    )
 
 -- ---- the first place is the next match
 

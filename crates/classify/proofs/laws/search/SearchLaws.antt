@@ -23,7 +23,8 @@ use Rattle.classify.proofs.laws.search.TurnedLaws.{row_has}
 pub and_first : (place : ℕ) → IsAndAt (2 ^ 64 - 1) [] place
 and_first place = record { each = λ i lt. (λ _. All-nil (λ (row : TurnedWords). bit_at (word_at row place) i ≡ 1), λ _. bit_at_ones 64 i lt) }
 
-both_bits : (a b : ℕ) → a < 2 → b < 2 → min a b ≡ 1 → (a ≡ 1) × (b ≡ 1)
+-- where the less of two bits is 1, both are
+pub both_bits : (a b : ℕ) → a < 2 → b < 2 → min a b ≡ 1 → (a ≡ 1) × (b ≡ 1)
 both_bits a b la lb e = (omega arith, omega arith)
 
 pub and_more : (rows : List TurnedWords) (k all place : ℕ) (d : TurnedWords) → k < length rows → IsAndAt all (take k rows) place → IsAndAt (bit_and all (word_at (get_or rows k d) place)) (take (k + 1) rows) place
@@ -167,3 +168,16 @@ nowhere_up_to P from to less le h k ge below p = h k ge (omega arith) p
 -- no row has a place in words that their summary lacks
 pub nowhere_marked : (rows : List TurnedWords) (summary words from to : ℕ) → to ≤ words → SumUpAll summary words rows → Nowhere (IsMarked summary) from to → Nowhere (HaveAll rows) (64 * from) (64 * to)
 nowhere_marked rows summary words from to le sum h p ge below every = h (p / 64) (omega arith) (omega arith) (sum p (omega arith) every)
+
+-- no row has a place in a word that their summary lacks
+pub and_unmarked : (rows : List TurnedWords) (summary words place : ℕ) → AreWide words rows → place < words → SumUpAll summary words rows → (IsMarked summary place → ⊥) → IsAndAt 0 rows place
+and_unmarked rows summary words place wide lt sum lacks =
+    record {
+      each = λ i in'. (
+        λ one. absurd (omega (arith, bit_at-zero i, one)),
+        λ every.
+            (let here : (64 * place + i) / 64 ≡ place = omega arith in
+            let P : ℕ → Type 0 = λ k. IsMarked summary k in
+            absurd (lacks (subst P here (sum (64 * place + i) (omega arith) (λ k d below. (row_has (get_or rows k d) place i words (wide k d below) lt in').0 (every k d below)))))),
+      );
+    }
