@@ -85,6 +85,14 @@ def lived(life):
             for chain, number, text, answers in found] + [BARE]
 
 
+def waiting(number):
+    """A rule of JUMPS whose jump waits for a condition."""
+    condition = {"condition": f"limit --limit {number}/sec", "chain": "INPUT", "number": number, "holds": True}
+    return {"chain": "INPUT", "number": number, "rule": "-A INPUT -j a", "needs": [condition], "life": "unclear"}
+
+
+# Jumps that wait for conditions: a packet has a walk for each of the assignments.
+JUMPS = ruleset(*(b"INPUT -m limit --limit %d/sec -j a" % number for number in range(1, 6)), b"INPUT -j ACCEPT", b"a -s 10.0.0.1 -j DROP")
 BARE = {"chain": "b", "number": 1, "rule": "-A b", "needs": [HERE, NOT_HERE], "life": "dead"}
 FIRST, SECOND = ({"condition": LIMIT, "chain": "a", **nth, "holds": True} for nth in ({}, {"nth": 2}))
 TCP_PACKET = MAIL_PACKET.replace("dport=25", "dport=80")
@@ -198,6 +206,10 @@ DOCUMENTS = {
         (["R"], {"R": LIMITED}, LOGIN, 0, {
             "rules": [{key: value for key, value in entry.items() if key != "packet"} for entry in lived("covered")],
             "counts": coverage(4, 3, 0, 1, 0, covered_if=3), "open": OPEN}),
+        (["--steps", "24", "R"], {"R": JUMPS}, b"\n" + LOGIN + LOGIN, 1, {
+            "rules": [*(waiting(number) for number in range(1, 6)), rule("INPUT", 6, "-j ACCEPT", "unclear"),
+                      rule("a", 1, "-s 10.0.0.1/32 -j DROP", "missed", answers=waiting(1)["needs"], packet=TCP_PACKET.replace("192.0.2.1", "10.0.0.1"))],
+            "counts": coverage(7, 0, 1, 0, 6), "unclear_lines": [2, 3], "open": [{"match": "limit", "count": 5}]}),
     ],
     "reach": [
         (["R", "INPUT", "in=eth0", "proto=tcp", "frag=0", "by=dport"], {"R": GATEWAY}, b"", 0, {
@@ -233,7 +245,8 @@ def document_rows(rows):
     for question, table in DOCUMENTS.items():
         for words, files, given, status, document in table:
             words = [question, "--json", *words]
-            rows.row(" ".join(words), words, files, document_of(question, document), status, input=given)
+            told = b"".join(b"line %d: unclear\n" % number for number in document.get("unclear_lines", ()))
+            rows.row(" ".join(words), words, files, document_of(question, document), status, told, input=given)
     rows.row("cover --json, a line that is no packet", ["cover", "--json", "R"], {"R": GATEWAY}, b"", 2, b"line 1: S1 unknown line\n", input=b"boom")
 
 
