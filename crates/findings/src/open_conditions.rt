@@ -1,4 +1,7 @@
 //! The conditions of one or two dumps, and which of them are answered by `--when`.
+ghost use Rattle.std.specs.Prelude.{◌≡◌, IfOk};
+ghost use Rattle.findings.specs.OpenConditions.{is_open, open_among};
+
 use crate::condition_text::condition_bytes;
 use dumps::Conditions;
 use questions::{Answers, Need};
@@ -119,7 +122,9 @@ impl OpenConditions {
     }
 
     /// Whether a condition has no answer.
-    pub fn is_open(&self, condition: usize) -> bool {
+    pub fn is_open(&self, condition: usize) -> bool
+        ensures { result ≡ is_open self.now.given.items condition }
+    {
         condition < self.given.len() && self.given[condition].is_none()
     }
 
@@ -214,12 +219,15 @@ impl OpenConditions {
         Ok(answers)
     }
 
-    /// The answers about conditions that `--when` leaves open.
+    /// The answers about conditions that `--when` leaves open, and no others: what is shown of them contradicts nothing that `--when` says. Whatever
+    /// the others are, the table is the same (`needs_left`).
     ///
     /// # Errors
     ///
     /// `AllocError` where memory was refused.
-    pub fn shown(&self, alloc: Global, answers: &Answers) -> Result<Vec<Need>, AllocError> {
+    pub fn shown(&self, alloc: Global, answers: &Answers) -> Result<Vec<Need>, AllocError>
+        ensures { IfOk result (λ shown. shown.items ≡ open_among self.now.given.items answers.now) }
+    {
         let mut shown = Vec::new(alloc);
         for answer in answers.listed() {
             if self.is_open(answer.condition) {
