@@ -24,6 +24,11 @@ pub record Condition : Type 0 where
 abbrev pub asks : Part → Bool
 asks part = not (is_role role.Says part.row.role || is_role role.Turns part.row.role)
 
+-- A `!` before the part asks the opposite of what it asks without. Of a port that the program doesn't read, and of a type of ICMP, it doesn't:
+-- a later fragment has none, so that neither holds (iptables-extensions(8), multiport, tcp, icmp).
+abbrev pub is_opposed : Part → Bool
+is_opposed part = is_role role.Asks part.row.role || is_role role.Holds part.row.role
+
 -- the part turns what its match asks
 abbrev pub turns : Part → Bool
 turns part = is_role role.Turns part.row.role
@@ -42,14 +47,15 @@ abbrev pub differ : Bool → Bool → Bool
 differ true b = not b
 differ false b = b
 
--- a condition is inverted by a `!` before its only part that asks, or by a part that turns it; both together leave it as it is
+-- a condition is inverted by a `!` before its only part that asks, where this asks the opposite, or by a part that turns it; both together
+-- leave it as it is
 abbrev pub is_inverted : List Part → Bool
-is_inverted parts = differ (is_single parts && list_any (λ part. asks part && part.inverted) parts) (list_any turns parts)
+is_inverted parts = differ (is_single parts && list_any (λ part. is_opposed part && part.inverted) parts) (list_any turns parts)
 
 -- the words of a part in the text of a condition: without the `!` or the part that inverts the condition
 abbrev pub text_words : Bool → Part → List (List ℕ)
 text_words single part =
-    if turns part then [] else spelled_words (part.inverted && not (single && asks part)) part.option part.values
+    if turns part then [] else spelled_words (part.inverted && not (single && is_opposed part)) part.option part.values
 
 -- the condition that some parts ask of a match
 abbrev pub condition_of : List ℕ → Lasting → List Part → Condition

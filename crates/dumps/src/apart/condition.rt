@@ -3,7 +3,7 @@ ghost use Rattle.std.specs.Prelude.{◌≡◌, ◌++◌, ◌∷◌, [], ◌&&◌
 ghost use Rattle.std.specs.List.{list_any};
 ghost use Rattle.fields.specs.text.WordSlice.{words_in};
 ghost use Rattle.dumps.specs.Parts.{spelled_words};
-ghost use Rattle.dumps.specs.Conditions.{asks, turns, holds, is_single, differ, is_inverted, text_words, always_hold, unless_always, unread, asked_as, asked_by, is_there, implied_by, protocol_condition, asked_first, conditions};
+ghost use Rattle.dumps.specs.Conditions.{asks, is_opposed, turns, holds, is_single, differ, is_inverted, text_words, always_hold, unless_always, unread, asked_as, asked_by, is_there, implied_by, protocol_condition, asked_first, conditions};
 ghost use Rattle.dumps.specs.Views.{table_in, texts_in, part_in, parts_of, passes, conditions_in};
 
 use crate::apart::own::{begins, is_of, is_read, up_to_next};
@@ -45,6 +45,16 @@ fn turns(part: &Part<'_>) -> bool
     }
 }
 
+// Whether a part asks after `!` the opposite of what it asks without.
+fn is_opposed(part: &Part<'_>) -> bool
+    ensures { result ≡ is_opposed (part_in part.now) }
+{
+    match part.row.role {
+        Role::Asks | Role::Holds => true,
+        _ => false,
+    }
+}
+
 // Whether what a part asks always holds.
 fn holds(part: &Part<'_>) -> bool
     ensures { result ≡ holds (part_in part.now) }
@@ -59,7 +69,7 @@ fn holds(part: &Part<'_>) -> bool
 #[derive(Clone, Copy)]
 enum Test {
     Asks,
-    AsksInverted,
+    AsksOpposite,
     Turns,
     Holds,
 }
@@ -70,7 +80,7 @@ fn passes(test: Test, part: &Part<'_>) -> bool
 {
     match test {
         Test::Asks => asks(part),
-        Test::AsksInverted => asks(part) && part.inverted,
+        Test::AsksOpposite => is_opposed(part) && part.inverted,
         Test::Turns => turns(part),
         Test::Holds => holds(part),
     }
@@ -104,7 +114,7 @@ fn is_single(parts: &[Part<'_>]) -> bool
 fn is_inverted(parts: &[Part<'_>]) -> bool
     ensures { result ≡ is_inverted (parts_of parts.now) }
 {
-    let inverted = is_single(parts) && one_passes(Test::AsksInverted, parts);
+    let inverted = is_single(parts) && one_passes(Test::AsksOpposite, parts);
     if inverted {
         !one_passes(Test::Turns, parts)
     } else {
@@ -150,7 +160,7 @@ fn add_text<'a>(words: &mut Vec<&'a [u8]>, part: &Part<'a>, single: bool) -> Res
     if turns(part) {
         return Ok(());
     }
-    let bang = part.inverted && !(single && asks(part));
+    let bang = part.inverted && !(single && is_opposed(part));
     add_words(words, part, bang)
 }
 
