@@ -17,6 +17,9 @@ ASSURED = HEAD + b"-A INPUT -m conntrack --ctstatus ASSURED -j ACCEPT\n-A INPUT 
 NOT_ASSURED = HEAD + b"-A INPUT -m conntrack ! --ctstatus ASSURED -j DROP\n-A INPUT -j ACCEPT\nCOMMIT\n"
 RED = HEAD + b"-A INPUT -m colour --red 1 -j ACCEPT\n-A INPUT -j DROP\nCOMMIT\n"
 NOT_RED = HEAD + b"-A INPUT -m colour ! --red 1 -j DROP\n-A INPUT -j ACCEPT\nCOMMIT\n"
+# Of packets without a connection the first accepts all that are invalid, and the second none.
+INVALID = HEAD + b"-A INPUT -m conntrack --ctstate INVALID --ctproto 6 -j ACCEPT\n-A INPUT -j DROP\nCOMMIT\n"
+APART = INVALID.replace(b"INVALID ", b"INVALID -m conntrack ")
 LOGIN = b"packet INPUT src=10.0.0.1 dst=10.0.0.2 in=eth0 proto=tcp sport=4000 dport=22"
 NAME = b" packet INPUT src=10.0.0.1 dst=10.0.0.2 in=eth0 proto=udp sport=4000 dport=53"
 GIVEN = b"# two\n" + LOGIN + b"\n\n" + NAME + b"\n"
@@ -160,6 +163,11 @@ ROWS = [
       for about, words, old, new, match, option in (
           ("a connection", [], ASSURED, NOT_ASSURED, b"conntrack", b"--ctstatus ASSURED"),
           ("a match that is added", ["--unknown", "colour --red 1"], RED, NOT_RED, b"colour", b"--red 1"))),
+    ("options of one match, and of two", ["compare", "O", "N"], {"O": INVALID, "N": APART}, b"",
+     b"INPUT differs\n" + TCP.replace(b" ct=NEW", b"") % 80
+     + b"  if conntrack --ctstate INVALID --ctproto 6 in INPUT and not conntrack --ctproto 6 in INPUT\n"
+     b"old:\nINPUT 1\nverdict ACCEPT by rule\nnew:\nINPUT 2\nverdict DROP by rule\nFORWARD same\nOUTPUT same\n"
+     b"2 changed rules, 0 dead, 0 unclear\n2 conditions open: conntrack 2\n" + PREMISE, 1, b""),
     ("an answer about a match that is added",
      ["walk", "--unknown", "colour --red 2", "--unknown", "colour --blue 0", "--unknown", "shape", "--when", "! colour --red 1 2 ! --blue", "R"],
      {"R": COLOURS}, LOGIN, LOGIN + b"\n  if shape at INPUT 2: ACCEPT by INPUT 2; else DROP by policy\n1 condition open: shape 1\n", 0, b""),

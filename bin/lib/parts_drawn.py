@@ -27,7 +27,7 @@ BEGINS = (b"-m", b"-j", b"-g")
 
 
 def asks(part):
-    """Whether a part that the program doesn't read asks something by itself."""
+    """Whether a part asks something by itself."""
     return part.option.place in "+="
 
 
@@ -184,8 +184,9 @@ def condition_at(at, parts):
     if not name:
         return None
     match = extensions.MATCHES[name]
-    foreign = [each for each in parts_of(match, at, parts) if each.own is None]
-    return condition_of(match, foreign) if foreign or not extensions.is_known(match) else None
+    of_match = parts_of(match, at, parts)
+    foreign = any(each.own is None for each in of_match)
+    return condition_of(match, of_match) if foreign or not extensions.is_known(match) else None
 
 
 def conditions_of(parts):

@@ -19,7 +19,8 @@ LINES = [
     # A known match goes where none of its options is left, unless it may stand alone.
     (b'-A INPUT -m conntrack --ctproto 6 -j DROP', b'-A INPUT -j DROP', b"conntrack --ctproto 6@"),
     (b'-A INPUT -m conntrack ! --ctproto 6 --ctdir REPLY -j DROP', b'-A INPUT -j DROP', b"conntrack ! --ctproto 6 --ctdir REPLY@"),
-    (b'-A INPUT -m conntrack --ctstate NEW ! --ctproto 6 -j DROP', b'-A INPUT -m conntrack --ctstate NEW -j DROP', b"conntrack ! --ctproto 6@"),
+    (b'-A INPUT -m conntrack --ctstate NEW ! --ctproto 6 -j DROP', b'-A INPUT -m conntrack --ctstate NEW -j DROP', b"conntrack --ctstate NEW ! --ctproto 6@"),
+    (b'-A INPUT -m conntrack --ctstate NEW -m conntrack --ctproto 6 -j DROP', b'-A INPUT -m conntrack --ctstate NEW -j DROP', b"conntrack --ctproto 6@"),
     (b'-A INPUT -p tcp -m tcp ! --tcp-option 2 -j DROP', b'-A INPUT -p tcp -m tcp -j DROP', b"tcp ! --tcp-option 2@"),
     (b'-A INPUT -m conntrack -j DROP', b'-A INPUT -m conntrack -j DROP'),
     (b'-A INPUT -p tcp -m multiport --dports nobody-knows -j DROP', b'-A INPUT -p tcp -j DROP', b"multiport --dports nobody-knows@"),
