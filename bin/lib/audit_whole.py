@@ -12,6 +12,14 @@ ALIKE = HEAD + b"".join(b"-A INPUT -s 10.0.0.%d -m limit --limit 3/min -j ACCEPT
 FIRST = ALIKE.replace(b"-A INPUT -s 10.0.0.2 -m limit --limit 3/min -j ACCEPT\n", b"")
 RENAMED = HEAD + b"-A local -m limit --limit 3/min -j DROP\n-E local far\nCOMMIT\n"
 COLOURS = HEAD + b"-A INPUT -p tcp -m colour --red 1 2 ! --blue -j ACCEPT\n-A INPUT -p tcp -m shape -j ACCEPT\nCOMMIT\n"
+# Of a packet without a connection neither condition holds, so that the first drops it, and the second accepts it.
+ASSURED = HEAD + b"-A INPUT -m conntrack --ctstatus ASSURED -j ACCEPT\n-A INPUT -j DROP\nCOMMIT\n"
+NOT_ASSURED = HEAD + b"-A INPUT -m conntrack ! --ctstatus ASSURED -j DROP\n-A INPUT -j ACCEPT\nCOMMIT\n"
+RED = HEAD + b"-A INPUT -m colour --red 1 -j ACCEPT\n-A INPUT -j DROP\nCOMMIT\n"
+NOT_RED = HEAD + b"-A INPUT -m colour ! --red 1 -j DROP\n-A INPUT -j ACCEPT\nCOMMIT\n"
+# Of packets without a connection the first accepts all that are invalid, and the second none.
+INVALID = HEAD + b"-A INPUT -m conntrack --ctstate INVALID --ctproto 6 -j ACCEPT\n-A INPUT -j DROP\nCOMMIT\n"
+APART = INVALID.replace(b"INVALID ", b"INVALID -m conntrack ")
 LOGIN = b"packet INPUT src=10.0.0.1 dst=10.0.0.2 in=eth0 proto=tcp sport=4000 dport=22"
 NAME = b" packet INPUT src=10.0.0.1 dst=10.0.0.2 in=eth0 proto=udp sport=4000 dport=53"
 GIVEN = b"# two\n" + LOGIN + b"\n\n" + NAME + b"\n"
@@ -167,6 +175,18 @@ ROWS = [
      b"1 rules, 0 dead, 0 unclear\n1 condition open: limit 1\n", 0, b""),
     ("a match that is added, compare", ["compare", "--unknown", "colour --red 2", "--unknown", "colour --blue 0", "--unknown", "shape", "R", "R"],
      {"R": COLOURS}, b"", SAME + b"0 changed rules, 0 dead, 0 unclear\n2 conditions open: colour 1, shape 1\n" + PREMISE, 0, b""),
+    *((f"! of {about}, which isn't the opposite", ["compare", *words, "O", "N"], {"O": old, "N": new}, b"",
+       b"INPUT differs\n" + TCP % 80 + b"  if %s %s in INPUT and %s ! %s in INPUT\n" % (match, option, match, option)
+       + b"old:\nINPUT 1\nverdict ACCEPT by rule\nnew:\nINPUT 1\nverdict DROP by rule\nFORWARD same\nOUTPUT same\n"
+       b"4 changed rules, 0 dead, 0 unclear\n2 conditions open: %s 2\n" % match + PREMISE, 1, b"")
+      for about, words, old, new, match, option in (
+          ("a connection", [], ASSURED, NOT_ASSURED, b"conntrack", b"--ctstatus ASSURED"),
+          ("a match that is added", ["--unknown", "colour --red 1"], RED, NOT_RED, b"colour", b"--red 1"))),
+    ("options of one match, and of two", ["compare", "O", "N"], {"O": INVALID, "N": APART}, b"",
+     b"INPUT differs\n" + TCP.replace(b" ct=NEW", b"") % 80
+     + b"  if conntrack --ctstate INVALID --ctproto 6 in INPUT and not conntrack --ctproto 6 in INPUT\n"
+     b"old:\nINPUT 1\nverdict ACCEPT by rule\nnew:\nINPUT 2\nverdict DROP by rule\nFORWARD same\nOUTPUT same\n"
+     b"2 changed rules, 0 dead, 0 unclear\n2 conditions open: conntrack 2\n" + PREMISE, 1, b""),
     ("an answer about a match that is added",
      ["walk", "--unknown", "colour --red 2", "--unknown", "colour --blue 0", "--unknown", "shape", "--when", "! colour --red 1 2 ! --blue", "R"],
      {"R": COLOURS}, LOGIN, LOGIN + b"\n  if shape at INPUT 2: ACCEPT by INPUT 2; else DROP by policy\n1 condition open: shape 1\n", 0, b""),

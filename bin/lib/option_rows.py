@@ -26,7 +26,7 @@ def role(owner, option):
     if option.names[0] in owner.always:
         return "holds"
     if option.names[0] in owner.unopposed:
-        return "says"
+        return "unopposed"
     if option.place == "=":
         return READ.get(option.values[0], "own") if option.values else "own"
     return ROLES[option.place]

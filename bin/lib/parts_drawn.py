@@ -27,8 +27,13 @@ BEGINS = (b"-m", b"-j", b"-g")
 
 
 def asks(part):
-    """Whether a part that the program doesn't read asks something by itself."""
-    return part.option.place in "+=" and part.option.names[0] not in part.owner.unopposed
+    """Whether a part asks something by itself."""
+    return part.option.place in "+="
+
+
+def is_opposed(part):
+    """Whether `!` before a part asks the opposite: of a port that the program doesn't read it doesn't, since a later fragment has none."""
+    return part.option.place == "+" and part.option.names[0] not in part.owner.unopposed
 
 
 class Writer:
@@ -157,12 +162,13 @@ def condition_of(match, parts):
     """The condition that a match asks by some parts; None where it always holds."""
     asking = [part for part in parts if asks(part)]
     single = len(asking) == 1
+    opposed = single and is_opposed(asking[0])
     turned = any(part.option.place == "^" for part in parts)
-    inverted = (single and asking[0].inverted) != turned
+    inverted = (opposed and asking[0].inverted) != turned
     if single and asking[0].option.names[0] in match.always and not inverted:
         return None
     words = [word for part in parts if part.option.place != "^"
-             for word in ([b"!"] if part.inverted and not (single and asks(part)) else []) + [part.name, *part.values]]
+             for word in ([b"!"] if part.inverted and not (opposed and asks(part)) else []) + [part.name, *part.values]]
     return Condition(match.name, words, inverted, match.notes[0] if not extensions.is_known(match) else "place")
 
 
@@ -178,8 +184,9 @@ def condition_at(at, parts):
     if not name:
         return None
     match = extensions.MATCHES[name]
-    foreign = [each for each in parts_of(match, at, parts) if each.own is None]
-    return condition_of(match, foreign) if foreign or not extensions.is_known(match) else None
+    of_match = parts_of(match, at, parts)
+    foreign = any(each.own is None for each in of_match)
+    return condition_of(match, of_match) if foreign or not extensions.is_known(match) else None
 
 
 def conditions_of(parts):

@@ -19,8 +19,9 @@ LINES = [
     # A known match goes where none of its options is left, unless it may stand alone.
     (b'-A INPUT -m conntrack --ctproto 6 -j DROP', b'-A INPUT -j DROP', b"conntrack --ctproto 6@"),
     (b'-A INPUT -m conntrack ! --ctproto 6 --ctdir REPLY -j DROP', b'-A INPUT -j DROP', b"conntrack ! --ctproto 6 --ctdir REPLY@"),
-    (b'-A INPUT -m conntrack --ctstate NEW ! --ctproto 6 -j DROP', b'-A INPUT -m conntrack --ctstate NEW -j DROP', b"!conntrack --ctproto 6@"),
-    (b'-A INPUT -p tcp -m tcp ! --tcp-option 2 -j DROP', b'-A INPUT -p tcp -m tcp -j DROP', b"!tcp --tcp-option 2@"),
+    (b'-A INPUT -m conntrack --ctstate NEW ! --ctproto 6 -j DROP', b'-A INPUT -m conntrack --ctstate NEW -j DROP', b"conntrack --ctstate NEW ! --ctproto 6@"),
+    (b'-A INPUT -m conntrack --ctstate NEW -m conntrack --ctproto 6 -j DROP', b'-A INPUT -m conntrack --ctstate NEW -j DROP', b"conntrack --ctproto 6@"),
+    (b'-A INPUT -p tcp -m tcp ! --tcp-option 2 -j DROP', b'-A INPUT -p tcp -m tcp -j DROP', b"tcp ! --tcp-option 2@"),
     (b'-A INPUT -m conntrack -j DROP', b'-A INPUT -m conntrack -j DROP'),
     (b'-A INPUT -p tcp -m multiport --dports nobody-knows -j DROP', b'-A INPUT -p tcp -j DROP', b"multiport --dports nobody-knows@"),
     # An option belongs to the newest that has it, and else to the match of the protocol.
@@ -37,11 +38,11 @@ LINES = [
     # Names of ports, types and protocols.
     (b'-A INPUT -p udp -m udp --sport domain:ntp', b'-A INPUT -p udp -m udp --sport 53:123'),
     (b'-A INPUT -p tcp -m multiport --ports ssh,http:https,8080', b'-A INPUT -p tcp -m multiport --ports 22,80:443,8080'),
-    (b'-A INPUT -p tcp -m tcp ! --dport nobody-knows', b'-A INPUT -p tcp -m tcp', b"!tcp --dport nobody-knows@"),
+    (b'-A INPUT -p tcp -m tcp ! --dport nobody-knows', b'-A INPUT -p tcp -m tcp', b"tcp ! --dport nobody-knows@"),
     (b'-A INPUT -p icmp -m icmp --icmp-type router-advertisement', b'-A INPUT -p icmp -m icmp --icmp-type 9'),
     (b'-A INPUT -p icmp -m icmp --icmp-type ttl-zero-during-transit', b'-A INPUT -p icmp -m icmp --icmp-type 11/0'),
     (b'-A INPUT -p icmp -m icmp --icmp-type echo-request', b'-A INPUT -p icmp -m icmp --icmp-type echo-request'),
-    (b'-A INPUT -p icmp -m icmp ! --icmp-type no-such-type', b'-A INPUT -p icmp -m icmp', b"!icmp --icmp-type no-such-type@"),
+    (b'-A INPUT -p icmp -m icmp ! --icmp-type no-such-type', b'-A INPUT -p icmp -m icmp', b"icmp ! --icmp-type no-such-type@"),
     (b'-A INPUT ! -p ipencap -j DROP', b'-A INPUT -j DROP', b"!protocol ipencap"),
     (b'-A INPUT -p 4 -j DROP', b'-A INPUT -p 4 -j DROP'),
     # Values that the program refuses stay with it.
@@ -49,6 +50,12 @@ LINES = [
     # One condition a match: `!` before its only asking option inverts it.
     (b'-A INPUT -m addrtype ! --dst-type LOCAL --limit-iface-in', b'-A INPUT', b"!addrtype --dst-type LOCAL --limit-iface-in"),
     (b'-A INPUT -m addrtype ! --dst-type LOCAL --src-type LOCAL', b'-A INPUT', b"addrtype ! --dst-type LOCAL --src-type LOCAL"),
+    (b'-A INPUT -m physdev ! --physdev-is-in -j DROP', b'-A INPUT -j DROP', b"!physdev --physdev-is-in"),
+    # Of some packets neither holds, or both, and `!` stays.
+    (b'-A INPUT -m physdev ! --physdev-in a -j DROP', b'-A INPUT -j DROP', b"physdev ! --physdev-in a"),
+    (b'-A INPUT -m physdev ! --physdev-is-in --physdev-in a -j DROP', b'-A INPUT -j DROP', b"physdev ! --physdev-is-in --physdev-in a"),
+    (b'-A INPUT -m conntrack ! --ctstatus ASSURED -j DROP', b'-A INPUT -j DROP', b"conntrack ! --ctstatus ASSURED@"),
+    (b'-A INPUT -m connbytes ! --connbytes 1:2 --connbytes-dir both -j DROP', b'-A INPUT -j DROP', b"connbytes ! --connbytes 1:2 --connbytes-dir both@"),
     (b'-A INPUT -m rpfilter --invert --loose -j DROP', b'-A INPUT -j DROP', b"!rpfilter --loose"),
     (b'-A INPUT -m rpfilter -j DROP', b'-A INPUT -j DROP', b"rpfilter"),
     (b'-A INPUT -m socket --transparent -j DROP', b'-A INPUT -j DROP', b"socket --transparent"),
@@ -146,7 +153,7 @@ REFUSED = [
 # An option that is added, the lines of a section, the status, and what is printed.
 ADDED = [
     (b"foo --bar 2", b"-A INPUT -m foo --bar a b -j DROP", 0, b"*filter\n-A INPUT -j DROP\nCOMMIT\n# INPUT 1 0\n# 0 foo: foo --bar a b at INPUT 1"),
-    (b"foo --bar 0", b"-A INPUT -m foo ! --bar -j DROP", 0, b"*filter\n-A INPUT -j DROP\nCOMMIT\n# INPUT 1 !0\n# 0 foo: foo --bar at INPUT 1"),
+    (b"foo --bar 0", b"-A INPUT -m foo ! --bar -j DROP", 0, b"*filter\n-A INPUT -j DROP\nCOMMIT\n# INPUT 1 0\n# 0 foo: foo ! --bar at INPUT 1"),
     (b"mac --new 1", b"-A INPUT -m mac --new 1", 0, b"*filter\n-A INPUT\nCOMMIT\n# INPUT 1 0\n# 0 mac: mac --new 1"),
     (b"tcp --new 1", b"", 2, b""),
     (b"DROP --new 1", b"", 2, b""),

@@ -24,6 +24,11 @@ pub record Condition : Type 0 where
 abbrev pub asks : Part → Bool
 asks part = not (is_role role.Says part.row.role || is_role role.Turns part.row.role)
 
+-- A `!` before the part asks the opposite of what it asks without. Of a port that the program doesn't read, and of a type of ICMP, it doesn't:
+-- a later fragment has none, so that neither holds (iptables-extensions(8), multiport, tcp, icmp).
+abbrev pub is_opposed : Part → Bool
+is_opposed part = is_role role.Asks part.row.role || is_role role.Holds part.row.role
+
 -- the part turns what its match asks
 abbrev pub turns : Part → Bool
 turns part = is_role role.Turns part.row.role
@@ -42,14 +47,15 @@ abbrev pub differ : Bool → Bool → Bool
 differ true b = not b
 differ false b = b
 
--- a condition is inverted by a `!` before its only part that asks, or by a part that turns it; both together leave it as it is
+-- a condition is inverted by a `!` before its only part that asks, where this asks the opposite, or by a part that turns it; both together
+-- leave it as it is
 abbrev pub is_inverted : List Part → Bool
-is_inverted parts = differ (is_single parts && list_any (λ part. asks part && part.inverted) parts) (list_any turns parts)
+is_inverted parts = differ (is_single parts && list_any (λ part. is_opposed part && part.inverted) parts) (list_any turns parts)
 
 -- the words of a part in the text of a condition: without the `!` or the part that inverts the condition
 abbrev pub text_words : Bool → Part → List (List ℕ)
 text_words single part =
-    if turns part then [] else spelled_words (part.inverted && not (single && asks part)) part.option part.values
+    if turns part then [] else spelled_words (part.inverted && not (single && is_opposed part)) part.option part.values
 
 -- the condition that some parts ask of a match
 abbrev pub condition_of : List ℕ → Lasting → List Part → Condition
@@ -64,8 +70,8 @@ always_hold parts = is_single parts && list_any holds parts && not (is_inverted 
 abbrev pub unless_always : List ℕ → Lasting → List Part → List Condition
 unless_always name lasting parts = if always_hold parts then [] else condition_of name lasting parts ∷ []
 
--- what these parts, which the program doesn't read, ask of a match: where the program doesn't read the match, it asks a condition
--- without parts too
+-- what these parts, of which it doesn't read all, ask of a match: where the program doesn't read the match, it asks a condition without
+-- parts too
 abbrev pub asked_as : List ℕ → List Part → Kind → List Condition
 asked_as name parts (kind.Known alone) = if length parts == 0 then [] else unless_always name lasting.Place parts
 asked_as name parts (kind.Foreign lasts) = unless_always name lasts parts
@@ -79,13 +85,18 @@ abbrev pub asked_of : List ℕ → List Part → Option Extension → List Condi
 asked_of name parts None = []
 asked_of name parts (Some row) = asked_as name parts row.kind
 
--- the options of a match that the program doesn't read
-abbrev pub unread : Table → List ℕ → List Part → List Part
-unread table name parts = filter (λ part. is_of name part && not (is_read table part)) parts
+-- the part is an option of this match that the program doesn't read
+abbrev pub is_unread : Table → List ℕ → Part → Bool
+is_unread table name part = is_of name part && not (is_read table part)
+
+-- All options of a match, if the program doesn't read one of them; else none. Those that it reads are among them, since what a match asks by
+-- some may depend on the others: `-m conntrack --ctstate INVALID --ctproto tcp` holds of each packet without a connection.
+abbrev pub asked_options : Table → List ℕ → List Part → List Part
+asked_options table name parts = if list_any (is_unread table name) parts then filter (is_of name) parts else []
 
 -- what a match asks whose parts are among these, up to where it is begun again
 abbrev pub asked_by : Table → List ℕ → List Part → List Condition
-asked_by table name parts = asked_of name (unread table name (up_to_next name parts)) (extension_of table.extensions name)
+asked_by table name parts = asked_of name (asked_options table name (up_to_next name parts)) (extension_of table.extensions name)
 
 -- a match of this name was begun, or an option of it given
 abbrev pub is_there : List ℕ → List Part → Bool
@@ -143,16 +154,16 @@ pub data IsAccounted (table : Table) (all : List Condition) (owner : Extension) 
   Holds : is_match owner.kind ≡ true → always_hold parts ≡ true → IsAccounted table all owner parts
   OfTarget : is_match owner.kind ≡ false → IsAccounted table all owner parts
 
--- An option is accounted for with the others of its match or target that the program doesn't read, from some place up to where the match is
--- begun again; and the table has that match or target.
+-- An option is accounted for with the others of its match or target, from some place up to where the match is begun again; and the table
+-- has that match or target.
 pub record IsNotLost (table : Table) (line : List Part) (part : Part) (all : List Condition) : Type 0 where
   pub owner : Extension
   pub its : extension_of table.extensions part.row.owner ≡ Some owner
   pub before : List Part
   pub from : List Part
   pub split : line ≡ before ++ from
-  pub has : Contains (unread table owner.name (up_to_next owner.name from)) part
-  pub accounted : IsAccounted table all owner (unread table owner.name (up_to_next owner.name from))
+  pub has : Contains (asked_options table owner.name (up_to_next owner.name from)) part
+  pub accounted : IsAccounted table all owner (asked_options table owner.name (up_to_next owner.name from))
 
 -- no option of a match or a target is lost that the program doesn't read
 abbrev pub OptionsAreKept : Type 0

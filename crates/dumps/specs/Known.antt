@@ -95,12 +95,12 @@ pub record AreLent (known : KnownOptions) (table : Table) : Type 0 where
   pub extensions : map named_kind table.extensions ≡ kinds_in known
 
 -- An option is added: the text writes one, its name is that of a match which the program doesn't read, or of none yet, it is the last
--- option, one that asks, and its match is there.
+-- option, one that asks and of which nobody says that `!` asks the opposite, and its match is there.
 pub record IsAdded (text : List ℕ) (old new : KnownOptions) : Type 0 where
   pub row : Written
   pub written : written_by text ≡ Some row
   pub allowed : name_refusal (kind_of old.extensions.items row.name) ≡ None
-  pub last : shapes_in new ≡ shapes_in old ++ (row.name, (role.Asks, row.values)) ∷ []
+  pub last : shapes_in new ≡ shapes_in old ++ (row.name, (role.Unopposed, row.values)) ∷ []
   pub there : is_some (kind_of new.extensions.items row.name) ≡ true
 
 -- A match is added without an option: its name is that of a match which the program doesn't read, or of none yet.

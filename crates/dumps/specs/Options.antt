@@ -100,9 +100,10 @@ role_number role.Protocol = 3
 role_number role.Match = 4
 role_number role.Target = 5
 role_number role.Asks = 6
-role_number role.Holds = 7
-role_number role.Says = 8
-role_number role.Turns = 9
+role_number role.Unopposed = 7
+role_number role.Holds = 8
+role_number role.Says = 9
+role_number role.Turns = 10
 
 -- the second role is the first
 abbrev pub is_role : Role → Role → Bool

@@ -111,7 +111,7 @@ conditions_in all = map condition_in all
 -- a part is as a test asks
 abbrev pub passes : Test → parts.Part → Bool
 passes test.Asks part = conditions.asks part
-passes test.AsksInverted part = conditions.asks part && part.inverted
+passes test.AsksOpposite part = conditions.is_opposed part && part.inverted
 passes test.Turns part = conditions.turns part
 passes test.Holds part = conditions.holds part
 

@@ -58,8 +58,9 @@ impl<'a> Apart<'a> {
 
     /// The conditions, in the order in which their matches begin: one for each match that the program doesn't read, and
     /// for each match that it reads with options or values that it doesn't, and one for a protocol that it doesn't read.
-    /// A `!` before its only option that asks, or an option that turns it, isn't in the text of a condition, but inverts
-    /// it. What always holds is no condition. Nothing else that the program doesn't read of a match is left out.
+    /// Its text has all options of the match.
+    /// A `!` before its only option that asks, where this is the opposite, or an option that turns it, isn't in the text of
+    /// a condition, but inverts it. What always holds is no condition. Nothing else that the program doesn't read of a match is left out.
     ///
     /// # Errors
     ///

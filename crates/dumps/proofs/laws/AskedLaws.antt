@@ -11,17 +11,16 @@ use Rattle.dumps.specs.Options.{Row, Table, is_role, role_number, option_of}
 use Rattle.dumps.specs.Parts.{Part, value_of, option_of_begun, begun_by, implied_by, newest, option_after}
 use Rattle.dumps.specs.Apart.{AreParts, IsTakenApart}
 use Rattle.dumps.specs.Own.{is_read, is_of, begins, up_to_next}
-use Rattle.dumps.specs.Conditions.{Condition, unread, asked_by, is_there, protocol_condition, asked_first, conditions_after, conditions, HasOwnStarts, MatchesAreAsked, ProtocolsAreAsked}
+use Rattle.dumps.specs.Conditions.{Condition, is_unread, asked_options, asked_by, is_there, protocol_condition, asked_first, conditions_after, conditions, HasOwnStarts, MatchesAreAsked, ProtocolsAreAsked}
 use Rattle.dumps.specs.Conditions as asking
 use Rattle.dumps.specs.declared.options.row.Role.TheVariants as role
 
--- A part is asked: with the other options of its match that the program doesn't read, from some place up to where the match is
--- begun again, and what these ask is among the conditions.
+-- A part is asked: with the other options of its match, from some place up to where the match is begun again, and what these ask is among the conditions.
 pub record IsAskedAmong (table : Table) (line : List Part) (part : Part) (all : List Condition) : Type 0 where
   pub before : List Part
   pub from : List Part
   pub split : line ≡ before ++ from
-  pub has : Contains (unread table part.row.owner (up_to_next part.row.owner from)) part
+  pub has : Contains (asked_options table part.row.owner (up_to_next part.row.owner from)) part
   pub asked : All (Contains all) (asked_by table part.row.owner from)
 
 -- what holds of each row of the table holds of the row that is found
@@ -107,17 +106,26 @@ up_to-past name (p ∷ ps) part after f e =
 contains-first : {X : Type 0} (x : X) (xs : List X) → Contains (x ∷ xs) x
 contains-first x xs = (0, omega arith, refl)
 
-in-unread : (table : Table) (name : List ℕ) (between : List Part) (part : Part) (after : List Part) → list_any (begins name) between ≡ false → begins name part ≡ false → is_of name part ≡ true → is_read table part ≡ false
-    → Contains (unread table name (up_to_next name (between ++ part ∷ after))) part
-in-unread table name between part after free e of unread_is =
-    let test : Part → Bool = λ (p : Part). is_of name p && not (is_read table p) in
+any-here : (test : Part → Bool) (xs : List Part) (x : Part) (ys : List Part) → test x ≡ true → list_any test (xs ++ x ∷ ys) ≡ true
+any-here test [] x ys e = ap (λ t. t || list_any test ys) e
+any-here test (z ∷ zs) x ys e = go (test z) (any-here test zs x ys e)
+  where
+    go : (t : Bool) → list_any test (zs ++ x ∷ ys) ≡ true → (t || list_any test (zs ++ x ∷ ys)) ≡ true
+    go true r = refl
+    go false r = r
+
+in-asked : (table : Table) (name : List ℕ) (between : List Part) (part : Part) (after : List Part) → list_any (begins name) between ≡ false → begins name part ≡ false → is_of name part ≡ true → is_read table part ≡ false
+    → Contains (asked_options table name (up_to_next name (between ++ part ∷ after))) part
+in-asked table name between part after free e of unread_is =
+    let test : Part → Bool = is_of name in
     let rest = up_to_next name after in
-    let passes : test part ≡ true = ap (λ t. t && not (is_read table part)) of ∙ ap not unread_is in
+    let passes : is_unread table name part ≡ true = ap (λ t. t && not (is_read table part)) of ∙ ap not unread_is in
     let first : Contains (filter test (part ∷ rest)) part =
-    subst (λ t. Contains (cond t (part ∷ filter test rest) (filter test rest)) part) (sym passes) (contains-first part (filter test rest)) in
+    subst (λ t. Contains (cond t (part ∷ filter test rest) (filter test rest)) part) (sym of) (contains-first part (filter test rest)) in
     let all : Contains (filter test (between ++ part ∷ rest)) part =
     subst (λ (l : List Part). Contains l part) (sym (filter-append test between (part ∷ rest))) (Contains-append_right (filter test between) (filter test (part ∷ rest)) part first) in
-    subst (λ (l : List Part). Contains (filter test l) part) (sym (up_to-past name between part after free e)) all
+    subst (λ (l : List Part). Contains (asked_options table name l) part) (sym (up_to-past name between part after free e))
+    (subst (λ t. Contains (cond t (filter test (between ++ part ∷ rest)) []) part) (sym (any-here (is_unread table name) between part rest passes)) all)
 
 -- what is asked at a place is among the conditions
 included : (table : Table) (seen before rest : List Part) → All (Contains (conditions_after table seen (before ++ rest))) (asked_first table (seen ++ before) rest)
@@ -189,7 +197,7 @@ lost-begun : (table : Table) (name : List ℕ) (before after : List Part) (part 
 lost-begun table name before after part owner no_start of unread_is h =
     let from = h.after ++ part ∷ after in
     let line : before ++ part ∷ after ≡ h.before ++ h.start ∷ from = ap (λ (l : List Part). l ++ part ∷ after) h.split ∙ append_assoc h.before (h.start ∷ h.after) (part ∷ after) in
-    let has = in-unread table name h.after part after h.free no_start of unread_is in
+    let has = in-asked table name h.after part after h.free no_start of unread_is in
     let asked : All (Contains (conditions table (before ++ part ∷ after))) (asked_by table name from) =
     subst (λ (l : List Part). All (Contains (conditions table l)) (asked_by table name from)) (sym line)
     (subst (λ (l : List Condition). All (Contains (conditions table (h.before ++ h.start ∷ from))) l) (asked-begun table name h.before h.start from h.begun)
@@ -198,13 +206,13 @@ lost-begun table name before after part owner no_start of unread_is h =
       before = h.before ++ h.start ∷ [];
       from = from;
       split = line ∙ sym (append_assoc h.before (h.start ∷ []) from);
-      has = subst (λ (n : List ℕ). Contains (unread table n (up_to_next n from)) part) (sym owner) has;
+      has = subst (λ (n : List ℕ). Contains (asked_options table n (up_to_next n from)) part) (sym owner) has;
       asked = subst (λ (n : List ℕ). All (Contains (conditions table (before ++ part ∷ after))) (asked_by table n from)) (sym owner) asked;
     }
 
 -- where no `-m` begins it: from its first option on
 lost-implied : (table : Table) (name : List ℕ) (before : List Part) (start : Part) (between after : List Part) (part : Part) (line : List Part) → line ≡ before ++ start ∷ between → is_of name start ≡ true → name ≢ [] → is_there name before ≡ false
-    → IsNoStart start.row → part.row.owner ≡ name → Contains (unread table name (up_to_next name (start ∷ between))) part → IsAskedAmong table line part (conditions table line)
+    → IsNoStart start.row → part.row.owner ≡ name → Contains (asked_options table name (up_to_next name (start ∷ between))) part → IsAskedAmong table line part (conditions table line)
 lost-implied table name before start between after part line split of some none own owner has =
     let from = start ∷ between in
     let asked : All (Contains (conditions table line)) (asked_by table name from) =
@@ -215,7 +223,7 @@ lost-implied table name before start between after part line split of some none 
       before = before;
       from = from;
       split = split;
-      has = subst (λ (n : List ℕ). Contains (unread table n (up_to_next n from)) part) (sym owner) has;
+      has = subst (λ (n : List ℕ). Contains (asked_options table n (up_to_next n from)) part) (sym owner) has;
       asked = subst (λ (n : List ℕ). All (Contains (conditions table line)) (asked_by table n from)) (sym owner) asked;
     }
 
@@ -242,7 +250,7 @@ lost-free table name before after part owner some no_start of unread_is rows fre
     go : (is_there name before ≡ false) ⊎ FirstThere name before → IsAskedAmong table (before ++ part ∷ after) part (conditions table (before ++ part ∷ after))
     go (inl none) =
         lost-implied table name before part after after part (before ++ part ∷ after) refl of some none (at-split (λ (p : Part). IsNoStart p.row) before part after rows) owner
-        (in-unread table name [] part after refl no_start of unread_is)
+        (in-asked table name [] part after refl no_start of unread_is)
     go (inr f) =
         let between = f.after ++ part ∷ after in
         let split : before ++ part ∷ after ≡ f.before ++ f.start ∷ between = ap (λ (l : List Part). l ++ part ∷ after) f.split ∙ append_assoc f.before (f.start ∷ f.after) (part ∷ after) in
@@ -251,7 +259,7 @@ lost-free table name before after part owner some no_start of unread_is rows fre
         let (plain, rest) = or_parts (begins name f.start) (list_any (begins name) f.after) none in
         lost-implied table name f.before f.start between after part (before ++ part ∷ after) split (second_true (begins name f.start) (is_of name f.start) f.there plain) some f.none
         (at-split (λ (p : Part). IsNoStart p.row) f.before f.start between (subst (λ (l : List Part). All (λ (p : Part). IsNoStart p.row) l) split rows)) owner
-        (in-unread table name (f.start ∷ f.after) part after none no_start of unread_is)
+        (in-asked table name (f.start ∷ f.after) part after none no_start of unread_is)
 
 pub options_are_asked : (table : Table) (words : List (List ℕ)) (before after : List Part) (part : Part) → HasOwnStarts table
     → IsTakenApart table words (before ++ part ∷ after) → is_read table part ≡ false → part.row.owner ≢ []

@@ -10,7 +10,7 @@ use Rattle.dumps.specs.Options.{Row, Extension, Table, is_role, option_of, exten
 use Rattle.dumps.specs.Parts.{Part, value_of, Refusal, UnknownMatch, DecidingTarget, option_of_begun, begun_by, implied_by, newest, option_after, refused_with}
 use Rattle.dumps.specs.Apart.{AreParts}
 use Rattle.dumps.specs.Own.{up_to_next}
-use Rattle.dumps.specs.Conditions.{Condition, condition_of, unless_always, asked_as, asked_of, always_hold, unread, conditions, lasting_of, IsAccounted, Asks, Holds, OfTarget, IsNotLost, OptionsAreKept, NothingIsLost}
+use Rattle.dumps.specs.Conditions.{Condition, condition_of, unless_always, asked_as, asked_of, always_hold, asked_options, conditions, lasting_of, IsAccounted, Asks, Holds, OfTarget, IsNotLost, OptionsAreKept, NothingIsLost}
 use Rattle.dumps.specs.declared.options.row.Role.TheVariants as role
 use Rattle.dumps.specs.declared.options.row.Kind.{Kind}
 use Rattle.dumps.specs.declared.options.row.Kind.TheVariants as kind
@@ -177,8 +177,8 @@ kept-as table all owner parts part kind.Decides is has asked = OfTarget (ap is_m
 
 kept-by : (table : Table) (line : List Part) (part : Part) (all : List Condition) → HasName table part.row.owner → IsAskedAmong table line part all → IsNotLost table line part all
 kept-by table line part all (owner, its, named) h =
-    let parts = unread table part.row.owner (up_to_next part.row.owner h.from) in
-    let same : unread table owner.name (up_to_next owner.name h.from) ≡ parts = ap (λ (n : List ℕ). unread table n (up_to_next n h.from)) named in
+    let parts = asked_options table part.row.owner (up_to_next part.row.owner h.from) in
+    let same : asked_options table owner.name (up_to_next owner.name h.from) ≡ parts = ap (λ (n : List ℕ). asked_options table n (up_to_next n h.from)) named in
     let asked : All (Contains all) (asked_as owner.name parts owner.kind) =
     subst (λ (n : List ℕ). All (Contains all) (asked_as n parts owner.kind)) (sym named)
     (subst (λ (o : Option Extension). All (Contains all) (asked_of part.row.owner parts o)) its h.asked) in

@@ -1,9 +1,10 @@
 //! The conditions of a line: what its foreign parts ask.
-ghost use Rattle.std.specs.Prelude.{◌≡◌, ◌++◌, ◌∷◌, [], ◌&&◌, ◌||◌, not, IfOk, flat_map};
+ghost use Rattle.std.specs.Prelude.{◌≡◌, ◌++◌, ◌∷◌, [], ◌&&◌, ◌||◌, not, IfOk, filter, flat_map};
+ghost use Rattle.dumps.specs.Own.{is_of};
 ghost use Rattle.std.specs.List.{list_any};
 ghost use Rattle.fields.specs.text.WordSlice.{words_in};
 ghost use Rattle.dumps.specs.Parts.{spelled_words};
-ghost use Rattle.dumps.specs.Conditions.{asks, turns, holds, is_single, differ, is_inverted, text_words, always_hold, unless_always, unread, asked_as, asked_by, is_there, implied_by, protocol_condition, asked_first, conditions};
+ghost use Rattle.dumps.specs.Conditions.{asks, is_opposed, turns, holds, is_single, differ, is_inverted, text_words, always_hold, unless_always, is_unread, asked_options, asked_as, asked_by, is_there, implied_by, protocol_condition, asked_first, conditions};
 ghost use Rattle.dumps.specs.Views.{table_in, texts_in, part_in, parts_of, passes, conditions_in};
 
 use crate::apart::own::{begins, is_of, is_read, up_to_next};
@@ -45,6 +46,16 @@ fn turns(part: &Part<'_>) -> bool
     }
 }
 
+// Whether a part asks after `!` the opposite of what it asks without.
+fn is_opposed(part: &Part<'_>) -> bool
+    ensures { result ≡ is_opposed (part_in part.now) }
+{
+    match part.row.role {
+        Role::Asks | Role::Holds => true,
+        _ => false,
+    }
+}
+
 // Whether what a part asks always holds.
 fn holds(part: &Part<'_>) -> bool
     ensures { result ≡ holds (part_in part.now) }
@@ -59,7 +70,7 @@ fn holds(part: &Part<'_>) -> bool
 #[derive(Clone, Copy)]
 enum Test {
     Asks,
-    AsksInverted,
+    AsksOpposite,
     Turns,
     Holds,
 }
@@ -70,7 +81,7 @@ fn passes(test: Test, part: &Part<'_>) -> bool
 {
     match test {
         Test::Asks => asks(part),
-        Test::AsksInverted => asks(part) && part.inverted,
+        Test::AsksOpposite => is_opposed(part) && part.inverted,
         Test::Turns => turns(part),
         Test::Holds => holds(part),
     }
@@ -104,7 +115,7 @@ fn is_single(parts: &[Part<'_>]) -> bool
 fn is_inverted(parts: &[Part<'_>]) -> bool
     ensures { result ≡ is_inverted (parts_of parts.now) }
 {
-    let inverted = is_single(parts) && one_passes(Test::AsksInverted, parts);
+    let inverted = is_single(parts) && one_passes(Test::AsksOpposite, parts);
     if inverted {
         !one_passes(Test::Turns, parts)
     } else {
@@ -150,7 +161,7 @@ fn add_text<'a>(words: &mut Vec<&'a [u8]>, part: &Part<'a>, single: bool) -> Res
     if turns(part) {
         return Ok(());
     }
-    let bang = part.inverted && !(single && asks(part));
+    let bang = part.inverted && !(single && is_opposed(part));
     add_words(words, part, bang)
 }
 
@@ -189,22 +200,48 @@ fn add_condition<'a>(
     Ok(())
 }
 
-// The options of a match that the program doesn't read.
-fn unread<'a>(
+// Whether the program doesn't read one of the options of a match.
+fn has_unread(table: &OptionTable<'_>, name: &[u8], parts: &[Part<'_>]) -> bool
+    ensures { result ≡ list_any (is_unread (table_in table.now) name.now) (parts_of parts.now) }
+{
+    for part in parts {
+        if is_of(name, part) && !is_read(table, part) {
+            return true;
+        }
+    }
+    false
+}
+
+// The options of a match.
+fn options_of<'a>(
+    alloc: Global,
+    name: &[u8],
+    parts: &[Part<'a>],
+) -> Result<Vec<Part<'a>>, AllocError>
+    ensures { IfOk result (λ found. parts_of found.items ≡ filter (is_of name.now) (parts_of parts.now)) }
+{
+    let mut found = Vec::new(alloc);
+    for part in parts {
+        if is_of(name, part) {
+            found.push(*part)?;
+        }
+    }
+    Ok(found)
+}
+
+// All options of a match, if the program doesn't read one of them.
+fn asked_options<'a>(
     alloc: Global,
     table: &OptionTable<'_>,
     name: &[u8],
     parts: &[Part<'a>],
 ) -> Result<Vec<Part<'a>>, AllocError>
-    ensures { IfOk result (λ found. parts_of found.items ≡ unread (table_in table.now) name.now (parts_of parts.now)) }
+    ensures { IfOk result (λ found. parts_of found.items ≡ asked_options (table_in table.now) name.now (parts_of parts.now)) }
 {
-    let mut found = Vec::new(alloc);
-    for part in parts {
-        if is_of(name, part) && !is_read(table, part) {
-            found.push(*part)?;
-        }
+    if !has_unread(table, name, parts) {
+        return Ok(Vec::new(alloc));
     }
-    Ok(found)
+    options_of(alloc, name, parts)
 }
 
 // Adds what a match of this kind asks.
@@ -245,7 +282,7 @@ fn add_match<'a>(
     match extension_in(table.extensions, name) {
         None => Ok(()),
         Some(row) => {
-            let found = unread(alloc, table, name, up_to_next(name, parts))?;
+            let found = asked_options(alloc, table, name, up_to_next(name, parts))?;
             add_of_kind(alloc, conditions, name, row.kind, found.as_slice())
         }
     }

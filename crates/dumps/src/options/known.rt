@@ -66,6 +66,7 @@ fn role_of(word: &str) -> Option<Role> {
         b"match" => Role::Match,
         b"target" => Role::Target,
         b"asks" => Role::Asks,
+        b"unopposed" => Role::Unopposed,
         b"holds" => Role::Holds,
         b"says" => Role::Says,
         b"turns" => Role::Turns,
@@ -189,7 +190,7 @@ impl<'a> KnownOptions<'a> {
     ghost use Rattle.dumps.specs.Conditions.{AreOwnStarts, HasOwnStarts};
     ghost use Rattle.dumps.specs.Known.{IsAdded, IsAddRefused, IsMatchAdded, IsMatchRefused, AreLent, add_refused_in, kind_of, shape_of, shapes_in, named_kind, kinds_in, table_of};
     ghost use Rattle.dumps.specs.Views.{rows_in, extensions_in};
-    ghost use Rattle.dumps.specs.declared.options.row.Role.TheVariants.{Asks};
+    ghost use Rattle.dumps.specs.declared.options.row.Role.TheVariants.{Unopposed};
 
     /// The options of iptables 1.8.9 that rules of the table `filter` may have.
     ///
@@ -285,7 +286,8 @@ impl<'a> KnownOptions<'a> {
     }
 
     /// Adds an option that the table lacks, written as `MATCH OPTION N`: N values follow the option, at most 9, and it asks a
-    /// condition. A match that the table lacks is added with it: each place has a condition of its own.
+    /// condition. After `!` it asks another one, since nobody says that this is the opposite. A match that the table lacks is added
+    /// with it: each place has a condition of its own.
     ///
     /// # Errors
     ///
@@ -342,9 +344,9 @@ impl<'a> KnownOptions<'a> {
         Ok(())
     }
 
-    // Adds an option that asks a condition, and its match where there is none yet.
+    // Adds an option that asks a condition, and after `!` another one, and its match where there is none yet.
     fn add_asking(&mut self, row: WrittenOption<'a>) -> Result<(), AllocError>
-        ensures last { OnOk result (shapes_in self.new ≡ shapes_in self.old ++ (row.entry.name.now, (Asks, row.entry.values)) ∷ []) }
+        ensures last { OnOk result (shapes_in self.new ≡ shapes_in self.old ++ (row.entry.name.now, (Unopposed, row.entry.values)) ∷ []) }
         ensures there { OnOk result (is_some (kind_of self.new.extensions.items row.entry.name.now) ≡ true) }
     {
         let from = self.words.len();
@@ -354,7 +356,7 @@ impl<'a> KnownOptions<'a> {
             owner: row.name,
             names: Span { from, to },
             values: row.values,
-            role: Role::Asks,
+            role: Role::Unopposed,
         })?;
         self.begin(row.name)
     }

@@ -15,8 +15,10 @@ pub enum Role {
     Match,
     /// It names a target.
     Target,
-    /// It asks a condition.
+    /// It asks a condition, and after `!` its opposite.
     Asks,
+    /// It asks a condition, and after `!` another one: there may be packets of which neither holds.
+    Unopposed,
     /// What it asks always holds.
     Holds,
     /// It says more of what its match asks, or of what its target does.

@@ -15,7 +15,7 @@ tcp ports 1 --sport --source-port
 tcp ports 1 --dport --destination-port
 tcp own 2 --tcp-flags
 tcp own 0 --syn
-tcp asks 1 --tcp-option
+tcp unopposed 1 --tcp-option
 udp ports 1 --sport --source-port
 udp ports 1 --dport --destination-port
 icmp icmp-type 1 --icmp-type
@@ -25,18 +25,18 @@ multiport ports 1 --ports
 iprange own 1 --src-range
 iprange own 1 --dst-range
 conntrack own 1 --ctstate
-conntrack asks 1 --ctproto
-conntrack asks 1 --ctorigsrc
-conntrack asks 1 --ctorigdst
-conntrack asks 1 --ctreplsrc
-conntrack asks 1 --ctrepldst
-conntrack asks 1 --ctorigsrcport
-conntrack asks 1 --ctorigdstport
-conntrack asks 1 --ctreplsrcport
-conntrack asks 1 --ctrepldstport
-conntrack asks 1 --ctstatus
-conntrack asks 1 --ctexpire
-conntrack asks 1 --ctdir
+conntrack unopposed 1 --ctproto
+conntrack unopposed 1 --ctorigsrc
+conntrack unopposed 1 --ctorigdst
+conntrack unopposed 1 --ctreplsrc
+conntrack unopposed 1 --ctrepldst
+conntrack unopposed 1 --ctorigsrcport
+conntrack unopposed 1 --ctorigdstport
+conntrack unopposed 1 --ctreplsrcport
+conntrack unopposed 1 --ctrepldstport
+conntrack unopposed 1 --ctstatus
+conntrack unopposed 1 --ctexpire
+conntrack unopposed 1 --ctdir
 state own 1 --state
 ttl own 1 --ttl-eq --ttl
 ttl own 1 --ttl-gt
@@ -46,45 +46,45 @@ addrtype asks 1 --src-type
 addrtype asks 1 --dst-type
 addrtype says 0 --limit-iface-in
 addrtype says 0 --limit-iface-out
-ah says 1 --ahspi
+ah unopposed 1 --ahspi
 bpf asks 1 --bytecode
 bpf asks 1 --object-pinned
-cgroup says 1 --path
-cgroup says 1 --cgroup
+cgroup unopposed 1 --path
+cgroup unopposed 1 --cgroup
 cluster says 1 --cluster-total-nodes
-cluster says 1 --cluster-local-node
-cluster says 1 --cluster-local-nodemask
+cluster unopposed 1 --cluster-local-node
+cluster unopposed 1 --cluster-local-nodemask
 cluster says 1 --cluster-hash-seed
 condition asks 1 --condition
-connbytes asks 1 --connbytes
+connbytes unopposed 1 --connbytes
 connbytes says 1 --connbytes-dir
 connbytes says 1 --connbytes-mode
 connlabel asks 1 --label
 connlabel says 0 --set
-connlimit asks 1 --connlimit-upto
-connlimit asks 1 --connlimit-above
+connlimit unopposed 1 --connlimit-upto
+connlimit unopposed 1 --connlimit-above
 connlimit says 1 --connlimit-mask
 connlimit says 0 --connlimit-saddr
 connlimit says 0 --connlimit-daddr
-connmark says 1 --mark
+connmark unopposed 1 --mark
 cpu asks 1 --cpu
-dccp says 1 --sport --source-port
-dccp says 1 --dport --destination-port
-dccp says 1 --dccp-types
-dccp says 1 --dccp-option
+dccp unopposed 1 --sport --source-port
+dccp unopposed 1 --dport --destination-port
+dccp unopposed 1 --dccp-types
+dccp unopposed 1 --dccp-option
 devgroup asks 1 --src-group
 devgroup asks 1 --dst-group
 dscp asks 1 --dscp
 dscp asks 1 --dscp-class
-ecn says 0 --ecn-tcp-cwr
-ecn says 0 --ecn-tcp-ece
-ecn says 1 --ecn-ip-ect
-esp says 1 --espspi
-geoip says 1 --src-cc --source-country
-geoip says 1 --dst-cc --destination-country
-hashlimit asks 1 --hashlimit-upto
-hashlimit asks 1 --hashlimit-above
-hashlimit asks 1 --hashlimit
+ecn unopposed 0 --ecn-tcp-cwr
+ecn unopposed 0 --ecn-tcp-ece
+ecn unopposed 1 --ecn-ip-ect
+esp unopposed 1 --espspi
+geoip unopposed 1 --src-cc --source-country
+geoip unopposed 1 --dst-cc --destination-country
+hashlimit unopposed 1 --hashlimit-upto
+hashlimit unopposed 1 --hashlimit-above
+hashlimit unopposed 1 --hashlimit
 hashlimit says 1 --hashlimit-burst
 hashlimit says 1 --hashlimit-mode
 hashlimit says 1 --hashlimit-srcmask
@@ -97,43 +97,43 @@ hashlimit says 1 --hashlimit-htable-gcinterval
 hashlimit says 0 --hashlimit-rate-match
 hashlimit says 1 --hashlimit-rate-interval
 helper asks 1 --helper
-ipcomp says 1 --ipcompspi
+ipcomp unopposed 1 --ipcompspi
 ipcomp says 0 --compres
-ipvs says 0 --ipvs
-ipvs says 1 --vproto
-ipvs says 1 --vaddr
-ipvs says 1 --vport
-ipvs says 1 --vdir
-ipvs says 1 --vmethod
-ipvs says 1 --vportctl
+ipvs unopposed 0 --ipvs
+ipvs unopposed 1 --vproto
+ipvs unopposed 1 --vaddr
+ipvs unopposed 1 --vport
+ipvs unopposed 1 --vdir
+ipvs unopposed 1 --vmethod
+ipvs unopposed 1 --vportctl
 length asks 1 --length
 limit asks 1 --limit
 limit says 1 --limit-burst
-mac says 1 --mac-source
+mac unopposed 1 --mac-source
 mark asks 1 --mark
 nfacct asks 1 --nfacct-name
-osf says 1 --genre
+osf unopposed 1 --genre
 osf says 1 --ttl
 osf says 1 --log
 owner asks 1 --uid-owner
 owner asks 1 --gid-owner
 owner asks 0 --socket-exists
 owner says 0 --suppl-groups
-physdev asks 1 --physdev-in
-physdev asks 1 --physdev-out
+physdev unopposed 1 --physdev-in
+physdev unopposed 1 --physdev-out
 physdev asks 0 --physdev-is-in
 physdev asks 0 --physdev-is-out
 physdev asks 0 --physdev-is-bridged
 pkttype asks 1 --pkt-type
 policy says 1 --dir
-policy says 1 --pol
+policy unopposed 1 --pol
 policy says 0 --strict
-policy says 1 --reqid
-policy says 1 --spi
-policy says 1 --proto
-policy says 1 --mode
-policy says 1 --tunnel-src
-policy says 1 --tunnel-dst
+policy unopposed 1 --reqid
+policy unopposed 1 --spi
+policy unopposed 1 --proto
+policy unopposed 1 --mode
+policy unopposed 1 --tunnel-src
+policy unopposed 1 --tunnel-dst
 policy says 0 --next
 quota asks 1 --quota
 realm asks 1 --realm
@@ -153,19 +153,19 @@ rpfilter says 0 --loose
 rpfilter says 0 --validmark
 rpfilter says 0 --accept-local
 rpfilter turns 0 --invert
-sctp says 1 --sport --source-port
-sctp says 1 --dport --destination-port
-sctp says 2 --chunk-types
+sctp unopposed 1 --sport --source-port
+sctp unopposed 1 --dport --destination-port
+sctp unopposed 2 --chunk-types
 set asks 2 --match-set
 set says 0 --return-nomatch
 set says 0 --update-counters
 set says 0 --update-subcounters
-set asks 1 --packets-eq
-set asks 1 --packets-lt
-set asks 1 --packets-gt
-set asks 1 --bytes-eq
-set asks 1 --bytes-lt
-set asks 1 --bytes-gt
+set unopposed 1 --packets-eq
+set unopposed 1 --packets-lt
+set unopposed 1 --packets-gt
+set unopposed 1 --bytes-eq
+set unopposed 1 --bytes-lt
+set unopposed 1 --bytes-gt
 socket asks 0 --transparent
 socket says 0 --nowildcard
 statistic says 1 --mode
@@ -178,7 +178,7 @@ string says 1 --algo
 string says 1 --from
 string says 1 --to
 string says 0 --icase
-tcpmss asks 1 --mss
+tcpmss unopposed 1 --mss
 time asks 1 --datestart
 time asks 1 --datestop
 time asks 1 --timestart
