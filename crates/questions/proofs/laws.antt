@@ -34,6 +34,8 @@ pub mod ReachLaws
 pub mod RemainLaws
 pub mod ResolvedLaws
 pub mod SharedLaws
+pub mod ShortLaws
+pub mod StayLaws
 pub mod TakerLaws
 pub mod TrailLaws
 pub mod TransportLaws

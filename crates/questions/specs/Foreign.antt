@@ -78,6 +78,10 @@ Agrees a answers = All (λ (answer : Answer). a answer.condition ≡ answer.hold
 abbrev pub IsUnanswered : List Answer → ℕ → Type 0
 IsUnanswered answers condition = All (λ (answer : Answer). answer.condition ≢ condition) answers
 
+-- two assignments agree on each condition that has no answer
+abbrev pub AgreeOnOpen : List Answer → Assignment → Assignment → Type 0
+AgreeOnOpen answers a b = (condition : ℕ) → IsUnanswered answers condition → a condition ≡ b condition
+
 -- no two answers are about one condition, so none contradicts another
 abbrev pub AreConsistent : List Answer → Type 0
 AreConsistent answers = AllPairs (λ (one other : Answer). one.condition ≢ other.condition) answers

@@ -1,18 +1,25 @@
--- What commands leave that delete rules by number.
-use Rattle.std.proofs.Common.{◌≡◌, inl, inr, ℕ, ◌+◌, ◌-◌, Bool, true, false, cond, List, [], ◌∷◌, ◌++◌, length, map, refl, sym, ◌∙◌, ap, arith, subst}
-use Rattle.std.specs.Prelude.{remove}
-use Rattle.std.proofs.lemmas.Bool.{cases_Bool, cond-true, cond-false, false_from_ne_true}
+-- Commands that delete rules by number: they are accepted, and what they leave.
+use Rattle.std.proofs.Common.{◌≡◌, inl, inr, ℕ, ◌+◌, ◌-◌, ◌<◌, ◌≤◌, Bool, true, false, cond, not, List, [], ◌∷◌, ◌++◌, length, map, refl, sym, ◌∙◌, ap, arith, subst, Ok, None}
+use Rattle.std.specs.Prelude.{remove, nat_lt, ◌==◌, ◌||◌}
+use Rattle.std.specs.List.{list_any}
+use Rattle.std.proofs.lemmas.Bool.{cases_Bool, cond-true, cond-false, false_from_ne_true, or_left, or_right, true≢false}
+use Rattle.std.proofs.lemmas.Bool.Decides.{nat_tests}
 use Rattle.std.proofs.lemmas.List.{append_assoc, length-append}
 use Rattle.std.proofs.lemmas.List.Edits.{remove-append_right}
 use Rattle.std.proofs.lemmas.Slice.Eq.{bytes_eq-Decides}
+use Rattle.std.specs.Str.{bytes_eq}
 use Rattle.rules.specs.rule.Rules.{Rule}
-use Rattle.table.specs.chains.Table.{Chain, Table, is_named, names_of}
-use Rattle.table.specs.edits.Edits.{Edit, DeleteAt, changed, changed_chain}
+use Rattle.table.specs.chains.Table.{Chain, Table, has_chain, is_named, names_of, rules_of}
+use Rattle.table.specs.edits.Edits.{Edit, DeleteAt, changed, changed_chain, edited, fault_of, no_such_chain, out_of_range}
+use Rattle.table.specs.edits.Made.{steps}
 use Rattle.table.specs.walk.Walk.{Entry}
-use Rattle.table.proofs.laws.chains.KeepLaws.{listed_differ}
+use Rattle.table.proofs.laws.chains.KeepLaws.{has_by_names, listed_differ, names_changed}
 use Rattle.table.proofs.laws.chains.PathLaws.{Mem, Differing}
+use Rattle.table.proofs.laws.edits.AnswerLaws.{passes}
+use Rattle.table.proofs.laws.edits.FilledLaws.{one_more}
+use Rattle.table.specs.chains.Sound.{IsSound}
 use Rattle.questions.specs.asked.Laws.{DeletionsLeaveTheRest}
-use Rattle.questions.specs.asked.Without.{after, chain_without, deletions, deletions_in, going, goes_of, staying}
+use Rattle.questions.specs.asked.Without.{chain_without, deletions, deletions_in, going, goes_of, staying, without}
 
 -- ---- rules
 
@@ -43,6 +50,37 @@ stays goes before front (rule ∷ rules) long =
     ap (removed (going goes (before + 1) rules)) (sym (append_assoc front (rule ∷ []) rules)) ∙ stays goes (before + 1) (front ++ rule ∷ []) rules more ∙ append_assoc front (rule ∷ []) (staying goes (before + 1) rules) in
     removed_append (going goes (before + 1) rules) one (front ++ rule ∷ rules) ∙ ap (removed one) inner ∙ last_goes before front (staying goes (before + 1) rules) rule (goes (before + 1)) long
 
+-- those behind some rules go
+behind : (goes : ℕ → Bool) (before : ℕ) (front rules : List Rule) (rule : Rule) → length front ≡ before
+    → removed (going goes (before + 1) rules) (front ++ rule ∷ rules) ≡ front ++ rule ∷ staying goes (before + 1) rules
+behind goes before front rules rule long =
+    ap (removed (going goes (before + 1) rules)) (sym (append_assoc front (rule ∷ []) rules))
+    ∙ stays goes (before + 1) (front ++ rule ∷ []) rules (length-append front (rule ∷ []) ∙ ap (λ n. n + 1) long)
+    ∙ append_assoc front (rule ∷ []) (staying goes (before + 1) rules)
+
+-- each of some numbers is that of a rule when its turn comes
+abbrev AreRules : List ℕ → List Rule → Type 0
+AreRules [] rules = Unit {0}
+AreRules (n ∷ ns) rules = (0 < n) × (n ≤ length rules) × AreRules ns (remove rules (n - 1))
+
+both_rules : (ns ms : List ℕ) (rules : List Rule) → AreRules ns rules → AreRules ms (removed ns rules) → AreRules (ns ++ ms) rules
+both_rules [] ms rules own other = other
+both_rules (n ∷ ns) ms rules own other = (own.0, own.1, both_rules ns ms (remove rules (n - 1)) own.2 other)
+
+last_is : (before : ℕ) (front rest : List Rule) (rule : Rule) (b : Bool) → length front ≡ before → AreRules (cond b ((before + 1) ∷ []) []) (front ++ rule ∷ rest)
+last_is before front rest rule false long = tt
+last_is before front rest rule true long = (omega arith, omega (arith, long, length-append front (rule ∷ rest)), tt)
+
+going_are : (goes : ℕ → Bool) (before : ℕ) (front rules : List Rule) → length front ≡ before → AreRules (going goes before rules) (front ++ rules)
+going_are goes before front [] long = tt
+going_are goes before front (rule ∷ rules) long =
+    let ns : List ℕ = going goes (before + 1) rules in
+    let one : List ℕ = cond (goes (before + 1)) ((before + 1) ∷ []) [] in
+    let more : length (front ++ rule ∷ []) ≡ before + 1 = length-append front (rule ∷ []) ∙ ap (λ n. n + 1) long in
+    both_rules ns one (front ++ rule ∷ rules)
+    (subst (AreRules ns) (append_assoc front (rule ∷ []) rules) (going_are goes (before + 1) (front ++ rule ∷ []) rules more))
+    (subst (AreRules one) (sym (behind goes before front rules rule long)) (last_is before front (staying goes (before + 1) rules) rule (goes (before + 1)) long))
+
 -- ---- lists
 
 map_map : {X Y Z : Type 0} (f : X → Y) (g : Y → Z) (xs : List X) → map g (map f xs) ≡ map (λ x. g (f x)) xs
@@ -58,6 +96,11 @@ map_own f [] same = refl
 map_own f (x ∷ xs) same = ap (λ y. y ∷ map f xs) (same x) ∙ ap (λ ys. x ∷ ys) (map_own f xs same)
 
 -- ---- commands
+
+-- the table after some commands, one after another
+abbrev after : List Edit → Table → Table
+after [] t = t
+after (edit ∷ edits) t = after edits (edited edit t)
 
 after_append : (es fs : List Edit) (t : Table) → after (es ++ fs) t ≡ after fs (after es t)
 after_append [] fs t = refl
@@ -93,12 +136,78 @@ deleted name (n ∷ ns) t =
     ∙ ap (with_chains t) (map_map (changed_chain f name) (changed_chain (removed ns) name) t.chains
     ∙ map_on (λ c. changed_chain (removed ns) name (changed_chain f name c)) (changed_chain (λ rules. removed ns (f rules)) name) t.chains (λ c m. twice f (removed ns) name c))
 
+-- ---- commands that are accepted
+
+in_range : (n last : ℕ) → 0 < n → n ≤ last → (n == 0 || nat_lt last n) ≡ false
+in_range n last first le = grind (arith, nat_tests)
+
+no_fault : (t : Table) (name : List ℕ) (n : ℕ) → has_chain t name ≡ true → 0 < n → n ≤ length (rules_of t.chains name) → fault_of (DeleteAt name n) t ≡ None
+no_fault t name n there first last =
+    passes (no_such_chain t name) (out_of_range n (length (rules_of t.chains name)) ∷ []) (ap not there)
+    ∙ passes (out_of_range n (length (rules_of t.chains name))) [] (in_range n (length (rules_of t.chains name)) first last)
+
+has_changed : (f : List Rule → List Rule) (name other : List ℕ) (t : Table) → has_chain (changed f name t) other ≡ has_chain t other
+has_changed f name other t =
+    has_by_names other (map (changed_chain f name) t.chains)
+    ∙ ap (list_any (λ x. bytes_eq x other)) (names_changed f name t.chains)
+    ∙ sym (has_by_names other t.chains)
+
+rules_changed : (f : List Rule → List Rule) (name : List ℕ) (cs : List Chain) → list_any (is_named name) cs ≡ true → rules_of (map (changed_chain f name) cs) name ≡ f (rules_of cs name)
+rules_changed f name [] has = absurd (true≢false (sym has))
+rules_changed f name (c ∷ cs) has =
+    let others : List Rule = rules_of (map (changed_chain f name) cs) name in
+    let P : Chain → Type 0 = λ d. cond (is_named name d) d.rules others ≡ f (cond (is_named name c) c.rules (rules_of cs name)) in
+    elim (cases_Bool (is_named name c)) [
+      | inl is ↦ subst P (sym (cond-true (is_named name c) (with_rules c (f c.rules)) c is))
+          (cond-true (is_named name c) (f c.rules) others is ∙ ap f (sym (cond-true (is_named name c) c.rules (rules_of cs name) is)))
+      | inr un ↦ subst P (sym (cond-false (is_named name c) (with_rules c (f c.rules)) c un))
+          (cond-false (is_named name c) c.rules others un
+          ∙ rules_changed f name cs (sym (ap (λ b. b || list_any (is_named name) cs) un) ∙ has)
+          ∙ ap f (sym (cond-false (is_named name c) c.rules (rules_of cs name) un)))
+    ]
+
+rules_other : (f : List Rule → List Rule) (name other : List ℕ) (cs : List Chain) → (other ≡ name → ⊥) → rules_of (map (changed_chain f name) cs) other ≡ rules_of cs other
+rules_other f name other [] ne = refl
+rules_other f name other (c ∷ cs) ne =
+    let others : List Rule = rules_of (map (changed_chain f name) cs) other in
+    let P : Chain → Type 0 = λ d. cond (is_named other d) d.rules others ≡ cond (is_named other c) c.rules (rules_of cs other) in
+    elim (cases_Bool (is_named name c)) [
+      | inl is ↦ (
+          let apart : is_named other c ≡ false = false_from_ne_true (is_named other c) (λ e. ne (sym ((bytes_eq-Decides c.name other).0 e) ∙ (bytes_eq-Decides c.name name).0 is)) in
+          subst P (sym (cond-true (is_named name c) (with_rules c (f c.rules)) c is))
+          (cond-false (is_named other c) (f c.rules) others apart ∙ rules_other f name other cs ne ∙ sym (cond-false (is_named other c) c.rules (rules_of cs other) apart)))
+      | inr un ↦ subst P (sym (cond-false (is_named name c) (with_rules c (f c.rules)) c un)) (ap (cond (is_named other c) c.rules) (rules_other f name other cs ne))
+    ]
+
+-- those for one chain, before others
+deleted_steps : (name : List ℕ) (ns : List ℕ) (rest : List Edit) (t : Table) → has_chain t name ≡ true → AreRules ns (rules_of t.chains name)
+    → steps (map (λ n. DeleteAt name n) ns ++ rest) t ≡ steps rest (after (map (λ n. DeleteAt name n) ns) t)
+deleted_steps name [] rest t there are = refl
+deleted_steps name (n ∷ ns) rest t there are =
+    let f : List Rule → List Rule = λ rules. remove rules (n - 1) in
+    one_more (DeleteAt name n) (map (λ m. DeleteAt name m) ns ++ rest) t (no_fault t name n there are.0 are.1)
+    ∙ deleted_steps name ns rest (changed f name t) (has_changed f name name t ∙ there) (subst (AreRules ns) (sym (rules_changed f name t.chains there)) are.2)
+
 -- ---- chain after chain
 
 mem_name : (cs : List Chain) (x : Chain) → Mem x cs → Mem x.name (names_of cs)
 mem_name [] x m = m
 mem_name (c ∷ cs) x (inl e) = inl (ap (λ (y : Chain). y.name) e)
 mem_name (c ∷ cs) x (inr m) = inr (mem_name cs x m)
+
+has_own : (cs : List Chain) (x : Chain) → Mem x cs → list_any (is_named x.name) cs ≡ true
+has_own [] x m = absurd m
+has_own (c ∷ cs) x (inl e) = or_left (is_named x.name c) (list_any (is_named x.name) cs) ((bytes_eq-Decides c.name x.name).1 (ap (λ (y : Chain). y.name) (sym e)))
+has_own (c ∷ cs) x (inr m) = or_right (is_named x.name c) (list_any (is_named x.name) cs) (has_own cs x m)
+
+own_rules : (cs : List Chain) (x : Chain) → Differing (names_of cs) → Mem x cs → rules_of cs x.name ≡ x.rules
+own_rules [] x d m = absurd m
+own_rules (c ∷ cs) x d (inl e) =
+    cond-true (is_named x.name c) c.rules (rules_of cs x.name) ((bytes_eq-Decides c.name x.name).1 (ap (λ (y : Chain). y.name) (sym e))) ∙ ap (λ (y : Chain). y.rules) (sym e)
+own_rules (c ∷ cs) x d (inr m) =
+    let P : List ℕ → Type 0 = λ n. Mem n (names_of cs) in
+    let apart : is_named x.name c ≡ false = false_from_ne_true (is_named x.name c) (λ is. d.0 (subst P (sym ((bytes_eq-Decides c.name x.name).0 is)) (mem_name cs x m))) in
+    cond-false (is_named x.name c) c.rules (rules_of cs x.name) apart ∙ own_rules cs x d.1 m
 
 module _ (goes : Entry → Bool) where
   -- the commands for one chain, of any chain
@@ -141,7 +250,29 @@ module _ (goes : Entry → Bool) where
       let P : List ℕ → Type 0 = λ n. Mem n (names_of cs) in
       ap (all cs) (one_other c x (λ e. d.0 (subst P e (mem_name cs x m)))) ∙ all_own cs x d.1 m
 
-pub deletions_leave : DeletionsLeaveTheRest
-deletions_leave t goes sound =
+  -- a table has the chain, with its rules
+  abbrev HasIt : Table → Chain → Type 0
+  HasIt t c = (has_chain t c.name ≡ true) × (rules_of t.chains c.name ≡ c.rules)
+
+  all_steps : (cs : List Chain) (t : Table) → Differing (names_of cs) → ((c : Chain) → Mem c cs → HasIt t c) → steps (deletions goes cs) t ≡ Ok (after (deletions goes cs) t)
+  all_steps [] t d has = refl
+  all_steps (c ∷ cs) t d has =
+      let ns : List ℕ = going (goes_of goes c.name) 0 c.rules in
+      let own = has c (inl refl) in
+      let e : after (deletions_in goes c) t ≡ changed (removed ns) c.name t = deleted c.name ns t in
+      let Q : Table → Type 0 = λ u. steps (deletions goes cs) u ≡ Ok (after (deletions goes cs) u) in
+      let N : List ℕ → Type 0 = λ n. Mem n (names_of cs) in
+      deleted_steps c.name ns (deletions goes cs) t own.0 (subst (AreRules ns) (sym own.1) (going_are (goes_of goes c.name) 0 [] c.rules refl))
+      ∙ subst Q (sym e) (all_steps cs (changed (removed ns) c.name t) d.1
+      (λ x m. (has_changed (removed ns) c.name x.name t ∙ (has x (inr m)).0, rules_other (removed ns) c.name x.name t.chains (λ same. d.0 (subst N same (mem_name cs x m))) ∙ (has x (inr m)).1)))
+      ∙ ap Ok (sym (after_append (deletions_in goes c) (deletions goes cs) t))
+
+deletions_after : (t : Table) (goes : Entry → Bool) → IsSound t → after (deletions goes t.chains) t ≡ without goes t
+deletions_after t goes sound =
     after_all goes t.chains t
     ∙ ap (with_chains t) (map_on (all goes t.chains) (chain_without goes) t.chains (λ x m. all_own goes t.chains x (listed_differ (names_of t.chains) sound.listed) m))
+
+pub deletions_leave : DeletionsLeaveTheRest
+deletions_leave t goes sound =
+    let d = listed_differ (names_of t.chains) sound.listed in
+    all_steps goes t.chains t d (λ c m. (has_own t.chains c m, own_rules t.chains c d m)) ∙ ap Ok (deletions_after t goes sound)

@@ -1,8 +1,8 @@
 -- Tables that are equal, place by place.
 use Rattle.std.proofs.Common.{◌≡◌, inl, inr, ℕ, ◌+◌, ◌-◌, ◌<◌, ◌≤◌, List, [], get_or, length, sym, ◌∙◌, ap, arith, subst, Option}
-use Rattle.std.specs.Prelude.{slice_get, unwrap_or}
+use Rattle.std.specs.Prelude.{map, slice_get, unwrap_or}
 use Rattle.std.proofs.lemmas.Bool.{cases_lt}
-use Rattle.std.proofs.lemmas.List.{get_or_default, same_lists}
+use Rattle.std.proofs.lemmas.List.{get_or-map, get_or_default, length-map, same_lists}
 use Rattle.std.proofs.lemmas.Option.{unwrap_or-slice_get}
 use Rattle.rules.specs.rule.Rules.{Rule}
 use Rattle.table.specs.chains.Table.{Chain, Table, chain_at, empty_chain}
@@ -26,6 +26,21 @@ alike_next {X} xs ys n here below k d less =
 -- so they are one list
 pub alike_all : {X : Type 0} (xs ys : List X) (n : ℕ) → length xs ≡ length ys → length xs ≤ n → AlikeBelow xs ys n → xs ≡ ys
 alike_all xs ys n long le below = same_lists xs ys long (λ k d lt. below k d (omega (arith, lt, le)))
+
+-- ---- what is listed for each
+
+-- items that were asked for and give the same are those at a place
+pub given_at : {X Y : Type 0} (f : X → Y) (xs ys : List X) (k : ℕ) (x y : X) → k < length xs → k < length ys → x ≡ get_or xs k x → y ≡ get_or ys k y → f x ≡ f y → (d : Y) → get_or (map f xs) k d ≡ get_or (map f ys) k d
+given_at f xs ys k x y lt less ix iy same d = get_or-map f xs k x d lt ∙ ap f (sym ix) ∙ same ∙ ap f iy ∙ sym (get_or-map f ys k y d less)
+
+pub at_given : {X Y : Type 0} (f : X → Y) (xs ys : List X) (k : ℕ) (x y : X) → k < length xs → k < length ys → x ≡ get_or xs k x → y ≡ get_or ys k y → map f xs ≡ map f ys → f x ≡ f y
+at_given f xs ys k x y lt less ix iy e =
+    ap f ix ∙ sym (get_or-map f xs k x (f x) lt) ∙ ap (λ l. get_or l k (f x)) e ∙ get_or-map f ys k y (f x) less ∙ ap f (sym iy)
+
+-- so all give the same
+pub given_all : {X Y : Type 0} (f : X → Y) (xs ys : List X) (n : ℕ) → length xs ≡ length ys → length xs ≤ n → AlikeBelow (map f xs) (map f ys) n → map f xs ≡ map f ys
+given_all f xs ys n long le below =
+    alike_all (map f xs) (map f ys) n (length-map xs f ∙ long ∙ sym (length-map ys f)) (omega (arith, le, length-map xs f)) below
 
 -- ---- policies
 

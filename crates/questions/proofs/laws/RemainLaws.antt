@@ -1,14 +1,15 @@
 -- What is left of needs where answers are right.
 use Rattle.std.proofs.Common.{◌≡◌, ◌&&◌, inl, inr, ℕ, ◌+◌, ◌<◌, Bool, true, false, cond, not, List, [], ◌∷◌, ◌++◌, length, get_or, take, map, refl, sym, ◌∙◌, ap, arith, subst, Some, None, Contains, Vec, Global}
 use Rattle.std.proofs.Math.Bool.{beq}
+use Rattle.std.proofs.lemmas.List.Elements.{All-head, All-tail}
 use Rattle.std.proofs.lemmas.List.Folds.{list_all-append, list_all_more, list_all_at}
 use Rattle.rules.specs.rule.Rules.{Rule}
 use Rattle.table.specs.chains.Table.{Chain, Table}
-use Rattle.questions.specs.Foreign.{Agrees, Assignment, all_hold, need_holds, needs_listed, resolved, resolved_chains, resolved_rule, resolved_rules}
+use Rattle.questions.specs.Foreign.{AgreeOnOpen, Agrees, Assignment, IsUnanswered, all_hold, need_holds, needs_listed, resolved, resolved_chains, resolved_rule, resolved_rules}
 use Rattle.questions.specs.declared.foreign.answers.Answer.{Answer}
 use Rattle.questions.specs.declared.foreign.need.Need.{Need}
 use Rattle.questions.proofs.laws.AnswerLaws.{is_given, unmet_by}
-use Rattle.questions.specs.steps.Remaining.{AreAlike, AreAlikeInAll, AreAlikeInChain, AreAlikeInTurn}
+use Rattle.questions.specs.steps.Remaining.{AreAlike, AreAlikeInAll, AreAlikeInChain, AreAlikeInTurn, AreFree, AreFreeInAll, AreFreeInChain}
 
 and_true : (b : Bool) → (b && true) ≡ b
 and_true true = refl
@@ -68,3 +69,42 @@ pub unmet_alike : (a : Assignment) (answers : List Answer) (needs : List Need) (
 unmet_alike a answers needs i d other holds lt agrees on against =
     let need = get_or needs i d in
     never_both a other ∙ sym (list_all_at (need_holds a) needs i d lt (unmet_by need.inverted (a need.condition) holds (is_given a answers need.condition holds agrees on) against))
+
+-- ---- needs that ask no condition with an answer
+
+need_free : (a b : Assignment) (need : Need) → a need.condition ≡ b need.condition → need_holds a need ≡ need_holds b need
+need_free a b need same = ap (λ h. cond need.inverted (not h) h) same
+
+-- one more that asks none
+pub free_more : (answers : List Answer) (left : List Need) (need : Need) → AreFree answers left → IsUnanswered answers need.condition → AreFree answers (left ++ need ∷ [])
+free_more answers left need free un a b agree =
+    list_all-append (need_holds a) left (need ∷ []) ∙ (λ j. free a b agree j && (need_free a b need (agree need.condition un) j && true)) ∙ sym (list_all-append (need_holds b) left (need ∷ []))
+
+-- nor does it matter what can't be met
+pub free_never : (answers : List Answer) (need : Need) → AreFree answers (need ∷ record { condition = need.condition; inverted = not need.inverted } ∷ [])
+free_never answers need a b agree = never_both a need ∙ sym (never_both b need)
+
+abbrev Frees : List Answer → Vec Need Global → Type 0
+Frees answers needs = AreFree answers needs.items
+
+rules_free : (answers : List Answer) (a b : Assignment) → AgreeOnOpen answers a b → (chain : List (Vec Need Global)) → AreFreeInChain answers chain → (rules : List Rule)
+    → resolved_rules a (map (λ (needs : Vec Need Global). needs.items) chain) rules ≡ resolved_rules b (map (λ (needs : Vec Need Global). needs.items) chain) rules
+rules_free answers a b agree chain free [] = refl
+rules_free answers a b agree [] free (rule ∷ rules) = ap (λ (rest : List Rule). rule ∷ rest) (rules_free answers a b agree [] free rules)
+rules_free answers a b agree (own ∷ chain) free (rule ∷ rules) =
+    rw (All-head (Frees answers) own chain free a b agree, rules_free answers a b agree chain (All-tail (Frees answers) own chain free) rules) refl
+
+abbrev FreesAll : List Answer → Vec (Vec Need Global) Global → Type 0
+FreesAll answers chain = AreFreeInChain answers chain.items
+
+chains_free : (answers : List Answer) (a b : Assignment) → AgreeOnOpen answers a b → (left : List (Vec (Vec Need Global) Global)) → AreFreeInAll answers left → (chains : List Chain)
+    → resolved_chains a (map (λ (own : Vec (Vec Need Global) Global). map (λ (needs : Vec Need Global). needs.items) own.items) left) chains ≡ resolved_chains b (map (λ (own : Vec (Vec Need Global) Global). map (λ (needs : Vec Need Global). needs.items) own.items) left) chains
+chains_free answers a b agree left free [] = refl
+chains_free answers a b agree [] free (chain ∷ chains) = ap (λ (rest : List Chain). chain ∷ rest) (chains_free answers a b agree [] free chains)
+chains_free answers a b agree (own ∷ left) free (chain ∷ chains) =
+    rw (rules_free answers a b agree own.items (All-head (FreesAll answers) own left free) chain.rules, chains_free answers a b agree left (All-tail (FreesAll answers) own left free) chains) refl
+
+-- assignments that agree on each condition without an answer leave the same of a table
+pub left_free : (answers : List Answer) (a b : Assignment) → AgreeOnOpen answers a b → (left : List (Vec (Vec Need Global) Global)) → AreFreeInAll answers left → (t : Table)
+    → resolved (map (λ (own : Vec (Vec Need Global) Global). map (λ (needs : Vec Need Global). needs.items) own.items) left) a t ≡ resolved (map (λ (own : Vec (Vec Need Global) Global). map (λ (needs : Vec Need Global). needs.items) own.items) left) b t
+left_free answers a b agree left free t = ap (λ (chains : List Chain). record { policies = t.policies; chains = chains }) (chains_free answers a b agree left free t.chains)

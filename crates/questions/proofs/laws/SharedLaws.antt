@@ -1,9 +1,9 @@
 -- Chains of one name beside each other, and the rules that both have.
-use Rattle.std.proofs.Common.{◌≡◌, ◌≢◌, inl, inr, ℕ, zero, suc, ◌+◌, ◌-◌, ◌<◌, Bool, true, false, List, [], ◌∷◌, ◌++◌, cond, length, get_or, refl, sym, ◌∙◌, ap, ap₂, arith, subst, Option, Some, None, Contains}
+use Rattle.std.proofs.Common.{◌≡◌, ◌≢◌, inl, inr, ℕ, zero, suc, ◌+◌, ◌-◌, ◌<◌, ◌≤◌, Bool, true, false, List, [], ◌∷◌, ◌++◌, cond, length, get_or, refl, sym, ◌∙◌, ap, ap₂, arith, subst, Option, Some, None, Contains}
 use Rattle.std.specs.List.{AllByRecursion}
 use Rattle.std.specs.Prelude.{All, IsFalse, IsTrue, slice_get}
 use Rattle.std.specs.Str.{bytes_eq}
-use Rattle.std.proofs.lemmas.Bool.{cases_Bool, cond-false, cond-true}
+use Rattle.std.proofs.lemmas.Bool.{cases_Bool, cases_lt, cond-false, cond-true}
 use Rattle.std.proofs.lemmas.List.{get_or_default}
 use Rattle.std.proofs.lemmas.List.Elements.{All-contains, Contains-get_or, recursion_from_All}
 use Rattle.std.proofs.lemmas.Option.{get_or_from_slice_get}
@@ -19,7 +19,7 @@ use Rattle.table.specs.walk.Walk.{Entry, walk}
 use Rattle.table.proofs.laws.chains.KeepLaws.{rules_by_name}
 use Rattle.questions.specs.Ends.{rule_at}
 use Rattle.questions.specs.Leaves.{entry_of, name_at}
-use Rattle.questions.specs.Foreign.{Assignment, resolved}
+use Rattle.questions.specs.Foreign.{Assignment, resolved, resolved_rule}
 use Rattle.questions.specs.Scopes.{answered, table_of}
 use Rattle.questions.specs.asked.Changes.{AreOff, AreThese, IsThis, MatchesNone, ShareOthers}
 use Rattle.questions.specs.asked.Without.{staying}
@@ -32,10 +32,10 @@ use Rattle.questions.specs.declared.asked.pairs.Places.{Places}
 use Rattle.questions.specs.declared.asked.pairs.Side.{Side}
 use Rattle.questions.specs.declared.asked.pairs.Side.TheVariants as side
 use Rattle.questions.specs.steps.Collected.{AddsRules}
-use Rattle.questions.specs.steps.Shared.{Adds, AreThere, HasPlace, IsBeside, IsMarkedRule, IsPaired, is_marked, marks_on, name_of, pair_named, unmarked, unshared}
+use Rattle.questions.specs.steps.Shared.{Adds, AreEqualAt, AreSameAt, AreThere, HaveNext, IsAhead, IsNext, NoneAhead, HasPlace, IsBeside, IsMarkedRule, IsPaired, is_marked, marks_on, name_of, pair_named, unmarked, unshared}
 use Rattle.questions.proofs.laws.CollectLaws.{adds_as}
 use Rattle.questions.proofs.laws.ForeignLaws.{left_sound}
-use Rattle.questions.proofs.laws.ResolvedLaws.{chain_named, entry_left, length_same, rule_back, rule_left_there, there_left}
+use Rattle.questions.proofs.laws.ResolvedLaws.{chain_named, entry_left, length_same, rule_back, rule_left, rule_left_there, there_left}
 use Rattle.questions.proofs.laws.TrailLaws.{IsMatched, trail_matches}
 
 -- ---- one more mark
@@ -53,6 +53,37 @@ unmarked_one [] (x ∷ xs) d lt = refl
 unmarked_one (m ∷ ms) [] d lt = absurd (omega (arith, lt))
 unmarked_one (true ∷ ms) (x ∷ xs) d lt = unmarked_one ms xs d (omega (arith, lt))
 unmarked_one (false ∷ ms) (x ∷ xs) d lt = ap (λ (rs : List Rule). x ∷ rs) (unmarked_one ms xs d (omega (arith, lt)))
+
+-- rules that are equal and need the same are equal in what is left of the tables
+pub same_left : (s other : Subject) (chains passed : Places) → HaveNext (table_of s) (table_of other) chains passed → AreSameAt s other chains passed
+    → (a : Assignment) → AreEqualAt (answered s a) (answered other a) chains passed
+same_left s other chains passed have same a d =
+    let xs : List Rule = (chain_at (table_of s) chains.old).rules in
+    let ys : List Rule = (chain_at (table_of other) chains.new).rules in
+    let rules_same : get_or xs passed.old d ≡ get_or ys passed.new d =
+    get_or_default xs passed.old d empty_rule have.first ∙ same.rules ∙ get_or_default ys passed.new empty_rule d have.second in
+    rule_left s.needs.now a (table_of s) chains.old passed.old have.there.first have.first d
+    ∙ ap₂ (λ (needs : List Need) (rule : Rule). resolved_rule a needs rule) same.needs rules_same
+    ∙ sym (rule_left other.needs.now a (table_of other) chains.new passed.new have.there.second have.second d)
+
+-- what stands next, where it is shared
+pub next_shared : (s other : Subject) (chains passed : Places) (what : Next) → what ≡ next.Shared → IsNext s other chains passed what → AreSameAt s other chains passed
+next_shared s other chains passed what e is = let P : Next → Type 0 = λ n. IsNext s other chains passed n in subst P e is
+
+-- none stands so many rules further on, nor before
+neither : (s other : Subject) (chains passed : Places) (n : ℕ) (own : Side) → (IsAhead s other chains passed side.Went n → ⊥) → (IsAhead s other chains passed side.Came n → ⊥)
+    → IsAhead s other chains passed own n → ⊥
+neither s other chains passed n side.Went went came is = went is
+neither s other chains passed n side.Came went came is = came is
+
+pub none_next : (s other : Subject) (chains passed : Places) (n : ℕ) → NoneAhead s other chains passed (n - 1) → (IsAhead s other chains passed side.Went n → ⊥)
+    → (IsAhead s other chains passed side.Came n → ⊥) → NoneAhead s other chains passed (n + 1 - 1)
+none_next s other chains passed n before went came own k first last is =
+    let P : ℕ → Type 0 = λ j. IsAhead s other chains passed own j in
+    elim (cases_lt k n) [
+      | inl lt ↦ before own k first (omega arith) is
+      | inr le ↦ (let e : k ≡ n = omega arith in neither s other chains passed n own went came (subst P e is))
+    ]
 
 pub adds_place : (what : Next) (old new : Pair) → Adds what old new → new.place ≡ old.place
 adds_place next.Shared old new adds = adds.0

@@ -43,14 +43,14 @@ no_answers (answer ∷ answers) all =
     never_so false e = true≢false e
 
 module _ (s : Subject) (none : s.needs.now ≡ []) (step : Step) where
-  abbrev any : Assignment
+  abbrev pub any : Assignment
   any condition = false
 
   -- what is needed always holds
   pub held_plain : (a : Assignment) → all_hold a (needs_at s.needs.now step.chain (step.number - 1)) ≡ true
   held_plain a = let P : List (List (List Need)) → Type 0 = λ ns. all_hold a (needs_at ns step.chain (step.number - 1)) ≡ true in subst P (sym none) refl
 
-  meant_under : (p : Packet) → IsMeantFor (table_of s) step p → IsMeantUnder s any step p
+  pub meant_under : (p : Packet) → IsMeantFor (table_of s) step p → IsMeantUnder s any step p
   meant_under p meant = record { meant = meant; held = held_plain any }
 
   packet_plain : HasPacketUnder s step → HasPacket (table_of s) step
@@ -73,9 +73,9 @@ module _ (s : Subject) (none : s.needs.now ≡ []) (step : Step) where
   reason_plain : (reason : Reason) → IsReasonUnder s step reason → IsReason (table_of s) step reason
   reason_plain (reason.Impossible field) is = is
   reason_plain reason.Unreached is = is
-  reason_plain reason.NoPacket is = λ w. is (any, w.0, meant_under w.0 w.1)
+  reason_plain reason.NoPacket is = (is.0, λ w. is.1 (any, w.0, meant_under w.0 w.1))
   reason_plain (reason.Excluded ways) is = (packet_plain is.0, is.1)
-  reason_plain (reason.Taken takers) is = (packet_plain is.0, taken_plain takers is.1)
+  reason_plain (reason.Taken takers) is = (packet_plain is.0, is.1, taken_plain takers is.2)
 
   explains_plain : (reason : Reason) → ExplainsUnder s step reason → Explains (table_of s) step reason
   explains_plain reason is = record { dead = to_plain s none (λ t. IsDead t (entry_of (table_of s).chains step)) any (is.dead any); why = reason_plain reason is.why }

@@ -4,11 +4,14 @@ use Rattle.fields.specs.packet.Packet.{PacketView as Packet, packet_of}
 use Rattle.table.specs.chains.Sound.{IsSound}
 use Rattle.table.specs.chains.Table.{Table}
 use Rattle.table.specs.declared.verdict.Verdict.TheVariants.{TooLong}
+use Rattle.table.specs.edits.Made.{steps}
 use Rattle.table.specs.walk.Walk.{Entry, walk}
+use Rattle.questions.specs.Foreign.{Assignment, resolved}
 use Rattle.questions.specs.asked.Rule.{IsDead, IsLive}
 use Rattle.questions.specs.asked.Verdicts.{IsAlike, IsOther, IsSame}
-use Rattle.questions.specs.asked.Without.{AreDead, after, deletions, without}
+use Rattle.questions.specs.asked.Without.{AreDead, deletions, needs_without, without}
 use Rattle.questions.specs.boxes.Area.{IsAtHook}
+use Rattle.questions.specs.declared.foreign.need.Need.{Need}
 
 -- a packet line writes only packets that can be at their hook
 abbrev pub LinesWritePacketsAtHooks : Type 0
@@ -27,6 +30,14 @@ abbrev pub DeadRulesCanGo : Type 0
 DeadRulesCanGo =
     (t : Table) (goes : Entry → Bool) → AreDead t goes → (p : Packet) → IsAtHook p → (walk t p).verdict ≢ TooLong → IsAlike t (without goes t) p
 
--- the commands `-D chain number` for some rules leave the table without these rules (iptables(8), COMMANDS, -D)
+-- so does a table whose rules need something, where some conditions hold and the rules that go are dead then; what a rule needs that stays is listed for
+-- the place that it has then
+abbrev pub DeadRulesCanGoUnder : Type 0
+DeadRulesCanGoUnder =
+    (needs : List (List (List Need))) (a : Assignment) (t : Table) (goes : Entry → Bool) → AreDead (resolved needs a t) goes
+    → (p : Packet) → IsAtHook p → (walk (resolved needs a t) p).verdict ≢ TooLong
+    → IsAlike (resolved needs a t) (resolved (needs_without goes t.chains needs) a (without goes t)) p
+
+-- the commands `-D chain number` for some rules are all accepted, and leave the table without these rules (iptables(8), COMMANDS, -D)
 abbrev pub DeletionsLeaveTheRest : Type 0
-DeletionsLeaveTheRest = (t : Table) (goes : Entry → Bool) → IsSound t → after (deletions goes t.chains) t ≡ without goes t
+DeletionsLeaveTheRest = (t : Table) (goes : Entry → Bool) → IsSound t → steps (deletions goes t.chains) t ≡ Ok (without goes t)

@@ -17,6 +17,7 @@ use Rattle.questions.specs.boxes.Area.{IsAtHook}
 use Rattle.questions.specs.declared.asked.reason.Reason.{Reason}
 use Rattle.questions.specs.declared.asked.reason.Reason.TheVariants.{Impossible, Unreached, NoPacket, Excluded, Taken}
 use Rattle.questions.specs.declared.asked.takers.Takers.{Takers}
+use Rattle.questions.specs.steps.Ways.{IsOpen}
 
 -- jumps and gotos lead from the hook's chain to the rule's chain
 abbrev pub IsLed : Table → Step → Hook → Type 0
@@ -40,6 +41,10 @@ IsImpossible rule field = (p : Packet) → IsAtHook p → IsFalse (allows rule f
 -- no jumps and gotos lead from a built-in chain to the rule's chain
 abbrev pub IsUnreached : Table → Step → Type 0
 IsUnreached t step = (hook : Hook) → IsLed t step hook → ⊥
+
+-- they lead there from one
+abbrev pub IsReached : Table → Step → Type 0
+IsReached t step = (hook : Hook) × IsLed t step hook
 
 -- this rule decides the packet's walk
 abbrev pub IsDecidedBy : Table → Packet → Step → Type 0
@@ -79,15 +84,16 @@ pub record IsExcluded (t : Table) (step : Step) (ways : List Step) : Type 0 wher
   pub each : All (Enters t within) ways
   pub none : (p : Packet) → IsAtHook p → (by : Step) → Enters t within by → IsTrue (matches p.values (rule_at t by)) → IsFalse (matches p.values (rule_at t step))
 
--- what a reason says of the rule
+-- what a reason says of the rule, and that no reason before it holds: packets that are meant for it refute the first three; and the way to its chain is
+-- open where rules lead there whose numbers don't exclude, field by field, those that it allows
 abbrev pub IsReason : Table → Step → Reason → Type 0
 IsReason t step (Impossible field) = IsImpossible (rule_at t step) field
 IsReason t step Unreached = IsUnreached t step
-IsReason t step NoPacket = HasPacket t step → ⊥
+IsReason t step NoPacket = IsReached t step × (HasPacket t step → ⊥)
 IsReason t step (Excluded ways) = HasPacket t step × IsExcluded t step ways.items
-IsReason t step (Taken takers) = HasPacket t step × IsTaken t step takers
+IsReason t step (Taken takers) = HasPacket t step × IsOpen t step × IsTaken t step takers
 
--- the rule is dead, for this reason: no packet has a number on a field that the rule allows; no jumps and gotos lead to its chain;
+-- the rule is dead, for the first of these reasons: no packet has a number on a field that the rule allows; no jumps and gotos lead to its chain;
 -- no packet is meant for it; packets come to its chain only by rules that match no packet that it matches; or exactly these rules
 -- and policies decide the packets that are meant for it
 pub record Explains (t : Table) (step : Step) (reason : Reason) : Type 0 where

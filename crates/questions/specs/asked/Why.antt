@@ -9,11 +9,12 @@ use Rattle.questions.specs.Foreign.{Assignment, all_hold, needs_at}
 use Rattle.questions.specs.Leaves.{entry_of}
 use Rattle.questions.specs.Scopes.{answered, table_of}
 use Rattle.questions.specs.asked.Always.{IsAlwaysDead}
-use Rattle.questions.specs.asked.Reason.{IsDecidedAmong, IsDecidedBy, IsExcluded, IsImpossible, IsMeantFor, IsUnreached}
+use Rattle.questions.specs.asked.Reason.{IsDecidedAmong, IsDecidedBy, IsExcluded, IsImpossible, IsMeantFor, IsReached, IsUnreached}
 use Rattle.questions.specs.declared.asked.reason.Reason.{Reason}
 use Rattle.questions.specs.declared.asked.reason.Reason.TheVariants.{Impossible, Unreached, NoPacket, Excluded, Taken}
 use Rattle.questions.specs.declared.asked.takers.Takers.{Takers}
 use Rattle.questions.specs.declared.foreign.subject.Subject.{Subject}
+use Rattle.questions.specs.steps.Ways.{IsOpen}
 
 -- the packet might come to the rule and would match it, and all holds that the rule needs
 pub record IsMeantUnder (subject : Subject) (a : Assignment) (step : Step) (p : Packet) : Type 0 where
@@ -44,15 +45,15 @@ pub record IsTakenUnder (subject : Subject) (step : Step) (takers : Takers) : Ty
   pub once : AllPairs (λ a b. a ≡ b → ⊥) takers.rules.items
   pub apart : AllPairs (λ a b. a ≡ b → ⊥) takers.policies.items
 
--- what a reason says of the rule
+-- what a reason says of the rule, and that no reason before it holds, as `IsReason` does
 abbrev pub IsReasonUnder : Subject → Step → Reason → Type 0
 IsReasonUnder subject step (Impossible field) = IsImpossible (rule_at (table_of subject) step) field
 IsReasonUnder subject step Unreached = IsUnreached (table_of subject) step
-IsReasonUnder subject step NoPacket = HasPacketUnder subject step → ⊥
+IsReasonUnder subject step NoPacket = IsReached (table_of subject) step × (HasPacketUnder subject step → ⊥)
 IsReasonUnder subject step (Excluded ways) = HasPacketUnder subject step × IsExcluded (table_of subject) step ways.items
-IsReasonUnder subject step (Taken takers) = HasPacketUnder subject step × IsTakenUnder subject step takers
+IsReasonUnder subject step (Taken takers) = HasPacketUnder subject step × IsOpen (table_of subject) step × IsTakenUnder subject step takers
 
--- whatever holds, the rule is dead, for this reason: no packet has a number on a field that the rule allows; no jumps and gotos lead to its chain;
+-- whatever holds, the rule is dead, for the first of these reasons: no packet has a number on a field that the rule allows; no jumps and gotos lead to its chain;
 -- no packet is meant for it, or what it needs contradicts itself; packets come to its chain only by rules that match no packet that it matches; or
 -- exactly these rules and policies decide the packets that are meant for it where all holds that it needs
 pub record ExplainsUnder (subject : Subject) (step : Step) (reason : Reason) : Type 0 where

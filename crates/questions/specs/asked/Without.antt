@@ -2,12 +2,13 @@
 use Rattle.std.specs.Prelude.{ℕ, ◌+◌, Bool, List, [], ◌∷◌, ◌++◌, map, IsTrue, if◌then◌else◌}
 use Rattle.rules.specs.rule.Rules.{Rule}
 use Rattle.table.specs.chains.Table.{Chain, Table}
-use Rattle.table.specs.edits.Edits.{Edit, DeleteAt, edited}
+use Rattle.table.specs.edits.Edits.{Edit, DeleteAt}
 use Rattle.table.specs.walk.Walk.{Entry}
 use Rattle.questions.specs.asked.Rule.{IsDead}
+use Rattle.questions.specs.declared.foreign.need.Need.{Need}
 
--- the rules that stay of those after the first so many, where `goes` says of each number whether its rule goes
-abbrev pub staying : (ℕ → Bool) → ℕ → List Rule → List Rule
+-- the rules that stay of those after the first so many, or what is listed for them, where `goes` says of each number whether its rule goes
+abbrev pub staying : {X : Type 0} → (ℕ → Bool) → ℕ → List X → List X
 staying goes before [] = []
 staying goes before (rule ∷ rules) =
     if goes (before + 1) then staying goes (before + 1) rules else rule ∷ staying goes (before + 1) rules
@@ -23,6 +24,12 @@ chain_without goes chain = record { name = chain.name; rules = staying (goes_of 
 -- the table without the rules that go; its policies and its chains stay
 abbrev pub without : (Entry → Bool) → Table → Table
 without goes t = record { policies = t.policies; chains = map (chain_without goes) t.chains }
+
+-- what the rules need, listed for those that stay
+abbrev pub needs_without : (Entry → Bool) → List Chain → List (List (List Need)) → List (List (List Need))
+needs_without goes chains [] = []
+needs_without goes [] (own ∷ needs) = []
+needs_without goes (chain ∷ chains) (own ∷ needs) = staying (goes_of goes chain.name) 0 own ∷ needs_without goes chains needs
 
 -- each rule that goes is dead
 abbrev pub AreDead : Table → (Entry → Bool) → Type 0
@@ -41,8 +48,3 @@ deletions_in goes chain = map (λ number. DeleteAt chain.name number) (going (go
 abbrev pub deletions : (Entry → Bool) → List Chain → List Edit
 deletions goes [] = []
 deletions goes (chain ∷ chains) = deletions_in goes chain ++ deletions goes chains
-
--- the table after some commands, one after another
-abbrev pub after : List Edit → Table → Table
-after [] t = t
-after (edit ∷ edits) t = after edits (edited edit t)

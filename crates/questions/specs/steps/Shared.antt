@@ -1,18 +1,21 @@
 -- The rules that two tables share: chains of one name beside each other, with marks on the rules that only one of them has.
-use Rattle.std.specs.Prelude.{◌≡◌, ℕ, ◌-◌, ◌<◌, Bool, true, false, IsTrue, List, [], ◌∷◌, ◌++◌, length, slice_index_or, Option, None, Some, if◌then◌else◌}
+use Rattle.std.specs.Prelude.{◌≡◌, ◌⊎◌, ℕ, ◌+◌, ◌-◌, ◌<◌, ◌≤◌, Bool, true, false, IsTrue, List, [], ◌∷◌, ◌++◌, length, slice_index_or, Option, None, Some, if◌then◌else◌}
 use Rattle.std.specs.Str.{bytes_eq}
-use Rattle.rules.specs.rule.Rules.{Rule}
+use Rattle.rules.specs.rule.Rules.{Rule, empty_rule}
 use Rattle.table.specs.chains.Table.{Chain, Table, chain_at, rules_of}
 use Rattle.table.specs.declared.walk.trail.Step.{Step}
 use Rattle.table.specs.walk.Walk.{Entry}
 use Rattle.questions.specs.Ends.{IsRule}
+use Rattle.questions.specs.Foreign.{needs_at}
 use Rattle.questions.specs.Leaves.{name_at}
+use Rattle.questions.specs.Scopes.{table_of}
 use Rattle.questions.specs.declared.asked.pairs.Next.{Next}
 use Rattle.questions.specs.declared.asked.pairs.Next.TheVariants as next
 use Rattle.questions.specs.declared.asked.pairs.Pair.{Pair}
 use Rattle.questions.specs.declared.asked.pairs.Places.{Places}
 use Rattle.questions.specs.declared.asked.pairs.Side.{Side}
 use Rattle.questions.specs.declared.asked.pairs.Side.TheVariants as side
+use Rattle.questions.specs.declared.foreign.subject.Subject.{Subject}
 
 -- the rules without a mark; a rule beyond the marks counts as marked
 abbrev pub unmarked : List Bool → List Rule → List Rule
@@ -39,6 +42,41 @@ pub record HaveNext (old new : Table) (chains passed : Places) : Type 0 where
 abbrev pub AreEqualAt : Table → Table → Places → Places → Type 0
 AreEqualAt old new chains passed =
     (d : Rule) → slice_index_or (chain_at old chains.old).rules passed.old d ≡ slice_index_or (chain_at new chains.new).rules passed.new d
+
+-- the next rules are equal, and need the same
+pub record AreSameAt (old new : Subject) (chains passed : Places) : Type 0 where
+  pub rules : slice_index_or (chain_at (table_of old) chains.old).rules passed.old empty_rule ≡ slice_index_or (chain_at (table_of new) chains.new).rules passed.new empty_rule
+  pub needs : needs_at old.needs.now chains.old passed.old ≡ needs_at new.needs.now chains.new passed.new
+
+-- so many rules further on in one of the chains
+abbrev pub further : Side → Places → ℕ → Places
+further side.Went passed n = record { old = passed.old + n; new = passed.new }
+further side.Came passed n = record { old = passed.old; new = passed.new + n }
+
+-- so many rules further on in one of the chains stands a rule that is equal to the next one of the other chain, and needs the same
+pub record IsAhead (old new : Subject) (chains passed : Places) (own : Side) (n : ℕ) : Type 0 where
+  pub there : HaveNext (table_of old) (table_of new) chains (further own passed n)
+  pub same : AreSameAt old new chains (further own passed n)
+
+-- in neither chain does such a rule stand, up to so many rules further on
+abbrev pub NoneAhead : Subject → Subject → Places → Places → ℕ → Type 0
+NoneAhead old new chains passed n = (own : Side) (k : ℕ) → 1 ≤ k → k ≤ n → IsAhead old new chains passed own k → ⊥
+
+-- the nearest such rule stands in this chain, at most 1,023 rules further on
+pub record IsNearest (old new : Subject) (chains passed : Places) (own : Side) : Type 0 where
+  pub steps : ℕ
+  pub first : 1 ≤ steps
+  pub last : steps ≤ 1023
+  pub ahead : IsAhead old new chains passed own steps
+  pub before : NoneAhead old new chains passed (steps - 1)
+
+-- what stands next: equal rules; or rules that aren't, of which the first chain's is passed if the nearest rule that is equal to the second's stands
+-- there, or none stands near in either, and the second chain's if one stands there
+abbrev pub IsNext : Subject → Subject → Places → Places → Next → Type 0
+IsNext old new chains passed next.Shared = AreSameAt old new chains passed
+IsNext old new chains passed next.Went =
+    (AreSameAt old new chains passed → ⊥) × (IsNearest old new chains passed side.Went ⊎ NoneAhead old new chains passed 1023)
+IsNext old new chains passed next.Came = (AreSameAt old new chains passed → ⊥) × IsNearest old new chains passed side.Came
 
 -- the marks are those of before, and those of what stands next
 abbrev pub Adds : Next → Pair → Pair → Type 0

@@ -1,10 +1,9 @@
 //! Chains of one name in two tables, beside each other: which of their rules both have.
-ghost use Rattle.std.specs.Prelude.{◌≡◌, ◌<◌, All, IfOk, IsTrue, OnOk, length};
+ghost use Rattle.std.specs.Prelude.{◌≡◌, ◌<◌, ◌↔◌, All, IfOk, IsTrue, OnOk, length};
 ghost use Rattle.table.specs.chains.Table.{chain_at};
 ghost use Rattle.questions.specs.Foreign.{Assignment};
 ghost use Rattle.questions.specs.Scopes.{answered, table_of};
-ghost use Rattle.questions.specs.declared.asked.pairs.Next.TheVariants.{Shared as IsShared};
-ghost use Rattle.questions.specs.steps.Shared.{AreEqualAt, AreThere, HaveNext, IsBeside, IsPaired, HasPlace, marks_on, pair_named};
+ghost use Rattle.questions.specs.steps.Shared.{AreSameAt, AreThere, HaveNext, IsAhead, IsBeside, IsNext, IsPaired, HasPlace, marks_on, pair_named};
 
 use crate::foreign::need::are_same;
 use crate::foreign::subject::Subject;
@@ -70,7 +69,7 @@ impl Pair {
 // Whether the next rules are equal, and need the same.
 fn are_equal_at(old: &Subject<'_>, new: &Subject<'_>, chains: Places, passed: Places) -> bool
     requires { HaveNext (table_of old.now) (table_of new.now) chains passed }
-    ensures { IsTrue result → (a : Assignment) → AreEqualAt (answered old.now a) (answered new.now a) chains passed }
+    ensures { IsTrue result ↔ AreSameAt old.now new.now chains passed }
 {
     let (first, second) = (&old.boxed.table, &new.boxed.table);
     let count = first.rule_count(chains.old);
@@ -87,33 +86,56 @@ fn are_equal_at(old: &Subject<'_>, new: &Subject<'_>, chains: Places, passed: Pl
     )
 }
 
-// Which of the next rules is passed: both where they are equal, else the one after which, or within a few more, an equal one comes.
-fn next_of(old: &Subject<'_>, new: &Subject<'_>, chains: Places, passed: Places) -> Next
+// Whether so many rules further on in one of the chains a rule is equal to the next one of the other chain, and needs the same.
+fn is_ahead(
+    old: &Subject<'_>,
+    new: &Subject<'_>,
+    chains: Places,
+    passed: Places,
+    side: Side,
+    ahead: usize,
+) -> bool
     requires { HaveNext (table_of old.now) (table_of new.now) chains passed }
-    ensures { result ≡ IsShared → (a : Assignment) → AreEqualAt (answered old.now a) (answered new.now a) chains passed }
+    ensures { IsTrue result ↔ IsAhead old.now new.now chains passed side ahead }
 {
-    if are_equal_at(old, new, chains, passed) {
-        return Next::Shared;
-    }
-    let (first, second) = (&old.boxed.table, &new.boxed.table);
-    for ahead in 1..AHEAD {
-        if ahead < first.rule_count(chains.old) - passed.old {
+    match side {
+        Side::Went => {
+            if ahead >= old.boxed.table.rule_count(chains.old) - passed.old {
+                return false;
+            }
             let further = Places {
                 old: passed.old + ahead,
                 new: passed.new,
             };
-            if are_equal_at(old, new, chains, further) {
-                return Next::Went;
-            }
+            are_equal_at(old, new, chains, further)
         }
-        if ahead < second.rule_count(chains.new) - passed.new {
+        Side::Came => {
+            if ahead >= new.boxed.table.rule_count(chains.new) - passed.new {
+                return false;
+            }
             let further = Places {
                 old: passed.old,
                 new: passed.new + ahead,
             };
-            if are_equal_at(old, new, chains, further) {
-                return Next::Came;
-            }
+            are_equal_at(old, new, chains, further)
+        }
+    }
+}
+
+// Which of the next rules is passed: both where they are equal, else the one after which, or within a few more, an equal one comes.
+fn next_of(old: &Subject<'_>, new: &Subject<'_>, chains: Places, passed: Places) -> Next
+    requires { HaveNext (table_of old.now) (table_of new.now) chains passed }
+    ensures { IsNext old.now new.now chains passed result }
+{
+    if are_equal_at(old, new, chains, passed) {
+        return Next::Shared;
+    }
+    for ahead in 1..AHEAD {
+        if is_ahead(old, new, chains, passed, Side::Went, ahead) {
+            return Next::Went;
+        }
+        if is_ahead(old, new, chains, passed, Side::Came, ahead) {
+            return Next::Came;
         }
     }
     Next::Went

@@ -6,7 +6,7 @@ ghost use Rattle.table.specs.chains.Table.{chain_at};
 ghost use Rattle.table.specs.declared.walk.trail.Step.{Step as Place};
 ghost use Rattle.questions.specs.Ends.{IsRule};
 ghost use Rattle.questions.specs.Scopes.{table_of};
-ghost use Rattle.questions.specs.asked.Reason.{Explains};
+ghost use Rattle.questions.specs.asked.Reason.{Explains, IsReached};
 ghost use Rattle.questions.specs.asked.Unknown.{IsUndecided, IsUndecidedUnder};
 ghost use Rattle.questions.specs.asked.Why.{ExplainsUnder, HasPacketUnder, IsReasonUnder, IsTakenUnder};
 ghost use Rattle.questions.specs.declared.foreign.subject.Subject.{Subject as SubjectView};
@@ -72,7 +72,7 @@ fn reason_by(
     takers: Takers,
 ) -> Result<Reason, AllocError>
     requires { IsRule (table_of subject.now) step }
-    ensures { IfOk result (λ reason. IsTakenUnder subject.now step takers → IsReasonUnder subject.now step reason) }
+    ensures { IfOk result (λ reason. IsReached (table_of subject.now) step → IsTakenUnder subject.now step takers → IsReasonUnder subject.now step reason) }
 {
     if decide_nothing(&takers) {
         return Ok(Reason::NoPacket);
@@ -83,8 +83,8 @@ fn reason_by(
     }
 }
 
-/// Why rule `number` of the chain at a place, both of which have to be there, is dead. Rules count from 1. An answer
-/// also says that the rule is dead.
+/// Why rule `number` of the chain at a place, both of which have to be there, is dead: the first reason in the order of `Reason`, where rules exclude
+/// packets of the rule if their boxes share none with its box. Rules count from 1. An answer also says that the rule is dead.
 ///
 /// The packets that the rule's box has walk from each hook that leads to its chain as a box, with `budget` steps each time
 /// (`leaves`), and leaves are cut by transport header.

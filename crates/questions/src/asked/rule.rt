@@ -6,6 +6,7 @@ ghost use Rattle.questions.specs.Leaves.{entry_of};
 ghost use Rattle.questions.specs.Scopes.{table_of};
 ghost use Rattle.questions.specs.asked.Always.{AreAlwaysShort, IsUnclear as IsUnclearUnder, MayLive, Says as SaysUnder, SaysAt};
 ghost use Rattle.questions.specs.asked.Rule.{IsDeadAt, Says};
+ghost use Rattle.questions.specs.asked.Short.{AreNeverTooLong, AreNeverTooLongUnder};
 ghost use Rattle.questions.specs.asked.Unclear.{IsUnclear, IsUnclearAt};
 ghost use Rattle.questions.specs.declared.asked.rule.Life.TheVariants.{Dead};
 ghost use Rattle.questions.specs.steps.Compared.{AreShort};
@@ -31,7 +32,7 @@ use table::Step;
 /// What is known of a rule.
 #[derive(Drop)]
 pub enum Life {
-    /// The rule is on the walk of no packet that can be at its hook.
+    /// The rule is on the walk of no packet that can be at its hook; and none that it would match has a walk that is too long.
     Dead,
     /// These words write a packet, and the rule is on its walk where the answers are right.
     Live(Words, Answers),
@@ -141,6 +142,9 @@ pub(crate) fn life_at(
 /// one at each rule; a box is dropped where a rule ahead in its chain takes all of it; and the first box that comes to the rule
 /// offers a packet. Looking at a rule ahead counts a fiftieth of a step.
 ///
+/// Where the rule is dead, no walk of a packet that it would match is too long, of those at hooks from which jumps and gotos lead to its chain. So no
+/// packet would come to the rule either if a walk could have more than 65,536 rules.
+///
 /// # Errors
 ///
 /// `AllocError` where memory was refused.
@@ -155,6 +159,7 @@ pub fn dead(
     requires first { 0 < number }
     requires last { number ≤ length (chain_at subject.now.table.table place).rules }
     ensures says { IfOk result (Says subject.now.table.table (record { chain = (chain_at subject.now.table.table place).name; number = number })) }
+    ensures short { IfOk result (λ life. life ≡ Dead → AreNeverTooLong subject.now.table.table (record { chain = place; number = number })) }
     ensures unclear { IfOk result (IsUnclear subject.now.table.table (record { chain = place; number = number }) budget) }
 {
     let needs = Needs::none(alloc);
@@ -186,6 +191,7 @@ pub fn dead_under(
     requires first { 0 < number }
     requires last { number ≤ length (chain_at (table_of subject.now) place).rules }
     ensures says { IfOk result (SaysUnder subject.now (record { chain = (chain_at (table_of subject.now) place).name; number = number })) }
+    ensures short { IfOk result (λ life. life ≡ Dead → AreNeverTooLongUnder subject.now (record { chain = place; number = number })) }
     ensures unclear { IfOk result (IsUnclearUnder subject.now (record { chain = place; number = number }) budget) }
 {
     let step = Step {

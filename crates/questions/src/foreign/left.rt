@@ -1,8 +1,8 @@
 //! What is left of the needs of rules once some conditions are answered.
 ghost use Rattle.std.specs.Prelude.{◌≡◌, [], ◌∷◌, not, IfOk};
 ghost use Rattle.table.specs.chains.Table.{Table};
-ghost use Rattle.questions.specs.Foreign.{Agrees, Assignment, resolved};
-ghost use Rattle.questions.specs.steps.Remaining.{AreAlike, AreAlikeInChain};
+ghost use Rattle.questions.specs.Foreign.{AgreeOnOpen, Agrees, Assignment, resolved};
+ghost use Rattle.questions.specs.steps.Remaining.{AreAlike, AreAlikeInChain, AreFree, AreFreeInChain};
 
 use crate::foreign::answers::Answers;
 use crate::foreign::need::{Need, Needs};
@@ -31,7 +31,8 @@ fn first_condition(answers: &Answers, other: usize) -> usize {
 
 // What a rule still needs. All rules that can't be met need the same, so that walks part by it once at most.
 fn left_of(alloc: Global, needs: &[Need], answers: &Answers) -> Result<Vec<Need>, AllocError>
-    ensures { IfOk result (λ left. AreAlike answers.now needs.now left.items) }
+    ensures alike { IfOk result (λ left. AreAlike answers.now needs.now left.items) }
+    ensures free { IfOk result (λ left. AreFree answers.now left.items) }
 {
     let mut left = Vec::new(alloc);
     for need in needs {
@@ -58,7 +59,8 @@ fn left_in(
     chain: &[Vec<Need>],
     answers: &Answers,
 ) -> Result<Vec<Vec<Need>>, AllocError>
-    ensures { IfOk result (λ left. AreAlikeInChain answers.now chain.now left.items) }
+    ensures alike { IfOk result (λ left. AreAlikeInChain answers.now chain.now left.items) }
+    ensures free { IfOk result (λ left. AreFreeInChain answers.now left.items) }
 {
     let mut left = Vec::new(alloc);
     for needs in chain {
@@ -68,13 +70,15 @@ fn left_in(
 }
 
 /// What is left of needs where some answers are right: what is answered as a rule needs it is needed no more, and a rule of which something
-/// fails needs what can't be met. So each assignment that gives the answers leaves the same of any table by both.
+/// fails needs what can't be met. So each assignment that gives the answers leaves the same of any table by both; and by what is left it doesn't
+/// matter how an answered condition is taken.
 ///
 /// # Errors
 ///
 /// `AllocError` where memory was refused.
 pub fn needs_left(alloc: Global, needs: &Needs, answers: &Answers) -> Result<Needs, AllocError>
-    ensures { IfOk result (λ left. (a : Assignment) (t : Table) → Agrees a answers.now → resolved left a t ≡ resolved needs.now a t) }
+    ensures same { IfOk result (λ left. (a : Assignment) (t : Table) → Agrees a answers.now → resolved left a t ≡ resolved needs.now a t) }
+    ensures free { IfOk result (λ left. (a b : Assignment) (t : Table) → AgreeOnOpen answers.now a b → resolved left a t ≡ resolved left b t) }
 {
     let mut left = Vec::new(alloc);
     for chain in needs.listed() {

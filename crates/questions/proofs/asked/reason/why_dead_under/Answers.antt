@@ -1,4 +1,4 @@
-use Rattle.std.proofs.Common.{◌≡◌, false, sym, ◌∙◌}
+use Rattle.std.proofs.Common.{◌≡◌, false, true, sym, ◌∙◌}
 use Rattle.std.proofs.lemmas.Bool.{true≢false}
 use Rattle.fields.specs.declared.packet.hook.Hook.{Hook}
 use Rattle.table.specs.chains.Table.{chain_at}
@@ -7,9 +7,9 @@ use Rattle.table.specs.steps.Kept.{hook_index}
 use Rattle.std.specs.Prelude.{slice_index_or}
 use Rattle.questions.specs.Ends.{IsRule}
 use Rattle.questions.specs.Scopes.{table_of}
-use Rattle.questions.specs.asked.Reason.{IsUnreached}
+use Rattle.questions.specs.asked.Reason.{IsReached, IsUnreached}
 use Rattle.questions.specs.steps.Leading.{AreLeading}
-use Rattle.questions.proofs.laws.LeadLaws.{hook_led}
+use Rattle.questions.proofs.laws.LeadLaws.{hook_leads, hook_led}
 use Rattle.questions.proofs.laws.TakerLaws.{dead_of, impossible_of, unreached_dead}
 use Rattle.questions.proofs.asked.reason.why_dead_under.Goals as goal
 
@@ -38,8 +38,15 @@ returns-then-none_led c =
 
 pub returns : goal.returns
 returns c =
+    let t = table_of c.args.subject.now in
+    let step : Step = record { chain = c.args.place; number = c.args.number } in
+    let name = (chain_at t c.args.place).name in
+    let marks = c.in_ok-marks.marks.items in
+    let leading : AreLeading t name marks = c.in_ok-marks.ensures in
+    let some : (hook : Hook) × (slice_index_or marks (hook_index hook) false ≡ true) = rw c.as_slice.ensures.value at (c.none_led.ensures.some c.if-none_led.false) in
+    let led : IsReached t step = (some.0, hook_leads t name marks some.0 c.stands.ensures.sound leading some.1) in
     let both = rw c.in-Some-2.is at c.in_ok-takers_of.ensures in
-    record { dead = both.0; why = c.in_ok-reason_by-in-Some-2.ensures both.1 }
+    record { dead = both.0; why = c.in_ok-reason_by-in-Some-2.ensures led both.1 }
 
 pub returns-in-None : goal.returns-in-None
 returns-in-None c = rw c.in-None.is at c.in_ok-takers_of.ensures

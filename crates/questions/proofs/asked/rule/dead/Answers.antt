@@ -5,6 +5,7 @@ use Rattle.table.specs.walk.Walk.{Entry}
 use Rattle.questions.specs.asked.Rule.{Says}
 use Rattle.questions.specs.declared.asked.rule.Life.{Life}
 use Rattle.questions.proofs.laws.PlainLaws.{plain_says, unclear_of}
+use Rattle.questions.proofs.laws.ShortLaws.{short_plain}
 use Rattle.questions.proofs.asked.rule.dead.Goals as goal
 
 pub returns-clause-says : goal.returns-clause-says
@@ -16,3 +17,8 @@ pub returns-clause-unclear : goal.returns-clause-unclear
 returns-clause-unclear c =
     let step : Step = record { chain = c.args.place; number = c.args.number } in
     unclear_of _ c.none-needs.ensures c.dead_under.result _ c.dead_under.ensures.says step c.args.budget c.dead_under.ensures.unclear
+
+pub returns-clause-short : goal.returns-clause-short
+returns-clause-short c =
+    let step : Step = record { chain = c.args.place; number = c.args.number } in
+    short_plain _ c.none-needs.ensures step c.dead_under.result c.dead_under.ensures.short

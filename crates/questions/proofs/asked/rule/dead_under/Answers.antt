@@ -7,8 +7,10 @@ use Rattle.table.specs.declared.walk.trail.Step.{Step}
 use Rattle.table.specs.walk.Walk.{Entry, walk}
 use Rattle.questions.specs.Scopes.{answered, table_of}
 use Rattle.questions.specs.asked.Always.{IsAlwaysDeadAt, MayLive}
+use Rattle.questions.specs.asked.Reason.{IsLed}
 use Rattle.questions.proofs.laws.HookLaws.{other_unled}
 use Rattle.questions.proofs.laws.ResolvedLaws.{entry_left}
+use Rattle.questions.proofs.laws.ShortLaws.{AreShortAt, never_too_long}
 use Rattle.questions.proofs.laws.TakerLaws.{unled_dead}
 use Rattle.questions.proofs.laws.VerdictLaws.{each_hook, hooks_next}
 use Rattle.questions.proofs.asked.rule.dead_under.Goals as goal
@@ -19,11 +21,14 @@ loop-hook-preserved c =
     let s = c.args.subject.now in
     let step : Step = record { chain = c.args.place; number = c.args.number } in
     let Dead : Hook → Type 0 = λ h. IsAlwaysDeadAt s step h in
+    let Short : Hook → Type 0 = λ h. AreShortAt s step h in
     let Each : Hook → Type 0 = λ h. Dead h ⊎ MayLive s step c.args.budget h in
     elim c.match-branch-2.branch [
       | in-Dead w ↦ (
           let here : Dead (get_or all_hooks c.loop-hook.hook-index Input) = rw w.in-Dead.is at c.in_ok-life_at.ensures.says in
+          let short : Short (get_or all_hooks c.loop-hook.hook-index Input) = λ led. (rw w.in-Dead.is at c.in_ok-life_at.ensures.short) refl in
           record {
+            short = λ clear. hooks_next Short c.loop-hook.hook-index (omega arith) short (c.loop-hook.invariant.short (sym w.clear-is ∙ clear));
             dead = λ clear. hooks_next Dead c.loop-hook.hook-index (omega arith) here (c.loop-hook.invariant.dead (sym w.clear-is ∙ clear));
             each = hooks_next Each c.loop-hook.hook-index (omega arith) (inl here) c.loop-hook.invariant.each;
             some = λ off. c.loop-hook.invariant.some (sym w.clear-is ∙ off);
@@ -31,6 +36,7 @@ loop-hook-preserved c =
       | in-Unclear w ↦ (
           let here : MayLive s step c.args.budget (get_or all_hooks c.loop-hook.hook-index Input) = rw w.in-Unclear.is at c.in_ok-life_at.ensures.unclear in
           record {
+            short = λ clear. absurd (true≢false (sym clear ∙ w.clear-is));
             dead = λ clear. absurd (true≢false (sym clear ∙ w.clear-is));
             each = hooks_next Each c.loop-hook.hook-index (omega arith) (inr here) c.loop-hook.invariant.each;
             some = λ _. (get_or all_hooks c.loop-hook.hook-index Input, here);
@@ -44,8 +50,11 @@ loop-hook-preserved-then-is_of_other c =
     let step : Step = record { chain = c.args.place; number = c.args.number } in
     let Dead : Hook → Type 0 = λ h. IsAlwaysDeadAt s step h in
     let hook : Hook = get_or all_hooks c.loop-hook.hook-index Input in
-    let here : Dead hook = unled_dead s step hook (other_unled (table_of s) step hook c.stands.ensures.sound (c.is_of_other.ensures.first c.if-is_of_other.true) (c.is_of_other.ensures.other c.if-is_of_other.true)) in
+    let unled : IsLed (table_of s) step hook → ⊥ = other_unled (table_of s) step hook c.stands.ensures.sound (c.is_of_other.ensures.first c.if-is_of_other.true) (c.is_of_other.ensures.other c.if-is_of_other.true) in
+    let here : Dead hook = unled_dead s step hook unled in
+    let short : AreShortAt s step hook = λ led. absurd (unled led) in
     record {
+      short = λ clear. hooks_next (λ h. AreShortAt s step h) c.loop-hook.hook-index (omega arith) short (c.loop-hook.invariant.short clear);
       dead = λ clear. hooks_next Dead c.loop-hook.hook-index (omega arith) here (c.loop-hook.invariant.dead clear);
       each = hooks_next (λ h. Dead h ⊎ MayLive s step c.args.budget h) c.loop-hook.hook-index (omega arith) (inl here) c.loop-hook.invariant.each;
       some = c.loop-hook.invariant.some;
@@ -57,6 +66,13 @@ returns-then-clear-clause-says c = λ a p can on.
     let step : Step = record { chain = c.args.place; number = c.args.number } in
     let P : Entry → Type 0 = λ entry. Contains (walk (answered s a) p).trail entry in
     each_hook (λ h. IsAlwaysDeadAt s step h) c.loop-hook.hook-index (omega arith) (c.loop-hook.invariant.dead c.if-clear.true) p.hook a p can refl (subst P (sym (entry_left s.needs.now a (table_of s) step)) on)
+
+pub returns-then-clear-clause-short : goal.returns-then-clear-clause-short
+returns-then-clear-clause-short c = λ dead.
+    let s = c.args.subject.now in
+    let step : Step = record { chain = c.args.place; number = c.args.number } in
+    never_too_long s step (record { chain = c.requires.place; first = c.requires.first; last = c.requires.last })
+    (each_hook (λ h. AreShortAt s step h) c.loop-hook.hook-index (omega arith) (c.loop-hook.invariant.short c.if-clear.true))
 
 pub returns-clause-unclear : goal.returns-clause-unclear
 returns-clause-unclear c =

@@ -1,6 +1,9 @@
 use Rattle.std.proofs.Common.{take}
-use Rattle.questions.specs.steps.Remaining.{AreAlike}
+use Rattle.questions.specs.steps.Remaining.{AreAlike, AreFree}
 use Rattle.questions.proofs.foreign.left.left_of.Given as goal
 
 abbrev pub invariant-loop-need : goal.invariant-loop-need
-invariant-loop-need l = AreAlike l.answers (take l.need-index l.needs) l.left.items
+invariant-loop-need l = record {
+  free : AreFree l.answers l.left.items;
+  alike : AreAlike l.answers (take l.need-index l.needs) l.left.items;
+}

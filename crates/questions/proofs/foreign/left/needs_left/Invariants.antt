@@ -1,6 +1,9 @@
 use Rattle.std.proofs.Common.{take}
-use Rattle.questions.specs.steps.Remaining.{AreAlikeInAll}
+use Rattle.questions.specs.steps.Remaining.{AreAlikeInAll, AreFreeInAll}
 use Rattle.questions.proofs.foreign.left.needs_left.Given as goal
 
 abbrev pub invariant-loop-chain : goal.invariant-loop-chain
-invariant-loop-chain l = AreAlikeInAll l.answers (take l.chain-index l.chain-items) l.left.items
+invariant-loop-chain l = record {
+  free : AreFreeInAll l.answers l.left.items;
+  alike : AreAlikeInAll l.answers (take l.chain-index l.chain-items) l.left.items;
+}

@@ -9,4 +9,4 @@ same_need : (a b : Need) → IsTrue (of_need.ghosts.eq a b) ↔ (a ≡ b)
 same_need a b = search rules
 
 pub returns : goal.returns
-returns c = (slice_eq-Decides same_need c.args.needs.now c.args.others.now c.eq.result c.eq.ensures).0
+returns c = slice_eq-Decides same_need c.args.needs.now c.args.others.now c.eq.result c.eq.ensures

@@ -1,0 +1,6 @@
+use Rattle.std.proofs.Common.{◌-◌}
+use Rattle.questions.specs.steps.Shared.{NoneAhead}
+use Rattle.questions.proofs.asked.pairs.next_of.Given as goal
+
+abbrev pub invariant-loop-ahead : goal.invariant-loop-ahead
+invariant-loop-ahead l = NoneAhead l.old l.new l.fn.chains l.fn.passed (l.ahead - 1)
