@@ -7,6 +7,7 @@ pub mod Reach
 pub mod Reason
 pub mod Resolved
 pub mod Rule
+pub mod Short
 pub mod Unclear
 pub mod Unknown
 pub mod Verdicts

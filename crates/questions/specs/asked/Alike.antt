@@ -6,7 +6,7 @@ use Rattle.table.specs.declared.verdict.Verdict.{Verdict}
 use Rattle.table.specs.declared.walk.trail.Step.{Step}
 use Rattle.table.specs.walk.Walk.{walk}
 use Rattle.questions.specs.Foreign.{Agrees, AreConsistent, Assignment}
-use Rattle.questions.specs.Scopes.{IsOf, answered, known_by, scope_of}
+use Rattle.questions.specs.Scopes.{IsOf, answered, known_by, scope_of, table_of}
 use Rattle.questions.specs.Written.{IsSampleOf}
 use Rattle.questions.specs.asked.Verdicts.{IsAlike, IsOther, IsOtherAt, IsSame, IsSameAt}
 use Rattle.questions.specs.boxes.Area.{IsAtHook}
@@ -18,6 +18,11 @@ use Rattle.questions.specs.declared.foreign.subject.Subject.{Subject}
 use Rattle.questions.specs.declared.walking.scope.Scope.{Scope}
 use Rattle.questions.specs.declared.walking.task.Leaf.{Leaf}
 use Rattle.questions.specs.steps.Compared.{IsSettled}
+
+-- the tables are equal, and their rules need the same
+pub record AreEqual (old new : Subject) : Type 0 where
+  pub tables : table_of old ≡ table_of new
+  pub needs : old.needs.now ≡ new.needs.now
 
 -- whatever holds, both tables give each packet that can be at the hook the same verdict
 abbrev pub IsAlwaysSameAt : Subject → Subject → Hook → Type 0

@@ -1,14 +1,15 @@
 //! Whether two tables give each packet the same verdict.
-ghost use Rattle.std.specs.Prelude.{◌≡◌, IfOk};
+ghost use Rattle.std.specs.Prelude.{◌≡◌, IfOk, MatchOption};
 ghost use Rattle.questions.specs.Foreign.{Assignment};
-ghost use Rattle.questions.specs.Scopes.{all_of, left_of};
-ghost use Rattle.questions.specs.asked.Alike.{IsAlwaysSameAt, Says as SaysUnder, SaysIf};
+ghost use Rattle.questions.specs.Scopes.{all_of, answered, left_of};
+ghost use Rattle.questions.specs.asked.Alike.{AreEqual, IsAlwaysSameAt, Says as SaysUnder, SaysIf};
+ghost use Rattle.questions.specs.asked.Changes.{AreChanges};
 ghost use Rattle.questions.specs.asked.Differing.{IsUnclearIf, MayDiffer, MayDifferSomewhere};
 ghost use Rattle.questions.specs.asked.Verdicts.{IsSameAt, Says, SaysAt};
 ghost use Rattle.questions.specs.declared.asked.likeness.Likeness.TheVariants.{Same};
 
-use crate::asked::changes::changes_under;
-use crate::asked::equal::are_equal;
+use crate::asked::changes::{Changes, changes_under};
+use crate::asked::equal::are_equal_with_needs;
 use crate::asked::likeness::{Course, Likeness};
 use crate::asked::verdicts::likeness_at;
 use crate::boxes::boxed_table::BoxedTable;
@@ -16,6 +17,21 @@ use crate::foreign::need::Needs;
 use crate::foreign::subject::Subject;
 use fields::Hook;
 use std::alloc::{AllocError, Global};
+
+// The rules by which two tables differ; none where they are equal, and their rules need the same.
+fn differences(
+    alloc: Global,
+    old: &Subject<'_>,
+    new: &Subject<'_>,
+) -> Result<Option<Changes>, AllocError>
+    ensures { IfOk result (λ found. MatchOption found (AreEqual old.now new.now)
+        (λ changes. (AreEqual old.now new.now → ⊥) × ((a : Assignment) → AreChanges (answered old.now a) (answered new.now a) changes))) }
+{
+    if are_equal_with_needs(old, new) {
+        return Ok(None);
+    }
+    Ok(Some(changes_under(alloc, old, new)?))
+}
 
 /// Whether two tables whose rules need something give each packet at one hook the same verdict, as `compare_under` says it of all hooks; a packet
 /// that shows a difference is at that hook.
@@ -31,9 +47,12 @@ pub fn compare_at_under<'a>(
     budget: usize,
 ) -> Result<Likeness, AllocError>
     ensures says { IfOk result (SaysIf (IsAlwaysSameAt old.now new.now hook) old.now new.now hook) }
+    ensures equal { AreEqual old.now new.now → IfOk result (λ likeness. likeness ≡ Same) }
     ensures unclear { IfOk result (IsUnclearIf ((a : Assignment) → MayDiffer (left_of old.now a) (left_of new.now a) hook budget)) }
 {
-    let changes = changes_under(alloc, old, new)?;
+    let Some(changes) = differences(alloc, old, new)? else {
+        return Ok(Likeness::Same);
+    };
     likeness_at(
         old,
         new,
@@ -50,8 +69,8 @@ pub fn compare_at_under<'a>(
 /// and answers, such that they give it two verdicts where these are right, whatever else holds. A condition that both tables need is told by one
 /// number.
 ///
-/// It goes as in `compare`; rules that both have are those with the same needs, and a changed rule's packets are asked for under answers that meet
-/// what it needs.
+/// It goes as in `compare`, also for equal tables whose rules need the same; rules that both have are those with the same needs, and a changed rule's
+/// packets are asked for under answers that meet what it needs.
 ///
 /// # Errors
 ///
@@ -63,10 +82,13 @@ pub fn compare_under<'a>(
     budget: usize,
 ) -> Result<Likeness, AllocError>
     ensures says { IfOk result (SaysUnder old.now new.now) }
+    ensures equal { AreEqual old.now new.now → IfOk result (λ likeness. likeness ≡ Same) }
     ensures unclear { IfOk result (IsUnclearIf (MayDifferSomewhere (IsAlwaysSameAt old.now new.now)
         (λ hook. (a : Assignment) → MayDiffer (left_of old.now a) (left_of new.now a) hook budget))) }
 {
-    let changes = changes_under(alloc, old, new)?;
+    let Some(changes) = differences(alloc, old, new)? else {
+        return Ok(Likeness::Same);
+    };
     let mut clear = true;
     for hook in Hook::ALL {
         let course = Course {
@@ -103,9 +125,6 @@ pub fn compare_at(
     ensures equal { old.now.table.table ≡ new.now.table.table → IfOk result (λ likeness. likeness ≡ Same) }
     ensures unclear { IfOk result (IsUnclearIf (MayDiffer (all_of old.now.table.table) (all_of new.now.table.table) hook budget)) }
 {
-    if are_equal(&old.table, &new.table) {
-        return Ok(Likeness::Same);
-    }
     let needs = Needs::none(alloc);
     let old = Subject {
         boxed: old,
@@ -140,9 +159,6 @@ pub fn compare(
     ensures unclear { IfOk result (IsUnclearIf (MayDifferSomewhere (IsSameAt old.now.table.table new.now.table.table)
         (λ hook. MayDiffer (all_of old.now.table.table) (all_of new.now.table.table) hook budget))) }
 {
-    if are_equal(&old.table, &new.table) {
-        return Ok(Likeness::Same);
-    }
     let needs = Needs::none(alloc);
     let old = Subject {
         boxed: old,

@@ -1,7 +1,9 @@
-//! Whether two tables are equal, rule by rule.
+//! Whether two tables are equal, rule by rule, and need the same.
 ghost use Rattle.std.specs.Prelude.{◌≡◌, ◌<◌, ◌↔◌, length, IsTrue};
 ghost use Rattle.table.specs.chains.Table.{chain_at};
+ghost use Rattle.questions.specs.asked.Alike.{AreEqual};
 
+use crate::foreign::subject::Subject;
 use table::Table;
 
 // Whether the policies are equal.
@@ -68,4 +70,14 @@ pub(crate) fn are_equal(old: &Table, new: &Table) -> bool
         }
     }
     true
+}
+
+// Whether they are, and their rules need the same. It takes no memory, and time linear in their rules and needs.
+pub(crate) fn are_equal_with_needs(old: &Subject<'_>, new: &Subject<'_>) -> bool
+    ensures { IsTrue result ↔ AreEqual old.now new.now }
+{
+    if !are_equal(&old.boxed.table, &new.boxed.table) {
+        return false;
+    }
+    old.needs.equals(new.needs)
 }

@@ -17,7 +17,7 @@ loop-hook-preserved c =
     let new = c.args.new.now in
     let Same : Hook → Type 0 = λ h. IsAlwaysSameAt old new h in
     let Each : Hook → Type 0 = λ h. Same h ⊎ ((a : Assignment) → MayDiffer (left_of old a) (left_of new a) h c.args.budget) in
-    elim c.match-branch-3.branch [
+    elim c.match-branch-4.branch [
       | in-Same w ↦ (
           let here : Same (get_or all_hooks c.loop-hook.hook-index Input) = rw w.in-Same.is at c.in_ok-likeness_at.ensures.says in
           record {
