@@ -1,5 +1,5 @@
 -- The plain text of an interval reads back as its numbers, and can stand in a list.
-use Rattle.std.proofs.Common.{◌≡◌, ◌==◌, ℕ, ◌/◌, ◌%◌, ◌^◌, ◌<◌, ◌≤◌, Bool, true, false, cond, not, ◌&&◌, List, [], ◌∷◌, ◌++◌, length, Option, None, Some, codes, refl, ap, sym, subst, ◌∙◌, arith, eq-eqb, append_assoc, length-append}
+use Rattle.std.proofs.Common.{◌≡◌, ◌==◌, ℕ, ◌/◌, ◌%◌, ◌^◌, ◌<◌, ◌≤◌, Bool, true, false, cond, not, ◌&&◌, List, [], ◌∷◌, ◌++◌, length, Option, None, Some, codes, refl, ap, sym, ◌∙◌, arith, eq-eqb, append_assoc, length-append}
 use Rattle.std.specs.Prelude.{decimal, nat_lt, nat_le, option_map}
 use Rattle.std.specs.Char.{is_ascii_digit}
 use Rattle.std.specs.List.{list_all}
@@ -248,17 +248,15 @@ plain-reads f s is = go f is.ordered is.within is.alone
         record { reads_back = numbers_read 255 s.first s.last ordered within (omega arith); plain = numbers_plain s.first s.last ordered (omega (arith, within)) }
 
 -- by its parts
-pub two-ends : (f : Field) (s : Interval) (text : List ℕ) → IsPart f s → has_ranges f ≡ true → text ≡ end_text f s.first ++ mark_of f ∷ end_text f s.last → IsRangeText f text s
-two-ends f s text is ranges whole =
-    let P : List ℕ → Type 0 = λ bytes. IsRangeText f bytes s in
+pub two-ends : (f : Field) (s : Interval) (text : List ℕ) → has_ranges f ≡ true → text ≡ end_text f s.first ++ mark_of f ∷ end_text f s.last → text ≡ plain_text f s
+two-ends f s text ranges whole =
     let both = end_text f s.first ++ mark_of f ∷ end_text f s.last in
-    subst P (ap (λ t. cond t both (end_text f s.first)) ranges ∙ sym whole) (plain-reads f s is)
+    whole ∙ sym (ap (λ t. cond t both (end_text f s.first)) ranges)
 
-pub one-end : (f : Field) (s : Interval) (text : List ℕ) → IsPart f s → has_ranges f ≡ false → text ≡ end_text f s.first → IsRangeText f text s
-one-end f s text is ranges whole =
-    let P : List ℕ → Type 0 = λ bytes. IsRangeText f bytes s in
+pub one-end : (f : Field) (s : Interval) (text : List ℕ) → has_ranges f ≡ false → text ≡ end_text f s.first → text ≡ plain_text f s
+one-end f s text ranges whole =
     let both = end_text f s.first ++ mark_of f ∷ end_text f s.last in
-    subst P (ap (λ t. cond t both (end_text f s.first)) ranges ∙ sym whole) (plain-reads f s is)
+    whole ∙ sym (ap (λ t. cond t both (end_text f s.first)) ranges)
 
 pub put-together : (none one two three front back : List ℕ) (mark : ℕ) → none ≡ [] → one ≡ none ++ front → two ≡ one ++ mark ∷ [] → three ≡ two ++ back → three ≡ front ++ mark ∷ back
 put-together none one two three front back mark empty first second third =

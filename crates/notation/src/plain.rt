@@ -2,7 +2,7 @@
 //! number.
 ghost use Rattle.std.specs.Prelude.{◌≡◌, ◌≤◌, ◌<◌, ◌++◌, flat_map, OnOk, IfOk};
 ghost use Rattle.fields.specs.numbers.Field.{top};
-ghost use Rattle.notation.specs.Plain.{IsPart, digit_byte, digits_of, end_text, has_ranges, hexadecimal_text, mark_of};
+ghost use Rattle.notation.specs.Plain.{IsPart, digit_byte, digits_of, end_text, has_ranges, hexadecimal_text, mark_of, plain_text};
 ghost use Rattle.notation.specs.SetText.{IsRangeText};
 
 use crate::values::put_value;
@@ -75,7 +75,8 @@ pub(crate) fn plain_text(
     span: &Interval,
 ) -> Result<Vec<u8>, AllocError>
     requires { IsPart field span.now }
-    ensures { IfOk result (λ text. IsRangeText field text.items span.now) }
+    ensures written { IfOk result (λ text. text.items ≡ plain_text field span.now) }
+    ensures reads_back { IfOk result (λ text. IsRangeText field text.items span.now) }
 {
     let mut text = Vec::new(alloc);
     put_end(&mut text, field, span.first)?;

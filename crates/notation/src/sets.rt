@@ -1,11 +1,11 @@
 //! The text of a set of numbers on a field.
-ghost use Rattle.std.specs.Prelude.{◌≡◌, ◌≢◌, ◌≤◌, ◌==◌, ◌++◌, ◌∷◌, [], ◌||◌, not, codes, ℕ, List, All, true, IfOk};
+ghost use Rattle.std.specs.Prelude.{◌≡◌, ◌≢◌, ◌+◌, ◌-◌, ◌≤◌, ◌==◌, ◌++◌, ◌∷◌, [], ◌||◌, ◌↔◌, not, codes, ℕ, List, All, true, IfOk};
 ghost use Rattle.std.specs.List.{list_all};
 ghost use Rattle.std.specs.Str.{bytes_eq};
 ghost use Rattle.fields.specs.numbers.Field.{top};
 ghost use Rattle.fields.specs.numbers.Spans.{has, in_span};
 ghost use Rattle.notation.specs.Plain.{IsPart};
-ghost use Rattle.notation.specs.SetText.{is_plain, IsRangeText, IsListText, IsSetText};
+ghost use Rattle.notation.specs.SetText.{is_plain, IsRangeText, IsPartText, IsListText, IsSetText, one_by_one, parts};
 
 use crate::plain::{has_ranges, plain_text};
 use crate::range::read_range;
@@ -33,7 +33,7 @@ fn is_plain(text: &[u8]) -> bool
 
 // Whether a text reads back as just these numbers, and can stand in a list.
 fn is_range_text(field: Field, text: &[u8], span: &Interval) -> bool
-    ensures { result ≡ true → IsRangeText field text.now span.now }
+    ensures { result ≡ true ↔ IsRangeText field text.now span.now }
 {
     is_plain(text) && read_range(field, text) == Some((span.first, span.last))
 }
@@ -41,13 +41,14 @@ fn is_range_text(field: Field, text: &[u8], span: &Interval) -> bool
 // A text that reads back as the numbers of an interval: the usual one, where that does, else the plain one.
 fn range_text(alloc: Global, field: Field, span: &Interval) -> Result<Vec<u8>, AllocError>
     requires { IsPart field span.now }
-    ensures { IfOk result (λ text. IsRangeText field text.items span.now) }
+    ensures { IfOk result (λ text. IsPartText field text.items span.now) }
 {
     let usual = usual_text(alloc, field, span)?;
     if is_range_text(field, usual.as_slice(), span) {
         return Ok(usual);
     }
-    plain_text(alloc, field, span)
+    let plain = plain_text(alloc, field, span)?;
+    Ok(plain)
 }
 
 // Adds the text of an interval to a list of others.
@@ -101,6 +102,7 @@ fn list_text(alloc: Global, field: Field, spans: &[Interval]) -> Result<Vec<u8>,
 fn add_each(field: Field, span: &Interval, parts: &mut Vec<Interval>) -> Result<(), AllocError>
     requires ordered { span.now.first ≤ span.now.last }
     requires within { span.now.last ≤ top field }
+    ensures items { IfOk result (λ done. parts.new.items ≡ parts.old.items ++ one_by_one span.now.first (span.now.last + 1 - span.now.first)) }
     ensures members { IfOk result (λ done. (x : ℕ) → has parts.new.items x ≡ (has parts.old.items x || in_span x span.now)) }
     ensures parts { IfOk result (λ done. All (IsPart field) parts.old.items → All (IsPart field) parts.new.items) }
 {
@@ -120,6 +122,7 @@ fn add_each(field: Field, span: &Interval, parts: &mut Vec<Interval>) -> Result<
 // The intervals that a set's list is made of: single numbers on a field where no range has a text.
 fn parts_of(alloc: Global, field: Field, set: &Spans) -> Result<Vec<Interval>, AllocError>
     requires { set.now.top ≡ top field }
+    ensures items { IfOk result (λ found. found.items ≡ parts field set.now.intervals) }
     ensures members { IfOk result (λ parts. (x : ℕ) → has parts.items x ≡ has set.now.intervals x) }
     ensures parts { IfOk result (λ parts. All (IsPart field) parts.items) }
 {
@@ -136,11 +139,10 @@ fn parts_of(alloc: Global, field: Field, set: &Spans) -> Result<Vec<Interval>, A
 }
 
 /// The text of a set's numbers on a field: `all`; a list, whose texts stand for just the set's numbers; or `not` and
-/// a list, whose texts stand for just the others. A comma and a blank stand between two texts of a list. Each of them
-/// is read by `read_range`, has no blank and isn't `all`, so the text falls into its parts in one way. The set's top
-/// is the field's.
-///
-/// It writes the list with fewer texts. The contract leaves open which of them is written.
+/// a list, whose texts stand for just the others, where that list has fewer texts. A comma and a blank stand between
+/// two texts of a list. Each of them is read by `read_range`, has no blank and isn't `all`, so the text falls into its
+/// parts in one way: it is the text that a user would write, as `10.0.0.0/8`, where such a text stands for just the
+/// numbers of an interval, and else both ends. The set's top is the field's.
 ///
 /// # Errors
 ///
