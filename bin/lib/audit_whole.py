@@ -60,11 +60,12 @@ SAME = b"INPUT same\nFORWARD same\nOUTPUT same\n"
 HERE_WORD = HERE.decode()
 # Conditional jumps to a chain that drops one host: a packet of another host has a walk for each of the assignments.
 JUMPS = HEAD + (b"".join(b"-A INPUT -m limit --limit %d/sec -j local\n" % number for number in range(1, 6))
-                + b"-A INPUT -j ACCEPT\n-A OUTPUT -j ACCEPT\n-A local -s 10.0.0.1 -j DROP\nCOMMIT\n")
+                + b"-A INPUT -j ACCEPT\n-A OUTPUT -j ACCEPT\n-A local -s 10.0.0.1 -j DROP\n-A local -p tcp -m tcp --dport 22 -j LOG\nCOMMIT\n")
 JUMPED = (b"".join(b"unclear INPUT %d -A INPUT -j local if limit --limit %d/sec\n" % (number, number) for number in range(1, 6))
           + b"unclear INPUT 6 -A INPUT -j ACCEPT\nmissed OUTPUT 1 -A OUTPUT -j ACCEPT\n"
           b"packet OUTPUT src=192.0.2.1 dst=198.51.100.1 out=eth0 proto=6 sport=40000 dport=80 flags=SYN ct=NEW ttl=64\n"
-          b"missed local 1 -A local -s 10.0.0.1/32 -j DROP\n  if limit --limit 1/sec at INPUT 1\n" + TCP.replace(b"192.0.2.1", b"10.0.0.1") % 80)
+          b"missed local 1 -A local -s 10.0.0.1/32 -j DROP\n  if limit --limit 1/sec at INPUT 1\n" + TCP.replace(b"192.0.2.1", b"10.0.0.1") % 80
+          + b"unclear local 2 -A local -p tcp -m tcp --dport 22 -j LOG\n")
 DIFFERENT = b"packet INPUT src=192.0.2.9 dst=10.0.0.2 in=eth0 proto=tcp sport=4000 dport=22\n"
 
 # What is asked, with the files and standard input, and what is due: standard output, the status and standard error.
@@ -103,7 +104,7 @@ ROWS = [
      + b"2 rules, 0 covered, 0 missed, 0 dead, 2 unclear\n2 conditions open: limit 2\n", 3, b"line 2: unclear\nline 4: unclear\n"),
     # A rule that an unclear packet may match isn't missed. One that it can't match is, so the status is 1.
     ("cover, a packet whose walks are unclear", ["cover", "--steps", "24", "R"], {"R": JUMPS}, b"\n" + DIFFERENT,
-     JUMPED + b"8 rules, 0 covered, 2 missed, 0 dead, 6 unclear\n5 conditions open: limit 5\n", 1, b"line 2: unclear\n"),
+     JUMPED + b"9 rules, 0 covered, 2 missed, 0 dead, 7 unclear\n5 conditions open: limit 5\n", 1, b"line 2: unclear\n"),
     ("cover, a packet whose walks are unclear, and another one", ["cover", "--steps", "24", "R"], {"R": JUMPS}, DIFFERENT + b"packet INPUT src=10.0.0.1"
      b" dst=10.0.0.2 in=eth0 proto=udp sport=4000 dport=22\npacket OUTPUT src=10.0.0.1 dst=10.0.0.2 out=eth0 proto=udp sport=4000 dport=22\n",
      b"".join(b"if INPUT %d -A INPUT -j local if limit --limit %d/sec\n  if " % (number, number)
@@ -111,7 +112,8 @@ ROWS = [
                               + [b"limit --limit %d/sec at INPUT %d" % (number, number)]) + b"\n" for number in range(1, 6))
      + b"if INPUT 6 -A INPUT -j ACCEPT\n  if " + b" and ".join(b"not limit --limit %d/sec at INPUT %d" % (other, other) for other in range(1, 6))
      + b"\nif local 1 -A local -s 10.0.0.1/32 -j DROP\n  if limit --limit 1/sec at INPUT 1\n"
-     + b"8 rules, 8 covered (7 if conditions hold), 0 missed, 0 dead, 0 unclear\n5 conditions open: limit 5\n", 3, b"line 1: unclear\n"),
+     + b"unclear local 2 -A local -p tcp -m tcp --dport 22 -j LOG\n"
+     + b"9 rules, 8 covered (7 if conditions hold), 0 missed, 0 dead, 1 unclear\n5 conditions open: limit 5\n", 3, b"line 1: unclear\n"),
     ("compare", ["compare", "O", "N"], {"O": DUMP, "N": OTHER}, b"", DIFFERS + b"1 changed rules, 0 dead, 0 unclear\n" + OPEN + PREMISE, 1, b""),
     ("compare, itself", ["compare", "O", "O"], {"O": DUMP}, b"", SAME + b"0 changed rules, 0 dead, 0 unclear\n" + OPEN + PREMISE, 0, b""),
     ("compare, what a target sets", ["compare", "O", "O"],
