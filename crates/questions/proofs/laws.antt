@@ -27,7 +27,9 @@ pub mod LookLaws
 pub mod MeetingLaws
 pub mod NeedlessLaws
 pub mod NeverLaws
+pub mod OnwardLaws
 pub mod PacketLaws
+pub mod PartLaws
 pub mod PlainCompareLaws
 pub mod PlainLaws
 pub mod ReachLaws

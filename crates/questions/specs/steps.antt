@@ -12,6 +12,7 @@ pub mod Groups
 pub mod Leading
 pub mod Lines
 pub mod Meant
+pub mod Onward
 pub mod Outlines
 pub mod Remaining
 pub mod Sampled

@@ -234,7 +234,7 @@ comes_fitting t known policy start step task old new found p (inl ((came, is, it
 comes_fitting t known policy start step task old new found p (inr (inl (never, none, same))) asked own fits =
     let Q : Front → Type 0 = λ f. IsFitting t known start p f in
     (subst Q (sym same) fits, subst (CameWith t known step p) (sym none) tt)
-comes_fitting t known policy start step task old new found p (inr (inr (mid, (next, further, moves), taken))) asked own fits = by_leaf (moves.fits start p asked further_fits fits) taken
+comes_fitting t known policy start step task old new found p (inr (inr (mid, (next, further, moves, on), taken))) asked own fits = by_leaf (moves.fits start p asked further_fits fits) taken
   where
     further_fits : IsOf known p next.scope → Belongs t known start p (stage_of known t.chains next)
     further_fits inside =

@@ -455,7 +455,7 @@ begun t known hook scope rests empty trail k old new sound at is none bare no_ta
 
 -- one step of the loop
 pub begun_next : (t : Table) (known : Known) (hook : Hook) (scope : Scope) (old new : Front) → Begins t known hook scope old → IsStep t known hook scope old new → Begins t known hook scope new
-begun_next t known hook scope old new begins (policy, task, left, up, (next, further, moves)) = record {
+begun_next t known hook scope old new begins (policy, task, left, up, (next, further, moves, on)) = record {
   all = λ p can e own. by_case p can e own (begins.all p can e own);
   fits = λ p can e.
       (let before = begins.fits p can e in

@@ -9,6 +9,7 @@ use Rattle.table.specs.steps.Kept.{hook_index}
 use Rattle.table.specs.walk.Walk.{end_verdict}
 use Rattle.questions.specs.Scopes.{IsOf, Known, needless, unasked}
 use Rattle.questions.specs.boxes.Area.{IsAtHook}
+use Rattle.questions.specs.steps.Onward.{AddsTasks, GetsOn}
 use Rattle.questions.specs.steps.Waiting.{Moves, WaitsIn, stage_of}
 use Rattle.questions.specs.declared.walking.front.Front.{Front}
 use Rattle.questions.specs.declared.walking.task.Leaf.{Leaf}
@@ -37,10 +38,11 @@ pub record IsFurther (t : Table) (known : Known) (scope : Scope) (task next : Ta
   pub trail : next.trail ≡ task.trail
   pub waits : (p : Packet) → IsAtHook p → IsOf known p scope → WaitsIn t known p task → WaitsIn t known p next
 
--- the packets of the task that are of a scope go on to a later rule of its chain, and from there
+-- the packets of the task that are of a scope go on to a later rule of its chain, and from there; each task that they are in then has got on
 abbrev pub GoesOn : Table → Known → Verdict → Scope → Task → Front → Front → Type 0
 GoesOn t known policy scope task old new =
     (next : Task) × IsFurther t known scope task next × Moves t known policy next.scope (stage_of known t.chains next) old new
+    × AddsTasks (GetsOn next.scope next.rests.items next.trail.items) old new
 
 -- one step of the walk of a scope: the newest task goes on
 abbrev pub IsStep : Table → Known → Hook → Scope → Front → Front → Type 0

@@ -1,12 +1,14 @@
 //! A box of packets cut by a rule: the packets that it matches, and parts with all the others; or, where that depends
 //! on both ports, parts on which the rule has to be tested again.
-ghost use Rattle.std.specs.Prelude.{◌≡◌, ◌<◌, ◌⊎◌, ℕ, List, IfOk, OnOk};
+ghost use Rattle.std.specs.Prelude.{◌≡◌, ◌<◌, ◌⊎◌, ℕ, List, All, IfOk, OnOk};
 ghost use Rattle.fields.specs.numbers.Field.{top};
-ghost use Rattle.rules.specs.boxing.Boxed.{IsBox, IsBoxOf};
+ghost use Rattle.rules.specs.boxing.Boxed.{IsBox, IsBoxOf, set_on};
+ghost use Rattle.rules.specs.rule.Crossing.{IsParted};
 ghost use Rattle.rules.specs.rule.Rules.{Rule};
 ghost use Rattle.classify.specs.classifier.Classifier.{IsPoint};
-ghost use Rattle.questions.specs.boxes.Area.{Has, IsBoth};
+ghost use Rattle.questions.specs.boxes.Area.{Has, HasNumbers, IsBoth};
 ghost use Rattle.questions.specs.boxes.Cut.{IsCutBy, IsInSome};
+ghost use Rattle.questions.specs.steps.Onward.{AreLess, LacksSome};
 ghost use Rattle.questions.specs.steps.Sides.{LeavesAt};
 
 use crate::boxes::area::Area;
@@ -74,6 +76,8 @@ fn halves(alloc: Global, area: Area, field: Field, wanted: &Spans) -> Result<Vec
     requires { wanted.now.top ≡ top field }
     ensures all { IfOk result (λ parts. (numbers : List ℕ) → IsPoint numbers → Has area numbers → IsInSome parts.items numbers) }
     ensures only { IfOk result (λ parts. (numbers : List ℕ) → IsPoint numbers → IsInSome parts.items numbers → Has area numbers) }
+    ensures less { HasNumbers area → IsParted (record { top = top field; intervals = set_on field area }) wanted.now
+        → IfOk result (λ parts. All (LacksSome area) parts.items) }
 {
     let others = wanted.except(alloc)?;
     let with = area.copy(alloc)?.narrow(alloc, field, wanted)?;
@@ -95,7 +99,10 @@ fn cut_apart(
 ) -> Result<Cut, AllocError>
     requires inside { IsBoth area.now boxed.now inside }
     requires top { listed.now.top ≡ top field }
-    ensures { (rule : Rule) → IsBoxOf rule boxed.now → IfOk result (IsCutBy rule area.now) }
+    requires some { HasNumbers inside }
+    requires parted { IsParted (record { top = top field; intervals = set_on field inside }) listed.now }
+    ensures cuts { (rule : Rule) → IsBoxOf rule boxed.now → IfOk result (IsCutBy rule area.now) }
+    ensures less { IfOk result (AreLess area.now) }
 {
     let parts = halves(alloc, inside, field, listed)?;
     let others = outside(alloc, area.sets(), boxed.spans())?;
@@ -112,7 +119,8 @@ pub(crate) fn cut_by(
     area: &Area,
 ) -> Result<Cut, AllocError>
     requires { IsBoxOf rule.now boxed.now }
-    ensures { IfOk result (IsCutBy rule.now area.now) }
+    ensures cuts { IfOk result (IsCutBy rule.now area.now) }
+    ensures less { IfOk result (AreLess area.now) }
 {
     if !meet(area.sets(), boxed.spans()) {
         return Ok(Cut::Apart);

@@ -8,6 +8,7 @@ ghost use Rattle.table.specs.walk.Walk.{end_verdict};
 ghost use Rattle.questions.specs.Foreign.{Assignment};
 ghost use Rattle.questions.specs.Leaves.{AreExactOn, AreLeavesOf};
 ghost use Rattle.questions.specs.Scopes.{AreExactUnder, AreLeavesUnder, IsSurely, answered, known_by, table_of};
+ghost use Rattle.questions.specs.steps.Onward.{AddsTasks, GetsOn};
 ghost use Rattle.questions.specs.steps.Taken.{IsFinished, IsFinishedUnder, IsFirst, IsUnfinished, IsUnfinishedUnder};
 ghost use Rattle.questions.specs.steps.Waiting.{AreThere, Begins, Moves, stage_of};
 
@@ -39,8 +40,9 @@ pub(crate) fn step(
     requires there { AreThere (table_of subject.now).chains task }
     requires room { length task.trail.items < 65536 }
     requires short { policy ≢ TooLong }
-    ensures { OnOk result ((a : Assignment) → Moves (answered subject.now a) (known_by subject.now a) policy task.scope
+    ensures moves { OnOk result ((a : Assignment) → Moves (answered subject.now a) (known_by subject.now a) policy task.scope
         (stage_of (known_by subject.now a) (answered subject.now a).chains task) front.old front.new) }
+    ensures on { OnOk result (AddsTasks (GetsOn task.scope task.rests.items task.trail.items) front.old front.new) }
 {
     match task.rests.pop() {
         None => front.add_leaf(task, policy, true),

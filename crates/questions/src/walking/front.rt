@@ -21,12 +21,14 @@ pub(crate) struct Front {
 }
 
 impl Front {
+    ghost use Rattle.questions.specs.steps.Onward.{AddsTasks, IsPut};
     ghost use Rattle.questions.specs.steps.Waiting.{AreThere, IsLastMet, Moves, stage_of};
 
     // One task more.
     pub(crate) fn add_task(&mut self, task: Task) -> Result<(), AllocError>
-        ensures { OnOk result ((t : Filter) (known : Known) (policy : Verdict) → AreThere t.chains task
+        ensures moves { OnOk result ((t : Filter) (known : Known) (policy : Verdict) → AreThere t.chains task
             → Moves t known policy task.scope (stage_of known t.chains task) self.old self.new) }
+        ensures on { OnOk result (AddsTasks (IsPut task.scope task.rests.items task.trail.items) self.old self.new) }
     {
         self.tasks.push(task)?;
         Ok(())
@@ -41,9 +43,10 @@ impl Front {
     ) -> Result<(), AllocError>
         requires short { verdict ≢ TooLong }
         requires decided { by_policy ≡ false → 0 < length task.trail.items }
-        ensures { OnOk result ((t : Filter) (known : Known) (policy : Verdict)
+        ensures moves { OnOk result ((t : Filter) (known : Known) (policy : Verdict)
             → (by_policy ≡ false → Agrees known.holds task.scope.answers → IsLastMet known task.trail.items)
             → Moves t known policy task.scope (Over (record { trail = entries_by known t.chains task.trail.items; verdict = verdict; by_policy = by_policy })) self.old self.new) }
+        ensures on { OnOk result (self.new.tasks.items ≡ self.old.tasks.items) }
     {
         let Task {
             scope,

@@ -9,6 +9,7 @@ ghost use Rattle.questions.specs.Foreign.{Agrees, Assignment, IsUnanswered, need
 ghost use Rattle.questions.specs.Scopes.{Known, answered, entries_by, is_met, known_by, table_of};
 ghost use Rattle.questions.specs.steps.Ahead.{Stays};
 ghost use Rattle.questions.specs.steps.Branches.{CanAsk, IsBranch, target_at};
+ghost use Rattle.questions.specs.steps.Onward.{AddsTasks, GetsOn, HasTrail, IsAnswered, IsBesides, IsPut};
 ghost use Rattle.questions.specs.steps.Waiting.{AreNamedAlike, AreThere, IsLastMet, IsThere, Moves, PassesOver, rest_of, rests_of, stage_at};
 
 use crate::boxes::area::Area;
@@ -25,8 +26,9 @@ use table::{Step, Table, Verdict};
 
 // The walks go on with one more rest.
 fn go_on(front: &mut Front, mut task: Task, at: Pending) -> Result<(), AllocError>
-    ensures { OnOk result ((t : Filter) (known : Known) (policy : Verdict) → IsThere t.chains at → AreThere t.chains task
+    ensures moves { OnOk result ((t : Filter) (known : Known) (policy : Verdict) → IsThere t.chains at → AreThere t.chains task
         → Moves t known policy task.scope (stage_at known t.chains at task) front.old front.new) }
+    ensures on { OnOk result (AddsTasks (IsPut task.scope (task.rests.items ++ at ∷ []) task.trail.items) front.old front.new) }
 {
     task.rests.push(at)?;
     front.add_task(task)
@@ -34,9 +36,10 @@ fn go_on(front: &mut Front, mut task: Task, at: Pending) -> Result<(), AllocErro
 
 // The walks go on in a chain. One that isn't there has no rules.
 fn enter(table: &Table, front: &mut Front, task: Task, name: &Name) -> Result<(), AllocError>
-    ensures { OnOk result ((t : Filter) (known : Known) (policy : Verdict) → AreNamedAlike t table.now.table → AreThere t.chains task
+    ensures moves { OnOk result ((t : Filter) (known : Known) (policy : Verdict) → AreNamedAlike t table.now.table → AreThere t.chains task
         → Moves t known policy task.scope
         (Under (whole name.now ∷ rests_of t.chains task.rests.items) (entries_by known t.chains task.trail.items)) front.old front.new) }
+    ensures on { OnOk result (AddsTasks (HasTrail task.trail.items) front.old front.new) }
 {
     match table.index_of(name.bytes()) {
         Some(chain) => go_on(front, task, Pending { chain, passed: 0 }),
@@ -52,10 +55,11 @@ fn jump(
     behind: Pending,
     name: &Name,
 ) -> Result<(), AllocError>
-    ensures { OnOk result ((t : Filter) (known : Known) (policy : Verdict) → AreNamedAlike t table.now.table → IsThere t.chains behind → AreThere t.chains task
+    ensures moves { OnOk result ((t : Filter) (known : Known) (policy : Verdict) → AreNamedAlike t table.now.table → IsThere t.chains behind → AreThere t.chains task
         → Moves t known policy task.scope
         (Under (whole name.now ∷ rest_of t.chains behind ∷ rests_of t.chains task.rests.items) (entries_by known t.chains task.trail.items))
         front.old front.new) }
+    ensures on { OnOk result (AddsTasks (HasTrail task.trail.items) front.old front.new) }
 {
     task.rests.push(behind)?;
     enter(table, front, task, name)
@@ -70,11 +74,12 @@ fn turn(
     target: Option<Target>,
 ) -> Result<(), AllocError>
     requires { 0 < length task.trail.items }
-    ensures { OnOk result ((t : Filter) (known : Known) (policy : Verdict) → AreNamedAlike t table.now.table → IsThere t.chains behind → AreThere t.chains task
+    ensures moves { OnOk result ((t : Filter) (known : Known) (policy : Verdict) → AreNamedAlike t table.now.table → IsThere t.chains behind → AreThere t.chains task
         → (Agrees known.holds task.scope.answers → IsLastMet known task.trail.items ⊎ Stays target)
         → Moves t known policy task.scope
         (on_by (after_match target (rest_of t.chains behind) (rests_of t.chains task.rests.items)) (entries_by known t.chains task.trail.items))
         front.old front.new) }
+    ensures on { OnOk result (AddsTasks (HasTrail task.trail.items) front.old front.new) }
 {
     match target {
         None => go_on(front, task, behind),
@@ -96,12 +101,13 @@ fn follow(
     behind: Pending,
     rule: &Rule,
 ) -> Result<(), AllocError>
-    ensures { OnOk result ((t : Filter) (known : Known) (policy : Verdict) → AreNamedAlike t table.now.table → IsThere t.chains behind → AreThere t.chains task
+    ensures moves { OnOk result ((t : Filter) (known : Known) (policy : Verdict) → AreNamedAlike t table.now.table → IsThere t.chains behind → AreThere t.chains task
         → (Agrees known.holds task.scope.answers → IsTrue (is_met known (record { chain = behind.chain; number = behind.passed })) ⊎ Stays (target_of rule.now))
         → Moves t known policy task.scope
         (on_by (after_match (target_of rule.now) (rest_of t.chains behind) (rests_of t.chains task.rests.items))
         (entries_by known t.chains (task.trail.items ++ record { chain = behind.chain; number = behind.passed } ∷ [])))
         front.old front.new) }
+    ensures on { OnOk result (AddsTasks (HasTrail (task.trail.items ++ record { chain = behind.chain; number = behind.passed } ∷ [])) front.old front.new) }
 {
     task.trail.push(Step {
         chain: behind.chain,
@@ -117,8 +123,9 @@ fn pass_over(
     task: &Task,
     at: Pending,
 ) -> Result<(), AllocError>
-    ensures { OnOk result ((t : Filter) (known : Known) (policy : Verdict) → IsThere t.chains at → AreThere t.chains task.now
+    ensures moves { OnOk result ((t : Filter) (known : Known) (policy : Verdict) → IsThere t.chains at → AreThere t.chains task.now
         → PassesOver t known policy boxes.items task.now.scope.answers (stage_at known t.chains at task.now) front.old front.new) }
+    ensures on { OnOk result (AddsTasks (IsBesides boxes.items task.now.scope.answers (task.now.rests.items ++ at ∷ []) task.now.trail.items) front.old front.new) }
 {
     while let Some(area) = boxes.pop() {
         let next = beside(front.alloc, task, area)?;
@@ -130,8 +137,9 @@ fn pass_over(
 // The walks part by whether a condition holds, and go on at one place.
 fn part(front: &mut Front, mut task: Task, at: Pending, condition: usize) -> Result<(), AllocError>
     requires { IsUnanswered task.scope.answers condition }
-    ensures { OnOk result ((t : Filter) (known : Known) (policy : Verdict) → IsThere t.chains at → AreThere t.chains task
+    ensures moves { OnOk result ((t : Filter) (known : Known) (policy : Verdict) → IsThere t.chains at → AreThere t.chains task
         → Moves t known policy task.scope (stage_at known t.chains at task) front.old front.new) }
+    ensures on { OnOk result (AddsTasks (IsAnswered task.scope.answers (task.rests.items ++ at ∷ []) task.trail.items) front.old front.new) }
 {
     let same = task.scope.area.copy(front.alloc)?;
     let mut other = beside(front.alloc, &task, same)?;
@@ -179,9 +187,10 @@ fn cut(
     requires rests { AreThere (table_of subject.now).chains task }
     requires room { length task.trail.items < 65536 }
     requires parted { CanAsk (needs_at subject.now.needs.now at.chain at.passed) task.scope.answers (target_at (table_of subject.now) at) parted }
-    ensures { OnOk result ((a : Assignment) (policy : Verdict)
+    ensures moves { OnOk result ((a : Assignment) (policy : Verdict)
         → Moves (answered subject.now a) (known_by subject.now a) policy task.scope
         (stage_at (known_by subject.now a) (answered subject.now a).chains at task) front.old front.new) }
+    ensures on { OnOk result (AddsTasks (GetsOn task.scope (task.rests.items ++ at ∷ []) task.trail.items) front.old front.new) }
 {
     let table = &subject.boxed.table;
     table.stands();
@@ -221,9 +230,10 @@ pub(crate) fn ask(
     requires passed { at.passed < length (chain_at (table_of subject.now) at.chain).rules }
     requires rests { AreThere (table_of subject.now).chains task }
     requires room { length task.trail.items < 65536 }
-    ensures { OnOk result ((a : Assignment) (policy : Verdict)
+    ensures moves { OnOk result ((a : Assignment) (policy : Verdict)
         → Moves (answered subject.now a) (known_by subject.now a) policy task.scope
         (stage_at (known_by subject.now a) (answered subject.now a).chains at task) front.old front.new) }
+    ensures on { OnOk result (AddsTasks (GetsOn task.scope (task.rests.items ++ at ∷ []) task.trail.items) front.old front.new) }
 {
     let table = &subject.boxed.table;
     table.stands();

@@ -39,10 +39,10 @@ pub returns-clause-kept : goal.returns-clause-kept
 returns-clause-kept c = λ none start are a.
     let s = c.args.subject.now in
     let t = answered s a in
-    stepped t (known_by s a) c.args.policy start (entry_of t.chains c.args.wanted) c.args.task c.in_ok-next.next c.args.front.now c.step.new.front c.came.new.front (c.in_ok-next.ensures.further start are a) (c.in_ok-step.ensures a) (c.in_ok-scope.ensures.kept none a)
+    stepped t (known_by s a) c.args.policy start (entry_of t.chains c.args.wanted) c.args.task c.in_ok-next.next c.args.front.now c.step.new.front c.came.new.front (c.in_ok-next.ensures.further start are a) (c.in_ok-step.ensures.moves a) (c.in_ok-scope.ensures.kept none a)
 
 pub returns-clause-step : goal.returns-clause-step
-returns-clause-step c = λ start are a. inr (inr (c.step.new.front, (c.in_ok-next.next, c.in_ok-next.ensures.further start are a, c.in_ok-step.ensures a), c.in_ok-scope.ensures.leaf))
+returns-clause-step c = λ start are a. inr (inr (c.step.new.front, (c.in_ok-next.next, c.in_ok-next.ensures.further start are a, c.in_ok-step.ensures.moves a, c.in_ok-step.ensures.on), c.in_ok-scope.ensures.leaf))
 
 pub returns-clause-fit : goal.returns-clause-fit
 returns-clause-fit c = λ box are. c.count.ensures (table_of c.args.subject.now) box (c.in_ok-next.ensures.kept box are)
@@ -52,5 +52,5 @@ returns-clause-there c = λ all.
     let s = c.args.subject.now in
     let own = table_of s in
     let any : Assignment = λ _. false in
-    let moved = (c.in_ok-step.ensures any).keeps.there (front_left s.needs.now any own c.args.front.now all) in
+    let moved = (c.in_ok-step.ensures.moves any).keeps.there (front_left s.needs.now any own c.args.front.now all) in
     c.in_ok-scope.ensures.there (front_back s.needs.now any own c.step.new.front moved)

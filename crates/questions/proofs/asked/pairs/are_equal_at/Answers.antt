@@ -25,8 +25,7 @@ returns-then-not-equals c =
     let xs = (chain_at (table_of c.args.old.now) c.args.chains.old).rules in
     let ys = (chain_at (table_of c.args.new.now) c.args.chains.new).rules in
     let first = rule_there xs c.args.passed.old c.rule-rule.result.now empty_rule c.requires.first c.rule-rule.ensures in
-    let second = rule_there ys c.args.passed.new c.rule.result.now empty_rule c.requires.second c.rule.ensures in
-    (
+    let second = rule_there ys c.args.passed.new c.rule.result.now empty_rule c.requires.second c.rule.ensures in (
       λ true_is. absurd (true≢false (sym true_is)),
       λ is. absurd (true≢false (sym (c.equals.ensures.value.1 (sym first ∙ is.rules ∙ second)) ∙ c.if-not-equals.true)),
     )

@@ -34,7 +34,7 @@ loop-taken-preserved c =
       c.in-Some.task,
       popped,
       record { ends = c.policy_at-policy.ensures.ends; tasks = c.in-Some.ensures.items; leaves = refl; room = omega arith },
-      (c.in_ok-next-in-Some.next, c.in_ok-next-in-Some.ensures.further c.args.start c.loop-taken.invariant.kept a, c.in_ok-step-in-Some.ensures a),
+      (c.in_ok-next-in-Some.next, c.in_ok-next-in-Some.ensures.further c.args.start c.loop-taken.invariant.kept a, c.in_ok-step-in-Some.ensures.moves a, c.in_ok-step-in-Some.ensures.on),
     ) in
     record {
       kept = c.in_ok-next-in-Some.ensures.kept c.args.start.area c.loop-taken.invariant.kept;

@@ -1,16 +1,25 @@
+use Rattle.std.proofs.Common.{◌+◌, refl, arith}
 use Rattle.std.proofs.lemmas.Result.{on_ok_weaker}
 use Rattle.questions.specs.Scopes.{answered, known_by, table_of}
 use Rattle.questions.specs.steps.Waiting.{rests_of}
 use Rattle.questions.proofs.laws.BranchLaws.{passed_on}
 use Rattle.questions.proofs.laws.ResolvedLaws.{all_left, there_left}
+use Rattle.questions.specs.declared.walking.task.Pending.{Pending}
+use Rattle.questions.proofs.laws.OnwardLaws.{put_past}
 use Rattle.questions.proofs.walking.turn.ask.Goals as goal
 
-pub returns-in-Passed : goal.returns-in-Passed
-returns-in-Passed c =
+pub returns-in-Passed-clause-moves : goal.returns-in-Passed-clause-moves
+returns-in-Passed-clause-moves c =
     let s = c.args.subject.now in
     let own = table_of s in
     let fails = rw (c.in-Passed.is, c.at-needs.ensures) at c.branch_of.ensures in
     on_ok_weaker c.go_on.result (λ h a policy.
     passed_on s a c.stands.ensures.sound policy c.args.at c.requires.there c.rule-rule.result.now c.requires.passed c.rule-rule.ensures (rests_of (answered s a).chains c.args.task.rests.items) c.args.task.trail.items
     c.args.task.scope c.args.front.now c.go_on.new.front fails
-    (h (answered s a) (known_by s a) policy (there_left s.needs.now a own c.args.at.chain c.requires.there) (all_left s.needs.now a own c.args.task.rests.items c.requires.rests))) c.go_on.ensures
+    (h (answered s a) (known_by s a) policy (there_left s.needs.now a own c.args.at.chain c.requires.there) (all_left s.needs.now a own c.args.task.rests.items c.requires.rests))) c.go_on.ensures.moves
+
+pub returns-in-Passed-clause-on : goal.returns-in-Passed-clause-on
+returns-in-Passed-clause-on c =
+    let at : Pending = c.args.at in
+    let later : Pending = record { chain = at.chain; passed = at.passed + 1 } in
+    on_ok_weaker c.go_on.result (λ h. put_past c.args.task.scope c.args.task.rests.items at later c.args.task.trail.items c.args.front.now c.go_on.new.front refl (omega arith) h) c.go_on.ensures.on

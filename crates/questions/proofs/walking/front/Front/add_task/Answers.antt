@@ -1,6 +1,15 @@
-use Rattle.std.proofs.Common.{refl}
+use Rattle.std.proofs.Common.{[], ◌∷◌, refl}
 use Rattle.questions.proofs.laws.WaitLaws.{task_moves}
+use Rattle.questions.specs.declared.walking.task.Task.{Task}
+use Rattle.questions.specs.steps.Onward.{IsPut}
+use Rattle.std.proofs.lemmas.List.Elements.{All-cons, All-nil}
 use Rattle.questions.proofs.walking.front.Front.add_task.Goals as goal
 
-pub returns : goal.returns
-returns c = λ t known policy there. task_moves t known policy c.args.self.now _ c.args.task c.in_ok-push.ensures.items refl there
+pub returns-clause-moves : goal.returns-clause-moves
+returns-clause-moves c = λ t known policy there. task_moves t known policy c.args.self.now _ c.args.task c.in_ok-push.ensures.items refl there
+
+pub returns-clause-on : goal.returns-clause-on
+returns-clause-on c =
+    let task = c.args.task in
+    let Put : Task → Type 0 = IsPut task.scope task.rests.items task.trail.items in
+    (task ∷ [], c.in_ok-push.ensures.items, All-cons Put task [] (record { scope = refl; there = record { rests = refl; trail = refl } }) (All-nil Put))
