@@ -1,6 +1,7 @@
 pub mod Apart
 pub mod Conditions
 pub mod Foreign
+pub mod Kept
 pub mod Known
 pub mod LineViews
 pub mod NeedViews
