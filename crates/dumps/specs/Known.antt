@@ -7,6 +7,8 @@ use Rattle.fields.specs.Sequence.{◌>>=◌}
 use Rattle.fields.specs.text.Cut.{cut_at}
 use Rattle.fields.specs.text.Number.{number_to}
 use Rattle.dumps.specs.Options.{Row, Extension, Table, extension_of, is_role}
+use Rattle.dumps.specs.Own.{HasNumbersInOneLine}
+use Rattle.dumps.specs.Services.{names_of, services, icmp_types}
 use Rattle.dumps.specs.Views.{texts_in, rows_in, extensions_in, names_in}
 use Rattle.dumps.specs.declared.options.row.Role.{Role}
 use Rattle.dumps.specs.declared.options.row.Role.TheVariants as role
@@ -95,10 +97,13 @@ kept_extension words kept =
 abbrev pub known_extensions : KnownOptions → List Extension
 known_extensions known = map (kept_extension known.words.items) known.extensions.items
 
--- the rows of a table are those that are known
+-- the rows of a table are those that are known, its names are those of services and types of ICMP, and no number has a newline
 pub record AreLent (known : KnownOptions) (table : Table) : Type 0 where
   pub options : table.options ≡ known_rows known
   pub extensions : table.extensions ≡ known_extensions known
+  pub ports : table.ports ≡ names_of services
+  pub icmp_types : table.icmp_types ≡ names_of icmp_types
+  pub numbers : HasNumbersInOneLine table
 
 -- an option of the rule itself, or of the match of a name, is spelled so
 abbrev pub is_spelled : List ℕ → List ℕ → Row → Bool

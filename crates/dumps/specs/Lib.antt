@@ -13,4 +13,5 @@ pub mod Parts
 pub mod Reading
 pub mod ReadingViews
 pub mod SectionLines
+pub mod Services
 pub mod Views
