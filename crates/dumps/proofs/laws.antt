@@ -10,3 +10,4 @@ pub mod OneLineLaws
 pub mod OwnLaws
 pub mod PieceLaws
 pub mod ReadingLaws
+pub mod ServiceLaws

@@ -1,18 +1,24 @@
 -- An option that is added to the table (iptables-extensions(8)).
-use Rattle.std.specs.Prelude.{◌≡◌, ◌≢◌, ℕ, ◌==◌, ◌||◌, true, List, [], ◌∷◌, ◌++◌, length, map, find, Option, Some, None, is_some, option_map, if◌then◌else◌}
+use Rattle.std.specs.Borrow.{Bor}
+use Rattle.std.specs.List.{list_any}
+use Rattle.std.specs.Prelude.{◌≡◌, ◌≢◌, ℕ, ◌==◌, Bool, ◌&&◌, ◌||◌, false, true, List, [], ◌∷◌, ◌++◌, length, map, take, drop, find, Option, Some, None, is_some, option_map, if◌then◌else◌}
 use Rattle.std.specs.Str.{bytes_eq}
 use Rattle.fields.specs.Sequence.{◌>>=◌}
 use Rattle.fields.specs.text.Cut.{cut_at}
 use Rattle.fields.specs.text.Number.{number_to}
-use Rattle.dumps.specs.Options.{Row, Extension, Table, is_role}
-use Rattle.dumps.specs.Views.{rows_in, extensions_in, names_in}
+use Rattle.dumps.specs.Options.{Row, Extension, Table, extension_of, is_role}
+use Rattle.dumps.specs.Own.{HasNumbersInOneLine}
+use Rattle.dumps.specs.Services.{names_of, services, icmp_types}
+use Rattle.dumps.specs.Views.{texts_in, rows_in, extensions_in, names_in}
 use Rattle.dumps.specs.declared.options.row.Role.{Role}
 use Rattle.dumps.specs.declared.options.row.Role.TheVariants as role
 use Rattle.dumps.specs.declared.options.row.Kind.{Kind}
 use Rattle.dumps.specs.declared.options.row.Kind.TheVariants as kind
-use Rattle.dumps.specs.declared.options.known.KeptOption.{KeptOption}
-use Rattle.dumps.specs.declared.options.known.KeptExtension.{KeptExtension}
-use Rattle.dumps.specs.declared.options.known.KnownOptions.{KnownOptions}
+use Rattle.dumps.specs.declared.options.row.Lasting.TheVariants as lasting
+use Rattle.dumps.specs.declared.options.kept.Span.{Span}
+use Rattle.dumps.specs.declared.options.kept.KeptOption.{KeptOption}
+use Rattle.dumps.specs.declared.options.kept.KeptExtension.{KeptExtension}
+use Rattle.dumps.specs.declared.options.kept.KnownOptions.{KnownOptions}
 use Rattle.dumps.specs.declared.options.known.Rows.{Rows}
 use Rattle.dumps.specs.declared.options.known.WrittenOption.{WrittenOption}
 use Rattle.dumps.specs.declared.options.refusal.OptionRefusal.{OptionRefusal}
@@ -29,6 +35,10 @@ pub record Written : Type 0 where
 -- the same, by the code's value
 abbrev pub written_in : WrittenOption → Written
 written_in row = record { name = row.name.now; option = row.option.now; values = row.values }
+
+-- the row of an option that is added
+abbrev pub added_row : Written → Row
+added_row row = record { owner = row.name; names = row.option ∷ []; values = row.values; role = role.Unopposed }
 
 -- these, unless a name is empty
 abbrev pub unless_empty : List ℕ → List ℕ → ℕ → Option Written
@@ -65,50 +75,64 @@ name_refusal (Some kind) = kind_refusal kind
 abbrev pub own_owner : Role → List ℕ → List ℕ
 own_owner r owner = if is_role role.Match r || is_role role.Protocol r then [] else owner
 
--- an option but for its spellings: whose it is, its role, and how many values follow
-abbrev pub shape_in : KeptOption → List ℕ × (Role × ℕ)
-shape_in kept = (own_owner kept.role kept.owner.now, (kept.role, kept.values))
+-- the words of a span
+abbrev pub words_at : List (Bor (List ℕ)) → Span → List (List ℕ)
+words_at words span = texts_in (drop span.from (take span.to words))
 
--- those of all
-abbrev pub shapes_in : KnownOptions → List (List ℕ × (Role × ℕ))
-shapes_in known = map shape_in known.options.items
+-- an option with its spellings, which are among these words
+abbrev pub kept_row : List (Bor (List ℕ)) → KeptOption → Row
+kept_row words kept =
+    record { owner = own_owner kept.role kept.owner.now; names = words_at words kept.names; values = kept.values; role = kept.role }
 
--- the same of a row of a table
-abbrev pub shape_of : Row → List ℕ × (Role × ℕ)
-shape_of row = (row.owner, (row.role, row.values))
+-- those that are known
+abbrev pub known_rows : KnownOptions → List Row
+known_rows known = map (kept_row known.words.items) known.options.items
 
--- a match or target by its name and kind
-abbrev pub kind_in : KeptExtension → List ℕ × Kind
-kind_in kept = (kept.name.now, kept.kind)
+-- a match or target, with the protocols that begin it and the matches that ask what it sets
+abbrev pub kept_extension : List (Bor (List ℕ)) → KeptExtension → Extension
+kept_extension words kept =
+    record { name = kept.name.now; kind = kept.kind; protocols = words_at words kept.protocols; sets = words_at words kept.sets }
 
--- the same of a row of a table
-abbrev pub named_kind : Extension → List ℕ × Kind
-named_kind row = (row.name, row.kind)
+-- those that are known
+abbrev pub known_extensions : KnownOptions → List Extension
+known_extensions known = map (kept_extension known.words.items) known.extensions.items
 
--- those of all
-abbrev pub kinds_in : KnownOptions → List (List ℕ × Kind)
-kinds_in known = map kind_in known.extensions.items
-
--- the rows of a table are those that are known, but for their spellings and lists of words
+-- the rows of a table are those that are known, its names are those of services and types of ICMP, and no number has a newline
 pub record AreLent (known : KnownOptions) (table : Table) : Type 0 where
-  pub options : map shape_of table.options ≡ shapes_in known
-  pub extensions : map named_kind table.extensions ≡ kinds_in known
+  pub options : table.options ≡ known_rows known
+  pub extensions : table.extensions ≡ known_extensions known
+  pub ports : table.ports ≡ names_of services
+  pub icmp_types : table.icmp_types ≡ names_of icmp_types
+  pub numbers : HasNumbersInOneLine table
 
--- An option is added: the text writes one, its name is that of a match which the program doesn't read, or of none yet, it is the last
--- option, one that asks and of which nobody says that `!` asks the opposite, and its match is there.
+-- an option of the rule itself, or of the match of a name, is spelled so
+abbrev pub is_spelled : List ℕ → List ℕ → Row → Bool
+is_spelled name option row = (length row.owner == 0 || bytes_eq row.owner name) && list_any (bytes_eq option) row.names
+
+-- a match that is added: each place has a condition of its own
+abbrev pub added_match : List ℕ → Extension
+added_match name = record { name = name; kind = kind.Foreign lasting.Place; protocols = []; sets = [] }
+
+-- these and, unless there is a match or target of its name, one that is added
+abbrev pub with_match : List ℕ → List Extension → List Extension
+with_match name rows = if is_some (extension_of rows name) then rows else rows ++ added_match name ∷ []
+
+-- An option is added: the text writes one, its name is that of a match which the program doesn't read, or of none yet, none is spelled so
+-- yet, it is the last option, one that asks and of which nobody says that `!` asks the opposite, and its match is there.
 pub record IsAdded (text : List ℕ) (old new : KnownOptions) : Type 0 where
   pub row : Written
   pub written : written_by text ≡ Some row
   pub allowed : name_refusal (kind_of old.extensions.items row.name) ≡ None
-  pub last : shapes_in new ≡ shapes_in old ++ (row.name, (role.Unopposed, row.values)) ∷ []
-  pub there : is_some (kind_of new.extensions.items row.name) ≡ true
+  pub spelled : list_any (is_spelled row.name row.option) (known_rows old) ≡ false
+  pub last : known_rows new ≡ known_rows old ++ added_row row ∷ []
+  pub there : known_extensions new ≡ with_match row.name (known_extensions old)
 
 -- A match is added without an option: its name is that of a match which the program doesn't read, or of none yet.
 pub record IsMatchAdded (name : List ℕ) (old new : KnownOptions) : Type 0 where
   pub named : name ≢ []
   pub allowed : name_refusal (kind_of old.extensions.items name) ≡ None
-  pub same : shapes_in new ≡ shapes_in old
-  pub there : is_some (kind_of new.extensions.items name) ≡ true
+  pub same : known_rows new ≡ known_rows old
+  pub there : known_extensions new ≡ with_match name (known_extensions old)
 
 -- Why no match is added, and for which word: there is no name; or it is that of a target, or of a match which the program reads.
 pub data IsMatchRefused (name : List ℕ) (old : KnownOptions) (why : OptionRefusal × List ℕ) : Type 0 where
@@ -121,7 +145,8 @@ pub data IsAddRefused (text : List ℕ) (old : KnownOptions) (why : OptionRefusa
   NotWritten : written_by text ≡ None → why ≡ (refusal.NotAnOption, text) → IsAddRefused text old why
   Name : (row : Written) (r : OptionRefusal) → written_by text ≡ Some row → name_refusal (kind_of old.extensions.items row.name) ≡ Some r → why ≡ (r, row.name)
       → IsAddRefused text old why
-  There : (row : Written) → written_by text ≡ Some row → why ≡ (refusal.OptionIsThere, row.option) → IsAddRefused text old why
+  There : (row : Written) → written_by text ≡ Some row → list_any (is_spelled row.name row.option) (known_rows old) ≡ true → why ≡ (refusal.OptionIsThere, row.option)
+      → IsAddRefused text old why
 
 -- the table of some rows
 abbrev pub table_of : Rows → Table

@@ -1,6 +1,7 @@
 pub mod Apart
 pub mod Conditions
 pub mod Foreign
+pub mod Kept
 pub mod Known
 pub mod LineViews
 pub mod NeedViews
@@ -12,4 +13,5 @@ pub mod Parts
 pub mod Reading
 pub mod ReadingViews
 pub mod SectionLines
+pub mod Services
 pub mod Views

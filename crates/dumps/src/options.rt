@@ -1,4 +1,5 @@
 //! The options of iptables, as a table.
+pub(crate) mod kept;
 pub(crate) mod known;
 pub(crate) mod refusal;
 pub(crate) mod row;

@@ -1,5 +1,12 @@
 //! Names that stand for numbers: those of services for ports, and those of types of ICMP that the program doesn't read.
+ghost use Rattle.std.specs.Prelude.{◌≡◌, ◌++◌, [], IfOk};
+ghost use Rattle.std.specs.List.{cons_option};
+ghost use Rattle.fields.specs.text.Cut.{cut_at};
+ghost use Rattle.dumps.specs.Services.{HaveOneLine, names_of, services, icmp_types};
+ghost use Rattle.dumps.specs.Views.{names_in};
+
 use crate::options::table::NameRow;
+use fields::cut_at;
 use std::alloc::{AllocError, Global};
 
 // Services, each with its port, which is one for TCP and UDP.
@@ -185,24 +192,23 @@ address-mask-request 17
 address-mask-reply 18
 ";
 
-// The name and the number of a line.
-fn name_row(line: &str) -> Option<NameRow<'_>> {
-    let mut words = line.split_whitespace();
-    let name = words.next()?;
-    let number = words.next()?;
-    Some(NameRow {
-        name: name.as_bytes(),
-        number: number.as_bytes(),
-    })
+// Adds the row of a line, if a blank stands between a name and a number.
+fn add_row<'a>(rows: &mut Vec<NameRow<'a>>, line: &'a str) -> Result<(), AllocError>
+    ensures { IfOk result (λ _. names_in rows.new.items ≡ names_in rows.old.items ++ cons_option (cut_at 32 line.now) []) }
+{
+    if let Some((name, number)) = cut_at(line.as_bytes(), b' ') {
+        rows.push(NameRow { name, number })?;
+    }
+    Ok(())
 }
 
 // The rows of a text, one a line.
-fn name_rows(alloc: Global, text: &str) -> Result<Vec<NameRow<'_>>, AllocError> {
+fn name_rows(alloc: Global, text: &str) -> Result<Vec<NameRow<'_>>, AllocError>
+    ensures { IfOk result (λ rows. names_in rows.items ≡ names_of text.now) }
+{
     let mut rows = Vec::new(alloc);
     for line in text.lines() {
-        if let Some(row) = name_row(line) {
-            rows.push(row)?;
-        }
+        add_row(&mut rows, line)?;
     }
     Ok(rows)
 }
@@ -212,7 +218,10 @@ fn name_rows(alloc: Global, text: &str) -> Result<Vec<NameRow<'_>>, AllocError> 
 /// # Errors
 ///
 /// `AllocError` where memory was refused.
-pub fn port_names(alloc: Global) -> Result<Vec<NameRow<'static>>, AllocError> {
+pub fn port_names(alloc: Global) -> Result<Vec<NameRow<'static>>, AllocError>
+    ensures rows { IfOk result (λ rows. names_in rows.items ≡ names_of services) }
+    ensures lines { IfOk result (λ rows. HaveOneLine (names_in rows.items)) }
+{
     name_rows(alloc, PORTS)
 }
 
@@ -221,6 +230,9 @@ pub fn port_names(alloc: Global) -> Result<Vec<NameRow<'static>>, AllocError> {
 /// # Errors
 ///
 /// `AllocError` where memory was refused.
-pub fn icmp_type_names(alloc: Global) -> Result<Vec<NameRow<'static>>, AllocError> {
+pub fn icmp_type_names(alloc: Global) -> Result<Vec<NameRow<'static>>, AllocError>
+    ensures rows { IfOk result (λ rows. names_in rows.items ≡ names_of icmp_types) }
+    ensures lines { IfOk result (λ rows. HaveOneLine (names_in rows.items)) }
+{
     name_rows(alloc, ICMP_TYPES)
 }

@@ -1,7 +1,8 @@
 //! The rows of the table as they are kept: read from text, and lent as a table.
-ghost use Rattle.std.specs.Prelude.{◌≡◌, option_map};
+ghost use Rattle.std.specs.Prelude.{◌≡◌, ◌≤◌, length, take, drop, option_map};
 ghost use Rattle.dumps.specs.Known.{Written, own_owner, written_by, kind_of, kind_refusal, name_refusal, written_in};
 
+use crate::options::kept::{KeptExtension, KeptOption, KnownOptions, NO_WORDS, Span};
 use crate::options::refusal::{OptionFault, OptionRefusal, add_refused};
 use crate::options::row::{ExtensionRow, Kind, Lasting, OptionRow, Role};
 use crate::options::rows::{EXTENSIONS, OPTIONS};
@@ -10,42 +11,6 @@ use crate::services::{icmp_type_names, port_names};
 use fields::{cut_at, read_number_to};
 use std::alloc::{AllocError, Global};
 use std::str::SplitWhitespace;
-
-// Some of the words of all rows: the places of the first and of the one after the last.
-#[derive(Clone, Copy)]
-struct Span {
-    from: usize,
-    to: usize,
-}
-
-const NO_WORDS: Span = Span { from: 0, to: 0 };
-
-// An option, with its spellings.
-#[derive(Clone, Copy)]
-struct KeptOption<'a> {
-    owner: &'a [u8],
-    names: Span,
-    values: usize,
-    role: Role,
-}
-
-// A match or a target.
-#[derive(Clone, Copy)]
-struct KeptExtension<'a> {
-    name: &'a [u8],
-    kind: Kind,
-    protocols: Span,
-    sets: Span,
-}
-
-/// Options, matches and targets: those of iptables, and others that were added.
-#[derive(Drop)]
-pub struct KnownOptions<'a> {
-    alloc: Global,
-    words: Vec<&'a [u8]>,
-    options: Vec<KeptOption<'a>>,
-    extensions: Vec<KeptExtension<'a>>,
-}
 
 /// The rows of a table, lent.
 #[derive(Drop)]
@@ -109,7 +74,10 @@ fn owner_of(word: &str) -> &[u8] {
 }
 
 // The words of a span.
-fn spanned<'a>(words: &'a [&'a [u8]], span: Span) -> &'a [&'a [u8]] {
+fn spanned<'a>(words: &'a [&'a [u8]], span: Span) -> &'a [&'a [u8]]
+    requires { span.to ≤ length words.now }
+    ensures { result.now ≡ drop span.from (take span.to words.now) }
+{
     match words.get(span.from..span.to) {
         Some(some) => return some,
         None => return &[],
@@ -186,11 +154,11 @@ fn name_refusal(kind: Option<Kind>) -> Option<OptionRefusal>
 }
 
 impl<'a> KnownOptions<'a> {
-    ghost use Rattle.std.specs.Prelude.{◌≡◌, ◌++◌, ◌∷◌, [], true, is_some, map, IfOk, IfErr, IfSome, OnOk};
+    ghost use Rattle.std.specs.Prelude.{◌≡◌, ◌≤◌, ◌++◌, ◌∷◌, [], length, IfOk, IfErr, IfSome, OnOk};
+    ghost use Rattle.std.specs.List.{list_any};
     ghost use Rattle.dumps.specs.Conditions.{AreOwnStarts, HasOwnStarts};
-    ghost use Rattle.dumps.specs.Known.{IsAdded, IsAddRefused, IsMatchAdded, IsMatchRefused, AreLent, add_refused_in, kind_of, shape_of, shapes_in, named_kind, kinds_in, table_of};
+    ghost use Rattle.dumps.specs.Known.{IsAdded, IsAddRefused, IsMatchAdded, IsMatchRefused, AreLent, add_refused_in, added_row, is_spelled, known_rows, known_extensions, with_match, table_of};
     ghost use Rattle.dumps.specs.Views.{rows_in, extensions_in};
-    ghost use Rattle.dumps.specs.declared.options.row.Role.TheVariants.{Unopposed};
 
     /// The options of iptables 1.8.9 that rules of the table `filter` may have.
     ///
@@ -218,7 +186,9 @@ impl<'a> KnownOptions<'a> {
     }
 
     // Keeps further words.
-    fn keep(&mut self, words: SplitWhitespace<'a>) -> Result<Span, AllocError> {
+    fn keep(&mut self, words: SplitWhitespace<'a>) -> Result<Span, AllocError>
+        ensures { IfOk result (λ span. span.to ≤ length self.new.words.items) }
+    {
         let from = self.words.len();
         for word in words {
             self.words.push(word.as_bytes())?;
@@ -275,9 +245,12 @@ impl<'a> KnownOptions<'a> {
     }
 
     // Whether the rule, or the match of a name, has an option that is spelled so.
-    fn has_option(&self, name: &[u8], option: &[u8]) -> bool {
+    fn has_option(&self, name: &[u8], option: &[u8]) -> bool
+        ensures { result ≡ list_any (is_spelled name.now option.now) (known_rows self.now) }
+    {
         for kept in &self.options {
-            let is_asked = kept.owner.is_empty() || kept.owner == name;
+            let owner = owner_in(kept.role, kept.owner);
+            let is_asked = owner.is_empty() || owner == name;
             if is_asked && is_among(option, spanned(self.words.as_slice(), kept.names)) {
                 return true;
             }
@@ -330,8 +303,8 @@ impl<'a> KnownOptions<'a> {
 
     // Adds a match, where there is no match or target of this name yet.
     fn begin(&mut self, name: &'a [u8]) -> Result<(), AllocError>
-        ensures there { OnOk result (is_some (kind_of self.new.extensions.items name.now) ≡ true) }
-        ensures same { self.new.options ≡ self.old.options }
+        ensures there { OnOk result (known_extensions self.new ≡ with_match name.now (known_extensions self.old)) }
+        ensures same { known_rows self.new ≡ known_rows self.old }
     {
         if kind_named(self.extensions.as_slice(), name).is_none() {
             self.extensions.push(KeptExtension {
@@ -346,8 +319,8 @@ impl<'a> KnownOptions<'a> {
 
     // Adds an option that asks a condition, and after `!` another one, and its match where there is none yet.
     fn add_asking(&mut self, row: WrittenOption<'a>) -> Result<(), AllocError>
-        ensures last { OnOk result (shapes_in self.new ≡ shapes_in self.old ++ (row.entry.name.now, (Unopposed, row.entry.values)) ∷ []) }
-        ensures there { OnOk result (is_some (kind_of self.new.extensions.items row.entry.name.now) ≡ true) }
+        ensures last { OnOk result (known_rows self.new ≡ known_rows self.old ++ added_row (written_in row.entry) ∷ []) }
+        ensures there { OnOk result (known_extensions self.new ≡ with_match row.entry.name.now (known_extensions self.old)) }
     {
         let from = self.words.len();
         self.words.push(row.option)?;
@@ -364,7 +337,7 @@ impl<'a> KnownOptions<'a> {
     // The options, lent.
     fn option_rows(&self, alloc: Global) -> Result<Vec<OptionRow<'_>>, AllocError>
         ensures starts { IfOk result (λ rows. AreOwnStarts (rows_in rows.items)) }
-        ensures lent { IfOk result (λ rows. map shape_of (rows_in rows.items) ≡ shapes_in self.now) }
+        ensures lent { IfOk result (λ rows. rows_in rows.items ≡ known_rows self.now) }
     {
         let mut rows = Vec::with_capacity(alloc, self.options.len())?;
         for kept in &self.options {
@@ -380,7 +353,7 @@ impl<'a> KnownOptions<'a> {
 
     // The matches and targets, lent.
     fn extension_rows(&self, alloc: Global) -> Result<Vec<ExtensionRow<'_>>, AllocError>
-        ensures { IfOk result (λ rows. map named_kind (extensions_in rows.items) ≡ kinds_in self.now) }
+        ensures { IfOk result (λ rows. extensions_in rows.items ≡ known_extensions self.now) }
     {
         let mut rows = Vec::with_capacity(alloc, self.extensions.len())?;
         for kept in &self.extensions {

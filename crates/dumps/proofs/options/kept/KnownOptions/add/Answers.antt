@@ -1,7 +1,7 @@
 use Rattle.std.proofs.Common.{◌≡◌, Some, ap, sym, ◌∙◌, rules}
 use Rattle.dumps.specs.Known.{written_by, written_in, kind_of, name_refusal, add_refused_in}
 use Rattle.dumps.proofs.laws.KnownLaws.{name_refused, there_refused}
-use Rattle.dumps.proofs.options.known.KnownOptions.add.Goals as goal
+use Rattle.dumps.proofs.options.kept.KnownOptions.add.Goals as goal
 
 pub returns-in-Some-name_refusal-clause-refused : goal.returns-in-Some-name_refusal-clause-refused
 returns-in-Some-name_refusal-clause-refused c =
@@ -15,4 +15,5 @@ pub returns-then-has_option-clause-refused : goal.returns-then-has_option-clause
 returns-then-has_option-clause-refused c =
     let row = written_in c.in-Some.row in
     let written : written_by c.args.text.now ≡ Some row = search rules in
-    there_refused c.args.text.now c.args.self.now row (add_refused_in c.add_refused-then-has_option.result) written c.add_refused-then-has_option.ensures
+    there_refused c.args.text.now c.args.self.now row (add_refused_in c.add_refused-then-has_option.result) written
+    (sym c.has_option.ensures ∙ c.if-has_option.true) c.add_refused-then-has_option.ensures

@@ -1,7 +1,7 @@
 use Rattle.std.proofs.Common.{◌≡◌, ap, sym, ◌∙◌, rules}
 use Rattle.dumps.specs.Known.{kind_of, name_refusal, add_refused_in}
 use Rattle.dumps.proofs.laws.KnownLaws.{match_refused}
-use Rattle.dumps.proofs.options.known.KnownOptions.add_match.Goals as goal
+use Rattle.dumps.proofs.options.kept.KnownOptions.add_match.Goals as goal
 
 pub returns-in-Some-clause-refused : goal.returns-in-Some-clause-refused
 returns-in-Some-clause-refused c =
