@@ -32,6 +32,7 @@ pub mod PacketLaws
 pub mod PartLaws
 pub mod PlainCompareLaws
 pub mod PlainLaws
+pub mod PossibleLaws
 pub mod ReachLaws
 pub mod RemainLaws
 pub mod ResolvedLaws

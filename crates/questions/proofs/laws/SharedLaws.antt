@@ -1,11 +1,11 @@
 -- Chains of one name beside each other, and the rules that both have.
 use Rattle.std.proofs.Common.{◌≡◌, ◌≢◌, inl, inr, ℕ, zero, suc, ◌+◌, ◌-◌, ◌<◌, ◌≤◌, Bool, true, false, List, [], ◌∷◌, ◌++◌, cond, length, get_or, refl, sym, ◌∙◌, ap, ap₂, arith, subst, Option, Some, None, Contains}
 use Rattle.std.specs.List.{AllByRecursion}
-use Rattle.std.specs.Prelude.{All, IsFalse, IsTrue, slice_get}
+use Rattle.std.specs.Prelude.{All, Any, IsFalse, IsTrue, slice_get}
 use Rattle.std.specs.Str.{bytes_eq}
 use Rattle.std.proofs.lemmas.Bool.{cases_Bool, cases_lt, cond-false, cond-true}
 use Rattle.std.proofs.lemmas.List.{get_or_default}
-use Rattle.std.proofs.lemmas.List.Elements.{All-contains, Contains-get_or, recursion_from_All}
+use Rattle.std.proofs.lemmas.List.Elements.{All-contains, Contains-append_left, Contains-get_or, Contains-push, recursion_from_All}
 use Rattle.std.proofs.lemmas.Option.{get_or_from_slice_get}
 use Rattle.std.proofs.lemmas.Slice.Eq.{bytes_eq-Decides}
 use Rattle.fields.specs.packet.Packet.{PacketView as Packet}
@@ -84,6 +84,16 @@ none_next s other chains passed n before went came own k first last is =
       | inl lt ↦ before own k first (omega arith) is
       | inr le ↦ (let e : k ≡ n = omega arith in neither s other chains passed n own went came (subst P e is))
     ]
+
+-- one of the pairs is of the chain at a place
+abbrev pub IsAmong : List Pair → ℕ → Type 0
+IsAmong pairs place = Any (λ (pair : Pair). pair.place ≡ place) pairs
+
+pub among_more : (pairs : List Pair) (pair : Pair) (place : ℕ) → IsAmong pairs place → IsAmong (pairs ++ pair ∷ []) place
+among_more pairs pair place (k, x, lt, is, same) = let on = Contains-append_left pairs (pair ∷ []) x (k, lt, is) in (on.0, x, on.1, on.2, same)
+
+pub among_new : (pairs : List Pair) (pair : Pair) (place : ℕ) → pair.place ≡ place → IsAmong (pairs ++ pair ∷ []) place
+among_new pairs pair place same = let on = Contains-push pairs pair in (on.0, pair, on.1, on.2, same)
 
 pub adds_place : (what : Next) (old new : Pair) → Adds what old new → new.place ≡ old.place
 adds_place next.Shared old new adds = adds.0

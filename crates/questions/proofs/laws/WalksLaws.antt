@@ -1,6 +1,7 @@
 -- The walks of one packet, for all assignments.
-use Rattle.std.proofs.Common.{◌≡◌, inl, inr, ℕ, Bool, ◌&&◌, true, List, get_or, refl, ◌∙◌, ap, arith, subst, sym, Option, Some, None, All, Any, Vec, Global}
+use Rattle.std.proofs.Common.{◌≡◌, inl, inr, ℕ, Bool, ◌&&◌, true, false, List, get_or, refl, ◌∙◌, ap, arith, subst, sym, Option, Some, None, All, Any, Vec, Global}
 use Rattle.std.specs.Prelude.{IfSome, MatchOption, filter, nat_le}
+use Rattle.std.proofs.lemmas.Bool.{true≢false}
 use Rattle.std.proofs.lemmas.Bool.Decides.{leb_tells}
 use Rattle.std.proofs.lemmas.List.Elements.{All-filter, filter_passes}
 use Rattle.classify.specs.classifier.Classifier.{box_matches}
@@ -10,7 +11,7 @@ use Rattle.questions.specs.Foreign.{Agrees, Assignment}
 use Rattle.questions.specs.Scopes.{AreExactUnder, AreLeavesUnder, IsOf, IsSurely, answered, known_by, scope_of, walked_by}
 use Rattle.questions.specs.asked.Unclear.{IsUnended}
 use Rattle.questions.specs.asked.Walks.{AreWalks, AreWalksUnder, ShowsWalk}
-use Rattle.questions.specs.boxes.Area.{IsAtHook, IsIn}
+use Rattle.questions.specs.boxes.Area.{IsAtHook, IsOnly}
 use Rattle.questions.specs.declared.foreign.answers.Answer.{Answer}
 use Rattle.questions.specs.declared.foreign.subject.Subject.{Subject}
 use Rattle.questions.specs.declared.walking.scope.Scope.{Scope}
@@ -19,15 +20,15 @@ use Rattle.questions.specs.steps.Taken.{IsFinishedUnder, IsUnfinishedUnder}
 use Rattle.questions.proofs.laws.AnswerLaws.{some_assignment_gives}
 use Rattle.questions.proofs.laws.HeldLaws.{keeps}
 
--- the walks of a box that has the packet are the packet's
-pub walks_known : (s : Subject) (start : Scope) (budget : ℕ) (found : Option (Vec Leaf Global)) (p : Packet) (answers : List Answer) (a : Assignment) → IsIn start.area p → start.answers ≡ answers → IsAtHook p
+-- the walks of a box that has just the packet are the packet's
+pub walks_known : (s : Subject) (start : Scope) (budget : ℕ) (found : Option (Vec Leaf Global)) (p : Packet) (answers : List Answer) (a : Assignment) → IsOnly start.area p → start.answers ≡ answers → IsAtHook p
     → IfSome found (λ leaves. (b : Assignment) → AreLeavesUnder (answered s b) (known_by s b) p.hook start leaves.items) → IfSome found (λ leaves. (b : Assignment) → AreExactUnder (answered s b) (known_by s b) p.hook start leaves.items)
     → IfSome found (λ leaves. (b : Assignment) → All (IsSurely (known_by s b)) leaves.items)
     → MatchOption found (IsUnfinishedUnder (answered s a) (known_by s a) p.hook start budget) (λ leaves. IsFinishedUnder (answered s a) (known_by s a) p.hook start budget leaves.items)
     → MatchOption found (IsUnended (answered s a) (known_by s a) p.hook budget answers p) (λ leaves. AreWalksUnder (answered s a) (known_by s a) p answers leaves.items)
-walks_known s start budget None p answers a inside same can leaves exact decided long = (start, inside, same, long)
-walks_known s start budget (Some found) p answers a inside same can leaves exact decided ended = record {
-  complete = λ agrees. leaves a p can refl (record { inside = inside; agrees = rw same agrees });
+walks_known s start budget None p answers a only same can leaves exact decided long = (start, only, same, long)
+walks_known s start budget (Some found) p answers a only same can leaves exact decided ended = record {
+  complete = λ agrees. leaves a p can refl (record { inside = only.inside; agrees = rw same agrees });
   exact = λ k d lt own. let (of, walked) = exact a p can refl k d lt own in (subst (Agrees a) same of.agrees, walked);
   decided = decided a;
 }
@@ -59,3 +60,18 @@ within_itself n x same =
         | inl (high, ge) ↦ ap (λ (b : Bool). b && nat_le x n) low ∙ high
       ]
     ]
+
+-- and no other number is
+pub itself_within : (n x : ℕ) → (nat_le n x && nat_le x n) ≡ true → x ≡ n
+itself_within n x is =
+    elim (leb_tells n x) [
+      | inr (un, more) ↦ absurd (true≢false (sym is ∙ ap (λ (b : Bool). b && nat_le x n) un))
+      | inl (low, le) ↦ elim (leb_tells x n) [
+        | inr (un, more) ↦ absurd (true≢false (sym is ∙ ap (λ (b : Bool). nat_le n x && b) un ∙ and_none (nat_le n x)))
+        | inl (high, ge) ↦ omega (arith, le, ge)
+      ]
+    ]
+  where
+    and_none : (b : Bool) → (b && false) ≡ false
+    and_none true = refl
+    and_none false = refl

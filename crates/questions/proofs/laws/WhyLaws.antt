@@ -73,7 +73,7 @@ module _ (s : Subject) (none : s.needs.now ≡ []) (step : Step) where
   reason_plain : (reason : Reason) → IsReasonUnder s step reason → IsReason (table_of s) step reason
   reason_plain (reason.Impossible field) is = is
   reason_plain reason.Unreached is = is
-  reason_plain reason.NoPacket is = (is.0, λ w. is.1 (any, w.0, meant_under w.0 w.1))
+  reason_plain reason.NoPacket is = (is.0, is.1, λ w. is.2 (any, w.0, meant_under w.0 w.1))
   reason_plain (reason.Excluded ways) is = (packet_plain is.0, is.1)
   reason_plain (reason.Taken takers) is = (packet_plain is.0, is.1, taken_plain takers is.2)
 

@@ -38,6 +38,10 @@ HasPacket t step = (p : Packet) × IsMeantFor t step p
 abbrev pub IsImpossible : Rule → Field → Type 0
 IsImpossible rule field = (p : Packet) → IsAtHook p → IsFalse (allows rule field (point p field))
 
+-- on each field it allows a number that a packet can have
+abbrev pub IsPossible : Rule → Type 0
+IsPossible rule = (field : Field) → IsImpossible rule field → ⊥
+
 -- no jumps and gotos lead from a built-in chain to the rule's chain
 abbrev pub IsUnreached : Table → Step → Type 0
 IsUnreached t step = (hook : Hook) → IsLed t step hook → ⊥
@@ -84,12 +88,12 @@ pub record IsExcluded (t : Table) (step : Step) (ways : List Step) : Type 0 wher
   pub each : All (Enters t within) ways
   pub none : (p : Packet) → IsAtHook p → (by : Step) → Enters t within by → IsTrue (matches p.values (rule_at t by)) → IsFalse (matches p.values (rule_at t step))
 
--- what a reason says of the rule, and that no reason before it holds: packets that are meant for it refute the first three; and the way to its chain is
--- open where rules lead there whose numbers don't exclude, field by field, those that it allows
+-- what a reason says of the rule, and that none before it holds: a packet that is meant for it refutes the first three; and the way to its chain is
+-- open where rules lead there that allow, field by field, numbers that it allows
 abbrev pub IsReason : Table → Step → Reason → Type 0
 IsReason t step (Impossible field) = IsImpossible (rule_at t step) field
-IsReason t step Unreached = IsUnreached t step
-IsReason t step NoPacket = IsReached t step × (HasPacket t step → ⊥)
+IsReason t step Unreached = IsPossible (rule_at t step) × IsUnreached t step
+IsReason t step NoPacket = IsPossible (rule_at t step) × IsReached t step × (HasPacket t step → ⊥)
 IsReason t step (Excluded ways) = HasPacket t step × IsExcluded t step ways.items
 IsReason t step (Taken takers) = HasPacket t step × IsOpen t step × IsTaken t step takers
 

@@ -11,7 +11,7 @@ use Rattle.questions.specs.Leaves.{entry_of}
 use Rattle.questions.specs.Scopes.{Known, needless, unasked}
 use Rattle.questions.specs.Written.{HasNoneWritten, IsSampleOf}
 use Rattle.questions.specs.asked.Rule.{IsDeadAt}
-use Rattle.questions.specs.boxes.Area.{IsIn}
+use Rattle.questions.specs.boxes.Area.{IsOnly}
 use Rattle.questions.specs.boxes.Boxes.{rules_in}
 use Rattle.questions.specs.declared.foreign.answers.Answer.{Answer}
 use Rattle.questions.specs.declared.asked.reach.Given.{Given}
@@ -23,9 +23,9 @@ use Rattle.questions.specs.steps.Searched.{HasCome, SearchesTo}
 use Rattle.questions.specs.steps.Taken.{IsFull, IsUnfinishedUnder}
 use Rattle.questions.specs.steps.Takers.{IsBoxAt}
 
--- the walks of a box that has the packet aren't finished within the budget, under some answers
+-- the walk of a box that has just this packet isn't finished within the budget, under some answers
 abbrev pub IsUnended : Table → Known → Hook → ℕ → List Answer → Packet → Type 0
-IsUnended t known hook budget answers p = (own : Scope) × IsIn own.area p × (own.answers ≡ answers) × IsUnfinishedUnder t known hook own budget
+IsUnended t known hook budget answers p = (own : Scope) × IsOnly own.area p × (own.answers ≡ answers) × IsUnfinishedUnder t known hook own budget
 
 -- a packet's walk is too long, or isn't known to end where some rule needs something
 abbrev pub MayBeTooLong : Table → Known → Hook → ℕ → List Answer → Packet → Type 0

@@ -9,7 +9,7 @@ use Rattle.questions.specs.Foreign.{Assignment, all_hold, needs_at}
 use Rattle.questions.specs.Leaves.{entry_of}
 use Rattle.questions.specs.Scopes.{answered, table_of}
 use Rattle.questions.specs.asked.Always.{IsAlwaysDead}
-use Rattle.questions.specs.asked.Reason.{IsDecidedAmong, IsDecidedBy, IsExcluded, IsImpossible, IsMeantFor, IsReached, IsUnreached}
+use Rattle.questions.specs.asked.Reason.{IsDecidedAmong, IsDecidedBy, IsExcluded, IsImpossible, IsMeantFor, IsPossible, IsReached, IsUnreached}
 use Rattle.questions.specs.declared.asked.reason.Reason.{Reason}
 use Rattle.questions.specs.declared.asked.reason.Reason.TheVariants.{Impossible, Unreached, NoPacket, Excluded, Taken}
 use Rattle.questions.specs.declared.asked.takers.Takers.{Takers}
@@ -48,8 +48,9 @@ pub record IsTakenUnder (subject : Subject) (step : Step) (takers : Takers) : Ty
 -- what a reason says of the rule, and that no reason before it holds, as `IsReason` does
 abbrev pub IsReasonUnder : Subject → Step → Reason → Type 0
 IsReasonUnder subject step (Impossible field) = IsImpossible (rule_at (table_of subject) step) field
-IsReasonUnder subject step Unreached = IsUnreached (table_of subject) step
-IsReasonUnder subject step NoPacket = IsReached (table_of subject) step × (HasPacketUnder subject step → ⊥)
+IsReasonUnder subject step Unreached = IsPossible (rule_at (table_of subject) step) × IsUnreached (table_of subject) step
+IsReasonUnder subject step NoPacket =
+    IsPossible (rule_at (table_of subject) step) × IsReached (table_of subject) step × (HasPacketUnder subject step → ⊥)
 IsReasonUnder subject step (Excluded ways) = HasPacketUnder subject step × IsExcluded (table_of subject) step ways.items
 IsReasonUnder subject step (Taken takers) = HasPacketUnder subject step × IsOpen (table_of subject) step × IsTakenUnder subject step takers
 

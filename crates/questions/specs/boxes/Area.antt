@@ -29,6 +29,11 @@ pub record Has (box : List SpanSet) (numbers : List ℕ) : Type 0 where
 abbrev pub IsIn : List SpanSet → Packet → Type 0
 IsIn box p = Has box p.values
 
+-- the packet is in the box, and no other numbers are
+pub record IsOnly (box : List SpanSet) (p : Packet) : Type 0 where
+  pub inside : IsIn box p
+  pub only : (numbers : List ℕ) → IsPoint numbers → Has box numbers → (f : Field) → number_on numbers f ≡ point p f
+
 -- a box has exactly the numbers that two others have in common
 pub record IsBoth (own other both : List SpanSet) : Type 0 where
   pub all : (numbers : List ℕ) → IsPoint numbers → Has own numbers → Has other numbers → Has both numbers

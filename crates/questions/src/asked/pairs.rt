@@ -1,7 +1,8 @@
 //! Chains of one name in two tables, beside each other: which of their rules both have.
-ghost use Rattle.std.specs.Prelude.{◌≡◌, ◌<◌, ◌↔◌, All, IfOk, IsTrue, OnOk, length};
-ghost use Rattle.table.specs.chains.Table.{chain_at};
+ghost use Rattle.std.specs.Prelude.{◌≡◌, ◌<◌, ◌↔◌, ℕ, true, All, Any, IfOk, IsTrue, OnOk, length};
+ghost use Rattle.table.specs.chains.Table.{chain_at, has_chain};
 ghost use Rattle.questions.specs.Foreign.{Assignment};
+ghost use Rattle.questions.specs.Leaves.{name_at};
 ghost use Rattle.questions.specs.Scopes.{answered, table_of};
 ghost use Rattle.questions.specs.steps.Shared.{AreSameAt, AreThere, HaveNext, IsAhead, IsBeside, IsNext, IsPaired, HasPlace, marks_on, pair_named};
 
@@ -179,7 +180,9 @@ pub(crate) fn pairs_of(
     old: &Subject<'_>,
     new: &Subject<'_>,
 ) -> Result<Vec<Pair>, AllocError>
-    ensures { IfOk result (λ pairs. All (λ pair. (a : Assignment) → IsPaired (answered old.now a) (answered new.now a) pair) pairs.items) }
+    ensures paired { IfOk result (λ pairs. All (λ pair. (a : Assignment) → IsPaired (answered old.now a) (answered new.now a) pair) pairs.items) }
+    ensures all { IfOk result (λ pairs. (place : ℕ) → place < length (table_of old.now).chains
+        → has_chain (table_of new.now) (name_at (table_of old.now).chains place) ≡ true → Any (λ pair. pair.place ≡ place) pairs.items) }
 {
     let (first, second) = (&old.boxed.table, &new.boxed.table);
     first.stands();

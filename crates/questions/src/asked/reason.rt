@@ -1,14 +1,14 @@
 //! Why a rule is dead.
-ghost use Rattle.std.specs.Prelude.{◌≡◌, ◌≢◌, ◌<◌, ◌≤◌, [], false, length, IfOk, IsTrue, MatchOption};
-ghost use Rattle.fields.specs.declared.numbers.field.Field.{Field as FieldView};
+ghost use Rattle.std.specs.Prelude.{◌≡◌, ◌<◌, ◌≤◌, [], false, length, IfOk, IsTrue, MatchOption};
 ghost use Rattle.rules.specs.boxing.Boxed.{set_on};
 ghost use Rattle.table.specs.chains.Table.{chain_at};
 ghost use Rattle.table.specs.declared.walk.trail.Step.{Step as Place};
-ghost use Rattle.questions.specs.Ends.{IsRule};
+ghost use Rattle.questions.specs.Ends.{IsRule, rule_at};
 ghost use Rattle.questions.specs.Scopes.{table_of};
-ghost use Rattle.questions.specs.asked.Reason.{Explains, IsReached};
+ghost use Rattle.questions.specs.asked.Reason.{Explains, IsPossible, IsReached};
 ghost use Rattle.questions.specs.asked.Unknown.{IsUndecided, IsUndecidedUnder};
 ghost use Rattle.questions.specs.asked.Why.{ExplainsUnder, HasPacketUnder, IsReasonUnder, IsTakenUnder};
+ghost use Rattle.questions.specs.boxes.Area.{HasNumbers};
 ghost use Rattle.questions.specs.declared.foreign.subject.Subject.{Subject as SubjectView};
 
 use crate::asked::leading::{leading_to, none_led};
@@ -42,8 +42,7 @@ pub enum Reason {
 
 // A field on which a rule allows no number.
 fn bare_field(boxed: &Boxed) -> Option<Field>
-    ensures { MatchOption result
-        ((field : FieldView) → set_on field boxed.now ≢ []) (λ field. set_on field boxed.now ≡ []) }
+    ensures { MatchOption result (HasNumbers boxed.now) (λ field. set_on field boxed.now ≡ []) }
 {
     for field in Field::ALL {
         if boxed.on(field).intervals().is_empty() {
@@ -72,7 +71,8 @@ fn reason_by(
     takers: Takers,
 ) -> Result<Reason, AllocError>
     requires { IsRule (table_of subject.now) step }
-    ensures { IfOk result (λ reason. IsReached (table_of subject.now) step → IsTakenUnder subject.now step takers → IsReasonUnder subject.now step reason) }
+    ensures { IfOk result (λ reason. IsPossible (rule_at (table_of subject.now) step) → IsReached (table_of subject.now) step
+        → IsTakenUnder subject.now step takers → IsReasonUnder subject.now step reason) }
 {
     if decide_nothing(&takers) {
         return Ok(Reason::NoPacket);

@@ -5,7 +5,7 @@ ghost use Rattle.questions.specs.Foreign.{Assignment};
 ghost use Rattle.questions.specs.Scopes.{answered, known_by};
 ghost use Rattle.questions.specs.asked.Unclear.{IsUnended};
 ghost use Rattle.questions.specs.asked.Walks.{AreWalks, AreWalksUnder};
-ghost use Rattle.questions.specs.boxes.Area.{IsAtHook, IsIn};
+ghost use Rattle.questions.specs.boxes.Area.{IsAtHook, IsIn, IsOnly};
 
 use crate::boxes::area::Area;
 use crate::boxes::matched::has;
@@ -22,7 +22,7 @@ use std::alloc::{AllocError, Global};
 fn box_of(alloc: Global, area: &Area, packet: &Packet) -> Result<Area, AllocError>
     requires packet { IsPacket packet.now }
     requires inside { IsIn area.now packet.now }
-    ensures { IfOk result (λ own. IsIn own packet.now) }
+    ensures { IfOk result (λ own. IsOnly own packet.now) }
 {
     let mut own = area.copy(alloc)?;
     for field in Field::ALL {

@@ -62,11 +62,11 @@ fn left_in(
     ensures alike { IfOk result (λ left. AreAlikeInChain answers.now chain.now left.items) }
     ensures free { IfOk result (λ left. AreFreeInChain answers.now left.items) }
 {
-    let mut left = Vec::new(alloc);
+    let mut lists = Vec::new(alloc);
     for needs in chain {
-        left.push(left_of(alloc, needs.as_slice(), answers)?)?;
+        lists.push(left_of(alloc, needs.as_slice(), answers)?)?;
     }
-    Ok(left)
+    Ok(lists)
 }
 
 /// What is left of needs where some answers are right: what is answered as a rule needs it is needed no more, and a rule of which something
