@@ -1,5 +1,5 @@
 -- What came of lines that were read and executed, and of the end of the input.
-use Rattle.std.specs.Prelude.{◌≡◌, ◌⊎◌, ℕ, ◌+◌, ◌≤◌, Bool, List, ◌++◌, length, Option, Result, Ok, Err, MatchResult, IsTrue}
+use Rattle.std.specs.Prelude.{◌≡◌, ◌⊎◌, ℕ, ◌+◌, ◌≤◌, Bool, List, ◌++◌, Option, Result, Ok, Err, MatchResult, IsTrue}
 use Rattle.std.specs.Io.KnownBytes.{Appends, Consumes}
 use Rattle.fields.specs.declared.text.tap.Tap.{Tap}
 use Rattle.fields.specs.text.Line.{EndsAt}
@@ -7,7 +7,7 @@ use Rattle.fields.specs.text.Tap.{Wrote, Stopped, Puts}
 use Rattle.table.specs.chains.Table.{Table}
 use Rattle.sessions.specs.line.Outcome.{Line, has_ended}
 use Rattle.sessions.specs.run.Session.{State, step}
-use Rattle.sessions.specs.run.Run.{AreRead, Lead, Moment, RunFault, Runs, WriteFailed}
+use Rattle.sessions.specs.run.Run.{AreRead, box_lines, Lead, Moment, RunFault, Runs, WriteFailed}
 use Rattle.sessions.specs.declared.run.session.Progress.{Progress}
 
 -- the state of the definition, where this was printed
@@ -34,7 +34,7 @@ pub record ExecutedAll (start : State) (before after : Moment) (p : Progress) : 
   pub read : AreRead lines bytes (EndsAt before.left after.left)
   pub done : IsTrue (has_ended p.mode) ⊎ EndsAt before.left after.left
   pub writes : Appends before.given after.given printed
-  pub boxes : after.boxes ≤ before.boxes + length lines
+  pub boxes : after.boxes ≤ before.boxes + box_lines start lines
 
 -- what came of lines, by the answer: a run that failed is over, whatever its end would have been
 abbrev pub ExecutesLines : State → Moment → Result (Unit {0}) RunFault → Moment → Progress → Type 0

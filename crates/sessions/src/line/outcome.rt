@@ -5,6 +5,7 @@ ghost use Rattle.table.specs.edits.Boxes.{MakesOneBoxAtMost};
 ghost use Rattle.restore.specs.commands.Command.{IsChange, meaning as command_meaning};
 ghost use Rattle.restore.specs.commands.Command.{ListRules};
 ghost use Rattle.table.specs.chains.Table.{TableView};
+ghost use Rattle.sessions.specs.line.Boxes.{MakesBoxes, asks_edit, may_box};
 ghost use Rattle.sessions.specs.line.Fault.{of_line};
 ghost use Rattle.sessions.specs.line.Request.{Ask, Run, Show, request_of};
 ghost use Rattle.sessions.specs.line.Outcome.{Outside, AfterFault, InRestore, after_fault, is_end, opened, execute};
@@ -122,7 +123,7 @@ fn ask(table: &Table, packet: Packet) -> Outcome
 // Does a command.
 fn run(table: &mut Table, work: &mut Work, command: Command<'_>) -> Outcome
     ensures comes { Comes (execute table.old.table (Ok (Run (command_meaning command.entry)))) Outside table.old table.new result }
-    ensures work { MakesOneBoxAtMost work.old work.new }
+    ensures work { MakesBoxes (asks_edit (Ok (Run (command_meaning command.entry)))) work.old work.new }
 {
     match command {
         Command::ListRules(name) => list_rules(table, name),
@@ -133,7 +134,7 @@ fn run(table: &mut Table, work: &mut Work, command: Command<'_>) -> Outcome
 // Does what a line outside of restores asks for.
 fn execute(alloc: Global, table: &mut Table, work: &mut Work, request: Request<'_>) -> Outcome
     ensures comes { Comes (execute table.old.table (Ok (meaning request.entry))) Outside table.old table.new result }
-    ensures work { MakesOneBoxAtMost work.old work.new }
+    ensures work { MakesBoxes (asks_edit (Ok (meaning request.entry))) work.old work.new }
 {
     match request {
         Request::Run(command) => run(table, work, command),
@@ -147,7 +148,7 @@ fn execute(alloc: Global, table: &mut Table, work: &mut Work, request: Request<'
 // Does the words of a line outside of restores.
 fn execute_words(alloc: Global, table: &mut Table, work: &mut Work, words: &Words) -> Outcome
     ensures comes { Comes (execute table.old.table (request_of words.now)) Outside table.old table.new result }
-    ensures work { MakesOneBoxAtMost work.old work.new }
+    ensures work { MakesBoxes (asks_edit (request_of words.now)) work.old work.new }
 {
     match Request::read(alloc, words) {
         Ok(request) => execute(alloc, table, work, request),
@@ -166,7 +167,7 @@ fn outside(
 ) -> Outcome
     requires { length line.now ≤ 10240 }
     ensures outcome { (text : List ℕ) → IsHeld 10240 text line.now too_long → IsOutcomeOf text Outside table.old table.new result }
-    ensures work { MakesOneBoxAtMost work.old work.new }
+    ensures work { (text : List ℕ) → IsHeld 10240 text line.now too_long → MakesBoxes (may_box Outside text) work.old work.new }
 {
     if too_long {
         return Outcome::fails(Mode::Outside, Fault::Line(RestoreFault::LineTooLong));
@@ -207,7 +208,7 @@ fn within(
 ) -> Outcome
     requires { length line.now ≤ 10240 }
     ensures outcome { (text : List ℕ) → IsHeld 10240 text line.now too_long → IsOutcomeOf text (InRestore word restore) table.old table.new result }
-    ensures work { MakesOneBoxAtMost work.old work.new }
+    ensures work { (text : List ℕ) → IsHeld 10240 text line.now too_long → MakesBoxes (may_box (InRestore word restore) text) work.old work.new }
 {
     if is_end(&word, line, too_long) {
         return match restore.finish() {
@@ -251,7 +252,7 @@ pub(crate) fn take_line(
 ) -> Outcome
     requires { length line.now ≤ 10240 }
     ensures outcome { (text : List ℕ) → IsHeld 10240 text line.now too_long → IsOutcomeOf text mode table.old table.new result }
-    ensures work { MakesOneBoxAtMost work.old work.new }
+    ensures work { (text : List ℕ) → IsHeld 10240 text line.now too_long → MakesBoxes (may_box mode text) work.old work.new }
 {
     match mode {
         Mode::Outside => outside(alloc, table, work, line, too_long),

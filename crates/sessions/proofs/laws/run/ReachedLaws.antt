@@ -1,5 +1,5 @@
 -- How far a run is, and what it did at each of its ends.
-use Rattle.std.proofs.Common.{◌≡◌, ◌⊎◌, inl, inr, ℕ, ◌+◌, ◌<◌, ◌≤◌, arith, length-append, Bool, true, false, List, [], ◌∷◌, ◌++◌, length, Option, Err, refl, sym, ap, subst, ◌∙◌, append_assoc, append-nil}
+use Rattle.std.proofs.Common.{◌≡◌, ◌⊎◌, inl, inr, ℕ, ◌+◌, ◌<◌, ◌≤◌, arith, Bool, true, false, cond, List, [], ◌∷◌, ◌++◌, length, Option, Err, refl, sym, ap, subst, ◌∙◌, append_assoc, append-nil}
 use Rattle.std.specs.Io.KnownBytes.{Appends, Consumes}
 use Rattle.std.proofs.KnownBytes.{Consumes-trans, Consumes-nil, Appends-nil, Appends-trans}
 use Rattle.fields.specs.text.Tap.{IsBeginning}
@@ -8,10 +8,10 @@ use Rattle.fields.specs.text.Line.{EndsAt, lines_of, ended_lines}
 use Rattle.fields.proofs.laws.text.LineLaws.{lines_of-ended, lines_of-last, ended_lines-ended, ended_lines-part}
 use Rattle.fields.proofs.laws.text.PartLaws.{EndsAt-later}
 use Rattle.table.specs.chains.Table.{Table, TableView}
-use Rattle.table.specs.edits.Boxes.{MakesOneBoxAtMost}
+use Rattle.sessions.specs.line.Boxes.{MakesBoxes, may_box}
 use Rattle.sessions.specs.line.Outcome.{Line, has_ended}
 use Rattle.sessions.specs.run.Session.{State, step, texts_of}
-use Rattle.sessions.specs.run.Run.{EndsLine, Lead, LineStopped, Moment, Ran, RunFault, Runs, ReadFailed, WriteFailed}
+use Rattle.sessions.specs.run.Run.{box_lines, EndsLine, Lead, LineStopped, Moment, Ran, RunFault, Runs, ReadFailed, WriteFailed}
 use Rattle.sessions.specs.steps.Lines.{ExecutedAll, state_of}
 use Rattle.sessions.specs.declared.run.session.Progress.{Progress}
 use Rattle.sessions.proofs.laws.run.LeadLaws.{fold_of, lead_more, texts_more}
@@ -27,7 +27,7 @@ pub record Reached (from : State) (before now : Moment) (p : Progress) : Type 0 
   pub ends : EndsLine bytes
   pub leads : Lead from lines (state_of now.table.table p printed)
   pub writes : Appends before.given now.given printed
-  pub boxes : now.boxes ≤ before.boxes + length lines
+  pub boxes : now.boxes ≤ before.boxes + box_lines from lines
 
 -- the same moment, but for what the reader has left
 abbrev pub reads_on : Moment → Option (List ℕ) → Moment
@@ -54,11 +54,24 @@ module _ (read : List ℕ → List (List ℕ)) where
       ap read (append_assoc bytes piece rest) ∙ whole (piece ++ rest) ∙ ap (λ ls. texts_of lines ++ ls) one
       ∙ sym (append_assoc (texts_of lines) (text ∷ []) (read rest)) ∙ ap (λ ls. ls ++ read rest) (sym (texts_more lines text refused))
 
--- a box more is a line more
-boxes_more : (a b old : ℕ) (lines : List Line) (text : List ℕ) (refused : Bool) → a ≤ old + length lines → MakesOneBoxAtMost a b → b ≤ old + length (more lines text refused)
-boxes_more a b old lines text refused few made =
-    let longer : length (more lines text refused) ≡ length lines + 1 = length-append lines (record { text = text; refused = refused } ∷ []) in
-    elim made [ inl same ↦ omega (arith, few, same, longer) | inr one ↦ omega (arith, few, one, longer) ]
+at_first : (a b : ℕ) → b ≡ a → a + 0 ≡ 0 + b
+at_first a b is = omega arith
+
+at_later : (one old new more : ℕ) → new ≡ old + more → one + new ≡ (one + old) + more
+at_later one old new more is = omega arith
+
+-- a line more that may make a box, or none
+box_more : (from s : State) (lines : List Line) (line : Line) → Lead from lines s → box_lines from (lines ++ line ∷ []) ≡ box_lines from lines + cond (may_box s.now.mode line.text) 1 0
+box_more from s [] line h = let one : State → ℕ = λ x. cond (may_box x.now.mode line.text) 1 0 in at_first (one from) (one s) (ap one h)
+box_more from s (first ∷ lines) line h =
+    let one : State → ℕ = λ x. cond (may_box x.now.mode first.text) 1 0 in
+    at_later (one from) (box_lines (step from first) lines) (box_lines (step from first) (lines ++ line ∷ [])) (cond (may_box s.now.mode line.text) 1 0)
+    (box_more (step from first) s lines line h.1)
+
+-- a box more is such a line more
+boxes_more : (a b old count total : ℕ) (may : Bool) → a ≤ old + count → MakesBoxes may a b → total ≡ count + cond may 1 0 → b ≤ old + total
+boxes_more a b old count total true few made is = elim made [ inl same ↦ omega (arith, few, same, is) | inr one ↦ omega (arith, few, one, is) ]
+boxes_more a b old count total false few made is = omega (arith, few, made, is)
 
 -- at the beginning
 pub reached_nothing : (from : State) (before : Moment) (p : Progress) → state_of before.table.table p [] ≡ from → Reached from before before p
@@ -134,15 +147,17 @@ module _ {from : State} {before now : Moment} {p : Progress} (r : Reached from b
   }
 
   module _ (refused : Bool) (reply : List ℕ) (given : Option (List ℕ)) (t' : TableView) (boxes' : ℕ) (p' : Progress) (executed : Steps now.table.table p text refused reply t'.table p')
-      (made : MakesOneBoxAtMost now.boxes boxes') where
+      (made : MakesBoxes (may_box p.mode text) now.boxes boxes') where
     abbrev next : Moment
     next = record { left = left; given = given; table = t'; boxes = boxes' }
 
     abbrev all : List Line
     all = more r.lines text refused
 
-    few : boxes' ≤ before.boxes + length all
-    few = boxes_more now.boxes boxes' before.boxes r.lines text refused r.boxes made
+    few : boxes' ≤ before.boxes + box_lines from all
+    few =
+        boxes_more now.boxes boxes' before.boxes (box_lines from r.lines) (box_lines from all) (may_box p.mode text) r.boxes made
+        (box_more from (state_of now.table.table p r.printed) r.lines (record { text = text; refused = refused }) r.leads)
 
     all_written : (part : List ℕ) → Appends now.given given part → Appends before.given given (r.printed ++ part)
     all_written part writes = Appends-trans before.given now.given given r.printed part r.writes writes

@@ -30,7 +30,7 @@ returns-then-has_ended-clause-executes g c =
     let (text, one, (held, taken, counted)) = rw c.in-Newline.is at c.in-Ok.ensures.reads in
     let (refused, reply, steps, wrote) = c.in-Ok-execute.ensures.executes text held in
     executed_to_fault (handed_on c.lines.invariant.reached (known g.W.Write.contents (writer c.next_line.new.console)) c.next_line.ensures.given) c.lines.invariant.going (known g.R.Read.remaining (reader c.next_line.new.console)) text one refused reply (known g.W.Write.contents c.execute.new.output)
-    _ _ _ steps c.in-Ok-execute.ensures.work taken wrote.appends (sym c.has_ended.ensures ∙ c.if-has_ended.true)
+    _ _ _ steps (c.in-Ok-execute.ensures.work text held) taken wrote.appends (sym c.has_ended.ensures ∙ c.if-has_ended.true)
 
 pub returns-then-has_ended-clause-ready : goal.returns-then-has_ended-clause-ready
 returns-then-has_ended-clause-ready g c =
@@ -44,7 +44,7 @@ lines-preserved g c =
     let (refused, reply, steps, wrote) = c.in-Ok-execute.ensures.executes text held in
     record {
       reached = reached_more (handed_on c.lines.invariant.reached (known g.W.Write.contents (writer c.next_line.new.console)) c.next_line.ensures.given) c.lines.invariant.going (known g.R.Read.remaining (reader c.next_line.new.console)) text one refused reply (known g.W.Write.contents c.execute.new.output)
-          _ _ _ steps c.in-Ok-execute.ensures.work taken wrote.appends;
+          _ _ _ steps (c.in-Ok-execute.ensures.work text held) taken wrote.appends;
       same = search rules;
       prompt = search rules;
       fresh = search rules;
@@ -58,14 +58,14 @@ returns-in-Err-execute-clause-executes g c finish =
     let (text, one, (held, taken, counted)) = rw c.in-Newline.is at c.in-Ok.ensures.reads in
     let (refused, reply, steps, stopped) = c.in-Err-execute.ensures.executes text held in
     write_failed (handed_on c.lines.invariant.reached (known g.W.Write.contents (writer c.next_line.new.console)) c.next_line.ensures.given) c.lines.invariant.going (known g.R.Read.remaining (reader c.next_line.new.console)) text one refused reply (known g.W.Write.contents c.execute.new.output)
-    _ _ _ steps c.in-Err-execute.ensures.work finish taken stopped.part stopped.begins stopped.appends
+    _ _ _ steps (c.in-Err-execute.ensures.work text held) finish taken stopped.part stopped.begins stopped.appends
 
 pub returns-in-Ok-execute-2-clause-executes : goal.returns-in-Ok-execute-2-clause-executes
 returns-in-Ok-execute-2-clause-executes g c =
     let (text, one, (held, taken, counted)) = rw c.in-Input.is at c.in-Ok.ensures.reads in
     let (refused, reply, steps, wrote) = c.in-Ok-execute-2.ensures.executes text held in
     executed_last (handed_on c.lines.invariant.reached (known g.W.Write.contents (writer c.next_line.new.console)) c.next_line.ensures.given) c.lines.invariant.going (known g.R.Read.remaining (reader c.next_line.new.console)) text one refused reply (known g.W.Write.contents c.execute-in-Input.new.output)
-    _ _ _ steps c.in-Ok-execute-2.ensures.work taken.0 taken.1 taken.2 wrote.appends
+    _ _ _ steps (c.in-Ok-execute-2.ensures.work text held) taken.0 taken.1 taken.2 wrote.appends
 
 pub returns-in-Ok-execute-2-clause-ready : goal.returns-in-Ok-execute-2-clause-ready
 returns-in-Ok-execute-2-clause-ready g c =
@@ -78,4 +78,4 @@ returns-in-Err-execute-2-clause-executes g c finish =
     let (text, one, (held, taken, counted)) = rw c.in-Input.is at c.in-Ok.ensures.reads in
     let (refused, reply, steps, stopped) = c.in-Err-execute-2.ensures.executes text held in
     last_failed (handed_on c.lines.invariant.reached (known g.W.Write.contents (writer c.next_line.new.console)) c.next_line.ensures.given) c.lines.invariant.going (known g.R.Read.remaining (reader c.next_line.new.console)) text one refused reply (known g.W.Write.contents c.execute-in-Input.new.output)
-    _ _ _ steps c.in-Err-execute-2.ensures.work finish taken.0 taken.1 taken.2 stopped.part stopped.begins stopped.appends
+    _ _ _ steps (c.in-Err-execute-2.ensures.work text held) finish taken.0 taken.1 taken.2 stopped.part stopped.begins stopped.appends
