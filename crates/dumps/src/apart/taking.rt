@@ -1,5 +1,5 @@
 //! A line is taken apart, left to right.
-ghost use Rattle.std.specs.Prelude.{◌≡◌, ◌∷◌, ◌≤◌, ◌<◌, not, true, codes, List, length, Option, None, option_map, MatchResult, IfSome, IsSome, IfOk};
+ghost use Rattle.std.specs.Prelude.{◌≡◌, ◌∷◌, ◌≤◌, ◌<◌, not, true, codes, List, length, Option, None, option_map, MatchResult, IfSome, IsSome, IfOk, IfErr};
 ghost use Rattle.std.specs.Option.{option_or};
 ghost use Rattle.fields.specs.text.WordSlice.{words_in};
 ghost use Rattle.dumps.specs.Options.{is_match, has_match, has_target, decides, option_of, begins_or_names};
@@ -190,6 +190,7 @@ fn checked<'a>(
 ) -> Result<(Part<'a>, WordSlice<'a>), ApartFault<'a>>
     ensures gives { PartGives result (checked (table_in table.now) (part_in part.entry) (words_in rest.entry)) }
     ensures after { IfOk result (λ r. words_in r.1 ≡ words_in rest.entry) }
+    ensures told { IfErr result (λ fault. IsSome (refusal_in fault)) }
 {
     match refused(table, &part) {
         Some(fault) => return Err(fault),
@@ -217,6 +218,7 @@ fn with_values<'a>(
 ) -> Result<(Part<'a>, WordSlice<'a>), ApartFault<'a>>
     ensures gives { PartGives result (with_values (table_in table.now) inverted option.now (row_in row.entry) (words_in words.entry)) }
     ensures shorter { IfOk result (λ r. length (words_in r.1) ≤ length (words_in words.entry)) }
+    ensures told { IfErr result (λ fault. IsSome (refusal_in fault)) }
 {
     if inverted && begins_or_names(row.role) {
         return Err(ApartFault::InversionNotAllowed(option));
@@ -244,6 +246,7 @@ fn with_row<'a>(
 ) -> Result<(Part<'a>, WordSlice<'a>), ApartFault<'a>>
     ensures gives { PartGives result (with_row (table_in table.now) inverted option.now (option_map row_in row.entry) (words_in words.entry)) }
     ensures shorter { IfOk result (λ r. length (words_in r.1) ≤ length (words_in words.entry)) }
+    ensures told { IfErr result (λ fault. IsSome (refusal_in fault)) }
 {
     match row {
         None => return Err(ApartFault::UnknownOption(option)),
@@ -261,6 +264,7 @@ fn after_bang<'a>(
     requires { bang.now ≡ codes "!" }
     ensures gives { PartGives result (after_bang (table_in table.now) (parts_of parts.now) (words_in words.entry)) }
     ensures shorter { IfOk result (λ r. length (words_in r.1) ≤ length (words_in words.entry)) }
+    ensures told { IfErr result (λ fault. IsSome (refusal_in fault)) }
 {
     match words.split_first() {
         None => return Err(ApartFault::ValueMissing(bang)),
@@ -281,6 +285,7 @@ fn next_part<'a>(
 ) -> Result<(Part<'a>, WordSlice<'a>), ApartFault<'a>>
     ensures gives { PartGives result (next_part (table_in table.now) (parts_of parts.now) word.now (words_in words.entry)) }
     ensures shorter { IfOk result (λ r. length (words_in r.1) ≤ length (words_in words.entry)) }
+    ensures told { IfErr result (λ fault. IsSome (refusal_in fault)) }
 {
     if word == b"!".as_slice() {
         return after_bang(table, parts, word, words);
