@@ -1,4 +1,4 @@
-use Rattle.std.proofs.Common.{List, [], ◌∷◌, ◌++◌, ◌∙◌, ap, true, false}
+use Rattle.std.proofs.Common.{[], ◌∷◌, ◌++◌, ◌∙◌, ap, true, false}
 use Rattle.std.proofs.lemmas.Result.{on_ok_weaker}
 use Rattle.questions.specs.steps.Waiting.{stage_at}
 use Rattle.questions.proofs.laws.WaitLaws.{parts_by}
