@@ -2,6 +2,7 @@ pub mod AheadLaws
 pub mod AlikeLaws
 pub mod AnswerLaws
 pub mod AreaLaws
+pub mod AskedLaws
 pub mod BoxesLaws
 pub mod BranchLaws
 pub mod CandidateLaws

@@ -1,6 +1,6 @@
 -- Conditions that this program doesn't know: what a rule asks by a match beyond the profile, as `limit` or `addrtype` (iptables-extensions(8),
 -- MATCH EXTENSIONS). Each is told by a number. It holds or it doesn't, and nothing else is known of it.
-use Rattle.std.specs.Prelude.{◌≡◌, ◌≢◌, ℕ, Bool, true, false, not, List, [], ◌∷◌, ◌++◌, map, slice_index_or, None, All, AllPairs, Any, Vec, if◌then◌else◌}
+use Rattle.std.specs.Prelude.{◌≡◌, ◌≢◌, ◌⊎◌, ℕ, Bool, true, false, not, List, [], ◌∷◌, ◌++◌, map, slice_index_or, None, All, AllPairs, Any, Contains, Vec, if◌then◌else◌}
 use Rattle.std.specs.Global.{Global}
 use Rattle.std.specs.List.{list_all}
 use Rattle.rules.specs.rule.Rules.{Rule}
@@ -77,6 +77,14 @@ Agrees a answers = All (λ (answer : Answer). a answer.condition ≡ answer.hold
 -- no answer is about the condition
 abbrev pub IsUnanswered : List Answer → ℕ → Type 0
 IsUnanswered answers condition = All (λ (answer : Answer). answer.condition ≢ condition) answers
+
+-- some rule needs the condition, or that it doesn't hold
+abbrev pub IsNeeded : List (List (List Need)) → ℕ → Type 0
+IsNeeded needs condition = (place : ℕ) × (passed : ℕ) × Any (λ (need : Need). need.condition ≡ condition) (needs_at needs place passed)
+
+-- each answer is one that was given, or is about a condition that some rule needs
+abbrev pub AreAsked : List (List (List Need)) → List Answer → List Answer → Type 0
+AreAsked needs given answers = All (λ (answer : Answer). Contains given answer ⊎ IsNeeded needs answer.condition) answers
 
 -- two assignments agree on each condition that has no answer
 abbrev pub AgreeOnOpen : List Answer → Assignment → Assignment → Type 0

@@ -1,5 +1,6 @@
 pub mod Ahead
 pub mod Answered
+pub mod Asking
 pub mod Branches
 pub mod Candidates
 pub mod Chosen

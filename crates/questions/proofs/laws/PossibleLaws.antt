@@ -1,5 +1,5 @@
 -- Numbers that packets can have: each number up to a field's top is that of a packet that can be at a hook.
-use Rattle.std.proofs.Common.{◌≡◌, inl, inr, ℕ, ◌≤◌, Bool, true, false, cond, List, get_or, map, refl, sym, ◌∙◌, ap, arith, subst, lit≤}
+use Rattle.std.proofs.Common.{◌≡◌, inl, inr, ℕ, ◌≤◌, true, false, cond, List, get_or, map, refl, sym, ◌∙◌, ap, arith, subst, lit≤}
 use Rattle.std.proofs.Math.Dec.{eqb}
 use Rattle.std.proofs.lemmas.Bool.{cases_Bool, cond-false, cond_both, eq-eqb, eqb-true, true≢false}
 use Rattle.fields.specs.declared.numbers.field.Field.{Field}
@@ -7,7 +7,7 @@ use Rattle.fields.specs.declared.numbers.field.Field.TheVariants as field
 use Rattle.fields.specs.declared.packet.hook.Hook.TheVariants as hook
 use Rattle.fields.specs.numbers.Field.{all_fields, index, top}
 use Rattle.fields.specs.numbers.Spans.{SpanSet, has}
-use Rattle.fields.specs.packet.Packet.{PacketView as Packet, IsPacket, carries_key, point}
+use Rattle.fields.specs.packet.Packet.{PacketView as Packet, carries_key, point}
 use Rattle.rules.specs.boxing.Boxed.{IsBoxOf, set_on}
 use Rattle.rules.specs.rule.Allows.{allows}
 use Rattle.rules.specs.rule.Rules.{Rule}

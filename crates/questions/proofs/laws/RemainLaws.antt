@@ -1,15 +1,15 @@
 -- What is left of needs where answers are right.
-use Rattle.std.proofs.Common.{◌≡◌, ◌&&◌, inl, inr, ℕ, ◌+◌, ◌<◌, Bool, true, false, cond, not, List, [], ◌∷◌, ◌++◌, length, get_or, take, map, refl, sym, ◌∙◌, ap, arith, subst, Some, None, Contains, Vec, Global}
+use Rattle.std.proofs.Common.{◌≡◌, ◌&&◌, ℕ, ◌+◌, ◌<◌, Bool, true, false, cond, not, List, [], ◌∷◌, ◌++◌, length, get_or, take, map, refl, sym, ◌∙◌, ap, Contains, Vec, Global}
 use Rattle.std.proofs.Math.Bool.{beq}
 use Rattle.std.proofs.lemmas.List.Elements.{All-head, All-tail}
 use Rattle.std.proofs.lemmas.List.Folds.{list_all-append, list_all_more, list_all_at}
 use Rattle.rules.specs.rule.Rules.{Rule}
 use Rattle.table.specs.chains.Table.{Chain, Table}
-use Rattle.questions.specs.Foreign.{AgreeOnOpen, Agrees, Assignment, IsUnanswered, all_hold, need_holds, needs_listed, resolved, resolved_chains, resolved_rule, resolved_rules}
+use Rattle.questions.specs.Foreign.{AgreeOnOpen, Agrees, Assignment, IsUnanswered, all_hold, need_holds, resolved, resolved_chains, resolved_rules}
 use Rattle.questions.specs.declared.foreign.answers.Answer.{Answer}
 use Rattle.questions.specs.declared.foreign.need.Need.{Need}
 use Rattle.questions.proofs.laws.AnswerLaws.{is_given, unmet_by}
-use Rattle.questions.specs.steps.Remaining.{AreAlike, AreAlikeInAll, AreAlikeInChain, AreAlikeInTurn, AreFree, AreFreeInAll, AreFreeInChain}
+use Rattle.questions.specs.steps.Remaining.{AreAlikeInAll, AreAlikeInChain, AreAlikeInTurn, AreFree, AreFreeInAll, AreFreeInChain}
 
 and_true : (b : Bool) → (b && true) ≡ b
 and_true true = refl

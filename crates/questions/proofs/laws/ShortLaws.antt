@@ -1,5 +1,5 @@
 -- Walks of the packets that a rule would match.
-use Rattle.std.proofs.Common.{◌≡◌, ◌-◌, true, List, [], refl, sym, ◌∙◌, subst}
+use Rattle.std.proofs.Common.{◌≡◌, ◌-◌, true, [], refl, sym, ◌∙◌, subst}
 use Rattle.std.specs.Prelude.{◌≢◌, IfOk, Result}
 use Rattle.std.specs.declared.alloc.AllocError.{AllocError}
 use Rattle.std.proofs.lemmas.Result.{IfOk-weaker}

@@ -1,13 +1,12 @@
 -- Tables whose rules need something, without some of their rules.
-use Rattle.std.proofs.Common.{◌≡◌, ◌≢◌, ℕ, ◌+◌, Bool, true, false, cond, List, [], ◌∷◌, map, refl, sym, ap, ap₂, subst}
-use Rattle.fields.specs.packet.Packet.{PacketView as Packet}
+use Rattle.std.proofs.Common.{◌≡◌, ℕ, ◌+◌, Bool, true, false, cond, List, [], ◌∷◌, map, refl, sym, ap, ap₂, subst}
 use Rattle.rules.specs.rule.Rules.{Rule}
-use Rattle.table.specs.chains.Table.{Chain, Table}
+use Rattle.table.specs.chains.Table.{Chain}
 use Rattle.table.specs.walk.Walk.{Entry}
 use Rattle.questions.specs.Foreign.{Assignment, resolved, resolved_chains, resolved_rule, resolved_rules}
 use Rattle.questions.specs.asked.Laws.{DeadRulesCanGoUnder}
 use Rattle.questions.specs.asked.Verdicts.{IsAlike}
-use Rattle.questions.specs.asked.Without.{chain_without, goes_of, needs_without, staying, without}
+use Rattle.questions.specs.asked.Without.{chain_without, goes_of, needs_without, staying}
 use Rattle.questions.specs.declared.foreign.need.Need.{Need}
 use Rattle.questions.proofs.laws.WithoutLaws.{dead_can_go}
 

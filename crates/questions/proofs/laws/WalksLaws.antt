@@ -1,14 +1,13 @@
 -- The walks of one packet, for all assignments.
-use Rattle.std.proofs.Common.{◌≡◌, inl, inr, ℕ, Bool, ◌&&◌, true, false, List, get_or, refl, ◌∙◌, ap, arith, subst, sym, Option, Some, None, All, Any, Vec, Global}
+use Rattle.std.proofs.Common.{◌≡◌, inl, inr, ℕ, Bool, ◌&&◌, true, false, List, get_or, refl, ◌∙◌, ap, arith, subst, sym, Option, Some, None, All, Vec, Global}
 use Rattle.std.specs.Prelude.{IfSome, MatchOption, filter, nat_le}
 use Rattle.std.proofs.lemmas.Bool.{true≢false}
 use Rattle.std.proofs.lemmas.Bool.Decides.{leb_tells}
 use Rattle.std.proofs.lemmas.List.Elements.{All-filter, filter_passes}
 use Rattle.classify.specs.classifier.Classifier.{box_matches}
 use Rattle.fields.specs.packet.Packet.{PacketView as Packet}
-use Rattle.table.specs.walk.Walk.{walk}
 use Rattle.questions.specs.Foreign.{Agrees, Assignment}
-use Rattle.questions.specs.Scopes.{AreExactUnder, AreLeavesUnder, IsOf, IsSurely, answered, known_by, scope_of, walked_by}
+use Rattle.questions.specs.Scopes.{AreExactUnder, AreLeavesUnder, IsOf, IsSurely, answered, known_by, scope_of}
 use Rattle.questions.specs.asked.Unclear.{IsUnended}
 use Rattle.questions.specs.asked.Walks.{AreWalks, AreWalksUnder, ShowsWalk}
 use Rattle.questions.specs.boxes.Area.{IsAtHook, IsOnly}

@@ -1,5 +1,5 @@
 -- A packet that shows that a rule isn't dead.
-use Rattle.std.proofs.Common.{◌≡◌, ◌≢◌, inl, inr, ℕ, zero, suc, ◌+◌, ◌<◌, Bool, ◌&&◌, true, List, [], ◌∷◌, ◌++◌, length, get_or, take, refl, sym, ◌∙◌, ap, arith, subst, Option, Some, None, All, Any, Contains, Vec, Global}
+use Rattle.std.proofs.Common.{◌≡◌, ◌≢◌, inl, inr, ℕ, zero, suc, ◌+◌, ◌<◌, List, [], ◌∷◌, ◌++◌, length, get_or, take, refl, sym, ◌∙◌, ap, arith, subst, Option, Some, None, All, Any, Contains, Vec, Global}
 use Rattle.std.specs.Prelude.{IsFalse, IsTrue, MatchOption, is_some}
 use Rattle.std.proofs.lemmas.Bool.{true≢false}
 use Rattle.std.proofs.lemmas.List.{get_or-take, get_or_default, length-take}

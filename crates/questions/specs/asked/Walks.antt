@@ -3,7 +3,7 @@ use Rattle.std.specs.Prelude.{◌≡◌, List, All, Any}
 use Rattle.fields.specs.packet.Packet.{PacketView as Packet}
 use Rattle.table.specs.chains.Table.{Table}
 use Rattle.table.specs.walk.Walk.{walk}
-use Rattle.questions.specs.Foreign.{Agrees, AreConsistent, Assignment}
+use Rattle.questions.specs.Foreign.{Agrees, Assignment}
 use Rattle.questions.specs.Scopes.{EndsUnder, IsOf, IsSurely, Known, answered, known_by, scope_of, walked_by}
 use Rattle.questions.specs.declared.foreign.answers.Answer.{Answer}
 use Rattle.questions.specs.declared.foreign.subject.Subject.{Subject}

@@ -1,5 +1,5 @@
 -- What becomes of the packets that a rule's box has, where some of what the rule needs may be open.
-use Rattle.std.specs.Prelude.{◌⊎◌, ℕ, List, Option, None, Some, IsFalse, IsTrue}
+use Rattle.std.specs.Prelude.{◌≡◌, ◌⊎◌, ℕ, List, Any, Option, None, Some, IsFalse, IsTrue}
 use Rattle.rules.specs.declared.rule.target.Target.{Target}
 use Rattle.rules.specs.rule.Actions.{target_of}
 use Rattle.table.specs.chains.Table.{Table}
@@ -30,3 +30,9 @@ abbrev pub IsBranch : List Need → List Answer → Option Target → Branch →
 IsBranch needs answers target Passed = (a : Assignment) → Agrees a answers → IsFalse (all_hold a needs)
 IsBranch needs answers target Followed = CanFollow needs answers target
 IsBranch needs answers target (Parted condition) = IsUnanswered answers condition
+
+-- where they part, some need is about the condition
+abbrev pub IsNeededBy : List Need → Branch → Type 0
+IsNeededBy needs Passed = Unit {0}
+IsNeededBy needs Followed = Unit {0}
+IsNeededBy needs (Parted condition) = Any (λ (need : Need). need.condition ≡ condition) needs

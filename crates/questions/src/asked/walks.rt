@@ -1,7 +1,7 @@
 //! The walks of one packet, whatever holds that rules need.
-ghost use Rattle.std.specs.Prelude.{◌≡◌, IfOk, MatchOption};
+ghost use Rattle.std.specs.Prelude.{◌≡◌, All, IfOk, IfSome, MatchOption};
 ghost use Rattle.fields.specs.packet.Packet.{IsPacket};
-ghost use Rattle.questions.specs.Foreign.{Assignment};
+ghost use Rattle.questions.specs.Foreign.{AreAsked, Assignment};
 ghost use Rattle.questions.specs.Scopes.{answered, known_by};
 ghost use Rattle.questions.specs.asked.Unclear.{IsUnended};
 ghost use Rattle.questions.specs.asked.Walks.{AreWalks, AreWalksUnder};
@@ -44,7 +44,8 @@ pub(crate) fn walks_of(
 ) -> Result<Option<Vec<Leaf>>, AllocError>
     requires can { IsAtHook packet.now }
     requires inside { IsIn area.now packet.now }
-    ensures { IfOk result (λ found. (a : Assignment) → MatchOption found
+    ensures asked { IfOk result (λ found. IfSome found (λ leaves. All (λ leaf. AreAsked subject.now.needs.now answers.now leaf.answers) leaves.items)) }
+    ensures walks { IfOk result (λ found. (a : Assignment) → MatchOption found
         (IsUnended (answered subject.now a) (known_by subject.now a) packet.now.hook budget answers.now packet.now)
         (λ leaves. AreWalksUnder (answered subject.now a) (known_by subject.now a) packet.now answers.now leaves.items)) }
 {
@@ -57,7 +58,7 @@ pub(crate) fn walks_of(
 
 /// The walks of a packet that a line writes, as leaves: under each assignment that gives the answers the packet has the walk that one of them
 /// shows; and each of them shows the walk that the packet has under each assignment that gives the leaf's answers, which are these and
-/// perhaps more. Each leaf's answers can be given. There are none only where the steps of `leaves_under` for the packet's own box use
+/// perhaps more, about conditions that some rule needs. Each leaf's answers can be given. There are none only where the steps of `leaves_under` for the packet's own box use
 /// the budget up, or a trail is full.
 ///
 /// # Errors
@@ -70,7 +71,8 @@ pub fn walks(
     answers: &Answers,
     budget: usize,
 ) -> Result<Option<Vec<Leaf>>, AllocError>
-    ensures { IfOk result (λ found. MatchOption found
+    ensures asked { IfOk result (λ found. IfSome found (λ leaves. All (λ leaf. AreAsked subject.now.needs.now answers.now leaf.answers) leaves.items)) }
+    ensures walks { IfOk result (λ found. MatchOption found
         ((a : Assignment) → IsUnended (answered subject.now a) (known_by subject.now a) written.now.hook budget answers.now written.now)
         (λ leaves. AreWalks subject.now written.now answers.now leaves.items)) }
 {

@@ -1,13 +1,15 @@
 //! The walk of a box through a table, step after step, until no box is left.
-ghost use Rattle.std.specs.Prelude.{◌≡◌, ◌≢◌, ◌<◌, All, length, IfOk, IfSome, MatchOption, OnOk};
+ghost use Rattle.std.specs.Prelude.{◌≡◌, ◌≢◌, ◌<◌, List, All, length, IfOk, IfSome, MatchOption, OnOk};
 ghost use Rattle.fields.specs.packet.Packet.{PacketView};
 ghost use Rattle.table.specs.declared.verdict.Verdict.{Verdict};
 ghost use Rattle.table.specs.declared.verdict.Verdict.TheVariants.{TooLong};
 ghost use Rattle.table.specs.steps.Kept.{hook_index};
 ghost use Rattle.table.specs.walk.Walk.{end_verdict};
-ghost use Rattle.questions.specs.Foreign.{Assignment};
+ghost use Rattle.questions.specs.Foreign.{AreAsked, Assignment};
 ghost use Rattle.questions.specs.Leaves.{AreExactOn, AreLeavesOf};
 ghost use Rattle.questions.specs.Scopes.{AreExactUnder, AreLeavesUnder, IsSurely, answered, known_by, table_of};
+ghost use Rattle.questions.specs.declared.foreign.need.Need.{Need};
+ghost use Rattle.questions.specs.steps.Asking.{AllAsked, KeepsAsked};
 ghost use Rattle.questions.specs.steps.Onward.{AddsTasks, GetsOn};
 ghost use Rattle.questions.specs.steps.Taken.{IsFinished, IsFinishedUnder, IsFirst, IsUnfinished, IsUnfinishedUnder};
 ghost use Rattle.questions.specs.steps.Waiting.{AreThere, Begins, Moves, stage_of};
@@ -42,6 +44,7 @@ pub(crate) fn step(
     requires short { policy ≢ TooLong }
     ensures moves { OnOk result ((a : Assignment) → Moves (answered subject.now a) (known_by subject.now a) policy task.scope
         (stage_of (known_by subject.now a) (answered subject.now a).chains task) front.old front.new) }
+    ensures asked { OnOk result (KeepsAsked subject.now.needs.now task.scope.answers front.old front.new) }
     ensures on { OnOk result (AddsTasks (GetsOn task.scope task.rests.items task.trail.items) front.old front.new) }
 {
     match task.rests.pop() {
@@ -87,6 +90,7 @@ pub(crate) fn begin(
 ) -> Result<Front, AllocError>
     ensures begins { IfOk result (λ front. (a : Assignment) → Begins (answered subject.now a) (known_by subject.now a) hook start front) }
     ensures first { IfOk result (IsFirst hook start) }
+    ensures asked { IfOk result (λ front. (needs : List (List (List Need))) → AllAsked needs start.answers front) }
 {
     subject.boxed.table.stands();
     let mut front = Front {
@@ -145,7 +149,8 @@ pub fn leaves(
 
 /// The same of a box under answers, for each assignment that gives them: every packet of the box that can be at the hook is in a leaf whose
 /// answers the assignment gives, too, and such a leaf has no packet at the hook from outside the box. In the table that the assignment leaves,
-/// the packet's walk is the one that the leaf shows; and all holds that the rule needs which decides it.
+/// the packet's walk is the one that the leaf shows; and all holds that the rule needs which decides it. A leaf's answers are those of the box, or
+/// about conditions that some rule needs.
 ///
 /// A step of the budget is also one box that parts by a condition.
 ///
@@ -164,6 +169,7 @@ pub fn leaves_under(
     ensures exact { IfOk result (λ found. IfSome found (λ leaves. (a : Assignment)
         → AreExactUnder (answered subject.now a) (known_by subject.now a) hook start leaves.items)) }
     ensures decided { IfOk result (λ found. IfSome found (λ leaves. (a : Assignment) → All (IsSurely (known_by subject.now a)) leaves.items)) }
+    ensures asked { IfOk result (λ found. IfSome found (λ leaves. All (λ leaf. AreAsked subject.now.needs.now start.answers leaf.answers) leaves.items)) }
     ensures steps { IfOk result (λ found. (a : Assignment) → MatchOption found
         (IsUnfinishedUnder (answered subject.now a) (known_by subject.now a) hook start budget)
         (λ leaves. IsFinishedUnder (answered subject.now a) (known_by subject.now a) hook start budget leaves.items)) }

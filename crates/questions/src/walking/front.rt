@@ -21,6 +21,9 @@ pub(crate) struct Front {
 }
 
 impl Front {
+    ghost use Rattle.std.specs.Prelude.{List};
+    ghost use Rattle.questions.specs.declared.foreign.need.Need.{Need};
+    ghost use Rattle.questions.specs.steps.Asking.{KeepsAsked};
     ghost use Rattle.questions.specs.steps.Onward.{AddsTasks, IsPut};
     ghost use Rattle.questions.specs.steps.Waiting.{AreThere, IsLastMet, Moves, stage_of};
 
@@ -28,6 +31,7 @@ impl Front {
     pub(crate) fn add_task(&mut self, task: Task) -> Result<(), AllocError>
         ensures moves { OnOk result ((t : Filter) (known : Known) (policy : Verdict) → AreThere t.chains task
             → Moves t known policy task.scope (stage_of known t.chains task) self.old self.new) }
+        ensures asked { OnOk result ((needs : List (List (List Need))) → KeepsAsked needs task.scope.answers self.old self.new) }
         ensures on { OnOk result (AddsTasks (IsPut task.scope task.rests.items task.trail.items) self.old self.new) }
     {
         self.tasks.push(task)?;
@@ -46,6 +50,7 @@ impl Front {
         ensures moves { OnOk result ((t : Filter) (known : Known) (policy : Verdict)
             → (by_policy ≡ false → Agrees known.holds task.scope.answers → IsLastMet known task.trail.items)
             → Moves t known policy task.scope (Over (record { trail = entries_by known t.chains task.trail.items; verdict = verdict; by_policy = by_policy })) self.old self.new) }
+        ensures asked { OnOk result ((needs : List (List (List Need))) → KeepsAsked needs task.scope.answers self.old self.new) }
         ensures on { OnOk result (self.new.tasks.items ≡ self.old.tasks.items) }
     {
         let Task {

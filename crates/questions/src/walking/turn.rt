@@ -1,14 +1,16 @@
 //! Where the next rule sends the parts of a box.
-ghost use Rattle.std.specs.Prelude.{◌⊎◌, ◌+◌, ◌<◌, ◌∷◌, [], ◌++◌, length, IsTrue, OnOk};
+ghost use Rattle.std.specs.Prelude.{◌⊎◌, ◌+◌, ◌<◌, ◌∷◌, [], ◌++◌, List, length, IfSome, IsTrue, OnOk};
 ghost use Rattle.rules.specs.rule.Actions.{target_of};
 ghost use Rattle.table.specs.chains.Table.{Table as Filter, chain_at};
 ghost use Rattle.table.specs.declared.verdict.Verdict.{Verdict};
 ghost use Rattle.table.specs.walk.Cases.{Under, on_by};
 ghost use Rattle.table.specs.walk.Walk.{after_match, whole};
-ghost use Rattle.questions.specs.Foreign.{Agrees, Assignment, IsUnanswered, needs_at};
+ghost use Rattle.questions.specs.Foreign.{Agrees, Assignment, IsNeeded, IsUnanswered, needs_at};
 ghost use Rattle.questions.specs.Scopes.{Known, answered, entries_by, is_met, known_by, table_of};
+ghost use Rattle.questions.specs.declared.foreign.need.Need.{Need as Needed};
 ghost use Rattle.questions.specs.steps.Ahead.{Stays};
-ghost use Rattle.questions.specs.steps.Branches.{CanAsk, IsBranch, target_at};
+ghost use Rattle.questions.specs.steps.Asking.{KeepsAsked};
+ghost use Rattle.questions.specs.steps.Branches.{CanAsk, IsBranch, IsNeededBy, target_at};
 ghost use Rattle.questions.specs.steps.Onward.{AddsTasks, GetsOn, HasTrail, IsAnswered, IsBesides, IsPut};
 ghost use Rattle.questions.specs.steps.Waiting.{AreNamedAlike, AreThere, IsLastMet, IsThere, Moves, PassesOver, rest_of, rests_of, stage_at};
 
@@ -28,6 +30,7 @@ use table::{Step, Table, Verdict};
 fn go_on(front: &mut Front, mut task: Task, at: Pending) -> Result<(), AllocError>
     ensures moves { OnOk result ((t : Filter) (known : Known) (policy : Verdict) → IsThere t.chains at → AreThere t.chains task
         → Moves t known policy task.scope (stage_at known t.chains at task) front.old front.new) }
+    ensures asked { OnOk result ((needs : List (List (List Needed))) → KeepsAsked needs task.scope.answers front.old front.new) }
     ensures on { OnOk result (AddsTasks (IsPut task.scope (task.rests.items ++ at ∷ []) task.trail.items) front.old front.new) }
 {
     task.rests.push(at)?;
@@ -39,6 +42,7 @@ fn enter(table: &Table, front: &mut Front, task: Task, name: &Name) -> Result<()
     ensures moves { OnOk result ((t : Filter) (known : Known) (policy : Verdict) → AreNamedAlike t table.now.table → AreThere t.chains task
         → Moves t known policy task.scope
         (Under (whole name.now ∷ rests_of t.chains task.rests.items) (entries_by known t.chains task.trail.items)) front.old front.new) }
+    ensures asked { OnOk result ((needs : List (List (List Needed))) → KeepsAsked needs task.scope.answers front.old front.new) }
     ensures on { OnOk result (AddsTasks (HasTrail task.trail.items) front.old front.new) }
 {
     match table.index_of(name.bytes()) {
@@ -59,6 +63,7 @@ fn jump(
         → Moves t known policy task.scope
         (Under (whole name.now ∷ rest_of t.chains behind ∷ rests_of t.chains task.rests.items) (entries_by known t.chains task.trail.items))
         front.old front.new) }
+    ensures asked { OnOk result ((needs : List (List (List Needed))) → KeepsAsked needs task.scope.answers front.old front.new) }
     ensures on { OnOk result (AddsTasks (HasTrail task.trail.items) front.old front.new) }
 {
     task.rests.push(behind)?;
@@ -79,6 +84,7 @@ fn turn(
         → Moves t known policy task.scope
         (on_by (after_match target (rest_of t.chains behind) (rests_of t.chains task.rests.items)) (entries_by known t.chains task.trail.items))
         front.old front.new) }
+    ensures asked { OnOk result ((needs : List (List (List Needed))) → KeepsAsked needs task.scope.answers front.old front.new) }
     ensures on { OnOk result (AddsTasks (HasTrail task.trail.items) front.old front.new) }
 {
     match target {
@@ -107,6 +113,7 @@ fn follow(
         (on_by (after_match (target_of rule.now) (rest_of t.chains behind) (rests_of t.chains task.rests.items))
         (entries_by known t.chains (task.trail.items ++ record { chain = behind.chain; number = behind.passed } ∷ [])))
         front.old front.new) }
+    ensures asked { OnOk result ((needs : List (List (List Needed))) → KeepsAsked needs task.scope.answers front.old front.new) }
     ensures on { OnOk result (AddsTasks (HasTrail (task.trail.items ++ record { chain = behind.chain; number = behind.passed } ∷ [])) front.old front.new) }
 {
     task.trail.push(Step {
@@ -125,6 +132,7 @@ fn pass_over(
 ) -> Result<(), AllocError>
     ensures moves { OnOk result ((t : Filter) (known : Known) (policy : Verdict) → IsThere t.chains at → AreThere t.chains task.now
         → PassesOver t known policy boxes.items task.now.scope.answers (stage_at known t.chains at task.now) front.old front.new) }
+    ensures asked { OnOk result ((needs : List (List (List Needed))) → KeepsAsked needs task.now.scope.answers front.old front.new) }
     ensures on { OnOk result (AddsTasks (IsBesides boxes.items task.now.scope.answers (task.now.rests.items ++ at ∷ []) task.now.trail.items) front.old front.new) }
 {
     while let Some(area) = boxes.pop() {
@@ -139,6 +147,7 @@ fn part(front: &mut Front, mut task: Task, at: Pending, condition: usize) -> Res
     requires { IsUnanswered task.scope.answers condition }
     ensures moves { OnOk result ((t : Filter) (known : Known) (policy : Verdict) → IsThere t.chains at → AreThere t.chains task
         → Moves t known policy task.scope (stage_at known t.chains at task) front.old front.new) }
+    ensures asked { OnOk result ((needs : List (List (List Needed))) → IsNeeded needs condition → KeepsAsked needs task.scope.answers front.old front.new) }
     ensures on { OnOk result (AddsTasks (IsAnswered task.scope.answers (task.rests.items ++ at ∷ []) task.trail.items) front.old front.new) }
 {
     let same = task.scope.area.copy(front.alloc)?;
@@ -161,7 +170,8 @@ enum Branch {
 
 // What becomes of the packets that a rule's box has, by what the rule needs and what is answered.
 fn branch_of(needs: &[Need], answers: &Answers, rule: &Rule) -> Branch
-    ensures { IsBranch needs.now answers.now (target_of rule.now) result }
+    ensures branch { IsBranch needs.now answers.now (target_of rule.now) result }
+    ensures needed { IsNeededBy needs.now result }
 {
     match known_of(needs, answers) {
         Standing::Fails => Branch::Passed,
@@ -186,10 +196,12 @@ fn cut(
     requires passed { at.passed < length (chain_at (table_of subject.now) at.chain).rules }
     requires rests { AreThere (table_of subject.now).chains task }
     requires room { length task.trail.items < 65536 }
+    requires needed { IfSome parted (IsNeeded subject.now.needs.now) }
     requires parted { CanAsk (needs_at subject.now.needs.now at.chain at.passed) task.scope.answers (target_at (table_of subject.now) at) parted }
     ensures moves { OnOk result ((a : Assignment) (policy : Verdict)
         → Moves (answered subject.now a) (known_by subject.now a) policy task.scope
         (stage_at (known_by subject.now a) (answered subject.now a).chains at task) front.old front.new) }
+    ensures asked { OnOk result (KeepsAsked subject.now.needs.now task.scope.answers front.old front.new) }
     ensures on { OnOk result (AddsTasks (GetsOn task.scope (task.rests.items ++ at ∷ []) task.trail.items) front.old front.new) }
 {
     let table = &subject.boxed.table;
@@ -233,6 +245,7 @@ pub(crate) fn ask(
     ensures moves { OnOk result ((a : Assignment) (policy : Verdict)
         → Moves (answered subject.now a) (known_by subject.now a) policy task.scope
         (stage_at (known_by subject.now a) (answered subject.now a).chains at task) front.old front.new) }
+    ensures asked { OnOk result (KeepsAsked subject.now.needs.now task.scope.answers front.old front.new) }
     ensures on { OnOk result (AddsTasks (GetsOn task.scope (task.rests.items ++ at ∷ []) task.trail.items) front.old front.new) }
 {
     let table = &subject.boxed.table;

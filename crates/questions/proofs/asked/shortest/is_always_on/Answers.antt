@@ -7,4 +7,4 @@ walks_of-requires-clause-inside c = c.in_ok-whole.ensures.all c.args.packet.now 
 
 pub returns : goal.returns
 returns c = λ all a agrees.
-    surely_on c.args.subject.now c.in-Some.found.items c.args.packet.now c.args.step a ((rw c.in-Some.is at (c.in_ok-walks_of.ensures a)).complete agrees) (rw c.as_slice.ensures.value at (c.all_have.ensures all))
+    surely_on c.args.subject.now c.in-Some.found.items c.args.packet.now c.args.step a ((rw c.in-Some.is at (c.in_ok-walks_of.ensures.walks a)).complete agrees) (rw c.as_slice.ensures.value at (c.all_have.ensures all))

@@ -1,6 +1,11 @@
-use Rattle.std.proofs.Common.{rules, sym}
+use Rattle.std.proofs.Common.{rules, ◌≡◌, Bool, List, sym, subst, All}
+use Rattle.std.specs.Prelude.{filter}
 use Rattle.std.proofs.lemmas.Fn.{filter_same}
+use Rattle.std.proofs.lemmas.List.Elements.{All-filter}
+use Rattle.classify.specs.classifier.Classifier.{box_matches}
+use Rattle.questions.specs.Foreign.{AreAsked}
 use Rattle.questions.specs.boxes.Area.{IsAtHook}
+use Rattle.questions.specs.declared.walking.task.Leaf.{Leaf}
 use Rattle.questions.proofs.laws.PacketLaws.{written_at_hooks}
 use Rattle.questions.proofs.laws.WalksLaws.{walks_shown}
 use Rattle.questions.proofs.asked.walks.walks.Goals as goal
@@ -14,9 +19,16 @@ walks_of-requires-clause-inside c =
     let can : IsAtHook c.packet-packet.result.now = rw c.packet-packet.ensures.value (written_at_hooks words c.args.written.now is) in
     c.in_ok-whole.ensures.all c.packet-packet.result.now can (sym c.hook.ensures.value)
 
-pub returns : goal.returns
-returns c =
-    rw (← c.packet-packet.ensures.value) (walks_shown c.args.subject.now c.packet-packet.result.now c.args.answers.now c.in-Some.found.items _ (filter_same _ _ _ (λ x b f' k. search rules) _ _ c.retain.ensures.filtered) (λ a. rw c.in-Some.is at (c.in_ok-found.ensures a)))
+pub returns-clause-asked : goal.returns-clause-asked
+returns-clause-asked c =
+    let Asked : Leaf → Type 0 = λ leaf. AreAsked c.args.subject.now.needs.now c.args.answers.now leaf.answers in
+    let has : Leaf → Bool = λ leaf. box_matches c.packet-packet.result.now.values leaf.area in
+    let same : c.retain.new.self.items ≡ filter has c.in-Some.found.items = filter_same _ _ _ (λ x b f' k. search rules) _ _ c.retain.ensures.filtered in
+    subst (All Asked) (sym same) (All-filter has Asked c.in-Some.found.items (rw c.in-Some.is at c.in_ok-found.ensures.asked))
 
-pub returns-in_default : goal.returns-in_default
-returns-in_default c = rw (← c.packet-packet.ensures.value) (rw c.in_default.is at c.in_ok-found.ensures)
+pub returns-clause-walks : goal.returns-clause-walks
+returns-clause-walks c =
+    rw (← c.packet-packet.ensures.value) (walks_shown c.args.subject.now c.packet-packet.result.now c.args.answers.now c.in-Some.found.items _ (filter_same _ _ _ (λ x b f' k. search rules) _ _ c.retain.ensures.filtered) (λ a. rw c.in-Some.is at (c.in_ok-found.ensures.walks a)))
+
+pub returns-in_default-clause-walks : goal.returns-in_default-clause-walks
+returns-in_default-clause-walks c = rw (← c.packet-packet.ensures.value) (rw c.in_default.is at c.in_ok-found.ensures.walks)

@@ -42,8 +42,8 @@ returns-clause-on c = λ is a agrees.
     let s = c.args.subject.now in
     let p = c.args.packet.now in
     sought_on (answered s a) (entry_of (answered s a).chains c.args.step) p (c.requires.came a agrees)
-    (ended_short (answered s a) (known_by s a) c.in_ok-found.found p c.args.scope.now.answers _ (rw c.is_some.ensures at is) (c.in_ok-found.ensures a) agrees)
+    (ended_short (answered s a) (known_by s a) c.in_ok-found.found p c.args.scope.now.answers _ (rw c.is_some.ensures at is) (c.in_ok-found.ensures.walks a) agrees)
 
 pub returns-clause-long : goal.returns-clause-long
 returns-clause-long c = λ un a.
-    inr (c.are_none.ensures.some c.if-are_none.false, ended_long c.in_ok-found.found _ _ (rw c.is_some.ensures at un) (c.in_ok-found.ensures a))
+    inr (c.are_none.ensures.some c.if-are_none.false, ended_long c.in_ok-found.found _ _ (rw c.is_some.ensures at un) (c.in_ok-found.ensures.walks a))

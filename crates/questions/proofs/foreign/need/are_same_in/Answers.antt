@@ -1,4 +1,4 @@
-use Rattle.std.proofs.Common.{◌≡◌, List, Vec, Global, refl, sym, ◌∙◌, arith}
+use Rattle.std.proofs.Common.{List, Vec, Global, refl, sym, ◌∙◌, arith}
 use Rattle.std.specs.Prelude.{map}
 use Rattle.std.proofs.lemmas.Bool.{true≢false}
 use Rattle.questions.specs.declared.foreign.need.Need.{Need}

@@ -6,6 +6,7 @@ use Rattle.questions.specs.declared.walking.task.Pending.{Pending}
 use Rattle.questions.specs.declared.walking.task.Task.{Task}
 use Rattle.questions.proofs.laws.ForeignLaws.{left_sound}
 use Rattle.questions.proofs.laws.WaitLaws.{begun, task_moves}
+use Rattle.questions.proofs.laws.AskedLaws.{asked_first}
 use Rattle.questions.proofs.walking.engine.begin.Goals as goal
 
 pub returns-clause-begins : goal.returns-clause-begins
@@ -32,3 +33,6 @@ returns-clause-first c =
       rests = rests;
       trail = c.new-3.ensures.items;
     }
+
+pub returns-clause-asked : goal.returns-clause-asked
+returns-clause-asked c = λ needs. asked_first needs c.args.hook c.args.start _ (returns-clause-first c)

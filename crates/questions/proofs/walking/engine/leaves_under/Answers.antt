@@ -1,8 +1,11 @@
-use Rattle.std.proofs.Common.{◌≡◌, ◌<◌, false, length, refl, arith, inl, inr, Some}
+use Rattle.std.proofs.Common.{◌≡◌, ◌<◌, false, List, length, refl, sym, subst, arith, inl, inr, Some}
 use Rattle.std.proofs.lemmas.List.Elements.{All-pop}
-use Rattle.questions.specs.Foreign.{Assignment}
+use Rattle.questions.specs.Foreign.{AreAsked, Assignment}
 use Rattle.questions.specs.Scopes.{answered, known_by, table_of}
+use Rattle.questions.specs.declared.foreign.answers.Answer.{Answer}
 use Rattle.questions.specs.declared.walking.front.Front.{Front}
+use Rattle.questions.specs.declared.walking.scope.Scope.{Scope}
+use Rattle.questions.specs.declared.walking.task.Task.{Task}
 use Rattle.questions.specs.steps.Taken.{IsFull, IsStep}
 use Rattle.questions.specs.steps.Waiting.{AreThere}
 use Rattle.questions.proofs.laws.ResolvedLaws.{front_back}
@@ -11,6 +14,7 @@ use Rattle.questions.proofs.walking.engine.leaves_under.Goals as goal
 
 pub loop-taken-init : goal.loop-taken-init
 loop-taken-init c = record {
+  asked = c.in_ok-front.ensures.asked c.args.subject.now.needs.now;
   kept = c.in_ok-candidates.ensures (table_of c.args.subject.now);
   begins = c.in_ok-front.ensures.begins;
   gets = λ a. record { first = c.in_ok-front.front; begins = c.in_ok-front.ensures.first; takes = refl };
@@ -36,7 +40,15 @@ loop-taken-preserved c =
       record { ends = c.policy_at-policy.ensures.ends; tasks = c.in-Some.ensures.items; leaves = refl; room = omega arith },
       (c.in_ok-next-in-Some.next, c.in_ok-next-in-Some.ensures.further c.args.start c.loop-taken.invariant.kept a, c.in_ok-step-in-Some.ensures.moves a, c.in_ok-step-in-Some.ensures.on),
     ) in
+    let needs = s.needs.now in
+    let given : List Answer = c.args.start.answers in
+    let Tasks : Task → Type 0 = λ task. AreAsked needs given task.scope.answers in
+    let before = All-pop Tasks old.tasks.items popped.tasks.items (Some c.in-Some.task) c.in-Some.ensures.items c.loop-taken.invariant.asked.tasks in
+    let any : Assignment = λ _. false in
+    let own : Tasks c.in_ok-next-in-Some.next =
+    subst (λ (scope : Scope). AreAsked needs given scope.answers) (sym (c.in_ok-next-in-Some.ensures.further c.args.start c.loop-taken.invariant.kept any).same) before.1 in
     record {
+      asked = c.in_ok-step-in-Some.ensures.asked given own (record { tasks = before.0; leaves = c.loop-taken.invariant.asked.leaves });
       kept = c.in_ok-next-in-Some.ensures.kept c.args.start.area c.loop-taken.invariant.kept;
       begins = λ a. begun_next (answered s a) (known_by s a) c.args.hook c.args.start old c.step.new.front (c.loop-taken.invariant.begins a) (step a);
       gets = λ a. gets_on (answered s a) (known_by s a) c.args.hook c.args.start c.loop-taken.taken old c.step.new.front (c.loop-taken.invariant.gets a) (step a);
@@ -80,3 +92,9 @@ returns-in-None-clause-decided c = λ a. (c.loop-taken.invariant.begins a).decid
 
 pub returns-then-is_empty-clause-decided : goal.returns-then-is_empty-clause-decided
 returns-then-is_empty-clause-decided c = λ a. (c.loop-taken.invariant.begins a).decided
+
+pub returns-in-None-clause-asked : goal.returns-in-None-clause-asked
+returns-in-None-clause-asked c = c.loop-taken.invariant.asked.leaves
+
+pub returns-then-is_empty-clause-asked : goal.returns-then-is_empty-clause-asked
+returns-then-is_empty-clause-asked c = c.loop-taken.invariant.asked.leaves

@@ -57,3 +57,9 @@ pub returns-else-at-rule_count-clause-on : goal.returns-else-at-rule_count-claus
 returns-else-at-rule_count-clause-on c =
     let P : List Pending → Type 0 = λ rests. AddsTasks (GetsOn c.args.task.scope rests c.args.task.trail.items) c.args.front.now c.ask.new.front in
     on_ok_weaker c.ask.result (λ h. subst P (sym c.in-Some.ensures.items) h) c.ask.ensures.on
+
+pub returns-in-None-clause-asked : goal.returns-in-None-clause-asked
+returns-in-None-clause-asked c = on_ok_weaker c.add_leaf.result (λ h. h c.args.subject.now.needs.now) c.add_leaf.ensures.asked
+
+pub returns-then-at-rule_count-clause-asked : goal.returns-then-at-rule_count-clause-asked
+returns-then-at-rule_count-clause-asked c = on_ok_weaker c.add_task.result (λ h. h c.args.subject.now.needs.now) c.add_task.ensures.asked

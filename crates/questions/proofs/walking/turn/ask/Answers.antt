@@ -12,7 +12,7 @@ pub returns-in-Passed-clause-moves : goal.returns-in-Passed-clause-moves
 returns-in-Passed-clause-moves c =
     let s = c.args.subject.now in
     let own = table_of s in
-    let fails = rw (c.in-Passed.is, c.at-needs.ensures) at c.branch_of.ensures in
+    let fails = rw (c.in-Passed.is, c.at-needs.ensures) at c.branch_of.ensures.branch in
     on_ok_weaker c.go_on.result (λ h a policy.
     passed_on s a c.stands.ensures.sound policy c.args.at c.requires.there c.rule-rule.result.now c.requires.passed c.rule-rule.ensures (rests_of (answered s a).chains c.args.task.rests.items) c.args.task.trail.items
     c.args.task.scope c.args.front.now c.go_on.new.front fails
@@ -23,3 +23,6 @@ returns-in-Passed-clause-on c =
     let at : Pending = c.args.at in
     let later : Pending = record { chain = at.chain; passed = at.passed + 1 } in
     on_ok_weaker c.go_on.result (λ h. put_past c.args.task.scope c.args.task.rests.items at later c.args.task.trail.items c.args.front.now c.go_on.new.front refl (omega arith) h) c.go_on.ensures.on
+
+pub returns-in-Passed-clause-asked : goal.returns-in-Passed-clause-asked
+returns-in-Passed-clause-asked c = on_ok_weaker c.go_on.result (λ h. h c.args.subject.now.needs.now) c.go_on.ensures.asked

@@ -118,3 +118,21 @@ returns-in_ok-pass_over-in-ByPorts-clause-on c =
     on_ok_weaker c.pass_over-in-ByPorts-2.result (λ h. adds_more On c.args.front.now c.pass_over-in-ByPorts.new.front c.pass_over-in-ByPorts-2.new.front
     (besides_past task.scope c.in-ByPorts.outside.items task.rests.items at later task.trail.items c.args.front.now c.pass_over-in-ByPorts.new.front refl (omega arith) c.in_ok-pass_over-in-ByPorts.ensures.on)
     (parts_on task.scope c.in-ByPorts.again.items rests task.trail.items c.pass_over-in-ByPorts.new.front c.pass_over-in-ByPorts-2.new.front less h)) c.pass_over-in-ByPorts-2.ensures.on
+
+pub returns-in-Apart-clause-asked : goal.returns-in-Apart-clause-asked
+returns-in-Apart-clause-asked c = on_ok_weaker c.go_on.result (λ h. h c.args.subject.now.needs.now) c.go_on.ensures.asked
+
+pub returns-in-None-clause-asked : goal.returns-in-None-clause-asked
+returns-in-None-clause-asked c =
+    let needs = c.args.subject.now.needs.now in
+    on_ok_weaker c.follow.result (λ h given own all. h needs given own (c.in_ok-pass_over-in-Parts.ensures.asked needs given own all)) c.follow.ensures.asked
+
+pub returns-in-Some-clause-asked : goal.returns-in-Some-clause-asked
+returns-in-Some-clause-asked c =
+    let needs = c.args.subject.now.needs.now in
+    on_ok_weaker c.part.result (λ h given own all. h needs (rw c.in-Some.is at c.requires.needed) given own (c.in_ok-pass_over-in-Parts.ensures.asked needs given own all)) c.part.ensures.asked
+
+pub returns-in_ok-pass_over-in-ByPorts-clause-asked : goal.returns-in_ok-pass_over-in-ByPorts-clause-asked
+returns-in_ok-pass_over-in-ByPorts-clause-asked c =
+    let needs = c.args.subject.now.needs.now in
+    on_ok_weaker c.pass_over-in-ByPorts-2.result (λ h given own all. h needs given own (c.in_ok-pass_over-in-ByPorts.ensures.asked needs given own all)) c.pass_over-in-ByPorts-2.ensures.asked

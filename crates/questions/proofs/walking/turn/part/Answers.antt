@@ -1,4 +1,4 @@
-use Rattle.std.proofs.Common.{List, [], ◌∷◌, ◌++◌, ◌∙◌, ap, true, false}
+use Rattle.std.proofs.Common.{[], ◌∷◌, ◌++◌, ◌∙◌, ap, true, false}
 use Rattle.std.proofs.lemmas.Result.{on_ok_weaker}
 use Rattle.questions.specs.steps.Waiting.{stage_at}
 use Rattle.questions.proofs.laws.WaitLaws.{parts_by}
@@ -6,6 +6,7 @@ use Rattle.questions.specs.declared.walking.scope.Scope.{Scope}
 use Rattle.questions.specs.declared.walking.task.Task.{Task}
 use Rattle.questions.specs.steps.Onward.{IsAnswered}
 use Rattle.questions.proofs.laws.OnwardLaws.{adds_more, put_answered}
+use Rattle.questions.proofs.laws.AskedLaws.{asked_more}
 use Rattle.questions.proofs.walking.turn.part.Goals as goal
 
 pub returns-clause-moves : goal.returns-clause-moves
@@ -28,3 +29,11 @@ returns-clause-on c = on_ok_weaker c.go_on-2.result (λ h.
     adds_more Answered c.args.front.now c.go_on.new.front c.go_on-2.new.front
     (put_answered _ task.scope.answers (record { condition = c.args.condition; holds = false }) rests task.trail.items c.args.front.now c.go_on.new.front (c.in_ok-add.ensures ∙ ap (λ (s : Scope). s.answers ++ record { condition = c.args.condition; holds = false } ∷ []) other.scope) first)
     (put_answered _ task.scope.answers (record { condition = c.args.condition; holds = true }) rests task.trail.items c.go_on.new.front c.go_on-2.new.front c.in_ok-add-2.ensures h)) c.go_on-2.ensures.on
+
+pub returns-clause-asked : goal.returns-clause-asked
+returns-clause-asked c = on_ok_weaker c.go_on-2.result (λ h needs need given own all.
+    let task = c.args.task in
+    let other = c.in_ok-other.ensures in
+    h needs given (asked_more needs given task.scope.answers _ (record { condition = c.args.condition; holds = true }) c.in_ok-add-2.ensures own need)
+    (c.in_ok-go_on.ensures.asked needs given
+    (asked_more needs given task.scope.answers _ (record { condition = c.args.condition; holds = false }) (c.in_ok-add.ensures ∙ ap (λ (s : Scope). s.answers ++ record { condition = c.args.condition; holds = false } ∷ []) other.scope) own need) all)) c.go_on-2.ensures.asked

@@ -11,7 +11,7 @@ use Rattle.std.proofs.lemmas.List.Elements.{Contains-append_left, Contains-push}
 use Rattle.questions.proofs.walking.turn.pass_over.Goals as goal
 
 pub loop-area-init : goal.loop-area-init
-loop-area-init c = record { passed = λ t known policy p there all asked is reaches. inl is; within = λ numbers some. some; fits = λ t known policy start p there all asked fit before. before; all = λ box has. has; on = adds_none (IsBesides c.args.boxes.items c.args.task.now.scope.answers (c.args.task.now.rests.items ++ c.args.at ∷ []) c.args.task.now.trail.items) c.args.front.now c.args.front.now refl; keeps = λ t known there all. keeps_all t known c.args.front.now }
+loop-area-init c = record { passed = λ t known policy p there all asked is reaches. inl is; within = λ numbers some. some; fits = λ t known policy start p there all asked fit before. before; all = λ box has. has; asked = λ needs given own all. all; on = adds_none (IsBesides c.args.boxes.items c.args.task.now.scope.answers (c.args.task.now.rests.items ++ c.args.at ∷ []) c.args.task.now.trail.items) c.args.front.now c.args.front.now refl; keeps = λ t known there all. keeps_all t known c.args.front.now }
 
 pub loop-area-preserved : goal.loop-area-preserved
 loop-area-preserved c =
@@ -33,6 +33,7 @@ loop-area-preserved c =
           }))
           (c.loop-area.invariant.fits t known policy start p there all asked fit before));
       all = λ box has. c.loop-area.invariant.all box (subst (λ (bs : List (List SpanSet)). Contains bs box) (sym c.in-Some.ensures.items) (Contains-append_left left (c.in-Some.area ∷ []) box has));
+      asked = λ needs given own all. c.in_ok-go_on.ensures.asked needs given (rw next.scope own) (c.loop-area.invariant.asked needs given own all);
       on =
           (let Besides : Task → Type 0 = IsBesides c.args.boxes.items task.scope.answers (task.rests.items ++ c.args.at ∷ []) task.trail.items in
           let here : Contains c.args.boxes.items c.in-Some.area =
@@ -44,6 +45,9 @@ loop-area-preserved c =
           (let moves = c.in_ok-go_on.ensures.moves t known Accept there (rw next.rests all) in
           keeps_then t known c.args.front.now c.loop-area.front c.go_on.new.front (c.loop-area.invariant.keeps t known there all) moves.keeps);
     }
+
+pub returns-clause-asked : goal.returns-clause-asked
+returns-clause-asked c = c.loop-area.invariant.asked
 
 pub returns-clause-on : goal.returns-clause-on
 returns-clause-on c = c.loop-area.invariant.on

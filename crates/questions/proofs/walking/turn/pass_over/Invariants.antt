@@ -7,6 +7,8 @@ use Rattle.questions.specs.boxes.Cut.{IsInSome}
 use Rattle.questions.specs.declared.walking.scope.Scope.{Scope}
 use Rattle.questions.specs.steps.Waiting.{AreThere, Belongs, IsThere, IsAsked, IsAccounted, IsFitting, IsOfSome, Keeps, Reaches, stage_at}
 use Rattle.fields.specs.numbers.Spans.{SpanSet}
+use Rattle.questions.specs.declared.foreign.need.Need.{Need}
+use Rattle.questions.specs.steps.Asking.{KeepsAsked}
 use Rattle.questions.specs.steps.Onward.{AddsTasks, IsBesides}
 use Rattle.questions.proofs.walking.turn.pass_over.Given as goal
 
@@ -18,6 +20,7 @@ invariant-loop-area l = record {
   fits : (t : Table) (known : Known) (policy : Verdict) (start : Scope) (p : Packet) → IsThere t.chains l.at → AreThere t.chains l.task → IsAsked t policy p
       → (IsOfSome known p l.initial.boxes.items l.task.scope.answers → Belongs t known start p (stage_at known t.chains l.at l.task)) → IsFitting t known start p l.initial.front → IsFitting t known start p l.front;
   all : (box : List SpanSet) → Contains l.boxes.items box → Contains l.initial.boxes.items box;
+  asked : (needs : List (List (List Need))) → KeepsAsked needs l.task.scope.answers l.initial.front l.front;
   on : AddsTasks (IsBesides l.initial.boxes.items l.task.scope.answers (l.task.rests.items ++ l.at ∷ []) l.task.trail.items) l.initial.front l.front;
   keeps : (t : Table) (known : Known) → IsThere t.chains l.at → AreThere t.chains l.task → Keeps t known l.initial.front l.front;
 }
