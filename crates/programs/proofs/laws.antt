@@ -1,2 +1,3 @@
 pub mod LineFaults
+pub mod Loads
 pub mod Subcommands

@@ -1,1 +1,5 @@
+pub mod Answered
+pub mod Buffers
+pub mod Faults
+pub mod Loaded
 pub mod line

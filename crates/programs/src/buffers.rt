@@ -1,6 +1,6 @@
 //! Buffered readers and writers.
-ghost use Rattle.std.specs.Prelude.{◌≡◌, IfOk, false};
-ghost use Rattle.fields.specs.text.Tap.{has_failed};
+ghost use Rattle.std.specs.Prelude.{IfOk};
+ghost use Rattle.programs.specs.Buffers.{Reads, Writes};
 
 use fields::Tap;
 use std::alloc::{AllocError, Global};
@@ -9,7 +9,7 @@ use std::io::{BufReader, BufWriter, Read, Write};
 // The size of a buffer, in bytes.
 const BUFFER: usize = 65536;
 
-/// Reads through a buffer.
+/// Reads through a buffer. Nothing is read yet.
 ///
 /// # Errors
 ///
@@ -18,7 +18,7 @@ pub fn buffered_input<R: Read + Drop>(
     alloc: Global,
     reader: R,
 ) -> Result<Tap<BufReader<R>>, AllocError>
-    ensures { IfOk result (λ input. has_failed input ≡ false) }
+    ensures { IfOk result (Reads reader) }
 {
     match BufReader::with_capacity(alloc, BUFFER, reader) {
         Ok(reader) => Ok(Tap::new(reader)),
@@ -26,7 +26,7 @@ pub fn buffered_input<R: Read + Drop>(
     }
 }
 
-/// Writes through a buffer.
+/// Writes through a buffer. Nothing is written yet.
 ///
 /// # Errors
 ///
@@ -35,7 +35,7 @@ pub fn buffered_output<W: Write + Drop>(
     alloc: Global,
     writer: W,
 ) -> Result<Tap<BufWriter<W>>, AllocError>
-    ensures { IfOk result (λ output. has_failed output ≡ false) }
+    ensures { IfOk result (Writes writer) }
 {
     match BufWriter::with_capacity(alloc, BUFFER, writer) {
         Ok(writer) => Ok(Tap::new(writer)),

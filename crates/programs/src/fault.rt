@@ -1,4 +1,6 @@
 //! The faults that end a program early.
+ghost use Rattle.std.specs.Prelude.{◌≡◌};
+
 use sessions::RunFault;
 use std::alloc::{AllocError, AllocFailed};
 use thiserror::Error;
@@ -26,18 +28,30 @@ pub enum ProgramFault<'a> {
 }
 
 impl From<AllocError> for ProgramFault<'_> {
+    ghost use Rattle.programs.specs.declared.fault.ProgramFault.TheVariants.{NoMemory};
+
+    ghost from_gives = { λ _ fault. fault ≡ NoMemory };
+
     fn from(_error: AllocError) -> Self {
         ProgramFault::NoMemory
     }
 }
 
 impl<T: Drop> From<AllocFailed<T>> for ProgramFault<'_> {
+    ghost use Rattle.programs.specs.declared.fault.ProgramFault.TheVariants.{NoMemory};
+
+    ghost from_gives = { λ _ fault. fault ≡ NoMemory };
+
     fn from(_error: AllocFailed<T>) -> Self {
         ProgramFault::NoMemory
     }
 }
 
 impl From<RunFault> for ProgramFault<'_> {
+    ghost use Rattle.programs.specs.Faults.{run_stopped};
+
+    ghost from_gives = { λ stopped fault. fault ≡ run_stopped stopped };
+
     fn from(fault: RunFault) -> Self {
         match fault {
             RunFault::ReadFailed => ProgramFault::InputFailed,

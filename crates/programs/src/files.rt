@@ -1,4 +1,8 @@
 //! Files that a program restores into a session before its task.
+ghost use Rattle.std.specs.Prelude.{IfErr};
+ghost use Rattle.programs.specs.Faults.{IsUnopened};
+ghost use Rattle.programs.specs.Loaded.{IsLoaded};
+
 use crate::buffers::{buffered_input, buffered_output, let_go};
 use crate::fault::ProgramFault;
 use sessions::{RunFault, Session};
@@ -11,7 +15,9 @@ use std::rt::Files;
 /// # Errors
 ///
 /// `CannotOpen` where it fails; `NoMemory` where memory was refused.
-pub fn open_file<'a, R: Files>(rt: &R, file: &'a str) -> Result<R::File, ProgramFault<'a>> {
+pub fn open_file<'a, R: Files>(rt: &R, file: &'a str) -> Result<R::File, ProgramFault<'a>>
+    ensures { IfErr result (IsUnopened file.entry) }
+{
     match fs::open(rt, file) {
         Ok(opened) => Ok(opened),
         Err(error) if error.kind() == ErrorKind::OutOfMemory => Err(ProgramFault::NoMemory),
@@ -19,7 +25,8 @@ pub fn open_file<'a, R: Files>(rt: &R, file: &'a str) -> Result<R::File, Program
     }
 }
 
-/// Restores a file from its reader into a session, and returns the status of the restore. A fault goes to `errors`.
+/// Restores a file from its reader into a session, in place and without `--noflush`, and returns the status of the restore. A fault goes to
+/// `errors`.
 ///
 /// # Errors
 ///
@@ -36,6 +43,7 @@ where
     R: AllocGlobal,
     E: Print,
     I: Read + Drop,
+    ensures { IsLoaded (I.remaining reader) file.entry session.old result session.new }
 {
     let mut input = buffered_input(rt.alloc(), reader)?;
     let mut output = buffered_output(rt.alloc(), io::writer(errors))?;

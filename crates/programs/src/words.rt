@@ -1,4 +1,8 @@
 //! The words of a program's command line, and the reply to a line that gives no task.
+ghost use Rattle.std.specs.Prelude.{◌≡◌, IfErr, IfOk, drop, map, string_bytes};
+ghost use Rattle.programs.specs.Answered.{IsAnswered, IsReplied};
+ghost use Rattle.programs.specs.Faults.{AreNoWords};
+
 use crate::fault::ProgramFault;
 use crate::line::LineFault;
 use clap::Error;
@@ -12,7 +16,9 @@ use std::{env, io};
 /// # Errors
 ///
 /// `NotText` where a word isn't UTF-8; `NoMemory` where memory was refused.
-pub fn words_given<R: Env + AllocGlobal>(rt: &R) -> Result<Vec<String>, ProgramFault<'static>> {
+pub fn words_given<R: Env + AllocGlobal>(rt: &R) -> Result<Vec<String>, ProgramFault<'static>>
+    ensures { IfErr result AreNoWords }
+{
     match env::args(rt) {
         Ok(words) => Ok(words.collect(rt.alloc())?),
         Err(error) if error.kind() == io::ErrorKind::OutOfMemory => Err(ProgramFault::NoMemory),
@@ -25,10 +31,14 @@ pub fn words_given<R: Env + AllocGlobal>(rt: &R) -> Result<Vec<String>, ProgramF
 /// # Errors
 ///
 /// `AllocError` where memory was refused.
-pub fn texts_after_name(alloc: Global, words: &[String]) -> Result<Vec<&str>, AllocError> {
+pub fn texts_after_name(alloc: Global, words: &[String]) -> Result<Vec<&str>, AllocError>
+    ensures { IfOk result (λ texts. map (λ text. text.now) texts.items ≡ drop 1 (map string_bytes words.now)) }
+{
     let mut texts = Vec::new(alloc);
-    for word in words.iter().skip(1) {
-        texts.push(word.as_str())?;
+    if let Some((_name, rest)) = words.split_first() {
+        for word in rest {
+            texts.push(word.as_str())?;
+        }
     }
     Ok(texts)
 }
@@ -38,7 +48,9 @@ fn answer_refused<'a, R: Print, E: Print>(
     rt: &R,
     errors: &E,
     error: Error,
-) -> Result<u8, ProgramFault<'a>> {
+) -> Result<u8, ProgramFault<'a>>
+    ensures { IsReplied error result }
+{
     if error.kind() == ErrorKind::DisplayVersion {
         return match print!(rt; "{error}") {
             Ok(()) => Ok(0),
@@ -59,7 +71,9 @@ pub fn answer_line<'a, R: Print, E: Print>(
     rt: &R,
     errors: &E,
     fault: LineFault,
-) -> Result<u8, ProgramFault<'a>> {
+) -> Result<u8, ProgramFault<'a>>
+    ensures { IsAnswered fault result }
+{
     match fault {
         LineFault::NoMemory => Err(ProgramFault::NoMemory),
         LineFault::NoSubcommand => Err(ProgramFault::NoSubcommand),

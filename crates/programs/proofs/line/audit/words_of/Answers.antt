@@ -1,4 +1,4 @@
-use Rattle.std.proofs.Common.{ap, codes, map, ◌∙◌, ◌++◌, Bor, List, [], Option, unwrap_or}
+use Rattle.std.proofs.Common.{ap, map, ◌∙◌, ◌++◌, Bor, List, [], Option, unwrap_or}
 use Rattle.clap.specs.Words.{Text, found_of}
 use Rattle.clap.proofs.WalkLemmas.{raw_values-rows}
 use Rattle.programs.proofs.line.audit.words_of.Goals as goal
