@@ -109,6 +109,8 @@ fn run_of_ample<R: Print + AllocGlobal>(rt: &R) {
     tell(rt, "sets up to the highest top", ample::sets::ends(alloc));
     tell(rt, "sets of many intervals", ample::sets::many(alloc));
     tell(rt, "rows of 5,000 bits", ample::rows::long(alloc));
+    tell(rt, "75,001 rows", ample::copies::rows(alloc));
+    tell(rt, "150,000 numbers", ample::copies::numbers(alloc));
 }
 
 /// The cases of tables, commands and sections.
