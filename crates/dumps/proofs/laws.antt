@@ -11,3 +11,4 @@ pub mod OwnLaws
 pub mod PieceLaws
 pub mod ReadingLaws
 pub mod ServiceLaws
+pub mod TableLineLaws

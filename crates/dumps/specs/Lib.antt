@@ -14,4 +14,5 @@ pub mod Reading
 pub mod ReadingViews
 pub mod SectionLines
 pub mod Services
+pub mod TableLines
 pub mod Views

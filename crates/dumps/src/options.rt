@@ -5,3 +5,4 @@ pub(crate) mod refusal;
 pub(crate) mod row;
 pub(crate) mod rows;
 pub(crate) mod table;
+pub(crate) mod table_line;

@@ -7,10 +7,10 @@ use crate::options::refusal::{OptionFault, OptionRefusal, add_refused};
 use crate::options::row::{ExtensionRow, Kind, Lasting, OptionRow, Role};
 use crate::options::rows::{EXTENSIONS, OPTIONS};
 use crate::options::table::{NameRow, OptionTable, is_among};
+use crate::options::table_line::{extension_of, option_of};
 use crate::services::{icmp_type_names, port_names};
 use fields::{cut_at, read_number_to};
 use std::alloc::{AllocError, Global};
-use std::str::SplitWhitespace;
 
 /// The rows of a table, lent.
 #[derive(Drop)]
@@ -19,58 +19,6 @@ pub struct Rows<'a> {
     extensions: Vec<ExtensionRow<'a>>,
     ports: Vec<NameRow<'a>>,
     icmp_types: Vec<NameRow<'a>>,
-}
-
-// The role that a word names.
-fn role_of(word: &str) -> Option<Role> {
-    let role = match word.as_bytes() {
-        b"own" => Role::Own,
-        b"ports" => Role::Ports,
-        b"icmp-type" => Role::IcmpType,
-        b"protocol" => Role::Protocol,
-        b"match" => Role::Match,
-        b"target" => Role::Target,
-        b"asks" => Role::Asks,
-        b"unopposed" => Role::Unopposed,
-        b"holds" => Role::Holds,
-        b"says" => Role::Says,
-        b"turns" => Role::Turns,
-        _ => return None,
-    };
-    Some(role)
-}
-
-// The kind that a word names.
-fn kind_of(word: &str) -> Option<Kind> {
-    let kind = match word.as_bytes() {
-        b"known" => Kind::Known { alone: false },
-        b"alone" => Kind::Known { alone: true },
-        b"text" => Kind::Foreign(Lasting::Text),
-        b"place" => Kind::Foreign(Lasting::Place),
-        b"set" => Kind::Foreign(Lasting::Set),
-        b"ends" => Kind::Ends,
-        b"logs" => Kind::Logs,
-        b"passes" => Kind::Passes,
-        b"decides" => Kind::Decides,
-        _ => return None,
-    };
-    Some(kind)
-}
-
-// Whether a kind is that of a target, whose words are the matches that ask what it sets.
-fn is_target(kind: Kind) -> bool {
-    match kind {
-        Kind::Known { .. } | Kind::Foreign(_) => false,
-        _ => true,
-    }
-}
-
-// The name that a word gives; `.` is the rule itself.
-fn owner_of(word: &str) -> &[u8] {
-    if word == "." {
-        return b"".as_slice();
-    }
-    word.as_bytes()
 }
 
 // The words of a span.
@@ -154,10 +102,11 @@ fn name_refusal(kind: Option<Kind>) -> Option<OptionRefusal>
 }
 
 impl<'a> KnownOptions<'a> {
-    ghost use Rattle.std.specs.Prelude.{◌≡◌, ◌≤◌, ◌++◌, ◌∷◌, [], length, IfOk, IfErr, IfSome, OnOk};
+    ghost use Rattle.std.specs.Prelude.{◌≡◌, true, ◌++◌, ◌∷◌, [], IfOk, IfErr, IfSome, OnOk};
     ghost use Rattle.std.specs.List.{list_any};
     ghost use Rattle.dumps.specs.Conditions.{AreOwnStarts, HasOwnStarts};
     ghost use Rattle.dumps.specs.Known.{IsAdded, IsAddRefused, IsMatchAdded, IsMatchRefused, AreLent, add_refused_in, added_row, is_spelled, known_rows, known_extensions, with_match, table_of};
+    ghost use Rattle.dumps.specs.TableLines.{AreOptionLines, AreExtensionLines, AreWordsKept, IsOptionLast, IsExtensionLast};
     ghost use Rattle.dumps.specs.Views.{rows_in, extensions_in};
 
     /// The options of iptables 1.8.9 that rules of the table `filter` may have.
@@ -165,32 +114,55 @@ impl<'a> KnownOptions<'a> {
     /// # Errors
     ///
     /// That memory was refused; or a line of the table that is no row.
-    pub fn new(alloc: Global) -> Result<KnownOptions<'a>, OptionFault> {
+    pub fn new(alloc: Global) -> Result<KnownOptions<'a>, OptionFault>
+        ensures options { IfOk result (λ known. AreOptionLines OPTIONS.now (known_rows known)) }
+        ensures extensions { IfOk result (λ known. AreExtensionLines EXTENSIONS.now (known_extensions known)) }
+    {
         let mut known = KnownOptions {
             alloc,
             words: Vec::new(alloc),
             options: Vec::new(alloc),
             extensions: Vec::new(alloc),
         };
-        for line in OPTIONS.lines() {
-            if !known.add_option_line(line)? {
-                return Err(add_refused(alloc, OptionRefusal::NotARow, line.as_bytes()));
-            }
-        }
-        for line in EXTENSIONS.lines() {
-            if !known.add_extension_line(line)? {
-                return Err(add_refused(alloc, OptionRefusal::NotARow, line.as_bytes()));
-            }
-        }
+        known.add_options(OPTIONS)?;
+        known.add_extensions(EXTENSIONS)?;
         Ok(known)
     }
 
-    // Keeps further words.
-    fn keep(&mut self, words: SplitWhitespace<'a>) -> Result<Span, AllocError>
-        ensures { IfOk result (λ span. span.to ≤ length self.new.words.items) }
+    // Adds the options of a text.
+    fn add_options(&mut self, text: &'a str) -> Result<(), OptionFault>
+        requires { known_rows self.old ≡ [] }
+        ensures options { OnOk result (AreOptionLines text.now (known_rows self.new)) }
+        ensures same { OnOk result (known_extensions self.new ≡ known_extensions self.old) }
+    {
+        for line in text.lines() {
+            if !self.add_option_line(line)? {
+                return Err(add_refused(self.alloc, OptionRefusal::NotARow, line.as_bytes()));
+            }
+        }
+        Ok(())
+    }
+
+    // Adds the matches and targets of a text.
+    fn add_extensions(&mut self, text: &'a str) -> Result<(), OptionFault>
+        requires { known_extensions self.old ≡ [] }
+        ensures extensions { OnOk result (AreExtensionLines text.now (known_extensions self.new)) }
+        ensures same { OnOk result (known_rows self.new ≡ known_rows self.old) }
+    {
+        for line in text.lines() {
+            if !self.add_extension_line(line)? {
+                return Err(add_refused(self.alloc, OptionRefusal::NotARow, line.as_bytes()));
+            }
+        }
+        Ok(())
+    }
+
+    // Keeps the words of a line.
+    fn keep(&mut self, line: &'a str) -> Result<Span, AllocError>
+        ensures { IfOk result (AreWordsKept line.now self.old self.new) }
     {
         let from = self.words.len();
-        for word in words {
+        for word in line.split(' ') {
             self.words.push(word.as_bytes())?;
         }
         Ok(Span {
@@ -200,47 +172,28 @@ impl<'a> KnownOptions<'a> {
     }
 
     // Adds the option of a line. The answer is whether the line is a row.
-    fn add_option_line(&mut self, line: &'a str) -> Result<bool, AllocError> {
-        let mut words = line.split_whitespace();
-        let (Some(owner), Some(role), Some(values)) = (words.next(), words.next(), words.next())
-        else {
+    fn add_option_line(&mut self, line: &'a str) -> Result<bool, AllocError>
+        ensures { IfOk result (λ is_row. is_row ≡ true → IsOptionLast line.now self.old self.new) }
+    {
+        let span = self.keep(line)?;
+        let (_, words) = self.words.as_slice().split_at(span.from);
+        let Some(kept) = option_of(words, span) else {
             return Ok(false);
         };
-        let (Some(role), Some(values)) = (role_of(role), read_number_to(values.as_bytes(), 9))
-        else {
-            return Ok(false);
-        };
-        let names = self.keep(words)?;
-        self.options.push(KeptOption {
-            owner: owner_of(owner),
-            names,
-            values: values as usize,
-            role,
-        })?;
+        self.options.push(kept)?;
         Ok(true)
     }
 
     // Adds the match or target of a line, in the same way.
-    fn add_extension_line(&mut self, line: &'a str) -> Result<bool, AllocError> {
-        let mut words = line.split_whitespace();
-        let (Some(name), Some(kind)) = (words.next(), words.next()) else {
+    fn add_extension_line(&mut self, line: &'a str) -> Result<bool, AllocError>
+        ensures { IfOk result (λ is_row. is_row ≡ true → IsExtensionLast line.now self.old self.new) }
+    {
+        let span = self.keep(line)?;
+        let (_, words) = self.words.as_slice().split_at(span.from);
+        let Some(kept) = extension_of(words, span) else {
             return Ok(false);
         };
-        let Some(kind) = kind_of(kind) else {
-            return Ok(false);
-        };
-        let words = self.keep(words)?;
-        let (protocols, sets) = if is_target(kind) {
-            (NO_WORDS, words)
-        } else {
-            (words, NO_WORDS)
-        };
-        self.extensions.push(KeptExtension {
-            name: name.as_bytes(),
-            kind,
-            protocols,
-            sets,
-        })?;
+        self.extensions.push(kept)?;
         Ok(true)
     }
 

@@ -1,0 +1,34 @@
+use Rattle.std.specs.Borrow.{Bor}
+use Rattle.std.specs.List.{AllZip}
+use Rattle.std.proofs.Common.{◌∷◌, ◌++◌, [], List, ℕ, subst, sym, ◌∙◌, rules}
+use Rattle.std.proofs.lemmas.List.{map-append}
+use Rattle.std.proofs.lemmas.Iterator.Consumers.{YieldsList-end}
+use Rattle.std.proofs.lemmas.Iterator.Splits.{YieldsList-from_lines}
+use Rattle.dumps.specs.Known.{known_rows}
+use Rattle.dumps.specs.TableLines.{IsOptionLine}
+use Rattle.dumps.specs.Views.{texts_in}
+use Rattle.dumps.proofs.laws.TableLineLaws.{zip_push}
+use Rattle.dumps.proofs.options.kept.KnownOptions.add_options.Goals as goal
+
+pub loop-line-preserved : goal.loop-line-preserved
+loop-line-preserved c =
+    let lines = c.loop-line.yielded in
+    let line = c.in-Some.line in
+    let rows = known_rows c.loop-line.self in
+    let added = c.in_ok-add_option_line.ensures c.if-not-branch.false in
+    let more = zip_push IsOptionLine (texts_in lines) rows line.now added.row c.loop-line.invariant.options added.means in
+    let texts = map-append (λ (text : Bor (List ℕ)). text.now) lines (line ∷ []) in
+    record {
+      options =
+          subst (AllZip IsOptionLine (texts_in (lines ++ line ∷ []))) (sym added.last)
+          (subst (λ (all : List (List ℕ)). AllZip IsOptionLine all (rows ++ added.row ∷ [])) (sym texts) more);
+      same = added.same ∙ c.loop-line.invariant.same;
+    }
+
+pub returns : goal.returns
+returns c =
+    let ended = YieldsList-end (YieldsList-from_lines c.args.text.now (search rules)) c.loop-line.yielded _ c.loop-line.yielded_by _ _ c.in-None.is c.next.ensures.steps in
+    record {
+      options = record { each = subst (λ (all : List (List ℕ)). AllZip IsOptionLine all (known_rows c.loop-line.self)) ended.0 c.loop-line.invariant.options };
+      same = c.loop-line.invariant.same;
+    }
