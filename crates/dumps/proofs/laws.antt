@@ -1,5 +1,6 @@
 pub mod ApartLaws
 pub mod AskedLaws
+pub mod BesideLaws
 pub mod ConditionLaws
 pub mod KeptLaws
 pub mod KnownLaws

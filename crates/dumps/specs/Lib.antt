@@ -1,4 +1,5 @@
 pub mod Apart
+pub mod Beside
 pub mod Conditions
 pub mod Foreign
 pub mod Kept

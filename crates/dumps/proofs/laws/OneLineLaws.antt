@@ -17,11 +17,11 @@ Rows = List (List ℕ × List ℕ)
 abbrev Numbers : Rows → Type 0
 Numbers rows = All (λ (row : List ℕ × List ℕ). IsOneLine row.1) rows
 
-left-all : {X : Type 0} (P : X → Type 0) (xs ys : List X) → All P (xs ++ ys) → All P xs
+pub left-all : {X : Type 0} (P : X → Type 0) (xs ys : List X) → All P (xs ++ ys) → All P xs
 left-all P [] ys h = All-nil P
 left-all P (x ∷ xs) ys h = All-cons P x xs (All-head P x (xs ++ ys) h) (left-all P xs ys (All-tail P x (xs ++ ys) h))
 
-right-all : {X : Type 0} (P : X → Type 0) (xs ys : List X) → All P (xs ++ ys) → All P ys
+pub right-all : {X : Type 0} (P : X → Type 0) (xs ys : List X) → All P (xs ++ ys) → All P ys
 right-all P [] ys h = h
 right-all P (x ∷ xs) ys h = right-all P xs ys (All-tail P x (xs ++ ys) h)
 
@@ -81,7 +81,8 @@ words_one table r true option values h one =
     All-cons IsOneLine (codes "!") (option ∷ map (given_value table r) values) (All-head IsOneLine (codes "!") (option ∷ values) one)
     (plain_one table r option values h (All-tail IsOneLine (codes "!") (option ∷ values) one))
 
-own_one : (table : Table) (parts : List Part) → HasNumbersInOneLine table → AreOneLine (flat_map part_words parts) → AreOneLine (own_words table parts)
+-- own words of words without newlines
+pub own_one : (table : Table) (parts : List Part) → HasNumbersInOneLine table → AreOneLine (flat_map part_words parts) → AreOneLine (own_words table parts)
 own_one table [] h one = All-nil IsOneLine
 own_one table (part ∷ parts) h one =
     All-append IsOneLine (own_part_words table part parts) (own_words table parts) (go (is_own table part parts))

@@ -1,12 +1,12 @@
 -- The own line, part by part, and what its words are.
-use Rattle.std.proofs.Common.{◌≡◌, ◌≢◌, ◌==◌, inl, inr, ℕ, ◌+◌, ◌<◌, Bool, true, false, cond, ◌||◌, ◌⊎◌, List, [], ◌∷◌, ◌++◌, length, drop, flat_map, get_or, refl, ◌∙◌, arith, suc, eq-eqb}
+use Rattle.std.proofs.Common.{◌≡◌, ◌≢◌, ◌==◌, inl, inr, ℕ, ◌+◌, ◌<◌, Bool, true, false, cond, ◌||◌, ◌⊎◌, List, [], ◌∷◌, ◌++◌, Some, length, drop, flat_map, get_or, refl, ◌∙◌, arith, suc, eq-eqb}
 use Rattle.std.proofs.lemmas.Bool.{and_parts, or_parts, ltb-true}
 use Rattle.std.proofs.lemmas.List.{at_drop_more}
 use Rattle.std.proofs.lemmas.List.Concat.{flat_map-append}
 use Rattle.std.specs.List.{list_all}
 use Rattle.std.specs.Prelude.{nat_lt}
 use Rattle.fields.specs.text.OneLine.{IsOneLine, AreOneLine}
-use Rattle.fields.specs.text.Words.{is_bare, IsQuotedByte, IsQuotedText, IsSpelling, EndsWord, AreWords}
+use Rattle.fields.specs.text.Words.{is_bare, IsQuotedByte, IsQuotedText, IsSpelling, EndsWord, AreWords, words_of}
 use Rattle.fields.proofs.laws.values.BareLaws.{some-bytes}
 use Rattle.fields.proofs.laws.text.WordLaws.{words_of-AreWords}
 use Rattle.dumps.specs.Options.{Table}
@@ -62,3 +62,10 @@ are-words (word ∷ words) one =
 
 pub lines_read_back : LinesReadBack
 lines_read_back words one = words_of-AreWords words (line_of words) (are-words words one)
+
+-- and those of one whose first word has no blank before it
+pub line_reads_back : (word : List ℕ) (words : List (List ℕ)) → AreOneLine (word ∷ words) → words_of (spelled word ++ line_of words) ≡ Some (word ∷ words)
+line_reads_back word words one =
+    let rest : AreOneLine words = λ k d within. one (suc k) d (omega arith) in
+    words_of-AreWords (word ∷ words) (spelled word ++ line_of words)
+    ([], spelled word, line_of words, refl, refl, spelled-spells word (one 0 word (omega arith)), ends words, are-words words rest)

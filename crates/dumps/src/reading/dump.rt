@@ -108,6 +108,7 @@ impl<'a> Reading<'a> {
     ghost use Rattle.dumps.specs.Reading.{IsRuleTaken, IsRuleRead, IsOtherRead, IsFilterRead, IsReadAt, IsLineRead};
     ghost use Rattle.dumps.specs.Reading.{IsRuleRefused, IsFilterRefused, IsRefusedAt, IsLineRefused};
     ghost use Rattle.dumps.specs.ReadingViews.{read_in, refused_in};
+    ghost use Rattle.dumps.specs.Beside.{StandsBeside};
     ghost use Rattle.dumps.specs.Views.{table_in};
 
     /// The reading of a dump of which no line was read, by a table of options.
@@ -335,6 +336,7 @@ impl<'a> Reading<'a> {
     /// That of `take_apart`; for a chain line a search among the rules so far.
     pub fn line(&mut self, line: &[u8]) -> Result<(), DumpFault>
         ensures read { OnOk result (IsLineRead (table_in self.old.table) line.now (read_in self.old) (read_in self.new)) }
+        ensures beside { OnOk result (StandsBeside (table_in self.old.table) line.now (read_in self.old) (read_in self.new)) }
         ensures refused { IfErr result (λ fault. IfSome (refused_in fault) (IsLineRefused (table_in self.old.table) line.now (read_in self.old))) }
         ensures table { self.new.table ≡ self.old.table }
     {

@@ -1,0 +1,38 @@
+-- What a rule needs stands beside its text (iptables-save(8)).
+use Rattle.std.specs.Prelude.{◌≡◌, ◌⊎◌, true, ℕ, List, [], ◌∷◌, ◌++◌, All, Option, None, Some, option_map}
+use Rattle.std.specs.Option.{option_and_then}
+use Rattle.fields.specs.text.OneLine.{AreOneLine}
+use Rattle.fields.specs.text.Words.{words_of}
+use Rattle.dumps.specs.Foreign.{Needed}
+use Rattle.dumps.specs.Options.{Known, Table}
+use Rattle.dumps.specs.Own.{HasNumbersInOneLine}
+use Rattle.dumps.specs.Reading.{Read, Filter, is_too_long, add_line, IsLineRead}
+use Rattle.dumps.specs.SectionLines.{RuleLine, rule_line}
+
+-- the chain of a line with a rule
+abbrev pub chain_in : Option RuleLine → Option (List ℕ)
+chain_in line = option_map (λ (rule : RuleLine). rule.chain) line
+
+-- the chain in which a line puts a rule last, if it does: its words are counters or none, `-A` or `--append`, the chain, and others
+abbrev pub chain_of : List ℕ → Option (List ℕ)
+chain_of line = option_and_then (λ words. chain_in (rule_line words)) (words_of line)
+
+-- no word that a table gives the program has a newline
+pub record GivesOneLine (table : Table) : Type 0 where
+  pub numbers : HasNumbersInOneLine table
+  pub known : All (λ (known : Known). AreOneLine known.holds × AreOneLine known.fails) table.known
+
+-- A line becomes one line of the text. That puts a rule last in a chain, and one rule of the same chain is added, with what it needs; or it
+-- is the line itself, which puts none there, and no rule is added. A line that is too long puts none there: a restore refuses it.
+pub data IsBeside (line : List ℕ) (old new : Read) : Type 0 where
+  Rule : (given chain : List ℕ) (needs : List Needed) → new.text ≡ add_line old.text given → chain_of given ≡ Some chain
+      → new.rules ≡ old.rules ++ record { chain = chain; needs = needs } ∷ [] → IsBeside line old new
+  NoRule : new.text ≡ add_line old.text line → (is_too_long line ≡ true) ⊎ (chain_of line ≡ None) → new.rules ≡ old.rules → IsBeside line old new
+
+-- so a line of the section `filter` is read, where no word that the table gives has a newline
+abbrev pub StandsBeside : Table → List ℕ → Read → Read → Type 0
+StandsBeside table line old new = GivesOneLine table → old.section ≡ Filter → IsBeside line old new
+
+-- what is read stands so: the k-th line `-A` of a chain in the text of a section is the k-th rule of the chain
+abbrev pub RulesStandBesideLines : Type 0
+RulesStandBesideLines = (table : Table) (line : List ℕ) (old new : Read) → IsLineRead table line old new → StandsBeside table line old new
