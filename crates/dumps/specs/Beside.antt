@@ -1,9 +1,10 @@
 -- What a rule needs stands beside its text (iptables-save(8)).
-use Rattle.std.specs.Prelude.{◌≡◌, ◌⊎◌, true, ℕ, List, [], ◌∷◌, ◌++◌, All, Option, None, Some, option_map}
+use Rattle.std.specs.Prelude.{◌≡◌, ◌⊎◌, true, false, ℕ, List, [], ◌∷◌, ◌++◌, map, flat_map, All, Option, None, Some, option_map}
+use Rattle.std.specs.List.{filter_map}
 use Rattle.std.specs.Option.{option_and_then}
 use Rattle.fields.specs.text.OneLine.{AreOneLine}
 use Rattle.fields.specs.text.Words.{words_of}
-use Rattle.dumps.specs.Foreign.{Needed}
+use Rattle.dumps.specs.Foreign.{Needed, ReadRule}
 use Rattle.dumps.specs.Options.{Known, Table}
 use Rattle.dumps.specs.Own.{HasNumbersInOneLine}
 use Rattle.dumps.specs.Reading.{Read, Filter, is_too_long, add_line, IsLineRead}
@@ -33,6 +34,28 @@ pub data IsBeside (line : List ℕ) (old new : Read) : Type 0 where
 abbrev pub StandsBeside : Table → List ℕ → Read → Read → Type 0
 StandsBeside table line old new = GivesOneLine table → old.section ≡ Filter → IsBeside line old new
 
--- what is read stands so: the k-th line `-A` of a chain in the text of a section is the k-th rule of the chain
+-- what is read stands so
 abbrev pub RulesStandBesideLines : Type 0
 RulesStandBesideLines = (table : Table) (line : List ℕ) (old new : Read) → IsLineRead table line old new → StandsBeside table line old new
+
+-- lines of a section, one after another
+abbrev pub AreBeside : List (List ℕ) → Read → Read → Type 0
+AreBeside [] old new = new ≡ old
+AreBeside (line ∷ lines) old new = (mid : Read) × IsBeside line old mid × AreBeside lines mid new
+
+-- no line is too long for a restore
+abbrev pub AreShort : List (List ℕ) → Type 0
+AreShort lines = All (λ (line : List ℕ). is_too_long line ≡ false) lines
+
+-- some lines and rules came behind those of a text, and the lines that put a rule last in a chain are, one after another, in the chains of
+-- these rules
+pub record CameTogether (old new : Read) : Type 0 where
+  pub lines : List (List ℕ)
+  pub rules : List ReadRule
+  pub text : new.text ≡ old.text ++ flat_map (λ (line : List ℕ). line ++ 10 ∷ []) lines
+  pub behind : new.rules ≡ old.rules ++ rules
+  pub chains : AreShort lines → filter_map chain_of lines ≡ map (λ (rule : ReadRule). rule.chain) rules
+
+-- so the k-th line `-A` of a chain in the text of a section is the k-th rule of the chain
+abbrev pub LinesComeWithRules : Type 0
+LinesComeWithRules = (lines : List (List ℕ)) (old new : Read) → AreBeside lines old new → CameTogether old new

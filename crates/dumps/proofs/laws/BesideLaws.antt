@@ -1,5 +1,6 @@
 -- Lines of the text beside rules.
-use Rattle.std.proofs.Common.{◌≡◌, inl, inr, ℕ, Bool, true, false, cond, List, [], ◌∷◌, ◌++◌, Option, None, Some, refl, ap, subst, ◌∙◌, append_assoc}
+use Rattle.std.proofs.Common.{◌≡◌, ◌⊎◌, inl, inr, ℕ, Bool, true, false, cond, List, [], ◌∷◌, ◌++◌, flat_map, Option, None, Some, refl, ap, sym, subst, ◌∙◌, append_assoc, append-nil}
+use Rattle.std.specs.List.{filter_map, cons_option}
 use Rattle.std.specs.Prelude.{All, codes}
 use Rattle.std.specs.Bool.{MatchBool}
 use Rattle.std.specs.Option.{option_and_then}
@@ -10,12 +11,12 @@ use Rattle.fields.specs.text.OneLine.{IsOneLine, AreOneLine}
 use Rattle.fields.specs.text.Words.{words_of}
 use Rattle.fields.proofs.laws.text.OneLineLaws.{found_words}
 use Rattle.dumps.specs.Apart.{IsTakenApart}
-use Rattle.dumps.specs.Beside.{chain_in, chain_of, GivesOneLine, IsBeside, Rule, NoRule, RulesStandBesideLines}
-use Rattle.dumps.specs.Foreign.{Needed, words_by, words_for, known_words, unknown_needs}
+use Rattle.dumps.specs.Beside.{CameTogether, LinesComeWithRules, chain_in, chain_of, GivesOneLine, IsBeside, Rule, NoRule, RulesStandBesideLines}
+use Rattle.dumps.specs.Foreign.{Needed, ReadRule, words_by, words_for, known_words, unknown_needs}
 use Rattle.dumps.specs.Options.{Known, Table, known_of}
 use Rattle.dumps.specs.Own.{own_words, spelled, line_of}
 use Rattle.dumps.specs.Parts.{Part}
-use Rattle.dumps.specs.Reading.{Read, Section, is_too_long, kept, closed, own_text, needs_of, given_line, IsFilterRead, IsReadAt, AreWordsRead}
+use Rattle.dumps.specs.Reading.{Read, Section, is_too_long, add_line, kept, closed, own_text, needs_of, given_line, IsFilterRead, IsReadAt, AreWordsRead}
 use Rattle.dumps.specs.SectionLines.{RuleLine, is_either, begins_with, is_commit, is_commit_word, rule_after, rule_line}
 use Rattle.dumps.proofs.laws.OneLineLaws.{own_one}
 use Rattle.dumps.proofs.laws.OwnLaws.{line_reads_back}
@@ -158,3 +159,54 @@ rules_stand_beside_lines table line old new read gives section = at_length (is_t
     at_length : (b : Bool) → is_too_long line ≡ b → MatchBool b (new ≡ kept line old) (AreWordsRead table line (words_of line) old new) → IsBeside line old new
     at_length true long after = NoRule (ap (λ (r : Read). r.text) after) (inl long) (ap (λ (r : Read). r.rules) after)
     at_length false short h = by_words (words_of line) refl h
+
+-- a line behind a text, and lines behind that
+lines_behind : (old mid new line : List ℕ) (lines : List (List ℕ)) → mid ≡ add_line old line → new ≡ mid ++ flat_map (λ (l : List ℕ). l ++ 10 ∷ []) lines
+    → new ≡ old ++ flat_map (λ (l : List ℕ). l ++ 10 ∷ []) (line ∷ lines)
+lines_behind old mid new line lines first rest =
+    rest ∙ ap (λ (t : List ℕ). t ++ flat_map (λ (l : List ℕ). l ++ 10 ∷ []) lines) first ∙ append_assoc old (line ++ 10 ∷ []) (flat_map (λ (l : List ℕ). l ++ 10 ∷ []) lines)
+
+-- one line and its rule come first
+rule_first : (given chain : List ℕ) (needs : List Needed) (old mid new : Read) → mid.text ≡ add_line old.text given → chain_of given ≡ Some chain
+    → mid.rules ≡ old.rules ++ record { chain = chain; needs = needs } ∷ [] → CameTogether mid new → CameTogether old new
+rule_first given chain needs old mid new text puts rules rest =
+    let rule : ReadRule = record { chain = chain; needs = needs } in
+    record {
+      lines = given ∷ rest.lines;
+      rules = rule ∷ rest.rules;
+      text = lines_behind old.text mid.text new.text given rest.lines text rest.text;
+      behind = rest.behind ∙ ap (λ (l : List ReadRule). l ++ rest.rules) rules ∙ append_assoc old.rules (rule ∷ []) rest.rules;
+      chains = λ short.
+          ap (λ o. cons_option o (filter_map chain_of rest.lines)) puts
+          ∙ ap (λ (l : List (List ℕ)). chain ∷ l) (rest.chains (All-tail (λ (l : List ℕ). is_too_long l ≡ false) given rest.lines short));
+    }
+
+-- one line without a rule comes first
+other_first : (line : List ℕ) (old mid new : Read) → mid.text ≡ add_line old.text line → (is_too_long line ≡ true) ⊎ (chain_of line ≡ None) → mid.rules ≡ old.rules
+    → CameTogether mid new → CameTogether old new
+other_first line old mid new text none rules rest = record {
+  lines = line ∷ rest.lines;
+  rules = rest.rules;
+  text = lines_behind old.text mid.text new.text line rest.lines text rest.text;
+  behind = rest.behind ∙ ap (λ (l : List ReadRule). l ++ rest.rules) rules;
+  chains = λ short.
+      ap (λ o. cons_option o (filter_map chain_of rest.lines)) (puts_none none (All-head (λ (l : List ℕ). is_too_long l ≡ false) line rest.lines short))
+      ∙ rest.chains (All-tail (λ (l : List ℕ). is_too_long l ≡ false) line rest.lines short);
+}
+  where
+    puts_none : (is_too_long line ≡ true) ⊎ (chain_of line ≡ None) → is_too_long line ≡ false → chain_of line ≡ None
+    puts_none (inl long) short = absurd (cc)
+    puts_none (inr none) short = none
+
+pub lines_come_with_rules : LinesComeWithRules
+lines_come_with_rules [] old new same = record {
+  lines = [];
+  rules = [];
+  text = ap (λ (r : Read). r.text) same ∙ sym (append-nil old.text);
+  behind = ap (λ (r : Read). r.rules) same ∙ sym (append-nil old.rules);
+  chains = λ short. refl;
+}
+lines_come_with_rules (line ∷ lines) old new (mid, Rule given chain needs text puts rules, rest) =
+    rule_first given chain needs old mid new text puts rules (lines_come_with_rules lines mid new rest)
+lines_come_with_rules (line ∷ lines) old new (mid, NoRule text none rules, rest) =
+    other_first line old mid new text none rules (lines_come_with_rules lines mid new rest)

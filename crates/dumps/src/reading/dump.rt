@@ -108,7 +108,7 @@ impl<'a> Reading<'a> {
     ghost use Rattle.dumps.specs.Reading.{IsRuleTaken, IsRuleRead, IsOtherRead, IsFilterRead, IsReadAt, IsLineRead};
     ghost use Rattle.dumps.specs.Reading.{IsRuleRefused, IsFilterRefused, IsRefusedAt, IsLineRefused};
     ghost use Rattle.dumps.specs.ReadingViews.{read_in, refused_in};
-    ghost use Rattle.dumps.specs.Beside.{StandsBeside};
+    ghost use Rattle.dumps.specs.Beside.{LinesComeWithRules, StandsBeside};
     ghost use Rattle.dumps.specs.Views.{table_in};
 
     /// The reading of a dump of which no line was read, by a table of options.
@@ -351,7 +351,9 @@ impl<'a> Reading<'a> {
     }
 
     /// What was read.
+    #[tactic(auto, using(crate::proofs::laws::BesideLaws::lines_come_with_rules))]
     pub fn finish(self) -> Whole
+        ensures together { LinesComeWithRules }
         ensures text { result.text.items ≡ (read_in self.entry).text }
         ensures rules { rules_in result.foreign ≡ (read_in self.entry).rules }
         ensures sets { sets_in result.foreign ≡ (read_in self.entry).sets }
