@@ -6,7 +6,7 @@ ghost use Rattle.std.specs.List.{position};
 ghost use Rattle.classify.specs.search.NextMatch.{next_match};
 ghost use Rattle.rules.specs.rule.Allows.{allows_each, matches};
 ghost use Rattle.table.specs.steps.StoredChains.{IsClassified, has_text, rules_in};
-ghost use Rattle.table.specs.edits.Boxes.{MakesOneBoxAtMost};
+ghost use Rattle.table.specs.edits.Boxes.{MakesOneBox, MakesOneBoxAtMost};
 ghost use Rattle.table.specs.steps.Edges.{AreEdges};
 ghost use Rattle.table.specs.steps.Renames.{NameChains, retargeted};
 
@@ -163,6 +163,7 @@ impl Chain {
         ensures err { OnErr result (self.new ≡ self.old) }
         ensures classified { IsClassified self.new }
         ensures work { MakesOneBoxAtMost work.old work.new }
+        ensures boxed { OnOk result (MakesOneBox work.old work.new) }
     {
         let link = entry.flow.key();
         self.entries.reserve(1)?;
@@ -191,6 +192,7 @@ impl Chain {
         ensures err { OnErr result (self.new ≡ self.old) }
         ensures classified { IsClassified self.new }
         ensures work { MakesOneBoxAtMost work.old work.new }
+        ensures boxed { OnOk result (MakesOneBox work.old work.new) }
     {
         let link = entry.flow.key();
         let before = self.entries[at].flow.key();

@@ -5,7 +5,7 @@ ghost use Rattle.table.specs.chains.Sound.{IsSound};
 ghost use Rattle.table.specs.edits.Edits.{FlushAll, NewChain, changed, edited, fault_of};
 ghost use Rattle.table.specs.steps.Kept.{AreKept, AreRecounted, IsIn, IsLinked, IsIndexFor, leading_in, name_in, stored_in};
 ghost use Rattle.table.specs.steps.Kept.{references_at, stored_at, table_of, view_of};
-ghost use Rattle.table.specs.edits.Boxes.{MakesOneBoxAtMost};
+ghost use Rattle.table.specs.edits.Boxes.{MakesOneBox, MakesOneBoxAtMost};
 
 use crate::chain::Chain;
 use crate::chain::entry::Entry;
@@ -36,6 +36,7 @@ impl Parts {
         ensures order { self.new.order.items ≡ self.old.order.items }
         ensures err { OnErr result (view_of self.new ≡ view_of self.old) }
         ensures work { MakesOneBoxAtMost work.old work.new }
+        ensures boxed { OnOk result (MakesOneBox work.old work.new) }
     {
         let key = self.order[place];
         let link = entry.flow.key();
@@ -64,6 +65,7 @@ impl Parts {
         ensures order { self.new.order.items ≡ self.old.order.items }
         ensures err { OnErr result (view_of self.new ≡ view_of self.old) }
         ensures work { MakesOneBoxAtMost work.old work.new }
+        ensures boxed { OnOk result (MakesOneBox work.old work.new) }
     {
         let key = self.order[place];
         let link = entry.flow.key();

@@ -1,8 +1,8 @@
 //! Rules put into chains where they may stand.
-ghost use Rattle.std.specs.Prelude.{◌<◌, ◌≤◌, length};
+ghost use Rattle.std.specs.Prelude.{◌<◌, ◌≤◌, length, OnOk};
 ghost use Rattle.table.specs.steps.Kept.{AreKept, IsUnmarked, stored_in};
 ghost use Rattle.table.specs.steps.Puts.{IsPutIn, IsPutOver};
-ghost use Rattle.table.specs.edits.Boxes.{MakesOneBoxAtMost};
+ghost use Rattle.table.specs.edits.Boxes.{MakesOneBox, MakesOneBoxAtMost};
 
 use crate::chain::entry::Entry;
 use crate::fault::TableFault;
@@ -30,6 +30,7 @@ impl Parts {
         ensures unmarked { IsUnmarked self.new.order.items seen.new.items }
         ensures answer { IsPutIn self.old self.new place at rule result }
         ensures work { MakesOneBoxAtMost work.old work.new }
+        ensures boxed { OnOk result (MakesOneBox work.old work.new) }
     {
         let flow = match self.check_rule(seen, place, &rule) {
             Ok(flow) => flow,
@@ -62,6 +63,7 @@ impl Parts {
         ensures unmarked { IsUnmarked self.new.order.items seen.new.items }
         ensures answer { IsPutOver self.old self.new place at rule result }
         ensures work { MakesOneBoxAtMost work.old work.new }
+        ensures boxed { OnOk result (MakesOneBox work.old work.new) }
     {
         let flow = match self.check_rule(seen, place, &rule) {
             Ok(flow) => flow,

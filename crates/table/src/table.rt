@@ -1,6 +1,6 @@
 //! The table: its edits, what it shows, verdicts and trails.
-ghost use Rattle.std.specs.Prelude.{◌≡◌, ◌<◌, ◌≤◌, ◌-◌, [], length, map, slice_index, slice_index_or, slice_get, Some};
-ghost use Rattle.std.specs.Prelude.{None, IfOk};
+ghost use Rattle.std.specs.Prelude.{◌≡◌, ◌<◌, ◌≤◌, ◌-◌, [], length, map, slice_index, slice_index_or, slice_get};
+ghost use Rattle.std.specs.Prelude.{Some, None, IfOk, OnOk};
 ghost use Rattle.classify.specs.classifier.Classifier.{IsClassifierOfRules};
 ghost use Rattle.table.specs.chains.Sound.{IsSound, LeadsByPaths};
 ghost use Rattle.std.specs.List.{position};
@@ -9,9 +9,8 @@ ghost use Rattle.table.specs.walk.Cases.{Walks};
 ghost use Rattle.table.specs.walk.Walk.{Walked, walk};
 ghost use Rattle.table.specs.walk.Trail.{Shows};
 ghost use Rattle.table.specs.edits.Edits.{Append, DeleteAt, DeleteRule, Flush, FlushAll, Has, Insert, IsStep};
-ghost use Rattle.table.specs.edits.Edits.{IsStepIfRoom, NewChain, Replace, SetPolicy};
-ghost use Rattle.table.specs.edits.Boxes.{MakesOneBoxAtMost};
-ghost use Rattle.table.specs.edits.Edits.{DeleteChain, DeleteChains, Rename};
+ghost use Rattle.table.specs.edits.Edits.{DeleteChain, DeleteChains, IsStepIfRoom, NewChain, Rename, Replace, SetPolicy};
+ghost use Rattle.table.specs.edits.Boxes.{MakesOneBox, MakesOneBoxAtMost};
 
 use crate::chain::Chain;
 use crate::fault::TableFault;
@@ -231,7 +230,8 @@ impl Table {
         self.parts.trace(hook, policy, packet)
     }
 
-    /// Puts a rule last in a chain (`-A chain rule`). The rule is gone after a refusal too. It makes one box at most.
+    /// Puts a rule last in a chain (`-A chain rule`). The rule is gone after a refusal too. It makes one box; where
+    /// it is refused, one at most.
     ///
     /// It costs a box, the classifier's row work, and, where the rule names a chain, a search of the chains that it
     /// leads to.
@@ -243,6 +243,7 @@ impl Table {
     pub fn append(&mut self, chain: &[u8], rule: Rule, work: &mut Work) -> Result<(), TableFault>
         ensures step { IsStepIfRoom (Append chain.now rule) self.old self.new result }
         ensures work { MakesOneBoxAtMost work.old work.new }
+        ensures boxed { OnOk result (MakesOneBox work.old work.new) }
     {
         let Some(place) = self.parts.index_of(chain) else {
             return Err(TableFault::NoSuchChain);
@@ -253,7 +254,7 @@ impl Table {
     }
 
     /// Puts a rule in as rule `number` of a chain, from 1 to one more than there are (`-I chain number rule`). The
-    /// rule is gone after a refusal too. It makes one box at most.
+    /// rule is gone after a refusal too. It makes as many boxes as `append`.
     ///
     /// # Errors
     ///
@@ -267,6 +268,7 @@ impl Table {
     ) -> Result<(), TableFault>
         ensures step { IsStepIfRoom (Insert chain.now number rule) self.old self.new result }
         ensures work { MakesOneBoxAtMost work.old work.new }
+        ensures boxed { OnOk result (MakesOneBox work.old work.new) }
     {
         let Some(place) = self.parts.index_of(chain) else {
             return Err(TableFault::NoSuchChain);
@@ -280,7 +282,7 @@ impl Table {
     }
 
     /// Puts a rule in the place of rule `number` of a chain (`-R chain number rule`). The rule is gone after a
-    /// refusal too. It makes one box at most.
+    /// refusal too. It makes as many boxes as `append`.
     ///
     /// # Errors
     ///
@@ -295,6 +297,7 @@ impl Table {
     ) -> Result<(), TableFault>
         ensures step { IsStepIfRoom (Replace chain.now number rule) self.old self.new result }
         ensures work { MakesOneBoxAtMost work.old work.new }
+        ensures boxed { OnOk result (MakesOneBox work.old work.new) }
     {
         let Some(place) = self.parts.index_of(chain) else {
             return Err(TableFault::NoSuchChain);

@@ -14,3 +14,4 @@ pub mod ChainRules
 pub mod MarkLaws
 pub mod FilledLaws
 pub mod MadeLaws
+pub mod BoxLaws

@@ -26,4 +26,5 @@ returns c =
       order = refl;
       err = tt;
       work = done.work;
+      boxed = done.boxed;
     }

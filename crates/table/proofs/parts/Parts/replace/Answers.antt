@@ -53,4 +53,5 @@ returns c =
       order = refl;
       err = tt;
       work = done.work;
+      boxed = done.boxed;
     }
