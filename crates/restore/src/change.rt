@@ -1,6 +1,7 @@
 //! Commands done to a table.
-ghost use Rattle.table.specs.edits.Boxes.{MakesOneBoxAtMost};
-ghost use Rattle.restore.specs.commands.Command.{IsApplied, IsChange, meaning};
+ghost use Rattle.std.specs.Prelude.{IsTrue, OnOk};
+ghost use Rattle.table.specs.edits.Boxes.{MakesBoxes, MakesOneBox};
+ghost use Rattle.restore.specs.commands.Command.{IsApplied, IsChange, command_puts, meaning};
 
 use crate::command::Command;
 use rules::Work;
@@ -8,7 +9,8 @@ use table::{Table, TableFault};
 
 /// Does a command's edit to a table: any command but `-S`, which edits nothing.
 ///
-/// It costs what the call of the table costs, and makes one box at most.
+/// It costs what the call of the table costs. A command that puts a rule into a chain makes one box, or where it is
+/// refused one at most; others make none.
 ///
 /// # Errors
 ///
@@ -17,7 +19,8 @@ use table::{Table, TableFault};
 pub fn apply(table: &mut Table, command: Command, work: &mut Work) -> Result<(), TableFault>
     requires { IsChange (meaning command) }
     ensures step { IsApplied (meaning command.entry) table.old table.new result }
-    ensures work { MakesOneBoxAtMost work.old work.new }
+    ensures work { MakesBoxes (command_puts (meaning command.entry)) work.old work.new }
+    ensures boxed { IsTrue (command_puts (meaning command.entry)) → OnOk result (MakesOneBox work.old work.new) }
 {
     match command {
         Command::Append(chain, rule) => table.append(chain, rule, work),

@@ -1,7 +1,8 @@
 //! Restores: sections one after another, each put in place by its `COMMIT`.
-ghost use Rattle.std.specs.Prelude.{◌≡◌, Ok, IsTrue, IsFalse};
-ghost use Rattle.table.specs.edits.Boxes.{MakesOneBoxAtMost};
+ghost use Rattle.std.specs.Prelude.{◌≡◌, Ok, OnOk, IsTrue, IsFalse};
+ghost use Rattle.table.specs.edits.Boxes.{MakesBoxes, MakesOneBox};
 ghost use Rattle.restore.specs.Sequence.{Gives};
+ghost use Rattle.restore.specs.sections.Boxes.{line_puts};
 ghost use Rattle.restore.specs.sections.Lines.{IsLine};
 ghost use Rattle.restore.specs.sections.Restore.{begun_restore, between, committed, ended_at, is_commit, opened, opening, skipped};
 ghost use Rattle.restore.specs.sections.Section.{is_out_of_memory, is_quiet, ran_out};
@@ -136,8 +137,9 @@ impl Restore {
     /// from it, and `COMMIT` puts the section's table in its place, unless this is a test. Sections of other tables
     /// are skipped.
     ///
-    /// A line that opens a section costs a copy of the table with `noflush`; another line what its command costs. It
-    /// makes one box at most. No memory is taken for a line that is too long, blank, a comment, of a skipped section,
+    /// A line that opens a section costs a copy of the table with `noflush`; another line what its command costs. A
+    /// line that puts a rule into a chain makes one box, or where it is refused one at most; others make none. No
+    /// memory is taken for a line that is too long, blank, a comment, of a skipped section,
     /// or `COMMIT`.
     ///
     /// # Errors
@@ -151,7 +153,8 @@ impl Restore {
         work: &mut Work,
     ) -> Result<Restore, RestoreFault>
         ensures step { IsLine self line.now table.old table.new result }
-        ensures work { MakesOneBoxAtMost work.old work.new }
+        ensures work { MakesBoxes (line_puts self.state line.now) work.old work.new }
+        ensures boxed { IsTrue (line_puts self.state line.now) → OnOk result (MakesOneBox work.old work.new) }
     {
         if is_too_long(line) {
             return Err(RestoreFault::LineTooLong);

@@ -1,12 +1,13 @@
 //! The lines of one section of a restore, done to a table of its own.
-ghost use Rattle.std.specs.Prelude.{◌≡◌, ◌||◌, ◌≢◌, [], IfOk, IsTrue, IsFalse};
+ghost use Rattle.std.specs.Prelude.{◌≡◌, ◌||◌, ◌≢◌, [], IfOk, OnOk, IsTrue, IsFalse};
 ghost use Rattle.fields.specs.text.Words.{words_of};
 ghost use Rattle.fields.specs.text.WordSlice.{words_in};
 ghost use Rattle.table.specs.chains.Table.{has_chain};
-ghost use Rattle.table.specs.edits.Boxes.{MakesOneBoxAtMost};
+ghost use Rattle.table.specs.edits.Boxes.{MakesBoxes, MakesOneBox};
 ghost use Rattle.restore.specs.Sequence.{Gives, or_refused, refused_as};
 ghost use Rattle.restore.specs.sections.Section.{OfTable, Quoting, asked_by, begins_with, asked_of_chain, asked_of_command, begun, chain_edit};
-ghost use Rattle.restore.specs.sections.Section.{done, edited_by, is_out_of_memory, is_quiet, is_too_long, line_in, ran_out};
+ghost use Rattle.restore.specs.sections.Boxes.{asks_put};
+ghost use Rattle.restore.specs.sections.Section.{asked, done, edited_by, is_out_of_memory, is_quiet, is_too_long, line_in, ran_out};
 
 pub(crate) mod chain_line;
 pub(crate) mod names;
@@ -151,7 +152,8 @@ impl Transaction {
     fn command(&mut self, words: &Words, work: &mut Work) -> Result<(), RestoreFault>
         requires { words.now ≢ [] }
         ensures step { Gives is_out_of_memory (λ _. self.new) result (done self.old (asked_of_command words.now)) }
-        ensures work { MakesOneBoxAtMost work.old work.new }
+        ensures work { MakesBoxes (asks_put (asked_of_command words.now)) work.old work.new }
+        ensures boxed { IsTrue (asks_put (asked_of_command words.now)) → OnOk result (MakesOneBox work.old work.new) }
     {
         let from = if is_counters(words.get(0)) { 1 } else { 0 };
         match Command::read_edit(self.alloc, words, from) {
@@ -163,7 +165,8 @@ impl Transaction {
     // Does what the words of a line ask.
     fn take_words(&mut self, words: &Words, work: &mut Work) -> Result<(), RestoreFault>
         ensures step { Gives is_out_of_memory (λ _. self.new) result (done self.old (asked_by self.old words.now)) }
-        ensures work { MakesOneBoxAtMost work.old work.new }
+        ensures work { MakesBoxes (asks_put (asked_by self.old words.now)) work.old work.new }
+        ensures boxed { IsTrue (asks_put (asked_by self.old words.now)) → OnOk result (MakesOneBox work.old work.new) }
     {
         if words.is_empty() {
             return Ok(());
@@ -183,7 +186,8 @@ impl Transaction {
     fn take(&mut self, line: &[u8], work: &mut Work) -> Result<(), RestoreFault>
         ensures step { Gives is_out_of_memory (λ _. self.new) result (line_in self.old line.now) }
         ensures quiet { IsTrue (is_too_long line.now || is_quiet line.now) → IsFalse (ran_out result) }
-        ensures work { MakesOneBoxAtMost work.old work.new }
+        ensures work { MakesBoxes (asks_put (asked self.old line.now)) work.old work.new }
+        ensures boxed { IsTrue (asks_put (asked self.old line.now)) → OnOk result (MakesOneBox work.old work.new) }
     {
         if is_too_long(line) {
             return Err(RestoreFault::LineTooLong);
@@ -198,8 +202,8 @@ impl Transaction {
     /// Does a line of the section: a command, after counters or without, or a chain line. A blank line or a comment
     /// does nothing, and takes no memory. The line `COMMIT` is no command.
     ///
-    /// It costs what its command costs; of a chain line, that and a search among the names of chain lines before. It
-    /// makes one box at most.
+    /// It costs what its command costs; of a chain line, that and a search among the names of chain lines before. A
+    /// line that puts a rule into a chain makes one box, or where it is refused one at most; others make none.
     ///
     /// # Errors
     ///
@@ -208,7 +212,8 @@ impl Transaction {
     pub fn line(self, line: &[u8], work: &mut Work) -> Result<Transaction, RestoreFault>
         ensures step { Gives is_out_of_memory (λ next. next) result (line_in self line.now) }
         ensures quiet { IsTrue (is_too_long line.now || is_quiet line.now) → IsFalse (ran_out result) }
-        ensures work { MakesOneBoxAtMost work.old work.new }
+        ensures work { MakesBoxes (asks_put (asked self line.now)) work.old work.new }
+        ensures boxed { IsTrue (asks_put (asked self line.now)) → OnOk result (MakesOneBox work.old work.new) }
     {
         let mut next = self;
         next.take(line, work)?;

@@ -6,3 +6,4 @@ pub mod CommandLaws
 pub mod EditLaws
 pub mod LineLaws
 pub mod HeadlineLaws
+pub mod BoxLaws

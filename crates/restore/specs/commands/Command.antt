@@ -2,6 +2,7 @@
 use Rattle.std.specs.Prelude.{ℕ, Bool, true, false, IsTrue, List, Option, is_none, option_map, Result, Ok, Err}
 use Rattle.rules.specs.Sequence.{refusal_of}
 use Rattle.table.specs.chains.Table.{TableView}
+use Rattle.table.specs.edits.Boxes.{puts_rule}
 use Rattle.table.specs.edits.Edits.{Edit, IsStepOf}
 use Rattle.table.specs.declared.fault.TableFault.{TableFault}
 use Rattle.table.specs.edits.Edits as edit
@@ -85,6 +86,11 @@ IsRead result given = Gives is_out_of_memory meaning result given × TakesMemory
 abbrev pub IsChange : Command → Type 0
 IsChange (Change edit) = Unit {0}
 IsChange (ListRules chain) = ⊥
+
+-- the command puts a rule into a chain
+abbrev pub command_puts : Command → Bool
+command_puts (Change e) = puts_rule e
+command_puts (ListRules chain) = false
 
 -- the call does the command's edit, and answers as the table does
 abbrev pub IsApplied : Command → TableView → TableView → Result (Unit {0}) TableFault → Type 0

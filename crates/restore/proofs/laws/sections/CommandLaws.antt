@@ -49,6 +49,17 @@ read_edit_is : (asks : Result Edit CommandFault) (c : command.Command) → made_
 read_edit_is (Ok edit) c e = (edit, refl, sym (ap (command_in c) e))
 read_edit_is (Err f) c e = absurd (false≢true (ap is_read e))
 
+-- the words that a command was read of ask for its edit
+pub asked_is : (words rest : List (List ℕ)) (c : command.Command) → rest ≡ without_counters words → made_into Change (edit_of (length words) rest) ≡ Ok c
+    → (edit : Edit) × (asked_of_command words ≡ Ok (by_command edit)) × (c ≡ Change edit)
+asked_is words rest c left read =
+    let found = read_edit_is (edit_of (length words) rest) c read in (
+      found.0,
+      ap (λ (ws : List (List ℕ)). refused_as Command (made_into by_command (edit_of (length words) ws))) (sym left)
+          ∙ ap (λ (e : Result Edit CommandFault). refused_as Command (made_into by_command e)) found.1,
+      found.2,
+    )
+
 module _ (ot nt : TableView) (names : Names) where
   abbrev old : Section
   old = record { table = ot.table; named = names }
@@ -68,9 +79,6 @@ module _ (ot nt : TableView) (names : Names) where
   -- the same, of the words
   pub command_done : (s : Section) (words rest : List (List ℕ)) (c : command.Command) (a : Result (Unit {0}) TableFault) (r : Result (Unit {0}) RestoreFault) → old ≡ s → rest ≡ without_counters words → made_into Change (edit_of (length words) rest) ≡ Ok c → IsApplied c ot nt a → r ≡ refused_as OfTable a → Answered r (done s (asked_of_command words))
   command_done s words rest c a r seen left read applied answer =
-      let found = read_edit_is (edit_of (length words) rest) c read in
-      let asked : asked_of_command words ≡ Ok (by_command found.0) =
-      ap (λ (ws : List (List ℕ)). refused_as Command (made_into by_command (edit_of (length words) ws))) (sym left)
-      ∙ ap (λ (e : Result Edit CommandFault). refused_as Command (made_into by_command e)) found.1 in
+      let found = asked_is words rest c left read in
       subst (λ (q : Section). Answered r (done q (asked_of_command words))) seen
-      (subst (λ (x : Result Asked RestoreFault). Answered r (done old x)) (sym asked) (edit_done found.0 c a r found.2 applied answer))
+      (subst (λ (x : Result Asked RestoreFault). Answered r (done old x)) (sym found.1) (edit_done found.0 c a r found.2 applied answer))

@@ -1,5 +1,10 @@
-use Rattle.std.proofs.Common.{rules, ◌∙◌, sym}
-use Rattle.restore.specs.sections.Restore.{Between, Skipping, Building}
+use Rattle.std.proofs.Common.{rules, ◌∙◌, ℕ, Bool, ap, subst, sym}
+use Rattle.std.proofs.lemmas.Bool.{false≢true}
+use Rattle.table.specs.edits.Boxes.{MakesBoxes, MakesOneBox}
+use Rattle.table.proofs.laws.edits.BoxLaws.{none_made}
+use Rattle.restore.specs.sections.Boxes.{line_puts}
+use Rattle.restore.specs.sections.Restore.{Between, Skipping, Building, Restore, SectionState}
+use Rattle.restore.proofs.laws.sections.BoxLaws.{commit_puts, section_line_puts}
 use Rattle.restore.proofs.laws.sections.LineLaws.{between_err, between_ok, reached, section_commits, section_err, section_ok, skipped_line, stopped, too_long}
 use Rattle.restore.proofs.restore.Restore.line.Goals as goal
 use Rattle.restore.proofs.restore.Restore.line.Goals.{in-Between+in_ok-next-in-Between, in-Skipping, in-Building+then-is_commit, in-Building+else-is_commit+in_ok-line-in-Building}
@@ -43,4 +48,49 @@ returns-clause-step c =
           (Building w.in-Building.section) c.match-state.next (Building w.in_ok-line-in-Building.field-0) c.args.self c.self.view_is w.in-Building.is w.table-is w.next-is
           (section_ok c.self.inside.noflush c.self.inside.test c.args.line.now short c.args.table.now w.in-Building.section w.in_ok-line-in-Building.field-0
           (sym w.is_commit.ensures ∙ w.if-is_commit.false) w.in_ok-line-in-Building.ensures.step)
+    ]
+
+pub returns-then-is_too_long-clause-work : goal.returns-then-is_too_long-clause-work
+returns-then-is_too_long-clause-work c = none_made (line_puts c.args.self.state c.args.line.now) c.args.work.now
+
+pub returns-in_err-next-in-Between-clause-work : goal.returns-in_err-next-in-Between-clause-work
+returns-in_err-next-in-Between-clause-work c = none_made (line_puts c.args.self.state c.args.line.now) c.args.work.now
+
+pub returns-in_err-line-in-Building-clause-work : goal.returns-in_err-line-in-Building-clause-work
+returns-in_err-line-in-Building-clause-work c =
+    let stands = sym (ap (λ (r : Restore). r.state) c.self.view_is) ∙ c.in-Building.is in
+    subst (λ (b : Bool). MakesBoxes b c.args.work.now c.line.new.work)
+    (section_line_puts c.args.self.state c.in-Building.section c.args.line.now stands (sym c.is_commit.ensures ∙ c.if-is_commit.false))
+    c.in_err-line-in-Building.ensures.work
+
+pub returns-clause-work : goal.returns-clause-work
+returns-clause-work c =
+    let here = sym (ap (λ (r : Restore). r.state) c.self.view_is) in
+    let asks = line_puts c.args.self.state c.args.line.now in
+    let Made : ℕ → Type 0 = λ n. MakesBoxes asks c.args.work.now n in
+    elim c.match-state.branch [
+      | in-Between+in_ok-next-in-Between w ↦ subst Made (sym w.work-is) (none_made asks c.args.work.now)
+      | in-Skipping w ↦ subst Made (sym w.work-is) (none_made asks c.args.work.now)
+      | in-Building+then-is_commit w ↦ subst Made (sym w.work-is) (none_made asks c.args.work.now)
+      | in-Building+else-is_commit+in_ok-line-in-Building w ↦
+          subst Made (sym w.work-is)
+          (subst (λ (b : Bool). MakesBoxes b c.args.work.now w.line.new.work)
+          (section_line_puts c.args.self.state w.in-Building.section c.args.line.now (here ∙ w.in-Building.is) (sym w.is_commit.ensures ∙ w.if-is_commit.false))
+          w.in_ok-line-in-Building.ensures.work)
+    ]
+
+pub returns-clause-boxed : goal.returns-clause-boxed
+returns-clause-boxed c asks =
+    let here = sym (ap (λ (r : Restore). r.state) c.self.view_is) in
+    let puts : SectionState → Bool = λ p. line_puts p c.args.line.now in
+    let One : ℕ → Type 0 = λ n. MakesOneBox c.args.work.now n in
+    elim c.match-state.branch [
+      | in-Between+in_ok-next-in-Between w ↦ absurd (false≢true (sym (ap puts (here ∙ w.in-Between.is)) ∙ asks))
+      | in-Skipping w ↦ absurd (false≢true (sym (ap puts (here ∙ w.in-Skipping.is)) ∙ asks))
+      | in-Building+then-is_commit w ↦
+          absurd (false≢true (sym (commit_puts c.args.self.state w.in-Building.section c.args.line.now (here ∙ w.in-Building.is) (sym w.is_commit.ensures ∙ w.if-is_commit.true)) ∙ asks))
+      | in-Building+else-is_commit+in_ok-line-in-Building w ↦
+          subst One (sym w.work-is)
+          (w.in_ok-line-in-Building.ensures.boxed
+          (section_line_puts c.args.self.state w.in-Building.section c.args.line.now (here ∙ w.in-Building.is) (sym w.is_commit.ensures ∙ w.if-is_commit.false) ∙ asks))
     ]
