@@ -1,29 +1,34 @@
--- Which lines may make a box of a rule.
-use Rattle.std.specs.Prelude.{◌≡◌, ℕ, Bool, true, false, not, List, Result, Ok, Err}
-use Rattle.table.specs.edits.Boxes.{MakesOneBoxAtMost}
-use Rattle.restore.specs.commands.Command as command
+-- Which lines ask for a box of a rule, and which have it made.
+use Rattle.std.specs.Prelude.{ℕ, ◌&&◌, Bool, true, false, List, Result, Ok, Err, if◌then◌else◌}
+use Rattle.table.specs.chains.Table.{Table}
+use Rattle.restore.specs.commands.Command.{command_puts}
+use Rattle.restore.specs.sections.Boxes.{line_puts}
 use Rattle.sessions.specs.line.Fault.{Fault}
 use Rattle.sessions.specs.line.Request.{Request, Nothing, Run, Save, Open, Ask, Show, request_on}
-use Rattle.sessions.specs.line.Outcome.{Mode, Outside, InRestore, AfterFault, is_end}
+use Rattle.sessions.specs.line.Outcome.{Line, Mode, Outside, InRestore, AfterFault, Reply, Says, Fails, is_end, outcome}
 
--- what is asked for is an edit of the table
-abbrev pub asks_edit : Result Request Fault → Bool
-asks_edit (Err fault) = false
-asks_edit (Ok Nothing) = false
-asks_edit (Ok (Run (command.Change edit))) = true
-asks_edit (Ok (Run (command.ListRules name))) = false
-asks_edit (Ok Save) = false
-asks_edit (Ok (Open o)) = false
-asks_edit (Ok (Ask packet)) = false
-asks_edit (Ok (Show name)) = false
+-- what is asked for puts a rule into a chain
+abbrev pub asks_put : Result Request Fault → Bool
+asks_put (Err fault) = false
+asks_put (Ok Nothing) = false
+asks_put (Ok (Run c)) = command_puts c
+asks_put (Ok Save) = false
+asks_put (Ok (Open o)) = false
+asks_put (Ok (Ask packet)) = false
+asks_put (Ok (Show name)) = false
 
--- the line may make a box: outside of restores an edit; in a restore any line but its end line; none that is passed over
+-- the line may make a box: it asks for a rule to be put into a chain, outside of restores or in a section of one; none that is an
+-- end line or is passed over does
 abbrev pub may_box : Mode → List ℕ → Bool
-may_box Outside line = asks_edit (request_on line)
-may_box (InRestore word r) line = not (is_end word line)
+may_box Outside line = asks_put (request_on line)
+may_box (InRestore word r) line = if is_end word line then false else line_puts r.state line
 may_box (AfterFault word) line = false
 
--- at most one box was made, if one may be, by a count that stays at its greatest value
-abbrev pub MakesBoxes : Bool → ℕ → ℕ → Type 0
-MakesBoxes true old new = MakesOneBoxAtMost old new
-MakesBoxes false old new = new ≡ old
+-- the reply isn't a fault
+abbrev pub is_said : Reply → Bool
+is_said (Says text) = true
+is_said (Fails fault) = false
+
+-- the line makes a box: it may, and isn't refused
+abbrev pub makes_box : Table → Mode → Line → Bool
+makes_box t mode line = may_box mode line.text && is_said (outcome t mode line).reply

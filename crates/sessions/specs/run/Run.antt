@@ -1,10 +1,10 @@
 -- What a run of a session, or a restore from the command line, did, whether or not its reader or its writer failed.
-use Rattle.std.specs.Prelude.{◌≡◌, ◌⊎◌, ℕ, ◌+◌, ◌≤◌, Bool, List, [], ◌∷◌, ◌++◌, fold, if◌then◌else◌, Result, Ok, Err, Option, IfSome, IsTrue, IsFalse}
+use Rattle.std.specs.Prelude.{◌≡◌, ◌⊎◌, ℕ, ◌+◌, ◌-◌, ◌^◌, ◌≤◌, min, Bool, List, [], ◌∷◌, ◌++◌, fold, if◌then◌else◌, Result, Ok, Err, Option, IfSome, IsTrue, IsFalse}
 use Rattle.std.specs.Io.KnownBytes.{Appends, Consumes}
 use Rattle.fields.specs.text.Tap.{IsBeginning}
 use Rattle.fields.specs.text.Line.{EndsAt, lines_of, ended_lines}
 use Rattle.table.specs.chains.Table.{TableView}
-use Rattle.sessions.specs.line.Boxes.{may_box}
+use Rattle.sessions.specs.line.Boxes.{makes_box, may_box}
 use Rattle.sessions.specs.line.Outcome.{Line, has_ended}
 use Rattle.sessions.specs.run.Session.{Kind, State, step, texts_of, whole_run}
 pub use Rattle.sessions.specs.declared.run.session.RunFault.{RunFault}
@@ -91,13 +91,27 @@ pub record Moment : Type 0 where
   pub table : TableView
   pub boxes : ℕ
 
--- how many of some lines may make a box
-abbrev pub box_lines : State → List Line → ℕ
-box_lines s [] = 0
-box_lines s (line ∷ lines) = (if may_box s.now.mode line.text then 1 else 0) + box_lines (step s line) lines
+-- of how many of some lines this holds, each in the state that the lines before it lead to
+abbrev pub count_lines : (State → Line → Bool) → State → List Line → ℕ
+count_lines holds s [] = 0
+count_lines holds s (line ∷ lines) = (if holds s line then 1 else 0) + count_lines holds (step s line) lines
+
+-- in this state the line may make a box
+abbrev pub may_make : State → Line → Bool
+may_make s line = may_box s.now.mode line.text
+
+-- in this state the line makes a box
+abbrev pub makes : State → Line → Bool
+makes s line = makes_box s.now.table s.now.mode line
+
+-- the lines made boxes, as counted before and after them: one for each line that puts a rule into a chain, up to the greatest count,
+-- and at most one for each that asks for that
+pub record AreBoxed (start : State) (lines : List Line) (old new : ℕ) : Type 0 where
+  pub each : min (old + count_lines makes start lines) (2 ^ 64 - 1) ≤ new
+  pub few : new ≤ old + count_lines may_make start lines
 
 -- a run of these lines from one moment to another: the bytes that it read and wrote, what it did, the table that it left, which is
--- that of the lines, and the boxes that it made, at most one for each line that may make one
+-- that of the lines, and the boxes that it made
 pub record Runs (start : State) (finish : State → State) (lines : List Line) (before : Moment) (result : Result ℕ RunFault) (after : Moment) : Type 0 where
   pub bytes : List ℕ
   pub written : List ℕ
@@ -105,7 +119,7 @@ pub record Runs (start : State) (finish : State → State) (lines : List Line) (
   pub writes : Appends before.given after.given written
   pub ran : Ran start finish lines bytes (EndsAt before.left after.left) written result
   pub table : after.table.table ≡ (fold step start lines).now.table
-  pub boxes : after.boxes ≤ before.boxes + box_lines start lines
+  pub boxes : AreBoxed start lines before.boxes after.boxes
 
 -- a run with a status: with these marks it wrote, answered and left what is said of all bytes of the input
 abbrev pub Whole : Kind → List Bool → Moment → ℕ → Moment → Type 0

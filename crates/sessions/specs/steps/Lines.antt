@@ -1,13 +1,14 @@
 -- What came of lines that were read and executed, and of the end of the input.
-use Rattle.std.specs.Prelude.{◌≡◌, ◌⊎◌, ℕ, ◌+◌, ◌≤◌, Bool, List, ◌++◌, Option, Result, Ok, Err, MatchResult, IsTrue}
+use Rattle.std.specs.Prelude.{◌≡◌, ◌⊎◌, ℕ, Bool, List, [], ◌++◌, Option, Result, Ok, Err, MatchResult, IsTrue}
 use Rattle.std.specs.Io.KnownBytes.{Appends, Consumes}
 use Rattle.fields.specs.declared.text.tap.Tap.{Tap}
 use Rattle.fields.specs.text.Line.{EndsAt}
 use Rattle.fields.specs.text.Tap.{Wrote, Stopped, Puts}
 use Rattle.table.specs.chains.Table.{Table}
+use Rattle.table.specs.edits.Boxes.{MakesOneBox}
 use Rattle.sessions.specs.line.Outcome.{Line, has_ended}
 use Rattle.sessions.specs.run.Session.{State, step}
-use Rattle.sessions.specs.run.Run.{AreRead, box_lines, Lead, Moment, RunFault, Runs, WriteFailed}
+use Rattle.sessions.specs.run.Run.{AreBoxed, AreRead, Lead, makes, Moment, RunFault, Runs, WriteFailed}
 use Rattle.sessions.specs.declared.run.session.Progress.{Progress}
 
 -- the state of the definition, where this was printed
@@ -17,12 +18,14 @@ state_of t p printed = record {
   printed = printed;
 }
 
--- a line was executed as the definition says, for some mark: its reply was written, or the writer failed in it
-abbrev pub ExecutesLine : {W E : Type 0} → (W → Option (List ℕ)) → Table → Progress → Table → Progress → Tap W → Tap W → Result (Unit {0}) E → List ℕ → Type 0
-ExecutesLine contents t p t' p' o o' r text =
+-- a line was executed as the definition says, for some mark: its reply was written, or the writer failed in it; and where it makes
+-- a box, one was made
+abbrev pub ExecutesLine : {W E : Type 0} → (W → Option (List ℕ)) → Table → Progress → ℕ → Table → Progress → ℕ → Tap W → Tap W → Result (Unit {0}) E → List ℕ → Type 0
+ExecutesLine contents t p boxes t' p' boxes' o o' r text =
     (refused : Bool) × (reply : List ℕ)
     × ((printed : List ℕ) → step (state_of t p printed) (record { text = text; refused = refused }) ≡ state_of t' p' (printed ++ reply))
     × Puts contents o o' r reply
+    × (IsTrue (makes (state_of t p []) (record { text = text; refused = refused })) → MakesOneBox boxes boxes')
 
 -- All lines that were read were executed, up to the input's end or to the fault that ends a run.
 pub record ExecutedAll (start : State) (before after : Moment) (p : Progress) : Type 0 where
@@ -34,7 +37,7 @@ pub record ExecutedAll (start : State) (before after : Moment) (p : Progress) : 
   pub read : AreRead lines bytes (EndsAt before.left after.left)
   pub done : IsTrue (has_ended p.mode) ⊎ EndsAt before.left after.left
   pub writes : Appends before.given after.given printed
-  pub boxes : after.boxes ≤ before.boxes + box_lines start lines
+  pub boxes : AreBoxed start lines before.boxes after.boxes
 
 -- what came of lines, by the answer: a run that failed is over, whatever its end would have been
 abbrev pub ExecutesLines : State → Moment → Result (Unit {0}) RunFault → Moment → Progress → Type 0

@@ -1,11 +1,11 @@
 //! What a line of a session does, by where it stands: the table after it, where the next line stands, and the answer.
-ghost use Rattle.std.specs.Prelude.{◌≡◌, ◌≤◌, ℕ, List, Ok, Err, length, option_map};
+ghost use Rattle.std.specs.Prelude.{◌≡◌, ◌≤◌, ℕ, List, Ok, Err, OnOk, IsTrue, length, option_map};
 ghost use Rattle.fields.specs.text.Line.{IsHeld};
-ghost use Rattle.table.specs.edits.Boxes.{MakesOneBoxAtMost};
-ghost use Rattle.restore.specs.commands.Command.{IsChange, meaning as command_meaning};
+ghost use Rattle.table.specs.edits.Boxes.{MakesBoxes, MakesOneBox};
+ghost use Rattle.restore.specs.commands.Command.{IsChange, command_puts, meaning as command_meaning};
 ghost use Rattle.restore.specs.commands.Command.{ListRules};
 ghost use Rattle.table.specs.chains.Table.{TableView};
-ghost use Rattle.sessions.specs.line.Boxes.{MakesBoxes, asks_edit, may_box};
+ghost use Rattle.sessions.specs.line.Boxes.{asks_put, may_box};
 ghost use Rattle.sessions.specs.line.Fault.{of_line};
 ghost use Rattle.sessions.specs.line.Request.{Ask, Run, Show, request_of};
 ghost use Rattle.sessions.specs.line.Outcome.{Outside, AfterFault, InRestore, after_fault, is_end, opened, execute};
@@ -58,7 +58,8 @@ impl Outcome {
 fn edit(table: &mut Table, work: &mut Work, command: Command<'_>) -> Outcome
     requires { IsChange (command_meaning command) }
     ensures comes { Comes (execute table.old.table (Ok (Run (command_meaning command.entry)))) Outside table.old table.new result }
-    ensures work { MakesOneBoxAtMost work.old work.new }
+    ensures work { MakesBoxes (command_puts (command_meaning command.entry)) work.old work.new }
+    ensures boxed { IsTrue (command_puts (command_meaning command.entry)) → OnOk result.reply (MakesOneBox work.old work.new) }
 {
     match apply(table, command, work) {
         Ok(()) => Outcome::answers(Mode::Outside, Answer::Nothing),
@@ -123,7 +124,8 @@ fn ask(table: &Table, packet: Packet) -> Outcome
 // Does a command.
 fn run(table: &mut Table, work: &mut Work, command: Command<'_>) -> Outcome
     ensures comes { Comes (execute table.old.table (Ok (Run (command_meaning command.entry)))) Outside table.old table.new result }
-    ensures work { MakesBoxes (asks_edit (Ok (Run (command_meaning command.entry)))) work.old work.new }
+    ensures work { MakesBoxes (command_puts (command_meaning command.entry)) work.old work.new }
+    ensures boxed { IsTrue (command_puts (command_meaning command.entry)) → OnOk result.reply (MakesOneBox work.old work.new) }
 {
     match command {
         Command::ListRules(name) => list_rules(table, name),
@@ -134,7 +136,8 @@ fn run(table: &mut Table, work: &mut Work, command: Command<'_>) -> Outcome
 // Does what a line outside of restores asks for.
 fn execute(alloc: Global, table: &mut Table, work: &mut Work, request: Request<'_>) -> Outcome
     ensures comes { Comes (execute table.old.table (Ok (meaning request.entry))) Outside table.old table.new result }
-    ensures work { MakesBoxes (asks_edit (Ok (meaning request.entry))) work.old work.new }
+    ensures work { MakesBoxes (asks_put (Ok (meaning request.entry))) work.old work.new }
+    ensures boxed { IsTrue (asks_put (Ok (meaning request.entry))) → OnOk result.reply (MakesOneBox work.old work.new) }
 {
     match request {
         Request::Run(command) => run(table, work, command),
@@ -148,7 +151,8 @@ fn execute(alloc: Global, table: &mut Table, work: &mut Work, request: Request<'
 // Does the words of a line outside of restores.
 fn execute_words(alloc: Global, table: &mut Table, work: &mut Work, words: &Words) -> Outcome
     ensures comes { Comes (execute table.old.table (request_of words.now)) Outside table.old table.new result }
-    ensures work { MakesBoxes (asks_edit (request_of words.now)) work.old work.new }
+    ensures work { MakesBoxes (asks_put (request_of words.now)) work.old work.new }
+    ensures boxed { IsTrue (asks_put (request_of words.now)) → OnOk result.reply (MakesOneBox work.old work.new) }
 {
     match Request::read(alloc, words) {
         Ok(request) => execute(alloc, table, work, request),
@@ -168,6 +172,7 @@ fn outside(
     requires { length line.now ≤ 10240 }
     ensures outcome { (text : List ℕ) → IsHeld 10240 text line.now too_long → IsOutcomeOf text Outside table.old table.new result }
     ensures work { (text : List ℕ) → IsHeld 10240 text line.now too_long → MakesBoxes (may_box Outside text) work.old work.new }
+    ensures boxed { (text : List ℕ) → IsHeld 10240 text line.now too_long → IsTrue (may_box Outside text) → OnOk result.reply (MakesOneBox work.old work.new) }
 {
     if too_long {
         return Outcome::fails(Mode::Outside, Fault::Line(RestoreFault::LineTooLong));
@@ -209,6 +214,7 @@ fn within(
     requires { length line.now ≤ 10240 }
     ensures outcome { (text : List ℕ) → IsHeld 10240 text line.now too_long → IsOutcomeOf text (InRestore word restore) table.old table.new result }
     ensures work { (text : List ℕ) → IsHeld 10240 text line.now too_long → MakesBoxes (may_box (InRestore word restore) text) work.old work.new }
+    ensures boxed { (text : List ℕ) → IsHeld 10240 text line.now too_long → IsTrue (may_box (InRestore word restore) text) → OnOk result.reply (MakesOneBox work.old work.new) }
 {
     if is_end(&word, line, too_long) {
         return match restore.finish() {
@@ -253,6 +259,7 @@ pub(crate) fn take_line(
     requires { length line.now ≤ 10240 }
     ensures outcome { (text : List ℕ) → IsHeld 10240 text line.now too_long → IsOutcomeOf text mode table.old table.new result }
     ensures work { (text : List ℕ) → IsHeld 10240 text line.now too_long → MakesBoxes (may_box mode text) work.old work.new }
+    ensures boxed { (text : List ℕ) → IsHeld 10240 text line.now too_long → IsTrue (may_box mode text) → OnOk result.reply (MakesOneBox work.old work.new) }
 {
     match mode {
         Mode::Outside => outside(alloc, table, work, line, too_long),

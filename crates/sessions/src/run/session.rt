@@ -5,7 +5,8 @@ ghost use Rattle.fields.specs.text.Tap.{has_failed, is_unflushed, known, shown_l
 ghost use Rattle.fields.specs.text.Line.{IsHeld, EndsAt, ReadsLine};
 ghost use Rattle.table.specs.chains.Table.{Table as TableOf};
 ghost use Rattle.table.specs.edits.Headline.{ChainsHaveOneListOfClassifiers};
-ghost use Rattle.sessions.specs.line.Boxes.{MakesBoxes, may_box};
+ghost use Rattle.table.specs.edits.Boxes.{MakesBoxes};
+ghost use Rattle.sessions.specs.line.Boxes.{may_box};
 ghost use Rattle.sessions.specs.line.Outcome.{Reply, has_ended, reply_text, status_after};
 ghost use Rattle.sessions.specs.line.Executed.{HasChain, IsReply};
 ghost use Rattle.sessions.specs.run.Console.{HasSameTaps, has_held_back, reader, writer};
@@ -313,7 +314,8 @@ impl Session {
         requires fresh { has_failed output.old ≡ false }
         requires within { vec_len self.old.line ≤ 10240 }
         ensures executes { (text : List ℕ) → IsHeld 10240 text self.old.line.items too_long →
-            ExecutesLine W.contents (table_of self.old).table progress.old (table_of self.new).table progress.new output.old output.new result text }
+            ExecutesLine W.contents (table_of self.old).table progress.old (boxes_of self.old) (table_of self.new).table progress.new (boxes_of self.new)
+            output.old output.new result text }
         ensures number { progress.new.number ≡ progress.old.number + 1 }
         ensures work { (text : List ℕ) → IsHeld 10240 text self.old.line.items too_long →
             MakesBoxes (may_box progress.old.mode text) (boxes_of self.old) (boxes_of self.new) }
@@ -416,7 +418,8 @@ impl Session {
     ///
     /// After a `RunFault` it may be called again, with new taps; a restore that was open is given up.
     ///
-    /// A command that edits the table makes one box at most, and so does a line in a restore; others make none. A line costs what its command costs, and time linear in its length and its reply.
+    /// A line that puts a rule into a chain, outside of restores or in one, makes one box, or where it is refused one
+    /// at most; others make none. A line costs what its command costs, and time linear in its length and its reply.
     ///
     /// # Errors
     ///

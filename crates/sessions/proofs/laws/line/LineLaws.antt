@@ -56,7 +56,7 @@ read_long line text false held long = absurd (false≢true long)
 too_long_is : (text : List ℕ) → 10240 < length text → is_too_long text ≡ true
 too_long_is text long = lt-ltb 10240 (length text) long
 
-not_too_long : (text : List ℕ) → length text ≤ 10240 → is_too_long text ≡ false
+pub not_too_long : (text : List ℕ) → length text ≤ 10240 → is_too_long text ≡ false
 not_too_long text within = le-ltb 10240 (length text) within
 
 -- the end line of a restore isn't too long
@@ -87,7 +87,7 @@ outside_quiet text v t within quiet s r =
     (subst (λ (b : Bool). IsOutcome (execute v.table (cond b (Err (OfLine LineTooLong)) (cond (is_quiet text) (Ok Nothing) (or_refused (OfLine Quoting) (words_of text) >>= request_of)))) v t) (sym (not_too_long text within))
     (subst (λ (b : Bool). IsOutcome (execute v.table (cond b (Ok Nothing) (or_refused (OfLine Quoting) (words_of text) >>= request_of))) v t) (sym quiet) (silent_outcome v t Outside s r)))
 
-loud : (text : List ℕ) → length text ≤ 10240 → is_quiet text ≡ false → request_on text ≡ (or_refused (OfLine Quoting) (words_of text) >>= request_of)
+pub loud : (text : List ℕ) → length text ≤ 10240 → is_quiet text ≡ false → request_on text ≡ (or_refused (OfLine Quoting) (words_of text) >>= request_of)
 unfolding request_on
 loud text within quiet =
     ap (λ (b : Bool). cond b (Err (OfLine LineTooLong)) (cond (is_quiet text) (Ok Nothing) (or_refused (OfLine Quoting) (words_of text) >>= request_of))) (not_too_long text within)

@@ -1,5 +1,5 @@
 -- How far a run is, and what it did at each of its ends.
-use Rattle.std.proofs.Common.{◌≡◌, ◌⊎◌, inl, inr, ℕ, ◌+◌, ◌<◌, ◌≤◌, arith, Bool, true, false, cond, List, [], ◌∷◌, ◌++◌, length, Option, Err, refl, sym, ap, subst, ◌∙◌, append_assoc, append-nil}
+use Rattle.std.proofs.Common.{◌≡◌, ◌⊎◌, inl, inr, ℕ, ◌+◌, ◌-◌, ◌^◌, ◌<◌, ◌≤◌, min, arith, Bool, true, false, cond, List, [], ◌∷◌, ◌++◌, length, Option, Err, refl, sym, ap, subst, ◌∙◌, append_assoc, append-nil}
 use Rattle.std.specs.Io.KnownBytes.{Appends, Consumes}
 use Rattle.std.proofs.KnownBytes.{Consumes-trans, Consumes-nil, Appends-nil, Appends-trans}
 use Rattle.fields.specs.text.Tap.{IsBeginning}
@@ -8,10 +8,11 @@ use Rattle.fields.specs.text.Line.{EndsAt, lines_of, ended_lines}
 use Rattle.fields.proofs.laws.text.LineLaws.{lines_of-ended, lines_of-last, ended_lines-ended, ended_lines-part}
 use Rattle.fields.proofs.laws.text.PartLaws.{EndsAt-later}
 use Rattle.table.specs.chains.Table.{Table, TableView}
-use Rattle.sessions.specs.line.Boxes.{MakesBoxes, may_box}
+use Rattle.table.specs.edits.Boxes.{MakesBoxes, MakesOneBox}
+use Rattle.sessions.specs.line.Boxes.{may_box}
 use Rattle.sessions.specs.line.Outcome.{Line, has_ended}
 use Rattle.sessions.specs.run.Session.{State, step, texts_of}
-use Rattle.sessions.specs.run.Run.{box_lines, EndsLine, Lead, LineStopped, Moment, Ran, RunFault, Runs, ReadFailed, WriteFailed}
+use Rattle.sessions.specs.run.Run.{AreBoxed, count_lines, EndsLine, Lead, makes, may_make, LineStopped, Moment, Ran, RunFault, Runs, ReadFailed, WriteFailed}
 use Rattle.sessions.specs.steps.Lines.{ExecutedAll, state_of}
 use Rattle.sessions.specs.declared.run.session.Progress.{Progress}
 use Rattle.sessions.proofs.laws.run.LeadLaws.{fold_of, lead_more, texts_more}
@@ -27,7 +28,7 @@ pub record Reached (from : State) (before now : Moment) (p : Progress) : Type 0 
   pub ends : EndsLine bytes
   pub leads : Lead from lines (state_of now.table.table p printed)
   pub writes : Appends before.given now.given printed
-  pub boxes : now.boxes ≤ before.boxes + box_lines from lines
+  pub boxes : AreBoxed from lines before.boxes now.boxes
 
 -- the same moment, but for what the reader has left
 abbrev pub reads_on : Moment → Option (List ℕ) → Moment
@@ -60,18 +61,25 @@ at_first a b is = omega arith
 at_later : (one old new more : ℕ) → new ≡ old + more → one + new ≡ (one + old) + more
 at_later one old new more is = omega arith
 
--- a line more that may make a box, or none
-box_more : (from s : State) (lines : List Line) (line : Line) → Lead from lines s → box_lines from (lines ++ line ∷ []) ≡ box_lines from lines + cond (may_box s.now.mode line.text) 1 0
-box_more from s [] line h = let one : State → ℕ = λ x. cond (may_box x.now.mode line.text) 1 0 in at_first (one from) (one s) (ap one h)
-box_more from s (first ∷ lines) line h =
-    let one : State → ℕ = λ x. cond (may_box x.now.mode first.text) 1 0 in
-    at_later (one from) (box_lines (step from first) lines) (box_lines (step from first) (lines ++ line ∷ [])) (cond (may_box s.now.mode line.text) 1 0)
-    (box_more (step from first) s lines line h.1)
+-- a line more is counted, or not
+count_more : (holds : State → Line → Bool) (from s : State) (lines : List Line) (line : Line) → Lead from lines s
+    → count_lines holds from (lines ++ line ∷ []) ≡ count_lines holds from lines + cond (holds s line) 1 0
+count_more holds from s [] line h = let one : State → ℕ = λ x. cond (holds x line) 1 0 in at_first (one from) (one s) (ap one h)
+count_more holds from s (first ∷ lines) line h =
+    at_later (cond (holds from first) 1 0) (count_lines holds (step from first) lines) (count_lines holds (step from first) (lines ++ line ∷ [])) (cond (holds s line) 1 0)
+    (count_more holds (step from first) s lines line h.1)
 
 -- a box more is such a line more
 boxes_more : (a b old count total : ℕ) (may : Bool) → a ≤ old + count → MakesBoxes may a b → total ≡ count + cond may 1 0 → b ≤ old + total
 boxes_more a b old count total true few made is = elim made [ inl same ↦ omega (arith, few, same, is) | inr one ↦ omega (arith, few, one, is) ]
 boxes_more a b old count total false few made is = omega (arith, few, made, is)
+
+-- where the line makes a box there is one more
+each_more : (a b old count total : ℕ) (may puts : Bool) → min (old + count) (2 ^ 64 - 1) ≤ a → MakesBoxes may a b → (puts ≡ true → MakesOneBox a b) → total ≡ count + cond puts 1 0
+    → min (old + total) (2 ^ 64 - 1) ≤ b
+each_more a b old count total may true each made put is = let one : MakesOneBox a b = put refl in omega (arith, each, one, is)
+each_more a b old count total false false each made put is = omega (arith, each, made, is)
+each_more a b old count total true false each made put is = elim made [ inl same ↦ omega (arith, each, same, is) | inr one ↦ omega (arith, each, one, is) ]
 
 -- at the beginning
 pub reached_nothing : (from : State) (before : Moment) (p : Progress) → state_of before.table.table p [] ≡ from → Reached from before before p
@@ -85,7 +93,7 @@ reached_nothing from before p begins = record {
   ends = inl refl;
   leads = begins;
   writes = Appends-nil before.given;
-  boxes = omega arith;
+  boxes = record { each = omega arith; few = omega arith };
 }
 
 -- the replies may have been handed on, which gives the writer nothing
@@ -147,17 +155,26 @@ module _ {from : State} {before now : Moment} {p : Progress} (r : Reached from b
   }
 
   module _ (refused : Bool) (reply : List ℕ) (given : Option (List ℕ)) (t' : TableView) (boxes' : ℕ) (p' : Progress) (executed : Steps now.table.table p text refused reply t'.table p')
-      (made : MakesBoxes (may_box p.mode text) now.boxes boxes') where
+      (made : MakesBoxes (may_box p.mode text) now.boxes boxes') (put : makes (state_of now.table.table p []) (record { text = text; refused = refused }) ≡ true → MakesOneBox now.boxes boxes') where
     abbrev next : Moment
     next = record { left = left; given = given; table = t'; boxes = boxes' }
 
     abbrev all : List Line
     all = more r.lines text refused
 
-    few : boxes' ≤ before.boxes + box_lines from all
-    few =
-        boxes_more now.boxes boxes' before.boxes (box_lines from r.lines) (box_lines from all) (may_box p.mode text) r.boxes made
-        (box_more from (state_of now.table.table p r.printed) r.lines (record { text = text; refused = refused }) r.leads)
+    abbrev line : Line
+    line = record { text = text; refused = refused }
+
+    counted : (holds : State → Line → Bool) → count_lines holds from all ≡ count_lines holds from r.lines + cond (holds (state_of now.table.table p r.printed) line) 1 0
+    counted holds = count_more holds from (state_of now.table.table p r.printed) r.lines line r.leads
+
+    boxed : AreBoxed from all before.boxes boxes'
+    boxed = record {
+      each = each_more now.boxes boxes' before.boxes (count_lines makes from r.lines) (count_lines makes from all) (may_box p.mode text)
+          (makes (state_of now.table.table p r.printed) line) r.boxes.each made put (counted makes);
+      few = boxes_more now.boxes boxes' before.boxes (count_lines may_make from r.lines) (count_lines may_make from all) (may_box p.mode text)
+          r.boxes.few made (counted may_make);
+    }
 
     all_written : (part : List ℕ) → Appends now.given given part → Appends before.given given (r.printed ++ part)
     all_written part writes = Appends-trans before.given now.given given r.printed part r.writes writes
@@ -190,7 +207,7 @@ module _ {from : State} {before now : Moment} {p : Progress} (r : Reached from b
       ends = ends_piece;
       leads = leads_all;
       writes = all_written reply wrote;
-      boxes = few;
+      boxes = boxed;
     }
 
     -- and the run has ended
@@ -204,7 +221,7 @@ module _ {from : State} {before now : Moment} {p : Progress} (r : Reached from b
       read = record { texts = ended_texts; whole = inl ends_piece };
       done = inl over;
       writes = all_written reply wrote;
-      boxes = few;
+      boxes = boxed;
     }
 
     -- the last line was executed
@@ -218,7 +235,7 @@ module _ {from : State} {before now : Moment} {p : Progress} (r : Reached from b
       read = record { texts = last_texts some; whole = inr (met end) };
       done = inr (met end);
       writes = all_written reply wrote;
-      boxes = few;
+      boxes = boxed;
     }
 
     -- the writer failed in the reply to a line of this piece
@@ -247,7 +264,7 @@ module _ {from : State} {before now : Moment} {p : Progress} (r : Reached from b
           };
         });
         table = ap (λ (s : State). s.now.table) (sym (fold_of from (state_of t'.table p' (r.printed ++ reply)) all leads_all));
-        boxes = few;
+        boxes = boxed;
       },
     )
 

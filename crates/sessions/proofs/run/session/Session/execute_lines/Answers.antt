@@ -28,23 +28,23 @@ returns-in-Nothing-clause-executes g c =
 pub returns-then-has_ended-clause-executes : goal.returns-then-has_ended-clause-executes
 returns-then-has_ended-clause-executes g c =
     let (text, one, (held, taken, counted)) = rw c.in-Newline.is at c.in-Ok.ensures.reads in
-    let (refused, reply, steps, wrote) = c.in-Ok-execute.ensures.executes text held in
+    let (refused, reply, steps, wrote, put) = c.in-Ok-execute.ensures.executes text held in
     executed_to_fault (handed_on c.lines.invariant.reached (known g.W.Write.contents (writer c.next_line.new.console)) c.next_line.ensures.given) c.lines.invariant.going (known g.R.Read.remaining (reader c.next_line.new.console)) text one refused reply (known g.W.Write.contents c.execute.new.output)
-    _ _ _ steps (c.in-Ok-execute.ensures.work text held) taken wrote.appends (sym c.has_ended.ensures ∙ c.if-has_ended.true)
+    _ _ _ steps (c.in-Ok-execute.ensures.work text held) put taken wrote.appends (sym c.has_ended.ensures ∙ c.if-has_ended.true)
 
 pub returns-then-has_ended-clause-ready : goal.returns-then-has_ended-clause-ready
 returns-then-has_ended-clause-ready g c =
     let (text, one, (held, taken, counted)) = rw c.in-Newline.is at c.in-Ok.ensures.reads in
-    let (refused, reply, steps, wrote) = c.in-Ok-execute.ensures.executes text held in
+    let (refused, reply, steps, wrote, put) = c.in-Ok-execute.ensures.executes text held in
     wrote.fresh
 
 pub lines-preserved : goal.lines-preserved
 lines-preserved g c =
     let (text, one, (held, taken, counted)) = rw c.in-Newline.is at c.in-Ok.ensures.reads in
-    let (refused, reply, steps, wrote) = c.in-Ok-execute.ensures.executes text held in
+    let (refused, reply, steps, wrote, put) = c.in-Ok-execute.ensures.executes text held in
     record {
       reached = reached_more (handed_on c.lines.invariant.reached (known g.W.Write.contents (writer c.next_line.new.console)) c.next_line.ensures.given) c.lines.invariant.going (known g.R.Read.remaining (reader c.next_line.new.console)) text one refused reply (known g.W.Write.contents c.execute.new.output)
-          _ _ _ steps (c.in-Ok-execute.ensures.work text held) taken wrote.appends;
+          _ _ _ steps (c.in-Ok-execute.ensures.work text held) put taken wrote.appends;
       same = search rules;
       prompt = search rules;
       fresh = search rules;
@@ -56,26 +56,26 @@ lines-preserved g c =
 pub returns-in-Err-execute-clause-executes : goal.returns-in-Err-execute-clause-executes
 returns-in-Err-execute-clause-executes g c finish =
     let (text, one, (held, taken, counted)) = rw c.in-Newline.is at c.in-Ok.ensures.reads in
-    let (refused, reply, steps, stopped) = c.in-Err-execute.ensures.executes text held in
+    let (refused, reply, steps, stopped, put) = c.in-Err-execute.ensures.executes text held in
     write_failed (handed_on c.lines.invariant.reached (known g.W.Write.contents (writer c.next_line.new.console)) c.next_line.ensures.given) c.lines.invariant.going (known g.R.Read.remaining (reader c.next_line.new.console)) text one refused reply (known g.W.Write.contents c.execute.new.output)
-    _ _ _ steps (c.in-Err-execute.ensures.work text held) finish taken stopped.part stopped.begins stopped.appends
+    _ _ _ steps (c.in-Err-execute.ensures.work text held) put finish taken stopped.part stopped.begins stopped.appends
 
 pub returns-in-Ok-execute-2-clause-executes : goal.returns-in-Ok-execute-2-clause-executes
 returns-in-Ok-execute-2-clause-executes g c =
     let (text, one, (held, taken, counted)) = rw c.in-Input.is at c.in-Ok.ensures.reads in
-    let (refused, reply, steps, wrote) = c.in-Ok-execute-2.ensures.executes text held in
+    let (refused, reply, steps, wrote, put) = c.in-Ok-execute-2.ensures.executes text held in
     executed_last (handed_on c.lines.invariant.reached (known g.W.Write.contents (writer c.next_line.new.console)) c.next_line.ensures.given) c.lines.invariant.going (known g.R.Read.remaining (reader c.next_line.new.console)) text one refused reply (known g.W.Write.contents c.execute-in-Input.new.output)
-    _ _ _ steps (c.in-Ok-execute-2.ensures.work text held) taken.0 taken.1 taken.2 wrote.appends
+    _ _ _ steps (c.in-Ok-execute-2.ensures.work text held) put taken.0 taken.1 taken.2 wrote.appends
 
 pub returns-in-Ok-execute-2-clause-ready : goal.returns-in-Ok-execute-2-clause-ready
 returns-in-Ok-execute-2-clause-ready g c =
     let (text, one, (held, taken, counted)) = rw c.in-Input.is at c.in-Ok.ensures.reads in
-    let (refused, reply, steps, wrote) = c.in-Ok-execute-2.ensures.executes text held in
+    let (refused, reply, steps, wrote, put) = c.in-Ok-execute-2.ensures.executes text held in
     wrote.fresh
 
 pub returns-in-Err-execute-2-clause-executes : goal.returns-in-Err-execute-2-clause-executes
 returns-in-Err-execute-2-clause-executes g c finish =
     let (text, one, (held, taken, counted)) = rw c.in-Input.is at c.in-Ok.ensures.reads in
-    let (refused, reply, steps, stopped) = c.in-Err-execute-2.ensures.executes text held in
+    let (refused, reply, steps, stopped, put) = c.in-Err-execute-2.ensures.executes text held in
     last_failed (handed_on c.lines.invariant.reached (known g.W.Write.contents (writer c.next_line.new.console)) c.next_line.ensures.given) c.lines.invariant.going (known g.R.Read.remaining (reader c.next_line.new.console)) text one refused reply (known g.W.Write.contents c.execute-in-Input.new.output)
-    _ _ _ steps (c.in-Err-execute-2.ensures.work text held) finish taken.0 taken.1 taken.2 stopped.part stopped.begins stopped.appends
+    _ _ _ steps (c.in-Err-execute-2.ensures.work text held) put finish taken.0 taken.1 taken.2 stopped.part stopped.begins stopped.appends
