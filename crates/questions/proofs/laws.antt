@@ -1,4 +1,5 @@
 pub mod AheadLaws
+pub mod AlignLaws
 pub mod AlikeLaws
 pub mod AnswerLaws
 pub mod AreaLaws
@@ -12,6 +13,7 @@ pub mod ComeLaws
 pub mod CompareLaws
 pub mod CountLaws
 pub mod DeleteLaws
+pub mod DifferLaws
 pub mod ElsewhereLaws
 pub mod EndLaws
 pub mod EqualLaws

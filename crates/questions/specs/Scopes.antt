@@ -88,16 +88,23 @@ AreLeavesUnder t known hook scope leaves = (p : Packet) → IsAtHook p → p.hoo
 abbrev pub AreExactUnder : Table → Known → Hook → Scope → List Leaf → Type 0
 AreExactUnder t known hook scope leaves = (p : Packet) → IsAtHook p → p.hook ≡ hook → All (ShowsUnder t known scope p) leaves
 
--- A table as it is, what is left of it once it is known which conditions hold, and what is known.
-pub record Left : Type 0 where
-  pub whole : Table
+-- A table as it is, and what its rules need, chain by chain.
+pub record Whole : Type 0 where
   pub table : Table
-  pub known : Known
+  pub needs : List (List (List Need))
 
--- what is left of it under an assignment
-abbrev pub left_of : Subject → Assignment → Left
-left_of subject a = record { whole = table_of subject; table = answered subject a; known = known_by subject a }
+-- the table, and what its rules need
+abbrev pub whole_of : Subject → Whole
+whole_of subject = record { table = table_of subject; needs = subject.needs.now }
 
--- all of it, where no rule needs anything
-abbrev pub all_of : Table → Left
-all_of t = record { whole = t; table = t; known = needless }
+-- a table in which no rule needs anything: under each assignment it is left as it is
+abbrev pub all_of : Table → Whole
+all_of t = record { table = t; needs = [] }
+
+-- what is left of a table under an assignment
+abbrev pub left_under : Whole → Assignment → Table
+left_under t a = resolved t.needs a t.table
+
+-- what is known then of the conditions that its rules need
+abbrev pub known_under : Whole → Assignment → Known
+known_under t a = record { needs = t.needs; holds = a }

@@ -1,3 +1,4 @@
+pub mod Aligned
 pub mod Alike
 pub mod Always
 pub mod Changes

@@ -9,9 +9,9 @@ use Rattle.table.specs.walk.Walk.{Walked}
 use Rattle.questions.specs.Ends.{IsRule}
 use Rattle.questions.specs.Foreign.{Agrees, AreConsistent, Assignment}
 use Rattle.questions.specs.asked.Verdicts.{IsOtherAt}
-use Rattle.questions.specs.Scopes.{AreExactUnder, AreLeavesUnder, IsOf, ShowsUnder, answered, known_by, left_of, scope_of, table_of}
-use Rattle.questions.specs.asked.Alike.{HoldsWith, IsAlwaysSettled, IsGivenBy, IsOfOther, IsSameIn, IsSameOn, SaysIf}
-use Rattle.questions.specs.asked.Differing.{IsUnclearIf, MayDifferOn}
+use Rattle.questions.specs.Scopes.{AreExactUnder, AreLeavesUnder, IsOf, ShowsUnder, answered, known_by, scope_of, table_of, whole_of}
+use Rattle.questions.specs.asked.Alike.{HoldsWith, IsAlwaysSettled, IsGivenBy, IsOfOther, IsSameOn, SaysIf}
+use Rattle.questions.specs.asked.Differing.{IsUnclearIf}
 use Rattle.questions.specs.boxes.Area.{IsAtHook, IsBoth, IsIn}
 use Rattle.questions.specs.declared.asked.likeness.Likeness.{Likeness}
 use Rattle.questions.specs.declared.asked.likeness.Likeness.TheVariants as likeness
@@ -21,7 +21,7 @@ use Rattle.questions.specs.declared.foreign.subject.Subject.{Subject}
 use Rattle.questions.specs.declared.walking.scope.Scope.{Scope}
 use Rattle.questions.specs.declared.walking.task.Leaf.{Leaf}
 use Rattle.questions.specs.steps.Answered.{MeetsNever}
-use Rattle.questions.specs.steps.Compared.{MayDifferOf}
+use Rattle.questions.specs.steps.Compared.{AreWalked}
 use Rattle.questions.specs.steps.Meant.{IsScopeAt, needs_of}
 use Rattle.questions.specs.steps.Takers.{IsMatchedAt}
 use Rattle.questions.proofs.laws.PacketLaws.{written_at_hooks}
@@ -32,13 +32,11 @@ use Rattle.questions.proofs.laws.ResolvedLaws.{held_before, matched_before}
 pub given_all : (s : Subject) (hook : Hook) (start : Scope) (found : List Leaf) → ((a : Assignment) → AreExactUnder (answered s a) (known_by s a) hook start found) → All (IsGivenBy s hook) found
 given_all s hook start found exact k d lt a p can there own = ap (λ (w : Walked). w.verdict) (exact a p can there k d lt own).1
 
--- a packet of a leaf of the first table gets from the second table the verdict that all leaves there have
-pub same_in : (old new : Subject) (hook : Hook) (leaf : Leaf) (start : Scope) (found : List Leaf) → IsBoth leaf.area leaf.area start.area → start.answers ≡ leaf.answers → IsGivenBy old hook leaf
-    → ((a : Assignment) → AreLeavesUnder (answered new a) (known_by new a) hook start found) → All (λ other. other.verdict ≡ leaf.verdict) found → IsSameIn old new hook leaf
-same_in old new hook leaf start found copy same given cover alike a p can there own =
-    let P : List Answer → Type 0 = λ answers. Agrees a answers in
-    let (k, other, lt, is, ends) = cover a p can there (record { inside = copy.all p.values can.packet.within own.inside own.inside; agrees = subst P (sym same) own.agrees }) in
-    given a p can there own ∙ sym (All-contains (λ (o : Leaf). o.verdict ≡ leaf.verdict) found other alike (k, lt, is)) ∙ sym (ap (λ (w : Walked). w.verdict) ends.walked)
+-- a packet of a leaf gets the verdict that all leaves have in which its packets are
+pub given_in : (new : Subject) (hook : Hook) (leaf : Leaf) (found : List Leaf) → AreWalked (whole_of new) hook (scope_of leaf) found → All (λ other. other.verdict ≡ leaf.verdict) found → IsGivenBy new hook leaf
+given_in new hook leaf found walked alike a p can there own =
+    let (k, other, lt, is, ends) = walked.leaves a p can there own in
+    ap (λ (w : Walked). w.verdict) ends.walked ∙ All-contains (λ (o : Leaf). o.verdict ≡ leaf.verdict) found other alike (k, lt, is)
 
 -- a packet that a line writes, of a leaf there with another verdict, gets two verdicts
 pub other_in : (old new : Subject) (hook : Hook) (leaf : Leaf) (start : Scope) (found : List Leaf) (shown : Shown) → IsBoth leaf.area leaf.area start.area → start.answers ≡ leaf.answers → IsGivenBy old hook leaf
@@ -56,11 +54,12 @@ other_in old new hook leaf start found shown copy same given exact (k, other, lt
           (p, sample.writes, sample.there, λ one. differs (sym (ap (λ (w : Walked). w.verdict) walked) ∙ sym one ∙ given a p can sample.there before)));
     }
 
--- each packet of a scope is in some leaf of the first table, so what is said of all leaves is said of it
-pub same_on : (old new : Subject) (hook : Hook) (start : Scope) (found : List Leaf) → ((a : Assignment) → AreLeavesUnder (answered old a) (known_by old a) hook start found) → All (IsSameIn old new hook) found → IsSameOn old new hook start
-same_on old new hook start found cover same a p can there own =
+-- each packet of a scope is in some leaf of the first table; where both tables give the leaf's verdict, they give the same one
+pub same_on : (old new : Subject) (hook : Hook) (start : Scope) (found : List Leaf) → ((a : Assignment) → AreLeavesUnder (answered old a) (known_by old a) hook start found) → All (IsGivenBy new hook) found → IsSameOn old new hook start
+same_on old new hook start found cover given a p can there own =
     let (k, leaf, lt, is, ends) = cover a p can there own in
-    All-contains (IsSameIn old new hook) found leaf same (k, lt, is) a p can there ends.own
+    let of : IsOf (known_by new a) p (scope_of leaf) = record { inside = ends.own.inside; agrees = ends.own.agrees } in
+    ap (λ (w : Walked). w.verdict) ends.walked ∙ sym (All-contains (IsGivenBy new hook) found leaf given (k, lt, is) a p can there of)
 
 -- ---- one answer for another
 
@@ -90,7 +89,3 @@ settled_on own old new hook step scope is (given, boxed, same, meets) on a =
 pub settled_never : (own old new : Subject) (hook : Hook) (step : Step) → IsRule (table_of own) step → MeetsNever (needs_of own.needs.now step) [] → IsAlwaysSettled own old new hook step
 settled_never own old new hook step is never a =
     inl (λ p at. absurd (true≢false (sym (held_before own.needs.now a (table_of own) step hook p is at) ∙ never a (gives_none a))))
-
-pub unclear_on : (own old new : Subject) (hook : Hook) (budget : ℕ) (step : Step) (scope : Scope) → IsScopeAt (table_of own) own.needs.now step hook scope
-    → ((a : Assignment) → MayDifferOn (left_of old a) (left_of new a) hook budget scope) → (a : Assignment) → MayDifferOf (left_of own a) (left_of old a) (left_of new a) hook budget step
-unclear_on own old new hook budget step scope is may a = (scope, is, may a)

@@ -1,5 +1,5 @@
 -- Two tables compared by the rules in which they differ.
-use Rattle.std.proofs.Common.{◌≡◌, ◌≢◌, ◌⊎◌, inl, inr, ℕ, zero, suc, Bool, true, List, [], ◌∷◌, get_or, refl, sym, ◌∙◌, arith, subst, Contains}
+use Rattle.std.proofs.Common.{◌≡◌, ◌≢◌, ◌⊎◌, inl, inr, ℕ, zero, suc, Bool, true, List, [], ◌∷◌, get_or, refl, sym, ◌∙◌, ap, arith, subst, Contains}
 use Rattle.std.specs.Prelude.{All, Any, IsFalse}
 use Rattle.std.proofs.lemmas.Bool.{cases_Bool, true≢false}
 use Rattle.std.proofs.lemmas.List.Elements.{All-contains, Contains-get_or}
@@ -13,9 +13,9 @@ use Rattle.table.specs.walk.Walk.{Entry, end_verdict, walk}
 use Rattle.questions.specs.Ends.{IsRule, rule_at}
 use Rattle.questions.specs.Foreign.{Assignment}
 use Rattle.questions.specs.Leaves.{entry_of}
-use Rattle.questions.specs.Scopes.{Left, answered, left_of, table_of}
+use Rattle.questions.specs.Scopes.{Whole, answered, table_of, whole_of}
 use Rattle.questions.specs.asked.Alike.{IsAlwaysSameAt, IsAlwaysSettled}
-use Rattle.questions.specs.asked.Changes.{AreChanges, AreThese, IsUntouched}
+use Rattle.questions.specs.asked.Changes.{AreChanges, AreChangesUnder, AreThese, IsUntouched}
 use Rattle.questions.specs.asked.Differing.{IsOfRule, MayDiffer, MayDifferOn}
 use Rattle.questions.specs.asked.Verdicts.{IsAlike, IsSameAt}
 use Rattle.questions.specs.boxes.Area.{IsAtHook}
@@ -25,7 +25,7 @@ use Rattle.questions.specs.declared.walking.scope.Scope.{Scope}
 use Rattle.questions.specs.steps.Compared.{IsSettled, MayDifferOf}
 use Rattle.questions.specs.steps.Takers.{IsMatchedAt}
 use Rattle.questions.proofs.laws.ElsewhereLaws.{off_the_walk}
-use Rattle.questions.proofs.laws.ResolvedLaws.{rule_back}
+use Rattle.questions.proofs.laws.ResolvedLaws.{entry_left, rule_back, rule_left_there}
 use Rattle.questions.proofs.laws.SharedLaws.{are_off, matches_none}
 
 -- some of the rules matches the packet, or none does
@@ -102,31 +102,46 @@ same_at old new hook changes are ends went came p can there =
       ]
     ]
 
+-- these rules of a table are these of what is left of it
+these_left : (s : Subject) (a : Assignment) (these : Entry → Bool) (steps : List Step) → AreThese (table_of s) these steps → AreThese (answered s a) these steps
+these_left s a these steps are = record {
+  all = λ step (rule, is). are.all step (rule_back s.needs.now a (table_of s) step rule, ap these (sym (entry_left s.needs.now a (table_of s) step)) ∙ is);
+  only = λ step c. (let (rule, is) = are.only step c in (rule_left_there s.needs.now a (table_of s) step rule, ap these (entry_left s.needs.now a (table_of s) step) ∙ is));
+}
+
+-- so are the changes
+pub changes_left : (old new : Subject) (changes : Changes) → AreChangesUnder (whole_of old) (whole_of new) changes → (a : Assignment) → AreChanges (answered old a) (answered new a) changes
+changes_left old new changes are a = record {
+  went = are.went;
+  came = are.came;
+  shared = are.changed.shared a;
+  first = these_left old a are.went changes.went.items are.first;
+  second = these_left new a are.came changes.came.items are.second;
+}
+
 -- so they do, whatever holds
-pub same_always : (old new : Subject) (hook : Hook) (changes : Changes) → ((a : Assignment) → AreChanges (answered old a) (answered new a) changes)
+pub same_always : (old new : Subject) (hook : Hook) (changes : Changes) → AreChangesUnder (whole_of old) (whole_of new) changes
     → ((p : Packet) → p.hook ≡ hook → end_verdict (table_of old) p ≡ end_verdict (table_of new) p) → All (IsAlwaysSettled old old new hook) changes.went.items → All (IsAlwaysSettled new old new hook) changes.came.items → IsAlwaysSameAt old new hook
 same_always old new hook changes are ends went came a =
-    same_at (answered old a) (answered new a) hook changes (are a) ends (λ k d lt. went k d lt a) (λ k d lt. came k d lt a)
+    same_at (answered old a) (answered new a) hook changes (changes_left old new changes are a) ends (λ k d lt. went k d lt a) (λ k d lt. came k d lt a)
 
 -- the scope of a changed rule whose packets may get two verdicts
-changed : (own old new : Left) (these : Entry → Bool) (hook : Hook) (budget : ℕ) (steps : List Step) → AreThese own.table these steps → Any (MayDifferOf own old new hook budget) steps
-    → (scope : Scope) × IsOfRule own these hook scope × MayDifferOn old new hook budget scope
-changed own old new these hook budget steps are (k, step, lt, at, (scope, boxed, may)) =
+changed : (own old new : Whole) (these : Entry → Bool) (hook : Hook) (budget : ℕ) (steps : List Step) → AreThese own.table these steps → Any (MayDifferOf own old new hook budget) steps
+    → (scope : Scope) × IsOfRule own these hook budget scope × MayDifferOn old new hook budget scope
+changed own old new these hook budget steps are (k, step, lt, at, (live, (scope, boxed, may))) =
     let (rule, this) = are.only step (k, lt, at) in
-    (scope, (step, rule, this, boxed), may)
+    (scope, (step, rule, this, live, boxed), may)
 
-pub went_differs : (old new : Subject) (hook : Hook) (budget : ℕ) (changes : Changes) → ((a : Assignment) → AreChanges (answered old a) (answered new a) changes)
-    → Any (λ (step : Step). (a : Assignment) → MayDifferOf (left_of old a) (left_of old a) (left_of new a) hook budget step) changes.went.items → (a : Assignment) → MayDiffer (left_of old a) (left_of new a) hook budget
-went_differs old new hook budget changes are (k, step, lt, at, may) a =
-    let (scope, of, differs) = changed (left_of old a) (left_of old a) (left_of new a) (are a).went hook budget changes.went.items (are a).first (k, step, lt, at, may a) in
-    (scope, inr ((are a).went, (are a).came, (are a).shared, inl of), differs)
+pub went_differs : (old new : Whole) (hook : Hook) (budget : ℕ) (changes : Changes) → AreChangesUnder old new changes → Any (MayDifferOf old old new hook budget) changes.went.items → MayDiffer old new hook budget
+went_differs old new hook budget changes are some =
+    let (scope, of, differs) = changed old old new are.went hook budget changes.went.items are.first some in
+    (scope, inr (are.went, are.came, are.changed, inl of), differs)
 
-pub came_differs : (old new : Subject) (hook : Hook) (budget : ℕ) (changes : Changes) → ((a : Assignment) → AreChanges (answered old a) (answered new a) changes)
-    → Any (λ (step : Step). (a : Assignment) → MayDifferOf (left_of new a) (left_of old a) (left_of new a) hook budget step) changes.came.items → (a : Assignment) → MayDiffer (left_of old a) (left_of new a) hook budget
-came_differs old new hook budget changes are (k, step, lt, at, may) a =
-    let (scope, of, differs) = changed (left_of new a) (left_of old a) (left_of new a) (are a).came hook budget changes.came.items (are a).second (k, step, lt, at, may a) in
-    (scope, inr ((are a).went, (are a).came, (are a).shared, inr of), differs)
+pub came_differs : (old new : Whole) (hook : Hook) (budget : ℕ) (changes : Changes) → AreChangesUnder old new changes → Any (MayDifferOf new old new hook budget) changes.came.items → MayDiffer old new hook budget
+came_differs old new hook budget changes are some =
+    let (scope, of, differs) = changed new old new are.came hook budget changes.came.items are.second some in
+    (scope, inr (are.went, are.came, are.changed, inr of), differs)
 
 -- the changed rules are rules of their table
-pub are_rules : (s : Subject) (a : Assignment) (these : Entry → Bool) (steps : List Step) → AreThese (answered s a) these steps → All (IsRule (table_of s)) steps
-are_rules s a these steps are = λ k d lt. rule_back s.needs.now a (table_of s) (get_or steps k d) (are.only (get_or steps k d) (Contains-get_or steps k d lt)).0
+pub are_rules : (t : Table) (these : Entry → Bool) (steps : List Step) → AreThese t these steps → All (IsRule t) steps
+are_rules t these steps are = λ k d lt. (are.only (get_or steps k d) (Contains-get_or steps k d lt)).0

@@ -2,11 +2,11 @@
 use Rattle.std.proofs.Common.{◌≡◌, ◌⊎◌, inl, inr, ℕ, false, List, [], subst, Bor}
 use Rattle.fields.specs.declared.packet.hook.Hook.{Hook}
 use Rattle.table.specs.chains.Table.{Table}
-use Rattle.questions.specs.Foreign.{Assignment, resolved}
-use Rattle.questions.specs.Scopes.{Left, all_of, answered, left_of, table_of}
+use Rattle.questions.specs.Foreign.{Assignment}
+use Rattle.questions.specs.Scopes.{Whole, all_of, answered, table_of, whole_of}
 use Rattle.questions.specs.asked.Alike.{IsAlwaysSameAt, SaysIf}
 use Rattle.questions.specs.asked.Alike as Alike
-use Rattle.questions.specs.asked.Changes.{AreChanges}
+use Rattle.questions.specs.asked.Changes.{AreChanges, AreChangesUnder}
 use Rattle.questions.specs.asked.Differing.{IsUnclearIf, MayDiffer, MayDifferSomewhere}
 use Rattle.questions.specs.asked.Verdicts.{IsOther, IsOtherAt, IsSame, IsSameAt, Says, SaysAt}
 use Rattle.questions.specs.declared.asked.changes.Changes.{Changes}
@@ -17,7 +17,7 @@ use Rattle.questions.specs.declared.foreign.need.Need.{Need}
 use Rattle.questions.specs.declared.foreign.subject.Subject.{Subject}
 use Rattle.questions.proofs.laws.AlikeLaws.{unclear_as}
 use Rattle.questions.proofs.laws.AnswerLaws.{some_assignment_gives}
-use Rattle.questions.proofs.laws.PlainLaws.{left_plain, to_plain}
+use Rattle.questions.proofs.laws.PlainLaws.{to_plain}
 
 -- a table, and what its rules need
 abbrev pub subject_of : Bor BoxedTable → List (List (List Need)) → Subject
@@ -27,14 +27,9 @@ subject_of boxed needs = record { boxed = boxed; needs = record { ref_ptr = boxe
 abbrev pub nothing : Assignment
 nothing condition = false
 
--- all of a table is left
-as_all : (s : Subject) → s.needs.now ≡ [] → (P : Left → Type 0) → P (left_of s nothing) → P (all_of (table_of s))
-as_all s none P h =
-    let t : Table = table_of s in
-    let left : List (List (List Need)) → Table → Left = λ ns u. record { whole = t; table = u; known = record { needs = ns; holds = nothing } } in
-    let Q : List (List (List Need)) → Type 0 = λ ns. P (left ns (resolved ns nothing t)) in
-    let R : Table → Type 0 = λ u. P (left [] u) in
-    subst R (left_plain nothing t) (subst Q none h)
+-- it is the whole of a table in which no rule needs anything
+as_all : (s : Subject) → s.needs.now ≡ [] → (P : Whole → Type 0) → P (whole_of s) → P (all_of (table_of s))
+as_all s none P h = let Q : List (List (List Need)) → Type 0 = λ ns. P (record { table = table_of s; needs = ns }) in subst Q none h
 
 module _ (old new : Subject) (none : old.needs.now ≡ []) (too : new.needs.now ≡ []) where
   pub both_plain : (P : Table → Table → Type 0) (a : Assignment) → P (answered old a) (answered new a) → P (table_of old) (table_of new)
@@ -54,15 +49,18 @@ module _ (old new : Subject) (none : old.needs.now ≡ []) (too : new.needs.now 
       both_plain (λ t u. IsOtherAt t u hook words) a (h.each a agrees)
   plain_says_at hook likeness.Unclear h = tt
 
+  -- and so of both tables
+  both_whole : (P : Whole → Whole → Type 0) → P (whole_of old) (whole_of new) → P (all_of (table_of old)) (all_of (table_of new))
+  both_whole P h = as_all old none (λ t. P t (all_of (table_of new))) (as_all new too (λ u. P (whole_of old) u) h)
+
   abbrev Always : ℕ → Hook → Type 0
-  Always budget hook = (a : Assignment) → MayDiffer (left_of old a) (left_of new a) hook budget
+  Always budget hook = MayDiffer (whole_of old) (whole_of new) hook budget
 
   abbrev Plainly : ℕ → Hook → Type 0
   Plainly budget hook = MayDiffer (all_of (table_of old)) (all_of (table_of new)) hook budget
 
   plain_may : (budget : ℕ) (hook : Hook) → Always budget hook → Plainly budget hook
-  plain_may budget hook may =
-      as_all old none (λ l. MayDiffer l (all_of (table_of new)) hook budget) (as_all new too (λ r. MayDiffer (left_of old nothing) r hook budget) (may nothing))
+  plain_may budget hook may = both_whole (λ t u. MayDiffer t u hook budget) may
 
   pub plain_unclear_at : (budget : ℕ) (hook : Hook) (said : Likeness) → IsUnclearIf (Always budget hook) said → IsUnclearIf (Plainly budget hook) said
   plain_unclear_at budget hook said h = unclear_as (Always budget hook) (Plainly budget hook) said (plain_may budget hook) h
@@ -78,3 +76,6 @@ module _ (old new : Subject) (none : old.needs.now ≡ []) (too : new.needs.now 
 
   pub changes_plain : (changes : Changes) → ((a : Assignment) → AreChanges (answered old a) (answered new a) changes) → AreChanges (table_of old) (table_of new) changes
   changes_plain changes are = both_plain (λ t u. AreChanges t u changes) nothing (are nothing)
+
+  pub unpaired_plain : (changes : Changes) → AreChangesUnder (whole_of old) (whole_of new) changes → AreChangesUnder (all_of (table_of old)) (all_of (table_of new)) changes
+  unpaired_plain changes are = both_whole (λ t u. AreChangesUnder t u changes) are

@@ -20,7 +20,7 @@ use Rattle.table.proofs.laws.chains.KeepLaws.{rules_by_name}
 use Rattle.questions.specs.Ends.{rule_at}
 use Rattle.questions.specs.Leaves.{entry_of, name_at}
 use Rattle.questions.specs.Foreign.{Assignment, resolved, resolved_rule}
-use Rattle.questions.specs.Scopes.{answered, table_of}
+use Rattle.questions.specs.Scopes.{Whole, answered, table_of, whole_of}
 use Rattle.questions.specs.asked.Changes.{AreOff, AreThese, IsThis, MatchesNone, ShareOthers}
 use Rattle.questions.specs.asked.Without.{staying}
 use Rattle.questions.specs.declared.foreign.need.Need.{Need}
@@ -55,7 +55,7 @@ unmarked_one (true ∷ ms) (x ∷ xs) d lt = unmarked_one ms xs d (omega (arith,
 unmarked_one (false ∷ ms) (x ∷ xs) d lt = ap (λ (rs : List Rule). x ∷ rs) (unmarked_one ms xs d (omega (arith, lt)))
 
 -- rules that are equal and need the same are equal in what is left of the tables
-pub same_left : (s other : Subject) (chains passed : Places) → HaveNext (table_of s) (table_of other) chains passed → AreSameAt s other chains passed
+pub same_left : (s other : Subject) (chains passed : Places) → HaveNext (table_of s) (table_of other) chains passed → AreSameAt (whole_of s) (whole_of other) chains passed
     → (a : Assignment) → AreEqualAt (answered s a) (answered other a) chains passed
 same_left s other chains passed have same a d =
     let xs : List Rule = (chain_at (table_of s) chains.old).rules in
@@ -67,16 +67,16 @@ same_left s other chains passed have same a d =
     ∙ sym (rule_left other.needs.now a (table_of other) chains.new passed.new have.there.second have.second d)
 
 -- what stands next, where it is shared
-pub next_shared : (s other : Subject) (chains passed : Places) (what : Next) → what ≡ next.Shared → IsNext s other chains passed what → AreSameAt s other chains passed
+pub next_shared : (s other : Whole) (chains passed : Places) (what : Next) → what ≡ next.Shared → IsNext s other chains passed what → AreSameAt s other chains passed
 next_shared s other chains passed what e is = let P : Next → Type 0 = λ n. IsNext s other chains passed n in subst P e is
 
 -- none stands so many rules further on, nor before
-neither : (s other : Subject) (chains passed : Places) (n : ℕ) (own : Side) → (IsAhead s other chains passed side.Went n → ⊥) → (IsAhead s other chains passed side.Came n → ⊥)
+neither : (s other : Whole) (chains passed : Places) (n : ℕ) (own : Side) → (IsAhead s other chains passed side.Went n → ⊥) → (IsAhead s other chains passed side.Came n → ⊥)
     → IsAhead s other chains passed own n → ⊥
 neither s other chains passed n side.Went went came is = went is
 neither s other chains passed n side.Came went came is = came is
 
-pub none_next : (s other : Subject) (chains passed : Places) (n : ℕ) → NoneAhead s other chains passed (n - 1) → (IsAhead s other chains passed side.Went n → ⊥)
+pub none_next : (s other : Whole) (chains passed : Places) (n : ℕ) → NoneAhead s other chains passed (n - 1) → (IsAhead s other chains passed side.Went n → ⊥)
     → (IsAhead s other chains passed side.Came n → ⊥) → NoneAhead s other chains passed (n + 1 - 1)
 none_next s other chains passed n before went came own k first last is =
     let P : ℕ → Type 0 = λ j. IsAhead s other chains passed own j in
@@ -161,15 +161,6 @@ module _ (old new : Table) where
         | inr off ↦ subst P (sym (cond-false (bytes_eq own name) (Some pair) _ off)) (shared_of name pairs all.1)
       ]
 
-  pub share_others : (pairs : List Pair) → All (IsPaired old new) pairs → ShareOthers old (unshared side.Went old.chains pairs) new (unshared side.Came old.chains pairs)
-  share_others pairs all name =
-      let one : Option Pair = pair_named old.chains pairs name in
-      let went : List Bool = marks_on side.Went one in
-      let came : List Bool = marks_on side.Came one in
-      staying_marks (λ n. get_or went (n - 1) true) went 0 (rules_of old.chains name) (λ k. ap (λ j. get_or went j true) (omega arith))
-      ∙ shared_of name pairs (recursion_from_All (IsPaired old new) pairs all)
-      ∙ sym (staying_marks (λ n. get_or came (n - 1) true) came 0 (rules_of new.chains name) (λ k. ap (λ j. get_or came j true) (omega arith)))
-
 -- the marked rules of a chain are those of its name
 pub unshared_in : (t : Table) (own : Side) (chains : List Chain) (pairs : List Pair) (marks : List Bool) (place : ℕ) (before after : List Step) → marks ≡ marks_on own (pair_named chains pairs (name_at t.chains place))
     → AddsRules (IsMarkedRule t marks) place before after → AddsRules (IsThis t (unshared own chains pairs)) place before after
@@ -189,24 +180,21 @@ pair_kept cs ds (pair ∷ pairs) name same =
     ap (λ (n : List ℕ). cond (bytes_eq n name) (Some pair) (pair_named cs pairs name)) (same pair.place)
     ∙ ap (λ (found : Option Pair). cond (bytes_eq (name_of ds pair) name) (Some pair) found) (pair_kept cs ds pairs name same)
 
-module _ (needs : List (List (List Need))) (a : Assignment) where
-  unshared_kept : (t : Table) (own : Side) (pairs : List Pair) (entry : Entry) → unshared own t.chains pairs entry ≡ unshared own (resolved needs a t).chains pairs entry
-  unshared_kept t own pairs entry =
-      ap (λ (found : Option Pair). is_marked (marks_on own found) entry.number)
-      (pair_kept t.chains (resolved needs a t).chains pairs entry.chain (λ place. sym (chain_named needs a t.chains place (empty_chain []))))
-
--- the rules that one table lacks are those that are lacking in what is left of it
-pub lacking : (s old : Subject) (a : Assignment) (own : Side) (pairs : List Pair) (steps : List Step) → AreThese (table_of s) (unshared own (table_of old).chains pairs) steps → AreThese (answered s a) (unshared own (answered old a).chains pairs) steps
-lacking s old a own pairs steps are =
-    let t : Table = table_of s in
-    let needs : List (List (List Need)) = s.needs.now in
-    let these : Entry → Bool = unshared own (table_of old).chains pairs in
-    let those : Entry → Bool = unshared own (answered old a).chains pairs in
-    let same : (entry : Entry) → these entry ≡ those entry = unshared_kept old.needs.now a (table_of old) own pairs in
-    record {
-      all = λ step (rule, is). are.all step (rule_back needs a t step rule, same (entry_of t.chains step) ∙ ap those (sym (entry_left needs a t step)) ∙ is);
-      only = λ step c. (let (rule, is) = are.only step c in (rule_left_there needs a t step rule, ap those (entry_left needs a t step) ∙ sym (same (entry_of t.chains step)) ∙ is));
-    }
+-- so without the marked rules what is left of the tables is the same
+pub share_left : (old new : Subject) (a : Assignment) (pairs : List Pair) → All (IsPaired (answered old a) (answered new a)) pairs
+    → ShareOthers (answered old a) (unshared side.Went (table_of old).chains pairs) (answered new a) (unshared side.Came (table_of old).chains pairs)
+share_left old new a pairs all name =
+    let cs : List Chain = (table_of old).chains in
+    let left : Table = answered old a in
+    let other : Table = answered new a in
+    let one : Option Pair = pair_named cs pairs name in
+    let same : one ≡ pair_named left.chains pairs name = pair_kept cs left.chains pairs name (λ place. sym (chain_named old.needs.now a cs place (empty_chain []))) in
+    let went : List Bool = marks_on side.Went one in
+    let came : List Bool = marks_on side.Came one in
+    let P : Option Pair → Type 0 = λ o. unmarked (marks_on side.Went o) (rules_of left.chains name) ≡ unmarked (marks_on side.Came o) (rules_of other.chains name) in
+    staying_marks (λ n. get_or went (n - 1) true) went 0 (rules_of left.chains name) (λ k. ap (λ j. get_or went j true) (omega arith))
+    ∙ subst P (sym same) (shared_of left other name pairs (recursion_from_All (IsPaired left other) pairs all))
+    ∙ sym (staying_marks (λ n. get_or came (n - 1) true) came 0 (rules_of other.chains name) (λ k. ap (λ j. get_or came j true) (omega arith)))
 
 -- chains of one name beside each other, in what is left
 pub paired_left : (old new : Subject) (chains : Places) (pair : Pair) → IsSound (table_of old) → IsSound (table_of new) → AreThere (table_of old) (table_of new) chains

@@ -44,6 +44,18 @@ SaysIf same old new hook Same = same
 SaysIf same old new hook (Differ words answers) = HoldsWith answers (λ a. IsOtherAt (answered old a) (answered new a) hook words)
 SaysIf same old new hook Unclear = Unit {0}
 
+-- an answer is "the same" only where this fact holds
+abbrev pub IsSameIf : Type 0 → Likeness → Type 0
+IsSameIf same Same = same
+IsSameIf same (Differ words answers) = Unit {0}
+IsSameIf same Unclear = Unit {0}
+
+-- an answer is "different" only where the tables give the packet that the words write different verdicts, if the answers are right
+abbrev pub IsOtherIf : Subject → Subject → Hook → Likeness → Type 0
+IsOtherIf old new hook Same = Unit {0}
+IsOtherIf old new hook (Differ words answers) = HoldsWith answers (λ a. IsOtherAt (answered old a) (answered new a) hook words)
+IsOtherIf old new hook Unclear = Unit {0}
+
 -- what an answer says of two tables
 abbrev pub Says : Subject → Subject → Likeness → Type 0
 Says old new Same = IsAlwaysSame old new
@@ -59,10 +71,6 @@ IsGivenBy subject hook leaf =
 abbrev pub IsSameOn : Subject → Subject → Hook → Scope → Type 0
 IsSameOn old new hook scope =
     (a : Assignment) (p : Packet) → IsAtHook p → p.hook ≡ hook → IsOf (known_by old a) p scope → IsAlike (answered old a) (answered new a) p
-
--- the same of the packets of a leaf
-abbrev pub IsSameIn : Subject → Subject → Hook → Leaf → Type 0
-IsSameIn old new hook leaf = IsSameOn old new hook (scope_of leaf)
 
 -- whatever holds, they give each packet at the hook that a rule of one of them matches the same verdict; or the rule is dead there, and the walks
 -- of the packets that it matches aren't too long

@@ -8,7 +8,10 @@ use Rattle.table.specs.declared.verdict.Verdict.TheVariants.{TooLong}
 use Rattle.table.specs.declared.walk.trail.Step.{Step}
 use Rattle.table.specs.walk.Walk.{Entry, end_verdict, walk}
 use Rattle.questions.specs.Ends.{IsRule}
+use Rattle.questions.specs.Foreign.{Assignment}
 use Rattle.questions.specs.Leaves.{entry_of}
+use Rattle.questions.specs.Scopes.{Whole, left_under}
+use Rattle.questions.specs.asked.Aligned.{AreUnpaired}
 use Rattle.questions.specs.asked.Verdicts.{IsAlike}
 use Rattle.questions.specs.asked.Without.{goes_of, staying}
 use Rattle.questions.specs.declared.asked.changes.Changes.{Changes}
@@ -34,6 +37,19 @@ pub record AreChanges (old new : Table) (changes : Changes) : Type 0 where
   pub shared : ShareOthers old went new came
   pub first : AreThese old went changes.went.items
   pub second : AreThese new came changes.came.items
+
+-- the rules that aren't paired where chains are aligned; whatever holds, without them what is left of the tables is the same, chain by chain
+pub record AreChanged (old new : Whole) (went came : Entry → Bool) : Type 0 where
+  pub shared : (a : Assignment) → ShareOthers (left_under old a) went (left_under new a) came
+  pub unpaired : AreUnpaired old new went came
+
+-- just these rules, by their places
+pub record AreChangesUnder (old new : Whole) (changes : Changes) : Type 0 where
+  pub went : Entry → Bool
+  pub came : Entry → Bool
+  pub changed : AreChanged old new went came
+  pub first : AreThese old.table went changes.went.items
+  pub second : AreThese new.table came changes.came.items
 
 -- the packet matches none of these rules of the table
 abbrev pub MatchesNone : Table → (Entry → Bool) → Packet → Type 0

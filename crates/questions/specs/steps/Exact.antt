@@ -13,6 +13,7 @@ use Rattle.questions.specs.boxes.Area.{Has, HasNumbers, HasOwnInterfaces, IsAtHo
 use Rattle.questions.specs.declared.asked.reach.Given.{Given}
 use Rattle.questions.specs.declared.walking.scope.Scope.{Scope}
 use Rattle.questions.specs.declared.walking.task.Leaf.{Leaf}
+use Rattle.questions.specs.steps.Transports.{AreByTransport}
 
 -- one box has all packets of another that can be at the hook, and only packets of that one with interfaces that packets at the hook
 -- have
@@ -89,3 +90,8 @@ pub record AreExactWalksUnder (t : Table) (known : Known) (hook : Hook) (scope :
 pub record AreExactWalks (t : Table) (given : Given) (exact : List Leaf) : Type 0 where
   pub each : All (IsExact t given) exact
   pub all : (p : Packet) → IsAtHook p → p.hook ≡ given.hook → IsIn given.area p → AnyHas p.values exact
+
+-- one has for each transport header the packets with it of the box that can be at the hook
+abbrev pub ArePossible : Hook → List SpanSet → List (List SpanSet) → Type 0
+ArePossible hook box boxes =
+    (there : List SpanSet) × IsMet (record { hook = hook; area = box }) (record { hook = hook; area = there }) × AreByTransport there boxes

@@ -8,14 +8,13 @@ use Rattle.table.specs.walk.Walk.{Entry}
 use Rattle.questions.specs.Ends.{IsRule}
 use Rattle.questions.specs.Foreign.{needs_at}
 use Rattle.questions.specs.Leaves.{name_at}
-use Rattle.questions.specs.Scopes.{table_of}
+use Rattle.questions.specs.Scopes.{Whole}
 use Rattle.questions.specs.declared.asked.pairs.Next.{Next}
 use Rattle.questions.specs.declared.asked.pairs.Next.TheVariants as next
 use Rattle.questions.specs.declared.asked.pairs.Pair.{Pair}
 use Rattle.questions.specs.declared.asked.pairs.Places.{Places}
 use Rattle.questions.specs.declared.asked.pairs.Side.{Side}
 use Rattle.questions.specs.declared.asked.pairs.Side.TheVariants as side
-use Rattle.questions.specs.declared.foreign.subject.Subject.{Subject}
 
 -- the rules without a mark; a rule beyond the marks counts as marked
 abbrev pub unmarked : List Bool → List Rule → List Rule
@@ -44,9 +43,9 @@ AreEqualAt old new chains passed =
     (d : Rule) → slice_index_or (chain_at old chains.old).rules passed.old d ≡ slice_index_or (chain_at new chains.new).rules passed.new d
 
 -- the next rules are equal, and need the same
-pub record AreSameAt (old new : Subject) (chains passed : Places) : Type 0 where
-  pub rules : slice_index_or (chain_at (table_of old) chains.old).rules passed.old empty_rule ≡ slice_index_or (chain_at (table_of new) chains.new).rules passed.new empty_rule
-  pub needs : needs_at old.needs.now chains.old passed.old ≡ needs_at new.needs.now chains.new passed.new
+pub record AreSameAt (old new : Whole) (chains passed : Places) : Type 0 where
+  pub rules : slice_index_or (chain_at old.table chains.old).rules passed.old empty_rule ≡ slice_index_or (chain_at new.table chains.new).rules passed.new empty_rule
+  pub needs : needs_at old.needs chains.old passed.old ≡ needs_at new.needs chains.new passed.new
 
 -- so many rules further on in one of the chains
 abbrev pub further : Side → Places → ℕ → Places
@@ -54,16 +53,16 @@ further side.Went passed n = record { old = passed.old + n; new = passed.new }
 further side.Came passed n = record { old = passed.old; new = passed.new + n }
 
 -- so many rules further on in one of the chains stands a rule that is equal to the next one of the other chain, and needs the same
-pub record IsAhead (old new : Subject) (chains passed : Places) (own : Side) (n : ℕ) : Type 0 where
-  pub there : HaveNext (table_of old) (table_of new) chains (further own passed n)
+pub record IsAhead (old new : Whole) (chains passed : Places) (own : Side) (n : ℕ) : Type 0 where
+  pub there : HaveNext old.table new.table chains (further own passed n)
   pub same : AreSameAt old new chains (further own passed n)
 
 -- in neither chain does such a rule stand, up to so many rules further on
-abbrev pub NoneAhead : Subject → Subject → Places → Places → ℕ → Type 0
+abbrev pub NoneAhead : Whole → Whole → Places → Places → ℕ → Type 0
 NoneAhead old new chains passed n = (own : Side) (k : ℕ) → 1 ≤ k → k ≤ n → IsAhead old new chains passed own k → ⊥
 
 -- the nearest such rule stands in this chain, at most 1,023 rules further on
-pub record IsNearest (old new : Subject) (chains passed : Places) (own : Side) : Type 0 where
+pub record IsNearest (old new : Whole) (chains passed : Places) (own : Side) : Type 0 where
   pub steps : ℕ
   pub first : 1 ≤ steps
   pub last : steps ≤ 1023
@@ -72,7 +71,7 @@ pub record IsNearest (old new : Subject) (chains passed : Places) (own : Side) :
 
 -- what stands next: equal rules; or rules that aren't, of which the first chain's is passed if the nearest rule that is equal to the second's stands
 -- there, or none stands near in either, and the second chain's if one stands there
-abbrev pub IsNext : Subject → Subject → Places → Places → Next → Type 0
+abbrev pub IsNext : Whole → Whole → Places → Places → Next → Type 0
 IsNext old new chains passed next.Shared = AreSameAt old new chains passed
 IsNext old new chains passed next.Went =
     (AreSameAt old new chains passed → ⊥) × (IsNearest old new chains passed side.Went ⊎ NoneAhead old new chains passed 1023)

@@ -1,8 +1,8 @@
 //! The rules by which two tables differ.
 ghost use Rattle.std.specs.Prelude.{◌≡◌, ◌+◌, ◌<◌, All, IfOk, OnOk, length};
 ghost use Rattle.questions.specs.Foreign.{Assignment};
-ghost use Rattle.questions.specs.Scopes.{answered};
-ghost use Rattle.questions.specs.asked.Changes.{AreChanges, AreThese};
+ghost use Rattle.questions.specs.Scopes.{all_of, answered, whole_of};
+ghost use Rattle.questions.specs.asked.Changes.{AreChanges, AreChangesUnder, AreThese};
 ghost use Rattle.questions.specs.steps.Collected.{AddsRules};
 ghost use Rattle.questions.specs.steps.Shared.{HasPlace, IsMarkedRule, is_marked, unshared};
 
@@ -76,7 +76,8 @@ fn unshared_of(
 ///
 /// `AllocError` where memory was refused.
 pub fn changes_of(alloc: Global, old: &BoxedTable, new: &BoxedTable) -> Result<Changes, AllocError>
-    ensures { IfOk result (AreChanges old.now.table.table new.now.table.table) }
+    ensures changes { IfOk result (AreChanges old.now.table.table new.now.table.table) }
+    ensures unpaired { IfOk result (AreChangesUnder (all_of old.now.table.table) (all_of new.now.table.table)) }
 {
     let needs = Needs::none(alloc);
     let old = Subject {
@@ -101,10 +102,13 @@ pub fn changes_under(
     old: &Subject<'_>,
     new: &Subject<'_>,
 ) -> Result<Changes, AllocError>
-    ensures { IfOk result (λ changes. (a : Assignment) → AreChanges (answered old.now a) (answered new.now a) changes) }
+    ensures changes { IfOk result (λ changes. (a : Assignment) → AreChanges (answered old.now a) (answered new.now a) changes) }
+    ensures unpaired { IfOk result (AreChangesUnder (whole_of old.now) (whole_of new.now)) }
 {
     let pairs = pairs_of(alloc, old, new)?;
     let (first, second) = (&old.boxed.table, &new.boxed.table);
+    first.stands();
+    second.stands();
     let went = unshared_of(alloc, first, first, pairs.as_slice(), Side::Went)?;
     let came = unshared_of(alloc, second, first, pairs.as_slice(), Side::Came)?;
     Ok(Changes { went, came })

@@ -1,9 +1,8 @@
 //! Whether two tables give each packet the same verdict.
 ghost use Rattle.std.specs.Prelude.{◌≡◌, IfOk, MatchOption};
-ghost use Rattle.questions.specs.Foreign.{Assignment};
-ghost use Rattle.questions.specs.Scopes.{all_of, answered, left_of};
+ghost use Rattle.questions.specs.Scopes.{all_of, whole_of};
 ghost use Rattle.questions.specs.asked.Alike.{AreEqual, IsAlwaysSameAt, Says as SaysUnder, SaysIf};
-ghost use Rattle.questions.specs.asked.Changes.{AreChanges};
+ghost use Rattle.questions.specs.asked.Changes.{AreChangesUnder};
 ghost use Rattle.questions.specs.asked.Differing.{IsUnclearIf, MayDiffer, MayDifferSomewhere};
 ghost use Rattle.questions.specs.asked.Verdicts.{IsSameAt, Says, SaysAt};
 ghost use Rattle.questions.specs.declared.asked.likeness.Likeness.TheVariants.{Same};
@@ -25,7 +24,7 @@ fn differences(
     new: &Subject<'_>,
 ) -> Result<Option<Changes>, AllocError>
     ensures { IfOk result (λ found. MatchOption found (AreEqual old.now new.now)
-        (λ changes. (AreEqual old.now new.now → ⊥) × ((a : Assignment) → AreChanges (answered old.now a) (answered new.now a) changes))) }
+        (λ changes. (AreEqual old.now new.now → ⊥) × AreChangesUnder (whole_of old.now) (whole_of new.now) changes)) }
 {
     if are_equal_with_needs(old, new) {
         return Ok(None);
@@ -48,7 +47,7 @@ pub fn compare_at_under<'a>(
 ) -> Result<Likeness, AllocError>
     ensures says { IfOk result (SaysIf (IsAlwaysSameAt old.now new.now hook) old.now new.now hook) }
     ensures equal { AreEqual old.now new.now → IfOk result (λ likeness. likeness ≡ Same) }
-    ensures unclear { IfOk result (IsUnclearIf ((a : Assignment) → MayDiffer (left_of old.now a) (left_of new.now a) hook budget)) }
+    ensures unclear { IfOk result (IsUnclearIf (MayDiffer (whole_of old.now) (whole_of new.now) hook budget)) }
 {
     let Some(changes) = differences(alloc, old, new)? else {
         return Ok(Likeness::Same);
@@ -84,7 +83,7 @@ pub fn compare_under<'a>(
     ensures says { IfOk result (SaysUnder old.now new.now) }
     ensures equal { AreEqual old.now new.now → IfOk result (λ likeness. likeness ≡ Same) }
     ensures unclear { IfOk result (IsUnclearIf (MayDifferSomewhere (IsAlwaysSameAt old.now new.now)
-        (λ hook. (a : Assignment) → MayDiffer (left_of old.now a) (left_of new.now a) hook budget))) }
+        (λ hook. MayDiffer (whole_of old.now) (whole_of new.now) hook budget))) }
 {
     let Some(changes) = differences(alloc, old, new)? else {
         return Ok(Likeness::Same);

@@ -1,11 +1,15 @@
 //! The leaves of a set of packets, cut into boxes that have only packets which can be at the hook.
-ghost use Rattle.std.specs.Prelude.{All, IfOk, MatchOption, OnOk};
+ghost use Rattle.std.specs.Prelude.{ℕ, List, All, Any, IfOk, IsFalse, IsTrue, MatchOption, OnOk};
 ghost use Rattle.fields.specs.declared.packet.hook.Hook.{Hook as HookView};
 ghost use Rattle.table.specs.chains.Table.{Table};
 ghost use Rattle.questions.specs.Foreign.{Assignment};
-ghost use Rattle.questions.specs.Scopes.{Known, answered, known_by};
+ghost use Rattle.questions.specs.Scopes.{Known, Whole, answered, known_by, under};
+ghost use Rattle.questions.specs.asked.Differing.{HasPackets};
+ghost use Rattle.questions.specs.boxes.Area.{Has, HasNumbers};
+ghost use Rattle.questions.specs.declared.foreign.answers.Answer.{Answer};
 ghost use Rattle.questions.specs.declared.walking.scope.Scope.{Scope as ScopeView};
-ghost use Rattle.questions.specs.steps.Exact.{AddsExact, AreExact, AreExactWalksUnder, IsPartIn, IsShown};
+ghost use Rattle.questions.specs.steps.Compared.{AreWalked};
+ghost use Rattle.questions.specs.steps.Exact.{AddsExact, AreExact, AreExactWalksUnder, ArePossible, IsPartIn, IsShown};
 ghost use Rattle.questions.specs.steps.Taken.{IsUnfinishedUnder};
 ghost use Rattle.questions.specs.steps.Transports.{AreByTransport};
 
@@ -86,4 +90,51 @@ pub(crate) fn exact_walks(
         None => Ok(None),
         Some(found) => Ok(Some(exact_of(alloc, possible.as_slice(), found.as_slice())?)),
     }
+}
+
+// The packets of a box that can be at a hook, as a box for each transport header.
+fn possible_of(alloc: Global, hook: Hook, area: &Area) -> Result<Vec<Area>, AllocError>
+    ensures { IfOk result (λ boxes. ArePossible hook area.now boxes.items) }
+{
+    let there = Area::at_hook(alloc, hook)?.within(alloc, area.sets())?;
+    let boxes = by_transport(alloc, &there)?;
+    Ok(boxes)
+}
+
+// Whether one of some boxes has numbers.
+fn has_some(boxes: &[Area]) -> bool
+    ensures some { IsTrue result → Any HasNumbers boxes.now }
+    ensures none { IsFalse result → All (λ part. (numbers : List ℕ) → Has part numbers → ⊥) boxes.now }
+{
+    for part in boxes {
+        if !part.is_empty() {
+            return true;
+        }
+    }
+    false
+}
+
+// Whether some packet that can be at a hook is in a box.
+pub(crate) fn has_packets(alloc: Global, hook: Hook, area: &Area) -> Result<bool, AllocError>
+    ensures some { IfOk result (λ is. IsTrue is → HasPackets hook area.now) }
+    ensures none { IfOk result (λ is. IsFalse is → HasPackets hook area.now → ⊥) }
+{
+    let possible = possible_of(alloc, hook, area)?;
+    Ok(has_some(possible.as_slice()))
+}
+
+// The leaves of a box's packets, cut into boxes that have only packets which can be at the hook.
+pub(crate) fn exact_at(
+    alloc: Global,
+    hook: Hook,
+    area: &Area,
+    found: &[Leaf],
+) -> Result<Vec<Leaf>, AllocError>
+    ensures walked { IfOk result (λ exact. (t : Whole) (answers : List Answer) → AreWalked t hook (under area.now answers) found.now
+        → AreWalked t hook (under area.now answers) exact.items) }
+    ensures some { IfOk result (λ exact. (t : Whole) (answers : List Answer) → AreWalked t hook (under area.now answers) found.now
+        → All (λ leaf. HasPackets hook leaf.area) exact.items) }
+{
+    let possible = possible_of(alloc, hook, area)?;
+    exact_of(alloc, possible.as_slice(), found)
 }

@@ -1,11 +1,12 @@
 //! Whether two tables give the packets of a scope the same verdicts: those of each leaf of the first table walk the second one.
-ghost use Rattle.std.specs.Prelude.{All, Any, IfOk};
-ghost use Rattle.questions.specs.Foreign.{Assignment};
-ghost use Rattle.questions.specs.Scopes.{left_of};
-ghost use Rattle.questions.specs.asked.Alike.{IsGivenBy, IsSameIn, IsSameOn, SaysIf};
-ghost use Rattle.questions.specs.asked.Differing.{IsUnclearIf, MayDifferIn, MayDifferOn};
+ghost use Rattle.std.specs.Prelude.{ℕ, All, IfOk};
+ghost use Rattle.questions.specs.Scopes.{scope_of, whole_of};
+ghost use Rattle.questions.specs.asked.Alike.{IsGivenBy, IsOtherIf, IsSameIf, IsSameOn, SaysIf};
+ghost use Rattle.questions.specs.asked.Differing.{IsUnclearIf, MayDifferOn};
 ghost use Rattle.questions.specs.declared.foreign.subject.Subject.{Subject as First};
+ghost use Rattle.questions.specs.steps.Compared.{AreWalked, IsUnwritten, MayDifferAmong, MayDifferIn};
 
+use crate::asked::exact::{exact_at, has_packets};
 use crate::asked::other::{all_give, other_among};
 use crate::foreign::answers::Answers;
 use crate::foreign::subject::Subject;
@@ -23,8 +24,8 @@ pub enum Likeness {
     /// These words write a packet, and where the answers are right the tables give it two verdicts.
     Differ(Words, Answers),
     /// Neither is known. Each hook at which the tables aren't known to be the same is one where the steps don't
-    /// suffice, a trail is full, or a leaf of the first table has leaves in the second one with another verdict, and
-    /// no line writes a packet of one of these. There is such a hook.
+    /// suffice, a trail is full, or the tables give some packet two verdicts, and none that a line writes. There is
+    /// such a hook.
     Unclear,
 }
 
@@ -36,6 +37,24 @@ pub(crate) struct Course {
     pub budget: usize,
 }
 
+// What is said of the packets of a leaf of a first table, where those of the leaves of the second one that have another verdict can't be
+// written: it is told by packets that can be at the hook.
+fn likeness_unwritten(hook: Hook, leaf: &Leaf, found: &[Leaf]) -> Result<Likeness, AllocError>
+    requires { All (IsUnwritten hook leaf.now.verdict) found.now }
+    ensures same { IfOk result (λ likeness. (new : First) → AreWalked (whole_of new) hook (scope_of leaf.now) found.now
+        → IsSameIf (IsGivenBy new hook leaf.now) likeness) }
+    ensures other { IfOk result (λ likeness. (old new : First) → IsOtherIf old new hook likeness) }
+    ensures unclear { IfOk result (λ likeness. (new : First) (budget : ℕ) → AreWalked (whole_of new) hook (scope_of leaf.now) found.now
+        → IsUnclearIf (MayDifferIn (whole_of new) hook budget leaf.now) likeness) }
+{
+    let alloc = *leaf.trail.allocator();
+    let exact = exact_at(alloc, hook, &leaf.area, found)?;
+    if all_give(exact.as_slice(), leaf.verdict) {
+        return Ok(Likeness::Same);
+    }
+    Ok(Likeness::Unclear)
+}
+
 // What is said of the packets of a leaf of a first table, where these get the leaf's verdict: they walk the second one.
 fn likeness_in(
     new: &Subject<'_>,
@@ -43,22 +62,25 @@ fn likeness_in(
     leaf: &Leaf,
     budget: usize,
 ) -> Result<Likeness, AllocError>
-    ensures says { IfOk result (λ likeness. (old : First) → IsGivenBy old hook leaf.now
-        → SaysIf (IsSameIn old new.now hook leaf.now) old new.now hook likeness) }
-    ensures unclear { IfOk result (IsUnclearIf ((a : Assignment) → MayDifferIn (left_of new.now a) hook budget leaf.now)) }
+    ensures same { IfOk result (IsSameIf (IsGivenBy new.now hook leaf.now)) }
+    ensures other { IfOk result (λ likeness. (old : First) → IsGivenBy old hook leaf.now → IsOtherIf old new.now hook likeness) }
+    ensures unclear { IfOk result (IsUnclearIf (MayDifferIn (whole_of new.now) hook budget leaf.now)) }
 {
     let alloc = *leaf.trail.allocator();
     let area = leaf.area.copy(alloc)?;
     let answers = leaf.answers.copy(alloc)?;
     let start = Scope { area, answers };
     let Some(found) = leaves_under(alloc, new, hook, start, budget)? else {
-        return Ok(Likeness::Unclear);
+        if has_packets(alloc, hook, &leaf.area)? {
+            return Ok(Likeness::Unclear);
+        }
+        return Ok(Likeness::Same);
     };
     if all_give(found.as_slice(), leaf.verdict) {
         return Ok(Likeness::Same);
     }
     match other_among(hook, found.as_slice(), leaf.verdict)? {
-        None => Ok(Likeness::Unclear),
+        None => likeness_unwritten(hook, leaf, found.as_slice()),
         Some(shown) => {
             shown.answers.stand();
             Ok(Likeness::Differ(shown.words, shown.answers))
@@ -74,8 +96,8 @@ fn likeness_among(
     budget: usize,
 ) -> Result<Likeness, AllocError>
     ensures says { IfOk result (λ likeness. (old : First) → All (IsGivenBy old hook) found.now
-        → SaysIf (All (IsSameIn old new.now hook) found.now) old new.now hook likeness) }
-    ensures unclear { IfOk result (IsUnclearIf (Any (λ leaf. (a : Assignment) → MayDifferIn (left_of new.now a) hook budget leaf) found.now)) }
+        → SaysIf (All (IsGivenBy new.now hook) found.now) old new.now hook likeness) }
+    ensures unclear { IfOk result (IsUnclearIf (MayDifferAmong (whole_of new.now) hook budget found.now)) }
 {
     let mut clear = true;
     for leaf in found {
@@ -99,8 +121,7 @@ pub(crate) fn likeness_on(
     start: Scope,
 ) -> Result<Likeness, AllocError>
     ensures says { IfOk result (SaysIf (IsSameOn old.now new.now course.hook start) old.now new.now course.hook) }
-    ensures unclear { IfOk result (IsUnclearIf ((a : Assignment)
-        → MayDifferOn (left_of old.now a) (left_of new.now a) course.hook course.budget start)) }
+    ensures unclear { IfOk result (IsUnclearIf (MayDifferOn (whole_of old.now) (whole_of new.now) course.hook course.budget start)) }
 {
     let Some(found) = leaves_under(course.alloc, old, course.hook, start, course.budget)? else {
         return Ok(Likeness::Unclear);

@@ -1,7 +1,7 @@
 //! A packet whose verdict is another one.
 ghost use Rattle.std.specs.Prelude.{◌≡◌, ◌≢◌, false, All, Any, IfOk, IsTrue, MatchOption};
 ghost use Rattle.questions.specs.asked.Alike.{IsOfOther};
-ghost use Rattle.questions.specs.asked.Differing.{IsUnwritten};
+ghost use Rattle.questions.specs.steps.Compared.{IsUnwritten};
 
 use crate::foreign::answers::Answers;
 use crate::sampling::sample::sample_of;

@@ -3,7 +3,8 @@ ghost use Rattle.std.specs.Prelude.{◌≡◌, ◌<◌, ◌↔◌, ℕ, true, Al
 ghost use Rattle.table.specs.chains.Table.{chain_at, has_chain};
 ghost use Rattle.questions.specs.Foreign.{Assignment};
 ghost use Rattle.questions.specs.Leaves.{name_at};
-ghost use Rattle.questions.specs.Scopes.{answered, table_of};
+ghost use Rattle.questions.specs.Scopes.{answered, table_of, whole_of};
+ghost use Rattle.questions.specs.asked.Aligned.{IsAligned, IsPairOf};
 ghost use Rattle.questions.specs.steps.Shared.{AreSameAt, AreThere, HaveNext, IsAhead, IsBeside, IsNext, IsPaired, HasPlace, marks_on, pair_named};
 
 use crate::foreign::need::are_same;
@@ -70,7 +71,7 @@ impl Pair {
 // Whether the next rules are equal, and need the same.
 fn are_equal_at(old: &Subject<'_>, new: &Subject<'_>, chains: Places, passed: Places) -> bool
     requires { HaveNext (table_of old.now) (table_of new.now) chains passed }
-    ensures { IsTrue result ↔ AreSameAt old.now new.now chains passed }
+    ensures { IsTrue result ↔ AreSameAt (whole_of old.now) (whole_of new.now) chains passed }
 {
     let (first, second) = (&old.boxed.table, &new.boxed.table);
     let count = first.rule_count(chains.old);
@@ -97,7 +98,7 @@ fn is_ahead(
     ahead: usize,
 ) -> bool
     requires { HaveNext (table_of old.now) (table_of new.now) chains passed }
-    ensures { IsTrue result ↔ IsAhead old.now new.now chains passed side ahead }
+    ensures { IsTrue result ↔ IsAhead (whole_of old.now) (whole_of new.now) chains passed side ahead }
 {
     match side {
         Side::Went => {
@@ -126,7 +127,7 @@ fn is_ahead(
 // Which of the next rules is passed: both where they are equal, else the one after which, or within a few more, an equal one comes.
 fn next_of(old: &Subject<'_>, new: &Subject<'_>, chains: Places, passed: Places) -> Next
     requires { HaveNext (table_of old.now) (table_of new.now) chains passed }
-    ensures { IsNext old.now new.now chains passed result }
+    ensures { IsNext (whole_of old.now) (whole_of new.now) chains passed result }
 {
     if are_equal_at(old, new, chains, passed) {
         return Next::Shared;
@@ -150,7 +151,8 @@ fn pair_of(
     chains: Places,
 ) -> Result<Pair, AllocError>
     requires { AreThere (table_of old.now) (table_of new.now) chains }
-    ensures { IfOk result (λ pair. (a : Assignment) → IsBeside (answered old.now a) (answered new.now a) chains pair) }
+    ensures beside { IfOk result (λ pair. (a : Assignment) → IsBeside (answered old.now a) (answered new.now a) chains pair) }
+    ensures aligned { IfOk result (IsAligned (whole_of old.now) (whole_of new.now) chains) }
 {
     let count = Places {
         old: old.boxed.table.rule_count(chains.old),
@@ -161,14 +163,11 @@ fn pair_of(
         went: Vec::new(alloc),
         came: Vec::new(alloc),
     };
-    for _ in 0..count.old.saturating_add(count.new) {
+    while pair.went.len() < count.old && pair.came.len() < count.new {
         let passed = Places {
             old: pair.went.len(),
             new: pair.came.len(),
         };
-        if passed.old >= count.old || passed.new >= count.new {
-            return Ok(pair);
-        }
         pair.add(next_of(old, new, chains, passed))?;
     }
     Ok(pair)
@@ -181,6 +180,7 @@ pub(crate) fn pairs_of(
     new: &Subject<'_>,
 ) -> Result<Vec<Pair>, AllocError>
     ensures paired { IfOk result (λ pairs. All (λ pair. (a : Assignment) → IsPaired (answered old.now a) (answered new.now a) pair) pairs.items) }
+    ensures aligned { IfOk result (λ pairs. All (IsPairOf (whole_of old.now) (whole_of new.now)) pairs.items) }
     ensures all { IfOk result (λ pairs. (place : ℕ) → place < length (table_of old.now).chains
         → has_chain (table_of new.now) (name_at (table_of old.now).chains place) ≡ true → Any (λ pair. pair.place ≡ place) pairs.items) }
 {

@@ -1,12 +1,11 @@
 //! Whether two tables give each packet at a hook the same verdict, by the rules in which they differ.
-ghost use Rattle.std.specs.Prelude.{All, Any, IfOk, IsTrue};
+ghost use Rattle.std.specs.Prelude.{All, Any, IfOk, IsFalse, IsTrue};
 ghost use Rattle.questions.specs.Ends.{IsRule};
-ghost use Rattle.questions.specs.Foreign.{Assignment};
-ghost use Rattle.questions.specs.Scopes.{answered, left_of, table_of};
+ghost use Rattle.questions.specs.Scopes.{table_of, whole_of};
 ghost use Rattle.questions.specs.asked.Alike.{IsAlwaysSameAt, IsAlwaysSettled, SaysIf};
 ghost use Rattle.questions.specs.asked.Always.{AreAlwaysShort, IsAlwaysDeadAt};
-ghost use Rattle.questions.specs.asked.Changes.{AreChanges};
-ghost use Rattle.questions.specs.asked.Differing.{IsUnclearIf, MayDiffer};
+ghost use Rattle.questions.specs.asked.Changes.{AreChangesUnder};
+ghost use Rattle.questions.specs.asked.Differing.{IsNotDead, IsUnclearIf, MayDiffer};
 ghost use Rattle.questions.specs.steps.Compared.{MayDifferOf};
 
 use crate::asked::changes::Changes;
@@ -24,12 +23,14 @@ use table::Step;
 // Whether a rule is known to be dead, for the packets at one hook; and then no packet there that it matches has a walk that is too long.
 fn is_dead_at(subject: &Subject<'_>, course: Course, step: Step) -> Result<bool, AllocError>
     requires { IsRule (table_of subject.now) step }
-    ensures { IfOk result (λ is. IsTrue is
+    ensures dead { IfOk result (λ is. IsTrue is
         → IsAlwaysDeadAt subject.now step course.hook × AreAlwaysShort subject.now step course.hook) }
+    ensures other { IfOk result (λ is. IsFalse is → IsNotDead (whole_of subject.now) step course.hook course.budget) }
 {
     match life_at(course.alloc, subject, course.hook, step, course.budget)? {
         Life::Dead => Ok(true),
-        Life::Live(_, _) | Life::Unclear => Ok(false),
+        Life::Live(_, _) => Ok(false),
+        Life::Unclear => Ok(false),
     }
 }
 
@@ -44,8 +45,8 @@ fn likeness_of<'a>(
 ) -> Result<Likeness, AllocError>
     requires { IsRule (table_of own.now) step }
     ensures says { IfOk result (SaysIf (IsAlwaysSettled own.now old.now new.now course.hook step) old.now new.now course.hook) }
-    ensures unclear { IfOk result (IsUnclearIf ((a : Assignment)
-        → MayDifferOf (left_of own.now a) (left_of old.now a) (left_of new.now a) course.hook course.budget step)) }
+    ensures unclear { IfOk result (IsUnclearIf
+        (MayDifferOf (whole_of own.now) (whole_of old.now) (whole_of new.now) course.hook course.budget step)) }
 {
     let Some(start) = scope_at(course.alloc, own, course.hook, step)? else {
         return Ok(Likeness::Same);
@@ -69,8 +70,8 @@ fn likeness_of_all<'a>(
 ) -> Result<Likeness, AllocError>
     requires { All (IsRule (table_of own.now)) steps.now }
     ensures says { IfOk result (SaysIf (All (IsAlwaysSettled own.now old.now new.now course.hook) steps.now) old.now new.now course.hook) }
-    ensures unclear { IfOk result (IsUnclearIf (Any (λ step. (a : Assignment)
-        → MayDifferOf (left_of own.now a) (left_of old.now a) (left_of new.now a) course.hook course.budget step) steps.now)) }
+    ensures unclear { IfOk result (IsUnclearIf
+        (Any (MayDifferOf (whole_of own.now) (whole_of old.now) (whole_of new.now) course.hook course.budget) steps.now)) }
 {
     let mut clear = true;
     for step in steps {
@@ -94,10 +95,9 @@ pub(crate) fn likeness_at<'a>(
     changes: &Changes,
     course: Course,
 ) -> Result<Likeness, AllocError>
-    requires { (a : Assignment) → AreChanges (answered old.now a) (answered new.now a) changes.now }
+    requires { AreChangesUnder (whole_of old.now) (whole_of new.now) changes.now }
     ensures says { IfOk result (SaysIf (IsAlwaysSameAt old.now new.now course.hook) old.now new.now course.hook) }
-    ensures unclear { IfOk result (IsUnclearIf ((a : Assignment)
-        → MayDiffer (left_of old.now a) (left_of new.now a) course.hook course.budget)) }
+    ensures unclear { IfOk result (IsUnclearIf (MayDiffer (whole_of old.now) (whole_of new.now) course.hook course.budget)) }
 {
     old.boxed.table.stands();
     new.boxed.table.stands();

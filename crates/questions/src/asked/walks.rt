@@ -58,8 +58,8 @@ pub(crate) fn walks_of(
 
 /// The walks of a packet that a line writes, as leaves: under each assignment that gives the answers the packet has the walk that one of them
 /// shows; and each of them shows the walk that the packet has under each assignment that gives the leaf's answers, which are these and
-/// perhaps more, about conditions that some rule needs. Each leaf's answers can be given. There are none only where the steps of `leaves_under` for the packet's own box use
-/// the budget up, or a trail is full.
+/// perhaps more, about conditions that some rule needs. Each leaf's answers can be given. There are none only where the steps of `leaves_under`
+/// for the packet's own box use the budget up, or a trail is full.
 ///
 /// # Errors
 ///

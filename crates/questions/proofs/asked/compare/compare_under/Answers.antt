@@ -3,8 +3,7 @@ use Rattle.std.proofs.lemmas.Bool.{true≢false}
 use Rattle.fields.specs.declared.packet.hook.Hook.{Hook}
 use Rattle.fields.specs.declared.packet.hook.Hook.TheVariants.{Input}
 use Rattle.fields.specs.packet.Hook.{all_hooks}
-use Rattle.questions.specs.Foreign.{Assignment}
-use Rattle.questions.specs.Scopes.{left_of}
+use Rattle.questions.specs.Scopes.{whole_of}
 use Rattle.questions.specs.asked.Alike.{IsAlwaysSameAt}
 use Rattle.questions.specs.asked.Differing.{MayDiffer}
 use Rattle.questions.proofs.laws.VerdictLaws.{each_hook, hooks_next}
@@ -16,7 +15,7 @@ loop-hook-preserved c =
     let old = c.args.old.now in
     let new = c.args.new.now in
     let Same : Hook → Type 0 = λ h. IsAlwaysSameAt old new h in
-    let Each : Hook → Type 0 = λ h. Same h ⊎ ((a : Assignment) → MayDiffer (left_of old a) (left_of new a) h c.args.budget) in
+    let Each : Hook → Type 0 = λ h. Same h ⊎ MayDiffer (whole_of old) (whole_of new) h c.args.budget in
     elim c.match-branch-4.branch [
       | in-Same w ↦ (
           let here : Same (get_or all_hooks c.loop-hook.hook-index Input) = rw w.in-Same.is at c.in_ok-likeness_at.ensures.says in
@@ -26,7 +25,7 @@ loop-hook-preserved c =
             some = λ off. c.loop-hook.invariant.some (sym w.clear-is ∙ off);
           })
       | in-Unclear w ↦ (
-          let here : (a : Assignment) → MayDiffer (left_of old a) (left_of new a) (get_or all_hooks c.loop-hook.hook-index Input) c.args.budget = rw w.in-Unclear.is at c.in_ok-likeness_at.ensures.unclear in
+          let here : MayDiffer (whole_of old) (whole_of new) (get_or all_hooks c.loop-hook.hook-index Input) c.args.budget = rw w.in-Unclear.is at c.in_ok-likeness_at.ensures.unclear in
           record {
             same = λ clear. absurd (true≢false (sym clear ∙ w.clear-is));
             each = hooks_next Each c.loop-hook.hook-index (omega arith) (inr here) c.loop-hook.invariant.each;
@@ -43,7 +42,7 @@ pub returns-clause-unclear : goal.returns-clause-unclear
 returns-clause-unclear c =
     let old = c.args.old.now in
     let new = c.args.new.now in
-    let Each : Hook → Type 0 = λ h. IsAlwaysSameAt old new h ⊎ ((a : Assignment) → MayDiffer (left_of old a) (left_of new a) h c.args.budget) in
+    let Each : Hook → Type 0 = λ h. IsAlwaysSameAt old new h ⊎ MayDiffer (whole_of old) (whole_of new) h c.args.budget in
     (each_hook Each c.loop-hook.hook-index (omega arith) c.loop-hook.invariant.each, c.loop-hook.invariant.some c.if-clear.false)
 
 pub returns-in-Differ-clause-says : goal.returns-in-Differ-clause-says

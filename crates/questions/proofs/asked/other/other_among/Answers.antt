@@ -1,17 +1,17 @@
-use Rattle.std.proofs.Common.{◌≡◌, ◌≢◌, rules, sym, arith}
+use Rattle.std.proofs.Common.{◌≡◌, ◌≢◌, inl, inr, rules, sym, arith}
 use Rattle.questions.specs.Written.{IsSampleOf}
-use Rattle.questions.specs.asked.Differing.{IsUnwritten}
+use Rattle.questions.specs.steps.Compared.{IsUnwritten}
 use Rattle.questions.proofs.laws.TrailLaws.{items_next}
 use Rattle.questions.proofs.asked.other.other_among.Goals as goal
 
 pub loop-leaf-preserved-then-eq : goal.loop-leaf-preserved-then-eq
 loop-leaf-preserved-then-eq c =
     let same : c.leaf-item.result.verdict ≡ c.args.verdict = search rules in
-    items_next (IsUnwritten c.args.hook c.args.verdict) c.args.leaves.now c.loop-leaf.leaf-index c.leaf-item.result (omega arith) c.leaf-item.is c.loop-leaf.invariant (λ other. absurd (other same))
+    items_next (IsUnwritten c.args.hook c.args.verdict) c.args.leaves.now c.loop-leaf.leaf-index c.leaf-item.result (omega arith) c.leaf-item.is c.loop-leaf.invariant (inl same)
 
 pub loop-leaf-preserved : goal.loop-leaf-preserved
 loop-leaf-preserved c =
-    items_next (IsUnwritten c.args.hook c.args.verdict) c.args.leaves.now c.loop-leaf.leaf-index c.leaf-item.result (omega arith) c.leaf-item.is c.loop-leaf.invariant (λ other. rw c.in-None.is at c.in_ok-sample_of.ensures)
+    items_next (IsUnwritten c.args.hook c.args.verdict) c.args.leaves.now c.loop-leaf.leaf-index c.leaf-item.result (omega arith) c.leaf-item.is c.loop-leaf.invariant (inr (rw c.in-None.is at c.in_ok-sample_of.ensures))
 
 pub returns : goal.returns
 returns c = λ k d lt. c.loop-leaf.invariant k d (omega (arith, lt))

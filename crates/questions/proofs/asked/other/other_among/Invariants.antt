@@ -1,5 +1,5 @@
 use Rattle.std.proofs.Common.{ℕ, ◌<◌, get_or}
-use Rattle.questions.specs.asked.Differing.{IsUnwritten}
+use Rattle.questions.specs.steps.Compared.{IsUnwritten}
 use Rattle.questions.specs.declared.walking.task.Leaf.{Leaf}
 use Rattle.questions.proofs.asked.other.other_among.Given as goal
 

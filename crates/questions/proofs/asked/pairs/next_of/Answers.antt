@@ -1,5 +1,6 @@
 use Rattle.std.proofs.Common.{sym, ◌∙◌, inl, inr, arith}
 use Rattle.std.proofs.lemmas.Bool.{true≢false}
+use Rattle.questions.specs.Scopes.{whole_of}
 use Rattle.questions.proofs.laws.SharedLaws.{none_next}
 use Rattle.questions.proofs.asked.pairs.next_of.Goals as goal
 
@@ -11,7 +12,7 @@ loop-ahead-init c = λ own k first last. absurd (omega arith)
 
 pub loop-ahead-preserved : goal.loop-ahead-preserved
 loop-ahead-preserved c =
-    none_next c.args.old.now c.args.new.now c.args.chains c.args.passed c.loop-ahead.ahead c.loop-ahead.invariant
+    none_next (whole_of c.args.old.now) (whole_of c.args.new.now) c.args.chains c.args.passed c.loop-ahead.ahead c.loop-ahead.invariant
     (λ is. true≢false (sym (c.is_ahead.ensures.1 is) ∙ c.if-is_ahead.false)) (λ is. true≢false (sym (c.is_ahead-in-loop-ahead.ensures.1 is) ∙ c.if-is_ahead-2.false))
 
 pub returns-then-is_ahead : goal.returns-then-is_ahead

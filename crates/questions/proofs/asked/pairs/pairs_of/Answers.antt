@@ -5,7 +5,8 @@ use Rattle.table.specs.chains.Table.{empty_chain, has_chain}
 use Rattle.table.proofs.laws.chains.PlaceLaws.{IsPlaced, placed_at, placed_nowhere}
 use Rattle.questions.specs.Foreign.{Assignment}
 use Rattle.questions.specs.Leaves.{name_at}
-use Rattle.questions.specs.Scopes.{answered, table_of}
+use Rattle.questions.specs.Scopes.{answered, table_of, whole_of}
+use Rattle.questions.specs.asked.Aligned.{IsPairOf}
 use Rattle.questions.specs.declared.asked.pairs.Pair.{Pair}
 use Rattle.questions.specs.declared.asked.pairs.Places.{Places}
 use Rattle.questions.specs.steps.Shared.{AreThere, IsPaired}
@@ -27,14 +28,17 @@ loop-place-preserved c =
           let pair : Pair = w.in_ok-pair_of.field-0 in
           rw (w.pairs-is, w.in_ok-push.ensures.items) (record {
             paired = All-push Paired c.loop-place.pairs.items pair c.loop-place.invariant.paired
-                (paired_left s other chains pair c.stands.ensures.sound c.stands-2.ensures.sound there (placed.named (empty_chain []) ∙ c.chain_name.ensures) w.in_ok-pair_of.ensures);
+                (paired_left s other chains pair c.stands.ensures.sound c.stands-2.ensures.sound there (placed.named (empty_chain []) ∙ c.chain_name.ensures) w.in_ok-pair_of.ensures.beside);
+            aligned = All-push (IsPairOf (whole_of s) (whole_of other)) c.loop-place.pairs.items pair c.loop-place.invariant.aligned
+                (record { chains = chains; there = there; named = placed.named (empty_chain []) ∙ c.chain_name.ensures; place = (w.in_ok-pair_of.ensures.beside (λ _. false)).place; aligned = w.in_ok-pair_of.ensures.aligned });
             all = λ k lt has. elim (cases_lt k place) [
               | inl before ↦ among_more c.loop-place.pairs.items pair k (c.loop-place.invariant.all k before has)
-              | inr past ↦ (let same : place ≡ k = omega (arith, lt, past) in among_new c.loop-place.pairs.items pair k ((w.in_ok-pair_of.ensures (λ _. false)).place ∙ same))
+              | inr past ↦ (let same : place ≡ k = omega (arith, lt, past) in among_new c.loop-place.pairs.items pair k ((w.in_ok-pair_of.ensures.beside (λ _. false)).place ∙ same))
             ];
           }))
       | in_default w ↦ rw w.pairs-is (record {
         paired = c.loop-place.invariant.paired;
+        aligned = c.loop-place.invariant.aligned;
         all = λ k lt has. elim (cases_lt k place) [
           | inl before ↦ c.loop-place.invariant.all k before has
           | inr past ↦ (
@@ -49,6 +53,9 @@ loop-place-preserved c =
 
 pub returns-clause-paired : goal.returns-clause-paired
 returns-clause-paired c = c.loop-place.invariant.paired
+
+pub returns-clause-aligned : goal.returns-clause-aligned
+returns-clause-aligned c = c.loop-place.invariant.aligned
 
 pub returns-clause-all : goal.returns-clause-all
 returns-clause-all c = λ place lt has. c.loop-place.invariant.all place (omega (arith, lt, c.loop-place-test.false, c.chain_count-place-end.ensures)) has

@@ -1,8 +1,7 @@
 use Rattle.std.proofs.Common.{◌≡◌, ℕ, ◌<◌, true, false, get_or}
 use Rattle.std.specs.Prelude.{Any}
 use Rattle.table.specs.declared.walk.trail.Step.{Step}
-use Rattle.questions.specs.Foreign.{Assignment}
-use Rattle.questions.specs.Scopes.{left_of}
+use Rattle.questions.specs.Scopes.{whole_of}
 use Rattle.questions.specs.asked.Alike.{IsAlwaysSettled}
 use Rattle.questions.specs.steps.Compared.{MayDifferOf}
 use Rattle.questions.proofs.asked.verdicts.likeness_of_all.Given as goal
@@ -10,5 +9,5 @@ use Rattle.questions.proofs.asked.verdicts.likeness_of_all.Given as goal
 abbrev pub invariant-loop-step : goal.invariant-loop-step
 invariant-loop-step l = record {
   same : l.clear ≡ true → (k : ℕ) (d : Step) → k < l.step-index → IsAlwaysSettled l.own l.old l.new l.fn.course.hook (get_or l.steps k d);
-  some : l.clear ≡ false → Any (λ (step : Step). (a : Assignment) → MayDifferOf (left_of l.own a) (left_of l.old a) (left_of l.new a) l.fn.course.hook l.fn.course.budget step) l.steps;
+  some : l.clear ≡ false → Any (MayDifferOf (whole_of l.own) (whole_of l.old) (whole_of l.new) l.fn.course.hook l.fn.course.budget) l.steps;
 }
