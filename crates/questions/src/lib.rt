@@ -7,6 +7,7 @@ mod asked;
 mod boxes;
 mod foreign;
 mod sampling;
+mod seeking;
 mod walking;
 mod written;
 

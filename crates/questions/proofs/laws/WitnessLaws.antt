@@ -61,6 +61,14 @@ take_next xs i d lt =
     let same : i + 1 ≡ suc i = omega arith in
     ap (λ (k : ℕ). take k xs) same ∙ take_more xs i d lt
 
+-- the first of them, so many, are consistent
+pub first_consistent : (answers : List Answer) (n : ℕ) → AreConsistent answers → AreConsistent (take n answers)
+first_consistent answers n apart k i e before lt =
+    let in_n : i < n = omega (arith, lt, length-take n answers) in
+    let in_all : i < length answers = omega (arith, lt, length-take n answers) in
+    let C : Answer → Type 0 = λ answer. answer.condition ≢ (get_or (take n answers) i e).condition in
+    subst C (sym (get_or-take n answers k e (omega (arith, before, in_n)))) (subst (λ (answer : Answer). (get_or answers k e).condition ≢ answer.condition) (sym (get_or-take n answers i e in_n)) (apart k i e before in_all))
+
 -- the next one is about another condition than those before it
 pub next_unanswered : (answers : List Answer) (i : ℕ) (d : Answer) → AreConsistent answers → i < length answers → IsUnanswered (take i answers) (get_or answers i d).condition
 next_unanswered answers i d apart lt k e less =

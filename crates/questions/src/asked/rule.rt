@@ -22,6 +22,7 @@ use crate::boxes::candidates::Candidates;
 use crate::foreign::answers::Answers;
 use crate::foreign::need::Needs;
 use crate::foreign::subject::Subject;
+use crate::seeking::seek::{Shown, seek};
 use crate::walking::engine::{LIMIT, begin, policy_at};
 use crate::walking::scope::Scope;
 use crate::walking::task::Leaf;
@@ -44,6 +45,9 @@ pub enum Life {
 
 // How many rules may be looked at ahead for each step of the budget.
 const LOOKS: usize = 50;
+
+// The steps of a short search.
+const SHORT: usize = 64;
 
 // Whether the rule is on a trail.
 pub(crate) fn is_on(trail: &[Step], step: Step) -> bool
@@ -75,8 +79,8 @@ fn at_end(clear: bool, leaves: &[Leaf], step: Step) -> Life
     Life::Unclear
 }
 
-// What is said of a rule, for the packets at one hook: those that its box has are searched for one that comes to it.
-pub(crate) fn life_at(
+// What a search says of a rule, for the packets at one hook: those that its box has walk, as boxes, until one comes to it.
+fn searched_at(
     alloc: Global,
     subject: &Subject<'_>,
     hook: Hook,
@@ -135,12 +139,61 @@ pub(crate) fn life_at(
     Ok(at_end(clear, front.leaves.as_slice(), step))
 }
 
+// What is said of a rule, for the packets at one hook, without a long search: what a short one says; else it is live by a packet that is sought.
+fn soon_at(
+    alloc: Global,
+    subject: &Subject<'_>,
+    hook: Hook,
+    step: Step,
+    budget: usize,
+) -> Result<Life, AllocError>
+    requires { IsRule (table_of subject.now) step }
+    ensures says { IfOk result (SaysAt subject.now step hook) }
+    ensures short { IfOk result (λ life. life ≡ Dead → AreAlwaysShort subject.now step hook) }
+{
+    match searched_at(alloc, subject, hook, step, SHORT)? {
+        Life::Dead => return Ok(Life::Dead),
+        Life::Live(words, answers) => return Ok(Life::Live(words, answers)),
+        Life::Unclear => {}
+    }
+    match seek(alloc, subject, hook, step, budget)? {
+        Some(Shown { words, answers }) => Ok(Life::Live(words, answers)),
+        None => Ok(Life::Unclear),
+    }
+}
+
+// What is said of a rule, for the packets at one hook: what is said of it soon, where the budget has more steps than that takes; else what the search
+// says.
+pub(crate) fn life_at(
+    alloc: Global,
+    subject: &Subject<'_>,
+    hook: Hook,
+    step: Step,
+    budget: usize,
+) -> Result<Life, AllocError>
+    requires { IsRule (table_of subject.now) step }
+    ensures says { IfOk result (SaysAt subject.now step hook) }
+    ensures unclear { IfOk result (IsUnclearAt (MayLive subject.now step budget hook)) }
+    ensures short { IfOk result (λ life. life ≡ Dead → AreAlwaysShort subject.now step hook) }
+{
+    if budget > SHORT {
+        match soon_at(alloc, subject, hook, step, budget)? {
+            Life::Dead => return Ok(Life::Dead),
+            Life::Live(words, answers) => return Ok(Life::Live(words, answers)),
+            Life::Unclear => {}
+        }
+    }
+    let life = searched_at(alloc, subject, hook, step, budget)?;
+    Ok(life)
+}
+
 /// Whether rule `number` of the chain at a place, both of which have to be there, can match at all. Rules count from 1.
 ///
 /// At each hook the packets of the rule's box are searched for one that comes to the rule, with `budget` steps; for a rule in the chain of a hook
 /// that is done there alone. Rules that share no packet with a box on its way are passed at once; those that share none with the rule's box are set aside after some looks, with
 /// one at each rule; a box is dropped where a rule ahead in its chain takes all of it; and the first box that comes to the rule
-/// offers a packet. Looking at a rule ahead counts a fiftieth of a step.
+/// offers a packet. Looking at a rule ahead counts a fiftieth of a step. Where 64 of more steps don't tell, a packet is sought before the search begins
+/// again: on each of at most 64 ways to the rule up to 16 packets walk, one after another.
 ///
 /// Where the rule is dead, no walk of a packet that it would match is too long, of those at hooks from which jumps and gotos lead to its chain. So no
 /// packet would come to the rule either if a walk could have more than 65,536 rules.

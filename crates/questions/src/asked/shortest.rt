@@ -1,5 +1,5 @@
 //! How many of some answers suffice for a rule to be on the walk of a packet.
-ghost use Rattle.std.specs.Prelude.{All, Contains, IfOk, IsTrue};
+ghost use Rattle.std.specs.Prelude.{◌≡◌, ◌≤◌, take, All, Contains, length, IfOk, IsTrue};
 ghost use Rattle.table.specs.walk.Walk.{walk};
 ghost use Rattle.questions.specs.Ends.{IsRule};
 ghost use Rattle.questions.specs.Foreign.{Agrees, Assignment};
@@ -20,6 +20,11 @@ use fields::{Packet, Words};
 use std::alloc::{AllocError, Global};
 use table::Step;
 
+// So many answers are tried with the whole budget, and more with so many steps at most.
+const FEW: usize = 8;
+
+const TRIAL: usize = 256;
+
 // Whether a rule is on the trail of each leaf, and all holds that it needs where the leaf's answers are right.
 fn all_have(subject: &Subject<'_>, found: &[Leaf], step: Step) -> bool
     requires { IsRule (table_of subject.now) step }
@@ -39,7 +44,7 @@ fn all_have(subject: &Subject<'_>, found: &[Leaf], step: Step) -> bool
 }
 
 // Whether a rule is known to be on the walk of a packet where the answers are right.
-fn is_always_on(
+pub(crate) fn is_always_on(
     alloc: Global,
     subject: &Subject<'_>,
     packet: &Packet,
@@ -59,7 +64,30 @@ fn is_always_on(
     }
 }
 
-// The first of the answers, as few as are known to suffice: where they are right, the rule is on the walk of the packet that the words write.
+// The first of some answers, so many.
+fn first_of(alloc: Global, answers: &Answers, count: usize) -> Result<Answers, AllocError>
+    requires { count ≤ length answers.now }
+    ensures { IfOk result (λ first. first ≡ take count answers.now) }
+{
+    answers.stand();
+    let mut first = Answers::none(alloc);
+    for answer in &answers.listed()[..count] {
+        first.add(answer.condition, answer.holds)?;
+    }
+    Ok(first)
+}
+
+// The steps for a trial of some of so many answers.
+fn steps_for(count: usize, budget: usize) -> usize {
+    if count <= FEW {
+        budget
+    } else {
+        budget.min(TRIAL)
+    }
+}
+
+// The first of the answers, as few as are known to suffice: where they are right, the rule is on the walk of the packet that the words write. Their
+// number is found by halves, each tried by a walk of the packet.
 pub(crate) fn enough_of(
     alloc: Global,
     subject: &Subject<'_>,
@@ -73,19 +101,21 @@ pub(crate) fn enough_of(
         → IsLiveWith subject.now (entry_of (table_of subject.now).chains step) words.now enough) }
 {
     answers.stand();
-    if answers.listed().is_empty() {
-        return Ok(answers);
-    }
     let Ok(packet) = Packet::read(words, 0) else {
         return Ok(answers);
     };
-    let mut enough = Answers::none(alloc);
-    for answer in answers.listed() {
-        if is_always_on(alloc, subject, &packet, &enough, step, budget)? {
-            enough.stand();
-            return Ok(enough);
+    let mut low = 0;
+    let mut high = answers.listed().len();
+    let steps = steps_for(high, budget);
+    while low < high {
+        let half = low + (high - low) / 2;
+        let some = first_of(alloc, &answers, half)?;
+        if is_always_on(alloc, subject, &packet, &some, step, steps)? {
+            some.stand();
+            high = half;
+        } else {
+            low = half + 1;
         }
-        enough.add(answer.condition, answer.holds)?;
     }
-    Ok(enough)
+    first_of(alloc, &answers, high)
 }

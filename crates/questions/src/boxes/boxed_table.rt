@@ -10,9 +10,10 @@ ghost use Rattle.questions.specs.steps.Outlines.{IsOutlined};
 use crate::boxes::area::Area;
 use crate::boxes::ends::Outline;
 use crate::boxes::rule_box::RuleBox;
+use crate::seeking::calls::Calls;
 use rules::{Boxed, Work};
 use std::alloc::{AllocError, Global};
-use table::Table;
+use table::{Step, Table};
 
 /// A table with the boxes of its rules. These are made once, for any number of questions, and no question changes
 /// them.
@@ -22,6 +23,8 @@ pub struct BoxedTable {
     pub table: Table,
     // The boxes of the rules, chain by chain in the order of a listing.
     chains: Vec<Vec<RuleBox>>,
+    // The rules that lead to each chain.
+    calls: Calls,
     ghost boxes: { AreBoxesOf table.table.chains (map (λ v. v.items) chains.items) },
 }
 
@@ -60,7 +63,12 @@ impl BoxedTable {
         for place in 0..table.chain_count() {
             chains.push(boxes_of_chain(alloc, &table, place, work)?)?;
         }
-        Ok(BoxedTable { table, chains })
+        let calls = Calls::of(alloc, &table)?;
+        Ok(BoxedTable {
+            table,
+            chains,
+            calls,
+        })
     }
 
     // The box of rule `number` of the chain at a place, from 1, with its outline; it is lent.
@@ -71,6 +79,11 @@ impl BoxedTable {
         ensures { IsBoxOf (slice_index_or (chain_at self.now.table.table place).rules (number - 1) empty_rule) result.now }
     {
         &self.chains[place][number - 1]
+    }
+
+    // The rules that lead to the chain at a place by `-j` or `-g`; they are lent.
+    pub(crate) fn calls_to(&self, place: usize) -> &[Step] {
+        self.calls.to(place)
     }
 
     // The box alone; it is lent.

@@ -7,7 +7,7 @@ use Rattle.questions.specs.steps.Candidates.{AreFor}
 use Rattle.questions.specs.steps.Takers.{IsBoxAt}
 use Rattle.questions.specs.steps.Waiting.{AllThere}
 use Rattle.questions.proofs.laws.ComeLaws.{HasSearched}
-use Rattle.questions.proofs.asked.rule.life_at.Given as goal
+use Rattle.questions.proofs.asked.rule.searched_at.Given as goal
 
 abbrev pub invariant-loop-taken : goal.invariant-loop-taken
 invariant-loop-taken l =

@@ -12,8 +12,8 @@ use Rattle.questions.specs.steps.Taken.{IsFull}
 use Rattle.questions.specs.steps.Waiting.{AreThere}
 use Rattle.questions.proofs.laws.ComeLaws.{came_with, come_next, dead_at_end, dead_in_empty, looks_on, none_more, one_more, says_at_end, sets_out, short_at_end, short_in_empty, unclear_at_end, unclear_by_end, unclear_full, unclear_used_up, used_by_looks}
 use Rattle.questions.proofs.laws.ResolvedLaws.{front_back, rules_same}
-use Rattle.questions.proofs.asked.rule.life_at.Goals as goal
-use Rattle.questions.proofs.asked.rule.life_at.Goals.{in-Some-scope+in_ok-words+in_default-2, in_default-scope}
+use Rattle.questions.proofs.asked.rule.searched_at.Goals as goal
+use Rattle.questions.proofs.asked.rule.searched_at.Goals.{in-Some-scope+in_ok-words+in_default-2, in_default-scope}
 
 pub loop-taken-init : goal.loop-taken-init
 loop-taken-init c =
