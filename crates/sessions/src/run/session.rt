@@ -442,8 +442,7 @@ impl Session {
         self.run_on(&mut console)
     }
 
-    /// Runs the lines of a console's reader, and writes their replies to its writer, as `run` does. The reader is
-    /// never asked for more than it shows while the writer holds back a byte of a reply.
+    /// Runs the lines of a console's reader, and writes their replies to its writer, as `run` does.
     ///
     /// # Errors
     ///
@@ -501,8 +500,7 @@ impl Session {
         self.restore_on(noflush, test, list, &mut console)
     }
 
-    /// Reads a console's whole input as one restore, as `restore` does. The reader is never asked for more than it
-    /// shows while the writer holds back a byte that was written.
+    /// Reads a console's whole input as one restore, as `restore` does.
     ///
     /// # Errors
     ///
