@@ -32,6 +32,16 @@ fn has_more_until_all_is_eaten(rt: HostRuntime) {
     assert!(rt; shows(&mut tap, b"") && !tap.has_more());
 }
 
+// A tap is late once it was asked for more than it shows while answers are withheld.
+#[test]
+fn is_late_where_answers_are_withheld(rt: HostRuntime) {
+    let mut tap = Tap::new(b"abc".as_slice());
+    assert!(rt; tap.fill(false).is_ok() && tap.fill(true).is_ok() && !tap.late());
+    tap.eat(3);
+    assert!(rt; tap.fill(true).is_ok() && tap.late());
+    assert!(rt; tap.fill(false).is_ok() && tap.late());
+}
+
 // The next line, for which there has to be room.
 fn next_line<R: BufRead>(
     rt: &impl Abort,
