@@ -18,10 +18,13 @@ pub mod Outlines
 pub mod Remaining
 pub mod Sampled
 pub mod Searched
+pub mod Seeking
 pub mod Shared
 pub mod Sides
+pub mod Straying
 pub mod Taken
 pub mod Takers
 pub mod Transports
+pub mod Tries
 pub mod Waiting
 pub mod Ways

@@ -22,7 +22,7 @@ use crate::boxes::candidates::Candidates;
 use crate::foreign::answers::Answers;
 use crate::foreign::need::Needs;
 use crate::foreign::subject::Subject;
-use crate::seeking::seek::{Shown, seek};
+use crate::seeking::seek::seek;
 use crate::walking::engine::{LIMIT, begin, policy_at};
 use crate::walking::scope::Scope;
 use crate::walking::task::Leaf;
@@ -157,8 +157,8 @@ fn soon_at(
         Life::Unclear => {}
     }
     match seek(alloc, subject, hook, step, budget)? {
-        Some(Shown { words, answers }) => Ok(Life::Live(words, answers)),
-        None => Ok(Life::Unclear),
+        Life::Live(words, answers) => Ok(Life::Live(words, answers)),
+        Life::Dead | Life::Unclear => Ok(Life::Unclear),
     }
 }
 

@@ -1,0 +1,10 @@
+use Rattle.std.proofs.Common.{◌⊎◌}
+use Rattle.std.specs.Prelude.{Any}
+use Rattle.fields.specs.packet.Packet.{PacketView as Packet}
+use Rattle.questions.specs.Foreign.{Assignment}
+use Rattle.questions.specs.steps.Seeking.{AddsParts}
+use Rattle.questions.proofs.laws.SeekLaws.{HoldBelow}
+use Rattle.questions.proofs.seeking.straying.add_unmet.Given as goal
+
+abbrev pub invariant-loop-need : goal.invariant-loop-need
+invariant-loop-need l = AddsParts l.scope (HoldBelow l.needs l.need-index) l.initial.scopes.items l.scopes.items
