@@ -25,6 +25,7 @@ pub mod HeldLaws
 pub mod HookLaws
 pub mod LeadLaws
 pub mod LeastNameLaws
+pub mod LengthLaws
 pub mod LineLaws
 pub mod LineStepLaws
 pub mod LookLaws

@@ -11,6 +11,7 @@ pub mod Deciding
 pub mod Exact
 pub mod Groups
 pub mod Leading
+pub mod Lengths
 pub mod Lines
 pub mod Meant
 pub mod Onward
