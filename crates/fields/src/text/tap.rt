@@ -59,7 +59,8 @@ impl Seen {
 }
 
 /// A reader or a writer, whether it has failed, how many bytes it shows that weren't taken, whether it was asked for
-/// more while answers were withheld, and whether bytes were written since it was last flushed. Once it has failed, no further call reaches the device, which stays as it was.
+/// more while answers were withheld, and whether bytes were written since it was last flushed. Once it has failed, no
+/// further call reaches the device, which stays as it was.
 ///
 /// A tap fails where a call of its device fails, where a write takes no byte, and where its steps of reading are used
 /// up, and nowhere else. It has 2 to the 64 less 1 steps, so that every loop over a device that never ends has an
