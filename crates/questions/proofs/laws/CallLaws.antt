@@ -1,13 +1,13 @@
 -- The rules that name a chain, listed one after another.
 use Rattle.std.proofs.Common.{◌≡◌, inl, inr, ℕ, ◌+◌, ◌-◌, ◌<◌, ◌≤◌, Bool, true, false, List, [], ◌∷◌, ◌++◌, length, refl, sym, ◌∙◌, ap, arith, subst, Option, Some, None, IsTrue}
-use Rattle.std.specs.Prelude.{◌==◌, ◌&&◌, ◌||◌}
+use Rattle.std.specs.Prelude.{◌||◌}
 use Rattle.std.specs.List.{list_any}
 use Rattle.std.proofs.lemmas.Bool.{cases_eq, eq-eqb}
 use Rattle.std.proofs.lemmas.List.Folds.{list_any-append}
 use Rattle.rules.specs.rule.Actions.{target_of}
 use Rattle.table.specs.chains.Table.{Table, chain_at}
 use Rattle.table.specs.declared.walk.trail.Step.{Step}
-use Rattle.questions.specs.Ends.{IsRule, rule_at}
+use Rattle.questions.specs.Ends.{rule_at}
 use Rattle.questions.specs.boxes.Calls.{AreCalls, IsCalled, IsCalledIn, is_call, place_named}
 use Rattle.questions.specs.declared.seeking.calls.Call.{Call}
 use Rattle.questions.proofs.laws.EndLaws.{none_some}
@@ -79,4 +79,4 @@ chains_called t place old new adds before by lt =
     ]
 
 pub all_chains_called : (t : Table) (place : ℕ) (calls : List Call) → length t.chains ≤ place → ((by : Step) → by.chain < place → IsCalled t calls by) → AreCalls t calls
-all_chains_called t place calls all before by to is names = before by (omega (arith, is.chain, all)) to is names
+all_chains_called t place calls all before = record { all = λ by to is names. before by (omega (arith, is.chain, all)) to is names }

@@ -184,13 +184,11 @@ none_too_long needs t numbers hook s bounds small a p at =
     let w = walks_by_cases left p in
     stays_short left.chains (end_verdict left p) p.values number bound (policy_ends _) w.0 _ (Over (walk left p)) w.1 (omega (arith, le, first))
 
-pub short_by : (needs : List (List (List Need))) (t : Table) (numbers : List ℕ) (hook : Hook) (place n : ℕ) → IsSound t → length numbers ≡ length t.chains → AreBounds t numbers (length t.chains) → place ≡ hook_index hook → n ≡ get_or numbers place n → n < 65536
+pub short_by : (needs : List (List (List Need))) (t : Table) (numbers : List ℕ) (hook : Hook) (place : ℕ) → IsSound t → AreBounds t numbers (length t.chains) → place ≡ hook_index hook → get_or numbers place 0 < 65536
     → (a : Assignment) (p : Packet) → p.hook ≡ hook → (walk (resolved needs a t) p).verdict ≢ TooLong
-short_by needs t numbers hook place n s long bounds at is less =
-    let named = named_first t.chains hook s.listed.built_in in
-    let within : hook_index hook < length numbers = omega (arith, long, named.1) in
-    let here : n ≡ get_or numbers (hook_index hook) 0 = is ∙ ap (λ (k : ℕ). get_or numbers k n) at ∙ get_or_default numbers (hook_index hook) n 0 within in
-    none_too_long needs t numbers hook s bounds (omega (arith, here, less))
+short_by needs t numbers hook place s bounds at less =
+    let P : ℕ → Type 0 = λ k. get_or numbers k 0 < 65536 in
+    none_too_long needs t numbers hook s bounds (subst P at less)
 
 -- ---- numbers that are raised
 

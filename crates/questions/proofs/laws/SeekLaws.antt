@@ -1,9 +1,9 @@
 -- Packets of scopes that are parted, and ways that take their packets over.
-use Rattle.std.proofs.Common.{◌≡◌, ◌⊎◌, inl, inr, ℕ, zero, suc, ◌+◌, ◌-◌, ◌<◌, ◌≤◌, Bool, true, false, not, cond, List, [], ◌∷◌, ◌++◌, length, get_or, map, refl, sym, ◌∙◌, ap, arith, subst, Option, Some, None, All, Contains, IsTrue}
-use Rattle.std.specs.Prelude.{◌==◌, ◌&&◌, Any, IfSome, IsFalse, MatchOption, option_and_then, slice_get}
+use Rattle.std.proofs.Common.{◌≡◌, ◌⊎◌, inl, inr, ℕ, zero, suc, ◌+◌, ◌-◌, ◌<◌, ◌≤◌, Bool, true, false, not, cond, List, [], ◌∷◌, ◌++◌, length, get_or, map, refl, sym, ◌∙◌, ap, arith, subst, Option, Some, None, Contains, IsTrue}
+use Rattle.std.specs.Prelude.{◌==◌, ◌&&◌, Any, IfSome, option_and_then, slice_get}
 use Rattle.std.specs.List.{list_any, position}
 use Rattle.std.proofs.lemmas.Bool.{and_parts, cases_Bool, eqb-true, cases_lt, true≢false}
-use Rattle.std.proofs.lemmas.List.Elements.{All-contains, All-pop, All-push, Contains-append_left, Contains-get_or, Contains-push, Contains-push_cases}
+use Rattle.std.proofs.lemmas.List.Elements.{All-contains, All-pop, All-push, Contains-get_or, Contains-push_cases}
 use Rattle.std.proofs.lemmas.List.Folds.{Any-from_list_any}
 use Rattle.std.proofs.lemmas.List.Sums.{list_all-from_AllPass}
 use Rattle.std.proofs.lemmas.Option.{get_or_from_slice_get, slice_get-get_or}
@@ -26,12 +26,12 @@ use Rattle.table.specs.declared.walk.trail.Step.{Step}
 use Rattle.table.specs.walk.Walk.{Rest, walk}
 use Rattle.table.proofs.laws.chains.KeepLaws.{rules_by_name as named_rules}
 use Rattle.questions.specs.Ends.{IsRule, rule_at}
-use Rattle.questions.specs.Foreign.{Agrees, Assignment, IsUnanswered, all_hold, need_holds, needs_at, resolved, resolved_rule}
+use Rattle.questions.specs.Foreign.{Agrees, Assignment, all_hold, need_holds, needs_at, resolved, resolved_rule}
 use Rattle.questions.specs.Leaves.{entry_of, name_at}
 use Rattle.questions.specs.Scopes.{answered, table_of}
 use Rattle.questions.specs.asked.Always.{IsAlwaysDeadAt}
-use Rattle.questions.specs.boxes.Area.{Has, IsAtHook, IsBoth, IsIn}
-use Rattle.questions.specs.boxes.Cut.{IsApart, IsCut, IsInSome, IsPartedFor}
+use Rattle.questions.specs.boxes.Area.{IsAtHook, IsBoth, IsIn}
+use Rattle.questions.specs.boxes.Cut.{IsCut, IsInSome, IsPartedFor}
 use Rattle.questions.specs.declared.foreign.answers.Answer.{Answer}
 use Rattle.questions.specs.declared.foreign.need.Need.{Need}
 use Rattle.questions.specs.declared.foreign.subject.Subject.{Subject}
@@ -39,8 +39,8 @@ use Rattle.questions.specs.declared.walking.scope.Scope.{Scope}
 use Rattle.questions.specs.steps.Answered.{IsMeeting, MeetsNever}
 use Rattle.questions.specs.steps.Meant.{IsScopeAt, needs_of}
 use Rattle.questions.specs.steps.Takers.{IsMatchedAt}
-use Rattle.questions.specs.steps.Seeking.{AddsBoxes, AddsParts, IsHere, IsLeftIn, IsSameScope, AllWant, AreAllWays, AreScopesOf, EndsAt, IsAheadOn, IsPlaceOf, IsSeen, IsTakenBy, KeepsIn, KeepsWanted, LeadsAwayAt, MayCome, NoneAheadLeaves, TakesBy, TakesOver, chains_of, top_of}
-use Rattle.questions.specs.steps.Straying.{Ends, Hits, IsLedAway, IsOpenWay, LeadsAway, Leaves, NoneLeaves, place_at}
+use Rattle.questions.specs.steps.Seeking.{AddsBoxes, AddsParts, IsHere, IsLeftIn, IsSameScope, AllWant, AreAllWays, EndsAt, IsAheadOn, IsPlaceOf, IsTakenBy, KeepsIn, KeepsWanted, LeadsAwayAt, MayCome, NoneAheadTakesOut, TakesBy, TakesOver, chains_of, top_of}
+use Rattle.questions.specs.steps.Straying.{Hits, IsLedAway, IsOpenWay, LeadsAway, TakesOut, place_at}
 use Rattle.questions.specs.boxes.Calls.{AreCalls, is_call, place_named}
 use Rattle.questions.specs.declared.seeking.calls.Call.{Call}
 use Rattle.questions.specs.declared.seeking.way.Way.{Way}
@@ -53,19 +53,7 @@ use Rattle.questions.proofs.laws.ResolvedLaws.{chain_left, held_before, length_s
 use Rattle.questions.proofs.laws.ForeignLaws.{left_sound}
 use Rattle.questions.proofs.laws.TrailLaws.{IsMatched, one_place, rule_matches, trail_matches}
 use Rattle.questions.proofs.laws.StrayLaws.{comes_by_way}
-use Rattle.questions.proofs.laws.WaitLaws.{named_first}
-
-pub any_kept : {X : Type 0} (P : X → Type 0) (xs ys zs : List X) → zs ≡ xs ++ ys → Any P xs → Any P zs
-any_kept {X} P xs ys zs e a =
-    let c : Contains (xs ++ ys) a.1 = Contains-append_left xs ys a.1 (a.0, a.2, a.3) in
-    let Q : List X → Type 0 = λ l. Any P l in
-    subst Q (sym e) (c.0, a.1, c.1, c.2, a.4)
-
-pub any_last : {X : Type 0} (P : X → Type 0) (xs : List X) (x : X) (zs : List X) → zs ≡ xs ++ x ∷ [] → P x → Any P zs
-any_last {X} P xs x zs e h =
-    let c : Contains (xs ++ x ∷ []) x = Contains-push xs x in
-    let Q : List X → Type 0 = λ l. Any P l in
-    subst Q (sym e) (c.0, x, c.1, c.2, h)
+use Rattle.questions.proofs.laws.WaitLaws.{any_kept, any_last, named_first}
 
 -- the numbers of a packet that can be at its hook
 pub point_of : (p : Packet) → IsAtHook p → IsPoint p.values
@@ -309,7 +297,7 @@ matched_left s a values by sound is m held =
     slice_get-get_or rules (by.number - 1) empty_rule (omega (arith, within, left.count)) ∙ ap Some (left.rules (by.number - 1) empty_rule within ∙ resolved_is a own rule held) in
     (rule, ap (λ (rs : List Rule). slice_get rs (by.number - 1)) by_name ∙ here, m, refl)
 
-pub none_leaves_next : (s : Subject) (by ahead : Step) (count : ℕ) (a : Assignment) (p : Packet) → ahead.chain ≡ by.chain → ahead.number ≡ count + 1 → NoneAheadLeaves s by count a p → KeepsIn s ahead a p → NoneAheadLeaves s by (count + 1) a p
+pub none_leaves_next : (s : Subject) (by ahead : Step) (count : ℕ) (a : Assignment) (p : Packet) → ahead.chain ≡ by.chain → ahead.number ≡ count + 1 → NoneAheadTakesOut s by count a p → KeepsIn s ahead a p → NoneAheadTakesOut s by (count + 1) a p
 none_leaves_next s by ahead count a p chain number before here k o low high h l =
     elim (cases_lt k count) [
       | inl lt ↦ before k o low lt h l
@@ -413,7 +401,7 @@ module _ (s : Subject) (sound : IsSound (table_of s)) where
       let name : List ℕ = name_at own_table.chains to in
       let same : name_at (chains_of s a) to ≡ name = chain_named s.needs.now a own_table.chains to (empty_chain []) in
       let P : Option (List ℕ) → Option ℕ = λ x. option_and_then (λ n. position (is_named n) own_table.chains) x in
-      all by to is (ap (place_named own_table.chains) m.2 ∙ ap P (names ∙ ap Some same) ∙ own_position to name lt refl)
+      all.all by to is (ap (place_named own_table.chains) m.2 ∙ ap P (names ∙ ap Some same) ∙ own_position to name lt refl)
 
   -- ---- what leads away on a way
 
@@ -443,8 +431,8 @@ module _ (s : Subject) (sound : IsSound (table_of s)) where
       let at = rule_of_entry (resolved s.needs.now a own_table) p by (left_sound s.needs.now a own_table sound) (h.0, h.1, h.2, first) in
       none (rule_back s.needs.now a own_table by at)
 
-  pub keeps_staying : (by : Step) (a : Assignment) (p : Packet) → IsRule own_table by → (Leaves (target_of (rule_at own_table by)) → ⊥) → KeepsIn s by a p
-  keeps_staying by a p is stays o h l = let m = matched_there s a p.values by o sound is h in stays (subst Leaves (sym m.2) l)
+  pub keeps_staying : (by : Step) (a : Assignment) (p : Packet) → IsRule own_table by → (TakesOut (target_of (rule_at own_table by)) → ⊥) → KeepsIn s by a p
+  keeps_staying by a p is stays o h l = let m = matched_there s a p.values by o sound is h in stays (subst TakesOut (sym m.2) l)
 
   pub keeps_unmatched : (by : Step) (a : Assignment) (p : Packet) → IsRule own_table by → (Matched a p.values by → ⊥) → KeepsIn s by a p
   keeps_unmatched by a p is un o h l = let m = matched_there s a p.values by o sound is h in un (m.0, m.1)
@@ -468,7 +456,7 @@ module _ (s : Subject) (sound : IsSound (table_of s)) where
   pub ends_here : (by : Step) (left : Option Scope) (a : Assignment) (p : Packet) → IsRule own_table by → Decides (target_of (rule_at own_table by)) → IsLeftIn (rule_at own_table by) (needs_of s.needs.now by) left a p → EndsAt s by a p
   ends_here by left a p is decides m = ([], (target_of (rule_at own_table by), matched_left s a p.values by sound is m.0 m.1, decides))
 
-  pub leads_away_here : (by : Step) (left : Option Scope) (a : Assignment) (p : Packet) → IsRule own_table by → Leaves (target_of (rule_at own_table by)) → IsLeftIn (rule_at own_table by) (needs_of s.needs.now by) left a p → LeadsAwayAt s by a p
+  pub leads_away_here : (by : Step) (left : Option Scope) (a : Assignment) (p : Packet) → IsRule own_table by → TakesOut (target_of (rule_at own_table by)) → IsLeftIn (rule_at own_table by) (needs_of s.needs.now by) left a p → LeadsAwayAt s by a p
   leads_away_here by left a p is leaves m = inr (target_of (rule_at own_table by), matched_left s a p.values by sound is m.0 m.1, leaves)
 
   -- the chain that a rule names, by its place
@@ -484,7 +472,7 @@ module _ (s : Subject) (sound : IsSound (table_of s)) where
 
   -- one rule more at the beginning of a path
   pub path_more : (by next : Step) (scope left : Scope) (old mid taken new : List Scope) → IsRule own_table by → place_named own_table.chains (target_of (rule_at own_table by)) ≡ Some next.chain
-      → AddsParts scope (IsLeftIn (rule_at own_table by) (needs_of s.needs.now by) (Some left)) old mid → AddsParts left (NoneAheadLeaves s next (next.number - 1)) mid taken → AddsParts left (EndsAt s next) taken new
+      → AddsParts scope (IsLeftIn (rule_at own_table by) (needs_of s.needs.now by) (Some left)) old mid → AddsParts left (NoneAheadTakesOut s next (next.number - 1)) mid taken → AddsParts left (EndsAt s next) taken new
       → AddsParts scope (EndsAt s by) old new
   path_more by next scope left old mid taken new is names one two three = record {
     kept = λ a p h. three.kept a p (two.kept a p (one.kept a p h));

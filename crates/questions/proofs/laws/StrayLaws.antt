@@ -1,6 +1,6 @@
 -- A packet comes to a rule only by an open way.
-use Rattle.std.proofs.Common.{◌≡◌, ◌⊎◌, inl, inr, ℕ, zero, suc, ◌+◌, ◌-◌, ◌<◌, ◌≤◌, true, false, List, [], ◌∷◌, ◌++◌, length, refl, sym, ◌∙◌, ap, arith, subst, Option, Some, None, All, Contains, IsTrue}
-use Rattle.std.specs.Prelude.{slice_get, IsFalse}
+use Rattle.std.proofs.Common.{◌≡◌, inl, inr, ℕ, zero, suc, ◌+◌, ◌-◌, true, false, List, [], ◌∷◌, ◌++◌, length, refl, sym, ◌∙◌, ap, arith, subst, Option, Some, None, All, Contains, IsTrue}
+use Rattle.std.specs.Prelude.{IsFalse}
 use Rattle.std.proofs.lemmas.Bool.{cases_lt, cases_eq, true≢false}
 use Rattle.std.proofs.lemmas.List.Elements.{All-nil, All-push, All-contains}
 use Rattle.std.proofs.lemmas.Option.{slice_get-get_or, slice_get_past}
@@ -13,11 +13,11 @@ use Rattle.rules.specs.rule.Allows.{matches}
 use Rattle.rules.specs.rule.Rules.{Rule, empty_rule}
 use Rattle.table.specs.chains.Table.{Chain, Table, chain_in, rules_of}
 use Rattle.table.specs.declared.verdict.Verdict.{Verdict}
-use Rattle.table.specs.walk.Cases.{Stage, Under, Over, next_rule, behind, with_next, on_by, StepsTo, GoesTo}
-use Rattle.table.specs.walk.Walk.{Rest, Entry, Next, Ends as EndsWith, GoesOn, Walked, after_match, end_verdict, walk, whole}
+use Rattle.table.specs.walk.Cases.{Stage, Under, Over, next_rule, behind, on_by, StepsTo, GoesTo}
+use Rattle.table.specs.walk.Walk.{Rest, Entry, Next, Ends as EndsWith, GoesOn, after_match, end_verdict, walk, whole}
 use Rattle.table.proofs.laws.walk.CaseLaws.{walks_by_cases}
 use Rattle.questions.specs.steps.Ahead.{Decides}
-use Rattle.questions.specs.steps.Straying.{Ends, Hits, IsEnded, IsLedAway, IsOpenWay, LeadsAway, Leaves, NoneLeaves, place_of}
+use Rattle.questions.specs.steps.Straying.{Ends, Hits, IsEnded, IsLedAway, IsOpenWay, LeadsAway, TakesOut, place_of}
 use Rattle.questions.proofs.laws.EndLaws.{none_some}
 
 some_same : {X : Type 0} (a b : X) → ◌≡◌ {A = Option X} (Some a) (Some b) → a ≡ b
@@ -69,7 +69,7 @@ module _ (cs : List Chain) (policy : Verdict) (values : List ℕ) (first : List 
       ]
 
   -- at a rule that takes the packet out, nothing behind it ends the walk
-  not_ended_out : (rest : Rest) (o : Option Target) → ((path : List Rest) → Ends cs values rest path → ⊥) → Hits cs values rest o → Leaves o → IsEnded cs values rest → ⊥
+  not_ended_out : (rest : Rest) (o : Option Target) → ((path : List Rest) → Ends cs values rest path → ⊥) → Hits cs values rest o → TakesOut o → IsEnded cs values rest → ⊥
   not_ended_out rest o here h l ended =
       elim (cases_eq ended.0 rest.passed) [
         | inl e ↦ (let P : ℕ → Type 0 = λ k. Ends cs values (record { chain = rest.chain; passed = k }) ended.3.0 in here ended.3.0 (subst P e ended.3.1))
@@ -94,9 +94,9 @@ module _ (cs : List Chain) (policy : Verdict) (values : List ℕ) (first : List 
       subst P name (next.passed, omega arith, e.3, (path, e.4))
 
   -- a rule that neither ends the walk nor takes the packet out doesn't lead away
-  not_away : (rest : Rest) (rule : Rule) (o : Option Target) → target_of rule ≡ o → (Leaves o → ⊥) → next_rule cs rest ≡ Some rule → ((path : List Rest) → Ends cs values rest path → ⊥) → LeadsAway cs values rest → ⊥
+  not_away : (rest : Rest) (rule : Rule) (o : Option Target) → target_of rule ≡ o → (TakesOut o → ⊥) → next_rule cs rest ≡ Some rule → ((path : List Rest) → Ends cs values rest path → ⊥) → LeadsAway cs values rest → ⊥
   not_away rest rule o to stays is none (inl e) = none e.0 e.1
-  not_away rest rule o to stays is none (inr l) = let same : l.0 ≡ o = hits_same rest rule l.0 is l.1 ∙ to in stays (subst Leaves same l.2)
+  not_away rest rule o to stays is none (inr l) = let same : l.0 ≡ o = hits_same rest rule l.0 is l.1 ∙ to in stays (subst TakesOut same l.2)
 
   -- the place after a rule that leaves the packet in its chain
   come_on : (rest : Rest) (waiting : List Rest) → AreCome (rest ∷ waiting) → (LeadsAway cs values rest → ⊥) → AreCome (behind rest ∷ waiting)

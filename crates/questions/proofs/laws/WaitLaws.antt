@@ -56,13 +56,13 @@ reaches_more t p mid next r s = (suc r.0, goes_more r.0 t.chains (end_verdict t 
 
 -- ---- lists
 
-any_kept : {X : Type 0} (P : X → Type 0) (xs ys zs : List X) → zs ≡ xs ++ ys → Any P xs → Any P zs
+pub any_kept : {X : Type 0} (P : X → Type 0) (xs ys zs : List X) → zs ≡ xs ++ ys → Any P xs → Any P zs
 any_kept {X} P xs ys zs e a =
     let c : Contains (xs ++ ys) a.1 = Contains-append_left xs ys a.1 (a.0, a.2, a.3) in
     let Q : List X → Type 0 = λ l. Any P l in
     subst Q (sym e) (c.0, a.1, c.1, c.2, a.4)
 
-any_last : {X : Type 0} (P : X → Type 0) (xs : List X) (x : X) (zs : List X) → zs ≡ xs ++ x ∷ [] → P x → Any P zs
+pub any_last : {X : Type 0} (P : X → Type 0) (xs : List X) (x : X) (zs : List X) → zs ≡ xs ++ x ∷ [] → P x → Any P zs
 any_last {X} P xs x zs e h =
     let c : Contains (xs ++ x ∷ []) x = Contains-push xs x in
     let Q : List X → Type 0 = λ l. Any P l in

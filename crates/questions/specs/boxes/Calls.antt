@@ -26,5 +26,5 @@ pub record IsCalledIn (t : Table) (place : ℕ) (old new : List Call) : Type 0 w
   pub added : (by : Step) → by.chain ≡ place → IsCalled t new by
 
 -- each rule is listed that names a chain
-abbrev pub AreCalls : Table → List Call → Type 0
-AreCalls t calls = (by : Step) → IsCalled t calls by
+pub record AreCalls (t : Table) (calls : List Call) : Type 0 where
+  pub all : (by : Step) → IsCalled t calls by

@@ -48,6 +48,12 @@ AreBelow numbers others = (place : ℕ) → slice_index numbers place ≤ slice_
 abbrev pub AreLeast : Table → List ℕ → Type 0
 AreLeast t numbers = (bounds : List ℕ) → AreBounds t bounds (length t.chains) → AreBelow numbers bounds
 
+-- the least bounds, one for each chain
+pub record AreLeastBounds (t : Table) (numbers : List ℕ) : Type 0 where
+  pub bounds : AreBounds t numbers (length t.chains)
+  pub least : AreLeast t numbers
+  pub long : length numbers ≡ length t.chains
+
 -- as many numbers, and if the old ones were below some bounds, so are the new ones
 pub record Raises (t : Table) (old new : List ℕ) : Type 0 where
   pub long : length new ≡ length old

@@ -23,7 +23,7 @@ use Rattle.questions.specs.declared.seeking.seen.Seen.{Seen}
 use Rattle.questions.specs.declared.seeking.way.Way.{Way}
 use Rattle.questions.specs.declared.walking.scope.Scope.{Scope}
 use Rattle.questions.specs.steps.Meant.{needs_of}
-use Rattle.questions.specs.steps.Straying.{Ends, Hits, IsLedAway, IsOpenWay, LeadsAway, Leaves, NoneLeaves, place_at}
+use Rattle.questions.specs.steps.Straying.{Ends, Hits, IsLedAway, IsOpenWay, LeadsAway, TakesOut, NoneTakesOut, place_at}
 
 -- ---- packets of scopes
 
@@ -61,11 +61,11 @@ chains_of subject a = (answered subject a).chains
 
 -- the rule of a step doesn't take the packet out of its chain
 abbrev pub KeepsIn : Subject → Step → Assignment → Packet → Type 0
-KeepsIn subject by a p = (o : Option Target) → Hits (chains_of subject a) p.values (place_at (chains_of subject a) by) o → Leaves o → ⊥
+KeepsIn subject by a p = (o : Option Target) → Hits (chains_of subject a) p.values (place_at (chains_of subject a) by) o → TakesOut o → ⊥
 
 -- nor does one ahead of it
-abbrev pub NoneAheadLeaves : Subject → Step → ℕ → Assignment → Packet → Type 0
-NoneAheadLeaves subject by count a p = NoneLeaves (chains_of subject a) p.values (name_at (chains_of subject a) by.chain) 0 count
+abbrev pub NoneAheadTakesOut : Subject → Step → ℕ → Assignment → Packet → Type 0
+NoneAheadTakesOut subject by count a p = NoneTakesOut (chains_of subject a) p.values (name_at (chains_of subject a) by.chain) 0 count
 
 -- a packet that comes to the rule gets a verdict there
 abbrev pub EndsAt : Subject → Step → Assignment → Packet → Type 0

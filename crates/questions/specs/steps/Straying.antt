@@ -27,32 +27,32 @@ Hits chains values at to = (rule : Rule) × (next_rule chains at ≡ Some rule) 
 
 -- the target takes a packet out of the chain for good: back to where the chain was entered, or on to another one (iptables(8), TARGETS and
 -- PARAMETERS, -g)
-abbrev pub Leaves : Option Target → Type 0
-Leaves None = ⊥
-Leaves (Some target.Return) = Unit {0}
-Leaves (Some (target.Goto chain)) = Unit {0}
-Leaves (Some (target.Jump chain)) = ⊥
-Leaves (Some target.Log) = ⊥
-Leaves (Some target.Accept) = ⊥
-Leaves (Some target.Drop) = ⊥
-Leaves (Some (target.Reject kind)) = ⊥
+abbrev pub TakesOut : Option Target → Type 0
+TakesOut None = ⊥
+TakesOut (Some target.Return) = Unit {0}
+TakesOut (Some (target.Goto chain)) = Unit {0}
+TakesOut (Some (target.Jump chain)) = ⊥
+TakesOut (Some target.Log) = ⊥
+TakesOut (Some target.Accept) = ⊥
+TakesOut (Some target.Drop) = ⊥
+TakesOut (Some (target.Reject kind)) = ⊥
 
 -- of the rules of a chain from one place up to another none that matches takes a packet out of it
-abbrev pub NoneLeaves : List Chain → List ℕ → List ℕ → ℕ → ℕ → Type 0
-NoneLeaves chains values chain from to =
-    (k : ℕ) (o : Option Target) → from ≤ k → k < to → Hits chains values (record { chain = chain; passed = k }) o → Leaves o → ⊥
+abbrev pub NoneTakesOut : List Chain → List ℕ → List ℕ → ℕ → ℕ → Type 0
+NoneTakesOut chains values chain from to =
+    (k : ℕ) (o : Option Target) → from ≤ k → k < to → Hits chains values (record { chain = chain; passed = k }) o → TakesOut o → ⊥
 
 -- a packet that comes to the rule gets a verdict: from the rule itself, or by a path, of which each rule enters the chain of the next one, where none
 -- ahead of that takes the packet out, and the last one decides
 abbrev pub Ends : List Chain → List ℕ → Rest → List Rest → Type 0
 Ends chains values at [] = (o : Option Target) × Hits chains values at o × Decides o
 Ends chains values at (next ∷ path) =
-    (o : Option Target) × Hits chains values at o × (chain_in o ≡ Some next.chain) × NoneLeaves chains values next.chain 0 next.passed
+    (o : Option Target) × Hits chains values at o × (chain_in o ≡ Some next.chain) × NoneTakesOut chains values next.chain 0 next.passed
     × Ends chains values next path
 
 -- a packet that comes to the rule doesn't come to the next one of its chain
 abbrev pub LeadsAway : List Chain → List ℕ → Rest → Type 0
-LeadsAway chains values at = ((path : List Rest) × Ends chains values at path) ⊎ ((o : Option Target) × Hits chains values at o × Leaves o)
+LeadsAway chains values at = ((path : List Rest) × Ends chains values at path) ⊎ ((o : Option Target) × Hits chains values at o × TakesOut o)
 
 -- nor does one come to a rule of which some rule ahead does that
 abbrev pub IsLedAway : List Chain → List ℕ → Rest → Type 0
@@ -61,7 +61,7 @@ IsLedAway chains values at = (k : ℕ) × (k < at.passed) × LeadsAway chains va
 -- a packet at this place of a chain gets a verdict before it comes back from there
 abbrev pub IsEnded : List Chain → List ℕ → Rest → Type 0
 IsEnded chains values at =
-    (k : ℕ) × (at.passed ≤ k) × NoneLeaves chains values at.chain at.passed k
+    (k : ℕ) × (at.passed ≤ k) × NoneTakesOut chains values at.chain at.passed k
     × ((path : List Rest) × Ends chains values (record { chain = at.chain; passed = k }) path)
 
 -- A way into a chain from the first one: the rules that enter one chain after another, the last of them first. Each matches, and the packet isn't led

@@ -6,12 +6,14 @@ ghost use Rattle.table.specs.chains.Table.{chain_at};
 ghost use Rattle.questions.specs.boxes.Boxes.{AreBoxesOf, AreBoxesOfRules, rules_in};
 ghost use Rattle.questions.specs.boxes.Calls.{AreCalls};
 ghost use Rattle.questions.specs.boxes.Cut.{IsApart};
+ghost use Rattle.questions.specs.steps.Lengths.{AreLeastBounds};
 ghost use Rattle.questions.specs.steps.Outlines.{IsOutlined};
 
 use crate::boxes::area::Area;
 use crate::boxes::ends::Outline;
 use crate::boxes::rule_box::RuleBox;
 use crate::seeking::calls::{Call, calls_in};
+use crate::walking::lengths::bounds_of;
 use rules::{Boxed, Work};
 use std::alloc::{AllocError, Global};
 use table::Table;
@@ -26,8 +28,11 @@ pub struct BoxedTable {
     chains: Vec<Vec<RuleBox>>,
     // The rules that lead to other chains.
     calls: Vec<Call>,
+    // For each chain a bound of how much its rules lengthen a walk.
+    bounds: Vec<usize>,
     ghost boxes: { AreBoxesOf table.table.chains (map (λ v. v.items) chains.items) },
     ghost called: { AreCalls table.table calls.items },
+    ghost bounded: { AreLeastBounds table.table bounds.items },
 }
 
 // The boxes of the rules of the chain at a place.
@@ -66,10 +71,12 @@ impl BoxedTable {
             chains.push(boxes_of_chain(alloc, &table, place, work)?)?;
         }
         let calls = calls_in(alloc, &table)?;
+        let bounds = bounds_of(alloc, &table)?;
         Ok(BoxedTable {
             table,
             chains,
             calls,
+            bounds,
         })
     }
 
@@ -88,6 +95,13 @@ impl BoxedTable {
         ensures { AreCalls self.now.table.table result.now }
     {
         self.calls.as_slice()
+    }
+
+    // The least bound for each chain of how much its rules lengthen a walk; they are lent.
+    pub(crate) fn bounds(&self) -> &[usize]
+        ensures { AreLeastBounds self.now.table.table result.now }
+    {
+        self.bounds.as_slice()
     }
 
     // The box alone; it is lent.

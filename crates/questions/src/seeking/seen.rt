@@ -2,7 +2,7 @@
 ghost use Rattle.std.specs.Prelude.{◌≡◌, false, IsTrue, MatchOption};
 ghost use Rattle.rules.specs.boxing.Boxed.{IsBoxOf};
 ghost use Rattle.questions.specs.steps.Ahead.{Decides};
-ghost use Rattle.questions.specs.steps.Straying.{Leaves};
+ghost use Rattle.questions.specs.steps.Straying.{TakesOut};
 
 use crate::boxes::rule_box::RuleBox;
 use crate::foreign::need::Need;
@@ -54,9 +54,9 @@ pub(crate) fn decides(target: Option<Target>) -> bool
 }
 
 // Whether a target takes a packet out of its chain.
-pub(crate) fn leaves(target: Option<Target>) -> bool
-    ensures takes { IsTrue result → Leaves target }
-    ensures keeps { result ≡ false → Leaves target → ⊥ }
+pub(crate) fn takes_out(target: Option<Target>) -> bool
+    ensures takes { IsTrue result → TakesOut target }
+    ensures keeps { result ≡ false → TakesOut target → ⊥ }
 {
     match target {
         Some(Target::Return | Target::Goto(_)) => true,

@@ -1,7 +1,7 @@
 //! The packets of a scope that aren't led away by some rules, in parts.
 ghost use Rattle.std.specs.Prelude.{◌-◌, ◌<◌, IfOk, IfSome, IsTrue, OnOk, slice_get};
 ghost use Rattle.questions.specs.Foreign.{all_hold, need_holds};
-ghost use Rattle.questions.specs.steps.Seeking.{AddsBoxes, AddsParts, AreScopesOf, EndsAt, IsLeftIn, IsSameScope, KeepsIn, LeadsAwayAt, NoneAheadLeaves};
+ghost use Rattle.questions.specs.steps.Seeking.{AddsBoxes, AddsParts, AreScopesOf, EndsAt, IsLeftIn, IsSameScope, KeepsIn, LeadsAwayAt, NoneAheadTakesOut};
 
 use crate::boxes::area::Area;
 use crate::boxes::cut::{Cut, cut_by};
@@ -9,7 +9,7 @@ use crate::foreign::answers::Answers;
 use crate::foreign::need::{Need, meeting};
 use crate::foreign::subject::Subject;
 use crate::seeking::calls::enters;
-use crate::seeking::seen::{Seen, decides, leaves};
+use crate::seeking::seen::{Seen, decides, takes_out};
 use crate::seeking::way::{Way, met_with};
 use crate::walking::scope::Scope;
 use std::alloc::{AllocError, Global};
@@ -127,7 +127,7 @@ fn add_taken(
     let Some(seen) = Seen::at(*subject, by) else {
         return Ok(());
     };
-    if !leaves(seen.rule.target()) {
+    if !takes_out(seen.rule.target()) {
         return Ok(());
     }
     if let Some(taken) = met_with(alloc, &seen, scope)? {
@@ -144,7 +144,7 @@ fn add_taken_ahead(
     by: Step,
     scopes: &mut Vec<Scope>,
 ) -> Result<(), AllocError>
-    ensures { OnOk result (AddsParts scope.now (NoneAheadLeaves subject.now by (by.number - 1)) scopes.old.items scopes.new.items) }
+    ensures { OnOk result (AddsParts scope.now (NoneAheadTakesOut subject.now by (by.number - 1)) scopes.old.items scopes.new.items) }
 {
     for number in 1..by.number {
         let ahead = Step {
@@ -205,7 +205,7 @@ fn part_from(
     let Some(seen) = Seen::at(*subject, *by) else {
         return Ok(false);
     };
-    if leaves(seen.rule.target()) {
+    if takes_out(seen.rule.target()) {
         let _left = split(alloc, &seen, scope, scopes)?;
         return Ok(true);
     }

@@ -6,7 +6,7 @@ ghost use Rattle.table.specs.declared.verdict.Verdict.TheVariants.{TooLong};
 ghost use Rattle.table.specs.walk.Walk.{walk};
 ghost use Rattle.questions.specs.Foreign.{Assignment};
 ghost use Rattle.questions.specs.Scopes.{answered, table_of};
-ghost use Rattle.questions.specs.steps.Lengths.{AreBounds, AreLeast, IsBounded, Raises, added, added_at, number_of, room_left};
+ghost use Rattle.questions.specs.steps.Lengths.{AreBounds, AreLeastBounds, IsBounded, Raises, added, added_at, number_of, room_left};
 
 use crate::foreign::subject::Subject;
 use crate::walking::engine::{LIMIT, hook_index};
@@ -88,10 +88,8 @@ fn raise(table: &Table, numbers: &mut Vec<usize>) -> bool
 
 // The least number for each chain that is a bound of how much its rules lengthen a walk. The numbers are raised until no chain's rules add more
 // than its own: as many times as chains are nested, and once. Each time takes a look at each rule.
-fn bounds_of(alloc: Global, table: &Table) -> Result<Vec<usize>, AllocError>
-    ensures bounds { IfOk result (λ numbers. AreBounds table.now.table numbers.items (length table.now.table.chains)) }
-    ensures long { IfOk result (λ numbers. length numbers.items ≡ length table.now.table.chains) }
-    ensures least { IfOk result (λ numbers. AreLeast table.now.table numbers.items) }
+pub(crate) fn bounds_of(alloc: Global, table: &Table) -> Result<Vec<usize>, AllocError>
+    ensures { IfOk result (λ numbers. AreLeastBounds table.now.table numbers.items) }
 {
     let count = table.chain_count();
     let mut numbers = vec![in alloc; 0usize; count]?;
@@ -101,16 +99,11 @@ fn bounds_of(alloc: Global, table: &Table) -> Result<Vec<usize>, AllocError>
 
 // Whether it is known without a walk that none from a hook's chain is too long, whatever holds: by numbers for the chains, which say how many rules
 // that don't decide match there and in the chains to which they lead, if all of them match.
-pub(crate) fn are_short(
-    alloc: Global,
-    subject: &Subject<'_>,
-    hook: Hook,
-) -> Result<bool, AllocError>
-    ensures short { IfOk result (λ is. IsTrue is → (a : Assignment) (p : PacketView) → p.hook ≡ hook → (walk (answered subject.now a) p).verdict ≢ TooLong) }
-    ensures bounded { IfOk result (λ is. IsTrue is ↔ IsBounded (table_of subject.now) hook) }
+pub(crate) fn are_short(subject: &Subject<'_>, hook: Hook) -> bool
+    ensures short { IsTrue result → (a : Assignment) (p : PacketView) → p.hook ≡ hook → (walk (answered subject.now a) p).verdict ≢ TooLong }
+    ensures bounded { IsTrue result ↔ IsBounded (table_of subject.now) hook }
 {
-    let table = &subject.boxed.table;
-    table.stands();
-    let numbers = bounds_of(alloc, table)?;
-    Ok(numbers[hook_index(hook)] < LIMIT)
+    subject.boxed.table.stands();
+    let numbers = subject.boxed.bounds();
+    numbers[hook_index(hook)] < LIMIT
 }

@@ -2,7 +2,7 @@ use Rattle.std.proofs.Common.{◌≡◌, Some, sym}
 use Rattle.std.specs.Prelude.{slice_get}
 use Rattle.std.proofs.lemmas.Result.{IfOk-weaker}
 use Rattle.table.specs.declared.walk.trail.Step.{Step}
-use Rattle.questions.specs.steps.Seeking.{AddsParts, EndsAt, IsLeftIn}
+use Rattle.questions.specs.steps.Seeking.{AddsParts, EndsAt}
 use Rattle.questions.proofs.laws.SeekLaws.{all_parted, ends_here, parts_weaker, path_more, with_first}
 use Rattle.questions.proofs.seeking.straying.+part_by.Goals as goal
 

@@ -1,7 +1,8 @@
 use Rattle.std.proofs.Common.{[], ◌∷◌, inl, inr, refl, arith}
 use Rattle.questions.specs.declared.walking.scope.Scope.{Scope}
 use Rattle.questions.specs.steps.Seeking.{IsHere}
-use Rattle.questions.proofs.laws.SeekLaws.{any_kept, boxes_next}
+use Rattle.questions.proofs.laws.SeekLaws.{boxes_next}
+use Rattle.questions.proofs.laws.WaitLaws.{any_kept}
 use Rattle.questions.proofs.seeking.straying.add_boxes.Goals as goal
 
 pub loop-area-init : goal.loop-area-init

@@ -7,12 +7,12 @@ returns-in_default c =
     let s = c.args.subject.now in
     parts_none (KeepsIn s c.args.by) c.args.scope.now c.args.scopes.now.items (λ a p at here. keeps_unseen s c.stands.ensures.sound c.args.by a p c.requires (λ is. c.in_default.ensures is))
 
-pub returns-then-not-leaves : goal.returns-then-not-leaves
-returns-then-not-leaves c =
+pub returns-then-not-takes_out : goal.returns-then-not-takes_out
+returns-then-not-takes_out c =
     let s = c.args.subject.now in
     let seen = c.in-Some.ensures in
     parts_none (KeepsIn s c.args.by) c.args.scope.now c.args.scopes.now.items
-    (λ a p at here. keeps_staying s c.stands.ensures.sound c.args.by a p seen.is (λ l. c.leaves.ensures.keeps c.if-not-leaves.true (rw (c.target.ensures, seen.rule) l)))
+    (λ a p at here. keeps_staying s c.stands.ensures.sound c.args.by a p seen.is (λ l. c.takes_out.ensures.keeps c.if-not-takes_out.true (rw (c.target.ensures, seen.rule) l)))
 
 pub returns-in_ok-push : goal.returns-in_ok-push
 returns-in_ok-push c =

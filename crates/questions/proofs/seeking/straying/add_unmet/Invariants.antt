@@ -1,7 +1,3 @@
-use Rattle.std.proofs.Common.{◌⊎◌}
-use Rattle.std.specs.Prelude.{Any}
-use Rattle.fields.specs.packet.Packet.{PacketView as Packet}
-use Rattle.questions.specs.Foreign.{Assignment}
 use Rattle.questions.specs.steps.Seeking.{AddsParts}
 use Rattle.questions.proofs.laws.SeekLaws.{HoldBelow}
 use Rattle.questions.proofs.seeking.straying.add_unmet.Given as goal

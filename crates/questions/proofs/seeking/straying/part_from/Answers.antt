@@ -6,8 +6,8 @@ use Rattle.questions.specs.steps.Seeking.{AddsParts, EndsAt, LeadsAwayAt}
 use Rattle.questions.proofs.laws.SeekLaws.{at_first, leads_away_here, parts_weaker}
 use Rattle.questions.proofs.seeking.straying.part_from.Goals as goal
 
-pub returns-then-leaves : goal.returns-then-leaves
-returns-then-leaves c = λ is.
+pub returns-then-takes_out : goal.returns-then-takes_out
+returns-then-takes_out c = λ is.
     let s = c.args.subject.now in
     let by = c.in-Some.by.now in
     let at_by = c.in-Some-at.ensures in
@@ -18,7 +18,7 @@ returns-then-leaves c = λ is.
     let one = rw (at_by.rule, at_by.needs) at c.in_ok-_left.ensures in
     at_first (λ (b : Step). AddsParts scope (LeadsAwayAt s b) old new) c.args.path.now by first
     (parts_weaker scope _ (LeadsAwayAt s by) old new
-    (λ a p at m. leads_away_here s c.stands.ensures.sound by c.in_ok-_left._left a p at_by.is (rw (← at_by.rule, ← c.target.ensures) (c.leaves.ensures.takes c.if-leaves.true)) m) one)
+    (λ a p at m. leads_away_here s c.stands.ensures.sound by c.in_ok-_left._left a p at_by.is (rw (← at_by.rule, ← c.target.ensures) (c.takes_out.ensures.takes c.if-takes_out.true)) m) one)
 
 pub returns : goal.returns
 returns c =

@@ -1,5 +1,4 @@
-use Rattle.std.proofs.Common.{refl, sym}
-use Rattle.rules.specs.boxing.Boxed.{IsBoxOf}
+use Rattle.std.proofs.Common.{refl}
 use Rattle.questions.specs.declared.walking.scope.Scope.{Scope}
 use Rattle.questions.proofs.laws.SeekLaws.{split_apart, split_parts, split_ports, split_unmet}
 use Rattle.questions.proofs.seeking.straying.split.Goals as goal

@@ -1,8 +1,7 @@
-use Rattle.std.proofs.Common.{◌-◌, ◌+◌, ◌≡◌, ◌<◌, ◌∙◌, length, get_or, ℕ, List, ap, subst, sym, arith}
+use Rattle.std.proofs.Common.{◌-◌, ◌+◌, ◌≡◌, ◌<◌, ◌∙◌, length, get_or, ℕ, ap, subst, sym, arith}
 use Rattle.std.proofs.lemmas.List.{get_or_default}
 use Rattle.questions.specs.declared.seeking.calls.Call.{Call}
 use Rattle.questions.specs.steps.Seeking.{IsTakenBy}
-use Rattle.questions.specs.declared.seeking.way.Way.{Way}
 use Rattle.questions.proofs.laws.SeekLaws.{AreTakenFrom, taken_next, taken_over}
 use Rattle.questions.proofs.seeking.way.add_longer.Goals as goal
 use Rattle.questions.proofs.seeking.way.add_longer.Goals.{then-to-chain+in_ok-add_by, else-to-chain}

@@ -1,4 +1,3 @@
-use Rattle.std.proofs.Common.{List}
 use Rattle.std.specs.Prelude.{Any}
 use Rattle.fields.specs.packet.Packet.{PacketView as Packet}
 use Rattle.questions.specs.Foreign.{Assignment}

@@ -1,6 +1,7 @@
-use Rattle.std.proofs.Common.{[], ◌∷◌, inl, inr, refl, arith}
+use Rattle.std.proofs.Common.{[], ◌∷◌, inl, inr, arith}
 use Rattle.questions.specs.steps.Seeking.{MayCome}
-use Rattle.questions.proofs.laws.SeekLaws.{any_kept, one_wanted, scopes_next}
+use Rattle.questions.proofs.laws.SeekLaws.{one_wanted, scopes_next}
+use Rattle.questions.proofs.laws.WaitLaws.{any_kept}
 use Rattle.questions.proofs.seeking.way.add_parts.Goals as goal
 
 pub loop-scope-init : goal.loop-scope-init

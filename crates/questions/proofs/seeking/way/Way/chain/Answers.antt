@@ -1,4 +1,4 @@
-use Rattle.std.proofs.Common.{sym, ◌∙◌, ap}
+use Rattle.std.proofs.Common.{sym, ap}
 use Rattle.table.specs.declared.walk.trail.Step.{Step}
 use Rattle.questions.proofs.laws.SeekLaws.{top_is_last}
 use Rattle.questions.proofs.seeking.way.Way.chain.Goals as goal
