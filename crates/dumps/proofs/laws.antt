@@ -13,4 +13,3 @@ pub mod PieceLaws
 pub mod ReadingLaws
 pub mod ServiceLaws
 pub mod TableLineLaws
-pub mod WordLaws

@@ -1,5 +1,4 @@
 pub mod Area
-pub mod Calls
 pub mod Cut
 pub mod Boxes
 pub mod Meeting
