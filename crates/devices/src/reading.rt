@@ -34,10 +34,10 @@ pub fn is_next<R: BufRead>(
 /// Each `fill` asks the reader once, and `eat` asks nothing.
 pub fn asked_once() -> bool {
     let mut tap = Tap::new(FusedReader::new(b"abc", Fuse::never(2)));
-    let first = tap.fill() == Ok(b"ab");
-    let again = tap.fill() == Ok(b"ab");
+    let first = tap.fill(false) == Ok(b"ab");
+    let again = tap.fill(false) == Ok(b"ab");
     tap.eat(2);
-    let last = tap.fill() == Ok(b"c");
+    let last = tap.fill(false) == Ok(b"c");
     first && again && last && !tap.failed() && tap.into_device().calls() == 3
 }
 
@@ -45,9 +45,9 @@ pub fn asked_once() -> bool {
 pub fn failures() -> bool {
     for failure in [Failure::Interrupted, Failure::Error] {
         let mut tap = Tap::new(FusedReader::new(b"abc", Fuse::failing(2, 1, failure)));
-        let first = tap.fill().is_ok() && !tap.failed();
-        let failed = tap.fill().is_err() && tap.failed();
-        let again = tap.fill().is_err() && tap.failed();
+        let first = tap.fill(false).is_ok() && !tap.failed();
+        let failed = tap.fill(false).is_err() && tap.failed();
+        let again = tap.fill(false).is_err() && tap.failed();
         if !(first && failed && again && tap.into_device().calls() == 2) {
             return false;
         }
@@ -65,7 +65,7 @@ pub fn end(alloc: Global) -> Result<bool, AllocError> {
         }
         for _ in 0..3 {
             let at_end = is_next(&mut tap, &mut line, LineEnd::Nothing, Some(b""));
-            if !at_end || tap.fill() != Ok(b"") || tap.failed() {
+            if !at_end || tap.fill(false) != Ok(b"") || tap.failed() {
                 return Ok(false);
             }
         }
@@ -128,7 +128,7 @@ pub fn failure_in_a_long_line(alloc: Global) -> Result<bool, AllocError> {
             Fuse::failing(5, fails_at, Failure::Error),
         ));
         let failed = next_line(&mut tap, &mut line).is_err() && tap.failed();
-        let again = next_line(&mut tap, &mut line).is_err() && tap.fill().is_err();
+        let again = next_line(&mut tap, &mut line).is_err() && tap.fill(false).is_err();
         if !(failed
             && again
             && tap.into_device().calls() == u64::from(fails_at).saturating_add(1))

@@ -13,3 +13,4 @@ pub mod PieceLaws
 pub mod ReadingLaws
 pub mod ServiceLaws
 pub mod TableLineLaws
+pub mod WordLaws

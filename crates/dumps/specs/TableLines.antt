@@ -1,5 +1,5 @@
 -- Which options, matches and targets a text means, a line each.
-use Rattle.std.specs.Prelude.{◌≡◌, ℕ, ◌+◌, ◌==◌, true, false, List, [], ◌∷◌, ◌++◌, length, drop, Some, codes, if◌then◌else◌}
+use Rattle.std.specs.Prelude.{◌≡◌, ℕ, ◌+◌, ◌==◌, true, false, List, [], ◌∷◌, ◌++◌, length, drop, Some, Contains, codes, if◌then◌else◌}
 use Rattle.std.specs.Borrow.{Bor}
 use Rattle.std.specs.List.{AllZip, slice_split}
 use Rattle.std.specs.Str.{bytes_eq}
@@ -17,6 +17,8 @@ use Rattle.dumps.specs.declared.options.kept.Span.{Span}
 use Rattle.dumps.specs.declared.options.kept.KeptOption.{KeptOption}
 use Rattle.dumps.specs.declared.options.kept.KeptExtension.{KeptExtension}
 use Rattle.dumps.specs.declared.options.kept.KnownOptions.{KnownOptions}
+use Rattle.dumps.specs.declared.options.refusal.OptionRefusal.{OptionRefusal}
+use Rattle.dumps.specs.declared.options.refusal.OptionRefusal.TheVariants.{NotARow}
 
 -- the words of a line: what stands between its blanks (32)
 abbrev pub words_between : List ℕ → List (List ℕ)
@@ -52,21 +54,29 @@ kind_word kind.Decides = codes "decides"
 abbrev pub owner_named : List ℕ → List ℕ
 owner_named word = if bytes_eq word (codes ".") then [] else word
 
--- A line means an option: its words are whose it is, the role, how many values follow, at most 9, and the spellings.
-pub record IsOptionLine (line : List ℕ) (row : Row) : Type 0 where
+-- Texts mean an option: they are whose it is, the role, how many values follow, at most 9, and the spellings.
+pub record AreOption (texts : List (List ℕ)) (row : Row) : Type 0 where
   pub owner : List ℕ
   pub values : List ℕ
-  pub words : words_between line ≡ owner ∷ (role_word row.role ∷ (values ∷ row.names))
+  pub words : texts ≡ owner ∷ (role_word row.role ∷ (values ∷ row.names))
   pub owned : row.owner ≡ own_owner row.role (owner_named owner)
   pub counted : number_to 9 values ≡ Some row.values
 
--- A line means a match or a target: its words are the name, the kind, and of a match the protocols that begin it, of a target the matches
--- that ask what it sets.
-pub record IsExtensionLine (line : List ℕ) (row : Extension) : Type 0 where
+-- Texts mean a match or a target: they are the name, the kind, and of a match the protocols that begin it, of a target the matches that
+-- ask what it sets.
+pub record AreExtension (texts : List (List ℕ)) (row : Extension) : Type 0 where
   pub more : List (List ℕ)
-  pub words : words_between line ≡ row.name ∷ (kind_word row.kind ∷ more)
+  pub words : texts ≡ row.name ∷ (kind_word row.kind ∷ more)
   pub protocols : row.protocols ≡ if is_match row.kind then more else []
   pub sets : row.sets ≡ if is_match row.kind then [] else more
+
+-- a line means an option, by its words
+abbrev pub IsOptionLine : List ℕ → Row → Type 0
+IsOptionLine line row = AreOption (words_between line) row
+
+-- the same of a match or a target
+abbrev pub IsExtensionLine : List ℕ → Extension → Type 0
+IsExtensionLine line row = AreExtension (words_between line) row
 
 -- each line of a text means an option, and these are the options in their order
 pub record AreOptionLines (text : List ℕ) (rows : List Row) : Type 0 where
@@ -75,6 +85,18 @@ pub record AreOptionLines (text : List ℕ) (rows : List Row) : Type 0 where
 -- the same of matches and targets
 pub record AreExtensionLines (text : List ℕ) (rows : List Extension) : Type 0 where
   pub each : AllZip IsExtensionLine (lines text) rows
+
+-- why the options of a text aren't kept, and for which line: it is one of the text, and means no option
+pub record IsNoOption (text : List ℕ) (why : OptionRefusal × List ℕ) : Type 0 where
+  pub refusal : why.0 ≡ NotARow
+  pub line : Contains (lines text) why.1
+  pub none : (row : Row) → IsOptionLine why.1 row → ⊥
+
+-- the same of matches and targets
+pub record IsNoExtension (text : List ℕ) (why : OptionRefusal × List ℕ) : Type 0 where
+  pub refusal : why.0 ≡ NotARow
+  pub line : Contains (lines text) why.1
+  pub none : (row : Extension) → IsExtensionLine why.1 row → ⊥
 
 -- no words
 abbrev pub no_words : Span

@@ -4,13 +4,14 @@ use Rattle.std.specs.Io.Buffered.{reader_buffer, reader_capacity, reader_inner, 
 use Rattle.std.specs.declared.io.buffered.BufReader.{BufReader}
 use Rattle.std.specs.declared.io.buffered.BufWriter.{BufWriter}
 use Rattle.fields.specs.declared.text.tap.Tap.{Tap}
-use Rattle.fields.specs.text.Tap.{device, has_failed, is_unflushed, shown_left, turns_left}
+use Rattle.fields.specs.text.Tap.{device, has_failed, is_late, is_unflushed, shown_left, turns_left}
 
--- the tap hasn't failed, shows nothing, holds nothing back and has all its steps of reading
+-- the tap hasn't failed, shows nothing, holds nothing back, wasn't asked late and has all its steps of reading
 pub record IsFresh {T : Type 0} (tap : Tap T) : Type 0 where
   pub ready : has_failed tap ≡ false
   pub flushed : is_unflushed tap ≡ false
   pub shown : shown_left tap ≡ 0
+  pub prompt : is_late tap ≡ false
   pub turns : turns_left tap ≡ 2 ^ 64 - 1
 
 -- nothing was read: the reader is as it was, behind an empty buffer of 65,536 bytes

@@ -6,6 +6,7 @@ pub mod AreaLaws
 pub mod AskedLaws
 pub mod BoxesLaws
 pub mod BranchLaws
+pub mod CallLaws
 pub mod CandidateLaws
 pub mod ChoiceLaws
 pub mod CollectLaws
@@ -24,6 +25,7 @@ pub mod HeldLaws
 pub mod HookLaws
 pub mod LeadLaws
 pub mod LeastNameLaws
+pub mod LengthLaws
 pub mod LineLaws
 pub mod LineStepLaws
 pub mod LookLaws
@@ -39,9 +41,11 @@ pub mod PossibleLaws
 pub mod ReachLaws
 pub mod RemainLaws
 pub mod ResolvedLaws
+pub mod SeekLaws
 pub mod SharedLaws
 pub mod ShortLaws
 pub mod StayLaws
+pub mod StrayLaws
 pub mod TakerLaws
 pub mod TrailLaws
 pub mod TransportLaws

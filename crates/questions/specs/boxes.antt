@@ -1,4 +1,5 @@
 pub mod Area
+pub mod Calls
 pub mod Cut
 pub mod Boxes
 pub mod Meeting

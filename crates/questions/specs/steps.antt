@@ -11,6 +11,7 @@ pub mod Deciding
 pub mod Exact
 pub mod Groups
 pub mod Leading
+pub mod Lengths
 pub mod Lines
 pub mod Meant
 pub mod Onward
@@ -18,10 +19,13 @@ pub mod Outlines
 pub mod Remaining
 pub mod Sampled
 pub mod Searched
+pub mod Seeking
 pub mod Shared
 pub mod Sides
+pub mod Straying
 pub mod Taken
 pub mod Takers
 pub mod Transports
+pub mod Tries
 pub mod Waiting
 pub mod Ways

@@ -1,6 +1,7 @@
 //! A packet that comes to a rule, sought by walks of single packets.
 pub(crate) mod calls;
 pub(crate) mod seek;
+pub(crate) mod seen;
 pub(crate) mod steering;
 pub(crate) mod straying;
 pub(crate) mod way;

@@ -2,6 +2,7 @@
 pub(crate) mod ahead;
 pub(crate) mod engine;
 pub(crate) mod front;
+pub(crate) mod lengths;
 pub(crate) mod scope;
 pub(crate) mod task;
 pub(crate) mod turn;

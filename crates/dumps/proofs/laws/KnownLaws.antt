@@ -8,7 +8,7 @@ use Rattle.std.proofs.Math.Seq.{drop-append_seam, take-length}
 use Rattle.std.proofs.Math.ListN.{drop_of_length-le}
 use Rattle.std.proofs.Math.Nat.{min-le_left}
 use Rattle.std.proofs.lemmas.List.Elements.{All-weaker, All-push, All-head, All-tail}
-use Rattle.std.proofs.Common.{◌≡◌, ◌≤◌, ◌<◌, ◌+◌, ◌-◌, ℕ, Bool, true, false, cond, List, [], ◌∷◌, ◌++◌, length, map, take, drop, Option, None, Some, is_some, option_map, find, IfSome, refl, ap, sym, ◌∙◌, arith}
+use Rattle.std.proofs.Common.{◌≡◌, ◌≤◌, ◌<◌, ◌+◌, ◌-◌, ℕ, Bool, true, false, cond, List, [], ◌∷◌, ◌++◌, length, map, take, drop, Option, None, Some, is_some, option_map, find, IfSome, refl, ap, sym, subst, ◌∙◌, arith}
 use Rattle.std.specs.Str.{bytes_eq}
 use Rattle.dumps.specs.Known.{words_at, added_match, with_match, kept_row, kept_extension, known_rows, is_spelled, own_owner, Written, written_by, kind_of, name_refusal, IsAddRefused, Name, There, IsMatchRefused, OfName}
 use Rattle.dumps.specs.Kept.{AreWithin}
@@ -58,6 +58,12 @@ within_extension n options extensions kept protocols sets h = record {
   protocols = All-push (λ (k : KeptExtension). k.protocols.to ≤ n) extensions kept h.protocols protocols;
   sets = All-push (λ (k : KeptExtension). k.sets.to ≤ n) extensions kept h.sets sets;
 }
+
+-- the same where it may have been refused
+pub within_pushed : (n : ℕ) (options : List KeptOption) (extensions new : List KeptExtension) (kept : KeptExtension) (pushed : Bool) → kept.protocols.to ≤ n → kept.sets.to ≤ n
+    → new ≡ cond pushed (extensions ++ kept ∷ []) extensions → AreWithin n options extensions → AreWithin n options new
+within_pushed n options extensions new kept true protocols sets is h = subst (AreWithin n options) (sym is) (within_extension n options extensions kept protocols sets h)
+within_pushed n options extensions new kept false protocols sets is h = subst (AreWithin n options) (sym is) h
 
 -- a part of a list, by the two ways to take it
 pub part_taken : {X : Type 0} (xs : List X) (a b : ℕ) → a ≤ b → take (b - a) (drop a xs) ≡ drop a (take b xs)

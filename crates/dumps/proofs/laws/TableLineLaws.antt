@@ -1,8 +1,8 @@
 -- The rows of the table by the lines of a text.
 use Rattle.std.specs.Borrow.{Bor}
-use Rattle.std.specs.Prelude.{All}
+use Rattle.std.specs.Prelude.{All, IfSome}
 use Rattle.std.specs.List.{AllZip}
-use Rattle.std.proofs.Common.{◌≡◌, ◌+◌, ◌≤◌, ℕ, Bool, true, false, cond, List, [], ◌∷◌, ◌++◌, length, map, take, drop, refl, ap, sym, ◌∙◌}
+use Rattle.std.proofs.Common.{◌≡◌, ◌+◌, ◌≤◌, ℕ, Bool, true, false, cond, List, [], ◌∷◌, ◌++◌, length, map, take, drop, Option, Some, None, refl, ap, sym, subst, ◌∙◌, arith}
 use Rattle.std.proofs.lemmas.List.{drop-drop, map-append}
 use Rattle.std.proofs.Math.Seq.{drop-append_seam, take-length}
 use Rattle.dumps.specs.Known.{words_at, kept_row, kept_extension, own_owner}
@@ -12,6 +12,7 @@ use Rattle.dumps.specs.Views.{texts_in}
 use Rattle.dumps.specs.declared.options.kept.Span.{Span}
 use Rattle.dumps.specs.declared.options.kept.KeptOption.{KeptOption}
 use Rattle.dumps.specs.declared.options.kept.KeptExtension.{KeptExtension}
+use Rattle.dumps.specs.declared.options.refusal.OptionRefusal.{OptionRefusal}
 use Rattle.dumps.proofs.laws.KnownLaws.{options_stay, extensions_stay}
 
 abbrev Words : Type 0
@@ -34,7 +35,7 @@ words_left before more after span names count whole to are =
     ∙ sym (ap texts_in (drop-drop count span.from after))
 
 -- the words of a line that were kept last
-words_last : (line : List ℕ) (before more after : Words) (span : Span) → texts_in more ≡ words_between line → after ≡ before ++ more → span.from ≡ length before
+pub words_last : (line : List ℕ) (before more after : Words) (span : Span) → texts_in more ≡ words_between line → after ≡ before ++ more → span.from ≡ length before
     → words_between line ≡ texts_in (drop span.from after)
 words_last line before more after span are whole from =
     sym are
@@ -89,6 +90,18 @@ extension_means line before more after span kept are whole from to of = record {
   sets = words_unless after (is_match kept.kind) (behind 2 span) kept.sets of.sets;
 }
 
+-- its spans end where those of the line do, or are of no words
+pub extension_within : (words : Words) (span : Span) (kept : KeptExtension) → IsExtensionOf words span kept → (kept.protocols.to ≤ span.to) × (kept.sets.to ≤ span.to)
+extension_within words span kept of = (within (is_match kept.kind) kept.protocols of.protocols, without (is_match kept.kind) kept.sets of.sets)
+  where
+    within : (test : Bool) (names : Span) → names ≡ cond test (behind 2 span) no_words → names.to ≤ span.to
+    within true names is = subst (λ (s : Span). s.to ≤ span.to) (sym is) (omega arith)
+    within false names is = subst (λ (s : Span). s.to ≤ span.to) (sym is) (omega arith)
+
+    without : (test : Bool) (names : Span) → names ≡ cond test no_words (behind 2 span) → names.to ≤ span.to
+    without true names is = subst (λ (s : Span). s.to ≤ span.to) (sym is) (omega arith)
+    without false names is = subst (λ (s : Span). s.to ≤ span.to) (sym is) (omega arith)
+
 -- and the last one
 pub extension_last : (before more after : Words) (extensions : List KeptExtension) (kept : KeptExtension) → after ≡ before ++ more
     → All (λ (k : KeptExtension). k.protocols.to ≤ length before) extensions → All (λ (k : KeptExtension). k.sets.to ≤ length before) extensions
@@ -97,3 +110,8 @@ extension_last before more after extensions kept whole protocols sets =
     map-append (kept_extension after) extensions (kept ∷ [])
     ∙ ap (λ (rows : List Extension). rows ++ kept_extension after kept ∷ [])
     (ap (λ (l : Words). map (kept_extension l) extensions) whole ∙ extensions_stay before more extensions protocols sets)
+
+-- why a fault refuses, where it is told
+pub refused_for : (P : OptionRefusal × List ℕ → Type 0) (told : Option (OptionRefusal × List ℕ)) (why : OptionRefusal × List ℕ) → IfSome told (λ came. came ≡ why) → P why → IfSome told P
+refused_for P None why is holds = tt
+refused_for P (Some came) why is holds = subst P (sym is) holds

@@ -102,21 +102,23 @@ fn name_refusal(kind: Option<Kind>) -> Option<OptionRefusal>
 }
 
 impl<'a> KnownOptions<'a> {
-    ghost use Rattle.std.specs.Prelude.{◌≡◌, true, ◌++◌, ◌∷◌, [], IfOk, IfErr, IfSome, OnOk};
+    ghost use Rattle.std.specs.Prelude.{◌≡◌, ◌⊎◌, true, false, ◌++◌, ◌∷◌, [], IfOk, IfErr, IfSome, OnOk};
     ghost use Rattle.std.specs.List.{list_any};
     ghost use Rattle.dumps.specs.Conditions.{AreOwnStarts, HasOwnStarts};
     ghost use Rattle.dumps.specs.Known.{IsAdded, IsAddRefused, IsMatchAdded, IsMatchRefused, AreLent, add_refused_in, added_row, is_spelled, known_rows, known_extensions, with_match, table_of};
-    ghost use Rattle.dumps.specs.TableLines.{AreOptionLines, AreExtensionLines, AreWordsKept, IsOptionLast, IsExtensionLast};
+    ghost use Rattle.dumps.specs.Options.{Row, Extension};
+    ghost use Rattle.dumps.specs.TableLines.{AreOptionLines, AreExtensionLines, AreWordsKept, IsOptionLine, IsExtensionLine, IsOptionLast, IsExtensionLast, IsNoOption, IsNoExtension};
     ghost use Rattle.dumps.specs.Views.{rows_in, extensions_in};
 
     /// The options of iptables 1.8.9 that rules of the table `filter` may have.
     ///
     /// # Errors
     ///
-    /// That memory was refused; or a line of the table that is no row.
+    /// That memory was refused; or the line of the table that is no row.
     pub fn new(alloc: Global) -> Result<KnownOptions<'a>, OptionFault>
         ensures options { IfOk result (λ known. AreOptionLines OPTIONS.now (known_rows known)) }
         ensures extensions { IfOk result (λ known. AreExtensionLines EXTENSIONS.now (known_extensions known)) }
+        ensures refused { IfErr result (λ fault. IfSome (add_refused_in fault) (λ why. IsNoOption OPTIONS.now why ⊎ IsNoExtension EXTENSIONS.now why)) }
     {
         let mut known = KnownOptions {
             alloc,
@@ -134,6 +136,7 @@ impl<'a> KnownOptions<'a> {
         requires { known_rows self.old ≡ [] }
         ensures options { OnOk result (AreOptionLines text.now (known_rows self.new)) }
         ensures same { OnOk result (known_extensions self.new ≡ known_extensions self.old) }
+        ensures refused { IfErr result (λ fault. IfSome (add_refused_in fault) (IsNoOption text.now)) }
     {
         for line in text.lines() {
             if !self.add_option_line(line)? {
@@ -148,6 +151,7 @@ impl<'a> KnownOptions<'a> {
         requires { known_extensions self.old ≡ [] }
         ensures extensions { OnOk result (AreExtensionLines text.now (known_extensions self.new)) }
         ensures same { OnOk result (known_rows self.new ≡ known_rows self.old) }
+        ensures refused { IfErr result (λ fault. IfSome (add_refused_in fault) (IsNoExtension text.now)) }
     {
         for line in text.lines() {
             if !self.add_extension_line(line)? {
@@ -173,7 +177,8 @@ impl<'a> KnownOptions<'a> {
 
     // Adds the option of a line. The answer is whether the line is a row.
     fn add_option_line(&mut self, line: &'a str) -> Result<bool, AllocError>
-        ensures { IfOk result (λ is_row. is_row ≡ true → IsOptionLast line.now self.old self.new) }
+        ensures last { IfOk result (λ is_row. is_row ≡ true → IsOptionLast line.now self.old self.new) }
+        ensures none { IfOk result (λ is_row. is_row ≡ false → (row : Row) → IsOptionLine line.now row → ⊥) }
     {
         let span = self.keep(line)?;
         let (_, words) = self.words.as_slice().split_at(span.from);
@@ -186,7 +191,8 @@ impl<'a> KnownOptions<'a> {
 
     // Adds the match or target of a line, in the same way.
     fn add_extension_line(&mut self, line: &'a str) -> Result<bool, AllocError>
-        ensures { IfOk result (λ is_row. is_row ≡ true → IsExtensionLast line.now self.old self.new) }
+        ensures last { IfOk result (λ is_row. is_row ≡ true → IsExtensionLast line.now self.old self.new) }
+        ensures none { IfOk result (λ is_row. is_row ≡ false → (row : Extension) → IsExtensionLine line.now row → ⊥) }
     {
         let span = self.keep(line)?;
         let (_, words) = self.words.as_slice().split_at(span.from);

@@ -1,7 +1,8 @@
 //! The lines of the table, each by its words.
-ghost use Rattle.std.specs.Prelude.{◌≡◌, ◌+◌, length, IfSome};
-ghost use Rattle.dumps.specs.Options.{is_match};
-ghost use Rattle.dumps.specs.TableLines.{role_word, kind_word, owner_named, IsOptionOf, IsExtensionOf};
+ghost use Rattle.std.specs.Prelude.{◌≡◌, ◌≢◌, ◌+◌, length, IfNone, IfSome};
+ghost use Rattle.dumps.specs.Options.{Row, Extension, is_match};
+ghost use Rattle.dumps.specs.TableLines.{role_word, kind_word, owner_named, AreOption, AreExtension, IsOptionOf, IsExtensionOf};
+ghost use Rattle.dumps.specs.Views.{texts_in};
 
 use crate::options::kept::{KeptExtension, KeptOption, NO_WORDS, Span};
 use crate::options::row::{Kind, Lasting, Role};
@@ -72,7 +73,8 @@ fn kind_word(kind: Kind) -> &'static [u8]
 
 // The role that a word names.
 fn role_named(word: &[u8]) -> Option<Role>
-    ensures { IfSome result (λ role. role_word role ≡ word.now) }
+    ensures named { IfSome result (λ role. role_word role ≡ word.now) }
+    ensures none { IfNone result ((role : Role) → role_word role ≢ word.now) }
 {
     for role in &ROLES {
         if role_word(*role) == word {
@@ -84,7 +86,8 @@ fn role_named(word: &[u8]) -> Option<Role>
 
 // The kind that a word names.
 fn kind_by(word: &[u8]) -> Option<Kind>
-    ensures { IfSome result (λ kind. kind_word kind ≡ word.now) }
+    ensures named { IfSome result (λ kind. kind_word kind ≡ word.now) }
+    ensures none { IfNone result ((kind : Kind) → kind_word kind ≢ word.now) }
 {
     for kind in &KINDS {
         if kind_word(*kind) == word {
@@ -117,7 +120,8 @@ fn owner_named(word: &[u8]) -> &[u8]
 // The option of the words of a line, which have this span.
 pub(crate) fn option_of<'a>(words: &[&'a [u8]], span: Span) -> Option<KeptOption<'a>>
     requires { span.from + length words.now ≡ span.to }
-    ensures { IfSome result (IsOptionOf words.now span) }
+    ensures option { IfSome result (IsOptionOf words.now span) }
+    ensures none { IfNone result ((row : Row) → AreOption (texts_in words.now) row → ⊥) }
 {
     let [owner, role, values, ..] = words else {
         return None;
@@ -138,7 +142,8 @@ pub(crate) fn option_of<'a>(words: &[&'a [u8]], span: Span) -> Option<KeptOption
 // The match or target of the words of a line, in the same way.
 pub(crate) fn extension_of<'a>(words: &[&'a [u8]], span: Span) -> Option<KeptExtension<'a>>
     requires { span.from + length words.now ≡ span.to }
-    ensures { IfSome result (IsExtensionOf words.now span) }
+    ensures extension { IfSome result (IsExtensionOf words.now span) }
+    ensures none { IfNone result ((row : Extension) → AreExtension (texts_in words.now) row → ⊥) }
 {
     let [name, kind, ..] = words else {
         return None;

@@ -1,5 +1,5 @@
 -- What contracts say of a `Tap`, through which a program reads or writes: it counts steps and remembers a failure.
-use Rattle.std.specs.Prelude.{◌≡◌, ◌≤◌, ℕ, IfSome, Bool, true, false, List, [], ◌++◌, length, Option, Result, Ok, Err, MatchResult}
+use Rattle.std.specs.Prelude.{◌≡◌, ◌≤◌, ◌==◌, ◌||◌, ◌&&◌, ℕ, IfSome, Bool, true, false, List, [], ◌++◌, length, Option, Result, Ok, Err, MatchResult}
 use Rattle.std.specs.Borrow.{Bor}
 use Rattle.std.specs.Io.KnownBytes.{Appends}
 use Rattle.fields.specs.declared.text.tap.Tap.{Tap}
@@ -18,11 +18,19 @@ known bytes t = bytes t.device
 
 -- how many steps of reading are left
 abbrev pub turns_left : {T : Type 0} → Tap T → ℕ
-turns_left t = t.turns
+turns_left t = t.seen.turns
 
 -- how many of the bytes that `fill` showed last weren't taken yet
 abbrev pub shown_left : {T : Type 0} → Tap T → ℕ
 shown_left t = t.seen.shown
+
+-- the tap was asked for more bytes than it showed while answers were withheld, or may have been
+abbrev pub is_late : {T : Type 0} → Tap T → Bool
+is_late t = t.seen.late
+
+-- the same, once it is asked again
+abbrev pub is_late_after : {T : Type 0} → Tap T → Bool → Bool
+is_late_after t withheld = is_late t || (withheld && shown_left t == 0)
 
 -- no more bytes are left to show than the reader has left, where it is known what it has left
 abbrev pub ShowsWithin : Option (List ℕ) → Option (List ℕ) → ℕ → Type 0

@@ -1,7 +1,7 @@
 //! Lines of bounded length, read from a tap.
 ghost use Rattle.std.specs.Prelude.{◌≡◌, ◌≢◌, ◌+◌, ◌<◌, ◌≤◌, ℕ, List, [], ◌∷◌, ◌++◌, Option, None, Ok, true, false, length, take, drop, All, IfOk, OnOk, IsTrue, is_err, slice_index, vec_len, vec_capacity};
 ghost use Rattle.std.specs.Io.KnownBytes.{Consumes, Keeps, IsAtEnd};
-ghost use Rattle.fields.specs.text.Tap.{has_failed, device, known, shown_left, turns_left, ShowsWithin};
+ghost use Rattle.fields.specs.text.Tap.{has_failed, device, is_late, is_late_after, known, shown_left, turns_left, ShowsWithin};
 ghost use Rattle.fields.specs.text.Line.{IsHeld, ReadsLine, ReadsPart, ReadsOn};
 ghost use Rattle.fields.specs.steps.LineSteps.{TakesPart, HoldsMore, IsLast};
 
@@ -72,20 +72,23 @@ fn take_part<R: BufRead>(
     max: usize,
     line: &mut Vec<u8>,
     too_long: &mut bool,
+    withheld: bool,
 ) -> Result<LineStep, ReadFailed>
     requires room { max ≤ vec_capacity line.old }
     requires within { vec_len line.old ≤ max }
-    requires fresh { has_failed tap.old ≡ false }
     ensures within { vec_len line.new ≤ max }
     ensures capacity { vec_capacity line.old ≤ vec_capacity line.new }
     ensures failed { has_failed tap.new ≡ is_err result }
-    ensures turns { turns_left tap.new ≡ turns_left tap.old }
+    ensures ready { OnOk result (has_failed tap.old ≡ false) }
+    ensures turns { OnOk result (turns_left tap.old ≡ turns_left tap.new + 1) }
+    ensures late { is_late tap.new ≡ is_late_after tap.old withheld }
+    ensures unmoved { has_failed tap.old ≡ true → device tap.new ≡ device tap.old }
     ensures shown { result ≡ Ok LineStep.More → shown_left tap.new ≡ 0 }
     ensures left { ShowsWithin (known R.remaining tap.old) (known R.remaining tap.new) (shown_left tap.new) }
     ensures takes { TakesPart (known R.remaining tap.old) (known R.remaining tap.new) result
         max line.old.items too_long.old line.new.items too_long.new }
 {
-    let shown = match tap.fill() {
+    let shown = match tap.fill(withheld) {
         Ok(shown) => shown,
         Err(failed) => return Err(failed),
     };
@@ -120,8 +123,9 @@ impl<R: BufRead> Tap<R> {
     /// to and including the first newline. `None` where the line goes on. Before the first part `line` is empty, and
     /// `too_long` is false. `line` has room for `max` bytes.
     ///
-    /// It takes a step of reading and calls `fill` once. So a caller who has something to do before the device is
-    /// asked for more does it where `has_more` says that nothing is left. Where the line goes on, nothing is left.
+    /// It takes one step of reading, and so calls `fill` once, with `withheld`. So a caller who has something to do
+    /// before the device is asked for more does it where `has_more` says that nothing is left. Where the line goes on,
+    /// nothing is left.
     ///
     /// # Errors
     ///
@@ -131,6 +135,7 @@ impl<R: BufRead> Tap<R> {
         max: usize,
         line: &mut Vec<u8>,
         too_long: &mut bool,
+        withheld: bool,
     ) -> Result<Option<LineRead>, ReadFailed>
         requires room { max ≤ vec_capacity line.old }
         requires within { vec_len line.old ≤ max }
@@ -140,6 +145,7 @@ impl<R: BufRead> Tap<R> {
         ensures failed { has_failed self.new ≡ is_err result }
         ensures unmoved { has_failed self.old ≡ true → device self.new ≡ device self.old }
         ensures turns { OnOk result (turns_left self.old ≡ turns_left self.new + 1) }
+        ensures late { is_late self.new ≡ is_late_after self.old withheld }
         ensures ready { OnOk result (has_failed self.old ≡ false) }
         ensures shown { result ≡ Ok None → shown_left self.new ≡ 0 }
         ensures left { OnOk result
@@ -147,8 +153,7 @@ impl<R: BufRead> Tap<R> {
         ensures within { vec_len line.new ≤ max }
         ensures capacity { vec_capacity line.old ≤ vec_capacity line.new }
     {
-        self.step()?;
-        match take_part(self, max, line, too_long) {
+        match take_part(self, max, line, too_long, withheld) {
             Ok(LineStep::More) => Ok(None),
             Ok(LineStep::Newline) => Ok(Some(LineRead {
                 end: LineEnd::Newline,
@@ -160,7 +165,8 @@ impl<R: BufRead> Tap<R> {
     }
 
     /// Reads the next line into `line`, which has room for `max` bytes. The newline is none of them. A longer line is
-    /// read to its end too, and `too_long` says so: what stands in `line` then isn't the line.
+    /// read to its end too, and `too_long` says so: what stands in `line` then isn't the line. Answers may be withheld
+    /// meanwhile, for all it knows.
     ///
     /// # Errors
     ///
@@ -179,7 +185,7 @@ impl<R: BufRead> Tap<R> {
         line.clear();
         let mut too_long = false;
         loop {
-            match self.read_part(max, line, &mut too_long) {
+            match self.read_part(max, line, &mut too_long, true) {
                 Ok(None) => {}
                 Ok(Some(read)) => return Ok(read),
                 Err(failed) => return Err(failed),

@@ -1,7 +1,8 @@
 //! Taps: a reader or a writer that remembers whether a call of it failed, how many of the bytes it shows weren't
-//! taken, and whether bytes were written since it was last flushed.
-ghost use Rattle.std.specs.Prelude.{◌≡◌, [], IfSome, ◌+◌, ◌-◌, ◌^◌, ◌<◌, ◌↔◌, true, false, length, IfOk, OnOk, IsOk, IsErr, IsTrue, is_err, flat_map};
-ghost use Rattle.fields.specs.text.Tap.{has_failed, device, is_unflushed, known, lent, shown_left, turns_left, Keeps, Puts};
+//! taken, whether it was asked for more while answers were withheld, and whether bytes were written since it was last
+//! flushed.
+ghost use Rattle.std.specs.Prelude.{◌≡◌, [], IfSome, ◌+◌, ◌-◌, ◌^◌, ◌<◌, ◌↔◌, ◌==◌, ◌||◌, ◌&&◌, true, false, length, IfOk, OnOk, IsOk, IsTrue, is_err, flat_map};
+ghost use Rattle.fields.specs.text.Tap.{has_failed, device, is_late, is_late_after, is_unflushed, known, lent, shown_left, turns_left, Keeps, Puts};
 ghost use Rattle.fields.specs.contracts.text.tap.Tap.{the_row};
 ghost use Rattle.std.specs.Borrow.{sem};
 ghost use Rattle.std.specs.Io.{StartsWith};
@@ -20,24 +21,55 @@ pub struct ReadFailed;
 #[error("a write failed")]
 pub struct WriteFailed;
 
-// What came of the calls of a device: whether one failed, and how many of the bytes that `fill` last lent weren't taken.
+// What came of the calls of a device: whether one failed, how many of the bytes that `fill` last lent weren't taken, how
+// many steps of reading are left, and whether it was asked for more while answers were withheld.
 #[derive(Drop)]
 struct Seen {
     failed: bool,
     shown: usize,
+    turns: u64,
+    late: bool,
 }
 
-/// A reader or a writer, whether it has failed, how many bytes it shows that weren't taken, and whether bytes were
-/// written since it was last flushed. Once it has failed, no further call reaches the device, which stays as it was.
+impl Seen {
+    // Takes a step of reading, before the device is asked for what it shows. A tap that has none left fails.
+    fn step(&mut self, withheld: bool) -> Result<(), ReadFailed>
+        ensures due { IsOk result ↔ ((self.old.failed ≡ false) × (0 < self.old.turns)) }
+        ensures taken { self.new ≡ record {
+          failed = is_err result;
+          shown = 0;
+          turns = self.old.turns - 1;
+          late = self.old.late || (withheld && self.old.shown == 0);
+        } }
+    {
+        if withheld && self.shown == 0 {
+            self.late = true;
+        }
+        self.shown = 0;
+        if self.turns == 0 {
+            self.failed = true;
+        } else {
+            self.turns -= 1;
+        }
+        if self.failed {
+            return Err(ReadFailed);
+        }
+        Ok(())
+    }
+}
+
+/// A reader or a writer, whether it has failed, how many bytes it shows that weren't taken, whether it was asked for
+/// more while answers were withheld, and whether bytes were written since it was last flushed. Once it has failed, no
+/// further call reaches the device, which stays as it was.
 ///
 /// A tap fails where a call of its device fails, where a write takes no byte, and where its steps of reading are used
 /// up, and nowhere else. It has 2 to the 64 less 1 steps, so that every loop over a device that never ends has an
-/// end. Only `fill`, `eat` and the calls that read lines change how many bytes it shows that weren't taken.
+/// end. Only `fill`, `eat` and the calls that read lines change how many bytes it shows that weren't taken, and only
+/// `fill` and the calls that read lines ask the device for bytes.
 #[derive(Drop)]
 pub struct Tap<T> {
     device: T,
     seen: Seen,
-    turns: u64,
     unflushed: bool,
 }
 
@@ -49,14 +81,16 @@ impl<T> Tap<T> {
         ensures turns { turns_left result ≡ 2 ^ 64 - 1 }
         ensures flushed { is_unflushed result ≡ false }
         ensures shown { shown_left result ≡ 0 }
+        ensures prompt { is_late result ≡ false }
     {
         Tap {
             device: inner,
             seen: Seen {
                 failed: false,
                 shown: 0,
+                turns: u64::MAX,
+                late: false,
             },
-            turns: u64::MAX,
             unflushed: false,
         }
     }
@@ -68,7 +102,6 @@ impl<T> Tap<T> {
         let Tap {
             device,
             seen: _,
-            turns: _,
             unflushed: _,
         } = self;
         device
@@ -86,7 +119,7 @@ impl<T> Tap<T> {
     pub fn turns(&self) -> u64
         ensures { result ≡ turns_left self.now }
     {
-        self.turns
+        self.seen.turns
     }
 
     /// Whether the device may hold bytes back: some were written since the tap was made or last flushed.
@@ -96,45 +129,35 @@ impl<T> Tap<T> {
         self.unflushed
     }
 
-    // Takes a step of reading. A tap that has none left fails.
-    pub(crate) fn step(&mut self) -> Result<(), ReadFailed>
-        ensures taken { OnOk result (turns_left self.old ≡ turns_left self.new + 1) }
-        ensures ready { OnOk result (has_failed self.old ≡ false) }
-        ensures failed { has_failed self.new ≡ is_err result }
-        ensures unmoved { device self.new ≡ device self.old }
-        ensures due { has_failed self.old ≡ false → 0 < turns_left self.old → IsOk result }
-        ensures shown { shown_left self.new ≡ shown_left self.old }
+    /// Whether the tap was ever asked for more bytes than it showed while answers were withheld.
+    pub fn late(&self) -> bool
+        ensures { result ≡ is_late self.now }
     {
-        if self.seen.failed {
-            return Err(ReadFailed);
-        }
-        if self.turns == 0 {
-            self.seen.failed = true;
-            return Err(ReadFailed);
-        }
-        self.turns -= 1;
-        Ok(())
+        self.seen.late
     }
 }
 
 impl<R: BufRead> Tap<R> {
-    /// The bytes that the device shows, at least one of them before its end. They stay until they are taken by `eat`.
+    /// The bytes that the device shows, at least one of them before its end. They stay until they are taken by `eat`. It
+    /// takes a step of reading. `withheld` says whether answers to what was read are held back, or may be: where the
+    /// tap shows no more bytes, so that the device may let it wait, it notes that it was asked `late`.
     ///
     /// # Errors
     ///
-    /// `ReadFailed` where the device's call fails, and from then on.
-    pub fn fill(&mut self) -> Result<&[u8], ReadFailed>
+    /// `ReadFailed` where no step is left or the device's call fails, and from then on.
+    pub fn fill(&mut self, withheld: bool) -> Result<&[u8], ReadFailed>
         ensures* after_borrow { sem 𝓛 (Rests (the_row R.row) self.entry (λ new.
             FillKeeps (known R.remaining self.old) (known R.remaining new) (known R.consumable_len new) result
             × (has_failed new ≡ is_err result)
-            × (turns_left new ≡ turns_left self.old)
+            × (turns_left new ≡ turns_left self.old - 1)
             × (shown_left new ≡ lent result)
+            × (is_late new ≡ is_late_after self.old withheld)
             × (has_failed self.old ≡ true → device new ≡ device self.old))) }
         ensures front { IfSome (known R.remaining self.old) (λ xs. IfOk result (λ s. StartsWith xs s.now)) }
         ensures end { IfSome (known R.remaining self.old) (λ xs. IfOk result (λ s. length s.now ≡ 0 → xs ≡ [])) }
-        ensures spent { has_failed self.old ≡ true → IsErr result }
+        ensures ready { OnOk result ((has_failed self.old ≡ false) × (0 < turns_left self.old)) }
     {
-        fill_from(&mut self.device, &mut self.seen)
+        fill_from(&mut self.device, &mut self.seen, withheld)
     }
 
     /// Takes the first `amount` bytes of those that `fill` lent. A failed tap takes none.
@@ -145,6 +168,7 @@ impl<R: BufRead> Tap<R> {
         ensures turns { turns_left self.new ≡ turns_left self.old }
         ensures unmoved { has_failed self.old ≡ true → device self.new ≡ device self.old }
         ensures shown { shown_left self.new ≡ shown_left self.old - amount }
+        ensures late { is_late self.new ≡ is_late self.old }
     {
         if !self.seen.failed {
             self.device.consume(amount);
@@ -161,23 +185,26 @@ impl<R: BufRead> Tap<R> {
     }
 }
 
-// What the device shows, where no call of it has failed.
+// What the device shows, where no call of it has failed and a step of reading is left.
 fn fill_from<'a, 'b, R: BufRead>(
     device: &'a mut R,
     seen: &'b mut Seen,
+    withheld: bool,
 ) -> Result<&'a [u8], ReadFailed>
     ensures* after_borrow { sem 𝓛 (Rests R.row device.entry (λ new.
         FillKeeps (R.remaining device.old) (R.remaining new) (R.consumable_len new) result
         × (seen.old.failed ≡ true → new ≡ device.old))) }
     ensures front { IfSome (R.remaining device.old) (λ xs. IfOk result (λ s. StartsWith xs s.now)) }
     ensures end { IfSome (R.remaining device.old) (λ xs. IfOk result (λ s. length s.now ≡ 0 → xs ≡ [])) }
-    ensures spent { seen.old.failed ≡ true → IsErr result }
-    ensures seen { (seen.new.failed ≡ is_err result) × (seen.new.shown ≡ lent result) }
+    ensures ready { OnOk result ((seen.old.failed ≡ false) × (0 < seen.old.turns)) }
+    ensures seen { seen.new ≡ record {
+      failed = is_err result;
+      shown = lent result;
+      turns = seen.old.turns - 1;
+      late = seen.old.late || (withheld && seen.old.shown == 0);
+    } }
 {
-    seen.shown = 0;
-    if seen.failed {
-        return Err(ReadFailed);
-    }
+    seen.step(withheld)?;
     match device.fill_buf() {
         Ok(bytes) => {
             seen.shown = bytes.len();
@@ -205,6 +232,7 @@ impl<W: Write> Tap<W> {
         ensures unmoved { bytes.now ≡ [] → self.new ≡ self.old }
         ensures keeps { OnOk result (Keeps self.old self.new bytes.now) }
         ensures shown { shown_left self.new ≡ shown_left self.old }
+        ensures late { is_late self.new ≡ is_late self.old }
     {
         if self.seen.failed {
             return Err(WriteFailed);
@@ -236,6 +264,7 @@ impl<W: Write> Tap<W> {
         ensures turns { turns_left self.new ≡ turns_left self.old }
         ensures keeps { OnOk result (Keeps self.old self.new (flat_map (λ text. text.now) texts.now)) }
         ensures shown { shown_left self.new ≡ shown_left self.old }
+        ensures late { is_late self.new ≡ is_late self.old }
     {
         if self.seen.failed {
             return Err(WriteFailed);
@@ -257,6 +286,7 @@ impl<W: Write> Tap<W> {
         ensures turns { turns_left self.new ≡ turns_left self.old }
         ensures flushed { OnOk result (is_unflushed self.new ≡ false) }
         ensures shown { shown_left self.new ≡ shown_left self.old }
+        ensures late { is_late self.new ≡ is_late self.old }
     {
         if self.seen.failed {
             return Err(WriteFailed);

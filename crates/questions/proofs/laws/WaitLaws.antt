@@ -56,13 +56,13 @@ reaches_more t p mid next r s = (suc r.0, goes_more r.0 t.chains (end_verdict t 
 
 -- ---- lists
 
-any_kept : {X : Type 0} (P : X → Type 0) (xs ys zs : List X) → zs ≡ xs ++ ys → Any P xs → Any P zs
+pub any_kept : {X : Type 0} (P : X → Type 0) (xs ys zs : List X) → zs ≡ xs ++ ys → Any P xs → Any P zs
 any_kept {X} P xs ys zs e a =
     let c : Contains (xs ++ ys) a.1 = Contains-append_left xs ys a.1 (a.0, a.2, a.3) in
     let Q : List X → Type 0 = λ l. Any P l in
     subst Q (sym e) (c.0, a.1, c.1, c.2, a.4)
 
-any_last : {X : Type 0} (P : X → Type 0) (xs : List X) (x : X) (zs : List X) → zs ≡ xs ++ x ∷ [] → P x → Any P zs
+pub any_last : {X : Type 0} (P : X → Type 0) (xs : List X) (x : X) (zs : List X) → zs ≡ xs ++ x ∷ [] → P x → Any P zs
 any_last {X} P xs x zs e h =
     let c : Contains (xs ++ x ∷ []) x = Contains-push xs x in
     let Q : List X → Type 0 = λ l. Any P l in
@@ -127,6 +127,14 @@ module _ (t : Table) (known : Known) (policy : Verdict) (old new : Front) where
 pub rests_push : (cs : List Chain) (waiting : List Pending) (at : Pending) → rests_of cs (waiting ++ at ∷ []) ≡ rest_of cs at ∷ rests_of cs waiting
 rests_push cs waiting at = ap (map (rest_of cs)) (reverse-append waiting (at ∷ []))
 
+-- ---- a name that no chain has
+
+pub no_rules : (cs : List Chain) (name : List ℕ) → list_any (is_named name) cs ≡ false → rules_of cs name ≡ []
+no_rules [] name none = refl
+no_rules (c ∷ cs) name none =
+    let (here, later) = or_parts (is_named name c) (list_any (is_named name) cs) none in
+    cond-false (is_named name c) c.rules (rules_of cs name) here ∙ no_rules cs name later
+
 -- ---- stages
 
 module _ (t : Table) (known : Known) (policy : Verdict) (scope : Scope) (old new : Front) where
@@ -170,12 +178,6 @@ module _ (t : Table) (known : Known) (policy : Verdict) (scope : Scope) (old new
       let named : name_at t.chains i ≡ name = placed.named (empty_chain []) ∙ same in
       let rest : List ℕ → Rest = λ n. record { chain = n; passed = 0 } in
       moves_same (Under (rest (name_at t.chains i) ∷ rs) es) (Under (whole name ∷ rs) es) (ap (λ n. Under (rest n ∷ rs) es) named) (h placed.within)
-
-  no_rules : (cs : List Chain) (name : List ℕ) → list_any (is_named name) cs ≡ false → rules_of cs name ≡ []
-  no_rules [] name none = refl
-  no_rules (c ∷ cs) name none =
-      let (here, later) = or_parts (is_named name c) (list_any (is_named name) cs) none in
-      cond-false (is_named name c) c.rules (rules_of cs name) here ∙ no_rules cs name later
 
   -- and one that isn't
   pub not_entered : (name bytes : List ℕ) (rs : List Rest) (es : List Entry) → None ≡ position (is_named bytes) t.chains → bytes ≡ name

@@ -22,8 +22,9 @@ use crate::boxes::candidates::Candidates;
 use crate::foreign::answers::Answers;
 use crate::foreign::need::Needs;
 use crate::foreign::subject::Subject;
-use crate::seeking::seek::{Shown, seek};
+use crate::seeking::seek::seek;
 use crate::walking::engine::{LIMIT, begin, policy_at};
+use crate::walking::lengths::are_short;
 use crate::walking::scope::Scope;
 use crate::walking::task::Leaf;
 use fields::{Hook, Words};
@@ -139,7 +140,8 @@ fn searched_at(
     Ok(at_end(clear, front.leaves.as_slice(), step))
 }
 
-// What is said of a rule, for the packets at one hook, without a long search: what a short one says; else it is live by a packet that is sought.
+// What is said of a rule, for the packets at one hook, without a long search: what a short one says; else what packets tell that are sought, where no
+// walk is too long.
 fn soon_at(
     alloc: Global,
     subject: &Subject<'_>,
@@ -157,9 +159,14 @@ fn soon_at(
         Life::Unclear => {}
     }
     match seek(alloc, subject, hook, step, budget)? {
-        Some(Shown { words, answers }) => Ok(Life::Live(words, answers)),
-        None => Ok(Life::Unclear),
+        Life::Live(words, answers) => return Ok(Life::Live(words, answers)),
+        Life::Unclear => return Ok(Life::Unclear),
+        Life::Dead => {}
     }
+    if are_short(subject, hook) {
+        return Ok(Life::Dead);
+    }
+    Ok(Life::Unclear)
 }
 
 // What is said of a rule, for the packets at one hook: what is said of it soon, where the budget has more steps than that takes; else what the search
@@ -192,8 +199,9 @@ pub(crate) fn life_at(
 /// At each hook the packets of the rule's box are searched for one that comes to the rule, with `budget` steps; for a rule in the chain of a hook
 /// that is done there alone. Rules that share no packet with a box on its way are passed at once; those that share none with the rule's box are set aside after some looks, with
 /// one at each rule; a box is dropped where a rule ahead in its chain takes all of it; and the first box that comes to the rule
-/// offers a packet. Looking at a rule ahead counts a fiftieth of a step. Where 64 of more steps don't tell, a packet is sought before the search begins
-/// again: on each of at most 64 ways to the rule up to 16 packets walk, one after another.
+/// offers a packet. Looking at a rule ahead counts a fiftieth of a step. Where 64 of more steps don't tell, packets are sought before the search begins
+/// again: at most 4,096 of them, or `budget`, walk one after another, each on a way to the rule. One that is led away parts the packets of its way,
+/// and where none is left the rule is dead.
 ///
 /// Where the rule is dead, no walk of a packet that it would match is too long, of those at hooks from which jumps and gotos lead to its chain. So no
 /// packet would come to the rule either if a walk could have more than 65,536 rules.

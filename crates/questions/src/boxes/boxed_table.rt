@@ -4,16 +4,19 @@ ghost use Rattle.rules.specs.boxing.Boxed.{IsBoxOf};
 ghost use Rattle.rules.specs.rule.Rules.{empty_rule};
 ghost use Rattle.table.specs.chains.Table.{chain_at};
 ghost use Rattle.questions.specs.boxes.Boxes.{AreBoxesOf, AreBoxesOfRules, rules_in};
+ghost use Rattle.questions.specs.boxes.Calls.{AreCalls};
 ghost use Rattle.questions.specs.boxes.Cut.{IsApart};
+ghost use Rattle.questions.specs.steps.Lengths.{AreLeastBounds};
 ghost use Rattle.questions.specs.steps.Outlines.{IsOutlined};
 
 use crate::boxes::area::Area;
 use crate::boxes::ends::Outline;
 use crate::boxes::rule_box::RuleBox;
-use crate::seeking::calls::Calls;
+use crate::seeking::calls::{Call, calls_in};
+use crate::walking::lengths::bounds_of;
 use rules::{Boxed, Work};
 use std::alloc::{AllocError, Global};
-use table::{Step, Table};
+use table::Table;
 
 /// A table with the boxes of its rules. These are made once, for any number of questions, and no question changes
 /// them.
@@ -23,9 +26,13 @@ pub struct BoxedTable {
     pub table: Table,
     // The boxes of the rules, chain by chain in the order of a listing.
     chains: Vec<Vec<RuleBox>>,
-    // The rules that lead to each chain.
-    calls: Calls,
+    // The rules that lead to other chains.
+    calls: Vec<Call>,
+    // For each chain a bound of how much its rules lengthen a walk.
+    bounds: Vec<usize>,
     ghost boxes: { AreBoxesOf table.table.chains (map (λ v. v.items) chains.items) },
+    ghost called: { AreCalls table.table calls.items },
+    ghost bounded: { AreLeastBounds table.table bounds.items },
 }
 
 // The boxes of the rules of the chain at a place.
@@ -63,11 +70,13 @@ impl BoxedTable {
         for place in 0..table.chain_count() {
             chains.push(boxes_of_chain(alloc, &table, place, work)?)?;
         }
-        let calls = Calls::of(alloc, &table)?;
+        let calls = calls_in(alloc, &table)?;
+        let bounds = bounds_of(alloc, &table)?;
         Ok(BoxedTable {
             table,
             chains,
             calls,
+            bounds,
         })
     }
 
@@ -81,9 +90,18 @@ impl BoxedTable {
         &self.chains[place][number - 1]
     }
 
-    // The rules that lead to the chain at a place by `-j` or `-g`; they are lent.
-    pub(crate) fn calls_to(&self, place: usize) -> &[Step] {
-        self.calls.to(place)
+    // The rules that name a chain by `-j` or `-g`; they are lent.
+    pub(crate) fn calls(&self) -> &[Call]
+        ensures { AreCalls self.now.table.table result.now }
+    {
+        self.calls.as_slice()
+    }
+
+    // The least bound for each chain of how much its rules lengthen a walk; they are lent.
+    pub(crate) fn bounds(&self) -> &[usize]
+        ensures { AreLeastBounds self.now.table.table result.now }
+    {
+        self.bounds.as_slice()
     }
 
     // The box alone; it is lent.

@@ -1,6 +1,8 @@
 //! The search for a packet that comes to a rule: packets of its box walk, one after another, and each that is led away says
-//! which packets to try next.
-ghost use Rattle.std.specs.Prelude.{Contains, IfOk, IfSome, IsTrue};
+//! which packets to try next. Where none is left, the rule is dead.
+ghost use Rattle.std.specs.Prelude.{◌≡◌, true, Contains, IfOk, IsTrue};
+ghost use Rattle.fields.specs.declared.packet.hook.Hook.{Hook as At};
+ghost use Rattle.table.specs.declared.walk.trail.Step.{Step as Place};
 ghost use Rattle.table.specs.walk.Walk.{walk};
 ghost use Rattle.questions.specs.Ends.{IsRule};
 ghost use Rattle.questions.specs.Foreign.{Agrees, Assignment};
@@ -8,34 +10,36 @@ ghost use Rattle.questions.specs.Leaves.{entry_of};
 ghost use Rattle.questions.specs.Scopes.{answered, table_of};
 ghost use Rattle.questions.specs.asked.Always.{SaysAt};
 ghost use Rattle.questions.specs.boxes.Area.{IsAtHook};
-ghost use Rattle.questions.specs.declared.asked.rule.Life.TheVariants.{Live};
+ghost use Rattle.questions.specs.declared.foreign.subject.Subject.{Subject as Asked};
+ghost use Rattle.questions.specs.steps.Seeking.{AreAllWays};
+ghost use Rattle.questions.specs.steps.Tries.{IsTried};
 
-use crate::asked::leading::is_of_other;
 use crate::asked::matching::scope_at;
-use crate::asked::rule::is_on;
+use crate::asked::rule::{Life, is_on};
 use crate::asked::shortest::is_always_on;
 use crate::foreign::answers::Answers;
 use crate::foreign::subject::Subject;
 use crate::sampling::sample::{Sample, sample_of};
 use crate::seeking::steering::{Ending, steer};
-use crate::seeking::straying::{add_back, add_unmatched};
-use crate::seeking::way::{Way, add_longer};
+use crate::seeking::straying::others;
+use crate::seeking::way::{Way, add_longer, add_parts};
 use crate::walking::engine::hook_index;
-use crate::walking::scope::Scope;
 use fields::{Hook, Packet, Words};
 use std::alloc::{AllocError, Global};
 use table::Step;
 
-// How many ways to a rule are tried, and how many packets on each.
-const WAYS: usize = 64;
+// How many ways are tried, each by a packet.
+const TRIES: usize = 4096;
 
-const TRIES: usize = 16;
-
-// A packet that comes to the rule where the answers are right, by the words that write it.
+// What came of a way.
 #[derive(Drop)]
-pub(crate) struct Shown {
-    pub words: Words,
-    pub answers: Answers,
+pub(crate) enum Tried {
+    // A packet comes by it where these answers are right; these words write it.
+    Comes(Words, Answers),
+    // Others take its packets over.
+    Parted,
+    // That isn't known.
+    Unknown,
 }
 
 // Whether a rule is known to be on a packet's walk where the answers are right.
@@ -59,99 +63,95 @@ fn is_shown(
     is_always_on(alloc, subject, packet, answers, step, budget)
 }
 
-// Adds the packets of a scope that are not led away by the last of some rules, nor by the jumps by which it was reached.
-fn add_others(
-    alloc: Global,
-    subject: &Subject<'_>,
-    way: &Way,
-    scope: &Scope,
-    strays: &[Step],
-    scopes: &mut Vec<Scope>,
-) -> Result<(), AllocError> {
-    let Some(last) = strays.last() else {
-        return Ok(());
-    };
-    if !way.has_chain(last.chain) {
-        add_back(alloc, subject, scope, *last, scopes)?;
-    }
-    for by in strays {
-        add_unmatched(alloc, subject, scope, *by, scopes)?;
-    }
-    Ok(())
-}
-
-// A packet on one way.
-fn on_way(
+// What comes of a way.
+fn try_way(
     alloc: Global,
     subject: &Subject<'_>,
     hook: Hook,
     way: &Way,
-    step: Step,
+    ways: &mut Vec<Way>,
     budget: usize,
-) -> Result<Option<Shown>, AllocError>
-    requires { IsRule (table_of subject.now) step }
-    ensures { IfOk result (λ found. IfSome found (λ shown. SaysAt subject.now step hook (Live shown.words shown.answers))) }
+) -> Result<Tried, AllocError>
+    requires { IsRule (table_of subject.now) way.now.wanted }
+    ensures { IfOk result (IsTried subject.now hook way.now ways.old.items ways.new.items) }
 {
-    let mut scopes = Vec::new(alloc);
+    let Some(sample) = sample_of(alloc, hook, &way.scope.area)? else {
+        let is_none = way.scope.area.is_empty();
+        return Ok(if is_none {
+            Tried::Parted
+        } else {
+            Tried::Unknown
+        });
+    };
+    let Sample { words, packet } = sample;
     let answers = way.scope.answers.copy(alloc)?;
-    let area = way.scope.area.copy(alloc)?;
-    scopes.push(Scope { area, answers })?;
-    for _ in 0..TRIES.min(budget) {
-        let Some(scope) = scopes.pop() else {
-            return Ok(None);
-        };
-        let Some(sample) = sample_of(alloc, hook, &scope.area)? else {
-            continue;
-        };
-        let Sample { words, packet } = sample;
-        let answers = scope.answers.copy(alloc)?;
-        match steer(alloc, subject, &packet, way, answers, budget)? {
-            Ending::Comes(answers) => {
-                if is_shown(alloc, subject, &packet, &answers, step, budget)? {
-                    answers.stand();
-                    return Ok(Some(Shown { words, answers }));
+    match steer(alloc, subject, &packet, way, answers, budget)? {
+        Ending::Comes(answers) => {
+            let chain = way.chain();
+            if chain != hook_index(hook) {
+                if chain >= subject.boxed.table.chain_count() {
+                    return Ok(Tried::Unknown);
                 }
+                add_longer(alloc, subject, hook, way, ways)?;
+                return Ok(Tried::Parted);
             }
-            Ending::Strays(strays) => {
-                add_others(alloc, subject, way, &scope, strays.as_slice(), &mut scopes)?;
+            if is_shown(alloc, subject, &packet, &answers, way.wanted, budget)? {
+                answers.stand();
+                return Ok(Tried::Comes(words, answers));
             }
+            Ok(Tried::Unknown)
+        }
+        Ending::Strays(path) => {
+            let Some(scopes) = others(alloc, subject, way, path.as_slice())? else {
+                return Ok(Tried::Unknown);
+            };
+            add_parts(alloc, way, scopes, ways)?;
+            Ok(Tried::Parted)
         }
     }
-    Ok(None)
 }
 
-// A packet at a hook that comes to a rule.
+// What is known where no way is left, or as many were tried as may be.
+fn at_end(clear: bool, ways: &[Way]) -> Life
+    ensures { (subject : Asked) (step : Place) (hook : At) → (clear ≡ true → AreAllWays subject step hook ways.now) → SaysAt subject step hook result }
+{
+    if clear && ways.is_empty() {
+        return Life::Dead;
+    }
+    Life::Unclear
+}
+
+// What packets that are sought at a hook tell of a rule: one comes to it, or none does.
 pub(crate) fn seek(
     alloc: Global,
     subject: &Subject<'_>,
     hook: Hook,
     step: Step,
     budget: usize,
-) -> Result<Option<Shown>, AllocError>
+) -> Result<Life, AllocError>
     requires { IsRule (table_of subject.now) step }
-    ensures { IfOk result (λ found. IfSome found (λ shown. SaysAt subject.now step hook (Live shown.words shown.answers))) }
+    ensures { IfOk result (SaysAt subject.now step hook) }
 {
+    subject.boxed.table.stands();
     let Some(scope) = scope_at(alloc, subject, hook, step)? else {
-        return Ok(None);
+        return Ok(Life::Dead);
     };
     let mut ways = Vec::new(alloc);
     ways.push(Way {
         wanted: step,
         scope,
-        chain: step.chain,
         places: Vec::new(alloc),
     })?;
-    for _ in 0..WAYS.min(budget) {
+    let mut clear = true;
+    for _ in 0..TRIES.min(budget) {
         let Some(way) = ways.pop() else {
-            return Ok(None);
+            return Ok(at_end(clear, ways.as_slice()));
         };
-        if way.chain == hook_index(hook) {
-            if let Some(shown) = on_way(alloc, subject, hook, &way, step, budget)? {
-                return Ok(Some(shown));
-            }
-        } else if !is_of_other(hook, way.chain) {
-            add_longer(alloc, subject, &way, &mut ways)?;
+        match try_way(alloc, subject, hook, &way, &mut ways, budget)? {
+            Tried::Comes(words, answers) => return Ok(Life::Live(words, answers)),
+            Tried::Parted => {}
+            Tried::Unknown => clear = false,
         }
     }
-    Ok(None)
+    Ok(at_end(clear, ways.as_slice()))
 }

@@ -1,49 +1,23 @@
 //! The walk of one packet on its way to a rule, where open conditions are answered so that no other rule leads it away.
-use crate::boxes::rule_box::RuleBox;
 use crate::foreign::answers::Answers;
 use crate::foreign::need::{Need, Standing, known_of};
 use crate::foreign::subject::Subject;
 use crate::seeking::calls::place_named;
+use crate::seeking::seen::Seen;
 use crate::seeking::way::Way;
 use crate::walking::engine::LIMIT;
 use crate::walking::task::Pending;
 use fields::Packet;
-use rules::{Rule, Target, cross};
+use rules::{Target, cross};
 use std::alloc::{AllocError, Global};
 use table::Step;
-
-// A rule, its box, and what it needs.
-#[derive(Clone, Copy)]
-pub(crate) struct Seen<'a> {
-    pub rule: &'a Rule,
-    pub own: &'a RuleBox,
-    pub needs: &'a [Need],
-}
-
-impl<'a> Seen<'a> {
-    // The rule of a step, if it is there.
-    pub(crate) fn at(subject: Subject<'a>, by: Step) -> Option<Seen<'a>> {
-        let table = &subject.boxed.table;
-        if by.chain >= table.chain_count() {
-            return None;
-        }
-        if by.number == 0 || by.number > table.rule_count(by.chain) {
-            return None;
-        }
-        Some(Seen {
-            rule: table.rule(by.chain, by.number),
-            own: subject.boxed.own_at(by.chain, by.number),
-            needs: subject.needs.at(by.chain, by.number - 1),
-        })
-    }
-}
 
 // How such a walk ends.
 #[derive(Drop)]
 pub(crate) enum Ending {
     // It comes to the rule, where these answers are right.
     Comes(Answers),
-    // It doesn't: the rules that led it away, the last one last.
+    // It doesn't: it left the way by the first of these rules, and each but the last enters the chain of the next one.
     Strays(Vec<Step>),
 }
 
@@ -54,11 +28,20 @@ enum Turn {
     Strays,
 }
 
-// A walk under way: what is left of its chains, the jumps by which it came into them, and the answers.
+// What is left of a chain, and how many of the rules that led off the way lead there.
+#[derive(Clone, Copy)]
+struct Rest {
+    at: Pending,
+    led: usize,
+}
+
+// A walk under way: what is left of its chains, the rules that led off the way into the present one, how many places of the way it took, and the
+// answers.
 #[derive(Drop)]
 struct Walker {
-    rests: Vec<Pending>,
-    jumps: Vec<Step>,
+    rests: Vec<Rest>,
+    path: Vec<Step>,
+    taken: usize,
     answers: Answers,
 }
 
@@ -95,12 +78,26 @@ impl Walker {
         }
     }
 
-    // Goes into a chain.
-    fn enter(&mut self, place: Option<usize>) -> Result<(), AllocError> {
-        if let Some(chain) = place {
-            self.rests.push(Pending { chain, passed: 0 })?;
-        }
+    // What is left of a chain waits.
+    fn wait(&mut self, chain: usize, passed: usize) -> Result<(), AllocError> {
+        let at = Pending { chain, passed };
+        let led = self.path.len();
+        self.rests.push(Rest { at, led })?;
         Ok(())
+    }
+
+    // A rule enters a chain: on the way, if it is the way's next place.
+    fn enter(&mut self, way: &Way, by: Step, place: Option<usize>) -> Result<Turn, AllocError> {
+        let Some(chain) = place else {
+            return Ok(Turn::On);
+        };
+        if self.path.is_empty() && by == way.place_after(self.taken) {
+            self.taken = self.taken.saturating_add(1);
+        } else {
+            self.path.push(by)?;
+        }
+        self.wait(chain, 0)?;
+        Ok(Turn::On)
     }
 
     // What a rule makes of the walk, which matches but for its needs and isn't the one that is sought.
@@ -111,32 +108,22 @@ impl Walker {
         seen: &Seen<'_>,
         by: Step,
     ) -> Result<Turn, AllocError> {
-        let behind = Pending {
-            chain: by.chain,
-            passed: by.number,
-        };
         let target = seen.rule.target();
         if matches!(target, Some(Target::Log) | None) || !self.meets(seen.needs)? {
-            self.rests.push(behind)?;
+            self.wait(by.chain, by.number)?;
             return Ok(Turn::On);
         }
-        let leaves = way.has_chain(by.chain) && !way.has_place(by);
+        let is_on_way = self.path.is_empty();
         let place = place_named(&subject.boxed.table, seen.rule.target());
         match target {
             Some(Target::Jump(_)) => {
-                self.rests.push(behind)?;
-                self.jumps.push(by)?;
-                self.enter(place)?;
-                Ok(Turn::On)
+                self.wait(by.chain, by.number)?;
+                self.enter(way, by, place)
             }
-            Some(Target::Goto(_)) if !leaves => {
-                self.enter(place)?;
-                Ok(Turn::On)
+            Some(Target::Goto(_)) if !is_on_way || by == way.place_after(self.taken) => {
+                self.enter(way, by, place)
             }
-            Some(Target::Return) if !leaves => {
-                let _back = self.jumps.pop();
-                Ok(Turn::On)
-            }
+            Some(Target::Return) if !is_on_way => Ok(Turn::On),
             _ => Ok(Turn::Strays),
         }
     }
@@ -148,11 +135,11 @@ impl Walker {
         packet: &Packet,
         way: &Way,
     ) -> Result<(Turn, Option<Step>), AllocError> {
-        let Some(at) = self.rests.pop() else {
+        let Some(Rest { at, led }) = self.rests.pop() else {
             return Ok((Turn::Strays, None));
         };
+        self.path.truncate(led);
         let Some(passed) = next_place(subject, packet, at) else {
-            let _back = self.jumps.pop();
             return Ok((Turn::On, None));
         };
         let by = Step {
@@ -163,10 +150,7 @@ impl Walker {
             return Ok((Turn::On, None));
         };
         if !cross(seen.rule, packet) {
-            self.rests.push(Pending {
-                chain: at.chain,
-                passed: by.number,
-            })?;
+            self.wait(by.chain, by.number)?;
             return Ok((Turn::On, None));
         }
         if by == way.wanted {
@@ -188,25 +172,22 @@ pub(crate) fn steer(
 ) -> Result<Ending, AllocError> {
     let mut walker = Walker {
         rests: Vec::new(alloc),
-        jumps: Vec::new(alloc),
+        path: Vec::new(alloc),
+        taken: 0,
         answers,
     };
-    walker.enter(Some(way.chain))?;
+    walker.wait(way.chain(), 0)?;
     for _ in 0..LIMIT.min(budget) {
         let (turn, by) = walker.step(subject, packet, way)?;
         match turn {
             Turn::On => {}
             Turn::Comes => return Ok(Ending::Comes(walker.answers)),
             Turn::Strays => {
-                let Walker {
-                    rests: _,
-                    mut jumps,
-                    answers: _,
-                } = walker;
+                let mut path = walker.path;
                 if let Some(last) = by {
-                    jumps.push(last)?;
+                    path.push(last)?;
                 }
-                return Ok(Ending::Strays(jumps));
+                return Ok(Ending::Strays(path));
             }
         }
     }

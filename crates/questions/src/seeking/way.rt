@@ -1,38 +1,79 @@
 //! Ways to a rule: the jumps and gotos by which packets come to its chain.
+ghost use Rattle.std.specs.Prelude.{◌≡◌, ◌≢◌, ◌<◌, true, length, IfOk, IfSome, IsTrue, MatchOption, OnOk};
+ghost use Rattle.fields.specs.packet.Packet.{PacketView};
+ghost use Rattle.rules.specs.rule.Allows.{matches};
+ghost use Rattle.table.specs.steps.Kept.{hook_index};
+ghost use Rattle.questions.specs.Foreign.{Assignment, all_hold};
+ghost use Rattle.questions.specs.Scopes.{table_of};
+ghost use Rattle.questions.specs.boxes.Area.{IsAtHook};
+ghost use Rattle.questions.specs.steps.Seeking.{IsAheadOn, IsHere, TakesBy, TakesOver, TakesScopes, top_of};
+
 use crate::foreign::need::meeting;
 use crate::foreign::subject::Subject;
-use crate::seeking::steering::Seen;
+use crate::seeking::calls::Call;
+use crate::seeking::seen::Seen;
 use crate::walking::scope::Scope;
+use fields::Hook;
 use std::alloc::{AllocError, Global};
 use table::Step;
 
-// A way to a rule, from a chain on: the rule, the packets that it and all places on the way may match, that chain, and the places, which jump or go
-// on, the last one first.
+// A way to a rule: the rule, the packets that it and all places on the way may match, and the places, which jump or go on, the last one
+// first.
 #[derive(Drop)]
 pub(crate) struct Way {
     pub wanted: Step,
     pub scope: Scope,
-    pub chain: usize,
     pub places: Vec<Step>,
 }
 
 impl Way {
-    // Whether the way goes through a chain.
-    pub(crate) fn has_chain(&self, chain: usize) -> bool {
-        if self.wanted.chain == chain {
-            return true;
+    // The chain in which it begins.
+    pub(crate) fn chain(&self) -> usize
+        ensures { result ≡ (top_of self.now.wanted self.now.places.items).chain }
+    {
+        match self.places.last() {
+            Some(place) => place.chain,
+            None => self.wanted.chain,
         }
-        for place in self.places.as_slice() {
-            if place.chain == chain {
-                return true;
-            }
-        }
-        false
     }
 
-    // Whether a rule is one of its jumps and gotos.
-    pub(crate) fn has_place(&self, by: Step) -> bool {
-        self.places.contains(&by)
+    // The place after so many, or the rule.
+    pub(crate) fn place_after(&self, taken: usize) -> Step {
+        let count = self.places.len();
+        if taken < count {
+            return self.places[count - 1 - taken];
+        }
+        self.wanted
+    }
+
+    // Its own rule or one of its places that a rule stands ahead of.
+    pub(crate) fn place_behind(&self, by: Step) -> Option<Step>
+        ensures { IfSome result (IsAheadOn self.now by) }
+    {
+        for place in self.places.as_slice() {
+            if place.chain == by.chain && by.number < place.number {
+                return Some(*place);
+            }
+        }
+        if self.wanted.chain == by.chain && by.number < self.wanted.number {
+            return Some(self.wanted);
+        }
+        None
+    }
+
+    // The same way for the packets of another scope.
+    pub(crate) fn with(&self, alloc: Global, scope: Scope) -> Result<Way, AllocError>
+        ensures wanted { IfOk result (λ way. way.wanted ≡ self.now.wanted) }
+        ensures scope { IfOk result (λ way. way.scope ≡ scope) }
+        ensures places { IfOk result (λ way. way.places.items ≡ self.now.places.items) }
+    {
+        let mut places = Vec::new(alloc);
+        places.extend_from_slice(self.places.as_slice())?;
+        Ok(Way {
+            wanted: self.wanted,
+            scope,
+            places,
+        })
     }
 }
 
@@ -41,7 +82,10 @@ pub(crate) fn met_with(
     alloc: Global,
     seen: &Seen<'_>,
     scope: &Scope,
-) -> Result<Option<Scope>, AllocError> {
+) -> Result<Option<Scope>, AllocError>
+    ensures { IfOk result (λ found. (a : Assignment) (p : PacketView) → IsAtHook p → IsHere a p scope.now
+        → matches p.values seen.now.rule.now ≡ true → IsTrue (all_hold a seen.now.needs.now) → MatchOption found ⊥ (IsHere a p)) }
+{
     let Some(answers) = meeting(seen.needs, scope.answers.copy(alloc)?)? else {
         return Ok(None);
     };
@@ -52,43 +96,64 @@ pub(crate) fn met_with(
     Ok(Some(Scope { area, answers }))
 }
 
-// The way by one more jump or goto, if some packet may take it.
-fn longer(
+// Adds the way by one more jump or goto, if some packet may take it.
+fn add_by(
     alloc: Global,
     subject: &Subject<'_>,
     way: &Way,
     by: Step,
-) -> Result<Option<Way>, AllocError> {
+    ways: &mut Vec<Way>,
+) -> Result<(), AllocError>
+    ensures { OnOk result (TakesBy subject.now way.now by ways.old.items ways.new.items) }
+{
+    subject.boxed.table.stands();
     let Some(seen) = Seen::at(*subject, by) else {
-        return Ok(None);
+        return Ok(());
     };
     let Some(scope) = met_with(alloc, &seen, &way.scope)? else {
-        return Ok(None);
+        return Ok(());
     };
-    let mut places = Vec::new(alloc);
-    places.extend_from_slice(way.places.as_slice())?;
-    places.push(by)?;
-    Ok(Some(Way {
-        wanted: way.wanted,
-        scope,
-        chain: by.chain,
-        places,
-    }))
+    let mut more = way.with(alloc, scope)?;
+    more.places.push(by)?;
+    ways.push(more)?;
+    Ok(())
 }
 
-// Adds the ways by each rule that leads to a way's chain; the first of these is the last.
+// Takes the ways by each rule that leads to the chain in which a way begins; the first of these is the last.
 pub(crate) fn add_longer(
     alloc: Global,
     subject: &Subject<'_>,
+    hook: Hook,
     way: &Way,
     ways: &mut Vec<Way>,
-) -> Result<(), AllocError> {
-    let calls = subject.boxed.calls_to(way.chain);
+) -> Result<(), AllocError>
+    requires there { (top_of way.now.wanted way.now.places.items).chain < length (table_of subject.now).chains }
+    requires other { (top_of way.now.wanted way.now.places.items).chain ≢ hook_index hook }
+    ensures { OnOk result (TakesOver subject.now hook way.now ways.old.items ways.new.items) }
+{
+    subject.boxed.table.stands();
+    let chain = way.chain();
+    let calls = subject.boxed.calls();
     for before in 0..calls.len() {
-        let by = calls[calls.len() - 1 - before];
-        if let Some(more) = longer(alloc, subject, way, by)? {
-            ways.push(more)?;
+        let Call { to, by } = calls[calls.len() - 1 - before];
+        if to == chain {
+            add_by(alloc, subject, way, by, ways)?;
         }
+    }
+    Ok(())
+}
+
+// Takes a way for the packets of each of some scopes.
+pub(crate) fn add_parts(
+    alloc: Global,
+    way: &Way,
+    mut scopes: Vec<Scope>,
+    ways: &mut Vec<Way>,
+) -> Result<(), AllocError>
+    ensures { OnOk result (TakesScopes way.now scopes.items ways.old.items ways.new.items) }
+{
+    while let Some(scope) = scopes.pop() {
+        ways.push(way.with(alloc, scope)?)?;
     }
     Ok(())
 }

@@ -7,7 +7,7 @@ use std::test::Fail;
 
 // Whether the tap shows just these bytes.
 fn shows(tap: &mut Tap<&[u8]>, bytes: &[u8]) -> bool {
-    tap.fill() == Ok(bytes)
+    tap.fill(false) == Ok(bytes)
 }
 
 #[test]
@@ -32,6 +32,16 @@ fn has_more_until_all_is_eaten(rt: HostRuntime) {
     assert!(rt; shows(&mut tap, b"") && !tap.has_more());
 }
 
+// A tap is late once it was asked for more than it shows while answers are withheld.
+#[test]
+fn is_late_where_answers_are_withheld(rt: HostRuntime) {
+    let mut tap = Tap::new(b"abc".as_slice());
+    assert!(rt; tap.fill(false).is_ok() && tap.fill(true).is_ok() && !tap.late());
+    tap.eat(3);
+    assert!(rt; tap.fill(true).is_ok() && tap.late());
+    assert!(rt; tap.fill(false).is_ok() && tap.late());
+}
+
 // The next line, for which there has to be room.
 fn next_line<R: BufRead>(
     rt: &impl Abort,
@@ -45,7 +55,7 @@ fn next_line<R: BufRead>(
 
 // Whether no line is read, nor any byte shown.
 fn stays_failed_after(rt: &impl Abort, tap: &mut Tap<FusedReader<'_>>, line: &mut Vec<u8>) -> bool {
-    tap.failed() && tap.fill().is_err() && next_line(rt, tap, 10, line).is_err()
+    tap.failed() && tap.fill(false).is_err() && next_line(rt, tap, 10, line).is_err()
 }
 
 #[test]
@@ -87,7 +97,7 @@ fn next_part(
 ) -> Result<Option<LineRead>, ReadFailed> {
     assert!(rt; 10 <= line.capacity() && line.len() <= 10);
     let mut too_long = false;
-    tap.read_part(10, line, &mut too_long)
+    tap.read_part(10, line, &mut too_long, false)
 }
 
 // A line that its reader shows in parts, and the beginning of the next.

@@ -1,5 +1,5 @@
 -- What contracts say of a console: the tap that a run reads from, and the tap that it writes to.
-use Rattle.std.specs.Prelude.{◌≡◌, Bool}
+use Rattle.std.specs.Prelude.{◌≡◌}
 use Rattle.fields.specs.declared.text.tap.Tap.{Tap}
 use Rattle.sessions.specs.declared.run.console.Console.{Console}
 
@@ -10,10 +10,6 @@ reader c = c.input.now
 -- the tap that it writes to, as it stands
 abbrev pub writer : {R W : Type 0} → Console R W → Tap W
 writer c = c.output.now
-
--- the reader was asked for more bytes than it had shown while the writer held back bytes
-abbrev pub has_held_back : {R W : Type 0} → Console R W → Bool
-has_held_back c = c.held_back
 
 -- the taps are the ones that were lent
 pub record HasSameTaps {R W : Type 0} (old new : Console R W) : Type 0 where

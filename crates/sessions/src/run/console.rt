@@ -1,20 +1,19 @@
-//! Consoles: a reader and the writer that answers it. The reader is asked for more in one way, which notes whether
-//! the writer held bytes back then.
-ghost use Rattle.std.specs.Prelude.{◌≡◌, ◌⊎◌, ◌+◌, ◌<◌, ◌≤◌, ◌↔◌, ℕ, Option, List, OnOk, IsTrue, true, false, is_err, vec_len, vec_capacity};
-ghost use Rattle.fields.specs.text.Tap.{has_failed, is_unflushed, known, shown_left, turns_left};
+//! Consoles: a reader and the writer that answers it. The reader is asked for more in one way, by which its tap notes
+//! whether the writer held bytes back then.
+ghost use Rattle.std.specs.Prelude.{◌≡◌, ◌+◌, ◌<◌, ◌≤◌, ◌↔◌, ℕ, Option, List, OnOk, IsTrue, is_err, vec_len, vec_capacity};
+ghost use Rattle.fields.specs.text.Tap.{has_failed, is_late, is_late_after, is_unflushed, known, shown_left, turns_left};
 ghost use Rattle.fields.specs.text.Line.{ReadsOn, ReadsPart};
-ghost use Rattle.sessions.specs.run.Console.{HasSameTaps, has_held_back, reader, writer};
+ghost use Rattle.sessions.specs.run.Console.{HasSameTaps, reader, writer};
 
 use fields::{LineRead, ReadFailed, Tap};
 use std::io::BufRead;
 
 /// The taps of a reader and of the writer that answers it, lent for a run. Through a console the reader is asked for
-/// more in one way, which notes where the writer held bytes back then.
+/// more in one way, by which it notes that it was asked `late` where the writer held bytes back then.
 #[derive(Drop)]
 pub struct Console<'a, R, W> {
     input: &'a mut Tap<R>,
     pub(crate) output: &'a mut Tap<W>,
-    held_back: bool,
 }
 
 impl<'a, R, W> Console<'a, R, W> {
@@ -24,21 +23,8 @@ impl<'a, R, W> Console<'a, R, W> {
         ensures output { result.output.ghost_name ≡ output.entry.ghost_name }
         ensures reader { reader result ≡ input.old }
         ensures writer { writer result ≡ output.old }
-        ensures fresh { has_held_back result ≡ false }
     {
-        Console {
-            input,
-            output,
-            held_back: false,
-        }
-    }
-
-    /// Whether the reader was ever asked for more bytes than it showed while the writer held back bytes that it had been
-    /// given.
-    pub fn has_held_back(&self) -> bool
-        ensures { result ≡ has_held_back self.now }
-    {
-        self.held_back
+        Console { input, output }
     }
 
     // How many steps of reading are left.
@@ -57,22 +43,7 @@ impl<R: BufRead, W> Console<'_, R, W> {
         self.input.has_more()
     }
 
-    // Notes whether the writer holds bytes back where the reader is to be asked for more than it shows.
-    fn note(&mut self)
-        ensures same { HasSameTaps self.old self.new }
-        ensures reader { reader self.new ≡ reader self.old }
-        ensures writer { writer self.new ≡ writer self.old }
-        ensures prompt { (0 < shown_left (reader self.old)) ⊎ (is_unflushed (writer self.old) ≡ false)
-            → has_held_back self.new ≡ has_held_back self.old }
-        ensures late { shown_left (reader self.old) ≡ 0 → is_unflushed (writer self.old) ≡ true → has_held_back self.new ≡ true }
-        ensures kept { has_held_back self.old ≡ true → has_held_back self.new ≡ true }
-    {
-        if !self.input.has_more() && self.output.unflushed() {
-            self.held_back = true;
-        }
-    }
-
-    // Reads on in a line, as `Tap::read_part` does.
+    // Reads on in a line, as `Tap::read_part` does. What the writer holds back is withheld.
     pub(crate) fn read_part(
         &mut self,
         max: usize,
@@ -83,10 +54,7 @@ impl<R: BufRead, W> Console<'_, R, W> {
         requires within { vec_len line.old ≤ max }
         ensures same { HasSameTaps self.old self.new }
         ensures writer { writer self.new ≡ writer self.old }
-        ensures prompt { (0 < shown_left (reader self.old)) ⊎ (is_unflushed (writer self.old) ≡ false)
-            → has_held_back self.new ≡ has_held_back self.old }
-        ensures late { shown_left (reader self.old) ≡ 0 → is_unflushed (writer self.old) ≡ true → has_held_back self.new ≡ true }
-        ensures kept { has_held_back self.old ≡ true → has_held_back self.new ≡ true }
+        ensures late { is_late (reader self.new) ≡ is_late_after (reader self.old) (is_unflushed (writer self.old)) }
         ensures reads { (first : Option (List ℕ)) (turns : ℕ)
             → ReadsPart first (known R.remaining (reader self.old)) turns (turns_left (reader self.old)) max line.old.items too_long.old
             → ReadsOn first (known R.remaining (reader self.new)) turns (turns_left (reader self.new)) max line.new.items too_long.new result }
@@ -95,7 +63,7 @@ impl<R: BufRead, W> Console<'_, R, W> {
         ensures within { vec_len line.new ≤ max }
         ensures capacity { vec_capacity line.old ≤ vec_capacity line.new }
     {
-        self.note();
-        self.input.read_part(max, line, too_long)
+        let withheld = self.output.unflushed();
+        self.input.read_part(max, line, too_long, withheld)
     }
 }

@@ -1,7 +1,7 @@
 //! Sessions and their runs: one loop over the lines, and what is printed at the end.
 ghost use Rattle.std.specs.Prelude.{◌≡◌, ◌⊎◌, ◌+◌, ◌^◌, ◌<◌, ◌≤◌, ◌↔◌, ℕ, Option, List, [], false, true, IfOk, OnOk, MatchResult, is_err, length, vec_len, vec_capacity};
 ghost use Rattle.std.specs.Io.KnownBytes.{Appends};
-ghost use Rattle.fields.specs.text.Tap.{has_failed, is_unflushed, known, shown_left, turns_left, Puts};
+ghost use Rattle.fields.specs.text.Tap.{has_failed, is_late, is_unflushed, known, shown_left, turns_left, Puts};
 ghost use Rattle.fields.specs.text.Line.{IsHeld, EndsAt, ReadsLine};
 ghost use Rattle.table.specs.chains.Table.{Table as TableOf};
 ghost use Rattle.table.specs.edits.Headline.{ChainsHaveOneListOfClassifiers};
@@ -9,7 +9,7 @@ ghost use Rattle.table.specs.edits.Boxes.{MakesBoxes};
 ghost use Rattle.sessions.specs.line.Boxes.{may_box};
 ghost use Rattle.sessions.specs.line.Outcome.{Reply, has_ended, reply_text, status_after};
 ghost use Rattle.sessions.specs.line.Executed.{HasChain, IsReply};
-ghost use Rattle.sessions.specs.run.Console.{HasSameTaps, has_held_back, reader, writer};
+ghost use Rattle.sessions.specs.run.Console.{HasSameTaps, reader, writer};
 
 use crate::line::fault::Fault;
 use crate::line::mode::Mode;
@@ -56,7 +56,6 @@ fn hand_on_in_time<R: BufRead, W: Write>(console: &mut Console<'_, R, W>) -> Res
     requires { has_failed (writer console.old) ≡ false }
     ensures same { HasSameTaps console.old console.new }
     ensures reader { reader console.new ≡ reader console.old }
-    ensures prompt { has_held_back console.new ≡ has_held_back console.old }
     ensures still { 0 < shown_left (reader console.old) → writer console.new ≡ writer console.old }
     ensures handed { OnOk result ((0 < shown_left (reader console.new)) ⊎ (is_unflushed (writer console.new) ≡ false)) }
     ensures given { Appends (known W.contents (writer console.old)) (known W.contents (writer console.new)) [] }
@@ -82,7 +81,7 @@ fn next_line<R: BufRead, W: Write>(
     requires output { has_failed (writer console.old) ≡ false }
     requires room { 10240 ≤ vec_capacity line.old }
     ensures same { HasSameTaps console.old console.new }
-    ensures prompt { has_held_back console.new ≡ has_held_back console.old }
+    ensures prompt { is_late (reader console.new) ≡ is_late (reader console.old) }
     ensures reads { ReadsLine (known R.remaining (reader console.old)) (known R.remaining (reader console.new))
         (turns_left (reader console.old)) (turns_left (reader console.new)) 10240 line.new.items result }
     ensures given { Appends (known W.contents (writer console.old)) (known W.contents (writer console.new)) [] }
@@ -348,7 +347,7 @@ impl Session {
         ensures executes { ExecutesLines (state_of (table_of self.old).table progress.old []) (moment_on R.remaining W.contents self.old console.old) result
             (moment_on R.remaining W.contents self.new console.new) progress.new }
         ensures same { HasSameTaps console.old console.new }
-        ensures prompt { has_held_back console.new ≡ has_held_back console.old }
+        ensures prompt { is_late (reader console.new) ≡ is_late (reader console.old) }
         ensures ready { OnOk result (has_failed (writer console.new) ≡ false) }
         ensures read_failed { result ≡ Err RunFault.ReadFailed ↔ has_failed (reader console.new) ≡ true }
         ensures write_failed { result ≡ Err RunFault.WriteFailed ↔ has_failed (writer console.new) ≡ true }
@@ -392,7 +391,7 @@ impl Session {
         ensures executes { ExecutesLines (state_of (table_of self.old).table progress.old []) (moment_on R.remaining W.contents self.old console.old) result
             (moment_on R.remaining W.contents self.new console.new) progress.new }
         ensures same { HasSameTaps console.old console.new }
-        ensures prompt { has_held_back console.new ≡ has_held_back console.old }
+        ensures prompt { is_late (reader console.new) ≡ is_late (reader console.old) }
         ensures ready { OnOk result (has_failed (writer console.new) ≡ false) }
         ensures read_failed { result ≡ Err RunFault.ReadFailed ↔ has_failed (reader console.new) ≡ true }
         ensures write_failed { result ≡ Err RunFault.WriteFailed ↔ has_failed (writer console.new) ≡ true }
@@ -434,6 +433,7 @@ impl Session {
         ensures runs { RunsTo OfSession (moment R.remaining W.contents self.old input.old output.old) result
             (moment R.remaining W.contents self.new input.new output.new) }
         ensures ended { OnOk result (EndsAt (known R.remaining input.old) (known R.remaining input.new)) }
+        ensures prompt { is_late input.new ≡ is_late input.old }
         ensures handed { OnOk result (is_unflushed output.new ≡ false) }
         ensures read_failed { result ≡ Err RunFault.ReadFailed ↔ has_failed input.new ≡ true }
         ensures write_failed { result ≡ Err RunFault.WriteFailed ↔ has_failed output.new ≡ true }
@@ -442,8 +442,7 @@ impl Session {
         self.run_on(&mut console)
     }
 
-    /// Runs the lines of a console's reader, and writes their replies to its writer, as `run` does. The reader is
-    /// never asked for more than it shows while the writer holds back a byte of a reply.
+    /// Runs the lines of a console's reader, and writes their replies to its writer, as `run` does.
     ///
     /// # Errors
     ///
@@ -457,7 +456,7 @@ impl Session {
         ensures runs { RunsTo OfSession (moment_on R.remaining W.contents self.old console.old) result
             (moment_on R.remaining W.contents self.new console.new) }
         ensures same { HasSameTaps console.old console.new }
-        ensures prompt { has_held_back console.new ≡ has_held_back console.old }
+        ensures prompt { is_late (reader console.new) ≡ is_late (reader console.old) }
         ensures ended { OnOk result (EndsAt (known R.remaining (reader console.old)) (known R.remaining (reader console.new))) }
         ensures handed { OnOk result (is_unflushed (writer console.new) ≡ false) }
         ensures read_failed { result ≡ Err RunFault.ReadFailed ↔ has_failed (reader console.new) ≡ true }
@@ -492,6 +491,7 @@ impl Session {
         requires output { has_failed output.old ≡ false }
         ensures runs { RunsTo (OfRestore noflush test list) (moment R.remaining W.contents self.old input.old output.old) result
             (moment R.remaining W.contents self.new input.new output.new) }
+        ensures prompt { is_late input.new ≡ is_late input.old }
         ensures handed { OnOk result (is_unflushed output.new ≡ false) }
         ensures read_failed { result ≡ Err RunFault.ReadFailed ↔ has_failed input.new ≡ true }
         ensures write_failed { result ≡ Err RunFault.WriteFailed ↔ has_failed output.new ≡ true }
@@ -500,8 +500,7 @@ impl Session {
         self.restore_on(noflush, test, list, &mut console)
     }
 
-    /// Reads a console's whole input as one restore, as `restore` does. The reader is never asked for more than it
-    /// shows while the writer holds back a byte that was written.
+    /// Reads a console's whole input as one restore, as `restore` does.
     ///
     /// # Errors
     ///
@@ -518,7 +517,7 @@ impl Session {
         ensures runs { RunsTo (OfRestore noflush test list) (moment_on R.remaining W.contents self.old console.old) result
             (moment_on R.remaining W.contents self.new console.new) }
         ensures same { HasSameTaps console.old console.new }
-        ensures prompt { has_held_back console.new ≡ has_held_back console.old }
+        ensures prompt { is_late (reader console.new) ≡ is_late (reader console.old) }
         ensures handed { OnOk result (is_unflushed (writer console.new) ≡ false) }
         ensures read_failed { result ≡ Err RunFault.ReadFailed ↔ has_failed (reader console.new) ≡ true }
         ensures write_failed { result ≡ Err RunFault.WriteFailed ↔ has_failed (writer console.new) ≡ true }

@@ -31,3 +31,6 @@ loop-passed-preserved c =
 
 pub returns-clause-none : goal.returns-clause-none
 returns-clause-none c = λ start are k le lt. c.loop-passed.invariant.none start are k le (omega (arith, le, lt, c.loop-passed-test.false, c.max.ensures))
+
+pub is_apart-requires-clause-outline : goal.is_apart-requires-clause-outline
+is_apart-requires-clause-outline c = rw c.sets.ensures.value at c.outline_of-outline.ensures

@@ -1,9 +1,17 @@
-use Rattle.std.proofs.Common.{◌∙◌, rules, arith, [], sym, subst, ap}
+use Rattle.std.proofs.Common.{◌≡◌, ◌<◌, ◌==◌, ◌||◌, ◌&&◌, ◌⊎◌, inl, inr, ℕ, Bool, true, false, ◌∙◌, rules, arith, [], sym, subst, ap}
+use Rattle.std.proofs.lemmas.Bool.{ne_eqb, true≢false}
 use Rattle.std.proofs.KnownBytes.{Appends-trans}
-use Rattle.fields.specs.text.Tap.{known, turns_left}
+use Rattle.fields.specs.text.Tap.{is_late, known, turns_left}
 use Rattle.fields.specs.text.Line.{ReadsPart}
 use Rattle.sessions.specs.run.Console.{reader, writer}
 use Rattle.sessions.proofs.run.session.next_line.Goals as goal
+
+-- a tap that shows bytes, or is asked while nothing is withheld, isn't asked late
+asked_in_time : (late withheld : Bool) (shown : ℕ) {after : Bool} → after ≡ (late || (withheld && shown == 0)) → (0 < shown) ⊎ (withheld ≡ false) → after ≡ late
+asked_in_time true withheld shown is in_time = is
+asked_in_time false false shown is in_time = is
+asked_in_time false true shown is (inl more) = is ∙ ne_eqb shown 0 (λ none. absurd (omega (arith, more, none)))
+asked_in_time false true shown is (inr none) = absurd (true≢false none)
 
 pub parts-preserved : goal.parts-preserved
 parts-preserved g c =
@@ -14,7 +22,7 @@ parts-preserved g c =
     let fewer = ap turns_left c.hand_on_in_time.ensures.reader in
     record {
       same = search rules;
-      prompt = c.read_part.ensures.prompt c.in_ok-hand_on_in_time.ensures.handed ∙ c.hand_on_in_time.ensures.prompt ∙ c.parts.invariant.prompt;
+      prompt = asked_in_time _ _ _ c.read_part.ensures.late c.in_ok-hand_on_in_time.ensures.handed ∙ ap is_late c.hand_on_in_time.ensures.reader ∙ c.parts.invariant.prompt;
       reads = rw c.in-Ok-None.field-0-is at c.in-Ok-None.ensures.reads (remaining (reader first)) (turns_left (reader first))
           (subst (λ t. ReadsPart (remaining (reader first)) (remaining t) (turns_left (reader first)) (turns_left t) 10240 c.parts.line.items c.parts.too_long) (sym c.hand_on_in_time.ensures.reader) c.parts.invariant.reads);
       given = rw c.read_part.ensures.writer (Appends-trans (given (writer first)) (given (writer c.parts.console)) (given (writer handed)) [] [] c.parts.invariant.given c.hand_on_in_time.ensures.given);

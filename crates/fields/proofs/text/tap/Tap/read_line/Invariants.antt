@@ -13,8 +13,8 @@ invariant-loop-read g l =
       room : l.max ≤ vec_capacity l.line;
       capacity : vec_capacity l.fn.line ≤ vec_capacity l.line;
       stays : has_failed l.fn.self ≡ true → l.self ≡ l.fn.self;
-      turns : l.self.turns ≤ l.fn.self.turns;
+      turns : turns_left l.self ≤ turns_left l.fn.self;
     }
 
 abbrev pub decreases-loop-read : goal.decreases-loop-read
-decreases-loop-read g l = l.self.turns
+decreases-loop-read g l = turns_left l.self

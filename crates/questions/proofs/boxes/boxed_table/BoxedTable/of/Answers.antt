@@ -13,4 +13,4 @@ loop-place-preserved c =
     }
 
 pub invariant_of-result : goal.invariant_of-result
-invariant_of-result c = record { boxes = all_chains c.args.table.table.chains c.loop-place.chains.items c.loop-place.place (omega arith) c.loop-place.invariant.pairs }
+invariant_of-result c = record { boxes = all_chains c.args.table.table.chains c.loop-place.chains.items c.loop-place.place (omega arith) c.loop-place.invariant.pairs; called = c.in_ok-calls.ensures; bounded = c.in_ok-bounds.ensures }

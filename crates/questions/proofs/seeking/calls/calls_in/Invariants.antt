@@ -1,0 +1,7 @@
+use Rattle.std.proofs.Common.{◌<◌}
+use Rattle.table.specs.declared.walk.trail.Step.{Step}
+use Rattle.questions.specs.boxes.Calls.{IsCalled}
+use Rattle.questions.proofs.seeking.calls.calls_in.Given as goal
+
+abbrev pub invariant-loop-place : goal.invariant-loop-place
+invariant-loop-place l = (by : Step) → by.chain < l.place → IsCalled l.table.table l.calls.items by

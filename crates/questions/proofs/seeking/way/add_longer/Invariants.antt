@@ -1,0 +1,13 @@
+use Rattle.std.specs.Prelude.{Any}
+use Rattle.fields.specs.packet.Packet.{PacketView as Packet}
+use Rattle.questions.specs.Foreign.{Assignment}
+use Rattle.questions.specs.steps.Seeking.{KeepsWanted, MayCome}
+use Rattle.questions.proofs.laws.SeekLaws.{AreTakenFrom}
+use Rattle.questions.proofs.seeking.way.add_longer.Given as goal
+
+abbrev pub invariant-loop-before : goal.invariant-loop-before
+invariant-loop-before l = record {
+  kept : (a : Assignment) (p : Packet) → Any (MayCome l.subject a p) l.initial.ways.items → Any (MayCome l.subject a p) l.ways.items;
+  wanted : KeepsWanted l.way l.initial.ways.items l.ways.items;
+  taken : AreTakenFrom l.subject l.way l.chain l.calls l.before l.ways.items;
+}
