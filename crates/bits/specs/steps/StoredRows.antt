@@ -20,6 +20,7 @@ all_words width wholes ks = concat (map (row_of width wholes) ks)
 abbrev pub kept_at : List Kept → ℕ → Kept
 kept_at ks slot = slice_index_or ks slot (kept.Whole 0)
 
+-- the rows that are kept as a part, of this one: 1 or 0
 abbrev pub part_count : Kept → ℕ
 part_count (kept.Part part) = 1
 part_count (kept.Whole i) = 0

@@ -12,15 +12,19 @@ use Rattle.notation.specs.ValueText.{icmp_text, interface_name, value_text}
 abbrev pub addresses_text : Interval → List ℕ
 addresses_text s = if s.first == s.last then address_text s.first else address_text s.first ++ 47 ∷ decimal (leading_zeros w32 (s.last - s.first))
 
+-- the name of an interface; of several names that begin alike the shortest, and `+`
 abbrev pub named_text : Interval → List ℕ
 named_text s = if s.first == s.last then interface_name s.first else interface_name s.first ++ 43 ∷ []
 
+-- "none" where a packet has no interface
 abbrev pub interfaces_text : Interval → List ℕ
 interfaces_text s = if s.last == 0 then codes "none" else named_text s
 
+-- `type/code` of one number, the type alone of all its codes
 abbrev pub types_text : Interval → List ℕ
 types_text s = if s.first == s.last then icmp_text s.first else decimal (s.first / 256)
 
+-- the text of an interval of a field
 unfoldable pub usual_text : Field → Interval → List ℕ
 usual_text Source s = addresses_text s
 usual_text Destination s = addresses_text s
