@@ -1,46 +1,51 @@
 -- Tables that are equal, place by place.
-use Rattle.std.proofs.Common.{◌≡◌, inl, inr, ℕ, ◌+◌, ◌-◌, ◌<◌, ◌≤◌, List, [], get_or, length, sym, ◌∙◌, ap, arith, subst, Option}
-use Rattle.std.specs.Prelude.{map, slice_get, unwrap_or}
+use Rattle.std.proofs.Common.{◌≡◌, inl, inr, ℕ, ◌+◌, ◌-◌, ◌<◌, ◌≤◌, ◌&&◌, Bool, List, [], ◌∷◌, get_or, length, refl, sym, ◌∙◌, ap, arith, rules, subst, Option, Vec, Global}
+use Rattle.std.specs.Prelude.{◌↔◌, IsTrue, map, slice_get, unwrap_or}
+use Rattle.std.specs.Cmp.Lexicographic.{pointwise, pointwise_decides}
 use Rattle.std.proofs.lemmas.Bool.{cases_lt}
-use Rattle.std.proofs.lemmas.List.{get_or-map, get_or_default, length-map, same_lists}
+use Rattle.std.proofs.lemmas.List.{get_or_default, same_lists}
 use Rattle.std.proofs.lemmas.Option.{unwrap_or-slice_get}
+use Rattle.std.proofs.lemmas.Slice.Eq.{slice_eq-Decides}
 use Rattle.rules.specs.rule.Rules.{Rule}
 use Rattle.table.specs.chains.Table.{Chain, Table, chain_at, empty_chain}
 use Rattle.table.specs.declared.policy.Policy.{Policy}
+use Rattle.questions.specs.contracts.foreign.need.NeedPartialEq.TheImpl as of_need
+use Rattle.questions.specs.declared.foreign.need.Need.{Need}
 
 -- two lists are alike at each of the first so many places
 abbrev pub AlikeBelow : {X : Type 0} → List X → List X → ℕ → Type 0
 AlikeBelow {X} xs ys n = (k : ℕ) (d : X) → k < n → get_or xs k d ≡ get_or ys k d
 
--- and at one more
-pub alike_next : {X : Type 0} (xs ys : List X) (n : ℕ) → ((d : X) → get_or xs n d ≡ get_or ys n d) → AlikeBelow xs ys n → AlikeBelow xs ys (n + 1)
-alike_next {X} xs ys n here below k d less =
-    elim (cases_lt k n) [
-      | inl before ↦ below k d before
-      | inr past ↦ (
-          let same : n ≡ k = omega (arith, less, past) in
-          let P : ℕ → Type 0 = λ j. get_or xs j d ≡ get_or ys j d in
-          subst P same (here d))
-    ]
-
 -- so they are one list
 pub alike_all : {X : Type 0} (xs ys : List X) (n : ℕ) → length xs ≡ length ys → length xs ≤ n → AlikeBelow xs ys n → xs ≡ ys
 alike_all xs ys n long le below = same_lists xs ys long (λ k d lt. below k d (omega (arith, lt, le)))
 
--- ---- what is listed for each
+-- ---- needs
 
--- items that were asked for and give the same are those at a place
-pub given_at : {X Y : Type 0} (f : X → Y) (xs ys : List X) (k : ℕ) (x y : X) → k < length xs → k < length ys → x ≡ get_or xs k x → y ≡ get_or ys k y → f x ≡ f y → (d : Y) → get_or (map f xs) k d ≡ get_or (map f ys) k d
-given_at f xs ys k x y lt less ix iy same d = get_or-map f xs k x d lt ∙ ap f (sym ix) ∙ same ∙ ap f iy ∙ sym (get_or-map f ys k y d less)
+pub same_need : (a b : Need) → IsTrue (of_need.ghosts.eq a b) ↔ (a ≡ b)
+same_need a b = search rules
 
-pub at_given : {X Y : Type 0} (f : X → Y) (xs ys : List X) (k : ℕ) (x y : X) → k < length xs → k < length ys → x ≡ get_or xs k x → y ≡ get_or ys k y → map f xs ≡ map f ys → f x ≡ f y
-at_given f xs ys k x y lt less ix iy e =
-    ap f ix ∙ sym (get_or-map f xs k x (f x) lt) ∙ ap (λ l. get_or l k (f x)) e ∙ get_or-map f ys k y (f x) less ∙ ap f (sym iy)
+-- a test of what is listed for each item is a test of the lists
+listed_test : {X Y : Type 0} (f : X → Y) (E : Y → Y → Bool) (xs ys : List X) → pointwise (λ x y. E (f x) (f y)) xs ys ≡ pointwise E (map f xs) (map f ys)
+listed_test f E [] [] = refl
+listed_test f E [] (y ∷ ys) = refl
+listed_test f E (x ∷ xs) [] = refl
+listed_test f E (x ∷ xs) (y ∷ ys) = ap (λ rest. E (f x) (f y) && rest) (listed_test f E xs ys)
 
--- so all give the same
-pub given_all : {X Y : Type 0} (f : X → Y) (xs ys : List X) (n : ℕ) → length xs ≡ length ys → length xs ≤ n → AlikeBelow (map f xs) (map f ys) n → map f xs ≡ map f ys
-given_all f xs ys n long le below =
-    alike_all (map f xs) (map f ys) n (length-map xs f ∙ long ∙ sym (length-map ys f)) (omega (arith, le, length-map xs f)) below
+abbrev items : Vec Need Global → List Need
+items needs = needs.items
+
+abbrev rows : Vec (Vec Need Global) Global → List (List Need)
+rows chain = map items chain.items
+
+-- the test of needs, vector by vector, is one of what the rules need
+pub same_needs : (xs ys : List (Vec (Vec Need Global) Global)) (r : Bool)
+    → r ≡ pointwise (λ (a b : Vec (Vec Need Global) Global). pointwise (λ (n m : Vec Need Global). pointwise of_need.ghosts.eq n.items m.items) a.items b.items) xs ys
+    → IsTrue r ↔ (map rows xs ≡ map rows ys)
+same_needs xs ys r is =
+    let E = pointwise of_need.ghosts.eq in
+    slice_eq-Decides (pointwise_decides (pointwise_decides same_need)) (map rows xs) (map rows ys) r
+    (is ∙ (λ i. pointwise (λ a b. listed_test items E a.items b.items i) xs ys) ∙ listed_test rows (pointwise E) xs ys)
 
 -- ---- policies
 

@@ -68,7 +68,7 @@ impl Needs {
     pub(crate) fn equals(&self, other: &Needs) -> bool
         ensures { IsTrue result ↔ (self.now ≡ other.now) }
     {
-        are_same_in_all(self.listed(), other.listed())
+        self.listed() == other.listed()
     }
 
     /// What the rule at a place of the chain at a place needs, both from 0; it is lent. A rule for which nothing is listed needs nothing.
@@ -116,39 +116,6 @@ pub(crate) fn are_same(needs: &[Need], others: &[Need]) -> bool
     ensures { IsTrue result ↔ (needs.now ≡ others.now) }
 {
     needs == others
-}
-
-// Whether the rules of two chains need the same, rule by rule.
-fn are_same_in(chain: &[Vec<Need>], other: &[Vec<Need>]) -> bool
-    ensures { IsTrue result ↔ (map (λ needs. needs.items) chain.now ≡ map (λ needs. needs.items) other.now) }
-{
-    let count = chain.len();
-    if other.len() != count {
-        return false;
-    }
-    for passed in 0..count {
-        if !are_same(chain[passed].as_slice(), other[passed].as_slice()) {
-            return false;
-        }
-    }
-    true
-}
-
-// Whether the rules of these chains need the same, chain by chain.
-fn are_same_in_all(chains: &[Vec<Vec<Need>>], others: &[Vec<Vec<Need>>]) -> bool
-    ensures { IsTrue result ↔ (map (λ chain. map (λ needs. needs.items) chain.items) chains.now
-        ≡ map (λ chain. map (λ needs. needs.items) chain.items) others.now) }
-{
-    let count = chains.len();
-    if others.len() != count {
-        return false;
-    }
-    for place in 0..count {
-        if !are_same_in(chains[place].as_slice(), others[place].as_slice()) {
-            return false;
-        }
-    }
-    true
 }
 
 // What is known of all that a rule needs.
