@@ -1,18 +1,19 @@
 -- What restoring a file into a session does, by its answer.
-use Rattle.std.specs.Prelude.{◌≡◌, ℕ, Bool, false, List, Option, Result, Ok, Err, IfSome, fold}
+use Rattle.std.specs.Prelude.{◌≡◌, ◌⊎◌, ℕ, Bool, false, List, Option, Result, Ok, Err, IfSome, IsErrAnd, fold}
 use Rattle.std.specs.Borrow.{Bor}
 use Rattle.sessions.specs.line.Outcome.{Line}
 use Rattle.sessions.specs.run.Session.{restore_session, restore_start, step}
 use Rattle.sessions.specs.run.Views.{table_of}
 use Rattle.sessions.specs.declared.run.session.Session.{Session}
+use Rattle.programs.specs.Faults.{IsUnopened}
 use Rattle.programs.specs.declared.fault.ProgramFault.{ProgramFault}
 use Rattle.programs.specs.declared.fault.ProgramFault.TheVariants.{NoMemory, NotText, NoSubcommand, NoFile, CannotOpen, CannotRead, InputFailed, OutputFailed}
 
--- table and status are those of a restore of all the bytes that are left, without `--noflush`, in place and without a listing, where each
--- line has a mark that says whether memory was refused to it
+-- table and status are those of a restore of some bytes, all that are left where these are known, without `--noflush`, in place and
+-- without a listing, where each line has a mark that says whether memory was refused to it
 abbrev pub IsRestored : Option (List ℕ) → Session → ℕ → Session → Type 0
-IsRestored left old status new = IfSome left (λ bytes. (marks : List Bool)
-    × (let s = restore_session false false false (table_of old).table bytes marks in (status ≡ s.now.status) × ((table_of new).table ≡ s.now.table)))
+IsRestored left old status new = (bytes : List ℕ) × IfSome left (λ all. bytes ≡ all) × (marks : List Bool)
+    × (let s = restore_session false false false (table_of old).table bytes marks in (status ≡ s.now.status) × ((table_of new).table ≡ s.now.table))
 
 -- the table is that of some lines of such a restore
 abbrev pub IsBegun : Session → Session → Type 0
@@ -29,3 +30,8 @@ IsLoaded left file old (Err (CannotOpen name)) new = ⊥
 IsLoaded left file old (Err (CannotRead name)) new = (name ≡ file) × IsBegun old new
 IsLoaded left file old (Err InputFailed) new = ⊥
 IsLoaded left file old (Err OutputFailed) new = IsBegun old new
+
+-- the file of this name wasn't opened, and the session is as it was; or it was opened, and what it had left was restored
+abbrev pub IsOpenedAndLoaded : {File : Type 0} → (File → Option (List ℕ)) → Bor (List ℕ) → Session → Result ℕ ProgramFault → Session → Type 0
+IsOpenedAndLoaded {File} remaining file old result new =
+    (IsErrAnd result (IsUnopened file) × (new ≡ old)) ⊎ ((opened : File) × IsLoaded (remaining opened) file old result new)

@@ -1,7 +1,7 @@
 //! Files that a program restores into a session before its task.
 ghost use Rattle.std.specs.Prelude.{IfErr};
 ghost use Rattle.programs.specs.Faults.{IsUnopened};
-ghost use Rattle.programs.specs.Loaded.{IsLoaded};
+ghost use Rattle.programs.specs.Loaded.{IsLoaded, IsOpenedAndLoaded};
 
 use crate::buffers::{buffered_input, buffered_output, let_go};
 use crate::fault::ProgramFault;
@@ -70,6 +70,7 @@ pub fn load<'a, R, E>(
 where
     R: Files + AllocGlobal,
     E: Print,
+    ensures { IsOpenedAndLoaded R.File.remaining file.entry session.old result session.new }
 {
     let opened = open_file(rt, file)?;
     load_from(rt, errors, session, file, opened)

@@ -1,16 +1,19 @@
 -- A restore of a file, by what its run did.
-use Rattle.std.proofs.Common.{◌≡◌, ◌==◌, cond, ℕ, Bool, false, List, [], Option, Some, None, Ok, refl, sym, ap, subst, ◌∙◌}
+use Rattle.std.proofs.Common.{◌≡◌, ◌==◌, inr, cond, ℕ, Bool, false, List, [], Option, Some, None, Ok, refl, sym, ap, subst, ◌∙◌, append-nil}
 use Rattle.std.specs.Prelude.{IfSome}
 use Rattle.std.specs.Io.KnownBytes.{Appends, prepend_known}
 use Rattle.std.specs.Io.Buffered.{reader_buffer, reader_inner, reader_remaining}
 use Rattle.std.specs.declared.io.buffered.BufReader.{BufReader}
 use Rattle.fields.specs.declared.text.tap.Tap.{Tap}
 use Rattle.fields.specs.text.Tap.{device, known}
+use Rattle.table.specs.chains.Table.{Table}
+use Rattle.sessions.specs.line.Outcome.{Line}
 use Rattle.sessions.specs.run.Headline.{RunsTo}
-use Rattle.sessions.specs.run.Run.{Moment}
+use Rattle.sessions.specs.run.Run.{Moment, Runs}
 use Rattle.sessions.specs.declared.run.session.Session.{Session}
-use Rattle.sessions.specs.run.Session.{Kind, OfRestore, marks_of, whole_run}
+use Rattle.sessions.specs.run.Session.{Kind, OfRestore, State, marks_of, whole_run}
 use Rattle.sessions.specs.run.Views.{table_of}
+use Rattle.sessions.proofs.laws.run.WholeLaws.{if_whole}
 use Rattle.programs.specs.Buffers.{Reads}
 use Rattle.programs.specs.Loaded.{IsRestored}
 
@@ -33,15 +36,39 @@ abbrev Says : Moment → List Bool → ℕ → Moment → List ℕ → Type 0
 Says before marks status after bytes =
     let s = whole_run kind before.table.table bytes marks in Appends before.given after.given s.printed × (status ≡ s.now.status) × (after.table.table ≡ s.now.table)
 
-restored : (old new : Session) (before after : Moment) (marks : List Bool) (status : ℕ) → before.table.table ≡ (table_of old).table → after.table.table ≡ (table_of new).table
-    → (left : Option (List ℕ)) → IfSome left (Says before marks status after) → IsRestored left old status new
-restored old new before after marks status from to None whole = tt
-restored old new before after marks status from to (Some bytes) whole =
-    (marks, (whole.1 ∙ ap (λ t. (whole_run kind t bytes marks).now.status) from, sym to ∙ whole.2 ∙ ap (λ t. (whole_run kind t bytes marks).now.table) from))
+-- a moment at which these bytes are left
+abbrev leaving : List ℕ → Moment → Moment
+leaving bytes m = record { left = Some bytes; given = m.given; table = m.table; boxes = m.boxes }
+
+-- a run is one of an input of the bytes that it read
+of_read : {start : State} {finish : State → State} {lines : List Line} {before after : Moment} {status : ℕ} (runs : Runs start finish lines before (Ok status) after)
+    → Runs start finish lines (leaving runs.bytes before) (Ok status) (leaving [] after)
+of_read runs = record {
+  bytes = runs.bytes;
+  written = runs.written;
+  reads = sym (append-nil runs.bytes);
+  writes = runs.writes;
+  ran = record {
+    last = runs.ran.last;
+    leads = runs.ran.leads;
+    read = record { texts = runs.ran.read.texts; whole = inr refl };
+    done = inr refl;
+    printed = runs.ran.printed;
+    answer = runs.ran.answer;
+  };
+  table = runs.table;
+  boxes = runs.boxes;
+}
 
 -- with a status
-pub loaded : {before after : Moment} {status : ℕ} (left : Option (List ℕ)) (old new : Session) → RunsTo kind before (Ok status) after → before.left ≡ left
-    → before.table.table ≡ (table_of old).table → after.table.table ≡ (table_of new).table → IsRestored left old status new
-loaded {before = before} {after = after} {status = status} left old new runs is from to =
-    let marks = marks_of runs.lines in
-    restored old new before after marks status from to left (subst (λ bytes. IfSome bytes (Says before marks status after)) is runs.whole)
+module _ (old new : Session) {before after : Moment} {status : ℕ} (runs : RunsTo kind before (Ok status) after) (from : before.table.table ≡ (table_of old).table) (to : after.table.table ≡ (table_of new).table) where
+  restored : (left : Option (List ℕ)) (bytes : List ℕ) → IfSome left (λ all. bytes ≡ all) → Says before (marks_of runs.lines) status after bytes → IsRestored left old status new
+  restored left bytes are whole =
+      let s : Table → State = λ t. whole_run kind t bytes (marks_of runs.lines) in
+      (bytes, are, marks_of runs.lines, (whole.1 ∙ ap (λ t. (s t).now.status) from, sym to ∙ whole.2 ∙ ap (λ t. (s t).now.table) from))
+
+  pub loaded : (left : Option (List ℕ)) → before.left ≡ left → IsRestored left old status new
+  loaded None is =
+      let bytes = runs.runs.bytes in
+      restored None bytes tt (if_whole kind runs.lines (leaving bytes before) (leaving [] after) (Ok status) (of_read runs.runs))
+  loaded (Some bytes) is = restored (Some bytes) bytes refl (subst (λ left. IfSome left (Says before (marks_of runs.lines) status after)) is runs.whole)

@@ -5,4 +5,4 @@ use Rattle.programs.proofs.files.load_from.Goals as goal
 pub returns-in-Ok : goal.returns-in-Ok
 returns-in-Ok g c =
     let remaining = g.I.Read.remaining in
-    loaded (remaining c.args.reader) c.args.session.now c.restore-restored.new.self c.in-Ok.ensures.runs (left-is remaining c.args.reader c.in_ok-input.input c.in_ok-input.ensures) refl refl
+    loaded c.args.session.now c.restore-restored.new.self c.in-Ok.ensures.runs refl refl (remaining c.args.reader) (left-is remaining c.args.reader c.in_ok-input.input c.in_ok-input.ensures)
