@@ -30,6 +30,7 @@ pub mod LineLaws
 pub mod LineStepLaws
 pub mod LookLaws
 pub mod MeetingLaws
+pub mod NecessaryLaws
 pub mod NeedlessLaws
 pub mod NeverLaws
 pub mod OnwardLaws

@@ -4,6 +4,7 @@ pub mod Always
 pub mod Changes
 pub mod Differing
 pub mod Laws
+pub mod Necessary
 pub mod Reach
 pub mod Reason
 pub mod Resolved

@@ -4,7 +4,7 @@ use Rattle.std.specs.Prelude.{◌≢◌, replicate}
 use Rattle.std.proofs.Math.ListN.{set}
 use Rattle.std.specs.List.{position}
 use Rattle.std.proofs.lemmas.Bool.{cases_eq, cases_lt, cond-false, cond-true, true≢false}
-use Rattle.std.proofs.lemmas.List.{drop_more, get_or-replicate, get_or-set_other, get_or-set_same, get_or_default, get_or_past, length-append, length-replicate, length-set, take_more}
+use Rattle.std.proofs.lemmas.List.{drop_more, get_or-replicate, get_or-set_other, get_or-set_same, get_or_past, length-append, length-replicate, length-set, take_more}
 use Rattle.std.proofs.lemmas.Slice.Eq.{bytes_eq-Decides}
 use Rattle.std.proofs.lemmas.Option.{get_or_from_slice_get, slice_get_within}
 use Rattle.fields.specs.declared.packet.hook.Hook.{Hook}

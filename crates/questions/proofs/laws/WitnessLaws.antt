@@ -1,26 +1,19 @@
 -- A packet that shows that a rule isn't dead.
-use Rattle.std.proofs.Common.{◌≡◌, ◌≢◌, inl, inr, ℕ, zero, suc, ◌+◌, ◌<◌, List, [], ◌∷◌, ◌++◌, length, get_or, take, refl, sym, ◌∙◌, ap, arith, subst, Option, Some, None, All, Any, Contains, Vec, Global}
+use Rattle.std.proofs.Common.{◌≡◌, ◌≢◌, inl, inr, ℕ, zero, suc, ◌+◌, ◌<◌, List, [], ◌∷◌, ◌++◌, length, get_or, take, refl, sym, ◌∙◌, ap, arith, subst, Option, Some, None, Contains, Vec, Global}
 use Rattle.std.specs.Prelude.{IsFalse, IsTrue, MatchOption, is_some}
 use Rattle.std.proofs.lemmas.Bool.{true≢false}
 use Rattle.std.proofs.lemmas.List.{get_or-take, get_or_default, length-take}
-use Rattle.std.proofs.lemmas.List.Elements.{All-contains}
 use Rattle.fields.specs.packet.Packet.{PacketView as Packet}
 use Rattle.table.specs.chains.Table.{Table}
-use Rattle.table.specs.declared.walk.trail.Step.{Step}
 use Rattle.table.specs.declared.verdict.Verdict.TheVariants.{TooLong}
-use Rattle.table.specs.walk.Walk.{Entry, Walked, walk}
-use Rattle.questions.specs.Foreign.{Agrees, AreConsistent, Assignment, IsUnanswered}
-use Rattle.questions.specs.Scopes.{EndsUnder, Known, answered, entries_by, known_by, table_of}
-use Rattle.questions.specs.Leaves.{entry_of}
+use Rattle.table.specs.walk.Walk.{Entry, walk}
+use Rattle.questions.specs.Foreign.{Agrees, AreConsistent, IsUnanswered}
+use Rattle.questions.specs.Scopes.{Known}
 use Rattle.questions.specs.asked.Walks.{AreWalksUnder}
 use Rattle.questions.specs.declared.foreign.answers.Answer.{Answer}
-use Rattle.questions.specs.declared.foreign.subject.Subject.{Subject}
 use Rattle.questions.specs.declared.walking.task.Leaf.{Leaf}
 use Rattle.questions.specs.steps.Coming.{IsSought}
-use Rattle.questions.specs.steps.Meant.{IsSurelyOn, needs_of}
 use Rattle.questions.proofs.laws.ComeLaws.{never_long}
-use Rattle.questions.proofs.laws.HeldLaws.{on_entries_by}
-use Rattle.questions.proofs.laws.ResolvedLaws.{entry_left}
 
 -- a packet of leaves has no walk that is too long
 pub ended_short : (t : Table) (known : Known) (found : Option (Vec Leaf Global)) (p : Packet) (answers : List Answer) (U : Type 0) → IsTrue (is_some found) → MatchOption found U (λ leaves. AreWalksUnder t known p answers leaves.items)
@@ -37,16 +30,6 @@ ended_long (Some found) U F un h = absurd (true≢false un)
 pub sought_on : (t : Table) (entry : Entry) (p : Packet) → IsSought t entry p → (walk t p).verdict ≢ TooLong → Contains (walk t p).trail entry
 sought_on t entry p (inl on) short = on
 sought_on t entry p (inr long) short = absurd (short long)
-
--- a rule that is surely on each leaf is on the walk of a packet of these, where the answers are right
-pub surely_on : (s : Subject) (found : List Leaf) (p : Packet) (step : Step) (a : Assignment) → Any (EndsUnder (answered s a) (known_by s a) p) found → All (IsSurelyOn (needs_of s.needs.now step) step) found
-    → Contains (walk (answered s a) p).trail (entry_of (table_of s).chains step)
-surely_on s found p step a (k, leaf, lt, is, ends) all =
-    let (on, held) = All-contains (IsSurelyOn (needs_of s.needs.now step) step) found leaf all (k, lt, is) in
-    let here : Contains (entries_by (known_by s a) (answered s a).chains leaf.trail.items) (entry_of (answered s a).chains step) = on_entries_by (known_by s a) (answered s a).chains leaf.trail.items step on (held a ends.own.agrees) in
-    let P : Walked → Type 0 = λ w. Contains w.trail (entry_of (answered s a).chains step) in
-    let Q : Entry → Type 0 = λ entry. Contains (walk (answered s a) p).trail entry in
-    subst Q (entry_left s.needs.now a (table_of s) step) (subst P (sym ends.walked) here)
 
 -- ---- the first of some answers
 

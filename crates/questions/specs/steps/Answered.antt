@@ -1,10 +1,18 @@
 -- What answers tell of the needs of a rule.
-use Rattle.std.specs.Prelude.{◌≡◌, ◌⊎◌, ℕ, List, All, Any, IsTrue, IsFalse}
+use Rattle.std.specs.Prelude.{◌≡◌, ◌⊎◌, ◌==◌, ℕ, Bool, not, List, filter, All, Any, IsTrue, IsFalse}
 use Rattle.questions.specs.Foreign.{Agrees, AreConsistent, Assignment, IsUnanswered, all_hold, need_holds}
 use Rattle.questions.specs.declared.foreign.need.Need.{Need}
 use Rattle.questions.specs.declared.foreign.answers.Answer.{Answer}
 use Rattle.questions.specs.declared.foreign.need.Standing.{Standing}
 use Rattle.questions.specs.declared.foreign.need.Standing.TheVariants.{Holds, Fails, Open}
+
+-- an answer is to another condition
+abbrev pub others_than : ℕ → Answer → Bool
+others_than condition answer = not (answer.condition == condition)
+
+-- the answers but one, to a condition
+abbrev pub answers_but : ℕ → List Answer → List Answer
+answers_but condition answers = filter (others_than condition) answers
 
 -- each assignment that gives the answers meets the need
 abbrev pub IsMet : List Answer → Need → Type 0

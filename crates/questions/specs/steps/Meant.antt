@@ -1,5 +1,5 @@
 -- The packets that a rule with needs would match.
-use Rattle.std.specs.Prelude.{◌≡◌, ◌-◌, List, [], Contains, IsTrue}
+use Rattle.std.specs.Prelude.{◌≡◌, ◌-◌, List, [], Contains, IsFalse, IsTrue}
 use Rattle.fields.specs.declared.packet.hook.Hook.{Hook}
 use Rattle.table.specs.chains.Table.{Table}
 use Rattle.table.specs.declared.walk.trail.Step.{Step}
@@ -23,3 +23,7 @@ IsScopeAt t needs step hook scope =
 -- the rule is on the trail of the leaf, and all holds that it needs where the leaf's answers are right
 abbrev pub IsSurelyOn : List Need → Step → Leaf → Type 0
 IsSurelyOn needs step leaf = Contains leaf.trail.items step × ((a : Assignment) → Agrees a leaf.answers → IsTrue (all_hold a needs))
+
+-- some assignment gives the leaf's answers, and either the rule isn't on its trail or something doesn't hold that the rule needs
+abbrev pub IsMissed : List Need → Step → Leaf → Type 0
+IsMissed needs step leaf = (a : Assignment) × Agrees a leaf.answers × (Contains leaf.trail.items step → IsFalse (all_hold a needs))

@@ -5,6 +5,7 @@ ghost use Rattle.questions.specs.Ends.{IsRule};
 ghost use Rattle.questions.specs.Leaves.{entry_of};
 ghost use Rattle.questions.specs.Scopes.{table_of};
 ghost use Rattle.questions.specs.asked.Always.{AreAlwaysShort, IsUnclear as IsUnclearUnder, MayLive, Says as SaysUnder, SaysAt};
+ghost use Rattle.questions.specs.asked.Necessary.{IsByFew};
 ghost use Rattle.questions.specs.asked.Rule.{IsDeadAt, Says};
 ghost use Rattle.questions.specs.asked.Short.{AreNeverTooLong, AreNeverTooLongUnder};
 ghost use Rattle.questions.specs.asked.Unclear.{IsUnclear, IsUnclearAt};
@@ -235,8 +236,9 @@ pub fn dead(
 /// on the packet's walk where they are right, whatever else holds.
 ///
 /// A step of the search is also one box that parts by a condition. A rule that hands over parts no box: the answers for it are given at the
-/// end. A packet is offered if its walks, for all assignments that give the answers, are known to end with `budget` steps more. Of the answers
-/// the first are given that are seen to suffice, by as many steps for each; no clause says that fewer don't.
+/// end. A packet is offered if its walks, for all assignments that give the answers, are known to end with `budget` steps more. Of more than
+/// eight answers the first are given that are seen to suffice. Of up to eight each is necessary: without it the rule may be off the packet's walk,
+/// or the walks aren't known to end with `budget` steps.
 ///
 /// # Errors
 ///
@@ -254,6 +256,7 @@ pub fn dead_under(
     ensures says { IfOk result (SaysUnder subject.now (record { chain = (chain_at (table_of subject.now) place).name; number = number })) }
     ensures short { IfOk result (λ life. life ≡ Dead → AreNeverTooLongUnder subject.now (record { chain = place; number = number })) }
     ensures unclear { IfOk result (IsUnclearUnder subject.now (record { chain = place; number = number }) budget) }
+    ensures few { IfOk result (IsByFew subject.now (record { chain = place; number = number }) budget) }
 {
     let step = Step {
         chain: place,

@@ -1,6 +1,7 @@
 //! Answers about conditions that this program doesn't know.
 ghost use Rattle.std.specs.Prelude.{◌≡◌, [], ◌∷◌, ◌++◌, Contains, IfNone, IfOk, IfSome, OnOk};
 ghost use Rattle.questions.specs.Foreign.{AreConsistent, IsGiven, IsUnanswered};
+ghost use Rattle.questions.specs.steps.Answered.{answers_but};
 
 use std::alloc::{AllocError, Global};
 use std::marker::Model;
@@ -85,6 +86,16 @@ impl Answers {
     {
         let mut listed = Vec::new(alloc);
         listed.extend_from_slice(self.listed.as_slice())?;
+        Ok(Answers { listed })
+    }
+
+    // The same answers but one, to a condition.
+    pub(crate) fn without(&self, alloc: Global, condition: usize) -> Result<Answers, AllocError>
+        ensures { IfOk result (λ others. others ≡ answers_but condition self.now) }
+    {
+        let mut listed = Vec::new(alloc);
+        listed.extend_from_slice(self.listed.as_slice())?;
+        listed.retain(|answer| answer.condition != condition);
         Ok(Answers { listed })
     }
 

@@ -15,8 +15,8 @@ ghost use Rattle.questions.specs.steps.Seeking.{AreAllWays};
 ghost use Rattle.questions.specs.steps.Tries.{IsTried};
 
 use crate::asked::matching::scope_at;
+use crate::asked::necessary::is_always_on;
 use crate::asked::rule::{Life, is_on};
-use crate::asked::shortest::is_always_on;
 use crate::foreign::answers::Answers;
 use crate::foreign::subject::Subject;
 use crate::sampling::sample::{Sample, sample_of};

@@ -86,7 +86,7 @@ returns-in-Live-clause-says c =
     let s = c.args.subject.now in
     let step : Step = record { chain = c.args.place; number = c.args.number } in
     let (consistent, live) = rw c.in-Live.is at c.in_ok-life_at.ensures.says in
-    c.in_ok-enough-in-Live.ensures (record {
+    c.in_ok-enough-in-Live.ensures.enough (record {
       consistent = consistent;
       live = λ a agrees.
           (let (p, writes, there, on) = live a agrees in

@@ -1,7 +1,0 @@
-use Rattle.std.proofs.Common.{ℕ, ◌<◌, get_or}
-use Rattle.questions.specs.declared.walking.task.Leaf.{Leaf}
-use Rattle.questions.specs.steps.Meant.{IsSurelyOn, needs_of}
-use Rattle.questions.proofs.asked.shortest.all_have.Given as goal
-
-abbrev pub invariant-loop-leaf : goal.invariant-loop-leaf
-invariant-loop-leaf l = (k : ℕ) (d : Leaf) → k < l.leaf-index → IsSurelyOn (needs_of l.subject.needs.now l.fn.step) l.fn.step (get_or l.found k d)
