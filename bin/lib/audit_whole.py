@@ -66,12 +66,21 @@ JUMPED = (b"".join(b"unclear INPUT %d -A INPUT -j local if limit --limit %d/sec\
           b"packet OUTPUT src=192.0.2.1 dst=198.51.100.1 out=eth0 proto=6 sport=40000 dport=80 flags=SYN ct=NEW ttl=64\n"
           b"missed local 1 -A local -s 10.0.0.1/32 -j DROP\n  if limit --limit 1/sec at INPUT 1\n" + TCP.replace(b"192.0.2.1", b"10.0.0.1") % 80
           + b"unclear local 2 -A local -p tcp -m tcp --dport 22 -j LOG\n")
+# A rule of the second chain is on the walk whether or not the first chain was entered.
+APART_FROM = HEAD + (b":far - [0:0]\n-A INPUT -m limit --limit 1/sec -j local\n-A INPUT -m limit --limit 2/sec -j far\n"
+                     b"-A local -s 10.0.0.1 -j DROP\n-A far -j ACCEPT\nCOMMIT\n")
 DIFFERENT = b"packet INPUT src=192.0.2.9 dst=10.0.0.2 in=eth0 proto=tcp sport=4000 dport=22\n"
 
 # What is asked, with the files and standard input, and what is due: standard output, the status and standard error.
 ROWS = [
     ("dead", ["dead", "R"], {"R": DUMP}, b"", DEAD_ANSWER + OPEN, 1, b""),
     ("tests", ["tests", "R"], {"R": DUMP}, b"", TESTS + b"# " + OPEN, 1, b""),
+    ("tests, no answers but those that are needed", ["tests", "R"], {"R": APART_FROM}, b"",
+     b"".join(b"# %s if limit --limit %d/sec\n#   if limit --limit %d/sec at INPUT %d\n# " % (rule, number, number, number) + TCP % 80
+              for number, rule in ((1, b"INPUT 1 -A INPUT -j local"), (2, b"INPUT 2 -A INPUT -j far")))
+     + b"# far 1 -A far -j ACCEPT\n#   if limit --limit 2/sec at INPUT 2\n# " + TCP % 80
+     + b"# local 1 -A local -s 10.0.0.1/32 -j DROP\n#   if limit --limit 1/sec at INPUT 1\n# " + TCP.replace(b"192.0.2.1", b"10.0.0.1") % 80
+     + b"# 2 conditions open: limit 2\n", 0, b""),
     ("walk", ["walk", "R"], {"R": DUMP}, GIVEN, WALKS + OPEN, 0, b""),
     ("walk, ends that are alike", ["walk", "R"], {"R": RETURNS}, LOGIN + b"\n" + NAME + b"\n",
      LOGIN + b"\n  if " + HERE + b" or " + BROADCAST + b": ACCEPT by INPUT 2; else DROP by local 3\n"

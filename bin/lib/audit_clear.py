@@ -1,0 +1,68 @@
+"""Rulesets of ordinary kinds, of which `dead` may leave no rule unclear, for bin/runs/audit. Which rules are dead follows from how the
+rulesets are made.
+"""
+
+import re
+
+POLICIES = b"*filter\n:INPUT DROP [0:0]\n:FORWARD DROP [0:0]\n:OUTPUT ACCEPT [0:0]\n"
+LOGIN = b"-p tcp -m tcp --dport 22"
+# All packets that are left, and none.
+ENDS = [b"-A INPUT -j ACCEPT", b"-A INPUT -j DROP"]
+
+
+def sampled(count):
+    """Jumps on conditions to chains that drop a host each."""
+    jumps = [b"-A INPUT -m statistic --mode nth --every %d --packet 0 -j k%d" % (number + 2, number) for number in range(count)]
+    return jumps + ENDS + [b"-A k%d -s 10.9.0.%d -j DROP" % (number, number) for number in range(count)], [b"INPUT %d" % (count + 2)]
+
+
+def one_chain(count):
+    """Jumps on conditions to one chain, whose last rule comes after a RETURN."""
+    jumps = [b"-A INPUT -m limit --limit %d/sec -j k" % (number + 1) for number in range(count)]
+    return jumps + ENDS + [b"-A k -s 10.9.0.1 -j DROP", b"-A k -j RETURN", b"-A k -s 10.9.0.2 -j DROP"], [b"INPUT %d" % (count + 2), b"k 3"]
+
+
+def banned(count):
+    """Sets of banned hosts, each with a chain that comes back."""
+    jumps = [b"-A INPUT %s -m set --match-set f2b-%d src -j f2b-%d" % (LOGIN, number, number) for number in range(count)]
+    chains = [rule % number for number in range(count) for rule in (b"-A f2b-%d -s 10.9.0.0/24 -j REJECT", b"-A f2b-%d -j RETURN")]
+    return jumps + [b"-A INPUT %s -j ACCEPT" % LOGIN, b"-A INPUT %s -j DROP" % LOGIN] + chains, [b"INPUT %d" % (count + 2)]
+
+
+def cards(count):
+    """Hosts that are told by their network cards."""
+    return [b"-A INPUT -m mac --mac-source 02:00:00:00:00:%02x -j ACCEPT" % number for number in range(count)] + ENDS, [b"INPUT %d" % (count + 2)]
+
+
+def networks(count):
+    """Chains for networks, of whose hosts one is named twice."""
+    jumps = [b"-A FORWARD -d 10.0.%d.0/24 -j n%02d" % (number, number) for number in range(count)]
+    rules = [b"-A n%02d -d 10.0.%d.%d %s -j ACCEPT" % (number, number, host % 30, LOGIN) for number in range(count) for host in range(31)]
+    return jumps + rules, [b"n%02d 31" % number for number in range(count)]
+
+
+def gone_to(count):
+    """Chains that are entered twice, by a jump and by a goto behind it that nothing is left for."""
+    ways = [b"-A INPUT %s -j g%d" % (LOGIN, number) for number in range(count)] + [b"-A INPUT -p udp -g g0", b"-A INPUT -p udp -j DROP"]
+    return ways + [b"-A g%d -s 10.9.0.%d -j DROP" % (number, number) for number in range(count)], [b"INPUT %d" % (count + 2)]
+
+
+RULESETS = {
+    "jumps on conditions": sampled(12),
+    "jumps on conditions to one chain": one_chain(12),
+    "sets of banned hosts": banned(30),
+    "network cards": cards(60),
+    "chains for networks": networks(25),
+    "chains that are gone to": gone_to(9),
+}
+
+
+def clear_rows(rows):
+    """Runs `dead` on each of them."""
+    for about, (rules, dead) in RULESETS.items():
+        chains = sorted({rule.split()[1] for rule in rules} - {b"INPUT", b"FORWARD"})
+        dump = POLICIES + b"".join(b":%s - [0:0]\n" % chain for chain in chains) + b"".join(rule + b"\n" for rule in rules) + b"COMMIT\n"
+        ended = rows.run(["dead", "R"], {"R": dump})
+        came = re.findall(rb"(?m)^(?:dead|unclear) \S+ \d+|^\d+ rules, .*", ended.stdout)
+        due = [b"dead " + name for name in dead] + [b"%d rules, %d dead, 0 unclear" % (len(rules), len(dead))]
+        rows.compared(f"none unclear: {about}", (1, b"\n".join(due), b""), (ended.returncode, b"\n".join(came), ended.stderr))
