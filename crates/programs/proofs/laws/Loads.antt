@@ -6,7 +6,6 @@ use Rattle.std.specs.Io.Buffered.{reader_buffer, reader_inner, reader_remaining}
 use Rattle.std.specs.declared.io.buffered.BufReader.{BufReader}
 use Rattle.fields.specs.declared.text.tap.Tap.{Tap}
 use Rattle.fields.specs.text.Tap.{device, known}
-use Rattle.table.specs.chains.Table.{Table}
 use Rattle.sessions.specs.line.Outcome.{Line}
 use Rattle.sessions.specs.run.Headline.{RunsTo}
 use Rattle.sessions.specs.run.Run.{Moment, Runs}
@@ -64,8 +63,8 @@ of_read runs = record {
 module _ (old new : Session) {before after : Moment} {status : ℕ} (runs : RunsTo kind before (Ok status) after) (from : before.table.table ≡ (table_of old).table) (to : after.table.table ≡ (table_of new).table) where
   restored : (left : Option (List ℕ)) (bytes : List ℕ) → IfSome left (λ all. bytes ≡ all) → Says before (marks_of runs.lines) status after bytes → IsRestored left old status new
   restored left bytes are whole =
-      let s : Table → State = λ t. whole_run kind t bytes (marks_of runs.lines) in
-      (bytes, are, marks_of runs.lines, (whole.1 ∙ ap (λ t. (s t).now.status) from, sym to ∙ whole.2 ∙ ap (λ t. (s t).now.table) from))
+      let marks = marks_of runs.lines in
+      (bytes, are, marks, (whole.1 ∙ ap (λ t. (whole_run kind t bytes marks).now.status) from, sym to ∙ whole.2 ∙ ap (λ t. (whole_run kind t bytes marks).now.table) from))
 
   pub loaded : (left : Option (List ℕ)) → before.left ≡ left → IsRestored left old status new
   loaded None is =
