@@ -50,7 +50,7 @@ def gone_to(count):
 RULESETS = {
     "jumps on conditions": sampled(12),
     "jumps on conditions to one chain": one_chain(12),
-    "sets of banned hosts": banned(30),
+    "sets of banned hosts": banned(10),
     "network cards": cards(60),
     "chains for networks": networks(25),
     "chains that are gone to": gone_to(9),
