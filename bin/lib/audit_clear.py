@@ -42,7 +42,7 @@ def networks(count):
 
 
 def gone_to(count):
-    """Chains that are entered twice, by a jump and by a goto behind it that nothing is left for."""
+    """Chains that jumps enter, and one also a goto, which doesn't come back: nothing is left for the rule behind it."""
     ways = [b"-A INPUT %s -j g%d" % (LOGIN, number) for number in range(count)] + [b"-A INPUT -p udp -g g0", b"-A INPUT -p udp -j DROP"]
     return ways + [b"-A g%d -s 10.9.0.%d -j DROP" % (number, number) for number in range(count)], [b"INPUT %d" % (count + 2)]
 
