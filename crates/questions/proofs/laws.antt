@@ -4,6 +4,7 @@ pub mod AlikeLaws
 pub mod AnswerLaws
 pub mod AreaLaws
 pub mod AskedLaws
+pub mod BeforeLaws
 pub mod BoxesLaws
 pub mod BranchLaws
 pub mod CallLaws
@@ -23,6 +24,7 @@ pub mod ForeignLaws
 pub mod GroupLaws
 pub mod HeldLaws
 pub mod HookLaws
+pub mod IndexLaws
 pub mod LeadLaws
 pub mod LeastNameLaws
 pub mod LengthLaws
@@ -36,6 +38,7 @@ pub mod NeverLaws
 pub mod OnwardLaws
 pub mod PacketLaws
 pub mod PartLaws
+pub mod PartingLaws
 pub mod PlainCompareLaws
 pub mod PlainLaws
 pub mod PossibleLaws

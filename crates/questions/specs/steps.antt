@@ -1,6 +1,7 @@
 pub mod Ahead
 pub mod Answered
 pub mod Asking
+pub mod Before
 pub mod Branches
 pub mod Candidates
 pub mod Chosen

@@ -8,6 +8,7 @@ pub(crate) mod laws;
 pub(crate) mod leading;
 pub(crate) mod likeness;
 pub(crate) mod matching;
+pub(crate) mod missing;
 pub(crate) mod necessary;
 pub(crate) mod other;
 pub(crate) mod pairs;

@@ -150,7 +150,7 @@ abbrev by_place : List ℕ → Option ℕ → ℕ
 by_place numbers o = elim o as (λ x. ℕ) [ None ↦ 0 | Some place ↦ get_or numbers place 0 ]
 
 -- the number of a hook's chain
-hook_number : (t : Table) (numbers : List ℕ) (hook : Hook) (o : Option ℕ) → IsSound t → position (is_named (hook_name hook)) t.chains ≡ o → number_of t.chains numbers (hook_name hook) ≡ get_or numbers (hook_index hook) 0
+pub hook_number : (t : Table) (numbers : List ℕ) (hook : Hook) (o : Option ℕ) → IsSound t → position (is_named (hook_name hook)) t.chains ≡ o → number_of t.chains numbers (hook_name hook) ≡ get_or numbers (hook_index hook) 0
 hook_number t numbers hook None s e =
     let named = named_first t.chains hook s.listed.built_in in
     let there = has_at t.chains (hook_name hook) (hook_index hook) (empty_chain []) named.1 ((bytes_eq-Decides (name_at t.chains (hook_index hook)) (hook_name hook)).1 named.0) in

@@ -1,5 +1,5 @@
 -- Which answers suffice for a rule to be on a packet's walk, and which of them are necessary.
-use Rattle.std.proofs.Common.{◌≡◌, ◌≢◌, ◌⊎◌, inl, inr, ℕ, ◌+◌, ◌<◌, ◌≤◌, Bool, true, false, cond, not, List, length, get_or, refl, sym, ◌∙◌, ap, arith, subst, All, Any, Contains, Ok}
+use Rattle.std.proofs.Common.{◌≡◌, ◌≢◌, ◌⊎◌, inl, inr, ℕ, ◌+◌, ◌<◌, ◌≤◌, Bool, true, false, cond, not, List, [], ◌∷◌, length, get_or, refl, sym, ◌∙◌, ap, arith, subst, All, Any, Contains, Ok}
 use Rattle.std.specs.Prelude.{◌==◌, IfOk}
 use Rattle.std.proofs.lemmas.Bool.{cases_lt, true≢false}
 use Rattle.std.proofs.lemmas.Bool.Decides.{eqb_tells}
@@ -12,23 +12,27 @@ use Rattle.table.specs.chains.Sound.{IsSound}
 use Rattle.table.specs.declared.walk.trail.Step.{Step}
 use Rattle.table.specs.walk.Walk.{Entry, Walked, walk}
 use Rattle.questions.specs.Ends.{IsRule}
-use Rattle.questions.specs.Foreign.{Agrees, AreConsistent, Assignment, IsUnanswered, all_hold, need_holds}
+use Rattle.questions.specs.Foreign.{Agrees, AreConsistent, Assignment, IsGiven, IsUnanswered, all_hold, need_holds}
 use Rattle.questions.specs.Leaves.{entry_of}
 use Rattle.questions.specs.Scopes.{IsOf, answered, entries_by, known_by, scope_of, table_of, walked_by}
 use Rattle.questions.specs.asked.Always.{IsLiveWith}
 use Rattle.questions.specs.asked.Necessary.{AreEnough, AreNecessary, IsNecessary, MayNotSuffice}
 use Rattle.questions.specs.asked.Walks.{AreWalksUnder}
-use Rattle.questions.specs.boxes.Area.{IsIn}
+use Rattle.questions.specs.boxes.Area.{IsAtHook, IsIn}
 use Rattle.questions.specs.declared.foreign.answers.Answer.{Answer}
 use Rattle.questions.specs.declared.foreign.need.Need.{Need}
 use Rattle.questions.specs.declared.foreign.subject.Subject.{Subject}
+use Rattle.questions.specs.declared.walking.front.Front.{Front}
+use Rattle.questions.specs.declared.walking.scope.Scope.{Scope}
 use Rattle.questions.specs.declared.walking.task.Leaf.{Leaf}
 use Rattle.questions.specs.steps.Answered.{IsOpen, answers_but, others_than}
 use Rattle.questions.specs.steps.Meant.{IsMissed, IsSurelyOn, needs_of}
-use Rattle.questions.proofs.laws.AnswerLaws.{either_is_given}
+use Rattle.questions.specs.steps.Waiting.{Begins}
+use Rattle.questions.proofs.laws.AnswerLaws.{agrees_before, either_is_given}
 use Rattle.questions.proofs.laws.ForeignLaws.{left_sound}
 use Rattle.questions.proofs.laws.HeldLaws.{keeps, on_entries_by, step_by}
 use Rattle.questions.proofs.laws.ResolvedLaws.{entry_left, length_same}
+use Rattle.questions.proofs.laws.WaitLaws.{all_exact}
 
 -- a rule that is surely on each leaf which has the packet is on the packet's walk, where the answers are right
 pub surely_enough : (s : Subject) (found : List Leaf) (p : Packet) (step : Step) (answers : List Answer) → ((a : Assignment) → AreWalksUnder (answered s a) (known_by s a) p answers found)
@@ -41,15 +45,16 @@ surely_enough s found p step answers walks all a agrees =
     let Q : Entry → Type 0 = λ entry. Contains (walk (answered s a) p).trail entry in
     subst Q (entry_left s.needs.now a (table_of s) step) (subst P (sym ends.walked) here)
 
--- where a leaf that has the packet misses the rule, some assignment gives the answers and has the rule off the walk
-pub missed_off : (s : Subject) (found : List Leaf) (p : Packet) (step : Step) (answers : List Answer) → IsSound (table_of s) → IsRule (table_of s) step → ((a : Assignment) → AreWalksUnder (answered s a) (known_by s a) p answers found)
+-- where a leaf that has the packet misses the rule, and each leaf shows the packet's walk, some assignment gives the answers and has the rule off the walk
+pub missed_by : (s : Subject) (found : List Leaf) (p : Packet) (step : Step) (answers : List Answer) → IsSound (table_of s) → IsRule (table_of s) step
+    → ((a : Assignment) → All (λ (leaf : Leaf). IsOf (known_by s a) p (scope_of leaf) → Agrees a answers × (walk (answered s a) p ≡ walked_by (known_by s a) (answered s a).chains leaf)) found)
     → Any (λ (leaf : Leaf). IsIn leaf.area p × IsMissed (needs_of s.needs.now step) step leaf) found
     → (a : Assignment) × Agrees a answers × (Contains (walk (answered s a) p).trail (entry_of (table_of s).chains step) → ⊥)
-missed_off s found p step answers sound rule walks (k, leaf, lt, is, missed) =
+missed_by s found p step answers sound rule exact (k, leaf, lt, is, missed) =
     let (inside, lapse) = missed in
     let (a, agrees, unmet) = lapse in
     let Shown : Leaf → Type 0 = λ leaf. IsOf (known_by s a) p (scope_of leaf) → Agrees a answers × (walk (answered s a) p ≡ walked_by (known_by s a) (answered s a).chains leaf) in
-    let (given, walked) = All-contains Shown found leaf (walks a).exact (k, lt, is) (record { inside = inside; agrees = agrees }) in
+    let (given, walked) = All-contains Shown found leaf (exact a) (k, lt, is) (record { inside = inside; agrees = agrees }) in
     let P : Walked → Type 0 = λ w. Contains w.trail (entry_of (answered s a).chains step) in
     let Q : Entry → Type 0 = λ entry. Contains (walk (answered s a) p).trail entry in
     let within : step.chain < length (answered s a).chains = omega (arith, rule.chain, length_same s.needs.now a (table_of s).chains) in (
@@ -59,6 +64,20 @@ missed_off s found p step answers sound rule walks (k, leaf, lt, is, missed) =
           let (there, met) = step_by (answered s a) (known_by s a) leaf.trail.items step (left_sound s.needs.now a (table_of s) sound) within (subst P walked (subst Q (sym (entry_left s.needs.now a (table_of s) step)) on)) in
           absurd (true≢false (sym met ∙ unmet there)),
     )
+
+-- so it does where all walks are known
+pub missed_off : (s : Subject) (found : List Leaf) (p : Packet) (step : Step) (answers : List Answer) → IsSound (table_of s) → IsRule (table_of s) step → ((a : Assignment) → AreWalksUnder (answered s a) (known_by s a) p answers found)
+    → Any (λ (leaf : Leaf). IsIn leaf.area p × IsMissed (needs_of s.needs.now step) step leaf) found
+    → (a : Assignment) × Agrees a answers × (Contains (walk (answered s a) p).trail (entry_of (table_of s).chains step) → ⊥)
+missed_off s found p step answers sound rule walks any = missed_by s found p step answers sound rule (λ a. (walks a).exact) any
+
+-- and where one of those is missed that are known so far
+pub missed_soon : (s : Subject) (front : Front) (p : Packet) (step : Step) (start : Scope) → IsSound (table_of s) → IsRule (table_of s) step → IsAtHook p → ((a : Assignment) → Begins (answered s a) (known_by s a) p.hook start front)
+    → Any (λ (leaf : Leaf). IsIn leaf.area p × IsMissed (needs_of s.needs.now step) step leaf) front.leaves.items
+    → (a : Assignment) × Agrees a start.answers × (Contains (walk (answered s a) p).trail (entry_of (table_of s).chains step) → ⊥)
+missed_soon s front p step start sound rule can begins any =
+    missed_by s front.leaves.items p step start.answers sound rule
+    (λ a k d lt own. let (of, walked) = all_exact (answered s a) (known_by s a) p.hook start front (begins a) p can refl k d lt own in (of.agrees, walked)) any
 
 -- ---- a rule that is live by answers
 
@@ -94,6 +113,12 @@ open_missed needs answers condition apart open_at =
 
     unmet : (need : Need) (value : Bool) → value ≡ need.inverted → cond need.inverted (not value) value ≡ false
     unmet need value h = turned need.inverted value h
+
+-- an assignment that gives one answer more gives the others, too
+pub given_agrees : (a : Assignment) (condition : ℕ) (holds is_new : Bool) (old new : List Answer) → IsGiven condition holds is_new old new → Agrees a new → Agrees a old
+given_agrees a condition holds true old new given agrees =
+    agrees_before a old (record { condition = condition; holds = holds } ∷ []) (subst (λ (l : List Answer). Agrees a l) given.1 agrees)
+given_agrees a condition holds false old new given agrees = subst (λ (l : List Answer). Agrees a l) given.1 agrees
 
 -- ---- answers are left out one by one
 

@@ -39,7 +39,7 @@ use Rattle.questions.specs.declared.walking.scope.Scope.{Scope}
 use Rattle.questions.specs.steps.Answered.{IsMeeting, MeetsNever}
 use Rattle.questions.specs.steps.Meant.{IsScopeAt, needs_of}
 use Rattle.questions.specs.steps.Takers.{IsMatchedAt}
-use Rattle.questions.specs.steps.Seeking.{AddsBoxes, AddsParts, IsHere, IsLeftIn, IsSameScope, AllWant, AreAllWays, EndsAt, IsAheadOn, IsPlaceOf, IsTakenBy, KeepsIn, KeepsWanted, LeadsAwayAt, MayCome, NoneAheadTakesOut, TakesBy, TakesOver, chains_of, top_of}
+use Rattle.questions.specs.steps.Seeking.{AddsBoxes, AddsParts, IsHere, IsLeftIn, IsSameScope, AllWant, AreAllWays, EndsAt, IsAheadOn, IsPlaceOf, IsTakenBy, KeepsIn, KeepsWanted, LeadsAwayAt, MayCome, NoneAheadTakesOut, TakesScopes, TakesBy, TakesOver, chains_of, top_of}
 use Rattle.questions.specs.steps.Straying.{Hits, IsLedAway, IsOpenWay, LeadsAway, TakesOut, place_at}
 use Rattle.questions.specs.boxes.Calls.{AreCalls, is_call, place_named}
 use Rattle.questions.specs.declared.seeking.calls.Call.{Call}
@@ -614,6 +614,22 @@ first_way s step hook first ways sound is wanted scope places e a p at there on 
     let S : List Step → Type 0 = λ ps. IsOpenWay cs p.values (hook_name p.hook) (name_at cs step.chain) (map (place_at cs) ps ++ way.0.0) in
     any_last (MayCome s a p) [] first ways e
     (record { here = (inside, agrees); free = subst Q (sym wanted) way.1; above = way.0.0; leads = subst R (sym wanted) (subst S (sym places) way.0.1) })
+
+-- so have ways for parts of it, which have all of it that the rule matches
+pub first_parts : (s : Subject) (step : Step) (hook : Hook) (first : Way) (parts : List Scope) (ways : List Way) → IsSound (table_of s) → IsRule (table_of s) step → first.wanted ≡ step → IsScopeAt (table_of s) s.needs.now step hook first.scope
+    → first.places.items ≡ [] → ((a : Assignment) (p : Packet) → IsAtHook p → IsHere a p first.scope → matches p.values (rule_at (table_of s) step) ≡ true → Any (IsHere a p) parts) → TakesScopes first parts [] ways → AreAllWays s step hook ways
+first_parts s step hook first parts ways sound is wanted scope places parted takes a p at there on =
+    let t = answered s a in
+    let cs = chains_of s a in
+    let left = left_sound s.needs.now a (table_of s) sound in
+    let rule : IsRule t step = rule_of_entry t p step left (All-contains (IsMatched cs p.values) (walk t p).trail (entry_of cs step) (trail_matches t p) on) in
+    let own : IsMatchedAt t step hook p = record { can = at; there = there; matched = rule_matches t p step left rule on } in
+    let before = matched_before s.needs.now a (table_of s) step hook p is own in
+    let (k, d, lt, same, may) = first_way s step hook first (first ∷ []) sound is wanted scope places refl a p at there on in
+    let at_first : k ≡ 0 = omega (arith, lt) in
+    let one : d ≡ first = sym same ∙ ap (λ (i : ℕ). get_or (first ∷ []) i d) at_first in
+    let own_may : MayCome s a p first = subst (λ (w : Way). MayCome s a p w) one may in
+    takes.taken s a p own_may (parted a p at own_may.here before.matched)
 
 -- and there is none where no assignment meets what the rule needs
 pub never_meets : (s : Subject) (step : Step) (hook : Hook) → IsSound (table_of s) → IsRule (table_of s) step → MeetsNever (needs_of s.needs.now step) [] → IsAlwaysDeadAt s step hook

@@ -19,7 +19,7 @@ use Rattle.table.specs.walk.Walk.{Entry, walk}
 use Rattle.table.proofs.laws.chains.KeepLaws.{rules_by_name}
 use Rattle.questions.specs.Ends.{rule_at}
 use Rattle.questions.specs.Leaves.{entry_of, name_at}
-use Rattle.questions.specs.Foreign.{Assignment, resolved, resolved_rule}
+use Rattle.questions.specs.Foreign.{Assignment, resolved_rule}
 use Rattle.questions.specs.Scopes.{Whole, answered, table_of, whole_of}
 use Rattle.questions.specs.asked.Changes.{AreOff, AreThese, IsThis, MatchesNone, ShareOthers}
 use Rattle.questions.specs.asked.Without.{staying}
@@ -35,7 +35,7 @@ use Rattle.questions.specs.steps.Collected.{AddsRules}
 use Rattle.questions.specs.steps.Shared.{Adds, AreEqualAt, AreSameAt, AreThere, HaveNext, IsAhead, IsNext, NoneAhead, HasPlace, IsBeside, IsMarkedRule, IsPaired, is_marked, marks_on, name_of, pair_named, unmarked, unshared}
 use Rattle.questions.proofs.laws.CollectLaws.{adds_as}
 use Rattle.questions.proofs.laws.ForeignLaws.{left_sound}
-use Rattle.questions.proofs.laws.ResolvedLaws.{chain_named, entry_left, length_same, rule_back, rule_left, rule_left_there, there_left}
+use Rattle.questions.proofs.laws.ResolvedLaws.{chain_named, length_same, rule_left, there_left}
 use Rattle.questions.proofs.laws.TrailLaws.{IsMatched, trail_matches}
 
 -- ---- one more mark

@@ -1,10 +1,24 @@
 -- What answers tell of the needs of a rule.
-use Rattle.std.specs.Prelude.{◌≡◌, ◌⊎◌, ◌==◌, ℕ, Bool, not, List, filter, All, Any, IsTrue, IsFalse}
+use Rattle.std.specs.Prelude.{◌≡◌, ◌⊎◌, ◌==◌, ℕ, Bool, not, List, filter, slice_index_or, Option, Some, None, All, Any, Contains, IsTrue, IsFalse}
 use Rattle.questions.specs.Foreign.{Agrees, AreConsistent, Assignment, IsUnanswered, all_hold, need_holds}
 use Rattle.questions.specs.declared.foreign.need.Need.{Need}
 use Rattle.questions.specs.declared.foreign.answers.Answer.{Answer}
 use Rattle.questions.specs.declared.foreign.need.Standing.{Standing}
 use Rattle.questions.specs.declared.foreign.need.Standing.TheVariants.{Holds, Fails, Open}
+
+-- what a condition was answered, by a list of that for all conditions, from the first on; those behind have no answer
+abbrev pub answer_in : List (Option Bool) → ℕ → Option Bool
+answer_in index condition = slice_index_or index condition None
+
+-- two lists have the same answers
+abbrev pub AreSameIndex : List (Option Bool) → List (Option Bool) → Type 0
+AreSameIndex old new = (condition : ℕ) → answer_in new condition ≡ answer_in old condition
+
+-- Such a list has the answers, no two of which are about one condition, and no others.
+pub record AreIndexed (index : List (Option Bool)) (answers : List Answer) : Type 0 where
+  pub consistent : AreConsistent answers
+  pub each : All (λ (answer : Answer). answer_in index answer.condition ≡ Some answer.holds) answers
+  pub only : (condition : ℕ) (holds : Bool) → answer_in index condition ≡ Some holds → Contains answers (record { condition = condition; holds = holds })
 
 -- an answer is to another condition
 abbrev pub others_than : ℕ → Answer → Bool

@@ -14,10 +14,11 @@ use Rattle.questions.specs.steps.Ahead.{Decides}
 
 -- A rule is told by what is left of its chain before it: it is the next one.
 
--- what is left of its chain before the rule of an entry, and of a step
+-- what is left of its chain before the rule of an entry
 abbrev pub place_of : Entry → Rest
 place_of entry = record { chain = entry.chain; passed = entry.number - 1 }
 
+-- what is left of its chain before the rule of a step
 abbrev pub place_at : List Chain → Step → Rest
 place_at chains step = record { chain = name_at chains step.chain; passed = step.number - 1 }
 

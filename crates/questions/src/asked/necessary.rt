@@ -6,30 +6,18 @@ ghost use Rattle.questions.specs.asked.Necessary.{AreEnough, AreNecessary, MayNo
 ghost use Rattle.questions.specs.boxes.Area.{IsAtHook, IsIn};
 ghost use Rattle.questions.specs.steps.Meant.{IsMissed, IsSurelyOn, needs_of};
 
-use crate::asked::rule::is_on;
+use crate::asked::missing::{is_off, is_surely_on};
 use crate::asked::walks::walks_of;
 use crate::boxes::area::Area;
 use crate::boxes::matched::has;
-use crate::foreign::answers::Answers;
-use crate::foreign::need::{Need, Standing, known_of};
+use crate::foreign::answers::{Answer, Answers};
 use crate::foreign::subject::Subject;
+use crate::seeking::before::Approach;
+use crate::seeking::surely::suffice_surely;
 use crate::walking::task::Leaf;
 use fields::Packet;
 use std::alloc::{AllocError, Global};
 use table::Step;
-
-// Whether a rule is on the trail of a leaf, and all holds that it needs where the leaf's answers are right.
-fn is_surely_on(needs: &[Need], leaf: &Leaf, step: Step) -> bool
-    ensures yes { IsTrue result → IsSurelyOn needs.now step leaf.now }
-    ensures no { result ≡ false → IsMissed needs.now step leaf.now }
-{
-    leaf.answers.stand();
-    match known_of(needs, &leaf.answers) {
-        Standing::Holds => is_on(leaf.trail.as_slice(), step),
-        Standing::Fails => false,
-        Standing::Open(_) => false,
-    }
-}
 
 // Whether each leaf that has the packet has the rule surely on its trail.
 fn all_have(subject: &Subject<'_>, found: &[Leaf], packet: &Packet, step: Step) -> bool
@@ -46,7 +34,7 @@ fn all_have(subject: &Subject<'_>, found: &[Leaf], packet: &Packet, step: Step) 
     true
 }
 
-// Whether a rule is known to be on the walk of a packet where the answers are right.
+// Whether a rule is known to be on the walk of a packet where the answers are right: the packet surely comes there, or all its walks have the rule.
 pub(crate) fn is_always_on(
     alloc: Global,
     subject: &Subject<'_>,
@@ -61,11 +49,56 @@ pub(crate) fn is_always_on(
     ensures no { IfOk result (λ is. is ≡ false → MayNotSuffice subject.now step packet.now budget answers.now) }
 {
     subject.boxed.table.stands();
+    let approach = Approach {
+        subject: *subject,
+        packet,
+        answers,
+        wanted: step,
+    };
+    if suffice_surely(alloc, &approach)? {
+        return Ok(true);
+    }
     let whole = Area::at_hook(alloc, packet.hook())?;
     match walks_of(alloc, subject, &whole, packet, answers, budget)? {
         None => Ok(false),
         Some(found) => Ok(all_have(subject, found.as_slice(), packet, step)),
     }
+}
+
+// Whether answers are known to suffice without one more: they are, or a walk misses the rule where that one is turned; else all walks tell.
+fn suffice_without(
+    alloc: Global,
+    others: &Approach<'_, '_, '_>,
+    answer: Answer,
+    budget: usize,
+) -> Result<bool, AllocError>
+    requires step { IsRule (table_of others.now.subject) others.now.wanted }
+    requires can { IsAtHook others.now.packet.now }
+    ensures yes { IfOk result (λ is. IsTrue is → AreEnough others.now.subject others.now.wanted others.now.packet.now others.now.answers.now) }
+    ensures no { IfOk result (λ is. is ≡ false → MayNotSuffice others.now.subject others.now.wanted others.now.packet.now budget others.now.answers.now) }
+{
+    if suffice_surely(alloc, others)? {
+        return Ok(true);
+    }
+    let mut turned = others.answers.copy(alloc)?;
+    let _is_new = turned.give(answer.condition, !answer.holds)?;
+    let missing = Approach {
+        subject: others.subject,
+        packet: others.packet,
+        answers: &turned,
+        wanted: others.wanted,
+    };
+    if is_off(alloc, &missing)? {
+        return Ok(false);
+    }
+    is_always_on(
+        alloc,
+        &others.subject,
+        others.packet,
+        others.answers,
+        others.wanted,
+        budget,
+    )
 }
 
 // Those of some answers that are necessary: one after another is left out where the others suffice.
@@ -85,7 +118,13 @@ pub(crate) fn necessary_of(
     let mut necessary = answers.copy(alloc)?;
     for answer in answers.listed() {
         let others = necessary.without(alloc, answer.condition)?;
-        if is_always_on(alloc, subject, packet, &others, step, budget)? {
+        let approach = Approach {
+            subject: *subject,
+            packet,
+            answers: &others,
+            wanted: step,
+        };
+        if suffice_without(alloc, &approach, *answer, budget)? {
             necessary = others;
         }
     }

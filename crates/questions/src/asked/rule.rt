@@ -35,7 +35,7 @@ use table::Step;
 /// What is known of a rule.
 #[derive(Drop)]
 pub enum Life {
-    /// The rule is on the walk of no packet that can be at its hook; and none that it would match has a walk that is too long.
+    /// The rule is on the walk of no packet that can be at its hook; and no packet that might come to it and that it would match has a walk that is too long.
     Dead,
     /// These words write a packet, and the rule is on its walk where the answers are right.
     Live(Words, Answers),
@@ -48,8 +48,8 @@ pub enum Life {
 // How many rules may be looked at ahead for each step of the budget.
 const LOOKS: usize = 50;
 
-// The steps of a short search.
-const SHORT: usize = 64;
+// For a budget of so many steps no packets are sought.
+const SMALL: usize = 64;
 
 // Whether the rule is on a trail.
 pub(crate) fn is_on(trail: &[Step], step: Step) -> bool
@@ -141,8 +141,7 @@ fn searched_at(
     Ok(at_end(clear, front.leaves.as_slice(), step))
 }
 
-// What is said of a rule, for the packets at one hook, without a long search: what a short one says; else what packets tell that are sought, where no
-// walk is too long.
+// What packets tell of a rule that are sought at one hook; that it is dead only where no walk is too long.
 fn soon_at(
     alloc: Global,
     subject: &Subject<'_>,
@@ -154,11 +153,6 @@ fn soon_at(
     ensures says { IfOk result (SaysAt subject.now step hook) }
     ensures short { IfOk result (λ life. life ≡ Dead → AreAlwaysShort subject.now step hook) }
 {
-    match searched_at(alloc, subject, hook, step, SHORT)? {
-        Life::Dead => return Ok(Life::Dead),
-        Life::Live(words, answers) => return Ok(Life::Live(words, answers)),
-        Life::Unclear => {}
-    }
     match seek(alloc, subject, hook, step, budget)? {
         Life::Live(words, answers) => return Ok(Life::Live(words, answers)),
         Life::Unclear => return Ok(Life::Unclear),
@@ -170,8 +164,7 @@ fn soon_at(
     Ok(Life::Unclear)
 }
 
-// What is said of a rule, for the packets at one hook: what is said of it soon, where the budget has more steps than that takes; else what the search
-// says.
+// What is said of a rule, for the packets at one hook: what packets tell that are sought, where the budget isn't small; else what the search says.
 pub(crate) fn life_at(
     alloc: Global,
     subject: &Subject<'_>,
@@ -184,7 +177,7 @@ pub(crate) fn life_at(
     ensures unclear { IfOk result (IsUnclearAt (MayLive subject.now step budget hook)) }
     ensures short { IfOk result (λ life. life ≡ Dead → AreAlwaysShort subject.now step hook) }
 {
-    if budget > SHORT {
+    if budget > SMALL {
         match soon_at(alloc, subject, hook, step, budget)? {
             Life::Dead => return Ok(Life::Dead),
             Life::Live(words, answers) => return Ok(Life::Live(words, answers)),
@@ -200,9 +193,9 @@ pub(crate) fn life_at(
 /// At each hook the packets of the rule's box are searched for one that comes to the rule, with `budget` steps; for a rule in the chain of a hook
 /// that is done there alone. Rules that share no packet with a box on its way are passed at once; those that share none with the rule's box are set aside after some looks, with
 /// one at each rule; a box is dropped where a rule ahead in its chain takes all of it; and the first box that comes to the rule
-/// offers a packet. Looking at a rule ahead counts a fiftieth of a step. Where 64 of more steps don't tell, packets are sought before the search begins
-/// again: at most 4,096 of them, or `budget`, walk one after another, each on a way to the rule. One that is led away parts the packets of its way,
-/// and where none is left the rule is dead.
+/// offers a packet. Looking at a rule ahead counts a fiftieth of a step. Where the budget has more than 64 steps, packets are sought before that: at most
+/// 4,096 of them, or `budget`, walk one after another, each on a way to the rule. One that is led away parts the packets of its way, and where none is
+/// left the rule is dead.
 ///
 /// Where the rule is dead, no walk of a packet that it would match is too long, of those at hooks from which jumps and gotos lead to its chain. So no
 /// packet would come to the rule either if a walk could have more than 65,536 rules.
@@ -237,8 +230,8 @@ pub fn dead(
 ///
 /// A step of the search is also one box that parts by a condition. A rule that hands over parts no box: the answers for it are given at the
 /// end. A packet is offered if its walks, for all assignments that give the answers, are known to end with `budget` steps more. Of more than
-/// eight answers the first are given that are seen to suffice. Of up to eight each is necessary: without it the rule may be off the packet's walk,
-/// or the walks aren't known to end with `budget` steps.
+/// eight answers the first half is given, again and again, as long as it is seen to suffice. Of up to eight each is necessary: without it the rule may be off the
+/// packet's walk, or the walks aren't known to end with `budget` steps.
 ///
 /// # Errors
 ///

@@ -7,18 +7,17 @@ ghost use Rattle.questions.specs.asked.Always.{IsLiveWith};
 ghost use Rattle.questions.specs.asked.Necessary.{AreEnough, AreFew};
 ghost use Rattle.questions.specs.boxes.Area.{IsAtHook};
 
-use crate::asked::necessary::{is_always_on, necessary_of};
+use crate::asked::necessary::necessary_of;
 use crate::foreign::answers::Answers;
 use crate::foreign::subject::Subject;
+use crate::seeking::before::Approach;
+use crate::seeking::surely::suffice_surely;
 use fields::{Packet, Words};
 use std::alloc::{AllocError, Global};
 use table::Step;
 
 // Up to so many answers are tried one by one.
 const FEW: usize = 8;
-
-// The steps for a trial of the first of more answers.
-const TRIAL: usize = 256;
 
 // The first of some answers, so many.
 fn first_of(alloc: Global, answers: &Answers, count: usize) -> Result<Answers, AllocError>
@@ -33,38 +32,36 @@ fn first_of(alloc: Global, answers: &Answers, count: usize) -> Result<Answers, A
     Ok(first)
 }
 
-// Few answers as they are; of more the first, as few as are known to suffice: where they are right, the rule is on the walk of the packet. Their
-// number is found by halves, each tried by a walk of the packet.
+// Few answers as they are; of more the first half, as long as it is known to suffice: where these are right, the rule is on the walk of the packet.
 fn first_enough(
     alloc: Global,
     subject: &Subject<'_>,
     packet: &Packet,
-    answers: Answers,
+    mut answers: Answers,
     step: Step,
-    budget: usize,
 ) -> Result<Answers, AllocError>
     requires step { IsRule (table_of subject.now) step }
     requires can { IsAtHook packet.now }
     ensures { IfOk result (λ enough. AreEnough subject.now step packet.now answers → AreEnough subject.now step packet.now enough) }
 {
-    let mut low = 0;
-    let mut high = answers.listed().len();
-    if high <= FEW {
-        return Ok(answers);
-    }
-    while low < high {
-        let half = low + (high - low) / 2;
-        let some = first_of(alloc, &answers, half)?;
-        if is_always_on(alloc, subject, packet, &some, step, budget)? {
-            high = half;
-        } else {
-            low = half + 1;
+    while answers.listed().len() > FEW {
+        let half = first_of(alloc, &answers, answers.listed().len() / 2)?;
+        let approach = Approach {
+            subject: *subject,
+            packet,
+            answers: &half,
+            wanted: step,
+        };
+        if !suffice_surely(alloc, &approach)? {
+            return Ok(answers);
         }
+        answers = half;
     }
-    first_of(alloc, &answers, high)
+    Ok(answers)
 }
 
-// Fewer of the answers that bring the packet which the words write to a rule: of many answers the first that suffice; of few, those that are necessary.
+// Fewer of the answers that bring the packet which the words write to a rule: of many answers the first half, again and again, as long as it suffices; of few, those
+// that are necessary.
 pub(crate) fn enough_of(
     alloc: Global,
     subject: &Subject<'_>,
@@ -82,7 +79,7 @@ pub(crate) fn enough_of(
     let Ok(packet) = Packet::read(words, 0) else {
         return Ok(answers);
     };
-    let first = first_enough(alloc, subject, &packet, answers, step, budget.min(TRIAL))?;
+    let first = first_enough(alloc, subject, &packet, answers, step)?;
     if first.listed().len() > FEW {
         first.stand();
         return Ok(first);

@@ -19,7 +19,7 @@ use fields::{Field, Packet, Spans};
 use std::alloc::{AllocError, Global};
 
 // The box of one packet of a box.
-fn box_of(alloc: Global, area: &Area, packet: &Packet) -> Result<Area, AllocError>
+pub(crate) fn box_of(alloc: Global, area: &Area, packet: &Packet) -> Result<Area, AllocError>
     requires packet { IsPacket packet.now }
     requires inside { IsIn area.now packet.now }
     ensures { IfOk result (λ own. IsOnly own packet.now) }

@@ -1,7 +1,7 @@
 //! Answers about conditions that this program doesn't know.
-ghost use Rattle.std.specs.Prelude.{◌≡◌, [], ◌∷◌, ◌++◌, Contains, IfNone, IfOk, IfSome, OnOk};
+ghost use Rattle.std.specs.Prelude.{◌≡◌, ◌<◌, [], ◌∷◌, ◌++◌, length, Contains, IfNone, IfOk, IfSome, OnOk};
 ghost use Rattle.questions.specs.Foreign.{AreConsistent, IsGiven, IsUnanswered};
-ghost use Rattle.questions.specs.steps.Answered.{answers_but};
+ghost use Rattle.questions.specs.steps.Answered.{AreSameIndex, answers_but};
 
 use std::alloc::{AllocError, Global};
 use std::marker::Model;
@@ -15,22 +15,24 @@ pub struct Answer {
     pub holds: bool,
 }
 
-/// Answers, no two of which are about one condition.
+/// Answers, no two of which are about one condition. They take the memory of a list, and of two bytes for each condition up to the last that is answered.
 #[derive(Drop)]
 pub struct Answers {
     listed: Vec<Answer>,
+    // What each condition was answered, from the first on, if it was; those behind weren't.
+    index: Vec<Option<bool>>,
 }
 
 impl Model for Answers {
     ghost use Rattle.std.specs.Prelude.{List};
-    ghost use Rattle.questions.specs.Foreign.{AreConsistent};
     ghost use Rattle.questions.specs.declared.foreign.answers.Answer.{Answer};
+    ghost use Rattle.questions.specs.steps.Answered.{AreIndexed};
 
     ghost Value = { List Answer };
 
     ghost view = { λ answers. answers.listed.items };
 
-    ghost invariant = { λ answers. AreConsistent answers.listed.items };
+    ghost invariant = { λ answers. AreIndexed answers.index.items answers.listed.items };
 }
 
 impl Answers {
@@ -40,6 +42,7 @@ impl Answers {
     {
         Answers {
             listed: Vec::new(alloc),
+            index: Vec::new(alloc),
         }
     }
 
@@ -77,7 +80,10 @@ impl Answers {
         ensures answered { IfSome result (λ holds. Contains self.now (record { condition = condition; holds = holds })) }
         ensures unanswered { IfNone result (IsUnanswered self.now condition) }
     {
-        answer_to(self.listed.as_slice(), condition)
+        if condition >= self.index.len() {
+            return None;
+        }
+        self.index[condition]
     }
 
     // The same answers.
@@ -86,7 +92,9 @@ impl Answers {
     {
         let mut listed = Vec::new(alloc);
         listed.extend_from_slice(self.listed.as_slice())?;
-        Ok(Answers { listed })
+        let mut index = Vec::new(alloc);
+        index.extend_from_slice(self.index.as_slice())?;
+        Ok(Answers { listed, index })
     }
 
     // The same answers but one, to a condition.
@@ -96,7 +104,12 @@ impl Answers {
         let mut listed = Vec::new(alloc);
         listed.extend_from_slice(self.listed.as_slice())?;
         listed.retain(|answer| answer.condition != condition);
-        Ok(Answers { listed })
+        let mut index = Vec::new(alloc);
+        index.extend_from_slice(self.index.as_slice())?;
+        if condition < index.len() {
+            index[condition] = None;
+        }
+        Ok(Answers { listed, index })
     }
 
     // One more, about a condition that has none.
@@ -104,20 +117,20 @@ impl Answers {
         requires { IsUnanswered self.old condition }
         ensures { OnOk result (self.new ≡ self.old ++ record { condition = condition; holds = holds } ∷ []) }
     {
+        reach(&mut self.index, condition)?;
         self.listed.push(Answer { condition, holds })?;
+        self.index[condition] = Some(holds);
         Ok(())
     }
 }
 
-// What a condition was answered, if it was.
-fn answer_to(answers: &[Answer], condition: usize) -> Option<bool>
-    ensures answered { IfSome result (λ holds. Contains answers.now (record { condition = condition; holds = holds })) }
-    ensures unanswered { IfNone result (IsUnanswered answers.now condition) }
+// An index that has a condition, too; nothing that it has is changed.
+fn reach(index: &mut Vec<Option<bool>>, condition: usize) -> Result<(), AllocError>
+    ensures same { AreSameIndex index.old.items index.new.items }
+    ensures there { OnOk result (condition < length index.new.items) }
 {
-    for answer in answers {
-        if answer.condition == condition {
-            return Some(answer.holds);
-        }
+    if condition < index.len() {
+        return Ok(());
     }
-    None
+    index.resize(condition.saturating_add(1), None)
 }

@@ -20,6 +20,7 @@ use crate::asked::rule::{Life, is_on};
 use crate::foreign::answers::Answers;
 use crate::foreign::subject::Subject;
 use crate::sampling::sample::{Sample, sample_of};
+use crate::seeking::parting::first_ways;
 use crate::seeking::steering::{Ending, steer};
 use crate::seeking::straying::others;
 use crate::seeking::way::{Way, add_longer, add_parts};
@@ -136,12 +137,7 @@ pub(crate) fn seek(
     let Some(scope) = scope_at(alloc, subject, hook, step)? else {
         return Ok(Life::Dead);
     };
-    let mut ways = Vec::new(alloc);
-    ways.push(Way {
-        wanted: step,
-        scope,
-        places: Vec::new(alloc),
-    })?;
+    let mut ways = first_ways(alloc, subject, step, scope)?;
     let mut clear = true;
     for _ in 0..TRIES.min(budget) {
         let Some(way) = ways.pop() else {

@@ -4,10 +4,12 @@ ghost use Rattle.rules.specs.boxing.Boxed.{IsBoxOf};
 ghost use Rattle.questions.specs.steps.Ahead.{Decides};
 ghost use Rattle.questions.specs.steps.Straying.{TakesOut};
 
+use crate::boxes::matched::has;
 use crate::boxes::rule_box::RuleBox;
 use crate::foreign::need::Need;
 use crate::foreign::subject::Subject;
-use rules::{Rule, Target};
+use fields::Packet;
+use rules::{Rule, Target, cross};
 use table::Step;
 
 // A rule, its box, and what it needs.
@@ -20,8 +22,11 @@ pub(crate) struct Seen<'a> {
 }
 
 impl<'a> Seen<'a> {
+    ghost use Rattle.std.specs.Prelude.{◌≡◌};
+    ghost use Rattle.rules.specs.rule.Allows.{matches};
     ghost use Rattle.questions.specs.Ends.{IsRule};
     ghost use Rattle.questions.specs.Scopes.{table_of};
+    ghost use Rattle.questions.specs.boxes.Area.{IsAtHook};
     ghost use Rattle.questions.specs.steps.Seeking.{IsSeen};
 
     // The rule of a step, if it is there.
@@ -40,6 +45,14 @@ impl<'a> Seen<'a> {
             own: subject.boxed.own_at(by.chain, by.number),
             needs: subject.needs.at(by.chain, by.number - 1),
         })
+    }
+
+    // Whether the rule matches a packet, whatever it needs beyond that.
+    pub(crate) fn matches(&self, packet: &Packet) -> bool
+        requires { IsAtHook packet.now }
+        ensures { result ≡ matches packet.now.values self.now.rule.now }
+    {
+        has(self.own.boxed().spans(), packet) && cross(self.rule, packet)
     }
 }
 

@@ -2,6 +2,7 @@
 use crate::foreign::answers::Answers;
 use crate::foreign::need::{Need, Standing, known_of};
 use crate::foreign::subject::Subject;
+use crate::seeking::before::{Approach, Before, next_place};
 use crate::seeking::calls::place_named;
 use crate::seeking::seen::Seen;
 use crate::seeking::way::Way;
@@ -35,24 +36,15 @@ struct Rest {
     led: usize,
 }
 
-// A walk under way: what is left of its chains, the rules that led off the way into the present one, how many places of the way it took, and the
-// answers.
+// A walk under way: what is left of its chains, the rules that led off the way into the present one, how many places of the way it took, the
+// answers, and where the packet may be in the chains that it passed by.
 #[derive(Drop)]
 struct Walker {
     rests: Vec<Rest>,
     path: Vec<Step>,
     taken: usize,
     answers: Answers,
-}
-
-// The next rule in what is left of a chain whose box has the packet.
-fn next_place(subject: &Subject<'_>, packet: &Packet, at: Pending) -> Option<usize> {
-    let table = &subject.boxed.table;
-    if at.chain >= table.chain_count() {
-        return None;
-    }
-    let candidates = table.classifier(at.chain).at(packet.numbers());
-    candidates.next(at.passed)
+    before: Before,
 }
 
 // What an open need of a condition has to be answered, so that it fails.
@@ -76,6 +68,33 @@ impl Walker {
                 Ok(false)
             }
         }
+    }
+
+    // Whether a jump can be passed by, which hangs on an open condition: the packet gets no verdict where it leads.
+    fn passes_by(
+        &mut self,
+        subject: &Subject<'_>,
+        packet: &Packet,
+        way: &Way,
+        seen: &Seen<'_>,
+    ) -> Result<bool, AllocError> {
+        if !matches!(seen.rule.target(), Some(Target::Jump(_))) {
+            return Ok(false);
+        }
+        if !matches!(known_of(seen.needs, &self.answers), Standing::Open(_)) {
+            return Ok(false);
+        }
+        let Some(place) = place_named(&subject.boxed.table, seen.rule.target()) else {
+            return Ok(false);
+        };
+        let approach = Approach {
+            subject: *subject,
+            packet,
+            answers: &self.answers,
+            wanted: way.wanted,
+        };
+        self.before.spread(&approach, place)?;
+        Ok(!self.before.ends_in(place))
     }
 
     // What is left of a chain waits.
@@ -104,12 +123,16 @@ impl Walker {
     fn take(
         &mut self,
         subject: &Subject<'_>,
+        packet: &Packet,
         way: &Way,
         seen: &Seen<'_>,
         by: Step,
     ) -> Result<Turn, AllocError> {
         let target = seen.rule.target();
-        if matches!(target, Some(Target::Log) | None) || !self.meets(seen.needs)? {
+        if matches!(target, Some(Target::Log) | None)
+            || self.passes_by(subject, packet, way, seen)?
+            || !self.meets(seen.needs)?
+        {
             self.wait(by.chain, by.number)?;
             return Ok(Turn::On);
         }
@@ -156,7 +179,7 @@ impl Walker {
         if by == way.wanted {
             return Ok((Turn::Comes, Some(by)));
         }
-        let turn = self.take(subject, way, &seen, by)?;
+        let turn = self.take(subject, packet, way, &seen, by)?;
         Ok((turn, Some(by)))
     }
 }
@@ -175,6 +198,7 @@ pub(crate) fn steer(
         path: Vec::new(alloc),
         taken: 0,
         answers,
+        before: Before::nowhere(alloc, subject.boxed.table.chain_count())?,
     };
     walker.wait(way.chain(), 0)?;
     for _ in 0..LIMIT.min(budget) {

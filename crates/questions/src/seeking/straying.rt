@@ -16,7 +16,7 @@ use std::alloc::{AllocError, Global};
 use table::Step;
 
 // An equal scope.
-fn copy_of(alloc: Global, scope: &Scope) -> Result<Scope, AllocError>
+pub(crate) fn copy_of(alloc: Global, scope: &Scope) -> Result<Scope, AllocError>
     ensures { IfOk result (IsSameScope scope.now) }
 {
     Ok(Scope {
@@ -65,7 +65,7 @@ fn add_unmet(
 }
 
 // Adds the packets of some boxes under the same answers.
-fn add_boxes(
+pub(crate) fn add_boxes(
     alloc: Global,
     mut boxes: Vec<Area>,
     answers: &Answers,

@@ -16,7 +16,7 @@ use std::alloc::{AllocError, Global};
 use table::Table;
 
 // The number of the chain of a name.
-fn number_of(table: &Table, numbers: &[usize], name: &[u8]) -> usize
+pub(crate) fn number_of(table: &Table, numbers: &[usize], name: &[u8]) -> usize
     requires { length numbers.now ≡ length table.now.table.chains }
     ensures { result ≡ number_of table.now.table.chains numbers.now name.now }
 {

@@ -24,13 +24,13 @@ loop-answer-preserved c =
     let May : List Answer → Type 0 = λ l. MayNotSuffice s c.args.step p c.args.budget l in
     elim c.if-branch.branch [
       | then-branch w ↦ record {
-        enough = λ _. subst Enough (sym w.necessary-is) (c.in_ok-is_always_on.ensures.yes w.if-branch.true);
+        enough = λ _. subst Enough (sym w.necessary-is) (c.in_ok-suffice_without.ensures.yes w.if-branch.true);
         tried = subst Tried (sym (w.necessary-is ∙ c.in_ok-others.ensures)) (one_goes s c.args.step p c.args.budget all c.loop-answer.necessary c.loop-answer.answer-index _ c.loop-answer-test.true c.loop-answer.invariant.tried);
       }
       | else-branch w ↦ record {
         enough = λ first. subst Enough (sym w.necessary-is) (c.loop-answer.invariant.enough first);
         tried = subst Tried (sym w.necessary-is) (one_stays s c.args.step p c.args.budget all c.loop-answer.necessary c.loop-answer.answer-index _ c.loop-answer-test.true c.loop-answer.invariant.tried
-            (subst May c.in_ok-others.ensures (c.in_ok-is_always_on.ensures.no w.if-branch.false)));
+            (subst May c.in_ok-others.ensures (c.in_ok-suffice_without.ensures.no w.if-branch.false)));
       }
     ]
 

@@ -1,7 +1,6 @@
-use Rattle.std.proofs.Common.{◌≡◌, [], ◌∷◌, ◌++◌, ◌∙◌, List, ap, refl, sym, subst}
+use Rattle.std.proofs.Common.{◌∙◌, List, sym, subst}
 use Rattle.std.proofs.lemmas.Bool.{true≢false}
 use Rattle.std.proofs.lemmas.List.{append-nil}
-use Rattle.std.proofs.lemmas.List.Elements.{All-nil}
 use Rattle.table.specs.declared.walk.trail.Step.{Step}
 use Rattle.questions.specs.Ends.{IsRule}
 use Rattle.questions.specs.Scopes.{table_of}
@@ -9,20 +8,15 @@ use Rattle.questions.specs.asked.Always.{SaysAt}
 use Rattle.questions.specs.declared.asked.rule.Life.TheVariants.{Live}
 use Rattle.questions.specs.declared.seeking.way.Way.{Way}
 use Rattle.questions.specs.steps.Seeking.{AllWant, AreAllWays}
-use Rattle.questions.proofs.laws.SeekLaws.{first_way, last_wanted, never_meets, next_ways, one_wanted}
+use Rattle.questions.proofs.laws.SeekLaws.{last_wanted, never_meets, next_ways}
 use Rattle.questions.proofs.seeking.seek.seek.Goals as goal
 use Rattle.questions.proofs.seeking.seek.seek.Goals.{in-Parted, in-Unknown}
 
 pub loop-init : goal.loop-init
-loop-init c =
-    let step = c.args.step in
-    let first : Way = record { wanted = step; scope = c.in-Some.scope; places = c.new.result } in
-    let e : c.push.new.self.items ≡ first ∷ [] = c.in_ok-push.ensures.items ∙ ap (λ (ways : List Way). ways ++ first ∷ []) c.new-ways.ensures.items in
-    let scope = rw c.in-Some.is at c.in_ok-scope.ensures in
-    record {
-      wanted = one_wanted first first [] c.push.new.self.items refl e step refl (All-nil (λ (w : Way). w.wanted ≡ step));
-      all = λ clear. first_way c.args.subject.now step c.args.hook first c.push.new.self.items c.stands.ensures.sound c.requires refl scope c.new.ensures.items e;
-    }
+loop-init c = record {
+  wanted = c.in_ok-ways.ensures.wanted;
+  all = λ clear. c.in_ok-ways.ensures.all c.args.hook (rw c.in-Some.is at c.in_ok-scope.ensures);
+}
 
 pub loop-preserved : goal.loop-preserved
 loop-preserved c =

@@ -2,7 +2,7 @@ use Rattle.std.proofs.Common.{sym, ◌∙◌}
 use Rattle.std.proofs.lemmas.Bool.{true≢false}
 use Rattle.questions.proofs.laws.AnswerLaws.{some_assignment_gives}
 use Rattle.questions.proofs.laws.NecessaryLaws.{open_missed}
-use Rattle.questions.proofs.asked.necessary.is_surely_on.Goals as goal
+use Rattle.questions.proofs.asked.missing.is_surely_on.Goals as goal
 
 pub returns-in-Holds-clause-no : goal.returns-in-Holds-clause-no
 returns-in-Holds-clause-no c = λ off.
