@@ -34,6 +34,12 @@ def cards(count):
     return [b"-A INPUT -m mac --mac-source 02:00:00:00:00:%02x -j ACCEPT" % number for number in range(count)] + ENDS, [b"INPUT %d" % (count + 2)]
 
 
+def both_ports(count):
+    """Rules that ask both ports, and one whose ports another has."""
+    ports = [b"-A INPUT -p tcp -m multiport --ports %d,%d -j ACCEPT" % (2 * number + 1, 2 * number + 2) for number in range(count)]
+    return ports + [b"-A INPUT -p tcp -m multiport --ports 2 -j DROP", b"-A INPUT -p tcp -j DROP"], [b"INPUT %d" % (count + 1)]
+
+
 def networks(count):
     """Chains for networks, of whose hosts one is named twice."""
     jumps = [b"-A FORWARD -d 10.0.%d.0/24 -j n%02d" % (number, number) for number in range(count)]
@@ -48,21 +54,36 @@ def gone_to(count):
 
 
 RULESETS = {
-    "jumps on conditions": sampled(12),
+    "jumps on conditions": sampled(60),
     "jumps on conditions to one chain": one_chain(12),
-    "sets of banned hosts": banned(10),
+    "sets of banned hosts": banned(60),
     "network cards": cards(60),
+    "rules that ask both ports": both_ports(60),
     "chains for networks": networks(25),
     "chains that are gone to": gone_to(9),
 }
 
 
+def without_answers(rows):
+    """Runs `tests` on sets of banned hosts: a packet that none of their chains names comes to the rule behind them, whatever the sets have."""
+    rules, _dead = RULESETS["sets of banned hosts"]
+    behind = next(number for number, rule in enumerate(rules, 1) if rule.endswith(b"-j ACCEPT"))
+    ended = rows.run(["tests", "R"], {"R": dump_of(rules)})
+    came = re.findall(rb"(?m)^# INPUT %d .*\n(#   if|packet)" % behind, ended.stdout)
+    rows.compared("no answers for a packet that comes whatever holds", (1, [b"packet"], b""), (ended.returncode, came, ended.stderr))
+
+
+def dump_of(rules):
+    """A dump with these rules, which name all its chains."""
+    chains = sorted({rule.split()[1] for rule in rules} - {b"INPUT", b"FORWARD"})
+    return POLICIES + b"".join(b":%s - [0:0]\n" % chain for chain in chains) + b"".join(rule + b"\n" for rule in rules) + b"COMMIT\n"
+
+
 def clear_rows(rows):
-    """Runs `dead` on each of them."""
+    """Runs `dead` on each of them, and `tests` on one."""
+    without_answers(rows)
     for about, (rules, dead) in RULESETS.items():
-        chains = sorted({rule.split()[1] for rule in rules} - {b"INPUT", b"FORWARD"})
-        dump = POLICIES + b"".join(b":%s - [0:0]\n" % chain for chain in chains) + b"".join(rule + b"\n" for rule in rules) + b"COMMIT\n"
-        ended = rows.run(["dead", "R"], {"R": dump})
+        ended = rows.run(["dead", "R"], {"R": dump_of(rules)})
         came = re.findall(rb"(?m)^(?:dead|unclear) \S+ \d+|^\d+ rules, .*", ended.stdout)
         due = [b"dead " + name for name in dead] + [b"%d rules, %d dead, 0 unclear" % (len(rules), len(dead))]
         rows.compared(f"none unclear: {about}", (1, b"\n".join(due), b""), (ended.returncode, b"\n".join(came), ended.stderr))
