@@ -83,7 +83,8 @@ fn ask_rule<R: Clock, E: Print + IsTerminal>(
     match asking.life(subject, at)? {
         Life::Live(_, _) if may_be_covered(course.form, at) => Ok(Known::Unclear),
         Life::Live(words, answers) => {
-            let given = course.open.shown(asking.alloc(), &answers)?;
+            let mut given = course.open.shown(asking.alloc(), &answers)?;
+            given.sort_unstable_by_key(|need| need.condition);
             Ok(Known::Live(words, given))
         }
         Life::Dead if !has_reasons(course.form) => Ok(Known::Dead(None)),
