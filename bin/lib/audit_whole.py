@@ -31,9 +31,10 @@ DEAD = b"dead INPUT 4 -A INPUT -p tcp -m tcp --dport 22 -j ACCEPT if not addrtyp
 TAKEN = b"  taken by local 2 (DROP), local 3 (DROP)\n"
 
 DEAD_ANSWER = DEAD + TAKEN + b"7 rules, 1 dead, 0 unclear\n0 redundant, 1 shadowed\n"
+# The conditions for a packet stand in the order of the file.
 TESTS = (b"# INPUT 1 -A INPUT -j local\n" + TCP % 80
-         + b"# INPUT 2 -A INPUT -p tcp -m tcp --dport 22 -j ACCEPT if limit --limit 3/min\n#   if " + HERE + b" and " + THREE + b"\n# " + TCP % 22
-         + b"# INPUT 3 -A INPUT -p tcp -m tcp --dport 22 -j LOG if limit --limit 9/min\n#   if " + HERE + b" and not " + THREE + b" and " + NINE + b"\n# " + TCP % 22
+         + b"# INPUT 2 -A INPUT -p tcp -m tcp --dport 22 -j ACCEPT if limit --limit 3/min\n#   if " + THREE + b" and " + HERE + b"\n# " + TCP % 22
+         + b"# INPUT 3 -A INPUT -p tcp -m tcp --dport 22 -j LOG if limit --limit 9/min\n#   if not " + THREE + b" and " + NINE + b" and " + HERE + b"\n# " + TCP % 22
          + b"# " + DEAD
          + b"# local 1 -A local -j RETURN if " + HERE + b"\n#   if " + HERE + b"\n# " + TCP % 80
          + b"# local 2 -A local -j DROP if " + BROADCAST + b"\n#   if not " + HERE + b" and " + BROADCAST + b"\n# " + TCP % 80
