@@ -1,10 +1,10 @@
 -- Where walks come to: to the chains that jumps and gotos lead to.
-use Rattle.std.proofs.Common.{◌≡◌, inl, inr, ℕ, zero, suc, ◌+◌, ◌-◌, ◌<◌, Bool, true, false, List, [], ◌∷◌, ◌++◌, length, get_or, refl, sym, ◌∙◌, ap, arith, subst, Option, Some, None, All, Contains}
-use Rattle.std.specs.Prelude.{◌↔◌, slice_get, IsTrue}
+use Rattle.std.proofs.Common.{◌≡◌, inl, inr, ℕ, zero, suc, ◌+◌, ◌-◌, ◌<◌, ◌≤◌, Bool, true, false, List, [], ◌∷◌, ◌++◌, length, get_or, refl, sym, ◌∙◌, ap, arith, subst, Option, Some, None, All, Contains}
+use Rattle.std.specs.Prelude.{◌↔◌, option_and_then, slice_get, IsTrue}
 use Rattle.std.specs.List.{position}
 use Rattle.std.proofs.Math.ListN.{set}
 use Rattle.std.proofs.lemmas.Bool.{cases_eq, true≢false}
-use Rattle.std.proofs.lemmas.List.{get_or-set_same, get_or-set_other, length-set}
+use Rattle.std.proofs.lemmas.List.{get_or_default, get_or-set_same, get_or-set_other, length-set}
 use Rattle.std.proofs.lemmas.List.Elements.{All-cons, All-contains, All-head, All-nil, All-push, All-tail, Contains-get_or}
 use Rattle.std.proofs.lemmas.Option.{get_or_from_slice_get, slice_get-get_or, slice_get_within}
 use Rattle.std.proofs.lemmas.Slice.Eq.{bytes_eq-Decides}
@@ -14,20 +14,26 @@ use Rattle.fields.specs.packet.Packet.{PacketView as Packet}
 use Rattle.rules.specs.declared.rule.target.Target.{Target}
 use Rattle.rules.specs.declared.rule.target.Target.TheVariants as target
 use Rattle.rules.specs.rule.Actions.{target_of}
-use Rattle.rules.specs.rule.Rules.{Rule}
+use Rattle.rules.specs.rule.Rules.{Rule, empty_rule}
 use Rattle.table.specs.chains.Sound.{IsSound, Leads, Names, Path}
 use Rattle.table.specs.chains.Table.{Chain, Table, chain_at, chain_in, chain_named_by, empty_chain, is_named, rules_of}
 use Rattle.table.specs.declared.verdict.Verdict.{Verdict}
+use Rattle.table.specs.declared.walk.trail.Step.{Step}
 use Rattle.table.specs.steps.Kept.{hook_index}
 use Rattle.table.specs.walk.Cases.{Stage, Under, Over, StepsTo, GoesTo, on_by}
 use Rattle.table.specs.walk.Walk.{Entry, Next, Ends, GoesOn, Rest, after_match, end_verdict, walk, whole}
 use Rattle.table.proofs.laws.chains.KeepLaws.{rules_by_name}
 use Rattle.table.proofs.laws.chains.PlaceLaws.{IsPlaced, placed_at, any_none, has_at}
 use Rattle.table.proofs.laws.walk.CaseLaws.{walks_by_cases}
+use Rattle.questions.specs.Ends.{IsRule, rule_at}
 use Rattle.questions.specs.Leaves.{name_at}
-use Rattle.questions.specs.steps.Leading.{AllLead, AreClosed, AreLeading, AreSpread, Counts, IsMarked, IsMarkedName, LeadsOn, NamesMarked, PathBy, Spreads, unmarked}
+use Rattle.questions.specs.boxes.Calls.{AreCalls, IsCall, place_named}
+use Rattle.questions.specs.declared.seeking.calls.Call.{Call}
+use Rattle.questions.specs.declared.walking.task.Pending.{Pending}
+use Rattle.questions.specs.steps.Leading.{AllLead, AreClosed, AreLeading, AreSpread, Counts, IsClosedBy, IsMarked, IsMarkedName, LeadsOn, NamesMarked, PathBy, Spreads, unmarked}
+use Rattle.questions.proofs.laws.CallLaws.{listed, own_position}
 use Rattle.questions.proofs.laws.EndLaws.{none_some, rules_there}
-use Rattle.questions.proofs.laws.TrailLaws.{one_place}
+use Rattle.questions.proofs.laws.TrailLaws.{items_next, one_place}
 use Rattle.questions.proofs.laws.WaitLaws.{named_first}
 
 -- ---- walks stay in a set of chains that has the hook's chain and, with a chain, each that its rules name
@@ -140,17 +146,22 @@ Goes t own marks rule = NamesMarked t.chains marks rule × Counts own rule
 pub at_passed : (rules : List Rule) (k : ℕ) (rule : Rule) → k < length rules → rule ≡ get_or rules (k + 1 - 1) rule → rule ≡ get_or rules k rule
 at_passed rules k rule lt is = is ∙ ap (λ j. get_or rules j rule) (omega arith)
 
-pub none_on_of : (t : Table) (own : Option Rule) (marks : List Bool) (place i : ℕ) → length (chain_at t place).rules ≡ i → ((k : ℕ) (d : Rule) → k < i → Goes t own marks (get_or (chain_at t place).rules k d) → ⊥) → LeadsOn t own marks place → ⊥
-none_on_of t own marks place i e none w =
-    let P : Rule → Type 0 = λ r. Goes t own marks r in
-    none w.1.0 w.0 (omega (arith, w.1.1, e)) (subst P (sym w.1.2) (w.2, w.3))
-
 -- a rule of the chain at a place is one of those that its name has
 rule_of_name : (t : Table) (place : ℕ) (rule : Rule) → IsSound t → place < length t.chains → Contains (chain_at t place).rules rule → Contains (rules_of t.chains (name_at t.chains place)) rule
 rule_of_name t place rule s lt there =
     let own : rules_of t.chains (name_at t.chains place) ≡ (chain_at t place).rules = rules_by_name t (chain_at t place) s (Contains-get_or t.chains place (empty_chain []) lt) in
     let P : List Rule → Type 0 = λ rs. Contains rs rule in
     subst P (sym own) there
+
+-- no rule goes to its own chain
+pub not_gone_to : (t : Table) (at : Pending) (rule : Rule) (name : List ℕ) → IsSound t → at.chain < length t.chains → at.passed < length (chain_at t at.chain).rules
+    → rule ≡ get_or (chain_at t at.chain).rules (at.passed + 1 - 1) rule → target_of rule ≡ Some (target.Goto name) → position (is_named name) t.chains ≡ Some at.chain → ⊥
+not_gone_to t at rule name s lt within is to there =
+    let rules : List Rule = (chain_at t at.chain).rules in
+    let own : List ℕ = name_at t.chains at.chain in
+    let on : Contains rules rule = (at.passed, within, sym (at_passed rules at.passed rule within is)) in
+    let same : name ≡ own = sym ((placed_at t name at.chain there).named (empty_chain [])) in
+    s.no_loop 0 own (own, (rule, rule_of_name t at.chain rule s lt on, ap chain_in to ∙ ap Some same), refl)
 
 -- one mark more, for a chain with a rule that counts and names a marked one
 pub spread_by : (t : Table) (own : Option Rule) (marks : List Bool) (place : ℕ) → IsSound t → length marks ≡ length t.chains → place < length t.chains → LeadsOn t own marks place → Spreads t own marks (set marks place true)
@@ -188,18 +199,58 @@ spread_same t own marks = record { long = refl; kept = λ k h. h; each = λ name
 pub spread_on : (t : Table) (own : Option Rule) (a b c : List Bool) → Spreads t own a b → Spreads t own b c → Spreads t own a c
 spread_on t own a b c one two = record { long = two.long ∙ one.long; kept = λ k h. two.kept k (one.kept k h); each = λ name h. two.each name (one.each name h) }
 
--- one chain more was looked at
-pub closed_next : (t : Table) (own : Option Rule) (old new : List Bool) (place : ℕ) → new ≡ old → AreClosed t own old place → (LeadsOn t own old place → IsMarked old place) → AreClosed t own new (place + 1)
-closed_next t own old new place same below here = subst P (sym same) (λ k lt h. elim (cases_eq k place) [
-  | inl e ↦ (let Q : ℕ → Type 0 = λ j. LeadsOn t own old j → IsMarked old j in subst Q (sym e) here h)
-  | inr ne ↦ below k (omega (arith, lt, ne)) h
-])
-  where
-    P : List Bool → Type 0
-    P marks = AreClosed t own marks (place + 1)
+-- what a name leads to, if it is a chain's
+some_named : (cs : List Chain) (o : Option (List ℕ)) (to : ℕ) → option_and_then (λ name. position (is_named name) cs) o ≡ Some to → (name : List ℕ) × (o ≡ Some name) × (position (is_named name) cs ≡ Some to)
+some_named cs None to e = absurd (none_some e)
+some_named cs (Some name) to e = (name, refl, e)
+
+-- the rule of a call leads on, if it counts and the chain is marked to which it leads
+pub call_leads : (t : Table) (own : Option Rule) (marks : List Bool) (call : Call) → IsCall t call → IsMarked marks call.to → Counts own (rule_at t call.by) → LeadsOn t own marks call.by.chain
+call_leads t own marks call is marked counts =
+    let rules : List Rule = (chain_at t call.by.chain).rules in
+    let named = some_named t.chains (chain_named_by (rule_at t call.by)) call.to is.names in (
+      rule_at t call.by,
+      Contains-get_or rules (call.by.number - 1) empty_rule (omega (arith, is.there.first, is.there.last)),
+      (named.0, named.1, name_marked t marks named.0 call.to (sym named.2) marked),
+      counts,
+    )
+
+-- the chain is there to which it leads
+pub call_within : (t : Table) (call : Call) → IsCall t call → call.to < length t.chains
+call_within t call is =
+    let named = some_named t.chains (chain_named_by (rule_at t call.by)) call.to is.names in
+    (placed_at t named.0 call.to named.2).within
+
+-- of the first so many calls
+abbrev pub AreClosedBelow : Table → Option Rule → List Bool → List Call → ℕ → Type 0
+AreClosedBelow t own marks calls count = (k : ℕ) (d : Call) → k < count → IsClosedBy t own marks (get_or calls k d)
+
+-- one more was looked at
+pub closed_next : (t : Table) (own : Option Rule) (old new : List Bool) (calls : List Call) (i : ℕ) (call : Call) → new ≡ old → i < length calls → call ≡ get_or calls i call
+    → AreClosedBelow t own old calls i → IsClosedBy t own old call → AreClosedBelow t own new calls (i + 1)
+closed_next t own old new calls i call same within is below here =
+    let P : List Bool → Type 0 = λ marks. AreClosedBelow t own marks calls (i + 1) in
+    let Q : Call → Type 0 = λ c. IsClosedBy t own old c in
+    subst P (sym same) (items_next Q calls i call within is below here)
+
+-- all were
+pub closed_all : (t : Table) (own : Option Rule) (marks : List Bool) (calls : List Call) (count : ℕ) → IsSound t → AreCalls t calls → length calls ≤ count
+    → AreClosedBelow t own marks calls count → AreClosed t own marks
+closed_all t own marks calls count s all most below k lt (rule, there, (name, names, (j, within, marked, same)), counts) =
+    let rules : List Rule = (chain_at t k).rules in
+    let by : Step = record { chain = k; number = there.0 + 1 } in
+    let is : IsRule t by = record { chain = lt; first = omega arith; last = omega (arith, there.1) } in
+    let passed : there.0 + 1 - 1 ≡ there.0 = omega arith in
+    let here : rule_at t by ≡ rule = ap (λ n. get_or rules n empty_rule) passed ∙ get_or_default rules there.0 empty_rule rule there.1 ∙ there.2 in
+    let call : Call = record { to = j; by = by } in
+    let on = listed t calls by j all is (ap (λ (r : Rule). place_named t.chains (target_of r)) here
+    ∙ ap (λ (o : Option (List ℕ)). option_and_then (λ n. position (is_named n) t.chains) o) names ∙ own_position t j name s within same) in
+    let P : Call → Type 0 = λ c. IsClosedBy t own marks c in
+    let Q : Rule → Type 0 = λ r. Counts own r in
+    subst P on.2 (below on.0 call (omega (arith, on.1, most))) marked (subst Q (sym here) counts)
 
 -- where the marks are closed, each chain is marked from which a path leads to one that is marked
-module _ (t : Table) (s : IsSound t) (marks : List Bool) (place : ℕ) (lt : place < length t.chains) (own : IsMarked marks place) (closed : AreClosed t None marks (length t.chains)) where
+module _ (t : Table) (s : IsSound t) (marks : List Bool) (place : ℕ) (lt : place < length t.chains) (own : IsMarked marks place) (closed : AreClosed t None marks) where
   chain_of : (n : ℕ) (name : List ℕ) → Path t.chains n name (name_at t.chains place) → (j : ℕ) × (j < length t.chains) × (name_at t.chains j ≡ name)
   chain_of zero name e = (place, lt, sym e)
   chain_of (suc n) name path =

@@ -172,8 +172,8 @@ module _ (s : Subject) (step : Step) (p : Packet) (budget : ℕ) where
     tested = get_or all place d
 
     -- one that has to stay
-    pub one_stays : MayNotSuffice s step p budget (answers_but tested.condition answers) → AreTried all (place + 1) answers
-    one_stays may x on =
+    pub one_stays : AreConsistent (answers_but tested.condition answers) → MayNotSuffice s step p budget (answers_but tested.condition answers) → AreTried all (place + 1) answers
+    one_stays consistent may x on =
         elim (tried x on) [
           | inl is ↦ inl is
           | inr (j, after, less, same) ↦ elim (cases_lt place j) [
@@ -184,6 +184,7 @@ module _ (s : Subject) (step : Step) (p : Packet) (budget : ℕ) where
                 let P : Answer → Type 0 = λ y. Necessary answers y in
                 inl (subst P (sym is) (record {
                   others = answers_but tested.condition answers;
+                  consistent = consistent;
                   without = but_unanswered tested.condition answers;
                   all = but_has_others tested.condition answers;
                   insufficient = may;
@@ -200,6 +201,7 @@ module _ (s : Subject) (step : Step) (p : Packet) (budget : ℕ) where
         elim (tried x (All-contains (λ (y : Answer). Contains answers y) rest x own on)) [
           | inl is ↦ inl (record {
             others = is.others;
+            consistent = is.consistent;
             without = is.without;
             all = All-filter (others_than tested.condition) (λ (other : Answer). other.condition ≢ x.condition → Contains is.others other) answers is.all;
             insufficient = is.insufficient;

@@ -1,10 +1,9 @@
 -- Packets of scopes that are parted, and ways that take their packets over.
 use Rattle.std.proofs.Common.{◌≡◌, ◌⊎◌, inl, inr, ℕ, zero, suc, ◌+◌, ◌-◌, ◌<◌, ◌≤◌, Bool, true, false, not, cond, List, [], ◌∷◌, ◌++◌, length, get_or, map, refl, sym, ◌∙◌, ap, arith, subst, Option, Some, None, Contains, IsTrue}
-use Rattle.std.specs.Prelude.{◌==◌, ◌&&◌, Any, IfSome, option_and_then, slice_get}
-use Rattle.std.specs.List.{list_any, position}
-use Rattle.std.proofs.lemmas.Bool.{and_parts, cases_Bool, eqb-true, cases_lt, true≢false}
+use Rattle.std.specs.Prelude.{Any, IfSome, option_and_then, slice_get}
+use Rattle.std.specs.List.{position}
+use Rattle.std.proofs.lemmas.Bool.{cases_Bool, cases_lt, true≢false}
 use Rattle.std.proofs.lemmas.List.Elements.{All-contains, All-pop, All-push, Contains-get_or, Contains-push_cases}
-use Rattle.std.proofs.lemmas.List.Folds.{Any-from_list_any}
 use Rattle.std.proofs.lemmas.List.Sums.{list_all-from_AllPass}
 use Rattle.std.proofs.lemmas.Option.{get_or_from_slice_get, slice_get-get_or}
 use Rattle.fields.specs.numbers.Spans.{SpanSet}
@@ -20,8 +19,7 @@ use Rattle.fields.specs.declared.packet.hook.Hook.{Hook}
 use Rattle.fields.specs.packet.Hook.{name as hook_name}
 use Rattle.table.specs.chains.Table.{Chain, Table, chain_at, chain_in, empty_chain, is_named, rules_of}
 use Rattle.table.specs.steps.Kept.{hook_index}
-use Rattle.table.proofs.laws.chains.PlaceLaws.{IsPlaced, any_none, has_at, placed_at}
-use Rattle.std.proofs.lemmas.Slice.Eq.{bytes_eq-Decides}
+use Rattle.table.proofs.laws.chains.PlaceLaws.{IsPlaced, placed_at}
 use Rattle.table.specs.declared.walk.trail.Step.{Step}
 use Rattle.table.specs.walk.Walk.{Rest, walk}
 use Rattle.table.proofs.laws.chains.KeepLaws.{rules_by_name as named_rules}
@@ -41,12 +39,13 @@ use Rattle.questions.specs.steps.Meant.{IsScopeAt, needs_of}
 use Rattle.questions.specs.steps.Takers.{IsMatchedAt}
 use Rattle.questions.specs.steps.Seeking.{AddsBoxes, AddsParts, IsHere, IsLeftIn, IsSameScope, AllWant, AreAllWays, EndsAt, IsAheadOn, IsPlaceOf, IsTakenBy, KeepsIn, KeepsWanted, LeadsAwayAt, MayCome, NoneAheadTakesOut, TakesScopes, TakesBy, TakesOver, chains_of, top_of}
 use Rattle.questions.specs.steps.Straying.{Hits, IsLedAway, IsOpenWay, LeadsAway, TakesOut, place_at}
-use Rattle.questions.specs.boxes.Calls.{AreCalls, is_call, place_named}
+use Rattle.questions.specs.boxes.Calls.{AreCalls, place_named}
 use Rattle.questions.specs.declared.seeking.calls.Call.{Call}
 use Rattle.questions.specs.declared.seeking.way.Way.{Way}
 use Rattle.questions.specs.steps.Ahead.{Decides}
 use Rattle.questions.proofs.laws.AnswerLaws.{agrees_with_one_more, one_holds}
 use Rattle.questions.proofs.laws.AreaLaws.{has_of_rule, some_left}
+use Rattle.questions.proofs.laws.CallLaws.{listed, own_position}
 use Rattle.questions.proofs.laws.EndLaws.{none_some, rule_of_entry, rules_there}
 use Rattle.questions.proofs.laws.NeverLaws.{never_matches}
 use Rattle.questions.proofs.laws.ResolvedLaws.{chain_left, held_before, length_same, matched_before, resolved_is, resolved_matches, chain_named, resolved_not, rule_back}
@@ -369,16 +368,6 @@ module _ (s : Subject) (sound : IsSound (table_of s)) where
   abbrev own_table : Table
   own_table = table_of s
 
-  -- the place of a chain's own name
-  own_position : (k : ℕ) (name : List ℕ) → k < length own_table.chains → name_at own_table.chains k ≡ name → position (is_named name) own_table.chains ≡ Some k
-  own_position k name lt e = by_case (position (is_named name) own_table.chains) refl
-    where
-      by_case : (o : Option ℕ) → position (is_named name) own_table.chains ≡ o → position (is_named name) own_table.chains ≡ Some k
-      by_case None none = absurd (true≢false (sym (has_at own_table.chains name k (empty_chain []) lt ((bytes_eq-Decides (name_at own_table.chains k) name).1 e)) ∙ any_none (is_named name) own_table.chains none))
-      by_case (Some j) is =
-          let placed : IsPlaced own_table name j = placed_at own_table name j is in
-          is ∙ ap Some (one_place own_table j k sound lt (placed.named (empty_chain []) ∙ sym e))
-
   -- the rule at a place that matches
   pub rule_at_place : (a : Assignment) (p : Packet) (place : Rest) (o : Option Target) → Hits (chains_of s a) p.values place o
       → (by : Step) × IsRule own_table by × (place_at (chains_of s a) by ≡ place)
@@ -395,13 +384,13 @@ module _ (s : Subject) (sound : IsSound (table_of s)) where
 
   -- it is listed, if it enters the chain at a place
   pub called : (calls : List Call) (a : Assignment) (values : List ℕ) (by : Step) (o : Option Target) (to : ℕ) → AreCalls own_table calls → to < length own_table.chains → IsRule own_table by
-      → Hits (chains_of s a) values (place_at (chains_of s a) by) o → chain_in o ≡ Some (name_at (chains_of s a) to) → IsTrue (list_any (is_call to by) calls)
+      → Hits (chains_of s a) values (place_at (chains_of s a) by) o → chain_in o ≡ Some (name_at (chains_of s a) to) → Contains calls (record { to = to; by = by })
   called calls a values by o to all lt is h names =
       let m = matched_there s a values by o sound is h in
       let name : List ℕ = name_at own_table.chains to in
       let same : name_at (chains_of s a) to ≡ name = chain_named s.needs.now a own_table.chains to (empty_chain []) in
       let P : Option (List ℕ) → Option ℕ = λ x. option_and_then (λ n. position (is_named n) own_table.chains) x in
-      all.all by to is (ap (place_named own_table.chains) m.2 ∙ ap P (names ∙ ap Some same) ∙ own_position to name lt refl)
+      listed own_table calls by to all is (ap (place_named own_table.chains) m.2 ∙ ap P (names ∙ ap Some same) ∙ own_position own_table to name sound lt refl)
 
   -- ---- what leads away on a way
 
@@ -509,13 +498,6 @@ module _ (s : Subject) (sound : IsSound (table_of s)) where
       ]
 
   -- a call that is listed is by the rule
-  call_is : (to : ℕ) (by : Step) (call : Call) → is_call to by call ≡ true → (call.to ≡ to) × (call.by ≡ by)
-  call_is to by call t =
-      let parts = and_parts (call.to == to) ((call.by.chain == by.chain) && (call.by.number == by.number)) t in
-      let more = and_parts (call.by.chain == by.chain) (call.by.number == by.number) parts.1 in
-      let make : ℕ → ℕ → Step = λ c n. record { chain = c; number = n } in
-      (eqb-true call.to to parts.0, ap (λ c. make c call.by.number) (eqb-true call.by.chain by.chain more.0) ∙ ap (make by.chain) (eqb-true call.by.number by.number more.1))
-
   -- a packet that comes by a way comes by one that is longer by a rule which is listed
   pub taken_over : (hook : Hook) (way : Way) (calls : List Call) (old new : List Way) → AreCalls own_table calls → (top_of way.wanted way.places.items).chain < length own_table.chains
       → ((top_of way.wanted way.places.items).chain ≡ hook_index hook → ⊥) → ((a : Assignment) (p : Packet) → Any (MayCome s a p) old → Any (MayCome s a p) new)
@@ -546,11 +528,10 @@ module _ (s : Subject) (sound : IsSound (table_of s)) where
           let P : Rest → Type 0 = λ r. Hits cs p.values r way_up.0 in
           let Q : Rest → Type 0 = λ r. IsOpenWay cs p.values (hook_name p.hook) (name_at cs way.wanted.chain) (steps_at cs way.places.items ++ r ∷ above) in
           let hit : Hits cs p.values (place_at cs by) way_up.0 = subst P (sym found.2) way_up.1 in
-          let listed = Any-from_list_any (is_call top by) calls (called calls a p.values by way_up.0 top all lt found.1 hit way_up.2) in
-          let call = call_is top by listed.1 listed.4 in
-          let here : get_or calls listed.0 listed.1 ≡ listed.1 = listed.3 in
-          let T : Step → Type 0 = λ b. IsTakenBy s way b new in
-          let own : IsTakenBy s way by new = subst T (ap (λ (x : Call). x.by) here ∙ call.1) (taken listed.0 listed.1 listed.2 (omega arith) (ap (λ (x : Call). x.to) here ∙ call.0)) in
+          let call : Call = record { to = top; by = by } in
+          let on = called calls a p.values by way_up.0 top all lt found.1 hit way_up.2 in
+          let T : Call → Type 0 = λ c. IsTakenBy s way c.by new in
+          let own : IsTakenBy s way by new = subst T on.2 (taken on.0 call on.1 (omega arith) (ap (λ (x : Call). x.to) on.2)) in
           own a p above at found.1 may.here may.free (subst Q (sym found.2) leads)
 
 -- ---- a way for each of some scopes

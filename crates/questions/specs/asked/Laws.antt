@@ -9,7 +9,7 @@ use Rattle.table.specs.walk.Walk.{Entry, walk}
 use Rattle.questions.specs.Foreign.{Assignment, resolved}
 use Rattle.questions.specs.asked.Rule.{IsDead, IsLive}
 use Rattle.questions.specs.asked.Verdicts.{IsAlike, IsOther, IsSame}
-use Rattle.questions.specs.asked.Without.{AreDead, deletions, needs_without, without}
+use Rattle.questions.specs.asked.Without.{AreDead, deletions, needs_without, renumbered, without}
 use Rattle.questions.specs.boxes.Area.{IsAtHook}
 use Rattle.questions.specs.declared.foreign.need.Need.{Need}
 
@@ -37,6 +37,13 @@ DeadRulesCanGoUnder =
     (needs : List (List (List Need))) (a : Assignment) (t : Table) (goes : Entry → Bool) → AreDead (resolved needs a t) goes
     → (p : Packet) → IsAtHook p → (walk (resolved needs a t) p).verdict ≢ TooLong
     → IsAlike (resolved needs a t) (resolved (needs_without goes t.chains needs) a (without goes t)) p
+
+-- so it does where conditions have other numbers afterwards, as in a dump that is read anew without these rules; `number` says what each had before
+abbrev pub DeadRulesCanGoRenumbered : Type 0
+DeadRulesCanGoRenumbered =
+    (needs after : List (List (List Need))) (number : ℕ → ℕ) (a : Assignment) (t : Table) (goes : Entry → Bool) → AreDead (resolved needs a t) goes
+    → renumbered number after ≡ needs_without goes t.chains needs → (p : Packet) → IsAtHook p → (walk (resolved needs a t) p).verdict ≢ TooLong
+    → IsAlike (resolved needs a t) (resolved after (λ condition. a (number condition)) (without goes t)) p
 
 -- the commands `-D chain number` for some rules are all accepted, and leave the table without these rules (iptables(8), COMMANDS, -D)
 abbrev pub DeletionsLeaveTheRest : Type 0

@@ -3,7 +3,7 @@ use Rattle.std.specs.Prelude.{◌≡◌, ◌≢◌, ◌⊎◌, ℕ, ◌≤◌, L
 use Rattle.fields.specs.packet.Packet.{PacketView as Packet, packet_of}
 use Rattle.table.specs.declared.walk.trail.Step.{Step}
 use Rattle.table.specs.walk.Walk.{walk}
-use Rattle.questions.specs.Foreign.{Agrees, Assignment, IsUnanswered}
+use Rattle.questions.specs.Foreign.{Agrees, AreConsistent, Assignment, IsUnanswered}
 use Rattle.questions.specs.Leaves.{entry_of}
 use Rattle.questions.specs.Scopes.{answered, known_by, table_of}
 use Rattle.questions.specs.asked.Unclear.{IsUnended}
@@ -26,6 +26,7 @@ MayNotSuffice subject step p budget answers =
 -- an answer is necessary: without it, the others, and perhaps more, may not suffice
 pub record IsNecessary (subject : Subject) (step : Step) (p : Packet) (budget : ℕ) (answers : List Answer) (answer : Answer) : Type 0 where
   pub others : List Answer
+  pub consistent : AreConsistent others
   pub without : IsUnanswered others answer.condition
   pub all : All (λ (other : Answer). other.condition ≢ answer.condition → Contains others other) answers
   pub insufficient : MayNotSuffice subject step p budget others

@@ -31,6 +31,11 @@ needs_without goes chains [] = []
 needs_without goes [] (own ∷ needs) = []
 needs_without goes (chain ∷ chains) (own ∷ needs) = staying (goes_of goes chain.name) 0 own ∷ needs_without goes chains needs
 
+-- what the rules need, where each condition is told by another number
+abbrev pub renumbered : (ℕ → ℕ) → List (List (List Need)) → List (List (List Need))
+renumbered number needs =
+    map (λ (own : List (List Need)). map (λ (rule : List Need). map (λ need. record { condition = number need.condition; inverted = need.inverted }) rule) own) needs
+
 -- each rule that goes is dead
 abbrev pub AreDead : Table → (Entry → Bool) → Type 0
 AreDead t goes = (entry : Entry) → IsTrue (goes entry) → IsDead t entry

@@ -1,5 +1,5 @@
 -- Which rules name a chain (iptables(8), PARAMETERS, -j and -g).
-use Rattle.std.specs.Prelude.{◌≡◌, ℕ, ◌==◌, ◌&&◌, Bool, List, Option, Some, IsTrue, position, option_and_then}
+use Rattle.std.specs.Prelude.{◌≡◌, ℕ, ◌==◌, ◌&&◌, Bool, List, Option, Some, All, IsTrue, position, option_and_then}
 use Rattle.std.specs.List.{list_any}
 use Rattle.rules.specs.declared.rule.target.Target.{Target}
 use Rattle.rules.specs.rule.Actions.{target_of}
@@ -20,11 +20,18 @@ is_call to by call = (call.to == to) && ((call.by.chain == by.chain) && (call.by
 abbrev pub IsCalled : Table → List Call → Step → Type 0
 IsCalled t calls by = (to : ℕ) → IsRule t by → place_named t.chains (target_of (rule_at t by)) ≡ Some to → IsTrue (list_any (is_call to by) calls)
 
+-- the rule of a call is there, and names the chain at this place
+pub record IsCall (t : Table) (call : Call) : Type 0 where
+  pub there : IsRule t call.by
+  pub names : place_named t.chains (target_of (rule_at t call.by)) ≡ Some call.to
+
 -- the rules of the chain at a place are listed, too, that name a chain
 pub record IsCalledIn (t : Table) (place : ℕ) (old new : List Call) : Type 0 where
   pub kept : (by : Step) → IsCalled t old by → IsCalled t new by
   pub added : (by : Step) → by.chain ≡ place → IsCalled t new by
+  pub only : All (IsCall t) old → All (IsCall t) new
 
--- each rule is listed that names a chain
+-- just those rules are listed that name a chain
 pub record AreCalls (t : Table) (calls : List Call) : Type 0 where
   pub all : (by : Step) → IsCalled t calls by
+  pub only : All (IsCall t) calls

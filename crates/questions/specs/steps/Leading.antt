@@ -5,7 +5,9 @@ use Rattle.rules.specs.rule.Allows.{allows_each}
 use Rattle.rules.specs.rule.Rules.{Rule}
 use Rattle.table.specs.chains.Sound.{Leads}
 use Rattle.table.specs.chains.Table.{Chain, Table, chain_at, chain_named_by, rules_of}
+use Rattle.questions.specs.Ends.{rule_at}
 use Rattle.questions.specs.Leaves.{name_at}
+use Rattle.questions.specs.declared.seeking.calls.Call.{Call}
 
 -- the chain at a place is marked
 abbrev pub IsMarked : List Bool → ℕ → Type 0
@@ -43,9 +45,13 @@ PathBy t own (suc n) a b = (c : List ℕ) × ((rule : Rule) × Contains (rules_o
 abbrev pub LeadsOn : Table → Option Rule → List Bool → ℕ → Type 0
 LeadsOn t own marks place = (rule : Rule) × Contains (chain_at t place).rules rule × NamesMarked t.chains marks rule × Counts own rule
 
--- of the first so many chains each with such a rule is marked
-abbrev pub AreClosed : Table → Option Rule → List Bool → ℕ → Type 0
-AreClosed t own marks count = (k : ℕ) → k < count → LeadsOn t own marks k → IsMarked marks k
+-- each chain with such a rule is marked
+abbrev pub AreClosed : Table → Option Rule → List Bool → Type 0
+AreClosed t own marks = (k : ℕ) → k < length t.chains → LeadsOn t own marks k → IsMarked marks k
+
+-- if a rule counts that leads to a marked chain, its own is marked, too
+abbrev pub IsClosedBy : Table → Option Rule → List Bool → Call → Type 0
+IsClosedBy t own marks call = IsMarked marks call.to → Counts own (rule_at t call.by) → IsMarked marks call.by.chain
 
 -- a path leads from each marked chain to the named one
 abbrev pub AllLead : Table → Option Rule → List ℕ → List Bool → Type 0
@@ -57,7 +63,7 @@ pub record AreSpread (t : Table) (own : Option Rule) (place : ℕ) (marks : List
   pub long : length marks ≡ length t.chains
   pub there : IsMarked marks place
   pub each : AllLead t own (name_at t.chains place) marks
-  pub closed : AreClosed t own marks (length t.chains)
+  pub closed : AreClosed t own marks
 
 -- exactly the chains are marked from which a path leads to the named one
 pub record AreLeading (t : Table) (name : List ℕ) (marks : List Bool) : Type 0 where

@@ -14,6 +14,7 @@ use Rattle.questions.specs.steps.Waiting.{Moves, WaitsIn, stage_of}
 use Rattle.questions.specs.declared.walking.front.Front.{Front}
 use Rattle.questions.specs.declared.walking.task.Leaf.{Leaf}
 use Rattle.questions.specs.declared.walking.scope.Scope.{Scope}
+use Rattle.questions.specs.declared.walking.task.Pending.{Pending}
 use Rattle.questions.specs.declared.walking.task.Task.{Task}
 
 -- the scope stands before the first rule of the hook's chain, and there is nothing else
@@ -32,17 +33,24 @@ pub record IsTakenUp (t : Table) (hook : Hook) (policy : Verdict) (task : Task) 
   pub leaves : left.leaves.items ≡ old.leaves.items
   pub room : length task.trail.items < 65536
 
--- the task at a later rule of its chain, before which none matches one of its packets that are of a scope
+-- chains wait as these do, but the newest perhaps at a later rule
+abbrev pub WaitLater : List Pending → List Pending → Type 0
+WaitLater waiting later =
+    (later ≡ waiting) ⊎ ((below : List Pending) × (at : Pending) × (passed : ℕ) × (waiting ≡ below ++ at ∷ []) × (at.passed ≤ passed)
+    × (later ≡ below ++ record { chain = at.chain; passed = passed } ∷ []))
+
+-- the task, perhaps at a later rule of its chain, before which none matches one of its packets that are of a scope
 pub record IsFurther (t : Table) (known : Known) (scope : Scope) (task next : Task) : Type 0 where
   pub same : next.scope ≡ task.scope
   pub trail : next.trail ≡ task.trail
+  pub later : WaitLater task.rests.items next.rests.items
   pub waits : (p : Packet) → IsAtHook p → IsOf known p scope → WaitsIn t known p task → WaitsIn t known p next
 
 -- the packets of the task that are of a scope go on to a later rule of its chain, and from there; each task that they are in then has got on
 abbrev pub GoesOn : Table → Known → Verdict → Scope → Task → Front → Front → Type 0
 GoesOn t known policy scope task old new =
     (next : Task) × IsFurther t known scope task next × Moves t known policy next.scope (stage_of known t.chains next) old new
-    × AddsTasks (GetsOn next.scope next.rests.items next.trail.items) old new
+    × AddsTasks (GetsOn known.needs next.scope next.rests.items next.trail.items) old new
 
 -- one step of the walk of a scope: the newest task goes on
 abbrev pub IsStep : Table → Known → Hook → Scope → Front → Front → Type 0

@@ -4,10 +4,12 @@ ghost use Rattle.fields.specs.declared.packet.hook.Hook.{Hook as HookView};
 ghost use Rattle.table.specs.chains.Table.{chain_at};
 ghost use Rattle.table.specs.steps.Kept.{hook_index};
 ghost use Rattle.questions.specs.Ends.{IsRule, rule_at};
-ghost use Rattle.questions.specs.steps.Leading.{AreClosed, AreLeading, AreSpread, Counts, IsMarkedName, LeadsOn, NamesMarked, Spreads, unmarked};
+ghost use Rattle.questions.specs.boxes.Calls.{IsCall};
+ghost use Rattle.questions.specs.steps.Leading.{AreClosed, AreLeading, AreSpread, Counts, IsClosedBy, IsMarkedName, NamesMarked, Spreads, unmarked};
 
 use crate::boxes::boxed_table::BoxedTable;
 use crate::boxes::meeting::meet;
+use crate::seeking::calls::Call;
 use crate::walking::engine::hook_index;
 use fields::Hook;
 use rules::{Rule, Target};
@@ -54,60 +56,42 @@ fn counts(subject: &BoxedTable, own: Option<Step>, by: Step) -> bool
     }
 }
 
-// Whether some rule of the chain at a place counts and names a marked chain.
-fn leads_on(subject: &BoxedTable, own: Option<Step>, marks: &[bool], place: usize) -> bool
-    requires own { IfSome own (IsRule subject.now.table.table) }
-    requires long { length marks.now ≡ length subject.now.table.table.chains }
-    requires place { place < length subject.now.table.table.chains }
-    ensures { IsTrue result ↔ LeadsOn subject.now.table.table (option_map (rule_at subject.now.table.table) own) marks.now place }
-{
-    let table = &subject.table;
-    for passed in 0..table.rule_count(place) {
-        let by = Step {
-            chain: place,
-            number: passed + 1,
-        };
-        if names_marked(table, marks, table.rule(place, passed + 1)) && counts(subject, own, by) {
-            return true;
-        }
-    }
-    false
-}
-
-// Marks the chain at a place, if such a rule stands there. Whether it wasn't marked before.
-fn mark(subject: &BoxedTable, own: Option<Step>, marks: &mut Vec<bool>, place: usize) -> bool
+// Marks the chain of a rule that counts and leads to a marked one. Whether it wasn't marked before.
+fn mark_by(subject: &BoxedTable, own: Option<Step>, marks: &mut Vec<bool>, call: Call) -> bool
     requires own { IfSome own (IsRule subject.now.table.table) }
     requires long { length marks.old.items ≡ length subject.now.table.table.chains }
-    requires place { place < length subject.now.table.table.chains }
+    requires call { IsCall subject.now.table.table call }
     ensures more { Spreads subject.now.table.table (option_map (rule_at subject.now.table.table) own) marks.old.items marks.new.items }
     ensures fewer { IsTrue result → unmarked marks.new.items < unmarked marks.old.items }
     ensures same { result ≡ false → marks.new.items ≡ marks.old.items }
-    ensures closed { result ≡ false → LeadsOn subject.now.table.table (option_map (rule_at subject.now.table.table) own) marks.old.items place
-        → slice_index_or marks.old.items place false ≡ true }
+    ensures closed { result ≡ false → IsClosedBy subject.now.table.table (option_map (rule_at subject.now.table.table) own) marks.old.items call }
 {
-    if marks[place] {
+    let Call { to, by } = call;
+    if !marks[to] || marks[by.chain] {
         return false;
     }
-    if !leads_on(subject, own, marks.as_slice(), place) {
+    if !counts(subject, own, by) {
         return false;
     }
     subject.table.stands();
-    marks[place] = true;
+    marks[by.chain] = true;
     true
 }
 
-// Marks each chain with such a rule. Whether one is marked that wasn't before.
+// Marks the chain of each such rule. Whether one is marked that wasn't before.
 fn spread(subject: &BoxedTable, own: Option<Step>, marks: &mut Vec<bool>) -> bool
     requires own { IfSome own (IsRule subject.now.table.table) }
     requires long { length marks.old.items ≡ length subject.now.table.table.chains }
     ensures more { Spreads subject.now.table.table (option_map (rule_at subject.now.table.table) own) marks.old.items marks.new.items }
     ensures fewer { IsTrue result → unmarked marks.new.items < unmarked marks.old.items }
     ensures closed { result ≡ false
-        → AreClosed subject.now.table.table (option_map (rule_at subject.now.table.table) own) marks.new.items (length subject.now.table.table.chains) }
+        → AreClosed subject.now.table.table (option_map (rule_at subject.now.table.table) own) marks.new.items }
 {
+    subject.table.stands();
+    let calls = subject.calls();
     let mut is_more = false;
-    for place in 0..subject.table.chain_count() {
-        if mark(subject, own, marks, place) {
+    for call in calls {
+        if mark_by(subject, own, marks, *call) {
             is_more = true;
         }
     }
@@ -130,7 +114,8 @@ pub(crate) fn is_of_other(hook: Hook, place: usize) -> bool
 }
 
 // A mark for each chain from which rules that count lead to the one at a place, also in no step. The marks spread until each
-// chain with such a rule that names a marked one is marked: each time but the last there are more. To the chain of a hook leads no other one.
+// chain with such a rule that names a marked one is marked: each time but the last there are more. Each time takes a look at each rule
+// that names a chain. To the chain of a hook leads no other one.
 pub(crate) fn spread_from(
     alloc: Global,
     subject: &BoxedTable,

@@ -34,38 +34,44 @@ fn all_have(subject: &Subject<'_>, found: &[Leaf], packet: &Packet, step: Step) 
     true
 }
 
-// Whether a rule is known to be on the walk of a packet where the answers are right: the packet surely comes there, or all its walks have the rule.
-pub(crate) fn is_always_on(
+// Whether all walks of a packet where the answers are right are known to have the rule.
+fn walks_have(
     alloc: Global,
-    subject: &Subject<'_>,
-    packet: &Packet,
-    answers: &Answers,
-    step: Step,
+    approach: &Approach<'_, '_, '_>,
     budget: usize,
 ) -> Result<bool, AllocError>
-    requires step { IsRule (table_of subject.now) step }
-    requires can { IsAtHook packet.now }
-    ensures yes { IfOk result (λ is. IsTrue is → AreEnough subject.now step packet.now answers.now) }
-    ensures no { IfOk result (λ is. is ≡ false → MayNotSuffice subject.now step packet.now budget answers.now) }
+    requires step { IsRule (table_of approach.now.subject) approach.now.wanted }
+    requires can { IsAtHook approach.now.packet.now }
+    ensures yes { IfOk result (λ is. IsTrue is → AreEnough approach.now.subject approach.now.wanted approach.now.packet.now approach.now.answers.now) }
+    ensures no { IfOk result (λ is. is ≡ false → MayNotSuffice approach.now.subject approach.now.wanted approach.now.packet.now budget approach.now.answers.now) }
 {
+    let subject = approach.subject;
+    let packet = approach.packet;
     subject.boxed.table.stands();
-    let approach = Approach {
-        subject: *subject,
-        packet,
-        answers,
-        wanted: step,
-    };
-    if suffice_surely(alloc, &approach)? {
-        return Ok(true);
-    }
     let whole = Area::at_hook(alloc, packet.hook())?;
-    match walks_of(alloc, subject, &whole, packet, answers, budget)? {
+    match walks_of(alloc, &subject, &whole, packet, approach.answers, budget)? {
         None => Ok(false),
-        Some(found) => Ok(all_have(subject, found.as_slice(), packet, step)),
+        Some(found) => Ok(all_have(&subject, found.as_slice(), packet, approach.wanted)),
     }
 }
 
-// Whether answers are known to suffice without one more: they are, or a walk misses the rule where that one is turned; else all walks tell.
+// Whether a rule is known to be on the walk of a packet where the answers are right: the packet surely comes there, or all its walks have the rule.
+pub(crate) fn is_always_on(
+    alloc: Global,
+    approach: &Approach<'_, '_, '_>,
+    budget: usize,
+) -> Result<bool, AllocError>
+    requires step { IsRule (table_of approach.now.subject) approach.now.wanted }
+    requires can { IsAtHook approach.now.packet.now }
+    ensures { IfOk result (λ is. IsTrue is → AreEnough approach.now.subject approach.now.wanted approach.now.packet.now approach.now.answers.now) }
+{
+    if suffice_surely(alloc, approach)? {
+        return Ok(true);
+    }
+    walks_have(alloc, approach, budget)
+}
+
+// Whether answers are known to suffice without one more: they do surely, or a walk misses the rule where that one is turned; else all walks tell.
 fn suffice_without(
     alloc: Global,
     others: &Approach<'_, '_, '_>,
@@ -91,14 +97,7 @@ fn suffice_without(
     if is_off(alloc, &missing)? {
         return Ok(false);
     }
-    is_always_on(
-        alloc,
-        &others.subject,
-        others.packet,
-        others.answers,
-        others.wanted,
-        budget,
-    )
+    walks_have(alloc, others, budget)
 }
 
 // Those of some answers that are necessary: one after another is left out where the others suffice.
@@ -118,6 +117,7 @@ pub(crate) fn necessary_of(
     let mut necessary = answers.copy(alloc)?;
     for answer in answers.listed() {
         let others = necessary.without(alloc, answer.condition)?;
+        others.stand();
         let approach = Approach {
             subject: *subject,
             packet,

@@ -229,9 +229,10 @@ pub fn dead(
 /// on the packet's walk where they are right, whatever else holds.
 ///
 /// A step of the search is also one box that parts by a condition. A rule that hands over parts no box: the answers for it are given at the
-/// end. A packet is offered if its walks, for all assignments that give the answers, are known to end with `budget` steps more. Of more than
-/// eight answers the first half is given, again and again, as long as it is seen to suffice. Of up to eight each is necessary: without it the rule may be off the
-/// packet's walk, or the walks aren't known to end with `budget` steps.
+/// end. A packet is offered if it is seen to come to the rule whatever else holds, or if its walks, for all assignments that give the answers,
+/// are known to end with `budget` steps more. Of more than eight answers the first half is given, again and again, as long as it is seen to
+/// suffice. Of up to eight each is necessary: without it the rule may be off the packet's walk, or the walks aren't known to end with
+/// `budget` steps.
 ///
 /// # Errors
 ///

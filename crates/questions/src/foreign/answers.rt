@@ -15,7 +15,7 @@ pub struct Answer {
     pub holds: bool,
 }
 
-/// Answers, no two of which are about one condition. They take the memory of a list, and of two bytes for each condition up to the last that is answered.
+/// Answers, no two of which are about one condition. They take the memory of a list, and of an `Option<bool>` for each condition up to the last that is answered.
 #[derive(Drop)]
 pub struct Answers {
     listed: Vec<Answer>,

@@ -20,6 +20,7 @@ use crate::asked::rule::{Life, is_on};
 use crate::foreign::answers::Answers;
 use crate::foreign::subject::Subject;
 use crate::sampling::sample::{Sample, sample_of};
+use crate::seeking::before::Approach;
 use crate::seeking::parting::first_ways;
 use crate::seeking::steering::{Ending, steer};
 use crate::seeking::straying::others;
@@ -61,7 +62,13 @@ fn is_shown(
         let trail = subject.boxed.table.trail(packet)?;
         return Ok(is_on(trail.steps(), step));
     }
-    is_always_on(alloc, subject, packet, answers, step, budget)
+    let approach = Approach {
+        subject: *subject,
+        packet,
+        answers,
+        wanted: step,
+    };
+    is_always_on(alloc, &approach, budget)
 }
 
 // What comes of a way.

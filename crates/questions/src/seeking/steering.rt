@@ -70,18 +70,21 @@ impl Walker {
         }
     }
 
-    // Whether a jump can be passed by, which hangs on an open condition: the packet gets no verdict where it leads.
+    // Whether a rule is the next place of the way, on which the walk still is.
+    fn is_next(&self, way: &Way, by: Step) -> bool {
+        self.path.is_empty() && by == way.place_after(self.taken)
+    }
+
+    // Whether a jump off the way can be passed by: the packet gets no verdict where it leads, so that it comes back, or to the rule.
     fn passes_by(
         &mut self,
         subject: &Subject<'_>,
         packet: &Packet,
         way: &Way,
         seen: &Seen<'_>,
+        by: Step,
     ) -> Result<bool, AllocError> {
-        if !matches!(seen.rule.target(), Some(Target::Jump(_))) {
-            return Ok(false);
-        }
-        if !matches!(known_of(seen.needs, &self.answers), Standing::Open(_)) {
+        if !matches!(seen.rule.target(), Some(Target::Jump(_))) || self.is_next(way, by) {
             return Ok(false);
         }
         let Some(place) = place_named(&subject.boxed.table, seen.rule.target()) else {
@@ -110,7 +113,7 @@ impl Walker {
         let Some(chain) = place else {
             return Ok(Turn::On);
         };
-        if self.path.is_empty() && by == way.place_after(self.taken) {
+        if self.is_next(way, by) {
             self.taken = self.taken.saturating_add(1);
         } else {
             self.path.push(by)?;
@@ -130,7 +133,7 @@ impl Walker {
     ) -> Result<Turn, AllocError> {
         let target = seen.rule.target();
         if matches!(target, Some(Target::Log) | None)
-            || self.passes_by(subject, packet, way, seen)?
+            || self.passes_by(subject, packet, way, seen, by)?
             || !self.meets(seen.needs)?
         {
             self.wait(by.chain, by.number)?;

@@ -45,7 +45,7 @@ pub(crate) fn step(
     ensures moves { OnOk result ((a : Assignment) → Moves (answered subject.now a) (known_by subject.now a) policy task.scope
         (stage_of (known_by subject.now a) (answered subject.now a).chains task) front.old front.new) }
     ensures asked { OnOk result (KeepsAsked subject.now.needs.now task.scope.answers front.old front.new) }
-    ensures on { OnOk result (AddsTasks (GetsOn task.scope task.rests.items task.trail.items) front.old front.new) }
+    ensures on { OnOk result (AddsTasks (GetsOn subject.now.needs.now task.scope task.rests.items task.trail.items) front.old front.new) }
 {
     match task.rests.pop() {
         None => front.add_leaf(task, policy, true),

@@ -11,7 +11,7 @@ ghost use Rattle.questions.specs.declared.foreign.need.Need.{Need as Needed};
 ghost use Rattle.questions.specs.steps.Ahead.{Stays};
 ghost use Rattle.questions.specs.steps.Asking.{KeepsAsked};
 ghost use Rattle.questions.specs.steps.Branches.{CanAsk, IsBranch, IsNeededBy, target_at};
-ghost use Rattle.questions.specs.steps.Onward.{AddsTasks, GetsOn, HasTrail, IsAnswered, IsBesides, IsPut};
+ghost use Rattle.questions.specs.steps.Onward.{AddsTasks, GetsOn, IsAnswered, IsBesides, IsEntered, IsPut, IsTurned};
 ghost use Rattle.questions.specs.steps.Waiting.{AreNamedAlike, AreThere, IsLastMet, IsThere, Moves, PassesOver, rest_of, rests_of, stage_at};
 
 use crate::boxes::area::Area;
@@ -43,7 +43,7 @@ fn enter(table: &Table, front: &mut Front, task: Task, name: &Name) -> Result<()
         → Moves t known policy task.scope
         (Under (whole name.now ∷ rests_of t.chains task.rests.items) (entries_by known t.chains task.trail.items)) front.old front.new) }
     ensures asked { OnOk result ((needs : List (List (List Needed))) → KeepsAsked needs task.scope.answers front.old front.new) }
-    ensures on { OnOk result (AddsTasks (HasTrail task.trail.items) front.old front.new) }
+    ensures on { OnOk result (AddsTasks (IsEntered table.now.table.chains name.now task.rests.items task.trail.items) front.old front.new) }
 {
     match table.index_of(name.bytes()) {
         Some(chain) => go_on(front, task, Pending { chain, passed: 0 }),
@@ -64,7 +64,7 @@ fn jump(
         (Under (whole name.now ∷ rest_of t.chains behind ∷ rests_of t.chains task.rests.items) (entries_by known t.chains task.trail.items))
         front.old front.new) }
     ensures asked { OnOk result ((needs : List (List (List Needed))) → KeepsAsked needs task.scope.answers front.old front.new) }
-    ensures on { OnOk result (AddsTasks (HasTrail task.trail.items) front.old front.new) }
+    ensures on { OnOk result (AddsTasks (IsEntered table.now.table.chains name.now (task.rests.items ++ behind ∷ []) task.trail.items) front.old front.new) }
 {
     task.rests.push(behind)?;
     enter(table, front, task, name)
@@ -85,7 +85,7 @@ fn turn(
         (on_by (after_match target (rest_of t.chains behind) (rests_of t.chains task.rests.items)) (entries_by known t.chains task.trail.items))
         front.old front.new) }
     ensures asked { OnOk result ((needs : List (List (List Needed))) → KeepsAsked needs task.scope.answers front.old front.new) }
-    ensures on { OnOk result (AddsTasks (HasTrail task.trail.items) front.old front.new) }
+    ensures on { OnOk result (AddsTasks (IsTurned table.now.table.chains target task.rests.items behind task.trail.items) front.old front.new) }
 {
     match target {
         None => go_on(front, task, behind),
@@ -114,7 +114,8 @@ fn follow(
         (entries_by known t.chains (task.trail.items ++ record { chain = behind.chain; number = behind.passed } ∷ [])))
         front.old front.new) }
     ensures asked { OnOk result ((needs : List (List (List Needed))) → KeepsAsked needs task.scope.answers front.old front.new) }
-    ensures on { OnOk result (AddsTasks (HasTrail (task.trail.items ++ record { chain = behind.chain; number = behind.passed } ∷ [])) front.old front.new) }
+    ensures on { OnOk result (AddsTasks (IsTurned table.now.table.chains (target_of rule.now) task.rests.items behind
+        (task.trail.items ++ record { chain = behind.chain; number = behind.passed } ∷ [])) front.old front.new) }
 {
     task.trail.push(Step {
         chain: behind.chain,
@@ -148,7 +149,8 @@ fn part(front: &mut Front, mut task: Task, at: Pending, condition: usize) -> Res
     ensures moves { OnOk result ((t : Filter) (known : Known) (policy : Verdict) → IsThere t.chains at → AreThere t.chains task
         → Moves t known policy task.scope (stage_at known t.chains at task) front.old front.new) }
     ensures asked { OnOk result ((needs : List (List (List Needed))) → IsNeeded needs condition → KeepsAsked needs task.scope.answers front.old front.new) }
-    ensures on { OnOk result (AddsTasks (IsAnswered task.scope.answers (task.rests.items ++ at ∷ []) task.trail.items) front.old front.new) }
+    ensures on { OnOk result ((needs : List (List (List Needed))) → IsNeeded needs condition
+        → AddsTasks (IsAnswered needs task.scope.answers (task.rests.items ++ at ∷ []) task.trail.items) front.old front.new) }
 {
     let same = task.scope.area.copy(front.alloc)?;
     let mut other = beside(front.alloc, &task, same)?;
@@ -202,7 +204,7 @@ fn cut(
         → Moves (answered subject.now a) (known_by subject.now a) policy task.scope
         (stage_at (known_by subject.now a) (answered subject.now a).chains at task) front.old front.new) }
     ensures asked { OnOk result (KeepsAsked subject.now.needs.now task.scope.answers front.old front.new) }
-    ensures on { OnOk result (AddsTasks (GetsOn task.scope (task.rests.items ++ at ∷ []) task.trail.items) front.old front.new) }
+    ensures on { OnOk result (AddsTasks (GetsOn subject.now.needs.now task.scope (task.rests.items ++ at ∷ []) task.trail.items) front.old front.new) }
 {
     let table = &subject.boxed.table;
     table.stands();
@@ -246,7 +248,7 @@ pub(crate) fn ask(
         → Moves (answered subject.now a) (known_by subject.now a) policy task.scope
         (stage_at (known_by subject.now a) (answered subject.now a).chains at task) front.old front.new) }
     ensures asked { OnOk result (KeepsAsked subject.now.needs.now task.scope.answers front.old front.new) }
-    ensures on { OnOk result (AddsTasks (GetsOn task.scope (task.rests.items ++ at ∷ []) task.trail.items) front.old front.new) }
+    ensures on { OnOk result (AddsTasks (GetsOn subject.now.needs.now task.scope (task.rests.items ++ at ∷ []) task.trail.items) front.old front.new) }
 {
     let table = &subject.boxed.table;
     table.stands();

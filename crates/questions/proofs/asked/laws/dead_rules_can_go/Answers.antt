@@ -1,5 +1,5 @@
 use Rattle.questions.proofs.laws.DeleteLaws.{deletions_leave}
-use Rattle.questions.proofs.laws.StayLaws.{dead_can_go_under}
+use Rattle.questions.proofs.laws.StayLaws.{dead_can_go_renumbered, dead_can_go_under}
 use Rattle.questions.proofs.laws.WithoutLaws.{dead_can_go}
 use Rattle.questions.proofs.asked.laws.dead_rules_can_go.Goals as goal
 
@@ -8,6 +8,9 @@ returns-clause-verdicts c = dead_can_go
 
 pub returns-clause-needs : goal.returns-clause-needs
 returns-clause-needs c = dead_can_go_under
+
+pub returns-clause-renumbered : goal.returns-clause-renumbered
+returns-clause-renumbered c = dead_can_go_renumbered
 
 pub returns-clause-commands : goal.returns-clause-commands
 returns-clause-commands c = deletions_leave

@@ -1,4 +1,5 @@
 use Rattle.std.proofs.Common.{List, ◌+◌, sym, subst, ◌∙◌}
+use Rattle.questions.specs.Foreign.{AreConsistent}
 use Rattle.questions.specs.asked.Necessary.{AreEnough, MayNotSuffice}
 use Rattle.questions.specs.declared.foreign.answers.Answer.{Answer}
 use Rattle.questions.proofs.laws.NecessaryLaws.{AreTried, all_tried, none_tried, one_goes, one_stays}
@@ -21,6 +22,7 @@ loop-answer-preserved c =
     let all : List Answer = c.listed-answer-items.result.now in
     let Enough : List Answer → Type 0 = λ l. AreEnough s c.args.step p l in
     let Tried : List Answer → Type 0 = λ l. AreTried s c.args.step p c.args.budget all (c.loop-answer.answer-index + 1) l in
+    let Consistent : List Answer → Type 0 = λ l. AreConsistent l in
     let May : List Answer → Type 0 = λ l. MayNotSuffice s c.args.step p c.args.budget l in
     elim c.if-branch.branch [
       | then-branch w ↦ record {
@@ -30,7 +32,7 @@ loop-answer-preserved c =
       | else-branch w ↦ record {
         enough = λ first. subst Enough (sym w.necessary-is) (c.loop-answer.invariant.enough first);
         tried = subst Tried (sym w.necessary-is) (one_stays s c.args.step p c.args.budget all c.loop-answer.necessary c.loop-answer.answer-index _ c.loop-answer-test.true c.loop-answer.invariant.tried
-            (subst May c.in_ok-others.ensures (c.in_ok-suffice_without.ensures.no w.if-branch.false)));
+            (subst Consistent c.in_ok-others.ensures c.stand.ensures) (subst May c.in_ok-others.ensures (c.in_ok-suffice_without.ensures.no w.if-branch.false)));
       }
     ]
 

@@ -22,6 +22,7 @@ returns-clause-further c = λ start are a.
     record {
       same = refl;
       trail = refl;
+      later = inr (c.pop.new.self.items, at, passed, c.in-Some.ensures.items, c.next_place-passed.ensures.low, c.in_ok-push.ensures.items);
       waits = λ p can of waits.
           advances t (known_by s a) start.area p (left_sound s.needs.now a own c.stands.ensures.sound) c.args.task (record { scope = c.args.task.scope; rests = c.push.new.self; trail = c.args.task.trail }) c.pop.new.self.items at passed
           (there_left s.needs.now a own at.chain there) can of.inside c.in-Some.ensures.items c.in_ok-push.ensures.items refl refl c.next_place-passed.ensures.low

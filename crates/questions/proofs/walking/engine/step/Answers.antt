@@ -47,15 +47,15 @@ returns-else-at-rule_count-clause-moves c =
     at_rest t known c.args.policy c.args.task.scope c.args.front.now c.ask.new.front c.args.task.rests.items c.pop.new.self.items c.in-Some.at es c.in-Some.ensures.items (h a c.args.policy)) c.ask.ensures.moves
 
 pub returns-in-None-clause-on : goal.returns-in-None-clause-on
-returns-in-None-clause-on c = on_ok_weaker c.add_leaf.result (λ h. adds_none (GetsOn c.args.task.scope c.args.task.rests.items c.args.task.trail.items) c.args.front.now c.add_leaf.new.self h) c.add_leaf.ensures.on
+returns-in-None-clause-on c = on_ok_weaker c.add_leaf.result (λ h. adds_none (GetsOn c.args.subject.now.needs.now c.args.task.scope c.args.task.rests.items c.args.task.trail.items) c.args.front.now c.add_leaf.new.self h) c.add_leaf.ensures.on
 
 pub returns-then-at-rule_count-clause-on : goal.returns-then-at-rule_count-clause-on
 returns-then-at-rule_count-clause-on c =
-    on_ok_weaker c.add_task.result (λ h. back_on c.args.task.scope c.args.task.rests.items c.pop.new.self.items c.in-Some.at c.args.task.trail.items c.args.front.now c.add_task.new.self c.in-Some.ensures.items h) c.add_task.ensures.on
+    on_ok_weaker c.add_task.result (λ h. back_on c.args.subject.now.needs.now c.args.task.scope c.args.task.rests.items c.pop.new.self.items c.in-Some.at c.args.task.trail.items c.args.front.now c.add_task.new.self c.in-Some.ensures.items h) c.add_task.ensures.on
 
 pub returns-else-at-rule_count-clause-on : goal.returns-else-at-rule_count-clause-on
 returns-else-at-rule_count-clause-on c =
-    let P : List Pending → Type 0 = λ rests. AddsTasks (GetsOn c.args.task.scope rests c.args.task.trail.items) c.args.front.now c.ask.new.front in
+    let P : List Pending → Type 0 = λ rests. AddsTasks (GetsOn c.args.subject.now.needs.now c.args.task.scope rests c.args.task.trail.items) c.args.front.now c.ask.new.front in
     on_ok_weaker c.ask.result (λ h. subst P (sym c.in-Some.ensures.items) h) c.ask.ensures.on
 
 pub returns-in-None-clause-asked : goal.returns-in-None-clause-asked

@@ -1,10 +1,8 @@
-use Rattle.std.proofs.Common.{◌+◌, refl, arith}
 use Rattle.std.proofs.lemmas.Result.{on_ok_weaker}
 use Rattle.questions.specs.Scopes.{answered, known_by, table_of}
 use Rattle.questions.specs.steps.Waiting.{rests_of}
 use Rattle.questions.proofs.laws.BranchLaws.{passed_on}
 use Rattle.questions.proofs.laws.ResolvedLaws.{all_left, there_left}
-use Rattle.questions.specs.declared.walking.task.Pending.{Pending}
 use Rattle.questions.proofs.laws.OnwardLaws.{put_past}
 use Rattle.questions.proofs.walking.turn.ask.Goals as goal
 
@@ -20,9 +18,7 @@ returns-in-Passed-clause-moves c =
 
 pub returns-in-Passed-clause-on : goal.returns-in-Passed-clause-on
 returns-in-Passed-clause-on c =
-    let at : Pending = c.args.at in
-    let later : Pending = record { chain = at.chain; passed = at.passed + 1 } in
-    on_ok_weaker c.go_on.result (λ h. put_past c.args.task.scope c.args.task.rests.items at later c.args.task.trail.items c.args.front.now c.go_on.new.front refl (omega arith) h) c.go_on.ensures.on
+    on_ok_weaker c.go_on.result (λ h. put_past c.args.subject.now.needs.now c.args.task.scope c.args.task.rests.items c.args.at c.args.task.trail.items c.args.front.now c.go_on.new.front h) c.go_on.ensures.on
 
 pub returns-in-Passed-clause-asked : goal.returns-in-Passed-clause-asked
 returns-in-Passed-clause-asked c = on_ok_weaker c.go_on.result (λ h. h c.args.subject.now.needs.now) c.go_on.ensures.asked

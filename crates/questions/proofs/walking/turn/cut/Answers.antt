@@ -1,4 +1,4 @@
-use Rattle.std.proofs.Common.{◌+◌, ◌-◌, [], ◌∷◌, ◌++◌, refl, sym, subst, arith}
+use Rattle.std.proofs.Common.{◌+◌, ◌-◌, [], ◌∷◌, ◌++◌, sym, subst, arith}
 use Rattle.std.proofs.lemmas.Result.{on_ok_weaker}
 use Rattle.rules.specs.rule.Actions.{target_of}
 use Rattle.rules.specs.rule.Rules.{Rule}
@@ -15,6 +15,7 @@ use Rattle.questions.specs.declared.walking.task.Pending.{Pending}
 use Rattle.questions.specs.declared.walking.task.Task.{Task}
 use Rattle.questions.specs.steps.Onward.{GetsOn}
 use Rattle.questions.proofs.laws.OnwardLaws.{adds_more, answered_on, besides_past, matched_on, parts_on, put_past}
+use Rattle.questions.proofs.laws.LeadLaws.{not_gone_to}
 use Rattle.questions.proofs.walking.turn.cut.Goals as goal
 
 pub cut_by-requires : goal.cut_by-requires
@@ -82,42 +83,44 @@ returns-in_ok-pass_over-in-ByPorts-clause-moves c =
 pub returns-in-Apart-clause-on : goal.returns-in-Apart-clause-on
 returns-in-Apart-clause-on c =
     let at : Pending = c.args.at in
-    let later : Pending = record { chain = at.chain; passed = at.passed + 1 } in
-    on_ok_weaker c.go_on.result (λ h. put_past c.args.task.scope c.args.task.rests.items at later c.args.task.trail.items c.args.front.now c.go_on.new.front refl (omega arith) h) c.go_on.ensures.on
+    on_ok_weaker c.go_on.result (λ h. put_past c.args.subject.now.needs.now c.args.task.scope c.args.task.rests.items at c.args.task.trail.items c.args.front.now c.go_on.new.front h) c.go_on.ensures.on
 
 pub returns-in-None-clause-on : goal.returns-in-None-clause-on
 returns-in-None-clause-on c =
+    let own = table_of c.args.subject.now in
+    let rule = c.rule-rule.result.now in
     let task = c.args.task in
     let at : Pending = c.args.at in
-    let later : Pending = record { chain = at.chain; passed = at.passed + 1 } in
+    let needs = c.args.subject.now.needs.now in
     let rests = task.rests.items ++ at ∷ [] in
-    let On : Task → Type 0 = GetsOn task.scope rests task.trail.items in
+    let On : Task → Type 0 = GetsOn needs task.scope rests task.trail.items in
     on_ok_weaker c.follow.result (λ h. adds_more On c.args.front.now c.pass_over.new.front c.follow.new.front
-    (besides_past task.scope c.in-Parts.outside.items task.rests.items at later task.trail.items c.args.front.now c.pass_over.new.front refl (omega arith) c.in_ok-pass_over-in-Parts.ensures.on)
-    (matched_on task.scope rests task.trail.items (record { chain = at.chain; number = at.passed + 1 }) c.pass_over.new.front c.follow.new.front h)) c.follow.ensures.on
+    (besides_past needs task.scope task.rests.items at task.trail.items c.args.front.now c.pass_over.new.front c.in-Parts.outside.items c.in_ok-pass_over-in-Parts.ensures.on)
+    (matched_on needs task.scope task.rests.items at task.trail.items c.pass_over.new.front c.follow.new.front own.chains (target_of rule)
+    (λ name to. not_gone_to own at rule name c.stands.ensures.sound c.requires.there c.requires.passed c.rule-rule.ensures to) h)) c.follow.ensures.on
 
 pub returns-in-Some-clause-on : goal.returns-in-Some-clause-on
 returns-in-Some-clause-on c =
     let task = c.args.task in
     let at : Pending = c.args.at in
-    let later : Pending = record { chain = at.chain; passed = at.passed + 1 } in
+    let needs = c.args.subject.now.needs.now in
     let rests = task.rests.items ++ at ∷ [] in
-    let On : Task → Type 0 = GetsOn task.scope rests task.trail.items in
+    let On : Task → Type 0 = GetsOn needs task.scope rests task.trail.items in
     on_ok_weaker c.part.result (λ h. adds_more On c.args.front.now c.pass_over.new.front c.part.new.front
-    (besides_past task.scope c.in-Parts.outside.items task.rests.items at later task.trail.items c.args.front.now c.pass_over.new.front refl (omega arith) c.in_ok-pass_over-in-Parts.ensures.on)
-    (answered_on task.scope rests task.trail.items c.pass_over.new.front c.part.new.front h)) c.part.ensures.on
+    (besides_past needs task.scope task.rests.items at task.trail.items c.args.front.now c.pass_over.new.front c.in-Parts.outside.items c.in_ok-pass_over-in-Parts.ensures.on)
+    (answered_on needs task.scope rests task.trail.items c.pass_over.new.front c.part.new.front (h needs (rw c.in-Some.is at c.requires.needed)))) c.part.ensures.on
 
 pub returns-in_ok-pass_over-in-ByPorts-clause-on : goal.returns-in_ok-pass_over-in-ByPorts-clause-on
 returns-in_ok-pass_over-in-ByPorts-clause-on c =
     let task = c.args.task in
     let at : Pending = c.args.at in
-    let later : Pending = record { chain = at.chain; passed = at.passed + 1 } in
+    let needs = c.args.subject.now.needs.now in
     let rests = task.rests.items ++ at ∷ [] in
-    let On : Task → Type 0 = GetsOn task.scope rests task.trail.items in
+    let On : Task → Type 0 = GetsOn needs task.scope rests task.trail.items in
     let less = rw c.in-ByPorts.is at c.in_ok-cut_by.ensures.less in
     on_ok_weaker c.pass_over-in-ByPorts-2.result (λ h. adds_more On c.args.front.now c.pass_over-in-ByPorts.new.front c.pass_over-in-ByPorts-2.new.front
-    (besides_past task.scope c.in-ByPorts.outside.items task.rests.items at later task.trail.items c.args.front.now c.pass_over-in-ByPorts.new.front refl (omega arith) c.in_ok-pass_over-in-ByPorts.ensures.on)
-    (parts_on task.scope c.in-ByPorts.again.items rests task.trail.items c.pass_over-in-ByPorts.new.front c.pass_over-in-ByPorts-2.new.front less h)) c.pass_over-in-ByPorts-2.ensures.on
+    (besides_past needs task.scope task.rests.items at task.trail.items c.args.front.now c.pass_over-in-ByPorts.new.front c.in-ByPorts.outside.items c.in_ok-pass_over-in-ByPorts.ensures.on)
+    (parts_on needs task.scope c.in-ByPorts.again.items rests task.trail.items c.pass_over-in-ByPorts.new.front c.pass_over-in-ByPorts-2.new.front less h)) c.pass_over-in-ByPorts-2.ensures.on
 
 pub returns-in-Apart-clause-asked : goal.returns-in-Apart-clause-asked
 returns-in-Apart-clause-asked c = on_ok_weaker c.go_on.result (λ h. h c.args.subject.now.needs.now) c.go_on.ensures.asked

@@ -1,7 +1,10 @@
+use Rattle.std.proofs.Common.{List, subst}
 use Rattle.std.proofs.lemmas.Result.{on_ok_weaker}
 use Rattle.table.specs.walk.Walk.{whole}
 use Rattle.questions.specs.Scopes.{entries_by}
 use Rattle.questions.proofs.laws.WaitLaws.{pushed_below}
+use Rattle.questions.specs.declared.walking.task.Pending.{Pending}
+use Rattle.questions.specs.steps.Onward.{AddsTasks, IsEntered}
 use Rattle.questions.proofs.walking.turn.jump.Goals as goal
 
 pub returns-clause-moves : goal.returns-clause-moves
@@ -10,4 +13,6 @@ returns-clause-moves c =
     c.in_ok-push.ensures.items there all (h t known policy names)) c.enter.ensures.moves
 
 pub returns-clause-on : goal.returns-clause-on
-returns-clause-on c = c.enter.ensures.on
+returns-clause-on c =
+    let P : List Pending → Type 0 = λ waiting. AddsTasks (IsEntered c.args.table.now.table.chains c.args.name.now waiting c.args.task.trail.items) c.args.front.now c.enter.new.front in
+    on_ok_weaker c.enter.result (λ h. subst P c.in_ok-push.ensures.items h) c.enter.ensures.on

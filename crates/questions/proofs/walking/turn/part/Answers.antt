@@ -20,15 +20,17 @@ returns-clause-moves c = on_ok_weaker c.go_on-2.result (λ h t known policy ther
     (rw c.in_ok-add-2.ensures at (h t known policy there all))) c.go_on-2.ensures.moves
 
 pub returns-clause-on : goal.returns-clause-on
-returns-clause-on c = on_ok_weaker c.go_on-2.result (λ h.
+returns-clause-on c = on_ok_weaker c.go_on-2.result (λ h needs needed.
     let task = c.args.task in
     let other = c.in_ok-other.ensures in
     let rests = task.rests.items ++ c.args.at ∷ [] in
-    let Answered : Task → Type 0 = IsAnswered task.scope.answers rests task.trail.items in
+    let Answered : Task → Type 0 = IsAnswered needs task.scope.answers rests task.trail.items in
     let first = rw (other.rests, other.trail) at c.in_ok-go_on.ensures.on in
     adds_more Answered c.args.front.now c.go_on.new.front c.go_on-2.new.front
-    (put_answered _ task.scope.answers (record { condition = c.args.condition; holds = false }) rests task.trail.items c.args.front.now c.go_on.new.front (c.in_ok-add.ensures ∙ ap (λ (s : Scope). s.answers ++ record { condition = c.args.condition; holds = false } ∷ []) other.scope) first)
-    (put_answered _ task.scope.answers (record { condition = c.args.condition; holds = true }) rests task.trail.items c.go_on.new.front c.go_on-2.new.front c.in_ok-add-2.ensures h)) c.go_on-2.ensures.on
+    (put_answered needs _ task.scope.answers (record { condition = c.args.condition; holds = false }) rests task.trail.items c.args.front.now c.go_on.new.front c.requires needed
+    (c.in_ok-add.ensures ∙ ap (λ (s : Scope). s.answers ++ record { condition = c.args.condition; holds = false } ∷ []) other.scope) first)
+    (put_answered needs _ task.scope.answers (record { condition = c.args.condition; holds = true }) rests task.trail.items c.go_on.new.front c.go_on-2.new.front c.requires needed
+    c.in_ok-add-2.ensures h)) c.go_on-2.ensures.on
 
 pub returns-clause-asked : goal.returns-clause-asked
 returns-clause-asked c = on_ok_weaker c.go_on-2.result (λ h needs need given own all.

@@ -1,12 +1,13 @@
-use Rattle.std.proofs.Common.{◌∙◌, ap, Some, None}
+use Rattle.std.proofs.Common.{[], ◌∷◌, ◌++◌, refl, sym, ◌∙◌, ap, subst, Option, Some, None}
 use Rattle.std.proofs.lemmas.Result.{on_ok_weaker}
+use Rattle.rules.specs.declared.rule.target.Target.{Target}
 use Rattle.rules.specs.declared.rule.target.Target.TheVariants as target
 use Rattle.questions.specs.Scopes.{entries_by}
 use Rattle.questions.specs.steps.Waiting.{rest_of, rests_of}
 use Rattle.questions.proofs.laws.BranchLaws.{not_staying}
 use Rattle.questions.proofs.laws.WaitLaws.{turned}
-use Rattle.questions.specs.steps.Onward.{HasTrail}
-use Rattle.questions.proofs.laws.OnwardLaws.{adds_none, put_trail}
+use Rattle.questions.specs.steps.Onward.{AddsTasks, IsTurned}
+use Rattle.questions.proofs.laws.OnwardLaws.{adds_none, entered_turned, put_turned}
 use Rattle.questions.proofs.walking.turn.turn.Goals as goal
 
 pub returns-in-None-clause-moves : goal.returns-in-None-clause-moves
@@ -53,25 +54,47 @@ returns-in-Some-Goto-clause-moves c =
     (c.in-Some-Goto.is ∙ ap Some c.in-Some-Goto.field-0-is) (h t known policy names all)) c.enter.ensures.moves
 
 pub returns-in-None-clause-on : goal.returns-in-None-clause-on
-returns-in-None-clause-on c = on_ok_weaker c.go_on.result (λ h. put_trail _ _ c.args.task.trail.items c.args.front.now c.go_on.new.front h) c.go_on.ensures.on
+returns-in-None-clause-on c =
+    let task = c.args.task in
+    let P : Option Target → Type 0 = λ to. AddsTasks (IsTurned c.args.table.now.table.chains to task.rests.items c.args.behind task.trail.items) c.args.front.now c.go_on.new.front in
+    on_ok_weaker c.go_on.result (λ h. subst P (sym c.in-None.is)
+    (put_turned c.args.table.now.table.chains None task.rests.items c.args.behind task.trail.items c.args.front.now c.go_on.new.front task.scope _ refl h)) c.go_on.ensures.on
 
 pub returns-in-Some-Log-clause-on : goal.returns-in-Some-Log-clause-on
-returns-in-Some-Log-clause-on c = on_ok_weaker c.go_on-in-Some-Log.result (λ h. put_trail _ _ c.args.task.trail.items c.args.front.now c.go_on-in-Some-Log.new.front h) c.go_on-in-Some-Log.ensures.on
+returns-in-Some-Log-clause-on c =
+    let task = c.args.task in
+    let P : Option Target → Type 0 = λ to. AddsTasks (IsTurned c.args.table.now.table.chains to task.rests.items c.args.behind task.trail.items) c.args.front.now c.go_on-in-Some-Log.new.front in
+    on_ok_weaker c.go_on-in-Some-Log.result (λ h. subst P (sym (c.in-Some-Log.is ∙ ap Some c.in-Some-Log.field-0-is))
+    (put_turned c.args.table.now.table.chains (Some target.Log) task.rests.items c.args.behind task.trail.items c.args.front.now c.go_on-in-Some-Log.new.front task.scope _ refl h)) c.go_on-in-Some-Log.ensures.on
 
 pub returns-in-Some-Accept-clause-on : goal.returns-in-Some-Accept-clause-on
-returns-in-Some-Accept-clause-on c = on_ok_weaker c.add_leaf.result (λ h. adds_none (HasTrail c.args.task.trail.items) c.args.front.now c.add_leaf.new.self h) c.add_leaf.ensures.on
+returns-in-Some-Accept-clause-on c = on_ok_weaker c.add_leaf.result (λ h. adds_none (IsTurned c.args.table.now.table.chains c.args.target c.args.task.rests.items c.args.behind c.args.task.trail.items) c.args.front.now c.add_leaf.new.self h) c.add_leaf.ensures.on
 
 pub returns-in-Some-Drop-clause-on : goal.returns-in-Some-Drop-clause-on
-returns-in-Some-Drop-clause-on c = on_ok_weaker c.add_leaf-in-Some-Drop.result (λ h. adds_none (HasTrail c.args.task.trail.items) c.args.front.now c.add_leaf-in-Some-Drop.new.self h) c.add_leaf-in-Some-Drop.ensures.on
+returns-in-Some-Drop-clause-on c = on_ok_weaker c.add_leaf-in-Some-Drop.result (λ h. adds_none (IsTurned c.args.table.now.table.chains c.args.target c.args.task.rests.items c.args.behind c.args.task.trail.items) c.args.front.now c.add_leaf-in-Some-Drop.new.self h) c.add_leaf-in-Some-Drop.ensures.on
 
 pub returns-in-Some-Reject-clause-on : goal.returns-in-Some-Reject-clause-on
-returns-in-Some-Reject-clause-on c = on_ok_weaker c.add_leaf-in-Some-Reject.result (λ h. adds_none (HasTrail c.args.task.trail.items) c.args.front.now c.add_leaf-in-Some-Reject.new.self h) c.add_leaf-in-Some-Reject.ensures.on
+returns-in-Some-Reject-clause-on c = on_ok_weaker c.add_leaf-in-Some-Reject.result (λ h. adds_none (IsTurned c.args.table.now.table.chains c.args.target c.args.task.rests.items c.args.behind c.args.task.trail.items) c.args.front.now c.add_leaf-in-Some-Reject.new.self h) c.add_leaf-in-Some-Reject.ensures.on
 
 pub returns-in-Some-Return-clause-on : goal.returns-in-Some-Return-clause-on
-returns-in-Some-Return-clause-on c = on_ok_weaker c.add_task.result (λ h. put_trail _ _ c.args.task.trail.items c.args.front.now c.add_task.new.self h) c.add_task.ensures.on
+returns-in-Some-Return-clause-on c =
+    let task = c.args.task in
+    let P : Option Target → Type 0 = λ to. AddsTasks (IsTurned c.args.table.now.table.chains to task.rests.items c.args.behind task.trail.items) c.args.front.now c.add_task.new.self in
+    on_ok_weaker c.add_task.result (λ h. subst P (sym (c.in-Some-Return.is ∙ ap Some c.in-Some-Return.field-0-is))
+    (put_turned c.args.table.now.table.chains (Some target.Return) task.rests.items c.args.behind task.trail.items c.args.front.now c.add_task.new.self task.scope _ refl h)) c.add_task.ensures.on
 
 pub returns-in-Some-Jump-clause-on : goal.returns-in-Some-Jump-clause-on
-returns-in-Some-Jump-clause-on c = c.jump.ensures.on
+returns-in-Some-Jump-clause-on c =
+    let task = c.args.task in
+    let name = c.in-Some-Jump.name in
+    let P : Option Target → Type 0 = λ to. AddsTasks (IsTurned c.args.table.now.table.chains to task.rests.items c.args.behind task.trail.items) c.args.front.now c.jump.new.front in
+    on_ok_weaker c.jump.result (λ h. subst P (sym (c.in-Some-Jump.is ∙ ap Some c.in-Some-Jump.field-0-is))
+    (entered_turned c.args.table.now.table.chains (Some (target.Jump name)) task.rests.items c.args.behind task.trail.items c.args.front.now c.jump.new.front name (task.rests.items ++ c.args.behind ∷ []) (λ rests is. is) h)) c.jump.ensures.on
 
 pub returns-in-Some-Goto-clause-on : goal.returns-in-Some-Goto-clause-on
-returns-in-Some-Goto-clause-on c = c.enter.ensures.on
+returns-in-Some-Goto-clause-on c =
+    let task = c.args.task in
+    let name = c.in-Some-Goto.name in
+    let P : Option Target → Type 0 = λ to. AddsTasks (IsTurned c.args.table.now.table.chains to task.rests.items c.args.behind task.trail.items) c.args.front.now c.enter.new.front in
+    on_ok_weaker c.enter.result (λ h. subst P (sym (c.in-Some-Goto.is ∙ ap Some c.in-Some-Goto.field-0-is))
+    (entered_turned c.args.table.now.table.chains (Some (target.Goto name)) task.rests.items c.args.behind task.trail.items c.args.front.now c.enter.new.front name task.rests.items (λ rests is. is) h)) c.enter.ensures.on
