@@ -3,6 +3,7 @@
 import functools
 import re
 
+import edit_files
 from documents import length, markdown, tree
 
 WORDS = "zero one two three four five six seven eight nine ten eleven twelve thirteen fourteen fifteen sixteen seventeen eighteen nineteen twenty"
@@ -13,7 +14,9 @@ PUBLIC = re.compile(r"(?m)^\s*pub (?:const )?fn ")
 
 
 def edits(folder, crate=r"\w+"):
-    return sum(1 for path in tree.files(".edit") if re.match(rf"crates/{crate}/{folder}/", path))
+    """How many edits a folder has: a file `.edit` is one."""
+    paths = [path for path in tree.files(".edit", ".edits") if re.match(rf"crates/{crate}/{folder}/", path)]
+    return sum(1 if path.endswith(".edit") else len(edit_files.HEADING.findall(tree.text(path))) for path in paths)
 
 
 @functools.lru_cache(maxsize=None)

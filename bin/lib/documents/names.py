@@ -13,7 +13,7 @@ PATH = re.compile(r"^[A-Za-z_.][\w.-]*(?:/[\w.*-]+)*/?$")
 NAME = re.compile(r"^[A-Za-z_]\w*(?:::[A-Za-z_]\w*)*$")
 BUILT = re.compile(r"(?:^|/)out(?:/|$)")
 SUFFIXES = ("", ".rt", ".antt", ".md", ".py")
-CODE = (".rt", ".antt", ".py", ".sh", ".c", ".cases", ".edit", "crates.txt", ".tsv")
+CODE = (".rt", ".antt", ".py", ".sh", ".c", ".cases", ".edit", ".edits", "crates.txt", ".tsv")
 
 
 @functools.lru_cache(maxsize=None)
