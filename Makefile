@@ -1,11 +1,11 @@
-# make install [PREFIX=/usr/local] [DESTDIR=], and make uninstall with the same words: what the archive of bin/release has.
+# make install [PREFIX=/usr/local] [DESTDIR=], and make uninstall with the same words: what the archive of tools/release has.
 PREFIX = /usr/local
 DESTDIR =
 
 install:
-	bin/install 'PREFIX=$(PREFIX)' 'DESTDIR=$(DESTDIR)'
+	tools/install 'PREFIX=$(PREFIX)' 'DESTDIR=$(DESTDIR)'
 
 uninstall:
-	bin/install --remove 'PREFIX=$(PREFIX)' 'DESTDIR=$(DESTDIR)'
+	tools/install --remove 'PREFIX=$(PREFIX)' 'DESTDIR=$(DESTDIR)'
 
 .PHONY: install uninstall

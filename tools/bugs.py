@@ -408,7 +408,7 @@ DEVICES = [
         "            RunFault::WriteFailed => ProgramFault::InputFailed,", "cut", "times_to_live.cases: times to live"),
     Bug("left-is-written-again", "what a failed write left is written as the buffer goes", "programs/src/buffers.rt",
         "    let (_writer, _unwritten) = output.into_device().into_parts();",
-        "    let _device = output.into_device();", "bin/stalled"),
+        "    let _device = output.into_device();", "tests/devices/stalled"),
 ]
 
 # Texts of faults.
@@ -437,7 +437,7 @@ TEXTS = [
 HIDDEN = [
     Bug("section-copied-twice", "a section begins with two copies of the table: memory is taken twice, and each refusal is told",
         "restore/src/section.rt",
-        "            table.copy()?\n", "            let _first = table.copy()?;\n            table.copy()?\n", "bin/costs"),
+        "            table.copy()?\n", "            let _first = table.copy()?;\n            table.copy()?\n", "tests/costs/costs"),
     Bug("verdict-takes", "Table::verdict takes memory, which no session calls", "table/src/table.rt",
         "        self.parts.decide(hook, policy, packet)",
         """        match self.parts.trace(hook, policy, packet) {

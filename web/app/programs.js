@@ -8,7 +8,7 @@ function blockText(id) {
   return document.getElementById(id).textContent;
 }
 
-// The bytes of a block that bin/page packed.
+// The bytes of a block that tools/page packed.
 async function unpackedBytes(id) {
   const packed = Uint8Array.from(atob(blockText(id)), (letter) => letter.charCodeAt(0));
   const stream = new Blob([packed]).stream().pipeThrough(new DecompressionStream("gzip"));

@@ -1,4 +1,4 @@
-# Completion for fish of iptaudit. bin/completions writes this file of share/commands.tsv.
+# Completion for fish of iptaudit. tools/completions writes this file of share/commands.tsv.
 
 complete -c iptaudit -f
 complete -c iptaudit -n __fish_use_subcommand -s h -l help -d 'Print help'

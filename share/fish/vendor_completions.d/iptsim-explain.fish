@@ -1,4 +1,4 @@
-# Completion for fish of iptsim-explain. bin/completions writes this file of share/commands.tsv.
+# Completion for fish of iptsim-explain. tools/completions writes this file of share/commands.tsv.
 
 complete -c iptsim-explain -f
 complete -c iptsim-explain -s h -l help -d 'Print help'

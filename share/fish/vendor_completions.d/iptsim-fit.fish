@@ -1,4 +1,4 @@
-# Completion for fish of iptsim-fit. bin/completions writes this file of share/commands.tsv.
+# Completion for fish of iptsim-fit. tools/completions writes this file of share/commands.tsv.
 
 complete -c iptsim-fit -f
 complete -c iptsim-fit -s h -l help -d 'Print help'

@@ -1,4 +1,4 @@
-# Completion for fish of iptsim. bin/completions writes this file of share/commands.tsv.
+# Completion for fish of iptsim. tools/completions writes this file of share/commands.tsv.
 
 complete -c iptsim -f
 complete -c iptsim -n __fish_use_subcommand -s h -l help -d 'Print help'

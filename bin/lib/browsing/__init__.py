@@ -1,1 +1,0 @@
-"""Browsers without a window, driven by their own protocols: what bin/runs/page needs of them, alike for each."""

@@ -1,1 +1,0 @@
-"""Pages printed from the sources, and what bin/documents checks of the documents."""

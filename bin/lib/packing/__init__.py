@@ -1,5 +1,0 @@
-"""What bin/release and bin/install make: the version, the programs, the files of an installation, and the archive and the package of them."""
-
-
-class Failure(Exception):
-    """Why nothing can be packed."""

@@ -1,0 +1,136 @@
+"""What the scripts for users share: how a program is asked, how files and words are read, how a script ends."""
+
+import collections
+import os
+import re
+import signal
+import subprocess
+import sys
+
+from commands.places import program_call
+
+FAULT = re.compile(rb"line ([0-9]+): (([A-Z]+[0-9]+) .*)")
+QUOTED_OR_PLAIN = re.compile(rb'(?:"((?:[^"\\]|\\.)*)"|([^ \t"]+))(?=[ \t]|\Z)', re.DOTALL)
+
+Fault = collections.namedtuple("Fault", "code text")
+Word = collections.namedtuple("Word", "start end value")
+
+
+class Trouble(Exception):
+    """Why a script can't go on: a file or the program failed."""
+
+
+class Unreadable(Trouble):
+    """Why a file can't be read."""
+
+
+def complain(name, trouble):
+    sys.stderr.buffer.write(os.fsencode(f"{name}: {trouble}\n"))
+
+
+def read(name):
+    """The bytes of a file, or of standard input where the name is `-`."""
+    try:
+        with open(0 if name == "-" else name, "rb", closefd=name != "-") as file:
+            return file.read()
+    except OSError as error:
+        raise Unreadable(f"cannot read {name}: {error.strerror}") from error
+
+
+def lines_of(data):
+    """The lines of a file as the program counts them: the last may lack its newline."""
+    lines = data.split(b"\n")
+    if not lines[-1]:
+        lines.pop()
+    return lines
+
+
+def words_of(line):
+    """The words of a line with their places, by the program's rules; None where the quoting is bad."""
+    words, at = [], 0
+    while True:
+        while line[at:at + 1] in (b" ", b"\t"):
+            at += 1
+        if at == len(line):
+            return words
+        found = QUOTED_OR_PLAIN.match(line, at)
+        if not found:
+            return None
+        quoted, plain = found.groups()
+        value = plain if quoted is None else re.sub(rb"(?s)\\(.)", rb"\1", quoted)
+        words.append(Word(at, found.end(), value))
+        at = found.end()
+
+
+def run(words, data, name="iptsim"):
+    """The program's status and what it writes to standard output, with these words and the data. Its messages go to standard error."""
+    call = program_call(name)
+    try:
+        ended = subprocess.run([*call, *words], input=data, stdout=subprocess.PIPE, check=False)
+    except OSError as error:
+        raise Trouble(f"cannot run {call[0]}: {error.strerror}; {name.upper()} has to name the program") from error
+    if ended.returncode not in (0, 1, 2):
+        raise Trouble(f"{call[0]} ended with status {ended.returncode}")
+    return ended.returncode, ended.stdout
+
+
+class Session:
+    """Lines for one session. Each question answers with the numbers of its lines, by which its fault is found afterwards."""
+
+    def __init__(self):
+        self.lines = []
+        self.faults = {}
+
+    def ask(self, line):
+        self.lines.append(line)
+        return range(len(self.lines), len(self.lines) + 1)
+
+    def restore(self, lines, options=b""):
+        """One restore of the lines. Its end word is none of them."""
+        first, end = len(self.lines) + 1, b"END"
+        while end in lines:
+            end += b"D"
+        self.lines += [b"iptables-restore " + options + b" <<" + end, *lines, end]
+        return range(first, len(self.lines) + 1)
+
+    def run(self):
+        """Runs the lines, and returns what was written but for faults. The last line is refused: so it is known that all were read."""
+        last = self.ask(b"lines")
+        written = []
+        _, output = run(["session"], b"\n".join(self.lines) + b"\n")
+        for line in lines_of(output):
+            found = FAULT.fullmatch(line)
+            if found:
+                self.faults[int(found.group(1))] = Fault(found.group(3).decode(), found.group(2))
+            else:
+                written.append(line)
+        if not self.fault(last):
+            raise Trouble("the program ended before the end of its input")
+        if any(fault.code == "M0" for fault in self.faults.values()):
+            raise Trouble("the program has no memory")
+        return written
+
+    def fault(self, places):
+        """The fault of a question, or None."""
+        return next((self.faults[place] for place in places if place in self.faults), None)
+
+
+def finish(name, main, *arguments):
+    """Ends with the status that main returns, or with 2 and a message where it meets trouble. Where nobody reads standard output any more,
+    it ends without a message, by the signal that ends other commands there."""
+    try:
+        try:
+            status = main(*arguments)
+        finally:
+            sys.stdout.flush()
+    except Trouble as trouble:
+        complain(name, trouble)
+        status = 2
+    except BrokenPipeError:
+        signal.signal(signal.SIGPIPE, signal.SIG_DFL)
+        signal.raise_signal(signal.SIGPIPE)
+    except OSError:
+        complain(name, "output failed")
+        status = 2
+        os.dup2(os.open(os.devnull, os.O_WRONLY), sys.stdout.fileno())
+    sys.exit(status)

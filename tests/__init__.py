@@ -1,0 +1,23 @@
+"""What tests the programs, the commands, the documents and what is packed. `tests/run` runs one of these tests.
+
+    model       the plain model: a slow program that answers as iptsim has to
+    drawn       rules, packets, sessions and dumps that are drawn at random
+    shared      what several tests need
+
+    answers     the answers of both programs on drawn input
+    memory      allocations that are refused, and calls that take no memory
+    devices     input that is cut, and devices that fail
+    programs    words, files, streams, messages and statuses of the programs
+    commands    the commands for users
+    options     the table of options, beside iptables and the kernel
+    documents   what documents say of the programs
+    packaging   completion, archive, package and installation
+    page        the page, in two browsers
+    tools       wrong bodies, as files have them
+    costs       instructions, writes, steps and memory, beside stored figures
+"""
+
+import os
+
+# The top of the repository, or of the commands' modules where they are installed.
+ROOT = os.path.dirname(os.path.dirname(os.path.realpath(__file__)))

@@ -1,0 +1,1 @@
+"""The answers of both programs on drawn input, beside the plain model."""

@@ -1,0 +1,414 @@
+"""tests/run commands/check PROGRAM: runs bin/check with the program on rows of dumps, and compares what it writes and its status to the byte.
+
+It ends with status 1 where a run isn't as expected, and says what differs.
+"""
+
+import json
+import os
+import signal
+import sys
+
+from tests import ROOT
+from tests.shared.rows import Rows
+
+POLICIES = b":INPUT DROP [1:60]\n:FORWARD DROP [0:0]\n:OUTPUT ACCEPT [0:0]\n"
+LOADS = (b"# Generated\n*nat\n-A x -j MASQUERADE\nCOMMIT\n*filter\n" + POLICIES +
+         b":a - [0:0]\n\n[3:180] -A INPUT -p tcp --dport 22 -j a\nCOMMIT\n")
+
+COPY = b" iptaudit reads the dump as it is; bin/fit writes a copy for trials in which it always matches, or never does, as you state."
+MEMORY = b"a stateful match: its result depends on earlier packets." + COPY
+UNKNOWN = b"a match that iptsim lacks: most of these test what a packet line doesn't say." + COPY
+PORT = b"a port has to be a number: `getent services NAME` prints that of a name."
+PROTOCOL = b"iptsim knows thirteen protocols by name: `getent protocols NAME` prints the number of another."
+ADDRESS = b"an address has to be a.b.c.d or a.b.c.d/n: write a rule for each address of a list, and the address of a name."
+OPTION = (b"an option that iptsim lacks, or one that is not written in full. bin/fit removes it where the rule gives no verdict,"
+          b" as with TCPMSS, NFLOG or MARK.")
+MULTIPORT = b"write its option in full: --sports, --dports or --ports."
+COMMAND = b"a line of a dump begins with its command, such as -A."
+CHAIN = b"no such chain: make it with a line `:NAME - [0:0]` above."
+TARGET = b"neither a chain nor a target of iptsim: make a chain with a line `:NAME - [0:0]` above."
+WHOLE = b"a section ends with the line COMMIT: is the file complete?"
+
+# Lines of one section, each with its fault and the word that is refused; None where it is accepted.
+LINES = [
+    (b":INPUT DROP [1:60]", None, None),
+    (b":a - [0:0]", None, None),
+    (b":b -", None, None),
+    # Forms of chain lines.
+    (b":INPUT DROP [1:60]", b"R3 duplicate chain line", b":INPUT"),
+    (b":a - [0:0]", b"R3 duplicate chain line", b":a"),
+    (b":OUTPUT REJECT [0:0]", b"R2 bad chain line", b"REJECT"),
+    (b":OUTPUT DROP [0:x]", b"R2 bad chain line", b"[0:x]"),
+    (b":FORWARD DROP [0:0] more", b"R2 bad chain line", b"more"),
+    (b":FORWARD", b"R2 bad chain line", b":FORWARD"),
+    # After a form that is refused a second line for the name is none; and the chain is there.
+    (b":FORWARD DROP [0:0]", None, None),
+    (b":c DROP [0:0]", b"R2 bad chain line", b"DROP"),
+    (b"-A c -j DROP", None, None),
+    (b"-A INPUT -j c", None, None),
+    # A name that no chain can have: lines with it say nothing new, but for what is wrong elsewhere in them.
+    (b":-no - [0:0]", b"T3 bad chain name", b":-no"),
+    (b"-A -no -j DROP", None, None),
+    (b"-A INPUT -j -no", None, None),
+    (b"-A -no -m limit -j DROP", b"P7 unknown match", b"limit"),
+    # Words of a rule.
+    (b"-A INPUT -m limit --limit 5/min -j ACCEPT", b"P7 unknown match", b"limit"),
+    (b"[3:180] -A INPUT -i eth0 -m mac --mac-source 00:00:00:00:00:01", b"P7 unknown match", b"mac"),
+    (b"-A INPUT -m comment --comment \"-m limit\" -m \"recent\"", b"P7 unknown match", b"\"recent\""),
+    (b"-A FORWARD -p tcp -j TCPMSS --clamp-mss-to-pmtu", b"P1 unknown option", b"--clamp-mss-to-pmtu"),
+    (b"-A INPUT -j LOG --log-prefix \"a b\" --log-macdecode", b"P1 unknown option", b"--log-macdecode"),
+    (b"-A INPUT -s", b"P2 value missing", b"-s"),
+    (b"-A INPUT ! -s", b"P2 value missing", b"-s"),
+    (b"-A INPUT -p tcp --tcp-flags SYN", b"P2 value missing", b"--tcp-flags"),
+    (b"-A INPUT -j DROP !", b"P2 value missing", b"!"),
+    (b"-A INPUT -p tcp --dport ssh -j ACCEPT", b"P3 bad value", b"ssh"),
+    (b"-A INPUT -p tcp --dport 1 -p udp --dport domain", b"P4 repeated option", b"-p"),
+    (b"-A INPUT -p tcp -m multiport --dports 22,http -j ACCEPT", b"P3 bad value", b"22,http"),
+    (b"-A INPUT -p tcp -m multiport ! --ports domain -j ACCEPT", b"P3 bad value", b"domain"),
+    (b"-A INPUT -p tcp -m multiport ! --ports 53 -m ttl --ttl-lt 5 -j ACCEPT", None, None),
+    (b"-A INPUT -m ttl --ttl-eq 256 -j ACCEPT", b"P3 bad value", b"256"),
+    (b"-A INPUT -p ipencap -j ACCEPT", b"P3 bad value", b"ipencap"),
+    (b"-A INPUT -s 1.2.3.4,5.6.7.8 -j ACCEPT", b"P3 bad value", b"1.2.3.4,5.6.7.8"),
+    (b"-A INPUT -j QUEUE", b"P3 bad value", b"QUEUE"),
+    (b"-A INPUT -p tcp --tcp-flags SYM SYN", b"P3 bad value", b"SYM"),
+    (b"-A INPUT -p tcp --tcp-flags SYN,ACK SYM", b"P3 bad value", b"SYM"),
+    (b"-A INPUT -p tcp --tcp-flags SYM,SYN SYN", b"P3 bad value", b"SYM,SYN"),
+    (b"-A INPUT -i eth0 ! -i eth1", b"P4 repeated option", b"-i"),
+    (b"-A INPUT -f -f", b"P4 repeated option", b"-f"),
+    (b"-A INPUT -p tcp -m multiport --sports 1 --ports 2", b"P4 repeated option", b"--ports"),
+    (b"-A INPUT ! -j DROP", b"P5 inversion not allowed", b"-j"),
+    (b"-A INPUT -m ttl ! --ttl-gt 5 -j DROP", b"P5 inversion not allowed", b"--ttl-gt"),
+    (b"-A INPUT --dport 22 -j DROP", b"P6 protocol needed", b"--dport"),
+    (b"-A INPUT -m tcp -m comment --comment x -j DROP", b"P6 protocol needed", b"tcp"),
+    (b"-A INPUT -m multiport --dports 22 -p icmp", b"P6 protocol needed", b"multiport"),
+    (b"-A INPUT -j REJECT --reject-with tcp-reset", b"P6 protocol needed", b"tcp-reset"),
+    (b"-A INPUT " + b"-m comment --comment x " * 16 + b"-m tcp", b"P8 too many matches", b"tcp"),
+    (b"-A INPUT -p tcp " + b"-m comment --comment x " * 16 + b"--dport 22", b"P8 too many matches", b"--dport"),
+    (b"-A INPUT -j a -g b", b"P9 both jump and goto", b"-g"),
+    (b"-A INPUT -m comment --comment " + b"x" * 257, b"P10 text too long", b"x" * 77 + b"..."),
+    (b"-A INPUT -j " + b"q" * 80, b"P3 bad value", b"q" * 80),
+    (b"-A INPUT -j " + b"q" * 81, b"P3 bad value", b"q" * 77 + b"..."),
+    (b"-A INPUT -j LOG --log-prefix \"thirty bytes are one too many..\"", b"P10 text too long", b"\"thirty bytes are one too many..\""),
+    (b"-A INPUT -j DROP --reject-with tcp-reset", b"P11 option of another target", b"--reject-with"),
+    (b"-A INPUT -m conntrack -m comment --comment x -j DROP", b"P12 match option missing", b"conntrack"),
+    (b"-A INPUT -p tcp -m multiport --dport 22", b"P12 match option missing", b"multiport"),
+    (b"-A INPUT -m ttl -j DROP", b"P12 match option missing", b"ttl"),
+    # Of one form with lines above, and refused elsewhere.
+    (b"-A INPUT -m recent --update 5/min -j ACCEPT", b"P7 unknown match", b"recent"),
+    (b"-A INPUT -p tcp --dport 22 -j QUEUE", b"P3 bad value", b"QUEUE"),
+    (b"-A INPUT -p icmq --dport 22 -j ACCEPT", b"P3 bad value", b"icmq"),
+    # Commands.
+    (b"iptables -A INPUT -j DROP", b"C1 no command", b"iptables"),
+    (b"[3:180]", b"C1 no command", b""),
+    (b"-t filter -S", b"C1 no command", b"-S"),
+    (b"-A a -m comment --comment -S", None, None),
+    (b"-A INPUT -j DROP -F", b"C2 two commands", b"-F"),
+    (b"-A", b"C3 wrong number of words", b"-A"),
+    (b"-F a b", b"C3 wrong number of words", b"b"),
+    (b"-t nat -A PREROUTING", b"C4 other table", b"nat"),
+    (b"-t filter -t filter -A INPUT", b"P4 repeated option", b"-t"),
+    (b"-D INPUT 01", b"P3 bad value", b"01"),
+    # The table.
+    (b"-A nowhere -j DROP", b"T1 no such chain", b"nowhere"),
+    (b"-t filter -F nowhere", b"T1 no such chain", b"nowhere"),
+    (b"-N a", b"T2 chain exists", b"a"),
+    (b"-E a b", b"T2 chain exists", b"b"),
+    (b"-E a -x", b"T3 bad chain name", b"-x"),
+    (b"-D INPUT 99", b"T4 number out of range", b"99"),
+    (b"-D INPUT -j RETURN", b"T5 no such rule", b"INPUT"),
+    (b"-X c", b"T6 chain not empty", b"c"),
+    (b"-F c", None, None),
+    (b"-X c", b"T7 chain referenced", b"c"),
+    (b"-X", b"T6 chain not empty", b"-X"),
+    (b"-X INPUT", b"T8 built-in chain", b"INPUT"),
+    (b"-P a DROP", b"T9 not a built-in chain", b"a"),
+    (b"-P INPUT REJECT", b"T16 bad policy", b"REJECT"),
+    (b"-A a -j b", None, None),
+    (b"-A b -m comment --comment \"-j a\" -g a", b"T10 loop", b"a"),
+    (b"-I b 1 -g a", b"T10 loop", b"a"),
+    (b"-A INPUT -i eth0 -j MASQ", b"T11 target chain missing", b"MASQ"),
+    (b"-A INPUT -j OUTPUT", b"T12 target is built-in", b"OUTPUT"),
+    (b"-A INPUT -i eth0 ! -o eth1 -j DROP", b"T13 interface not allowed in this chain", b"-o"),
+    # Words and lines.
+    (b"-A INPUT -m comment --comment \"open -j DROP", b"R5 bad quoting", b"\"open"),
+    (b"-A INPUT -m comment --comment \"a b\" -j a\"b\"", b"R5 bad quoting", b"a\"b\""),
+    (b"-A INPUT -j ACCEPT\r", b"P3 bad value", b"ACCEPT\\r"),
+    (b"-A INPUT -j A\x00\x1b\xc3\xa4", b"P3 bad value", b"A\\x00\\x1b\xc3\xa4"),
+    (b"-A INPUT\t-m  limit", b"P7 unknown match", b"limit"),
+    (b"-A INPUT -m \"\"", b"P7 unknown match", b"\"\""),
+]
+ADVICE_OF_LINES = [
+    (b'limit, "recent", recent', MEMORY),
+    (b'mac, ""', UNKNOWN),
+    (b"--clamp-mss-to-pmtu, --log-macdecode", OPTION),
+    (b"ssh, 22,http, domain", PORT),
+    (b"ipencap, icmq", PROTOCOL),
+    (b"1.2.3.4,5.6.7.8", ADDRESS),
+    (b"multiport", MULTIPORT),
+    (b"iptables", COMMAND),
+    (b"nowhere", CHAIN),
+    (b"MASQ", TARGET),
+]
+EMPTY = b" is empty: make a dump with iptables-save.\n"
+NO_SECTION = b" has no section *filter: make a dump with iptables-save.\n"
+UTF_16 = b" is UTF-16: convert it with `iconv -f UTF-16 -t UTF-8`.\n"
+IPV6 = b" is a dump of ip6tables, and iptsim knows only IPv4: make a dump with iptables-save.\n"
+MARK = rb" begins with a byte order mark: remove it with `sed -i '1s/^\xef\xbb\xbf//'`." + b"\n"
+RETURNS = rb" ends in a carriage return, so a section is skipped: remove them with `sed -i 's/\r$//'`." + b"\n"
+OF_SESSION = b"` begins a line of a session, not of a dump: run the file with `bin/iptsim session`.\n"
+OF_NFT = b"` begins a ruleset of nft: iptables-save dumps the part of it that iptables-nft made.\n"
+OF_L = b"` begins a listing of `iptables -L`, which leaves parts of rules out: make a dump with iptables-save.\n"
+REFUSED = b"*filter\n-A INPUT -m limit -j DROP\nCOMMIT\n"
+LIMIT = b" P7 unknown match: limit\n"
+OF_LIMIT = b"d: limit: " + MEMORY + b"\n"
+# Whole files, and what is written about each: the number of the line where there is one, and what follows it. The last is
+# a sentence about words.
+FILES = [
+    ("a dump that loads", LOADS, b""),
+    ("no newline at the end", LOADS[:-1], b""),
+    ("empty", b"", b"d:" + EMPTY),
+    ("blank lines and comments", b"\n \n# COMMIT\n", b"d:" + NO_SECTION),
+    ("another table alone", b"*nat\n:PREROUTING ACCEPT [0:0]\nCOMMIT\n", b"d:" + NO_SECTION),
+    ("rules without a section", b"-P INPUT ACCEPT\n-A INPUT -j DROP\n", b"d:" + NO_SECTION),
+    ("a ruleset of nft", b"table ip filter {\n chain input {\n }\n}\n", b"d:1: `table" + OF_NFT),
+    ("one as nft lists it", b"# Warning: x\n\ntable inet fw4\n", b"d:3: `table" + OF_NFT),
+    ("a script of nft", b"#!/usr/sbin/nft -f\n\nflush ruleset\n", b"d:1: `#!/usr/sbin/nft" + OF_NFT),
+    ("one without its first line", b"\n  flush ruleset\nadd table x\n", b"d:2: `flush" + OF_NFT),
+    ("calls of nft", b"#!/bin/sh\n/usr/sbin/nft add rule ip filter input accept\n", b"d:2: `/usr/sbin/nft" + OF_NFT),
+    ("names of nft", b"define lan = eth0\n", b"d:1: `define" + OF_NFT),
+    ("nft as JSON", b"{\"nftables\": []}\n", b"d:1: `{\"nftables\":" + OF_NFT),
+    ("words as of nft in a dump", b"# table ip filter {\n" + LOADS, b""),
+    ("iptables -L", b"Chain INPUT (policy ACCEPT)\ntarget     prot opt source               destination\n", b"d:1: `Chain" + OF_L),
+    ("iptables -L -v", b"# Warning: x\nChain INPUT (policy DROP 5 packets, 300 bytes)\n pkts bytes target\n", b"d:2: `Chain" + OF_L),
+    ("iptables -L of a chain", b"Chain a (1 references)\n", b"d:1: `Chain" + OF_L),
+    ("another program", b"int main() {}\n", b"d:" + NO_SECTION),
+    ("carriage returns", LOADS.replace(b"\n", b"\r\n"), b"d:2: *nat" + RETURNS),
+    ("carriage returns, and a refused line",
+     REFUSED.replace(b"\n", b"\r\n"), b"d:1: *filter" + RETURNS + b"d:2:" + LIMIT + OF_LIMIT),
+    ("a carriage return after COMMIT", b"*nat\nCOMMIT\r\n*filter\nCOMMIT\n", b"d:2: COMMIT" + RETURNS),
+    ("carriage returns alone", b"*filter\rCOMMIT\r",
+     rb"d:1: *filter\rCOMMIT ends in a carriage return, so a section is skipped: remove them with `sed -i 's/\r$//'`." + b"\n" +
+     b"d:1: *filter\\rCOMMIT is no table of iptables, so its section is skipped: did you mean *filter?\n"
+     b"d:1: R4 end before COMMIT: *filter\\rCOMMIT\nd: *filter\\rCOMMIT: " + WHOLE + b"\n"),
+    ("a form feed after the name", b"*filter\x0c\n" + LOADS[LOADS.index(b":INPUT"):],
+     b"d:1: *filter\\x0c is no table of iptables, so its section is skipped: did you mean *filter?\n"),
+    ("a carriage return in a comment line", b"# x\r\n*filter\nCOMMIT\n", b""),
+    ("a name in upper case", REFUSED.replace(b"filter", b"FILTER"),
+     b"d:1: *FILTER is no table of iptables, so its section is skipped: did you mean *filter?\nd:2:" + LIMIT + OF_LIMIT),
+    ("a misspelt name", b"*fliter\n" + POLICIES + b"COMMIT\n",
+     b"d:1: *fliter is no table of iptables, so its section is skipped: did you mean *filter?\n"),
+    ("another name", b"*broute\n-A x\nCOMMIT\n" + LOADS, b"d:1: *broute is no table of iptables, so its section is skipped.\n"),
+    ("a blank in the name", b"* filter\nCOMMIT\n", b"d:1: R1 line not allowed here: *\n"),
+    ("a word after the name", b"*filter x\n-A INPUT -m limit\nCOMMIT\n",
+     b"d:1: R1 line not allowed here: *filter\nd:2:" + LIMIT + OF_LIMIT),
+    ("a byte order mark", b"\xef\xbb\xbf" + LOADS, b"d:1:" + MARK),
+    ("a byte order mark before the section", b"\xef\xbb\xbf" + REFUSED, b"d:1:" + MARK + b"d:2:" + LIMIT + OF_LIMIT),
+    ("a byte order mark and carriage returns", b"\xef\xbb\xbf*filter\r\nCOMMIT\r\n", b"d:1:" + MARK + b"d:1: *filter" + RETURNS),
+    ("UTF-16 with a mark", LOADS.decode().encode("utf-16"), b"d:" + UTF_16),
+    ("UTF-16, high bytes first", b"\xfe\xff" + LOADS.decode().encode("utf-16-be"), b"d:" + UTF_16),
+    ("UTF-16 without a mark", LOADS.decode().encode("utf-16-le"), b"d:" + UTF_16),
+    ("ip6tables by its comment", b"# Generated by ip6tables-save v1.8.9\n" + LOADS, b"d:" + IPV6),
+    ("ip6tables by an address", b"*filter\n-A INPUT -s fe80::/10 -j DROP\nCOMMIT\n", b"d:" + IPV6),
+    ("ip6tables by a match", b"*filter\n-A INPUT -p ipv6-icmp -m icmp6 --icmpv6-type 128 -j ACCEPT\nCOMMIT\n", b"d:" + IPV6),
+    *((f"ip6tables by {words.decode()}", b"*filter\n:INPUT ACCEPT [0:0]\n[1:2] -A INPUT -i lo " + words + b" -j ACCEPT\nCOMMIT\n", b"d:" + IPV6)
+      for words in (b"! -s 2001:db8::/32", b"--source ::1", b"--destination \"fe80::1\"", b"-m iprange --src-range fe80::1-fe80::9",
+                    b"-d ::ffff:1.2.3.4/128", b"-m  hl --hl-eq 255", b"--match rt", b"-m frag --fragmore")),
+    ("ip6tables by a type of REJECT", b"*filter\n-A INPUT -j REJECT --reject-with icmp6-port-unreachable\nCOMMIT\n", b"d:" + IPV6),
+    ("words as of ip6tables in a comment",
+     b"*filter\n# -m icmp6\n-A INPUT -m comment --comment \"no -m icmp6 or -s fe80::1 here\" -j DROP\nCOMMIT\n", b""),
+    ("the protocol alone", b"*filter\n-A INPUT -p ipv6-icmp -j ACCEPT\nCOMMIT\n", b""),
+    ("a session", b"# Rules\niptables -A INPUT -j DROP\n", b"d:2: `iptables" + OF_SESSION),
+    ("packets", b"packet INPUT src=1.2.3.4 dst=1.2.3.4 proto=47\n", b"d:1: `packet" + OF_SESSION),
+    ("a session with a restore", b"iptables-restore <<E\n" + LOADS + b"E\n", b"d:1: `iptables-restore" + OF_SESSION),
+    ("packets after a dump", LOADS + b"packet INPUT\n", b"d:13: `packet" + OF_SESSION),
+    ("a script", b"#!/bin/sh\n/sbin/iptables -F\n", b"d:2: `iptables" + OF_SESSION),
+    ("no COMMIT at the end", b"*filter\n-A INPUT -j DROP\n", b"d:2: R4 end before COMMIT: *filter\nd: *filter: " + WHOLE + b"\n"),
+    ("no COMMIT at the end of another table", LOADS + b"*raw\n", b"d:13: R4 end before COMMIT: *raw\nd: *raw: " + WHOLE + b"\n"),
+    ("no COMMIT before another table", b"*filter\n*nat\n:PREROUTING ACCEPT [0:0]\nCOMMIT\n", b"d:2: R1 line not allowed here: *nat\n"),
+    ("no COMMIT of another table", b"*nat\n:PREROUTING ACCEPT [0:0]\n" + REFUSED,
+     b"d:3: *filter stands in the section *nat, which has no COMMIT before it, so it is skipped too.\nd:4:" + LIMIT + OF_LIMIT),
+    ("COMMIT in lower case", b"*filter\ncommit\n*nat\nCOMMIT\n", b"d:2: C1 no command: commit\n"),
+    ("lines outside of sections", b"COMMIT\n" + REFUSED + b"-A INPUT -m \"x\n",
+     b"d:1: R1 line not allowed here: COMMIT\nd:3:" + LIMIT + b"d:5: R5 bad quoting: \"x\nd: limit: " + MEMORY + b"\n"),
+    ("sections that begin anew",
+     b"*filter\n:a - [0:0]\nCOMMIT\n*filter\n:a - [0:0]\n:b -\n-A INPUT -j a\nCOMMIT\n*filter\n-A INPUT -j a\nCOMMIT\n",
+     b"d:10: T11 target chain missing: a\nd: a: " + TARGET + b"\n"),
+    ("a chain that is made by a line which is badly quoted or too long",
+     b"*filter\n:a - \"\n:b " + b" " * 10240 + b"-\n-A a -j b\nCOMMIT\n",
+     b"d:2: R5 bad quoting: \"\nd:3: R6 line too long: 10244 bytes\n"),
+]
+
+
+def long_rule(length, end):
+    """A rule of so many bytes, by a long list of flags, that ends so."""
+    line = b"-A INPUT%s -p tcp --tcp-flags SYN%s SYN" + end
+    flags, blanks = divmod(length - len(line % (b"", b"")), 4)
+    return line % (b" " * blanks, b",ACK" * flags)
+
+
+def long_rows(rows):
+    """Lines of 10,240 bytes are read, and those of one more aren't."""
+    fits = long_rule(10240, b" -j DROP")
+    over = b"#" + b"x" * 10240
+    lines = [b"*nat", over[1:], b"COMMIT", b"*filter", fits, over[:-1], b"COMMIT"]
+    rows.row("long lines that load", ["d"], {"d": b"\n".join(lines)}, b"", 0)
+    lines = [b"*nat", over, b"COMMIT", over, b"*filter", over, long_rule(10240, b" -m limit"), long_rule(10240, b"  -j QUEUE"), fits + b" ",
+             long_rule(10240, b" -m mark"), long_rule(9000, b"X"), b"-A INPUT -j nowhere", b"COMMIT"]
+    rows.row("long lines that don't", ["d"], {"d": b"\n".join(lines)},
+             b"d:2: R6 line too long: 10241 bytes\nd:4: R6 line too long: 10241 bytes\nd:6: R6 line too long: 10241 bytes\nd:7:" + LIMIT +
+             b"d:8: P3 bad value: QUEUE\nd:9: R6 line too long: 10241 bytes\nd:10: P7 unknown match: mark\n"
+             b"d:11: P3 bad value: SYNX\nd:12: T11 target chain missing: nowhere\n"
+             b"d: limit: " + MEMORY + b"\nd: mark: " + UNKNOWN + b"\nd: nowhere: " + TARGET + b"\n", 1)
+
+
+def large_rows(rows):
+    """A full chain, and more chains than a table has."""
+    rules = [b"-A a"] * 8192
+    section = [b"*filter", b":a -", b"-A INPUT -m limit", *rules, b"-A a -j DROP", b"COMMIT"]
+    rows.row("a full chain", ["d"], {"d": b"\n".join(section)},
+             b"d:3:" + LIMIT + b"d:8196: T14 chain full: a (8,193 rules, of 8,192 at most)\nd: limit: " + MEMORY + b"\n", 1)
+    # Each chain of each section has a line of its own, whatever stands between.
+    over = [b"-A a -j DROP", b"-I a 1", b"-A INPUT -j nowhere", b"-A a"]
+    section = [b"*filter", b":a -", *rules, *over, b"COMMIT"]
+    rows.row("full chains", ["d"], {"d": b"\n".join([*section, *section])},
+             b"d:8195: T14 chain full: a (8,195 rules, of 8,192 at most)\nd:8197: T11 target chain missing: nowhere\n"
+             b"d:16394: T14 chain full: a (8,195 rules, of 8,192 at most)\nd:16396: T11 target chain missing: nowhere\n"
+             b"d: nowhere: " + TARGET + b"\n", 1)
+    chains = [b":c%d - [0:0]" % number for number in range(1026)]
+    rows.row("too many chains", ["d"], {"d": b"\n".join([b"*filter", *chains, b"-A c1023 -j c1024", b"-A c1025 -j c1", b"COMMIT"])},
+             b"d:1026: T15 too many chains: :c1024\nd:1027: T15 too many chains: :c1025\n", 1)
+
+
+def alike_rows(rows):
+    """Many words of one kind: eight are named."""
+    for count in (8, 9, 10):
+        names = [b"name%d" % number for number in range(count)]
+        due = b"".join(b"d:%d: P3 bad value: %s\n" % (number, name) for number, name in enumerate(names, 2))
+        told = b", ".join(names[:8]) + (b", .." if count > 8 else b"")
+        rows.row(f"{count} words", ["d"], {"d": b"*filter\n" + b"".join(b"-A INPUT -s %s -j DROP\n" % name for name in names) + b"COMMIT\n"},
+                 due + b"d: " + told + b": " + ADDRESS + b"\n", 1)
+
+
+def word_rows(rows):
+    """Several files, their names, and what can't be read."""
+    refused = b":2:" + LIMIT + b"%s: limit: " + MEMORY + b"\n"
+    files = {"good": LOADS, "bad": REFUSED, "two words": REFUSED, "-x": REFUSED, b"\xff".decode(errors="surrogateescape"): REFUSED}
+    rows.row("several files", ["bad", "good", "two words"], files, b"bad" + refused % b"bad" + b"two words" + refused % b"two words", 1)
+    rows.row("a name with `-`", ["--", "-x"], files, b"-x" + refused % b"-x", 1)
+    rows.row("a name that is no text", [b"\xff"], files, b"\xff" + refused % b"\xff", 1)
+    rows.row("a missing file among others", ["bad", "nothing", "good"], files, b"bad" + refused % b"bad", 2,
+             b"check: cannot read nothing: No such file or directory\n")
+    rows.row("a folder", ["."], files, b"", 2, b"check: cannot read .: Is a directory\n")
+    rows.row("an empty name", [""], files, b"", 2, b"check: cannot read : No such file or directory\n")
+    rows.row("a pipe", ["/dev/stdin"], files, b"/dev/stdin:2:" + LIMIT + b"/dev/stdin: limit: " + MEMORY + b"\n", 1, input=REFUSED)
+    usage = b"usage: check [-h] [--session] [--load DUMP] [--json] FILE [FILE ...]\ncheck: error: "
+    needed = usage + b"the following arguments are required: FILE\n"
+    rows.row("no words", [], {}, b"", 2, needed)
+    rows.row("a name with `-` without `--`", ["-x"], files, b"", 2, needed)
+    rows.row("--load without --session", ["--load", "good", "bad"], files, b"", 2, usage + b"--load goes with --session\n")
+    rows.row("standard input", ["good", "-"], files, b"-:2:" + LIMIT + b"-: limit: " + MEMORY + b"\n", 1, input=REFUSED)
+    rows.row("no standard input", ["-"], files, b"", 2, b"check: cannot read -: Bad file descriptor\n", preexec_fn=lambda: os.close(0))
+    closed, output = os.pipe()
+    os.close(closed)
+    rows.row("a closed pipe", ["bad"], files, b"", -signal.SIGPIPE, stdout=output)
+    buffered = {name: value for name, value in rows.environment.items() if name != "PYTHONUNBUFFERED"}
+    rows.row("a closed pipe, and help", ["--help"], files, b"", -signal.SIGPIPE, stdout=output, env=buffered)
+    os.close(output)
+    with open("/dev/full", "wb") as full:
+        rows.row("a full device", ["bad"], files, b"", 2, b"check: output failed\n", stdout=full)
+    missing = dict(rows.environment, IPTSIM="/nothing")
+    rows.row("no program", ["good"], files, b"", 2,
+             b"check: cannot run /nothing: No such file or directory; IPTSIM has to name the program\n", env=missing)
+    broken = dict(rows.environment, IPTSIM="/bin/false")
+    rows.row("a program that ends at once", ["good", "bad"], files, b"", 2,
+             b"check: the program ended with status 1 and named no line\n", env=broken)
+
+
+SIX = b"check: %s: a rule for IPv6 only%s: skipped, as by iptables-restore, but bin/iptsim refuses it; bin/fit removes it\n"
+
+
+def six_rows(rows):
+    """Rules for IPv6 alone, which iptables-restore passes over: the option where an option may stand, and not a value."""
+    def dump(*lines):
+        return {"d": b"".join(line + b"\n" for line in (b"*filter", *lines, b"COMMIT"))}
+
+    rows.row("a rule for IPv6", ["d"], dump(b"-A INPUT -6 -j DROP"), b"", 0, SIX % (b"d:2", b""))
+    rows.row("rules for both", ["d"], dump(b"-A INPUT -s fe80::/10 --ipv6", b"-A INPUT -j DROP", b"[1:2] -A INPUT -p icmpv6 -m icmp6 -6"), b"", 0,
+             SIX % (b"d:2", b", and 1 more"))
+    rows.row("before the command", ["d"], dump(b"-6 -A INPUT -j DROP", b"[1:2] --ipv6 -A INPUT -j DROP"), b"", 0, SIX % (b"d:2", b", and 1 more"))
+    rows.row("one beside a fault", ["d"], dump(b"-A INPUT -6 -j NOTHING", b"-A INPUT -m limit"), b"d:3:" + LIMIT + OF_LIMIT, 1,
+             SIX % (b"d:2", b""))
+    rows.row("values and words", ["d"], dump(b"-A INPUT -m comment --comment -6", b"-A INPUT -m comment --comment \"x -6\"",
+                                             b"-A INPUT -j LOG --log-prefix --ipv6"), b"", 0)
+    rows.row("in another place", ["d"], {"d": b"-A INPUT -6\n*nat\n-A x -6\nCOMMIT\n" + LOADS}, b"d:1: R1 line not allowed here: -A\n", 1)
+    rows.row("rules for IPv4", ["d"], dump(b"-A INPUT -4 -j DROP"), b"d:2: P1 unknown option: -4\nd: -4: " + OPTION + b"\n", 1)
+
+
+def of_json(files, loading, faults):
+    """The document of these files."""
+    return json.dumps({"files": files, "counts": {"files": len(files), "loading": loading, "faults": faults}}, indent=2).encode() + b"\n"
+
+
+def file_of_json(name, faults=(), advice=(), passed=(), loads=False, error=None):
+    keys = ("line", "code", "text", "word", "more", "meant")
+    return {"file": name, "loads": loads, "error": error, "faults": [dict(zip(keys, fault)) for fault in faults],
+            "advice": [{"words": words, "text": text} for words, text in advice], "passed_over": list(passed)}
+
+
+def json_rows(rows):
+    """Documents, which the schema allows, and wrong ones, which it doesn't."""
+    files = {"good": LOADS, "empty": b"", "six": b"*filter\n-A x -6\nCOMMIT\n", "d\udcff": b"*filter\n-A INPUT -j A\xff\x01\xc3\xa4" + b"x" * 90 +
+             b"\n-A INPUT -m limit\nCOMMIT\n", "s": b"packet input\niptables -A INPUT -j ACEPT\npacket INPUT ct=NEW ct=NEW\n"}
+    faults = [(2, "P3", "bad value", "A\\xff\x01ä" + "x" * 90, None, None), (3, "P7", "unknown match", "limit", None, None)]
+    due = [file_of_json("good", loads=True), file_of_json("empty", [(None, None, EMPTY.decode().strip(), None, None, None)]),
+           file_of_json("six", passed=[2], loads=True), file_of_json("d\\xff", faults, [(["limit"], MEMORY.decode())]),
+           file_of_json("nothing", error="cannot read nothing: No such file or directory")]
+    rows.row("dumps as JSON", ["--json", *(os.fsencode(name) for name in files if name != "s"), "nothing"], files, of_json(due, 2, 3), 2,
+             b"check: cannot read nothing: No such file or directory\n")
+    of_session = [(1, "F1", "unknown hook", "input", None, "INPUT"), (2, "T11", "target chain missing", "ACEPT", None, "ACCEPT"),
+                  (3, "F3", "bad packet value", "ct=NEW", "ct is given twice", None)]
+    rows.row("a session as JSON", ["--json", "--session", "s"], files, of_json([file_of_json("s", of_session)], 0, 3), 1)
+    rows.row("a dump that loads as JSON", ["--json", "-"], files, of_json([file_of_json("-", loads=True)], 1, 0), 0, input=LOADS)
+    broken = dict(rows.environment, IPTSIM="/nothing")
+    rows.row("no program for JSON", ["--json", "good"], files, b"", 2,
+             b"check: cannot run /nothing: No such file or directory; IPTSIM has to name the program\n", env=broken)
+    schema_rows(rows, [json.loads(of_json(due, 2, 3)), json.loads(of_json([file_of_json("s", of_session)], 0, 3))])
+
+
+def schema_rows(rows, documents):
+    """Whether the schema allows the documents, and none that lacks a key or has another value, where a validator is there."""
+    try:
+        import jsonschema
+    except ImportError:
+        print("check: the schema is passed over, since no validator is there")
+        return
+    with open(os.path.join(ROOT, "docs", "schemas", "check.json"), encoding="utf-8") as file:
+        schema = json.load(file)
+    jsonschema.Draft202012Validator.check_schema(schema)
+    validator = jsonschema.Draft202012Validator(schema)
+    wrong = [{}, {**documents[0], "more": 1}, {**documents[0], "counts": {}}, {**documents[0], "files": [{"file": "d"}]},
+             {**documents[0], "files": [file_of_json("d", [(0, "P3", "bad value", "x", None, None)])]},
+             {**documents[0], "files": [file_of_json("d", [(1, "3", "bad value", "x", None, None)])]},
+             {**documents[0], "files": [file_of_json("d", advice=[([], "x")])]}]
+    rows.compared("the schema", (0, True, False), (0, all(map(validator.is_valid, documents)), any(map(validator.is_valid, wrong))))
+
+
+def main(program):
+    rows = Rows("check", program)
+    data = b"*filter\n" + b"".join(line + b"\n" for line, _, _ in LINES) + b"COMMIT\n"
+    due = [b"d:%d: %s%s\n" % (number, text, b": " + word if word else b"") for number, (_, text, word) in enumerate(LINES, 2) if text]
+    due += [b"d: %s: %s\n" % pair for pair in ADVICE_OF_LINES]
+    rows.row("all lines", ["d"], {"d": data}, b"".join(due), 1)
+    for about, data, output in FILES:
+        rows.row(about, ["d"], {"d": data}, output, 1 if output else 0)
+    long_rows(rows)
+    large_rows(rows)
+    alike_rows(rows)
+    six_rows(rows)
+    json_rows(rows)
+    word_rows(rows)
+    rows.end()
+
+
+if __name__ == "__main__":
+    main(sys.argv[1])

@@ -1,0 +1,405 @@
+"""tests/run commands/expect PROGRAM: runs bin/expect with the program on rows of rulesets and packets, and compares what it writes and its
+status to the byte. It ends with status 1 where a run isn't as expected, and says what differs.
+"""
+
+import json
+import os
+import subprocess
+import sys
+import tempfile
+
+from tests import ROOT
+from tests.shared.installed import install
+from tests.shared.rows import Rows
+
+RULES = [
+    b"-A INPUT -i lo -j ACCEPT",
+    b"-A INPUT -m conntrack --ctstate ESTABLISHED -j ACCEPT",
+    b"-A INPUT -p tcp -m comment --comment -g -j a",
+    b"-A INPUT -p udp -g b",
+    b"-A INPUT -m comment --comment \"-j a\" -j LOG --log-prefix -g",
+    b"-A FORWARD -i -j -j DROP",
+    b"-A a -p tcp -m tcp --dport 22 --tcp-flags SYN,ACK SYN -j REJECT --reject-with tcp-reset",
+    b"-A a -s 10.0.0.0/8 -j RETURN",
+    b"-A a -m state --state NEW -j DROP",
+    b"-A b -p udp -m udp --dport 53 -j ACCEPT",
+]
+NAMES = [b"INPUT 1", b"INPUT 2", b"INPUT 3", b"INPUT 4", b"INPUT 5", b"FORWARD 1", b"a 1", b"a 2", b"a 3", b"b 1"]
+DUMP = b"*filter\n:INPUT DROP [0:0]\n:a -\n:b -\n" + b"\n".join(RULES) + b"\nCOMMIT\n"
+
+LOCAL = b"packet INPUT src=1.1.1.1 dst=2.2.2.2 proto=47 in=lo"
+LOGIN = b"packet INPUT src=11.1.1.1 dst=2.2.2.2 proto=tcp sport=1 dport=22 flags=SYN ct=NEW"
+RETURNED = b"packet INPUT src=10.1.1.1 dst=2.2.2.2 proto=tcp sport=1 dport=80 ct=NEW"
+NAME = b"packet INPUT src=11.1.1.1 dst=2.2.2.2 proto=udp sport=1 dport=53"
+OTHER = b"packet INPUT src=11.1.1.1 dst=2.2.2.2 proto=udp sport=1 dport=54 ct=RELATED"
+THROUGH = b"packet FORWARD src=1.1.1.1 dst=2.2.2.2 proto=47 in=-j"
+PAST = b"packet FORWARD src=1.1.1.1 dst=2.2.2.2 proto=47 in=#j"
+USAGE = b"usage: expect [-h] [-q] [--json] [--junit FILE] RULES EXPECTED\n"
+SKIPPED = b" # SKIP no verdict is expected"
+INVALID = b"# A packet without ct is INVALID: packet %d has none, and it reached a rule that tests states, %s.\n"
+NO_FILTER = b"R has no section *filter that iptsim reads: bin/check says why"
+
+# A packet, what is due, and what comes where that is something else: the verdict and the rules that matched, by their names.
+PACKETS = [
+    (LOCAL, b"ACCEPT", None, [b"INPUT 1"]),
+    (LOCAL, b"ACCEPT by rule", None, [b"INPUT 1"]),
+    (LOCAL, b"ACCEPT by INPUT 1", None, [b"INPUT 1"]),
+    (LOCAL, b"ACCEPT by INPUT 2", b"ACCEPT by INPUT 1", [b"INPUT 1"]),
+    (LOCAL, b"ACCEPT by a 1", b"ACCEPT by INPUT 1", [b"INPUT 1"]),
+    (LOCAL, b"ACCEPT by policy", b"ACCEPT by INPUT 1", [b"INPUT 1"]),
+    (LOCAL, b"DROP", b"ACCEPT by INPUT 1", [b"INPUT 1"]),
+    (LOGIN, b"REJECT", None, [b"INPUT 3", b"a 1"]),
+    (LOGIN, b"REJECT tcp-reset", None, [b"INPUT 3", b"a 1"]),
+    (LOGIN, b"REJECT tcp-reset by a 1", None, [b"INPUT 3", b"a 1"]),
+    (LOGIN, b"REJECT by rule", None, [b"INPUT 3", b"a 1"]),
+    (LOGIN, b"REJECT icmp-port-unreachable", b"REJECT tcp-reset by a 1", [b"INPUT 3", b"a 1"]),
+    (LOGIN, b"REJECT by a 11", b"REJECT tcp-reset by a 1", [b"INPUT 3", b"a 1"]),
+    (LOGIN, b"DROP by a 1", b"REJECT tcp-reset by a 1", [b"INPUT 3", b"a 1"]),
+    (LOGIN, b"TOOLONG", b"REJECT tcp-reset by a 1", [b"INPUT 3", b"a 1"]),
+    (RETURNED, b"DROP by policy", None, [b"INPUT 3", b"a 2", b"INPUT 5"]),
+    (RETURNED, b"DROP", None, [b"INPUT 3", b"a 2", b"INPUT 5"]),
+    (RETURNED, b"DROP by rule", b"DROP by policy", [b"INPUT 3", b"a 2", b"INPUT 5"]),
+    (RETURNED, b"DROP by INPUT 5", b"DROP by policy", [b"INPUT 3", b"a 2", b"INPUT 5"]),
+    (OTHER, b"DROP by policy", None, [b"INPUT 4"]),
+    (THROUGH, b"DROP by FORWARD 1", None, [b"FORWARD 1"]),
+    (PAST, b"ACCEPT by policy", None, []),
+    (PAST, b"DROP", b"ACCEPT by policy", []),
+]
+
+# Lines that can't be read, and why.
+UNREADABLE = [
+    (b"packet INPUT src=1.1.1.1 dst=2.2.2.2 proto=47 ->ACCEPT", b"a blank is missing after `->`"),
+    (b"iptables -F -> ACCEPT", b"it is neither a packet line nor a comment"),
+    (b"-> ACCEPT", b"it is neither a packet line nor a comment"),
+    (LOCAL + b" ->", b"the expected verdict can't be read: write ACCEPT, DROP by policy or DROP by CHAIN NUMBER"),
+    (LOCAL + b" -> accept", b"the expected verdict can't be read: write ACCEPT, DROP by policy or DROP by CHAIN NUMBER"),
+    (LOCAL + b" -> DROP by SERVERS", b"the expected verdict can't be read: write ACCEPT, DROP by policy or DROP by CHAIN NUMBER"),
+    (LOCAL + b" -> DROP by SERVERS 0", b"the expected verdict can't be read: write ACCEPT, DROP by policy or DROP by CHAIN NUMBER"),
+    (LOCAL + b" -> ACCEPT tcp-reset", b"the expected verdict can't be read: write ACCEPT, DROP by policy or DROP by CHAIN NUMBER"),
+    (LOCAL + b" -> REJECT reset", b"reset is no type of REJECT"),
+    (LOCAL + b" -> TOOLONG by policy", b"TOOLONG has no rule and no policy"),
+]
+# Packet lines that the program refuses, each with the word at fault.
+REFUSED = [
+    (b"packet INPUT src=1.1.1.1 dst=2.2.2.2 protocol=47 -> DROP", b"F1 unknown key: protocol (proto?)"),
+    (b"packet -> DROP", b"F1 hook missing: INPUT, FORWARD or OUTPUT"),
+    (b"packet INPUT src=1.1.1.1 proto=47 -> DROP", b"F2 key missing: dst"),
+    (b"packet INPUT src=1.1.1 dst=2.2.2.2 proto=47 -> DROP", b"F3 bad packet value: src=1.1.1"),
+    (b"packet INPUT src=1.1.1.1 dst=2.2.2.2 proto=47 dport=1 -> DROP", b"F4 field not carried: dport"),
+    (b"packet INPUT src=1.1.1.1 dst=2.2.2.2 \"proto=47 -> DROP", b"R5 bad quoting: \"proto=47"),
+    (LOCAL + b" " * 10240 + b"frag=0 -> DROP", b"R6 line too long: %d bytes" % (len(LOCAL) + 10240 + len("frag=0"))),
+]
+
+
+def unmatched(names):
+    """The comments about the rules that no packet matched: all but those of the names."""
+    return b"".join(b"# no packet matched %s: %s\n" % pair for pair in zip(NAMES, RULES) if pair[0] not in names)
+
+
+def of_packets(packets):
+    """What is written about packets of the table above: the packet's line in the file is its number."""
+    lines = [b"1..%d\n" % len(packets)]
+    for number, (packet, due, came, matched) in enumerate(packets, 1):
+        lines.append(b"%sok %d - %s -> %s\n" % (b"not " if came else b"", number, packet.replace(b"#", b"\\#"), due))
+        if came:
+            lines.append(b"# line %d of E\n# expected: %s\n# got: %s\n" % (number, due, came))
+            lines += [b"# matched: %s: %s\n" % (name, RULES[NAMES.index(name)]) for name in matched]
+            lines += [] if matched else [b"# matched: no rule\n"]
+    names = [name for packet in packets for name in packet[3]]
+    return b"".join(lines) + unmatched(names)
+
+
+def packet_rows(rows):
+    """Verdicts that are due, and those that aren't."""
+    data = b"".join(b"%s -> %s\n" % packet[:2] for packet in PACKETS)
+    rows.row("all packets", ["R", "E"], {"R": DUMP, "E": data}, of_packets(PACKETS), 1)
+    right = [packet for packet in PACKETS if not packet[2]]
+    data = b"".join(b"%s  ->\t%s \r\n" % packet[:2] for packet in right)
+    rows.row("those that are as expected", ["R", "E"], {"R": DUMP, "E": data[:-2]}, of_packets(right), 0)
+    one = b"ok 1 - " + LOCAL + b" -> ACCEPT\n"
+    rows.row("a name with `-` without `--`", ["a b", "-E"], {"a b": DUMP, "-E": b""}, b"", 2,
+             USAGE + b"expect: error: the following arguments are required: EXPECTED\n")
+    rows.row("odd names", ["--", "a b", "-E"], {"a b": DUMP, "-E": b"\n # -> x\n\t\r\n" + LOCAL + b"   -> ACCEPT"},
+             b"1..1\n" + one + unmatched([b"INPUT 1"]), 0)
+
+
+def state_rows(rows):
+    """Packets without `ct`: a comment where one comes to a rule on states, whether it matches or not, and none elsewhere."""
+    heads = b"*filter\n:a - [0:0]\n:b - [0:0]\n"
+    tcp, udp = b"-A INPUT -p tcp -j a\n", b"-A INPUT -p udp -g a\n"
+    back, new = b"-A a -s 10.0.0.0/8 -j RETURN\n", b"-A a -m state --state NEW -j DROP\n"
+    late = b"-A INPUT -m conntrack ! --ctstate NEW -j DROP\n"
+    packet = b"packet INPUT src=%s dst=2.2.2.2 proto=%s sport=1 dport=1%s"
+    inside, outside = packet % (b"10.1.1.1", b"tcp", b""), packet % (b"11.1.1.1", b"tcp", b"")
+    by_goto = packet % (b"11.1.1.1", b"udp", b"")
+    table = [
+        ("returns before it", tcp + back + new, inside, b"ACCEPT by policy", None),
+        ("comes to it in a chain", tcp + back + new, outside, b"ACCEPT by policy", b"a 2"),
+        ("comes to it by a goto", udp + back + new, by_goto, b"ACCEPT by policy", b"a 2"),
+        ("comes to it by a rule on flags", b"-A INPUT -p tcp -m tcp --tcp-flags SYN NONE -j a\n" + back + new, outside,
+         b"ACCEPT by policy", b"a 2"),
+        ("comes to it by a rule on fragments", b"-A INPUT ! -f -j a\n" + back + new, outside, b"ACCEPT by policy", b"a 2"),
+        ("comes to none by another goto", udp + b"-A INPUT -m state --state NEW\n" + back, by_goto, b"ACCEPT by policy", None),
+        ("comes to it after a chain", tcp + back + late, outside, b"DROP by INPUT 2", b"INPUT 2"),
+        ("comes to it after a return", tcp + back + late, inside, b"DROP by INPUT 2", b"INPUT 2"),
+        ("says its state", tcp + back + new, packet % (b"11.1.1.1", b"tcp", b" ct=INVALID"), b"ACCEPT by policy", None),
+        ("is decided before it", b"-A INPUT -j ACCEPT\n" + late, outside, b"ACCEPT by INPUT 1", None),
+        ("returns from the first chain", b"-A INPUT -j RETURN\n" + late, outside, b"ACCEPT by policy", None),
+        ("passes an empty chain", b"-A INPUT -j b\n" + late, outside, b"DROP by INPUT 2", b"INPUT 2"),
+        ("passes the end of two chains", b"-A INPUT -j a\n-A a -j b\n" + new, outside, b"ACCEPT by policy", b"a 2"),
+    ]
+    for about, rules, line, due, rule in table:
+        ended = rows.run(["R", "E"], {"R": heads + rules + b"COMMIT\n", "E": line + b" -> " + due + b"\n"})
+        comments = [line for line in ended.stdout.splitlines(keepends=True) if not line.startswith(b"# no packet matched")]
+        came = (ended.returncode, b"".join(comments), ended.stderr)
+        output = b"1..1\nok 1 - %s -> %s\n" % (line, due) + (INVALID % (1, rule) if rule else b"")
+        rows.compared("a packet " + about, (0, output, b""), came)
+    twice = LOCAL + b" -> ACCEPT\n" + NAME + b" -> ACCEPT by b 1\n" + NAME + b" -> ACCEPT\n"
+    due = b"1..3\nok 1 - %s -> ACCEPT\nok 2 - %s -> ACCEPT by b 1\nok 3 - %s -> ACCEPT\n" % (LOCAL, NAME, NAME)
+    rows.row("two packets without a state: one comment", ["R", "E"], {"R": DUMP, "E": twice},
+             due + unmatched([b"INPUT 1", b"INPUT 4", b"b 1"]) + INVALID % (2, b"INPUT 2"), 0)
+
+
+def unreadable_rows(rows):
+    """Files that can't be used: a message for each line, and the first after `Bail out!`."""
+    for table in (UNREADABLE, REFUSED):
+        complaints = [b"E:%d: %s" % (number, why) for number, (_, why) in enumerate(table, 2)]
+        data = LOCAL + b" -> ACCEPT\n" + b"\n".join(line for line, _ in table)
+        rows.row("lines that can't be read", ["R", "E"], {"R": DUMP, "E": data}, b"Bail out!  " + complaints[0] + b"\n", 1,
+                 b"".join(b"expect: " + complaint + b"\n" for complaint in complaints))
+    good = {"R": DUMP, "E": LOCAL + b" -> ACCEPT\n"}
+    table = [
+        ("no packet", {"E": b"# nothing\n"}, 1, b"E: has no packet line"),
+        ("a refused rule", {"R": b"*filter\n\n-A INPUT -m limit\n-A x\nCOMMIT\n"}, 1, b"R doesn't load: line 3: P7 unknown match"),
+        ("no COMMIT", {"R": b"*filter\n-F\n"}, 1, b"R doesn't load: line 2: R4 end before COMMIT"),
+        ("an end word among the rules", {"R": b"END\n" + DUMP}, 1, b"R doesn't load: line 1: R1 line not allowed here"),
+        ("a line that is too long", {"R": b"*filter\n#" + b"x" * 10240 + b"\nCOMMIT\n"}, 1, b"R doesn't load: line 2: R6 line too long"),
+        ("an empty ruleset", {"R": b""}, 1, NO_FILTER),
+        ("carriage returns", {"R": DUMP.replace(b"\n", b"\r\n") + b"COMMIT\n"}, 1, NO_FILTER),
+        ("a section that is skipped", {"R": b"*nat\n" + DUMP}, 1, NO_FILTER),
+    ]
+    for about, files, status, why in table:
+        rows.row(about, ["R", "E"], {**good, **files}, b"Bail out!  " + why + b"\n", status, b"expect: " + why + b"\n")
+    why = b"cannot read nothing: No such file or directory"
+    rows.row("no ruleset", ["nothing", "E"], good, b"Bail out!  " + why + b"\n", 2, b"expect: " + why + b"\n")
+    rows.row("no packets", ["R", "nothing"], good, b"Bail out!  " + why + b"\n", 2, b"expect: " + why + b"\n")
+    why = b"cannot run /nothing: No such file or directory; IPTSIM has to name the program"
+    missing = dict(rows.environment, IPTSIM="/nothing")
+    rows.row("no program", ["R", "E"], good, b"Bail out!  " + why + b"\n", 2, b"expect: " + why + b"\n", env=missing)
+    why = b"the program ended before the end of its input"
+    rows.row("a program that ends at once", ["R", "E"], good, b"Bail out!  " + why + b"\n", 2, b"expect: " + why + b"\n",
+             env=dict(rows.environment, IPTSIM="/bin/false"))
+    with open("/dev/full", "wb") as full:
+        rows.row("a full device", ["R", "E"], good, b"", 2, b"expect: output failed\n", stdout=full)
+
+
+def long_walk(rows):
+    """More than 65,536 rules match: 1 rule of INPUT, 2 + 4 + .. + 32,768 of the chains, and 2 of INPUT."""
+    chains = [b":c%d -" % number for number in range(16)]
+    rules = [b"-A c%d -j c%d" % (number, number + 1) for number in range(15)] * 2
+    dump = b"\n".join([b"*filter", *chains, b"-A INPUT -j c0", b"-A INPUT", b"-A INPUT -j ACCEPT", *rules, b"COMMIT", b""])
+    ended = rows.run(["R", "E"], {"R": dump, "E": LOCAL + b" -> DROP\n"})
+    due = b"1..1\nnot ok 1 - %s -> DROP\n# line 1 of E\n# expected: DROP\n# got: TOOLONG\n" % LOCAL
+    due += b"# matched: more than 65536 rules, which are not listed\n"
+    rows.compared("a long walk", (1, due, b""), (ended.returncode, ended.stdout[:len(due)], ended.stderr))
+
+
+def shown_rows(rows):
+    """Packet lines of which nothing is due, and what --quiet leaves out."""
+    arrow = LOCAL.replace(b"=lo", b"=a->b")
+    lines = [LOCAL, b"\t" + PAST + b" \r", OTHER + b" -> DROP by policy", arrow]
+    due = b"1..4\nok 1 - " + LOCAL + SKIPPED + b"\n# line 1 of E\n# got: ACCEPT by INPUT 1\n# matched: INPUT 1: " + RULES[0] + b"\n"
+    due += b"ok 2 - " + PAST.replace(b"#", b"\\#") + SKIPPED + b"\n# line 2 of E\n# got: ACCEPT by policy\n# matched: no rule\n"
+    due += b"ok 3 - " + OTHER + b" -> DROP by policy\nok 4 - " + arrow + SKIPPED
+    due += b"\n# line 4 of E\n# got: DROP by policy\n# matched: INPUT 5: " + RULES[4] + b"\n"
+    files, note = {"R": DUMP, "E": b"\n".join(lines)}, INVALID % (4, b"INPUT 2")
+    rows.row("packets that are shown", ["R", "E"], files, due + unmatched([b"INPUT 1", b"INPUT 4", b"INPUT 5"]) + note, 0)
+    for word in ("-q", "--quiet"):
+        rows.row(word, ["R", word, "E"], files, due + note, 0)
+    wrong = {**files, "E": LOCAL + b"\n" + LOCAL + b" -> DROP\n"}
+    due = due[:due.index(b"ok 2")].replace(b"1..4", b"1..2") + b"not ok 2 - " + LOCAL + b" -> DROP\n# line 2 of E\n# expected: DROP\n"
+    rows.row("one that is shown, and one that is wrong", ["-q", "R", "E"], wrong,
+             due + b"# got: ACCEPT by INPUT 1\n# matched: INPUT 1: " + RULES[0] + b"\n", 1)
+
+
+def odd_chains(rows):
+    """Chains whose names look like other words of a reply."""
+    dump = b"*filter\n:5 -\n:verdict -\n:line -\n-A INPUT -j 5\n-A 5 -j verdict\n-A verdict -j line\n-A line -j DROP\nCOMMIT\n"
+    due = b"1..1\nok 1 - " + LOCAL + SKIPPED + b"\n# line 1 of E\n# got: DROP by line 1\n# matched: INPUT 1: -A INPUT -j 5\n"
+    due += b"# matched: 5 1: -A 5 -j verdict\n# matched: verdict 1: -A verdict -j line\n# matched: line 1: -A line -j DROP\n"
+    rows.row("odd names of chains", ["R", "E"], {"R": dump, "E": LOCAL}, due, 0)
+
+
+def standard_input_rows(rows):
+    """`-` in place of a name."""
+    one = b"1..1\nok 1 - " + LOCAL + b" -> ACCEPT\n" + unmatched([b"INPUT 1"])
+    data = LOCAL + b" -> ACCEPT\n"
+    rows.row("the ruleset from standard input", ["-", "E"], {"E": data}, one, 0, input=DUMP)
+    rows.row("the packets from standard input", ["R", "-"], {"R": DUMP}, one, 0, input=data)
+    rows.row("a line of standard input", ["R", "-"], {"R": DUMP}, b"Bail out!  -:2: it is neither a packet line nor a comment\n", 1,
+             b"expect: -:2: it is neither a packet line nor a comment\n", input=b"\niptables -F")
+    rows.row("both from standard input", ["-", "-"], {}, b"", 2,
+             USAGE + b"expect: error: RULES and EXPECTED can't both be standard input\n", input=DUMP)
+
+
+def rule_object(name):
+    """A rule of the ruleset above, as JSON has it."""
+    chain, number = name.decode().split()
+    return {"chain": chain, "number": int(number), "rule": RULES[NAMES.index(name)].decode()}
+
+
+def step_object(name):
+    return {key: value for key, value in rule_object(name).items() if key != "rule"}
+
+
+def packet_object(line, result, packet, walk, verdict, **more):
+    return {"line": line, "result": result, **({"due": more.pop("due")} if "due" in more else {}), "packet": packet.decode(),
+            "walk": [{**rule_object(name), "matched": True} for name in walk], "verdict": verdict, **more}
+
+
+def json_rows(rows):
+    """Documents, to the byte; and that they come with the same statuses."""
+    lines = [LOCAL + b" -> ACCEPT by INPUT 1", LOGIN + b" -> REJECT tcp-reset by rule", b"# RETURNED", RETURNED + b" -> DROP", NAME]
+    packets = [
+        packet_object(1, "passed", LOCAL, [b"INPUT 1"], {"name": "ACCEPT", "by": step_object(b"INPUT 1")},
+                      due={"name": "ACCEPT", "by": step_object(b"INPUT 1")}),
+        packet_object(2, "passed", LOGIN, [b"INPUT 3", b"a 1"], {"name": "REJECT", "type": "tcp-reset", "by": step_object(b"a 1")},
+                      due={"name": "REJECT", "type": "tcp-reset", "by": "rule"}),
+        packet_object(4, "passed", RETURNED, [b"INPUT 3", b"a 2", b"INPUT 5"], {"name": "DROP", "by": "policy"}, due={"name": "DROP"}),
+        packet_object(5, "shown", NAME, [b"INPUT 4", b"b 1"], {"name": "ACCEPT", "by": step_object(b"b 1")},
+                      invalid_at=step_object(b"INPUT 2")),
+    ]
+    matched = [b"INPUT 1", b"INPUT 3", b"INPUT 4", b"INPUT 5", b"a 1", b"a 2", b"b 1"]
+    document = {"rules": "R", "expected": "E", "passed": True, "packets": packets,
+                "unmatched": [rule_object(name) for name in NAMES if name not in matched]}
+    files = {"R": DUMP, "E": b"\n".join(lines)}
+    rows.row("a document", ["--json", "R", "E"], files, written(document), 0)
+    del document["unmatched"]
+    rows.row("a document without the rules that no packet matched", ["--json", "--quiet", "R", "E"], files, written(document), 0)
+    failed = packet_object(1, "failed", LOCAL, [b"INPUT 1"], packets[0]["verdict"], due={"name": "DROP", "by": "policy"})
+    rows.row("a document of a packet that is wrong", ["-q", "--json", "R", "E"], {**files, "E": LOCAL + b" -> DROP by policy"},
+             written({"rules": "R", "expected": "E", "passed": False, "packets": [failed]}), 1)
+    wrong = [{"message": "E:1: it is neither a packet line nor a comment", "file": "E", "line": 1},
+             {"message": "E:2: a blank is missing after `->`", "file": "E", "line": 2}]
+    rows.row("a document of faults", ["--json", "R", "E"], {**files, "E": b"x\npacket ->x"}, written({"errors": wrong}), 1,
+             b"".join(b"expect: %s\n" % each["message"].encode() for each in wrong))
+    missing = "cannot read nothing: No such file or directory"
+    rows.row("a document of trouble", ["--json", "nothing", "E"], files, written({"errors": [{"message": missing}]}), 2,
+             b"expect: " + missing.encode() + b"\n")
+    loads_not = "R doesn't load: line 2: P7 unknown match"
+    rows.row("a document of a ruleset that doesn't load", ["--json", "R", "E"], {**files, "R": b"*filter\n-A INPUT -m x"},
+             written({"errors": [{"message": loads_not, "file": "R", "line": 2}]}), 1, b"expect: " + loads_not.encode() + b"\n")
+
+
+def written(document):
+    return json.dumps(document, indent=2).encode() + b"\n"
+
+
+JUNIT_DUMP = b"*filter\n-A INPUT -p tcp -m comment --comment \"<\xff\x01&\" -j DROP\n-A INPUT -p udp -j DROP\nCOMMIT\n"
+JUNIT_PACKETS = b"packet INPUT src=1.1.1.1 dst=2.2.2.2 proto=47 -> ACCEPT\n# Wrong\n" \
+    b"packet INPUT src=1.1.1.1 dst=2.2.2.2 proto=tcp frag=1 -> ACCEPT by policy\npacket INPUT src=1.1.1.1 dst=2.2.2.2 proto=47"
+JUNIT = """<?xml version='1.0' encoding='utf-8'?>
+<testsuites>
+  <testsuite name="E" tests="3" failures="1" errors="0" skipped="1">
+    <testcase classname="E" name="line 1: packet INPUT src=1.1.1.1 dst=2.2.2.2 proto=47 -&gt; ACCEPT" file="E" line="1" />
+    <testcase classname="E" name="line 3: packet INPUT src=1.1.1.1 dst=2.2.2.2 proto=tcp frag=1 -&gt; ACCEPT by policy" file="E" line="3">
+      <failure message="expected: ACCEPT by policy; got: DROP by INPUT 1">expected: ACCEPT by policy
+got: DROP by INPUT 1
+matched: INPUT 1: -A INPUT -p tcp -m comment --comment "&lt;\\xff\\x01&amp;" -j DROP</failure>
+    </testcase>
+    <testcase classname="E" name="line 4: packet INPUT src=1.1.1.1 dst=2.2.2.2 proto=47" file="E" line="4">
+      <skipped message="no verdict is expected">got: ACCEPT by policy
+matched: no rule</skipped>
+    </testcase>
+    <system-out>no packet matched INPUT 2: -A INPUT -p udp -j DROP</system-out>
+  </testsuite>
+</testsuites>
+""".encode()
+JUNIT_ERROR = """<?xml version='1.0' encoding='utf-8'?>
+<testsuites>
+  <testsuite name="E" tests="1" failures="0" errors="1" skipped="0">
+    <testcase classname="E" name="the inputs" file="E">
+      <error message="{first}">{all}</error>
+    </testcase>
+  </testsuite>
+</testsuites>
+"""
+
+
+def junit_rows(rows):
+    """JUnit XML beside TAP or JSON, to the byte."""
+    good, empty = {"R": JUNIT_DUMP, "E": JUNIT_PACKETS}, b"  <system-out>"
+    quiet = JUNIT[:JUNIT.index(empty)].rstrip() + JUNIT[JUNIT.index(b"</system-out>") + len(b"</system-out>"):]
+    two = JUNIT_ERROR.format(first="E:1: it is neither a packet line nor a comment",
+                             all="E:1: it is neither a packet line nor a comment\nE:2: a blank is missing after `-&gt;`")
+    trouble = "cannot read nothing: No such file or directory"
+    table = [
+        ("a report", ["R", "E"], good, JUNIT, 1),
+        ("a report without the rules that no packet matched", ["-q", "R", "E"], good, quiet, 1),
+        ("a report beside a document", ["--json", "R", "E"], good, JUNIT, 1),
+        ("a report of faults", ["R", "E"], {**good, "E": b"x\npacket ->x"}, two.encode(), 1),
+        ("a report of trouble", ["nothing", "E"], good, JUNIT_ERROR.format(first=trouble, all=trouble).encode(), 2),
+    ]
+    for about, words, files, due, status in table:
+        with tempfile.TemporaryDirectory() as folder:
+            path = os.path.join(folder, "report.xml")
+            plain = rows.run(words, files)
+            ended = rows.run(["--junit", path, *words], files)
+            with open(path, "rb") as file:
+                rows.compared(about, (status, due, plain.stdout, plain.stderr), (ended.returncode, file.read(), ended.stdout, ended.stderr))
+    rows.row("a report that can't be written", ["-q", "--junit", "nothing/x", "R", "E"], {"R": DUMP, "E": LOCAL + b" -> ACCEPT"},
+             b"1..1\nok 1 - " + LOCAL + b" -> ACCEPT\n", 2, b"expect: cannot write nothing/x: No such file or directory\n")
+
+
+def example_rows(rows):
+    """The packets of the example: all but the ninth get what is due, and after the edits all do. They are those of office.packets. And
+    those of the sample, which all get what is due."""
+    office = os.path.join(ROOT, "examples", "office.")
+    with open(office + "packets", "rb") as file:
+        packets = [line.rstrip() for line in file if line.startswith(b"packet")]
+    with open(office + "edits", "rb") as file:
+        edits = file.read() + b"iptables-save\n"
+    program = [rows.environment["IPTSIM"], "session", "--load", office + "rules"]
+    edited = subprocess.run(program, input=edits, stdout=subprocess.PIPE, check=True).stdout
+    for about, rules, wrong in (("the example", office + "rules", 9), ("the edited example", "R", None)):
+        ended = rows.run([rules, office + "expected"], {"R": edited})
+        came = [line.rsplit(b" -> ", 1)[0] for line in ended.stdout.splitlines() if not line.startswith(b"#")]
+        due = [b"%sok %d - %s" % (b"not " if number == wrong else b"", number, packet) for number, packet in enumerate(packets, 1)]
+        rows.compared(about, (1 if wrong else 0, b"\n".join([b"1..10", *due])), (ended.returncode, b"\n".join(came)))
+    web = os.path.join(ROOT, "examples", "web.")
+    ended = rows.run(["-q", web + "rules", web + "expected"], {})
+    came = [line.split(b" - ")[0] for line in ended.stdout.splitlines()]
+    rows.compared("the sample", (0, b"1..5 ok 1 ok 2 ok 3 ok 4 ok 5"), (ended.returncode, b" ".join(came)))
+
+
+def installed_rows(rows):
+    """An installed script finds its modules, and messages name it as it was called."""
+    with tempfile.TemporaryDirectory() as prefix:
+        [rows.script] = install(prefix, "expect")
+        rows.row("a test, installed", ["-q", "R", "E"], {"R": DUMP, "E": LOCAL + b" -> ACCEPT"},
+                 b"1..1\nok 1 - " + LOCAL + b" -> ACCEPT\n", 0)
+        rows.row("wrong words, installed", ["nothing"], {}, b"", 2, b"usage: iptsim-" + USAGE[len("usage: "):] +
+                 b"iptsim-expect: error: the following arguments are required: EXPECTED\n")
+        why = b"R has no section *filter that iptsim reads: iptsim-check says why"
+        rows.row("a message, installed", ["R", "E"], {"R": b"", "E": LOCAL}, b"Bail out!  " + why + b"\n", 1,
+                 b"iptsim-expect: " + why + b"\n")
+
+
+def main(program):
+    rows = Rows("expect", program)
+    packet_rows(rows)
+    state_rows(rows)
+    unreadable_rows(rows)
+    shown_rows(rows)
+    odd_chains(rows)
+    standard_input_rows(rows)
+    json_rows(rows)
+    junit_rows(rows)
+    long_walk(rows)
+    example_rows(rows)
+    installed_rows(rows)
+    rows.end()
+
+
+if __name__ == "__main__":
+    main(sys.argv[1])

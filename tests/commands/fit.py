@@ -1,0 +1,392 @@
+"""tests/run commands/fit PROGRAM: runs bin/fit with the program on rows of dumps, and compares what it writes and its status to the byte.
+
+It ends with status 1 where a run isn't as expected, and says what differs.
+"""
+
+import os
+import signal
+import sys
+
+from tests.commands.fitted.spellings import NAMES, PROTOCOLS, SERVICES, SPELLINGS
+from tests.shared.rows import Rows
+
+HEAD = b"*nat\n-A x -m limit -j MASQUERADE\nCOMMIT\n# A comment\n*filter\n:INPUT DROP [1:60]\n:a - [0:0]\n:quiet - [0:0]\n:verdict -\n\n"
+RULES = b"-A a -j ACCEPT\n-A verdict -j DROP\n-A quiet -j LOG\n-A quiet -j RETURN\n"
+DUE = [b"-A INPUT -m limit --limit 5/min --limit-burst 7 -j a"]
+
+
+def dump(lines):
+    return HEAD + RULES + b"".join(line + b"\n" for line in lines) + b"COMMIT\n"
+
+
+def head(assumed, dropped):
+    """The first line of a dump that is for trials."""
+    said = [(b"assumed ", assumed), (b"taken out ", dropped)]
+    return b"; ".join([b"# iptsim-fit: for trials", *(what + b", ".join(words) for what, words in said if words)]) + b"\n"
+
+
+FIRST = dump([]).count(b"\n")
+
+
+def files(data):
+    return {"d": data, "S": SERVICES, "P": PROTOCOLS}
+
+
+def spelling_rows(rows):
+    """Lines that mean the same, and in another run lines that can't be made to fit, each beside all others."""
+    fitted = [row for row in SPELLINGS if row[1]]
+    said = [b"d:%d: %s\n" % (FIRST + at, note) for at, row in enumerate(fitted) for note in row[2]]
+    written = dump(line for row in fitted for line in row[1])
+    rows.row("spellings", [*NAMES, "d"], files(dump(row[0] for row in fitted)), written, 0, b"".join(said))
+    left = [row for row in SPELLINGS if not row[1]]
+    said = [b"fit: d:%d: %s\n" % (FIRST + at, row[2]) for at, row in enumerate(left)]
+    rows.row("lines that can't fit", [*NAMES, "d"], files(dump(row[0] for row in left)), b"", 1, b"".join(said))
+    # A line of several addresses before one that is refused: it has the number that it has in the file.
+    both = dump([b"-A INPUT -s 1.1.1.1,2.2.2.2", b"-A INPUT -s x"])
+    rows.row("a line after a list", ["d"], files(both), b"", 1, b"fit: d:%d: P3 bad value: x\n" % (FIRST + 1))
+
+
+# Rules that decide nothing: what is written in their place, and what is said to be taken out.
+MANY = b"""
+ -m recent --update --seconds 30 --reap --hitcount 6 --rttl --name x --mask 255.255.255.255 --rsource
+ -m hashlimit --hashlimit-above 1/sec --hashlimit-burst 9 --hashlimit-mode srcip,dstport --hashlimit-srcmask 24 --hashlimit-name n
+ -m set ! --match-set name src,dst --return-nomatch
+ -m string --algo bm --from 1 --to 9 --icase ! --string "a b"
+ -m connlimit --connlimit-upto 3 --connlimit-mask 24 --connlimit-saddr
+ -m time --timestart 08:00 --timestop 18:00 ! --weekdays Sa,Su --kerneltz
+ -m policy --dir in --pol ipsec --strict --reqid 1 --proto esp --mode tunnel --tunnel-src 1.1.1.1 --tunnel-dst 2.2.2.2 --next
+ -m statistic --mode nth --every 3 --packet 0
+ -m physdev --physdev-in eth0 ! --physdev-is-bridged
+ -m connbytes --connbytes 1:2 --connbytes-dir both --connbytes-mode bytes
+ -m owner --uid-owner 0 --suppl-groups --gid-owner 0
+ -m addrtype --limit-iface-in --src-type LOCAL""".replace(b"\n", b"")
+GONE, OUT = b"the rule gives no verdict, taken out: ", b"option written out: "
+QUIET = [
+    (b"-A FORWARD -p tcp --tcp-flags SYN,RST SYN -j TCPMSS --clamp-mss-to-pmtu", b"-A FORWARD -p tcp --tcp-flags SYN,RST SYN",
+     [(GONE, b"-j TCPMSS --clamp-mss-to-pmtu")]),
+    (b"-A INPUT -i eth0 -j MARK --set-mark 1", b"-A INPUT -i eth0", [(GONE, b"-j MARK --set-mark 1")]),
+    (b"-A INPUT -j NFLOG", b"-A INPUT", [(GONE, b"-j NFLOG")]),
+    (b"[1:2] -A INPUT -j CONNMARK --save-mark --nfmask 0xff --ctmask 0xff -m comment --comment x",
+     b"[1:2] -A INPUT -m comment --comment x", [(GONE, b"-j CONNMARK --save-mark --nfmask 0xff --ctmask 0xff")]),
+    (b"-A INPUT -j SET --add-set bad src,src --exist", b"-A INPUT", [(GONE, b"-j SET --add-set bad src,src --exist")]),
+    (b"-A INPUT -m limit --limit 5/min -j LOG --log-macdecode --log-prefix x", b"-A INPUT -j LOG --log-prefix x",
+     [(GONE, b"-m limit --limit 5/min"), (GONE, b"--log-macdecode")]),
+    (b"-A INPUT -p tcp -m recent --set --name \"a b\" -m limit", b"-A INPUT -p tcp",
+     [(GONE, b"-m recent --set --name \"a b\""), (GONE, b"-m limit")]),
+    (b"-A INPUT -m mac ! --mac-source 00:00:00:00:00:01", b"-A INPUT", [(GONE, b"-m mac ! --mac-source 00:00:00:00:00:01")]),
+    (b"-A INPUT -m limit --limit-burst 5 -i lo --limit 5/min -j quiet", b"-A INPUT -i lo -j quiet",
+     [(GONE, b"-m limit --limit-burst 5 --limit 5/min")]),
+    (b"-A quiet -m limit -j RETURN", b"-A quiet -j RETURN", [(GONE, b"-m limit")]),
+    (b"-A quiet -m limit -j further", b"-A quiet -j further", [(GONE, b"-m limit")]),
+    (b"-A quiet -m limit -g further", b"-A quiet -g further", [(GONE, b"-m limit")]),
+    (b"-A further -m owner --uid-owner 0 -j LOG", b"-A further -j LOG", [(GONE, b"-m owner --uid-owner 0")]),
+    (b"-A INPUT -p ah --ahspi 5:7 -j LOG", b"-A INPUT -p ah -j LOG", [(GONE, b"--ahspi 5:7")]),
+    (b"-A INPUT " + MANY + b" -i lo -j LOG", b"-A INPUT -i lo -j LOG", [(GONE, b"-m" + each) for each in MANY.split(b" -m")[1:]]),
+    (b"-A INPUT --mat limit --limit-b 5 -j LOG", b"-A INPUT -j LOG",
+     [(OUT, b"--mat limit -> -m limit"), (GONE, b"--mat limit --limit-b 5")]),
+    (b"-A INPUT -p tcp -m conntrack --ctproto tcp -j LOG", b"-A INPUT -p tcp -j LOG", [(GONE, b"-m conntrack --ctproto tcp")]),
+    (b"-A INPUT -p tcp -m conntrack --ctproto tcp --ctstate NEW -j LOG", b"-A INPUT -p tcp -m conntrack --ctstate NEW -j LOG",
+     [(GONE, b"--ctproto tcp")]),
+    (b"-A INPUT -p tcp --tcp-option 2 -j LOG", b"-A INPUT -p tcp -m tcp -j LOG", [(GONE, b"--tcp-option 2 -> -m tcp")]),
+    (b"-A INPUT -p tcp -m tcp ! --tcp-option 2 --dport 5 -j LOG", b"-A INPUT -p tcp -m tcp --dport 5 -j LOG", [(GONE, b"! --tcp-option 2")]),
+    # Matches that bin/fit doesn't know: their words end where an option begins that is known there.
+    (b"-A INPUT -m ndpi --genre Linux --ttl 0 -j LOG", b"-A INPUT -j LOG", [(GONE, b"-m ndpi --genre Linux --ttl 0")]),
+    (b"-A INPUT -m label --label-name \"a b\" ! -s 1.2.3.4", b"-A INPUT ! -s 1.2.3.4", [(GONE, b"-m label --label-name \"a b\"")]),
+    (b"-A INPUT -p tcp -m shape ! --round --dport 5 -j LOG", b"-A INPUT -p tcp --dport 5 -j LOG", [(GONE, b"-m shape ! --round")]),
+    (b"-A INPUT -j LOG -m nothing --log-prefix x", b"-A INPUT -j LOG --log-prefix x", [(GONE, b"-m nothing")]),
+]
+# What is taken out of them, in the words of the first line.
+DROPPED = (b"-j TCPMSS", b"-j MARK", b"-j NFLOG", b"-j CONNMARK", b"-j SET", b"-m limit", b"--log-macdecode", b"-m recent", b"-m mac",
+           b"-m owner", b"-m ah", b"-m hashlimit", b"-m set", b"-m string", b"-m connlimit", b"-m time", b"-m policy", b"-m statistic",
+           b"-m physdev", b"-m connbytes", b"-m addrtype", b"--ctproto", b"--tcp-option", b"-m ndpi", b"-m label", b"-m shape", b"-m nothing")
+# Rules that decide, and the name and text of what is to be assumed.
+LOUD = [
+    (b"-A INPUT -m limit --limit 5/min -j DROP", b"limit", b"-m limit --limit 5/min"),
+    (b"-A INPUT -m limit --limit 6/min -j RETURN", b"limit", b"-m limit --limit 6/min"),
+    (b"-A INPUT -m limit --limit 7/min -g quiet", b"limit", b"-m limit --limit 7/min"),
+    (b"-A INPUT -m limit --limit 8/min -j verdict", b"limit", b"-m limit --limit 8/min"),
+    (b"-A verdict -m limit --limit 9/min -j RETURN", b"limit", b"-m limit --limit 9/min"),
+    (b"-A INPUT -m limit --limit 10/min -j leads", b"limit", b"-m limit --limit 10/min"),
+    (b"-A leads -m limit --limit 11/min -j verdict", b"limit", b"-m limit --limit 11/min"),
+    (b"-A INPUT -m mark ! --mark 1 -j DROP", b"mark", b"-m mark ! --mark 1"),
+    (b"-A INPUT -p tcp -m conntrack --ctproto tcp --ctstate NEW -j DROP", b"conntrack", b"--ctproto tcp"),
+    (b"-A INPUT -m ndpi --genre Linux -j DROP", b"ndpi --genre Linux", b"-m ndpi --genre Linux"),
+    (b"-A INPUT -m nothing -j a", b"nothing", b"-m nothing"),
+]
+ASKED = b"'%s=true' or '%s=false'"
+
+
+def quiet_rows(rows):
+    """What decides nothing goes, and what decides is asked for."""
+    chains = [b"-N further", b"-N leads", b":further -", b":leads -"]
+    lines = chains[2:] + [row[0] for row in QUIET]
+    said = [b"d:%d: %s%s\n" % (FIRST + 2 + at, why, note) for at, row in enumerate(QUIET) for why, note in row[2]]
+    rows.row("rules that decide nothing", ["d"], files(dump(lines)), head([], DROPPED) + dump(chains[2:] + [row[1] for row in QUIET]), 0,
+             b"".join(said))
+    lines = chains[2:] + [row[0] for row in LOUD]
+    said = [b"fit: d:%d: state --assume %s: %s\n" % (FIRST + 2 + at, ASKED % (name, name), text) for at, (_, name, text) in enumerate(LOUD)]
+    rows.row("rules that decide", ["d"], files(dump(lines)), b"", 2, b"".join(said))
+    # Who sets what is asked; and one line for all that ask the same.
+    marked = b" -m mark --mark 1 -j a"
+    lines = [b"-A INPUT -j MARK --set-mark 1", b"-A INPUT" + marked, *DUE * 2, b"-A INPUT -p tcp" + marked, DUE[0]]
+    said = b"fit: d:%d: state --assume %s: -m mark --mark 1, which line %d sets by -j MARK, and at another line\n"
+    limit = b"fit: d:%d: state --assume 'limit=true' or 'limit=false': -m limit --limit 5/min --limit-burst 7, and at 2 more lines\n"
+    rows.row("marks", ["d"], files(dump(lines)), b"", 2, said % (FIRST + 1, ASKED % (b"mark", b"mark"), FIRST) + limit % (FIRST + 2))
+    # A chain that is renamed, or that the file doesn't make, may decide.
+    limit = b"fit: d:%d: state --assume 'limit=true' or 'limit=false': -m limit\n"
+    renamed = [b"-E quiet other", b"-E verdict quiet", b"-A INPUT -m limit -j quiet"]
+    rows.row("a renamed chain", ["d"], files(dump(renamed)), b"", 2, limit % (FIRST + 2))
+    missing = b"fit: d:%d: T11 target chain missing: nowhere\n" % FIRST
+    rows.row("a missing chain", ["d"], files(dump([b"-A INPUT -m limit -j nowhere"])), b"", 1, missing + limit % FIRST)
+
+
+LIMIT, BURST = b"-m limit --limit 5/min", b"-m limit --limit 9/min --limit-burst 2"
+NOW = b"never matches now: %s -> ! -s 0.0.0.0/0"
+SINCE = b"assumed %s, never matches by ! -s 0.0.0.0/0: %s"
+# Assumptions, a rule, what is written in its place, and what is said; after these the assumptions that weren't needed.
+ASSUMED = [
+    (["limit=true"], b"-p tcp " + LIMIT + b" -j DROP", [b"-p tcp -j DROP"], [b"assumed limit=true, taken out: " + LIMIT], []),
+    (["limit=false"], b"-p tcp " + LIMIT + b" -j DROP", [b"! -s 0.0.0.0/0 -p tcp -j DROP"], [SINCE % (b"limit=false", LIMIT)], []),
+    (["limit=false"], b"-m limit -j DROP", [b"! -s 0.0.0.0/0 -j DROP"], [SINCE % (b"limit=false", b"-m limit")], []),
+    (["limit=false"], b"-p tcp --src 1.2.3.4 " + LIMIT + b" -j DROP", [b"-p tcp ! -s 0.0.0.0/0 -j DROP"],
+     [SINCE % (b"limit=false", LIMIT), NOW % b"--src 1.2.3.4"], []),
+    (["limit=false"], b"! -s 1.2.3.4 " + LIMIT + b" -g a", [b"! -s 0.0.0.0/0 -g a"],
+     [SINCE % (b"limit=false", LIMIT), NOW % b"! -s 1.2.3.4"], []),
+    # The rules that come of lists keep their numbers.
+    (["limit=false"], b"-s 1.1.1.1,2.2.2.2 " + LIMIT + b" -j a", [b"! -s 0.0.0.0/0 -j a"] * 2,
+     [b"address list, a rule for each: -s 1.1.1.1,2.2.2.2 -> -s 1.1.1.1, -s 2.2.2.2", SINCE % (b"limit=false", LIMIT),
+      NOW % b"-s 1.1.1.1,2.2.2.2"], []),
+    (["limit=true"], b"-d 1.1.1.1,2.2.2.2 " + LIMIT + b" -j a", [b"-d 1.1.1.1 -j a", b"-d 2.2.2.2 -j a"],
+     [b"address list, a rule for each: -d 1.1.1.1,2.2.2.2 -> -d 1.1.1.1, -d 2.2.2.2", b"assumed limit=true, taken out: " + LIMIT], []),
+    # The finer one counts, wherever it stands.
+    (["limit=true", "limit --limit 9/min=false"], BURST + b" -j DROP", [b"! -s 0.0.0.0/0 -j DROP"],
+     [SINCE % (b"limit --limit 9/min=false", BURST)], ["limit=true"]),
+    (["limit --limit-burst 2=true", "limit=false"], BURST + b" -j DROP", [b"-j DROP"],
+     [b"assumed limit --limit-burst 2=true, taken out: " + BURST], ["limit=false"]),
+    (["limit --limit-burst 3=true", "limit=false"], BURST + b" -j DROP", [b"! -s 0.0.0.0/0 -j DROP"],
+     [SINCE % (b"limit=false", BURST)], ["limit --limit-burst 3=true"]),
+    (["recent --name \"a b\"=true", "recent --update=false"], b"-m recent --update --name \"a b\" -j DROP", [b"-j DROP"],
+     [b"assumed recent --name \"a b\"=true, taken out: -m recent --update --name \"a b\""], ["recent --update=false"]),
+    (["geoip --source-country DE=true"], b"-m geoip --src-cc DE -j DROP", [b"-j DROP"],
+     [b"assumed geoip --source-country DE=true, taken out: -m geoip --src-cc DE"], []),
+    # With `!` before the option.
+    (["mac=true"], b"-m mac ! --mac-source x -j DROP", [b"! -s 0.0.0.0/0 -j DROP"], [SINCE % (b"mac=true", b"-m mac ! --mac-source x")], []),
+    (["mac=false"], b"-m mac ! --mac-source x -j DROP", [b"-j DROP"], [b"assumed mac=false, taken out: -m mac ! --mac-source x"], []),
+    (["rpfilter=false"], b"-m rpfilter --loose --invert -j DROP", [b"-j DROP"],
+     [b"assumed rpfilter=false, taken out: -m rpfilter --loose --invert"], []),
+    (["rpfilter --loose=true"], b"-m rpfilter --loose --invert -j DROP", [b"! -s 0.0.0.0/0 -j DROP"],
+     [SINCE % (b"rpfilter --loose=true", b"-m rpfilter --loose --invert")], []),
+    (["string=false"], b"-m string --algo bm ! --string GET -j DROP", [b"-j DROP"],
+     [b"assumed string=false, taken out: -m string --algo bm ! --string GET"], []),
+    # Options of one match that ask each for itself.
+    (["addrtype=true"], b"-m addrtype --src-type LOCAL ! --dst-type LOCAL -j DROP", [b"! -s 0.0.0.0/0 -j DROP"],
+     [SINCE % (b"addrtype=true", b"-m addrtype --src-type LOCAL ! --dst-type LOCAL")], []),
+    (["addrtype --src-type LOCAL=true", "addrtype --dst-type=false"],
+     b"-m addrtype --src-type LOCAL ! --dst-type LOCAL -j DROP", [b"-j DROP"],
+     [b"assumed addrtype --src-type LOCAL=true, addrtype --dst-type=false, taken out: -m addrtype --src-type LOCAL ! --dst-type LOCAL"], []),
+    # One that never matches needs no further assumption.
+    (["limit=false"], LIMIT + b" -m owner --uid-owner 0 -j TARPIT --reset", [b"! -s 0.0.0.0/0"],
+     [SINCE % (b"limit=false", LIMIT), b"never matches now, taken out: -m owner --uid-owner 0",
+      b"never matches now, taken out: -j TARPIT --reset"], []),
+    # Options of matches that are known.
+    (["tcp=true"], b"-p tcp --tcp-option 2 -j DROP", [b"-p tcp -m tcp -j DROP"],
+     [b"assumed tcp=true, taken out: --tcp-option 2 -> -m tcp"], []),
+    (["tcp=true"], b"-p tcp --dport ssh ! --tcp-option 2 -j DROP", [b"! -s 0.0.0.0/0 -p tcp --dport 22 -j DROP"],
+     [b"port: --dport ssh -> --dport 22", SINCE % (b"tcp=true", b"! --tcp-option 2")], []),
+    (["conntrack --ctproto=true"], b"-m conntrack --ctproto tcp -j DROP", [b"-j DROP"],
+     [b"assumed conntrack --ctproto=true, taken out: -m conntrack --ctproto tcp"], []),
+    (["limit=true"], b"--mat limit -j DROP", [b"-j DROP"],
+     [b"option written out: --mat limit -> -m limit", b"assumed limit=true, taken out: --mat limit"], []),
+    # Targets.
+    (["TARPIT=DROP"], b"-p tcp -j TARPIT --reset -i lo", [b"-p tcp -j DROP -i lo"],
+     [b"assumed TARPIT=DROP: -j TARPIT --reset -> -j DROP"], []),
+    (["NFQUEUE=ACCEPT", "limit=true"], LIMIT + b" -j NFQUEUE --queue-num 1 --queue-bypass", [b"-j ACCEPT"],
+     [b"assumed limit=true, taken out: " + LIMIT, b"assumed NFQUEUE=ACCEPT: -j NFQUEUE --queue-num 1 --queue-bypass -> -j ACCEPT"], []),
+    (["QUEUE=RETURN"], b"-j QUEUE", [b"-j RETURN"], [b"assumed QUEUE=RETURN: -j QUEUE -> -j RETURN"], []),
+    # Matches that bin/fit doesn't know, by all their words; `!` is one of them.
+    (["ndpi --genre Linux --ttl 0=true"], b"-p tcp -m ndpi --genre Linux --ttl 0 -j DROP", [b"-p tcp -j DROP"],
+     [b"assumed ndpi --genre Linux --ttl 0=true, taken out: -m ndpi --genre Linux --ttl 0"], []),
+    (["label --label-name \"a b\"=false"], b"-m label --label-name \"a b\" -j DROP", [b"! -s 0.0.0.0/0 -j DROP"],
+     [SINCE % (b"label --label-name \"a b\"=false", b"-m label --label-name \"a b\"")], []),
+    (["shape ! --round=true"], b"-m shape ! --round -p tcp -j DROP", [b"-p tcp -j DROP"],
+     [b"assumed shape ! --round=true, taken out: -m shape ! --round"], []),
+    (["nothing=false", "nothing --x=true"], b"-m nothing -j DROP", [b"! -s 0.0.0.0/0 -j DROP"], [SINCE % (b"nothing=false", b"-m nothing")],
+     ["nothing --x=true"]),
+    # A word that looks like an option is its own where the assumption says so.
+    (["odd --sport -s=true"], b"-p tcp -m odd --sport -s -j DROP", [b"-p tcp -j DROP"],
+     [b"assumed odd --sport -s=true, taken out: -m odd --sport -s"], []),
+    # What decides nothing needs none.
+    (["limit=true", "limit=true"], LIMIT + b" -j LOG", [b"-j LOG"], [b"the rule gives no verdict, taken out: " + LIMIT], ["limit=true", "limit=true"]),
+]
+UNUSABLE = [
+    ("limit", " is not MATCH=true, MATCH=false or TARGET=ACCEPT, with a target that bin/fit knows"),
+    ("limit=maybe", " is not MATCH=true, MATCH=false or TARGET=ACCEPT, with a target that bin/fit knows"),
+    ("=true", " is not MATCH=true, MATCH=false or TARGET=ACCEPT, with a target that bin/fit knows"),
+    ("limit \"x=true", " is not MATCH=true, MATCH=false or TARGET=ACCEPT, with a target that bin/fit knows"),
+    ("TARPIT=true", " is not MATCH=true, MATCH=false or TARGET=ACCEPT, with a target that bin/fit knows"),
+    ("state=true", ": state is known to the program"),
+    ("multiport --ports=false", ": multiport is known to the program"),
+    ("REJECT=DROP", ": REJECT is known to the program"),
+    ("MARK=DROP", ": MARK gives no verdict"),
+    ("TARPIT --reset=DROP", " is not MATCH=true, MATCH=false or TARGET=ACCEPT, with a target that bin/fit knows"),
+]
+
+
+def assumption_rows(rows):
+    """Assumptions that are stated: of all chains, true and false, inverted, finer ones, and those that can't be used."""
+    for place, (stated, rule, written, said, unneeded) in enumerate(ASSUMED):
+        chain = (b"INPUT", b"FORWARD", b"OUTPUT", b"verdict")[place % 4]
+        rule = rule.replace(b" -i lo", b" -f")
+        written = [b"-A %s %s" % (chain, each.replace(b" -i lo", b" -f")) for each in written]
+        words = [word for each in stated for word in ("--assume", each)]
+        said = b"".join(b"d:%d: %s\n" % (FIRST, note) for note in said)
+        said += b"".join(b"fit: --assume '%s' wasn't needed\n" % each.encode() for each in unneeded)
+        data = dump([b"-A %s %s" % (chain, rule)])
+        used = [each.encode() for each in stated if each not in unneeded]
+        first = head(used, [] if used else [b"-m limit"])
+        rows.row(f"{stated} on {rule.decode()}", [*NAMES, *words, "d"], files(data), first + dump(written), 0, said)
+    missing = b"fit: d:%d: state --assume 'TARPIT=ACCEPT', 'TARPIT=DROP' or 'TARPIT=RETURN': -j TARPIT --reset\n" % FIRST
+    rows.row("a target without an assumption", ["d"], files(dump([b"-A INPUT -j TARPIT --reset"])), b"", 2, missing)
+    half = b"fit: d:%d: state --assume 'owner=true' or 'owner=false': -m owner --uid-owner 0\n" % FIRST
+    rows.row("half of them", ["--assume", "limit=true", "d"], files(dump([b"-A INPUT -m limit -m owner --uid-owner 0 -j a"])), b"", 2, half)
+    less = b"fit: d:%d: state --assume 'ndpi --genre Linux=true' or 'ndpi --genre Linux=false': -m ndpi --genre Linux\n" % FIRST
+    rows.row("some words of a match that isn't known", ["--assume", "ndpi=true", "d"], files(dump([b"-A INPUT -m ndpi --genre Linux -j a"])),
+             b"", 2, less)
+    for stated, why in UNUSABLE:
+        rows.row(stated, ["--assume", stated, "d"], files(dump([])), b"", 2, f"fit: --assume '{stated}'{why}\n".encode())
+    words = ["--assume", "limit --limit 5/min=true", "--assume", "limit --limit-burst 7=false", "d"]
+    rows.row("two on the same words", words, files(dump(DUE)), b"", 2,
+             b"fit: --assume 'limit --limit 5/min=true' and 'limit --limit-burst 7=false' are on the same words\n")
+
+
+def never_rows(rows):
+    """No packet matches the rule that never does, in any chain; and the other rules keep their numbers."""
+    lines = [b"-A %s -m limit -j DROP" % chain for chain in (b"INPUT", b"FORWARD", b"OUTPUT")]
+    lines += [b"-A %s -j ACCEPT" % chain for chain in (b"INPUT", b"FORWARD", b"OUTPUT")]
+    fitted = rows.run(["--assume", "limit=false", "d"], {"d": dump(lines)}).stdout
+    packets = b"".join(b"packet %s src=%s dst=2.2.2.2 proto=47\n" % (hook, source) for hook in (b"INPUT", b"FORWARD", b"OUTPUT")
+                       for source in (b"0.0.0.0", b"10.0.0.1", b"255.255.255.255"))
+    session = b"iptables-restore <<END\n" + fitted + b"END\n" + packets
+    came = rows.of_program(["session"], session)
+    due = b"".join(b"%s 2\nverdict ACCEPT by rule\n" % hook * 3 for hook in (b"INPUT", b"FORWARD", b"OUTPUT"))
+    rows.compared("packets at rules that never match", (0, due), (0, came))
+
+
+def deletion_rows(rows):
+    """A rule that is named by its words, where rules lose some."""
+    by_words = b"fit: d:%d: names a rule by its words, and other rules lost some: give its number instead\n"
+    quiet = b"-A INPUT -m limit --limit 5/min -j LOG"
+    rows.row("a rule deleted by words", ["d"], files(dump([quiet, b"-D INPUT -j LOG"])), b"", 1, by_words % (FIRST + 1))
+    rows.row("the first rule without words", ["d"], files(dump([b"-A INPUT", quiet, b"-D INPUT"])), b"", 1, by_words % (FIRST + 2))
+    checked = dump([b"-A INPUT -j ACCEPT", quiet, b"-C INPUT -j ACCEPT"])
+    rows.row("a rule checked by words", ["d"], files(checked), b"", 1, by_words % (FIRST + 2))
+    rows.row("a rule deleted that would lose words", ["d"], files(dump([b"-A INPUT -j LOG", b"-D INPUT -m limit -j LOG"])), b"", 1,
+             b"fit: d:%d: P7 unknown match: limit\n" % (FIRST + 1))
+    rows.row("a rule deleted by its number", ["d"], files(dump([quiet, b"-D INPUT 1"])),
+             head([], [b"-m limit"]) + dump([b"-A INPUT -j LOG", b"-D INPUT 1"]), 0,
+             b"d:%d: the rule gives no verdict, taken out: -m limit --limit 5/min\n" % FIRST)
+    spelled = dump([b"-A INPUT -p TCP", b"-D INPUT -p tcp"])
+    rows.row("a rule deleted, and none loses words", ["d"], files(spelled), spelled.replace(b"TCP", b"6"), 0,
+             b"d:%d: protocol: -p TCP -> -p 6\n" % FIRST)
+
+
+def file_rows(rows):
+    """Whole files: those that load, marks in them, and those that are no dump."""
+    loads = dump([b"-A INPUT -p tcp  --dport 22 -j a"])
+    for about, data in (("that loads", loads), ("without a newline", loads[:-1]), ("with a carriage return", b"# x\r\n" + loads)):
+        rows.row("a dump " + about, ["d"], files(data), data, 0)
+    rows.row("an assumption on a dump that loads", ["--assume", "limit=true", "d"], files(loads), loads, 0,
+             b"fit: --assume 'limit=true' wasn't needed\n")
+    returns = b"d:1: carriage return at the end of this line, and of %d more, taken out\n" % (loads.count(b"\n") - 1)
+    mark = b"d:1: byte order mark, taken out\n"
+    rows.row("carriage returns", ["d"], files(loads.replace(b"\n", b"\r\n")), loads, 0, returns)
+    rows.row("one carriage return", ["d"], files(loads[:-1].replace(b"-j a\n", b"-j a\r\n")), loads, 0,
+             b"d:%d: carriage return at the end of this line, taken out\nd:%d: newline at the end, added\n" % (FIRST, FIRST + 1))
+    marked = b"\xef\xbb\xbf" + loads.replace(b"\n", b"\r\n")
+    rows.row("a byte order mark and carriage returns", ["d"], files(marked), loads, 0, mark + returns)
+    rule = b"-A INPUT -p tcp -m comment --comment \"a\rb\" --dport "
+    rows.row("carriage returns and a name", [*NAMES, "d"], files(dump([rule + b"ssh\r"])), dump([rule + b"22"]), 0,
+             b"d:%d: carriage return at the end of this line, taken out\n" % FIRST +
+             b"d:%d: port: --dport ssh -> --dport 22\n" % FIRST)
+    nat = b"*nat\n-A PREROUTING -p tcp --dport http -m limit -j DNAT\nCOMMIT\n"
+    rows.row("other tables", [*NAMES, "d"], files(nat + dump([b"-A INPUT -p TCP"]) + nat), nat + dump([b"-A INPUT -p 6"]) + nat, 0,
+             b"d:%d: protocol: -p TCP -> -p 6\n" % (FIRST + 3))
+    rows.row("two sections", ["d"], files(dump([b"-A INPUT -p TCP"]) * 2), dump([b"-A INPUT -p 6"]) * 2, 0,
+             b"d:%d: protocol: -p TCP -> -p 6\nd:%d: protocol: -p TCP -> -p 6\n" % (FIRST, 2 * FIRST + 1))
+    empty = b"fit: d: is empty: make a dump with iptables-save.\n"
+    rows.row("an empty file", ["d"], files(b""), b"", 1, empty)
+    rows.row("no section", ["d"], files(nat), b"", 1, b"fit: d: has no section *filter: make a dump with iptables-save.\n")
+    rows.row("a misspelt section", ["d"], files(b"*fliter\n-A INPUT -p TCP\nCOMMIT\n"), b"", 1,
+             b"fit: d:1: *fliter is no table of iptables, so its section is skipped: did you mean *filter?\nfit: d:2: P3 bad value: TCP\n")
+    rows.row("no COMMIT", ["d"], files(b"*filter\n-A INPUT -p TCP\n"), b"", 1, b"fit: d:2: R4 end before COMMIT: *filter\n")
+    rows.row("control characters", ["d"], files(dump([b"-A INPUT -s x\x1b,\x00\xc3\xa4"])), b"", 1,
+             b"fit: d:%d: P3 bad value: x\\x1b,\\x00\xc3\xa4\n" % FIRST)
+
+
+def everyday_rows(rows):
+    """Standard input, rules for IPv6 alone, and a reader that has gone."""
+    quiet = dump([b"-A INPUT -m limit -j LOG"])
+    rows.row("standard input", ["-"], {}, head([], [b"-m limit"]) + dump([b"-A INPUT -j LOG"]), 0,
+             b"-:%d: the rule gives no verdict, taken out: -m limit\n" % FIRST, input=quiet)
+    lines = [b"-A INPUT -6 -j DROP", b"-A INPUT -p TCP --ipv6", b"-A INPUT -m comment --comment -6", b"-A INPUT -j DROP"]
+    out = b"d:%d: a rule for IPv6 only, taken out: "
+    rows.row("rules for IPv6 alone", ["d"], files(dump(lines)), dump(lines[2:]), 0,
+             out % FIRST + lines[0] + b"\n" + out % (FIRST + 1) + lines[1] + b"\n")
+    rows.row("a long list of what is assumed", ["--assume", "string --string " + "x" * 1000 + "=true", "d"],
+             files(dump([b"-A INPUT -m string --string " + b"x" * 1000 + b" -j a"])),
+             b"# iptsim-fit: for trials; assumed string --string " + b"x" * 950 + b" ..\n" + dump([b"-A INPUT -j a"]), 0,
+             b"d:%d: assumed string --string %s=true, taken out: -m string --string %s\n" % (FIRST, b"x" * 1000, b"x" * 1000))
+    closed, output = os.pipe()
+    os.close(closed)
+    rows.row("a closed pipe", ["d"], files(dump([b"-A INPUT -j a"])), b"", -signal.SIGPIPE, stdout=output)
+    os.close(output)
+
+
+def word_rows(rows):
+    """Words of the line, names of files, and what can't be read."""
+    good = files(dump([b"-A INPUT -p TCP"]))
+    usage = b"usage: fit [-h] [--assume WORDS=VALUE].. [--noflush] [--services FILE] [--protocols FILE] FILE..\nfit: error: "
+    rows.row("no words", [], {}, b"", 2, usage + b"the following arguments are required: FILE\n")
+    rows.row("a missing file", ["nothing"], good, b"", 2, b"fit: cannot read nothing: No such file or directory\n")
+    for option in ("--services", "--protocols"):
+        rows.row("a missing list", [option, "nothing", "d"], good, b"", 2, b"fit: cannot read nothing: No such file or directory\n")
+    rows.row("an odd name", ["--", b"-\xff"], {b"-\xff".decode(errors="surrogateescape"): good["d"]}, dump([b"-A INPUT -p 6"]), 0,
+             b"-\xff:%d: protocol: -p TCP -> -p 6\n" % FIRST)
+    with open("/dev/full", "wb") as full:
+        rows.row("a full device", ["d"], files(dump([])), b"", 2, b"fit: output failed\n", stdout=full)
+    why = b"fit: cannot run /nothing: No such file or directory; IPTSIM has to name the program\n"
+    rows.row("no program", ["d"], good, b"", 2, why, env=dict(rows.environment, IPTSIM="/nothing"))
+    for kind, option in (("port", b"--dport"), ("protocol", b"-p")):
+        for name, number in usual_entry(kind):
+            rule = b"-A INPUT -p tcp --dport " if kind == "port" else b"-A INPUT -p "
+            rows.row(f"the machine's own {kind}s", ["d"], files(dump([rule + name])), dump([rule + number]), 0,
+                     b"d:%d: %s: %s %s -> %s %s\n" % (FIRST, kind.encode(), option, name, option, number))
+
+
+def usual_entry(kind):
+    """A name of the machine's own list with its number, which the program doesn't know, in a list; an empty one where there is none."""
+    path = "/etc/services" if kind == "port" else "/etc/protocols"
+    if not os.path.exists(path):
+        return []
+    with open(path, "rb") as file:
+        entries = [line.split()[:2] for line in file if line[:1].isalpha() and len(line.split()) > 1]
+    if kind == "port":
+        return [(name, port.split(b"/")[0]) for name, port in entries if port.endswith(b"/tcp")][:1]
+    return [(name, number) for name, number in entries if name in (b"pim", b"ipip", b"egp", b"ipencap")][:1]
+
+
+def main(program):
+    rows = Rows("fit", program)
+    spelling_rows(rows)
+    quiet_rows(rows)
+    assumption_rows(rows)
+    never_rows(rows)
+    deletion_rows(rows)
+    file_rows(rows)
+    everyday_rows(rows)
+    word_rows(rows)
+    rows.end()
+
+
+if __name__ == "__main__":
+    main(sys.argv[1])

@@ -1,0 +1,1 @@
+"""What both programs cost: instructions, writes, steps and memory."""

@@ -1,0 +1,1 @@
+"""Input that is cut, and devices that fail."""

@@ -1,0 +1,66 @@
+"""tests/run devices/stalled PROGRAM: runs a session of the program whose first write fails, on a device that takes what is written after it.
+
+The device is a socket that is full: a write to it fails after some seconds. Once the program has ended, or has waited longer
+than that, the socket is emptied. What a failed write left may not be written again, so nothing comes after what filled it.
+"""
+
+import array
+import fcntl
+import socket
+import struct
+import subprocess
+import sys
+import termios
+import time
+
+# After how many seconds a write fails, and after how many the socket is emptied at the latest.
+FAILS, EMPTIED = 4, 6
+
+
+def fill(device):
+    """Fills a socket, and returns how many bytes that took."""
+    count = 0
+    device.setblocking(False)
+    for size in (4096, 1):
+        try:
+            while True:
+                count += device.send(b"." * size)
+        except BlockingIOError:
+            pass
+    device.setblocking(True)
+    return count
+
+
+def has_read(pipe):
+    """Whether all that was written to a pipe was read."""
+    left = array.array("i", [0])
+    fcntl.ioctl(pipe, termios.FIONREAD, left)
+    return left[0] == 0
+
+
+def main(program):
+    reader, device = socket.socketpair()
+    held = fill(device)
+    device.setsockopt(socket.SOL_SOCKET, socket.SO_SNDTIMEO, struct.pack("ll", FAILS, 0))
+    run = subprocess.Popen([program, "session"], stdin=subprocess.PIPE, stdout=device, stderr=subprocess.PIPE)
+    device.close()
+    run.stdin.write(b"iptables-save\n")
+    run.stdin.flush()
+    while not has_read(run.stdin) and run.poll() is None:
+        time.sleep(0.01)
+    try:
+        run.wait(EMPTIED)
+    except subprocess.TimeoutExpired:
+        pass
+    written = bytearray()
+    while part := reader.recv(65536):
+        written += part
+    _, errors = run.communicate()
+    if len(written) != held:
+        raise SystemExit(f"stalled: after a failed write the program wrote {bytes(written[held:])}")
+    if run.returncode != 1 or errors != b"iptsim: output failed\n":
+        raise SystemExit(f"stalled: the program ended with status {run.returncode} and wrote {errors}")
+
+
+if __name__ == "__main__":
+    main(sys.argv[1])

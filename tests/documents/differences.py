@@ -1,0 +1,172 @@
+"""tests/run documents/differences PROGRAM: runs each row of docs/differences.tsv on PROGRAM.
+
+The file says at its top how a row is read. What stands under `given` is given to the program, and its answer has to be what stands under
+`iptsim`. What stands in backquotes under `instead` has to be accepted, and rules there to be listed as they stand. The column `iptables`
+is not run.
+
+A row that can't be read is refused, with its line; wrong answers are planted beside the first row of each theme, and malformed rows in
+the file: they have to be found, or the check itself is at fault.
+
+It prints how many runs and rows were as expected, and ends with 0; or it says which rows aren't as the file says, each with its line,
+and ends with 1. Without a program that can be run it ends with 2.
+"""
+import os
+import re
+import subprocess
+import sys
+from concurrent.futures import ThreadPoolExecutor
+
+from tests.shared.differences import COLUMNS, DOCUMENT, Malformed, is_command, read, rows_of, session_line
+
+EMPTY_LISTING = "*filter\n:INPUT ACCEPT [0:0]\n:FORWARD ACCEPT [0:0]\n:OUTPUT ACCEPT [0:0]\nCOMMIT\n"
+TOLD = re.compile(r"line ([0-9]+): ([A-Z][0-9]+) .*")
+OPTIONS = ("--noflush", "--test")
+# Columns that make a row malformed, by what is put in their place.
+MALFORMED = (("theme", ""), ("form", "table"), ("given", "-j DROP"), ("given", "`-j DROP"), ("iptsim", ""), ("iptsim", "refused"),
+             ("instead", "`-j DROP"), ("iptables", "a\tcolumn too many"))
+
+
+def run(program, words, lines, end="\n"):
+    """The status of a run on these lines, and the lines that it wrote."""
+    ended = subprocess.run([program] + words, input=("\n".join(lines) + end).encode(), stdout=subprocess.PIPE, timeout=60)
+    return ended.returncode, ended.stdout.decode(errors="replace").split("\n")[:-1]
+
+
+def listed(entry):
+    """A line of the listing: an entry that is a rule alone stands in INPUT."""
+    return entry if entry.startswith((":", "-A ")) else "-A INPUT " + entry
+
+
+def beyond_empty(lines):
+    """The lines of the last listing that an empty table's doesn't have."""
+    if "*filter" in lines:
+        lines = lines[len(lines) - 1 - lines[::-1].index("*filter"):]
+    return [line for line in lines if line not in EMPTY_LISTING.split("\n")]
+
+
+def answer_of(status, written, first):
+    """The answer as text: a fault and its line, counted from the first that is given, or what a listing or reply has."""
+    faults = [TOLD.fullmatch(line) for line in written]
+    if any(faults):
+        told = ["%s at line %d" % (fault[2], int(fault[1]) - first) for fault in faults if fault]
+        return told if status else ["status 0 with a fault"]
+    return beyond_empty(written) if status == 0 else ["status %d without a fault" % status]
+
+
+def answer_to_session(program, entries):
+    lines = [session_line(entry) for entry in entries]
+    if lines[-1].startswith("packet"):
+        status, written = run(program, ["session"], lines)
+        return answer_of(status, written, 0)[-1:]
+    status, written = run(program, ["session"], lines + ["iptables-save"])
+    return answer_of(status, written, 0)
+
+
+def answer_to_file(program, entries, newline):
+    words = ["restore"] + [entry for entry in entries if entry in OPTIONS]
+    lines = [entry for entry in entries if entry not in OPTIONS]
+    has_section = any(re.match(r'[ "]*\*', line) for line in lines)
+    wrapped = lines if has_section else ["*filter"] + lines + ["COMMIT"]
+    status, written = run(program, words, wrapped, "\n" if newline else "")
+    return answer_of(status, written, 0 if has_section else 1)
+
+
+def answer(program, row):
+    if row.form == "file":
+        return answer_to_file(program, row.entries("given"), "without a newline" not in row.given)
+    return answer_to_session(program, row.entries("given"))
+
+
+def wanted(row):
+    """The answer that the file has for a row."""
+    entries, given = row.entries("iptsim"), row.entries("given")
+    if row.is_fault():
+        lines = [entry for entry in given if entry not in OPTIONS]
+        named = re.search(r" at line ([0-9]+)", row.iptsim)
+        return ["%s at line %d" % (entries[0], int(named[1]) if named else len(lines))]
+    if given[-1].startswith("packet"):
+        return entries
+    return [listed(entry) for entry in entries]
+
+
+def trouble_of_instead(program, row):
+    """What is wrong with the lines that are to be written in place of the last that is given."""
+    before, instead = row.entries("given")[:-1], row.entries("instead")
+    got = answer_to_session(program, before + instead)
+    if any(re.match(r"[A-Z][0-9]+ at line|status", line) for line in got):
+        return "what stands for it is answered by %s" % shown(got)
+    if not before and not any(is_command(entry) and not entry.startswith("-A ") for entry in instead):
+        if got != [listed(entry) for entry in instead]:
+            return "what stands for it is listed as %s" % shown(got)
+    return None
+
+
+def shown(lines):
+    text = " / ".join(lines) or "accepted"
+    return text if len(text) < 200 else text[:200] + ".."
+
+
+def troubles_of(program, row):
+    """What isn't as the file says, and how many runs were made."""
+    got, due, given = answer(program, row), wanted(row), shown(row.entries("given"))
+    troubles = [] if got == due else ["%s is answered by %s, and not by %s" % (given, shown(got), shown(due))]
+    if not row.entries("instead"):
+        return troubles, 1
+    trouble = trouble_of_instead(program, row)
+    return troubles + ([given + ": " + trouble] if trouble else []), 2
+
+
+def is_planted_found(program, row):
+    """Whether wrong answers in place of the row's own are found: a fault, and a listing."""
+    return all(troubles_of(program, row._replace(iptsim=wrong))[0] for wrong in ("`F4`", "`-A OUTPUT -p 99`"))
+
+
+def result_of(program, row, is_first):
+    """What isn't as the file says of a row, each with its line, and how many runs were made of it."""
+    found, runs = troubles_of(program, row)
+    if is_first and not found and not is_planted_found(program, row):
+        found = ["the planted answer was not found"]
+    return ["%s:%d: %s" % (DOCUMENT, row.number, text) for text in found], runs
+
+
+def malformed_taken(text):
+    """The malformed rows that are planted before the last row of the file and taken for a row."""
+    lines = text.split("\n")
+    taken = []
+    for column, wrong in MALFORMED:
+        cells = lines[-2].split("\t")
+        cells[COLUMNS.index(column)] = wrong
+        try:
+            rows_of("\n".join(lines[:-2] + ["\t".join(cells)] + lines[-2:]))
+            taken.append("%s: '%s' under %s is taken" % (DOCUMENT, wrong, column))
+        except Malformed:
+            pass
+    return taken
+
+
+def main(program):
+    text = read()
+    try:
+        rows = rows_of(text)
+    except Malformed as trouble:
+        for line in str(trouble).split("\n"):
+            print("differences: " + line, file=sys.stderr)
+        return 1
+    groups = [(row.theme, row.form) for row in rows]
+    is_first = [group not in groups[:place] for place, group in enumerate(groups)]
+    with ThreadPoolExecutor(os.cpu_count()) as pool:
+        results = list(pool.map(result_of, [program] * len(rows), rows, is_first))
+    troubles = [trouble for found, _ in results for trouble in found] + malformed_taken(text)
+    for trouble in troubles:
+        print("differences: " + trouble, file=sys.stderr)
+    if troubles:
+        return 1
+    print("differences: %d runs were as expected, of %d rows" % (sum(runs for _, runs in results), len(rows)))
+    return 0
+
+
+if __name__ == "__main__":
+    if len(sys.argv) < 2 or not os.access(sys.argv[1], os.X_OK):
+        print("differences: call it as tests/run documents/differences PROGRAM, with a program that can be run", file=sys.stderr)
+        sys.exit(2)
+    sys.exit(main(os.path.abspath(sys.argv[1])))

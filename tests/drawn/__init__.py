@@ -1,0 +1,1 @@
+"""Rules, packets, sessions and dumps that are drawn at random by a seed."""

@@ -1,0 +1,1 @@
+"""Lines of dumps by the table of options, for tests/answers/apart."""

@@ -1,0 +1,193 @@
+"""Lines of rules that are drawn at random by the table of options, each with what is to be made of it: its own words, and its conditions."""
+
+import collections
+
+from commands import extensions
+
+# A condition: the name of its match, its words after the name, whether it is inverted, and how long an answer lasts.
+Condition = collections.namedtuple("Condition", "name words inverted lasting")
+# A part: whose its option is, the option, the name by which it is written, its values, whether `!` stands before it, and the words that are
+# due where the program reads it.
+Part = collections.namedtuple("Part", "owner option name values inverted own")
+# A line: its words, those that are due, its conditions, and the target's row.
+Line = collections.namedtuple("Line", "words own conditions target")
+
+# Values that stand anywhere, some of them like options.
+WORDS = (b"7", b"eth0", b"3/min", b"LOCAL", b"a b", b"-m", b"--limit", b"!", b"", b'say "x"',
+         b"back\\slash", b"\\", b"10.0.0.0/8", b"x\ty", b"-j", b"DROP")
+# Values of ports, with what is due in their place; nothing where a name isn't known.
+PORTS = ((b"22", b"22"), (b"ssh", b"22"), (b"http:https", b"80:443"), (b"1:", b"1:"), (b":ntp", b":123"), (b"22,domain,80:https", b"22,53,80:443"),
+         (b"nobody-knows", None), (b"22,nobody-knows", None), (b"ssh:nobody-knows", None), (b"", b""), (b"80 ", b"80 "))
+TYPES = ((b"8", b"8"), (b"3/1", b"3/1"), (b"echo-request", b"echo-request"), (b"any", b"any"), (b"router-advertisement", b"9"),
+         (b"network-unknown", b"3/6"), (b"no-such-type", None))
+PROTOCOLS = ((b"tcp", b"tcp"), (b"6", b"6"), (b"udp", b"udp"), (b"17", b"17"), (b"icmp", b"icmp"), (b"sctp", b"sctp"), (b"dccp", b"dccp"),
+             (b"esp", b"esp"), (b"ah", b"ah"), (b"all", b"all"), (b"gre", b"gre"), (b"ipencap", None), (b"TCP", None))
+READ = {"port": PORTS, "ports": PORTS, "type": TYPES, "protocol": PROTOCOLS}
+BEGINS = (b"-m", b"-j", b"-g")
+
+
+def asks(part):
+    """Whether a part asks something by itself."""
+    return part.option.place in "+="
+
+
+def is_opposed(part):
+    """Whether `!` before a part asks the opposite: of a port that the program doesn't read it doesn't, since a later fragment has none."""
+    return part.option.place == "+" and part.option.names[0] not in part.owner.unopposed
+
+
+class Writer:
+    """Draws a line, part by part."""
+
+    def __init__(self, draw):
+        self.draw = draw
+        # The extensions that the line has begun, the newest last, each with its parts; the parts; and what stands for the protocol's match.
+        self.begun, self.parts, self.protocol = [], [], None
+
+    def values(self, option):
+        """Values for an option, with the words that are due in their place; None where the program doesn't read them."""
+        if option.place == "=" and option.values and option.values[0] in READ:
+            given, due = self.draw.choice(READ[option.values[0]])
+            return [given], None if due is None else [due]
+        values = [self.draw.choice(WORDS) for _ in option.values]
+        return values, values if option.place == "=" else None
+
+    def add(self, owner, option, inverted):
+        values, own = self.values(option)
+        part = Part(owner, option, self.draw.choice(option.names), values, inverted, own)
+        self.parts.append(part)
+        return part
+
+    def begin(self, extension, option, name):
+        """Begins a match, or names a target or a chain."""
+        self.parts.append(Part(None, option, self.draw.choice(option.names), [name], False, None))
+        if extension:
+            self.begun.append((extension, len(self.parts) - 1))
+
+    def owner_of(self, name):
+        """Whose an option of this name is: the newest that has it, and else the protocol's."""
+        found = [extension for extension, _ in reversed(self.begun) if extensions.exact(name, [extension])]
+        if found:
+            return found[0]
+        return self.protocol if self.protocol and extensions.exact(name, [self.protocol]) else None
+
+    def option(self):
+        """An option of a match or target that has begun, or of the protocol's match."""
+        owners = [extension for extension, _ in self.begun] + ([self.protocol] if self.protocol else [])
+        owners = [owner for owner in owners if owner.options]
+        if not owners:
+            return
+        owner = self.draw.choice(owners)
+        option = self.draw.choice(owner.options)
+        name = self.draw.choice(option.names)
+        whose = self.owner_of(name)
+        option = extensions.exact(name, [whose])[1]
+        values, own = self.values(option)
+        self.parts.append(Part(whose, option, name, values, self.draw.random() < 0.3, own))
+
+    def rule_option(self):
+        """An option of the rule itself."""
+        option = self.draw.choice([option for option in extensions.RULE.options if option.names[0] not in BEGINS])
+        part = self.add(extensions.RULE, option, self.draw.random() < 0.2)
+        if option.names[0] == b"-p" and not part.inverted:
+            found = [row for row in extensions.MATCHES.values() if part.values[0] in row.protocols]
+            self.protocol = found[0] if found else self.protocol
+
+    def match(self, extension=None):
+        extension = extension or self.draw.choice(list(extensions.MATCHES.values()))
+        self.begin(extension, extensions.exact(b"-m", [extensions.RULE])[1], extension.name)
+
+    def target(self, extension=None):
+        """A target that doesn't decide, or a chain."""
+        rows = [row for row in extensions.TARGETS.values() if row.kind != "decides"]
+        extension = extension or self.draw.choice([*rows, None])
+        if extension is None and self.draw.random() < 0.3:
+            self.begin(None, extensions.exact(b"-g", [extensions.RULE])[1], b"chain")
+        else:
+            self.begin(extension, extensions.exact(b"-j", [extensions.RULE])[1], extension.name if extension else b"chain")
+        return extension
+
+    def line(self):
+        return Line(words_of(self.parts), own_words(self.parts), conditions_of(self.parts), self.named())
+
+    def named(self):
+        """The last target that is named by `-j`."""
+        names = [part.values[0] for part in self.parts if part.option.names[0] == b"-j"]
+        return extensions.TARGETS.get(names[-1]) if names else None
+
+
+def words_of(parts):
+    return [word for part in parts for word in ([b"!"] if part.inverted else []) + [part.name, *part.values]]
+
+
+def parts_of(match, at, parts):
+    """The parts of a match that begins at a place, up to where it begins anew."""
+    found = []
+    for part in parts[at:]:
+        if found_begin(part) == match.name and part is not parts[at]:
+            break
+        if part.owner is match:
+            found.append(part)
+    return found
+
+
+def found_begin(part):
+    """The name of the match that a part begins."""
+    return part.values[0] if part.option.names[0] == b"-m" else None
+
+
+def begins_own(at, parts):
+    """Whether `-m` or `-j` at a place is the program's."""
+    part = parts[at]
+    if part.option.names[0] == b"-m":
+        match = extensions.MATCHES[part.values[0]]
+        of_match = parts_of(match, at, parts)
+        goes = "alone" not in match.notes and of_match and not any(each.own is not None for each in of_match)
+        return extensions.is_known(match) and not goes
+    target = extensions.TARGETS.get(part.values[0])
+    return part.option.names[0] == b"-g" or not target or target.kind != "passes" or extensions.is_known(target)
+
+
+def own_words(parts):
+    found = []
+    for at, part in enumerate(parts):
+        if part.owner is None and begins_own(at, parts):
+            found += [part.name, *part.values]
+        elif part.owner is not None and part.own is not None:
+            found += ([b"!"] if part.inverted else []) + [part.name, *part.own]
+    return found
+
+
+def condition_of(match, parts):
+    """The condition that a match asks by some parts; None where it always holds."""
+    asking = [part for part in parts if asks(part)]
+    single = len(asking) == 1
+    opposed = single and is_opposed(asking[0])
+    turned = any(part.option.place == "^" for part in parts)
+    inverted = (opposed and asking[0].inverted) != turned
+    if single and asking[0].option.names[0] in match.always and not inverted:
+        return None
+    words = [word for part in parts if part.option.place != "^"
+             for word in ([b"!"] if part.inverted and not (opposed and asks(part)) else []) + [part.name, *part.values]]
+    return Condition(match.name, words, inverted, match.notes[0] if not extensions.is_known(match) else "place")
+
+
+def condition_at(at, parts):
+    """The condition of the match that begins at a place, by `-m` or by the protocol, or of a protocol that isn't known."""
+    part = parts[at]
+    if part.option.values == ("protocol",) and part.owner is extensions.RULE and part.own is None:
+        return Condition(b"protocol", part.values, part.inverted, "text")
+    name = found_begin(part)
+    if part.owner is not None and part.owner.kind == "match":
+        before = [each for each in parts[:at] if each.owner is part.owner or found_begin(each) == part.owner.name]
+        name = part.owner.name if not before else None
+    if not name:
+        return None
+    match = extensions.MATCHES[name]
+    of_match = parts_of(match, at, parts)
+    foreign = any(each.own is None for each in of_match)
+    return condition_of(match, of_match) if foreign or not extensions.is_known(match) else None
+
+
+def conditions_of(parts):
+    return [found for found in (condition_at(at, parts) for at in range(len(parts))) if found]

@@ -1,0 +1,61 @@
+"""What the plain model of tests/model says of packets that walk a ruleset."""
+
+import collections
+
+from tests.model.matching import matches
+from tests.model.packets import packet_of
+from tests.model.session import Session, loaded, whole
+from tests.model.table import walk
+from tests.model.words import words_of
+
+# The names of the rules that are on the walk, the verdict, and the name of the rule that decides, or "the policy".
+Walk = collections.namedtuple("Walk", "trail verdict by")
+
+
+def packets_of(lines):
+    """The packets that lines describe."""
+    return [packet_of(words_of(line.encode())[1:]) for line in lines]
+
+
+def table_of(ruleset):
+    """The table that a ruleset's file leaves."""
+    table, said, _ = loaded(ruleset.text().encode())
+    if said:
+        raise ValueError(f"the model refuses a line: {said.decode()}")
+    return table
+
+
+def walks(ruleset, packets):
+    """The walks of packets through a ruleset."""
+    table, found = table_of(ruleset), []
+    for packet in packets:
+        steps, end = walk(table, packet)
+        trail = [f"{chain.decode()} {number}" for chain, number in steps]
+        verdict, _, by = end.decode().partition(" by ")
+        found.append(Walk(trail, verdict, "the policy" if by == "policy" else trail[-1]))
+    return found
+
+
+def reply(ruleset, line):
+    """The reply of a session to the line of a packet."""
+    return whole(Session(table_of(ruleset)).line(line.encode())).decode()
+
+
+def verdict_in(said):
+    """The verdict of such a reply."""
+    return said.splitlines()[-1].removeprefix("verdict ").partition(" by ")[0]
+
+
+def matched(ruleset, rule, packets):
+    """Of each packet whether a rule of a ruleset matches it."""
+    words = rule.split()[2:]
+    if words[-2:-1] in (["-j"], ["-g"]):
+        words = words[:-2]
+    alone, = table_of(ruleset._replace(chains=[], rules=[" ".join(["-A INPUT", *words])])).rules(b"INPUT")
+    return [matches(alone, packet) for packet in packets]
+
+
+def dead_of(ruleset, found):
+    """The names of the rules that are on none of some walks, in their order."""
+    met = set().union(*(each.trail for each in found))
+    return [name for name in ruleset.named() if name not in met]

@@ -1,0 +1,1 @@
+"""Allocations that are refused, and calls that take no memory."""

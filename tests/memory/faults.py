@@ -1,0 +1,422 @@
+"""tests/run memory/faults PROGRAM [--all | --none] [--jobs N] [WORD..]: plays the cases of crates/cases/data on the program with each allocation
+of a case refused in turn, one in each run, and compares what it writes and its status with the plain model of tests/model, to the byte.
+
+PROGRAM is the proved iptsim, into which tests/memory/refusing/refuse.c is preloaded; or one that `tools/refusing iptsim 123456789 PROGRAM session` built
+without a proof, in which the number stands, and each run has another in its place.
+
+A case is played as the lines of one session; restores with their options stand among them. From the program's output comes the line
+that was refused memory, `line K: M0 no memory`; the model is told to refuse memory in line K, and says what all lines are answered by
+then: a refused line changes nothing, in a restore it ends the restore, and in a line that takes no memory none can be refused.
+After the lines of a case come, in the same run, `lines` of each chain; line K once more, with its whole restore where it stands in one; and
+what shows the table: `iptables -S`, `lines` of each chain, and `-F` and `-X` of each. So half an edit that is kept shows, and so does a line that is
+refused again. A case whose last run is a restore is also played by `restore`, and one that restores first by `--load`.
+
+A run in which memory is refused before any line is served writes nothing but `iptsim: no memory`, with status 4, or it does without.
+Once lines are served none does without the memory that it takes, but in large tables. In the first run of a case none is refused,
+and of the case as it stands in its file the model gives the output and the status that stand there.
+
+Lines that promise to take no memory but that of their words take it as often as a line of as many words and bytes that asks for
+nothing: in a small table and in a larger one. Blank lines, comments and lines that are too long take none.
+
+Without --all it plays cases in which each kind of line, command, option, match, target and fault comes twice at least, if it comes
+in two cases of 200 lines at most: the same each time. With --all it plays all; of a longer case it doesn't refuse each allocation, but
+one of so many that some 40 runs are made, and of its table it shows what `-S` lists. With --none it plays all, and refuses no allocation. With words it plays the cases whose
+file or name has them. It doesn't refuse two allocations in one run, nor those of words that name no task, which tests/memory/starved does.
+
+It ends with 1 at the first run that isn't as is due, and says which.
+"""
+
+import argparse
+import collections
+import concurrent.futures
+import re
+import sys
+
+from tests.memory.refusing.program import RefusingProgram
+from tests.model.session import answer
+from tests.model.words import lines_of
+from tests.shared.case_files import all_cases
+from tests.shared.played import Play, Told, chosen, model_differs, plays_of, size_of, statements
+
+# Which cases are chosen: each kind of line comes in so many, of so many bytes and of LONG lines at most.
+LEAST, MOST, LONG = 2, 25_000, 200
+# A case of so many lines has each allocation refused. A longer one is played so often, and one that is longer than LONG so often.
+WHOLE, RUNS, RUNS_OF_LONG = 60, 200, 40
+MOST_OF_A_LINE = 1000
+REFUSED = re.compile(rb"^line ([0-9]+): M0 no memory$", re.MULTILINE)
+BEFORE_ANY_LINE = b"", b"iptsim: no memory\n", 4
+# So many runs in which nothing is refused end the runs of a case that can't show by its output that it is over.
+UNREFUSED = 8
+
+
+# Lines that take the memory of their words alone, or of their words and a rule, each beside another that takes as much and asks
+# nothing of the table: edits that take memory back or need none, rules that bring no new cut where there is room, listings, and the
+# opening of a restore, packets that no rule matches. They come after so many rules of INPUT, each with cuts of its own, and two user
+# chains, of which `b` is named.
+FRUGAL = [
+    (b"iptables -D INPUT 1", b"iptabels -D INPUT 1"),
+    (b"iptables -D INPUT 9", b"iptabels -D INPUT 9"),
+    (b"iptables -D INPUT -s 1.1.1.1 -j DROP", b"iptables -D INPUX -s 1.1.1.1 -j DROP"),
+    (b"iptables -C INPUT -s 1.1.1.1 -j DROP", b"iptables -C INPUX -s 1.1.1.1 -j DROP"),
+    (b"iptables -A INPUT", b"iptables -A INPUX"),
+    (b"iptables -A INPUT -s 1.1.1.1 -j DROP", b"iptables -A INPUX -s 1.1.1.1 -j DROP"),
+    (b"iptables -I INPUT -s 1.1.1.1 -j a", b"iptables -I INPUX -s 1.1.1.1 -j a"),
+    (b"iptables -R INPUT 1", b"iptables -R INPUX 1"),
+    (b"iptables -F INPUT", b"iptabels -F INPUT"),
+    (b"iptables -F", b"iptabels -F"),
+    (b"iptables -P INPUT DROP", b"iptabels -P INPUT DROP"),
+    (b"iptables -X a", b"iptabels -X a"),
+    (b"iptables -X b", b"iptabels -X b"),
+    (b"iptables -X", b"iptabels -X"),
+    (b"iptables -E b c", b"iptabels -E b c"),
+    (b"iptables -S", b"iptabels -S"),
+    (b"iptables -S INPUT", b"iptabels -S INPUT"),
+    (b"iptables-save", b"iptables-savy"),
+    (b"iptables-restore <<E", b"iptables-restorf <<E"),
+    (b"lines INPUT", b"linex INPUT"),
+    (b"packet INPUT src=1.1.1.1 dst=1.1.1.1", b"packed INPUT src=1.1.1.1 dst=1.1.1.1"),
+    (b"packet INPUT src=9.1.1.1 dst=1.1.1.1 proto=47", b"packed INPUT src=9.1.1.1 dst=1.1.1.1 proto=47"),
+]
+RULES_BEFORE = 1, 70
+
+# Lines that take no memory at all.
+TAKE_NONE = b"", b" \t", b"# x", b"x" * 10_241, b"#" * 10_241
+
+
+# A table with rules of each match and target, their options and inversions, which a restore copies: in the cases most tables that are
+# copied have few rules. The interfaces of FORWARD share a cut.
+COPIED = Play("a table with all kinds of rules, copied", ("session",), rb"""iptables -N a
+iptables -N b
+iptables -A INPUT ! -s 10.0.0.0/8 -i eth+ -p tcp -m tcp --dport 22:80 --tcp-flags SYN,ACK SYN -j a
+iptables -A a -p icmp -m icmp ! --icmp-type 8/0 -m comment --comment "it's a \"comment\"" -j REJECT --reject-with icmp-net-unreachable
+iptables -A a -p udp -m multiport ! --ports 5,7:9,1 -m ttl --ttl-lt 5 -j LOG --log-prefix "a b" --log-level 7 --log-uid
+iptables -A a -m iprange ! --src-range 1.1.1.1-2.2.2.2 -m conntrack --ctstate NEW,DNAT -m state ! --state NEW -g b
+iptables -A FORWARD -i eth+
+iptables -A FORWARD -i eti+ -f
+iptables -A FORWARD -i lo -j b
+iptables -R FORWARD 3 -i lo+ -p udp -g a
+iptables-restore -n <<END
+*filter
+-A b ! -f -j RETURN
+COMMIT
+END
+iptables-save
+""", None)
+
+
+class Difference(Exception):
+    """A run that isn't as is due."""
+
+
+class SessionLines:
+    """A case as lines of one session: what is given where one of them is refused, and what is due."""
+
+    def __init__(self, play):
+        self.words, self.file = play.words, None
+        self.lines = lines_of(play.data)
+        self.statements = statements(self.lines)
+
+    def told(self, again, marks):
+        """The session with marks; after its lines comes line `again`, if it is a number, and what shows the table."""
+        told = Told(marks)
+        told.say(self.lines)
+        told.close()
+        if again:
+            told.show_lines(len(self.lines) > LONG)
+            told.say(self.statements[again - 1])
+            told.close()
+        told.show(len(self.lines) > LONG)
+        return told
+
+    def given(self, again):
+        """The input: what is shown is that of the session in which the line is refused."""
+        return self.told(again, {again}).data()
+
+    def due(self, again, line):
+        """What is due where a line is refused, or none."""
+        told = Told({line})
+        told.say(lines_of(self.given(again)))
+        return told.due()
+
+    def is_over(self, line):
+        """Whether the refused line is one after those of the case."""
+        return line is not None and line > len(self.lines)
+
+    def may_be_over(self):
+        """Whether nothing may be refused though lines are served: in large tables a row is moved where there is no memory for more room."""
+        return len(self.lines) > LONG
+
+
+class WholeInput:
+    """A case as the program's own restore, or with a file that is loaded."""
+
+    def __init__(self, play):
+        self.words, self.file, self.data = play.words, play.file, play.data
+        self.lines = lines_of(play.data + (play.file or b""))
+
+    def given(self, again):
+        return self.data
+
+    def due(self, again, line):
+        """The refused line is one of the input, or of the file if its number is below zero."""
+        if line is None:
+            return answer(self.words, self.data, self.file)
+        return answer(self.words, self.data, self.file, {line}, {-line})
+
+    def is_over(self, line):
+        return False
+
+    def may_be_over(self):
+        """After its last allocation nothing is refused any more."""
+        return True
+
+
+class Refusals:
+    """The runs of one case, each with another allocation refused, from the first on that is taken after the program's start."""
+
+    def __init__(self, program, play, first):
+        self.program, self.name, self.first = program, play.name, first
+        self.played = SessionLines(play) if play.words == ("session",) and play.file is None else WholeInput(play)
+        self.last, self.refused, self.without, self.unrefused = None, collections.Counter(), 0, 0
+        self.data, self.dues = self.played.given(None), {}
+
+    def give(self, line):
+        """From now on this line comes once more."""
+        self.last, self.data, self.dues = line, self.played.given(line), {}
+
+    def due(self, line):
+        """What is due where this line is refused, or none."""
+        if line not in self.dues:
+            self.dues[line] = self.played.due(self.last, line)
+        return self.dues[line]
+
+    def run(self):
+        """What came of the input, and the line that it says was refused: below zero where it was one of the file."""
+        came = self.program.run(self.played.words, self.data, self.played.file)
+        for output, sign in ((came[0], 1), (came[1], -1)):
+            found = REFUSED.search(output)
+            if found:
+                return came, sign * int(found[1])
+        return came, None
+
+    def compare(self, number, came, line):
+        if came != self.due(line):
+            raise Difference(self.told(number, came, self.due(line)))
+
+    def told(self, number, came, due):
+        refused = f"allocation {number} refused" if number else "no allocation refused"
+        parts = [f"faults: {self.name}: {refused}, {' '.join(self.played.words)}"]
+        for head, each in (("input", self.data), ("what came", came[0] + came[1]), ("what is due", due[0] + due[1])):
+            parts += [f"== {head}"] + ["  " + repr(line)[2:-1][:400] for line in each.split(b"\n")]
+        return "\n".join([*parts, f"== statuses: {came[2]} came, {due[2]} is due"])
+
+    def refuse(self, number):
+        """A run with an allocation refused. Whether the case is over. Each line takes memory twice at least, for its words: where it is
+        refused again, it comes once more after the others."""
+        self.program.refuse(number)
+        came, line = self.run()
+        if came == BEFORE_ANY_LINE and (self.last is None or self.last < 0):
+            return False
+        self.compare(number, came, line)
+        if self.played.is_over(line):
+            return True
+        self.count(number, line)
+        if line is not None and line != self.last:
+            self.give(line)
+        return self.unrefused >= (UNREFUSED if self.refused else 10 * UNREFUSED)
+
+    def count(self, number, line):
+        """Counts a run by the line that was refused. Once lines are served, none does without the memory that it takes."""
+        if line is not None:
+            self.refused[line], self.unrefused = self.refused[line] + 1, 0
+        else:
+            self.without, self.unrefused = self.without + 1, self.unrefused + 1
+            if self.last is not None and not self.played.may_be_over():
+                raise Difference(f"faults: {self.name}: allocation {number} refused, {' '.join(self.played.words)}: a line takes memory, and goes "
+                                 f"on without it: line {self.last} or a later one")
+
+    def step(self):
+        """Every how-manieth allocation is refused."""
+        lines = len(self.played.lines)
+        if lines <= WHOLE:
+            return 1
+        return max(1, 10 * lines // (RUNS if lines <= LONG else RUNS_OF_LONG))
+
+    def is_in_start(self, number):
+        """Whether an allocation is taken before any line."""
+        self.program.refuse(number)
+        return self.run()[0] == BEFORE_ANY_LINE
+
+    def leave_start_out(self):
+        """Finds the last allocation of the program's start, by halves, and begins there."""
+        below, number = 1, 64
+        while self.is_in_start(number):
+            below, number = number, 2 * number
+        while number - below > 1:
+            middle = (below + number) // 2
+            below, number = (middle, number) if self.is_in_start(middle) else (below, middle)
+        self.first = below
+
+    def none(self):
+        """The run of the case in which nothing is refused."""
+        self.program.refuse_none()
+        came, line = self.run()
+        self.compare(None, came, line)
+
+    def all(self):
+        """All runs of the case."""
+        self.none()
+        number, step = self.first, self.step()
+        while not self.refuse(number):
+            if self.last is None:
+                self.first = number
+            number += step
+        if not self.refused and any(self.played.due(None, number) != self.due(None) for number in range(1, len(self.played.lines) + 1)):
+            raise Difference(f"faults: {self.name}: no allocation was refused")
+
+
+def refuse_all(path, plays):
+    """The runs of some cases: how many there were, how many lines were refused, how many runs did without; and the first difference.
+    The program's start takes memory as often for all cases with the same words that load no file: of all but the first its allocations
+    are left out."""
+    program, refused, without, firsts = RefusingProgram(path), 0, 0, {}
+    for play in plays:
+        runs = Refusals(program, play, firsts.get(play.words, 1) if play.file is None else 1)
+        try:
+            if firsts and play.file is None and play.words not in firsts:
+                runs.leave_start_out()
+            runs.all()
+        except Difference as difference:
+            return program.runs, refused, without, str(difference)
+        if play.file is None:
+            firsts[play.words] = runs.first
+        refused, without = refused + sum(runs.refused.values()), without + runs.without - runs.unrefused
+    return program.runs, refused, without, None
+
+
+class Frugal:
+    """How often lines take memory after others."""
+
+    def __init__(self, program, rules):
+        self.program, self.rules = program, rules
+        self.before = [b"iptables -N a", b"iptables -N b", b"iptables -A FORWARD -j b"]
+        self.before += [b"iptables -A INPUT -s 1.1.1.%d -j DROP" % number for number in range(1, rules + 1)]
+        self.place = len(self.before) + 1
+        self.first = self.first_after()
+
+    def refused_line(self, number, line):
+        """The line that is refused, if one is: 0 where none was served."""
+        self.program.refuse(number)
+        output, _, _ = self.program.run(("session",), b"\n".join([*self.before, line, b"iptables -S", b""]))
+        found = REFUSED.search(output)
+        return int(found[1]) if found else None if output else 0
+
+    def is_before(self, number):
+        """Whether an allocation is taken before the line. Of a late one nothing is refused."""
+        refused = self.refused_line(number, b"x")
+        return refused is not None and refused < self.place
+
+    def first_after(self):
+        """The first allocation after the lines before, by halves."""
+        below, number = 0, 64
+        while self.is_before(number):
+            below, number = number, 2 * number
+        while number - below > 1:
+            middle = (below + number) // 2
+            below, number = (middle, number) if self.is_before(middle) else (below, middle)
+        return number
+
+    def count(self, line):
+        """How often a line that comes after them takes memory, whether it says so where that is refused or not."""
+        for count in range(MOST_OF_A_LINE):
+            refused = self.refused_line(self.first + count, line)
+            if refused is not None and refused > self.place:
+                return count
+        raise Difference(f"faults: after {self.rules} rules `{line.decode()}` takes memory {MOST_OF_A_LINE} times and more")
+
+    def compare(self, line, other):
+        taken, due = self.count(line), self.count(other)
+        if taken != due or not due:
+            raise Difference(f"faults: after {self.rules} rules `{line.decode()}` takes memory {taken} times, and `{other.decode()}` {due} times")
+
+    def expect_none(self, line):
+        taken = self.count(line)
+        if taken:
+            raise Difference(f"faults: after {self.rules} rules a line of {len(line)} bytes takes memory {taken} times, and needs none: {line[:20]!r}")
+
+
+def expect_frugal(path):
+    """Compares how often the frugal lines take memory. How many runs that took."""
+    program = RefusingProgram(path)
+    for rules in RULES_BEFORE:
+        frugal = Frugal(program, rules)
+        for line, other in FRUGAL:
+            frugal.compare(line, other)
+        for line in TAKE_NONE:
+            frugal.expect_none(line)
+    return program.runs
+
+
+def play_all(path, plays):
+    """The same without a refusal."""
+    program = RefusingProgram(path)
+    for play in plays:
+        try:
+            Refusals(program, play, 1).none()
+        except Difference as difference:
+            return program.runs, 0, 0, str(difference)
+    return program.runs, 0, 0, None
+
+
+def plays(words, takes_all):
+    """The cases that are to be played, each of which the model answers as its file says."""
+    lines, size = (None, None) if takes_all or words else (LONG, MOST)
+    cases = [case for case in all_cases(words, lines) if size is None or size_of(case) <= size]
+    for case in cases:
+        run = model_differs(case)
+        if run:
+            raise Difference(f"faults: the model doesn't answer the case as its file says: {case.file}: {case.name}, {run.kind}")
+    found = [play for case in cases for play in plays_of(case)]
+    more = [COPIED] if not words or any(word in COPIED.name for word in words) else []
+    return more + (found if takes_all or words else chosen(found, LEAST))
+
+
+def side_by_side(play, program, taken, jobs):
+    """What came of the cases, which are played in so many processes."""
+    if jobs == 1:
+        yield play(program, taken)
+        return
+    with concurrent.futures.ProcessPoolExecutor(jobs) as pool:
+        yield from pool.map(play, [program] * jobs, [taken[at::jobs] for at in range(jobs)])
+
+
+def run_all(given):
+    """Plays the cases, side by side, and says how it went."""
+    taken, total = plays(given.words, given.all or given.none), [0, 0, 0]
+    if not given.words and not given.none:
+        total[0] = expect_frugal(given.program)
+    play = play_all if given.none else refuse_all
+    for *counts, trouble in side_by_side(play, given.program, taken, given.jobs):
+        if trouble:
+            raise Difference(trouble)
+        total = [old + new for old, new in zip(total, counts)]
+    return (f"faults: {len(taken)} cases in {total[0]} runs: {total[1]} times a line was refused memory, and {total[2]} runs did without "
+            "it; all was as is due")
+
+
+def main():
+    reader = argparse.ArgumentParser(prog="faults", usage=__doc__, add_help=False)
+    reader.add_argument("program")
+    reader.add_argument("words", nargs="*")
+    reader.add_argument("--all", action="store_true")
+    reader.add_argument("--none", action="store_true")
+    reader.add_argument("--jobs", type=int, default=1)
+    try:
+        print(run_all(reader.parse_intermixed_args()))
+        return 0
+    except Difference as difference:
+        print(difference, file=sys.stderr)
+        return 1
+
+
+sys.exit(main())

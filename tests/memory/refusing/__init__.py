@@ -1,0 +1,1 @@
+"""A program that is run with one of its allocations refused."""

@@ -1,0 +1,67 @@
+"""A program that is run with one allocation refused."""
+
+import os
+import shutil
+import subprocess
+import tempfile
+
+# What refuses an allocation of a program that it is preloaded into.
+SOURCE = os.path.join(os.path.dirname(os.path.realpath(__file__)), "refuse.c")
+# In a program that tools/refusing built stands the number of the refused allocation, as the four bytes of a comparison with it. Each run
+# has another in its place, since nothing can be preloaded into such a program.
+BUILT_FOR = 123456789
+SIGN = BUILT_FOR.to_bytes(4, "little")
+# Folders above the file that is loaded: a long path takes memory as it is opened.
+DEEP = "x" * 200, "x" * 200
+
+
+def places_of(sign, data):
+    places, at = [], data.find(sign)
+    while at >= 0:
+        places.append(at)
+        at = data.find(sign, at + 1)
+    return places
+
+
+def refuser(folder):
+    """The library that refuses an allocation of the program that it is preloaded into, built in a folder."""
+    library = os.path.join(folder, "refuse.so")
+    subprocess.run([os.environ.get("CC", "cc"), "-O2", "-shared", "-fPIC", "-o", library, SOURCE], check=True)
+    return library
+
+
+class RefusingProgram:
+    """A copy of the program, in a folder of its own that goes with it, and the file that it loads."""
+
+    def __init__(self, path):
+        self.folder = tempfile.TemporaryDirectory()
+        self.path, self.load, self.runs = os.path.join(self.folder.name, "program"), os.path.join(self.folder.name, *DEEP, "file"), 0
+        os.makedirs(os.path.dirname(self.load))
+        shutil.copy(path, self.path)
+        os.chmod(self.path, 0o700)
+        with open(self.path, "rb") as file:
+            self.places = places_of(SIGN, file.read())
+        self.environment = None if self.places else {"LD_PRELOAD": refuser(self.folder.name)}
+
+    def refuse(self, number):
+        """Has the allocation of a number refused in the next runs."""
+        if not self.places:
+            self.environment["REFUSED"] = str(number)
+            return
+        with open(self.path, "r+b") as file:
+            for place in self.places:
+                file.seek(place)
+                file.write(number.to_bytes(4, "little"))
+
+    def refuse_none(self):
+        self.refuse(BUILT_FOR)
+
+    def run(self, words, data, file=None):
+        """What it writes to standard output and to standard error, and its status."""
+        self.runs += 1
+        if file is not None:
+            with open(self.load, "wb") as load:
+                load.write(file)
+            words = (*words, "--load", self.load)
+        ended = subprocess.run([self.path, *words], input=data, capture_output=True, check=False, env=self.environment)
+        return ended.stdout, ended.stderr, ended.returncode

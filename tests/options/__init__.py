@@ -1,0 +1,1 @@
+"""The table of options, beside iptables and beside the kernel."""

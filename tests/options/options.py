@@ -1,0 +1,114 @@
+"""tests/run options/options: compares the table of options with iptables 1.8.9, by iptables-translate and by its help.
+
+- Each option, under each of its names, takes as many words as the table says: a word behind these is one too many, and with one fewer the
+  option lacks a value. Of an option that asks for a set, which isn't there, iptables reads no word behind its values.
+- Each option that the help of a match or a target names stands in the table, and each extension of Debian's package that a rule of the
+  table filter may have.
+
+Without iptables-translate of this version it passes everything over, and says so. It ends with status 1 where something isn't as expected, and
+says what differs.
+"""
+
+import os
+import re
+import shutil
+import subprocess
+import sys
+
+from commands.extensions import EXTENSIONS
+from tests.options.parts.values import BEFORE_OPTION, words_before, value
+from tests.shared.rows import Rows
+
+PATH = os.environ.get("PATH", "") + ":/usr/sbin:/sbin"
+VERSION = "v1.8.9"
+LIBRARIES = "/usr/lib/x86_64-linux-gnu/xtables"
+
+# What Debian's package doesn't have, and what it can't be asked about without more.
+ABSENT = ("condition", "geoip", "TARPIT")
+# These ask for a file, or a name of one.
+BY_FILE = ("--object-pinned", "--label")
+# A set that isn't there.
+NO_SET = "Set eth0 doesn't exist"
+# Extensions whose rules stand in other tables.
+ELSEWHERE = ("CHECKSUM", "CONNSECMARK", "CT", "DNAT", "DSCP", "ECN", "HMARK", "MASQUERADE", "NAT", "NETMAP", "NOTRACK", "REDIRECT", "SECMARK",
+             "SNAT", "TCPOPTSTRIP", "TOS", "TPROXY", "TTL")
+# The target without a name; and a match of whose options some take a word or none.
+UNREAD = ("standard", "rateest")
+# It sets a mark, so that a rule with it is refused.
+REFUSED = ("--restore-skmark",)
+SURPLUS = "surplus"
+
+
+def called(tool, words):
+    return subprocess.run([shutil.which(tool, path=PATH), *words], stdin=subprocess.DEVNULL, stdout=subprocess.PIPE, stderr=subprocess.PIPE,
+                          text=True, check=False)
+
+
+def taken(before, name, values):
+    """Whether an option takes just these values: what iptables says of a word more, and of a word fewer."""
+    more = called("iptables-translate", ["-A", "INPUT", *before, name, *values, SURPLUS]).stderr
+    exact = f"Bad argument `{SURPLUS}'" in more or NO_SET in more
+    if values:
+        exact = exact and called("iptables-translate", ["-A", "INPUT", *before, name, *values[:-1]]).returncode != 0
+    return exact
+
+
+def options_of(extension):
+    """The options of a match or target, or of any rule, each name with the words before it and values."""
+    before = words_before(extension)
+    for option in extension.options:
+        values = [value(extension, option, place, kind) for place, kind in enumerate(option.values)]
+        for name in option.names:
+            if name.decode() not in BY_FILE:
+                yield [*before, *BEFORE_OPTION.get(option.names[0].decode(), [])], name.decode(), values
+
+
+def count_rows(rows):
+    """How many words each option takes."""
+    due = came = b""
+    for extension in EXTENSIONS:
+        if extension.kind != "command" and extension.name.decode() not in ABSENT:
+            for before, name, values in options_of(extension):
+                line = " ".join([*before, name, *values]).encode()
+                due += b"%s\n" % line
+                came += b"%s\n" % line if taken(before, name, values) else b""
+    rows.compared("the values of options", (0, due), (0, came))
+
+
+def named_in_help(flag, name):
+    """The options that the help of a match or target names, but for those of each rule; nothing where there is no help."""
+    common = set(re.findall(r"(?<![\w-])--[a-z][a-z0-9-]+", called("iptables", ["--help"]).stdout))
+    ended = called("iptables", [flag, name, "--help"])
+    return None if ended.returncode else set(re.findall(r"(?<![\w-])--[a-z][a-z0-9-]+", ended.stdout)) - common
+
+
+def help_rows(rows):
+    """What iptables has that the table hasn't."""
+    known = {}
+    for extension in EXTENSIONS:
+        kind = "-m" if extension.kind == "match" else "-j"
+        known[kind, extension.name.decode()] = {name.decode() for option in extension.options for name in option.names}
+    absent = b""
+    for file in sorted(os.listdir(LIBRARIES)):
+        name = re.match(r"lib(?:xt|ipt)_(.*)\.so$", file)
+        for kind in ("-m", "-j") if name and name[1] not in (*ELSEWHERE, *UNREAD) else ():
+            found = named_in_help(kind, name[1])
+            if found and (kind, name[1]) not in known:
+                absent += f"{kind} {name[1]}\n".encode()
+            for option in sorted((found or set()) - known.get((kind, name[1]), set()) - set(REFUSED)):
+                absent += f"{kind} {name[1]} {option}\n".encode()
+    rows.compared("what the table lacks", (0, b""), (0, absent))
+
+
+def main(program):
+    if not shutil.which("iptables-translate", path=PATH) or VERSION not in called("iptables", ["--version"]).stdout:
+        print(f"options: iptables {VERSION} isn't there, so the table of options isn't compared with it")
+        return
+    rows = Rows("options", program)
+    count_rows(rows)
+    help_rows(rows)
+    rows.end()
+
+
+if __name__ == "__main__":
+    main(sys.argv[1])

@@ -1,0 +1,1 @@
+"""Words for options, and packets for the loopback device."""

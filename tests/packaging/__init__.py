@@ -1,0 +1,1 @@
+"""Completion, the archive, the package, and what is installed of them."""

@@ -1,0 +1,1 @@
+"""First answers of installed commands, and shells at terminals."""

@@ -1,0 +1,335 @@
+"""tests/run packaging/release PROGRAM [AUDIT]: runs tools/release in a copy of the sources, with stand-ins for rt, ldd and iptaudit, and compares
+what it writes, its status, and what it makes: the names of the files, their members, modes, owners, times and bytes. iptsim is PROGRAM behind a
+stand-in. PROGRAM is also packed with the machine's own ldd, where it needs the C library alone, and refused where it doesn't.
+
+It ends with status 1 where a run isn't as expected.
+"""
+
+import hashlib
+import io
+import os
+import re
+import shutil
+import subprocess
+import tarfile
+import tempfile
+
+from tests import ROOT
+from tests.shared.rows import Rows, programs
+
+# What is copied of the sources. Crates have their sources, so that the scripts that build programs find them.
+COPIED = ("VERSION", "CHANGELOG.md", "LICENSE", "crates.txt", ".gitignore", "bin", "commands", "docs", "examples", "share", "tests", "tools",
+          "web", "crates")
+# What `rt` makes of a program is a script: iptsim asks PROGRAM, and iptaudit answers one question. Both have the commit's place.
+RT = """#!/bin/sh
+crate="$(basename "$PWD")"
+[ "$crate" != "${BROKEN-}" ] || exit 1
+[ "$1" = run ] || exit 0
+mkdir -p out
+cp "$STAND_INS/$crate" "out/$crate"
+chmod +x "out/$crate"
+"""
+IPTSIM = """#!/bin/sh
+said='{version} (not released)'
+[ "$1" != --version ] || {{ echo "iptsim $said"; exit; }}
+exec '{program}' "$@"
+"""
+IPTAUDIT = """#!/bin/sh
+[ "$2" = /dev/null ] && exit 0
+[ "$1" = --version ] && echo 'iptaudit {version} (not released)' && exit 0
+echo 'dead INPUT 2 -A INPUT -s 192.0.2.7/32 -j ACCEPT
+  taken by INPUT 1 (DROP)
+2 rules, 1 dead, 0 unclear
+0 redundant, 1 shadowed'
+exit 1
+"""
+LDD = r"""#!/bin/sh
+printf '\tlinux-vdso.so.1 (0x00007f31b9335000)\n'
+[ -z "${MORE-}" ] || printf "\t$MORE => /lib/x86_64-linux-gnu/$MORE (0x00007f31b9330000)\n"
+printf '\tlibc.so.6 => /lib/x86_64-linux-gnu/libc.so.6 (0x00007f31b913c000)\n\t/lib64/ld-linux-x86-64.so.2 (0x00007f31b9337000)\n'
+printf '\n\tVersion information:\n\t./iptsim:\n'
+case "$2" in *iptaudit) newest=2.17 ;; *) newest=2.34 ;; esac
+printf '\t\tlibc.so.6 (GLIBC_%s) => /lib/x86_64-linux-gnu/libc.so.6\n' "$newest" 2.2.5 2.9
+printf '\t/lib/x86_64-linux-gnu/libc.so.6:\n\t\tld-linux-x86-64.so.2 (GLIBC_2.35) => /lib64/ld-linux-x86-64.so.2\n'
+"""
+GIT = {"GIT_AUTHOR_DATE": "2021-02-03T23:30:00-0200", "GIT_COMMITTER_DATE": "2021-02-03T23:30:00-0200", "GIT_AUTHOR_NAME": "a",
+       "GIT_AUTHOR_EMAIL": "a@example", "GIT_COMMITTER_NAME": "a", "GIT_COMMITTER_EMAIL": "a@example"}
+# The commit's time.
+SECONDS = 1612402200
+
+
+def named(*names):
+    return "".join(f"release: the program {name} is the one that {name.upper()} names, whether it is proved or not\n" for name in names)
+
+
+class Copy:
+    """The sources in a folder that lies below a folder of git's, and isn't git's itself, and the runs there."""
+
+    def __init__(self, work, program):
+        self.runs, self.work = Rows("release", program), work
+        self.program, self.version = os.path.abspath(program), open(os.path.join(ROOT, "VERSION"), encoding="ascii").read().strip()
+        self.top, self.tools, self.stand_ins = (os.path.join(work, *place) for place in (("above", "copy of it"), ("tools",), ("stand ins",)))
+        for folder in (self.top, self.tools, self.stand_ins):
+            os.makedirs(folder)
+        subprocess.run(["git", "init", "-q", os.path.join(work, "above")], check=True)
+        for name in COPIED:
+            place, to = os.path.join(ROOT, name), os.path.join(self.top, name)
+            if os.path.isdir(place):
+                shutil.copytree(place, to, symlinks=True, ignore=shutil.ignore_patterns("out", "__pycache__"))
+            else:
+                shutil.copy2(place, to)
+        self.script(self.tools, "rt", RT)
+        self.script(self.tools, "ldd", LDD)
+        for name, text in (("iptsim", IPTSIM), ("iptaudit", IPTAUDIT)):
+            self.script(self.stand_ins, name, text.format(version=self.version, program=self.program))
+        self.page = os.path.join(self.stand_ins, "a page")
+        with open(self.page, "w", encoding="utf-8") as file:
+            file.write("<!doctype html>\n")
+        self.environment = {name: value for name, value in os.environ.items() if name not in ("IPTSIM", "IPTAUDIT")}
+        self.environment.update(PATH=f"{self.tools}:{os.environ['PATH']}", STAND_INS=self.stand_ins, IPTSIM_PAGE=self.page)
+
+    @staticmethod
+    def script(folder, name, text):
+        path = os.path.join(folder, name)
+        with open(path, "w", encoding="utf-8") as file:
+            file.write(text)
+        os.chmod(path, 0o755)
+        return path
+
+    def run(self, *words, mask="022", **variables):
+        """The status, the output and the messages, but those of the scripts that build."""
+        ended = subprocess.run(["/bin/sh", "-c", f'umask {mask}; exec tools/release "$@"', "sh", *words], cwd=self.top, stdin=subprocess.DEVNULL,
+                               stdout=subprocess.PIPE, stderr=subprocess.PIPE, check=False, env={**self.environment, **variables})
+        passed_over = (b"iptsim: ", b"iptaudit: ", b"release: the page is the one that IPTSIM_PAGE names\n")
+        said = b"".join(line for line in ended.stderr.splitlines(True) if not line.startswith(passed_over))
+        return ended.returncode, ended.stdout, said
+
+    def refused(self, about, messages, *words, status=1, **variables):
+        self.runs.compared(about, (status, b"", messages.encode()), self.run(*words, **variables))
+
+    def packs(self, about, folder, name, messages="", **more):
+        """A run that makes the files of this version's name in an empty folder. Returns their bytes by name."""
+        shutil.rmtree(folder, ignore_errors=True)
+        os.mkdir(folder)
+        came = self.run(folder, **more)
+        made = {file: open(os.path.join(folder, file), "rb").read() for file in sorted(os.listdir(folder))}
+        names = [f"iptsim-{name}-x86_64.tar.gz", f"iptsim_{name}_amd64.deb"]
+        names = [each for each in names if each in made or not each.endswith(".deb") or not messages.startswith("release: dpkg-deb")]
+        sums = [f"{hashlib.sha256(made.get(each, b'')).hexdigest()}  %s{each}\n" for each in names]
+        self.runs.compared(about, (0, "".join(line % (folder + "/") for line in sums).encode(), messages.encode()), came)
+        due = sorted(names + [f"iptsim-{name}.sha256"])
+        self.runs.compared(f"{about}: the files", (0, " ".join(due).encode()), (0, " ".join(made).encode()))
+        self.runs.compared(f"{about}: the checksums", (0, "".join(line % "" for line in sums).encode()), (0, made.get(due[1], b"")))
+        modes = {oct(os.stat(os.path.join(folder, each)).st_mode & 0o777) for each in made}
+        self.runs.compared(f"{about}: the modes", (0, b"0o644"), (0, " ".join(modes).encode()))
+        return made
+
+
+def members(archive):
+    """The members of an archive, without the name of its folder."""
+    with tarfile.open(fileobj=io.BytesIO(archive)) as file:
+        return {member.name.partition("/")[2]: (member, member.isreg() and file.extractfile(member).read()) for member in file.getmembers()}
+
+
+def check_members(copy, about, archive, name, seconds, told="not released"):
+    """What the archive holds: its folder, the owners, times, modes, checksums, and the programs, which are told a commit."""
+    with tarfile.open(fileobj=io.BytesIO(archive)) as file:
+        tops = {member.name.split("/")[0] for member in file.getmembers()}
+    copy.runs.compared(f"{about}: the folder", (0, f"iptsim-{name}".encode()), (0, " ".join(tops).encode()))
+    held = members(archive)
+    odd = [place for place, (member, _) in held.items() if (member.uid, member.gid, member.mtime) != (0, 0, seconds)]
+    copy.runs.compared(f"{about}: owners and times", (0, b""), (0, " ".join(odd).encode()))
+    modes = [f"{place} {member.mode:o}" for place, (member, _) in held.items() if member.mode != due_mode(place, member)]
+    copy.runs.compared(f"{about}: modes", (0, b""), (0, "\n".join(modes).encode()))
+    sums = "".join(f"{hashlib.sha256(data).hexdigest()}  {place}\n" for place, (member, data) in sorted(held.items())
+                   if member.isreg() and place != "SHA256SUMS")
+    copy.runs.compared(f"{about}: SHA256SUMS", (0, sums.encode()), (0, held["SHA256SUMS"][1]))
+    for each in ("iptsim", "iptaudit"):
+        with open(os.path.join(copy.stand_ins, each), "rb") as file:
+            copy.runs.compared(f"{about}: {each}", (0, file.read().replace(b"not released", told.encode())), (0, held[f"bin/{each}"][1]))
+    return held
+
+
+def due_mode(place, member):
+    if member.issym():
+        return 0o777
+    runs = member.isdir() or place == "install" or place.startswith("bin/") or re.fullmatch("lib/iptsim/bin/[a-z]+", place)
+    return 0o755 if runs else 0o644
+
+
+def check_layout(copy, held):
+    """The files beside the programs. Scripts have the modules that they import, and no others."""
+    commands = [place for place, (member, _) in held.items() if member.issym() and place.startswith("bin/")]
+    for place in commands:
+        target, script = held[place][0].linkname, place[len("bin/iptsim-"):]
+        copy.runs.compared(place, (0, f"../lib/iptsim/bin/{script}".encode(), True), (0, target.encode(), f"lib/iptsim/bin/{script}" in held))
+    for place, source in (("share/doc/iptsim/GUIDE.md", "docs/GUIDE.md"), ("share/doc/iptsim/RECIPES.md", "docs/RECIPES.md"),
+                          ("share/doc/iptsim/DIFFERENCES.md", "docs/DIFFERENCES.md"), ("share/doc/iptsim/differences.tsv", "docs/differences.tsv"),
+                          ("share/doc/iptsim/THEOREM.md", "docs/THEOREM.md"), ("share/doc/iptsim/GLOSSARY.md", "docs/GLOSSARY.md"),
+                          ("share/doc/iptsim/CHANGELOG.md", "CHANGELOG.md"), ("share/doc/iptsim/LICENSE", "LICENSE"),
+                          ("share/doc/iptsim/examples/office.rules", "examples/office.rules"), ("install", "share/package/install"),
+                          ("share/zsh/site-functions/_iptsim", "share/zsh/site-functions/_iptsim")):
+        with open(os.path.join(ROOT, source), "rb") as file:
+            copy.runs.compared(place, (0, file.read()), (0, held[place][1]))
+    with open(copy.page, "rb") as file:
+        copy.runs.compared("the page", (0, file.read()), (0, held["share/doc/iptsim/iptsim.html"][1]))
+    copy.runs.compared("the page at the top", (0, b"share/doc/iptsim/iptsim.html"), (0, held["iptsim.html"][0].linkname.encode()))
+    documents = [(place, text.decode()) for place, (_, text) in held.items() if place.endswith(".md")]
+    links = [(place, target) for place, text in documents for target in re.findall(r"\]\(([^)#]+)", text) if ":" not in target]
+    lost = [f"{place}: {target}" for place, target in links if os.path.normpath(os.path.join(os.path.dirname(place), target)) not in held]
+    copy.runs.compared("each link of a document leads to a file", (0, b""), (0, "\n".join(lost).encode()))
+    pages = sorted(name for name in os.listdir(os.path.join(ROOT, "docs")) if name.endswith(".1"))
+    came = sorted(os.path.basename(place) for place in held if place.startswith("share/man/man1/"))
+    copy.runs.compared("the manual pages", (0, " ".join(pages).encode()), (0, " ".join(came).encode()))
+    others = [place for place in held if re.fullmatch(r"lib/iptsim/.*\.py", place)
+              and not re.fullmatch(r"lib/iptsim/(commands/\w+|tests/__init__|tests/model/\w+)\.py", place)]
+    copy.runs.compared("no module of tests but the model", (0, b""), (0, " ".join(others).encode()))
+
+
+def check_words(copy):
+    usage = "usage: tools/release [-h] [FOLDER]\ntools/release: error: unrecognized arguments: more\n"
+    copy.refused("too many words", usage, ".", "more", status=2)
+    copy.refused("no folder", "release: no folder in which a file can be made: nowhere\n", "nowhere")
+    copy.refused("iptsim isn't built", "release: the program iptsim is not built\n", BROKEN="iptsim")
+    copy.refused("iptaudit isn't built", "release: the program iptaudit is not built\n", BROKEN="iptaudit")
+    left = sorted(os.listdir(copy.top))
+    copy.runs.compared("nothing is left", (0, " ".join(sorted(COPIED)).encode()), (0, " ".join(left).encode()))
+
+
+def check_unversioned(copy, folder):
+    """Outside of git the programs name no commit."""
+    name = copy.version + "+unversioned"
+    made = copy.packs("outside of git", folder, name)
+    held = check_members(copy, "outside of git", made[f"iptsim-{name}-x86_64.tar.gz"], name, 0)
+    check_layout(copy, held)
+    text = held["INSTALL"][1].decode()
+    for due in (f"iptsim {name}, for Linux on x86-64\n", "\nBoth programs were proved and built from the sources of this version.\n", "(glibc 2.34 or newer;"):
+        copy.runs.compared(f"INSTALL says '{due.strip()}'", (0, True), (0, due in text))
+    for path in (os.path.join(copy.top, "docs", "iptsim.1"), os.path.join(copy.top, "crates", "iptsim", "out", "iptsim")):
+        os.utime(path)
+    again = copy.packs("the same again", folder, name, mask="077", TZ="Asia/Tokyo", GZIP="-1", TAR_OPTIONS="--exclude=INSTALL")
+    copy.runs.compared("both are equal", (0, True), (0, made == again))
+
+
+def commit(copy):
+    """Makes the copy git's, and returns the commit's hash."""
+    environment = {**copy.environment, **GIT}
+    for words in (["init", "-q"], ["add", "."], ["commit", "-qm", "all"]):
+        subprocess.run(["git", "-C", copy.top, *words], env=environment, check=True)
+    return subprocess.run(["git", "-C", copy.top, "rev-parse", "HEAD"], stdout=subprocess.PIPE, text=True, check=True).stdout.strip()
+
+
+def check_versions(copy, folder):
+    """In git the programs name the commit, unless a file isn't as committed. Returns the commit."""
+    subprocess.run(["git", "init", "-q", copy.top], check=True)
+    ended = copy.run(folder)
+    copy.runs.compared("no commit", (1, b"release: git names no commit of this repository"), (ended[0], ended[2].splitlines()[-1]))
+    told, version = commit(copy), copy.version
+    made = copy.packs("a commit", folder, version)
+    held = check_members(copy, "a commit", made[f"iptsim-{version}-x86_64.tar.gz"], version, SECONDS, told[:12])
+    copy.runs.compared("INSTALL names the commit", (0, True), (0, f"of this version (commit {told}).\n" in held["INSTALL"][1].decode()))
+    again = copy.packs("the commit again", folder, version, TZ="America/Los_Angeles")
+    copy.runs.compared("both of the commit are equal", (0, True), (0, made == again))
+    new = os.path.join(copy.top, "crates", "rule_tests", "src", "new.rt")
+    with open(new, "w", encoding="ascii"):
+        pass
+    made = copy.packs("a change", folder, version + "+changed")
+    check_members(copy, "a change", made[f"iptsim-{version}+changed-x86_64.tar.gz"], version + "+changed", SECONDS)
+    os.unlink(new)
+    return told
+
+
+def check_places(copy, told):
+    """Programs that have their version in two places, or in none, or don't print what stands there."""
+    whole, version = os.path.join(copy.stand_ins, "iptsim"), copy.version
+    with open(whole, encoding="utf-8") as file:
+        text = file.read()
+    place = f"release: the program iptsim has the text '{version} (not released)' in %d places, and not in one\n"
+    for other, messages in (
+            (text + f"# {version} (not released)\n", place % 2),
+            (text.replace(" (not released)", ""), place % 0),
+            (text.replace("$said", version), f"release: the program iptsim doesn't print 'iptsim {version} ({told[:12]})' as its version: iptsim {version}\n")):
+        copy.script(copy.stand_ins, "iptsim", other)
+        shutil.rmtree(os.path.join(copy.top, "crates", "iptsim", "out"))
+        copy.refused(messages.strip(), messages)
+    copy.script(copy.stand_ins, "iptsim", text)
+    shutil.rmtree(os.path.join(copy.top, "crates", "iptsim", "out"))
+
+
+def check_given(copy, folder):
+    """Programs that the environment names are packed as they are, where they answer as they must and need the C library alone."""
+    name, given = copy.version, {each: os.path.join(copy.stand_ins, each.lower()) for each in ("IPTSIM", "IPTAUDIT")}
+    made = copy.packs("given programs", folder, name, named("iptsim", "iptaudit"), **given)
+    held = check_members(copy, "given programs", made[f"iptsim-{name}-x86_64.tar.gz"], name, SECONDS)
+    due = "\nA program was built elsewhere, and put into this archive as it was.\n"
+    copy.runs.compared("INSTALL says so", (0, True), (0, due in held["INSTALL"][1].decode()))
+    copy.refused("no file", "release: IPTSIM names no file: nothing\n", IPTSIM="nothing")
+    copy.refused("no page", "release: IPTSIM_PAGE names no file: nothing\n", IPTSIM_PAGE="nothing")
+    left_out = "release: without a page, which isn't made of a program that IPTSIM or IPTAUDIT names; IPTSIM_PAGE can name one\n"
+    made = copy.packs("given programs without a page", folder, name, named("iptsim", "iptaudit") + left_out, IPTSIM_PAGE="", **given)
+    held = check_members(copy, "without a page", made[f"iptsim-{name}-x86_64.tar.gz"], name, SECONDS)
+    copy.runs.compared("nothing of a page", (0, b""), (0, " ".join(place for place in held if "html" in place).encode()))
+    copy.runs.compared("INSTALL names none", (0, False), (0, "html" in held["INSTALL"][1].decode()))
+    more = "release: the program needs more than the C library, so it isn't the proved one: libgcc_s.so.1\n"
+    copy.refused("more than the C library", named("iptsim") + more, MORE="libgcc_s.so.1", **given)
+    without = {"PATH": os.environ["PATH"], **given}
+    no_program = f"release: this is no program for this machine, as ldd says: {given['IPTSIM']}\n"
+    copy.refused("no program", named("iptsim") + no_program, **without)
+
+
+def check_answers(copy):
+    """Programs that end with the right status, and say nothing, or say something else."""
+    for name, status in (("iptsim", 0), ("iptaudit", 1)):
+        given = {each: os.path.join(copy.stand_ins, each.lower()) for each in ("IPTSIM", "IPTAUDIT")}
+        for text, ends in ((f"exit {status}", status), ("exit 7", 7), ("echo INPUT 1", 0)):
+            given[name.upper()] = copy.script(copy.work, "other one", f"#!/bin/sh\n{text}\n")
+            ended = copy.run(**given)
+            said = ended[2].decode()[len(named(*("iptsim", "iptaudit")[:1 + status])):].splitlines()[0]
+            due = f"release: this isn't {name}, or it is broken: {given[name.upper()]} ends with status {ends}, where {status} is due, and answers"
+            copy.runs.compared(f"{name} with '{text}'", (1, b"", due.encode()), (ended[0], ended[1], said.encode()))
+
+
+def check_real(copy, folder):
+    """PROGRAM with the machine's own ldd; iptaudit stands for itself there by the same file."""
+    needed = subprocess.run(["ldd", copy.program], stdout=subprocess.PIPE, text=True, check=False, env=dict(os.environ, LC_ALL="C")).stdout
+    given = {"PATH": os.environ["PATH"], "IPTSIM": copy.program, "IPTAUDIT": copy.program}
+    ended = copy.run(folder, **given)
+    said = ended[2].decode().splitlines()[-1 if "libgcc_s" in needed else 2]
+    due = ("release: the program needs more than the C library, so it isn't the proved one: libm.so.6 libgcc_s.so.1" if "libgcc_s" in needed
+           else f"release: this isn't iptaudit, or it is broken: {copy.program} ends with status 2, where 1 is due, and answers")
+    copy.runs.compared("PROGRAM", (1, due.encode()), (ended[0], said.encode()))
+
+
+def check_tools(copy, folder):
+    """Without dpkg-deb the archive is made alone; where it fails, nothing is."""
+    links = os.path.join(copy.work, "links")
+    os.mkdir(links)
+    for place in os.environ["PATH"].split(":")[::-1]:
+        for name in os.listdir(place) if os.path.isdir(place) else ():
+            if name != "dpkg-deb":
+                path = os.path.join(links, name)
+                if os.path.lexists(path):
+                    os.unlink(path)
+                os.symlink(os.path.join(place, name), path)
+    copy.packs("without dpkg-deb", folder, copy.version, "release: dpkg-deb isn't there, so no package for Debian is made\n", PATH=f"{copy.tools}:{links}")
+    copy.script(copy.tools, "dpkg-deb", "#!/bin/sh\nexit 1\n")
+    shutil.rmtree(folder)
+    os.mkdir(folder)
+    copy.refused("dpkg-deb fails", "release: dpkg-deb makes no package\n", folder)
+    copy.runs.compared("nothing is made", (0, b""), (0, " ".join(os.listdir(folder)).encode()))
+
+
+def main(program):
+    with tempfile.TemporaryDirectory() as work:
+        copy, folder = Copy(work, program), os.path.join(work, "a folder")
+        check_words(copy)
+        check_unversioned(copy, folder)
+        check_places(copy, check_versions(copy, folder))
+        check_given(copy, folder)
+        check_answers(copy)
+        check_real(copy, folder)
+        check_tools(copy, folder)
+        copy.runs.end()
+
+
+main(programs("packaging/release PROGRAM [AUDIT]")[0])

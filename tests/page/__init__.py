@@ -1,0 +1,1 @@
+"""The page, in two browsers."""

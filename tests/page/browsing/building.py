@@ -1,0 +1,129 @@
+"""How tools/page is built and refused, with a toolchain of stand-ins, and texts in place of modules."""
+
+import os
+import tempfile
+
+from tools.paging import Failure
+from tools.paging.bitcode import bitcode
+from tools.paging.bundle import bundle
+from tools.paging.wasm import GIVEN, WANTED, retargeted
+
+MODULE = "\n".join(("; ModuleID", *GIVEN, "define i32 @main() #0 {", "ret i32 0", "}",
+                    'attributes #0 = { nounwind "frame-pointer"="all" "target-cpu"="x86-64" }', 'attributes #1 = { "probe-stack"="inline-asm" }', ""))
+DUE = "\n".join(("; ModuleID", *WANTED, "define i32 @main() #0 {", "ret i32 0", "}", "attributes #0 = { nounwind }", "attributes #1 = { nounwind }", ""))
+CHANGED = "the module of p %s: the toolchain has changed what it hands to clang, and this script has to be fitted to it"
+# What is done to the module's text, and why it is refused.
+REFUSED = (
+    (GIVEN[0], GIVEN[0].replace("i64:64", "i64:32"), "doesn't have the line " + GIVEN[0]),
+    (GIVEN[1], 'target triple = "aarch64-unknown-linux-gnu"', "doesn't have the line " + GIVEN[1]),
+    ("ret i32 0", 'call void asm sideeffect "nop", ""()', "has assembly"),
+    ("; ModuleID", '\nmodule asm "nop"', "has assembly"),
+    ('"target-cpu"="x86-64"', '"strictfp"="true"', 'has the attribute "strictfp"'),
+)
+# A compiler that makes a program of a module's bytes, and the toolchain's command, which hands COUNT modules to it.
+CLANG = """#!/bin/sh
+for word; do case "$word" in *.bc) cat "$word" >>"$PWD/made" ;; esac; done
+"""
+RATTLE = """#!/bin/sh
+while [ $# -gt 0 ]; do
+  case "$1" in --toolchain) clang="$2/bin/clang" ;; -o) to="$2" ;; esac
+  shift
+done
+rm -f made
+for number in $(seq {count}); do
+  printf 'module %s' "$number" >module.bc
+  "$clang" -c module.bc || exit 1
+done
+[ ! -e made ] || mv made "$to"
+echo '{said}'
+exit {status}
+"""
+LINK = """#!/bin/sh
+while [ $# -gt 0 ]; do
+  case "$1" in -o) cp "$2.o" "$2" ;; esac
+  shift
+done
+"""
+# The script of a stand-in, the bytes of the program that was proved, and what is due: the module, or a part of why there is none.
+PROVED = "logic=proved functions=1"
+HANDED = (
+    ({"count": 1, "said": PROVED, "status": 0}, b"module 1", "module 1"),
+    ({"count": 1, "said": PROVED, "status": 0}, b"another", "isn't the program that these sources give: build it again"),
+    ({"count": 2, "said": PROVED, "status": 0}, b"module 1module 2", "the toolchain handed 2 modules to clang, and not one"),
+    ({"count": 1, "said": "logic=not-proved", "status": 0}, b"module 1", "the toolchain doesn't say that p is proved"),
+    ({"count": 1, "said": "no", "status": 1}, b"module 1", "rattle fails with status 1"),
+)
+MODULES = {
+    "main.js": 'import { one } from "./one.js";\n\nexport function main() {\n  return one;\n}\n',
+    "one.js": "// One.\n\nexport const one = 1;\n",
+}
+BUNDLE = "// one.js\n// One.\n\nconst one = 1;\n\n// main.js\nfunction main() {\n  return one;\n}\n"
+# Modules that aren't bundled, and why.
+UNBUNDLED = (
+    ({"main.js": 'import one from "./one.js";\n'}, "not a form that is bundled: import one from"),
+    ({"main.js": 'import { two } from "./one.js";\n'}, "one.js exports no two"),
+    ({"one.js": 'import { main } from "./main.js";\nexport const one = main;\n'}, "imports itself, by others"),
+    ({"main.js": 'import { one } from "./one.js";\nconst one = one;\n'}, "one also stands in"),
+    ({"main.js": "export default 1;\n"}, "not a form that is bundled: export default 1;"),
+)
+
+
+class StandIn:
+    """A toolchain whose parts are scripts, in a folder."""
+
+    def __init__(self, folder, told):
+        self.folder = folder
+        for place, text in (("bin/rattle", RATTLE.format(**told)), ("bin/rattle-link", LINK), ("toolchain/bin/clang", CLANG), ("toolchain/lib/x", ""),
+                            ("rlibs/std.rlib/x", ""), ("rattle/logic/antt-project.json", ""), ("logic_built/x", ""), ("c/libos_c.a", ""),
+                            ("c/liblibc_c.a", "")):
+            path = self.part(*place.split("/"))
+            os.makedirs(os.path.dirname(path), exist_ok=True)
+            with open(path, "w", encoding="utf-8") as file:
+                file.write(text)
+            os.chmod(path, 0o755)
+
+    def part(self, *place):
+        return os.path.join(self.folder, *place)
+
+
+def outcome(make):
+    """What is made, or why nothing is."""
+    try:
+        return make()
+    except Failure as failure:
+        return str(failure)
+
+
+def handed(told, program):
+    """The module of a program of a repository with one crate."""
+    with tempfile.TemporaryDirectory() as work:
+        root, proved = os.path.join(work, "root"), os.path.join(work, "proved")
+        os.makedirs(os.path.join(root, "crates", "p"))
+        with open(os.path.join(root, "crates.txt"), "w", encoding="utf-8") as file:
+            file.write("p:\n")
+        with open(proved, "wb") as file:
+            file.write(program)
+        module = bitcode(root, StandIn(os.path.join(work, "kit"), told), "p", proved, os.path.join(work, "made"))
+        with open(module, encoding="utf-8") as file:
+            return file.read()
+
+
+def bundled(changed):
+    with tempfile.TemporaryDirectory() as work:
+        for name, text in {**MODULES, **changed}.items():
+            with open(os.path.join(work, name), "w", encoding="utf-8") as file:
+                file.write(text)
+        return bundle(os.path.join(work, "main.js"))
+
+
+def check(runs):
+    """Compares all of these with what is due."""
+    runs.compared("a module for the other target", (0, DUE.encode()), (0, retargeted("p", MODULE).encode()))
+    for old, new, why in REFUSED:
+        runs.compared(f"a module that {why}", (0, (CHANGED % why).encode()), (0, outcome(lambda: retargeted("p", MODULE.replace(old, new))).encode()))
+    for told, program, due in HANDED:
+        came = outcome(lambda: handed(told, program))
+        runs.compared(f"what the toolchain hands over: {due}", (0, True), (0, due in came))
+    runs.compared("a bundle", (0, BUNDLE.encode()), (0, bundled({}).encode()))
+    for changed, due in UNBUNDLED:
+        runs.compared(f"modules: {due}", (0, True), (0, due in outcome(lambda: bundled(changed))))

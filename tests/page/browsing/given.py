@@ -1,0 +1,84 @@
+"""The calls that are tried in the page and on this machine: the cases, the guide's commands, and questions about the dumps of examples."""
+
+import os
+import subprocess
+import tempfile
+
+from tests.page.browsing.calls import Call
+from tests.shared.case_files import all_cases
+from tests.shared.played import plays_of
+
+# Keeps what a program is given, and then does as the program.
+KEEPING = """#!/bin/sh
+kept="$(mktemp -d '{kept}/{name}.XXXXXXXX')"
+printf '%s\\0' "$@" >"$kept/words"
+number=0
+for word; do
+  number=$((number + 1))
+  [ ! -f "$word" ] || cp "$word" "$kept/file.$number"
+done
+cat >"$kept/input"
+exec '{program}' "$@" <"$kept/input"
+"""
+QUESTIONS = (["dead"], ["dead", "--json"], ["tests"], ["tests", "--json"], ["dead", "--steps", "3"])
+ASKED = (["cover"], ["cover", "--json"], ["walk"], ["walk", "--json"])
+
+
+def read(path):
+    with open(path, "rb") as file:
+        return file.read()
+
+
+def of_cases():
+    for case in all_cases():
+        for play in plays_of(case):
+            words, files = list(play.words), {}
+            if play.file is not None:
+                words, files = [*words, "--load", "file"], {"file": play.file}
+            yield Call(play.name, "iptsim", words, files, play.data)
+
+
+def kept_call(folder):
+    """A call that was kept."""
+    words = read(os.path.join(folder, "words")).decode().split("\0")[:-1]
+    files = {word: read(os.path.join(folder, f"file.{number}")) for number, word in enumerate(words, 1)
+             if os.path.exists(os.path.join(folder, f"file.{number}"))}
+    program = os.path.basename(folder).partition(".")[0]
+    return Call(f"guide: {program} {' '.join(words)}", program, words, files, read(os.path.join(folder, "input")))
+
+
+def of_guide(root, programs):
+    """The calls that the documents' commands make."""
+    with tempfile.TemporaryDirectory() as work:
+        kept, stand_ins = os.path.join(work, "kept"), []
+        os.mkdir(kept)
+        for name, program in programs.items():
+            stand_ins.append(os.path.join(work, name))
+            with open(stand_ins[-1], "w", encoding="utf-8") as file:
+                file.write(KEEPING.format(kept=kept, name=name, program=program))
+            os.chmod(stand_ins[-1], 0o755)
+        subprocess.run([os.path.join(root, "tests", "documents", "guide"), *stand_ins], check=True, stdout=subprocess.DEVNULL)
+        return [kept_call(os.path.join(kept, name)) for name in sorted(os.listdir(kept))]
+
+
+def of_dumps(dumps, packets):
+    """Questions about each dump (bytes by name), with these packets."""
+    for name, data in dumps.items():
+        for words in QUESTIONS:
+            yield Call(f"{name}: {' '.join(words)}", "iptaudit", [*words, name], {name: data}, b"")
+        for words in ASKED:
+            yield Call(f"{name}: {' '.join(words)}", "iptaudit", [*words, name], {name: data}, packets)
+        for other, changed in dumps.items():
+            yield Call(f"{name}: compare with {other}", "iptaudit", ["compare", name, other], {name: data, other: changed}, b"")
+        for words in (["restore"], ["restore", "--test"], ["restore", "--noflush"]):
+            yield Call(f"{name}: {' '.join(words)}", "iptsim", words, {}, data)
+        yield Call(f"{name}: session", "iptsim", ["session", "--load", name], {name: data}, packets + b"iptables-save\n")
+
+
+def of_words():
+    """Words that are refused or ask for help, and files that aren't there."""
+    for program, words in (("iptsim", []), ("iptsim", ["--help"]), ("iptsim", ["session", "--help"]), ("iptsim", ["sesion"]),
+                           ("iptsim", ["session", "--load", "nothing"]), ("iptaudit", []),
+                           ("iptaudit", ["--help"]), ("iptaudit", ["dead"]), ("iptaudit", ["dead", "nothing"]),
+                           ("iptaudit", ["dead", "--steps", "none", "a"]), ("iptaudit", ["walk", "--help"])):
+        yield Call(f"words: {program} {' '.join(words)}", program, words, {}, b"")

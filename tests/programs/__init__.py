@@ -1,0 +1,1 @@
+"""The words, files, streams, messages and statuses of the programs."""

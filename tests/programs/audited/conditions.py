@@ -1,0 +1,237 @@
+"""Runs of iptaudit on whole dumps, whose rules have conditions that it doesn't know, for tests/programs/audit. What it says is compared with
+iptsim, which is asked about each assignment of the conditions: a dump without conditions, in which a rule whose needs fail matches nothing.
+"""
+
+import itertools
+import os
+import re
+import subprocess
+
+HEAD = "*filter\n:INPUT %s [0:0]\n:FORWARD ACCEPT [0:0]\n:OUTPUT ACCEPT [0:0]\n:a - [0:0]\n:b - [0:0]\n"
+NEVER = "-m iprange --src-range 0.0.0.1-0.0.0.0"
+HERE, ALL = ("addrtype --dst-type LOCAL", False), ("addrtype --dst-type BROADCAST", False)
+MARK = ("mark --mark 0x1", False)
+OFTEN, SELDOM = ("limit --limit 3/min --limit-burst 10", True), ("limit --limit 1/hour", True)
+NEW = ("recent --update --seconds 30 --name x", True)
+
+
+def no(condition):
+    """That a condition doesn't hold."""
+    return (*condition, "not")
+
+
+# Dumps, by the policy of INPUT and rules: the chain, the words that iptsim reads, and conditions, each with whether it is one of a place.
+UFW = ("DROP", [
+    ("INPUT", "-j a", []), ("INPUT", "-p tcp -m tcp --dport 22 -j LOG", [OFTEN]), ("INPUT", "-p tcp -m tcp --dport 22 -j b", [NEW]),
+    ("INPUT", "-p tcp -m tcp --dport 22 -j ACCEPT", []), ("a", "-j RETURN", [HERE]), ("a", "-j RETURN", [ALL]), ("a", "-j LOG", [OFTEN]),
+    ("a", "-j DROP", []), ("b", "-j LOG", [OFTEN]), ("b", "-j REJECT --reject-with icmp-port-unreachable", []), ("b", "-j ACCEPT", [])])
+PLACES = ("ACCEPT", [
+    ("INPUT", "-p tcp -j ACCEPT", [OFTEN]), ("INPUT", "-p tcp -j ACCEPT", [OFTEN, MARK]), ("INPUT", "-p tcp -j DROP", []),
+    ("INPUT", "-p tcp -j ACCEPT", [OFTEN]), ("INPUT", "-p udp -j DROP", [no(MARK)]), ("INPUT", "-p udp -j DROP", [MARK, HERE]),
+    ("INPUT", "-p udp -j DROP", [MARK, no(MARK)]), ("INPUT", "-p udp -j DROP", [MARK, no(HERE)]), ("INPUT", "-p udp -j ACCEPT", [])])
+TWICE = ("DROP", [
+    ("INPUT", "-j a", []), ("INPUT", "-p udp -j a", []), ("INPUT", "-p udp -g b", [no(HERE)]), ("a", "-s 10.0.0.0/8 -j ACCEPT", [OFTEN]),
+    ("a", "-m conntrack --ctstate INVALID -j DROP", []), ("b", "-d 192.0.2.0/24 -j ACCEPT", [HERE]), ("b", "-j DROP", [SELDOM]), ("b", "-j ACCEPT", [])])
+PLAIN = ("DROP", [("INPUT", "-p tcp -m tcp --dport 22 -j ACCEPT", []), ("INPUT", "-p tcp -j DROP", [])])
+DUMPS = [UFW, PLACES, TWICE, PLAIN]
+
+
+def without(dump, number):
+    return (dump[0], dump[1][:number] + dump[1][number + 1:])
+
+
+def turned(dump, number, target):
+    chain, words, needs = dump[1][number]
+    return (dump[0], dump[1][:number] + [(chain, re.sub("-j .*", "-j " + target, words), needs)] + dump[1][number + 1:])
+
+
+# Pairs of dumps.
+PAIRS = [(UFW, UFW), (UFW, without(UFW, 1)), (UFW, without(UFW, 4)), (UFW, turned(UFW, 9, "DROP")), (UFW, turned(UFW, 7, "REJECT")),
+         (PLACES, without(PLACES, 0)), (PLACES, without(PLACES, 3)), (PLACES, without(PLACES, 6)), (TWICE, without(TWICE, 1)), (TWICE, without(TWICE, 7)),
+         (PLAIN, UFW), (UFW, PLAIN), (PLAIN, without(PLAIN, 1))]
+PACKETS = [f"packet INPUT src={src} dst={dst} in=eth0 proto={rest}" for src in ("10.0.0.1", "192.0.2.9") for dst in ("192.0.2.1", "10.9.9.9")
+           for rest in ("tcp sport=4000 dport=22", "tcp sport=4000 dport=23 ct=INVALID", "udp sport=4000 dport=53", "gre")]
+PACKETS += ["packet OUTPUT src=10.0.0.1 dst=10.0.0.2 out=eth0 proto=tcp sport=4000 dport=22"]
+
+
+def places(rules):
+    """Each rule by its chain and number, with its conditions by their keys: a text, or its chain, its text and the how-many-eth it is there."""
+    numbers, texts = {}, {}
+    for chain, words, needs in rules:
+        numbers[chain] = numbers.get(chain, 0) + 1
+        keyed = []
+        for text, is_of_place, *inverted in needs:
+            key = (text,)
+            if is_of_place:
+                texts[chain, text] = texts.get((chain, text), 0) + 1
+                key = (text, chain, texts[chain, text])
+            keyed.append((key, not inverted))
+        yield f"{chain} {numbers[chain]}", chain, words, keyed
+
+
+def names(rules, of_two=False):
+    """The conditions by the names that the program prints."""
+    found = {}
+    for name, _, _, needs in places(rules):
+        for key, _ in needs:
+            if len(key) == 1:
+                found[key[0]] = key
+            elif of_two:
+                found[f"{key[0]} in {key[1]}" + (f" ({key[2]})" if key[2] > 1 else "")] = key
+            else:
+                found[f"{key[0]} at {name}"] = key
+    return found
+
+
+def option(text, holds):
+    """The words of a condition in a rule."""
+    match, rest = text.split(" ", 1)
+    return f"-m {match} {'' if holds else '! '}{rest}"
+
+
+def whole(dump):
+    """A dump with its conditions."""
+    lines = []
+    for chain, words, needs in dump[1]:
+        before, target = re.fullmatch("(.*?)(-[jg] .*)", words).groups()
+        lines.append(f"-A {chain} {before}" + "".join(option(need[0], len(need) == 2) + " " for need in needs) + target + "\n")
+    return (HEAD % dump[0] + "".join(lines) + "COMMIT\n").encode()
+
+
+def resolved(dump, assignment):
+    """What is left of it under an assignment."""
+    lines = []
+    for _, chain, words, needs in places(dump[1]):
+        holds = all(assignment[key] == wanted for key, wanted in needs)
+        lines.append(f"-A {chain} {words if holds else NEVER}\n")
+    return (HEAD % dump[0] + "".join(lines) + "COMMIT\n").encode()
+
+
+def assignments(*dumps):
+    """All assignments of their conditions."""
+    keys = sorted({key for dump in dumps for _, _, _, needs in places(dump[1]) for key, _ in needs})
+    for values in itertools.product((False, True), repeat=len(keys)):
+        yield dict(zip(keys, values))
+
+
+class Oracle:
+    """iptsim, asked about each assignment of the conditions of a dump."""
+
+    def __init__(self, rows, program):
+        self.rows, self.program = rows, program
+
+    def walks(self, data, packets):
+        """The rules on the walk of each packet, and how it ends, in what is left of a dump."""
+        path = os.path.join(self.rows.folder, "R")
+        with open(path, "wb") as file:
+            file.write(data)
+        ended = subprocess.run([self.program, "session", "--load", path], input="".join(packet + "\n" for packet in packets).encode(),
+                               stdout=subprocess.PIPE, check=True)
+        found = re.findall(r"((?:\S+ \d+\n)*)verdict (.*) by (rule|policy)\n", ended.stdout.decode())
+        return [(rules.splitlines(), verdict, rules.splitlines()[-1] if by == "rule" else "policy") for rules, verdict, by in found]
+
+
+def answers_of(line, known):
+    """The answers that a line says, by the keys of the conditions."""
+    found = {}
+    for part in line.split(" and ") if line else []:
+        text = part.removeprefix("not ")
+        found[known[text]] = text == part
+    return found
+
+
+def agrees(assignment, answers):
+    return all(assignment[key] == holds for key, holds in answers.items())
+
+
+def branch_of(line, assignment, known):
+    """What a line of branches says under an assignment: the first whose conditions hold."""
+    for part in line.strip().split("; else "):
+        found = re.fullmatch(r"if (.*?): (.* by .*)", part)
+        if found is None:
+            return part
+        if any(agrees(assignment, answers_of(line, known)) for line in found[1].split(" or ")):
+            return found[2]
+    return "nothing"
+
+
+def fails(rows, about, wrong):
+    """Counts a run that was compared with the oracle."""
+    rows.compared(about, (0, b"", b""), (0, "\n".join(map(str, wrong)).encode(), b""))
+
+
+def walk_rows(rows, oracle, number, dump):
+    """The walks of packets, which each assignment has, and the rules that they cover."""
+    known, data = names(dump[1]), whole(dump)
+    given = "".join(packet + "\n" for packet in PACKETS).encode()
+    ended = rows.run(["walk", "R"], {"R": data}, input=given)
+    lines = ended.stdout.decode().splitlines()
+    shown = dict(zip(lines[0:2 * len(PACKETS):2], lines[1:2 * len(PACKETS):2]))
+    wrong, met = [] if list(shown) == PACKETS else ["other packets"], []
+    for assignment in assignments(dump):
+        walks = oracle.walks(resolved(dump, assignment), PACKETS)
+        met.append((assignment, [set(rules) for rules, _, _ in walks]))
+        for packet, (_, verdict, by) in zip(PACKETS, walks):
+            came = branch_of(shown.get(packet, ""), assignment, known)
+            if came != f"{verdict} by {by}":
+                wrong.append((packet, assignment, came, verdict, by))
+    fails(rows, f"walks of dump {number}", wrong)
+    text = rows.run(["cover", "R"], {"R": data}, input=given).stdout.decode()
+    fails(rows, f"rules that packets cover of dump {number}", uncovered(dump, text, known, met))
+
+
+def uncovered(dump, text, known, met):
+    """What is wrong in an answer of cover, by the rules on the walk of each packet under each assignment."""
+    every = {name for name, *_ in places(dump[1])}
+    some = {name for _, walks in met for rules in walks for name in rules}
+    always = {name for rules in zip(*(walks for _, walks in met)) for name in set.intersection(*rules)}
+    missed = set(re.findall(r"(?m)^(?:missed|dead) (\S+ \d+) ", text))
+    shown = re.findall(r"(?m)^if (\S+ \d+) -A .*\n  if (.*)$", text)
+    wrong = sorted(missed ^ (every - some)) + sorted({name for name, _ in shown} ^ (some - always))
+    for name, line in shown:
+        under = [walks for assignment, walks in met if agrees(assignment, answers_of(line, known))]
+        if not under or not any(all(name in rules for rules in packet) for packet in zip(*under)):
+            wrong.append((name, line))
+    return wrong
+
+
+def live_rows(rows, oracle, number, dump):
+    """The packet of each live rule, under its answers; and that no assignment brings a dead rule on the walk of one of these packets."""
+    known, text = names(dump[1]), rows.run(["tests", "R"], {"R": whole(dump)}).stdout.decode()
+    live = re.findall(r"(?m)^# (\S+ \d+) -A .*\n(?:#   if (.*)\n)?(?:# )?(packet .*)$", text)
+    dead = set(re.findall(r"(?m)^# dead (\S+ \d+) ", text))
+    wrong = sorted({name for name, *_ in places(dump[1])} ^ ({name for name, *_ in live} | dead))
+    for assignment in assignments(dump):
+        walks = oracle.walks(resolved(dump, assignment), [packet for _, _, packet in live])
+        for (name, line, packet), (rules, _, _) in zip(live, walks):
+            if agrees(assignment, answers_of(line, known)) and name not in rules or dead & set(rules):
+                wrong.append((name, line, packet, assignment, rules))
+    fails(rows, f"packets of the rules of dump {number}", wrong)
+
+
+def same_rows(rows, oracle, number, old, new):
+    """Two dumps: what is the same is the same under each assignment for these packets, and what differs differs under the answers."""
+    known = {**names(new[1], True), **names(old[1], True)}
+    text = rows.run(["compare", "O", "N"], {"O": whole(old), "N": whole(new)}).stdout.decode()
+    differs = re.findall(r"(?m)^(\S+) differs\n(packet .*)\n(?:  if (.*)\n)?old:\n", text)
+    packets = [packet for _, packet, _ in differs] + PACKETS
+    wrong = re.findall(r"(?m)^\S+ unclear$", text)
+    for assignment in assignments(old, new):
+        both = zip(packets, oracle.walks(resolved(old, assignment), packets), oracle.walks(resolved(new, assignment), packets))
+        for place, (packet, first, second) in enumerate(both):
+            are_same = first[1] == second[1]
+            if place < len(differs) and are_same and agrees(assignment, answers_of(differs[place][2], known)):
+                wrong.append((packet, assignment, first, second))
+            if not are_same and f"{packet.split()[1]} same\n" in text:
+                wrong.append((packet, assignment, first, second))
+    fails(rows, f"pair {number} of dumps", wrong)
+
+
+def condition_rows(rows, program):
+    """Whole dumps."""
+    oracle = Oracle(rows, program)
+    for number, dump in enumerate(DUMPS, 1):
+        walk_rows(rows, oracle, number, dump)
+        live_rows(rows, oracle, number, dump)
+    for number, (old, new) in enumerate(PAIRS, 1):
+        same_rows(rows, oracle, number, old, new)

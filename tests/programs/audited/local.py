@@ -1,0 +1,86 @@
+"""What iptaudit writes about dumps that ask for types of addresses, where `--local` tells the addresses of the machine, for
+tests/programs/audit."""
+
+import ipaddress
+
+TYPES = ("LOCAL", "BROADCAST", "MULTICAST")
+HEAD = b"*filter\n:INPUT DROP [0:0]\n:FORWARD DROP [0:0]\n:OUTPUT DROP [0:0]\n"
+
+
+def dump(lines):
+    """A dump with these words of rules of INPUT."""
+    return HEAD + b"".join(f"-A INPUT {line}\n".encode() for line in lines) + b"COMMIT\n"
+
+
+def type_of(address, machine):
+    """The type of an address, by the addresses that a machine has, each with the network of its interface."""
+    interfaces = [ipaddress.ip_interface(text) for text in (*machine, "127.0.0.1/8")]
+    given = ipaddress.ip_address(address)
+    ends = [each.network.broadcast_address for each in interfaces if each.network.prefixlen < 31]
+    if address in ("0.0.0.0", "255.255.255.255"):
+        return "BROADCAST"
+    if given.is_multicast:
+        return "MULTICAST"
+    if given in ends:
+        return "BROADCAST"
+    return "LOCAL" if given in [each.ip for each in interfaces] or given in ipaddress.ip_network("127.0.0.0/8") else None
+
+
+# Addresses of machines, and of packets.
+MACHINES = (["192.0.2.1/24"], ["192.0.2.1"], ["10.0.0.1/8", "192.0.2.254/31", "192.0.2.9/30"], ["0.0.0.1/0"], ["255.255.255.254/30", "1.2.3.4/32"],
+            ["224.0.0.5/24", "127.0.0.1/8"], ["192.0.2.255/24", "192.0.2.0/255.255.255.0"])
+ADDRESSES = ("0.0.0.0", "0.0.0.1", "1.2.3.4", "1.2.3.5", "10.0.0.0", "10.0.0.1", "10.0.0.2", "10.255.255.255", "126.255.255.255", "127.0.0.0",
+             "127.0.0.1", "127.255.255.254", "127.255.255.255", "128.0.0.0", "192.0.2.0", "192.0.2.1", "192.0.2.2", "192.0.2.8", "192.0.2.9", "192.0.2.11",
+             "192.0.2.254", "192.0.2.255", "192.0.3.0", "223.255.255.255", "224.0.0.0", "224.0.0.5", "224.0.0.255", "239.255.255.255", "240.0.0.0",
+             "255.255.255.253", "255.255.255.254", "255.255.255.255")
+
+
+def packet(option, address):
+    """The line of a packet with this address."""
+    src, dst = (address, "192.0.2.77") if option == "src" else ("192.0.2.77", address)
+    return f"packet INPUT src={src} dst={dst} in=eth0 proto=udp sport=1 dport=2\n"
+
+
+def walk_row(rows, option, machine, lines, end):
+    """The walks of packets with each of the addresses; `end` says what is due of a type."""
+    given = [packet(option, address) for address in ADDRESSES]
+    due = [f"{line}  {end(type_of(address, machine))}\n" for line, address in zip(given, ADDRESSES)]
+    rows.row(f"--local {machine}: {lines}", ["walk", "--local", ",".join(machine), "R"], {"R": dump(lines)}, "".join(due).encode(), 0,
+             input="".join(given).encode())
+
+
+def type_rows(rows):
+    """Each type, and its opposite, of both addresses of a packet."""
+    for option in ("src", "dst"):
+        for machine in MACHINES:
+            walk_row(rows, option, machine, [f"-m addrtype --{option}-type {name} -j ACCEPT" for name in TYPES],
+                     lambda name: f"ACCEPT by INPUT {TYPES.index(name) + 1}" if name else "DROP by policy")
+            for other in TYPES:
+                walk_row(rows, option, machine, [f"-m addrtype ! --{option}-type {other} -j ACCEPT"],
+                         lambda name, other=other: "DROP by policy" if name == other else "ACCEPT by INPUT 1")
+
+
+# Rules that ask more than one type, or another one: these conditions stay open.
+OPEN = dump([f"-m addrtype {words} -j ACCEPT" for words in (
+    "--dst-type LOCAL --limit-iface-in", "--dst-type LOCAL,MULTICAST", "--src-type UNICAST", "--src-type LOCAL --dst-type LOCAL", "! --dst-type MULTICAST")])
+PLAIN = dump(["-m addrtype --dst-type LOCAL -j ACCEPT", "-d 127.0.0.1 -j DROP"])
+
+
+def local_rows(rows):
+    type_rows(rows)
+    rows.row("--local: what stays open", ["dead", "--local", "192.0.2.1/24", "R"], {"R": OPEN},
+             b"5 rules, 0 dead, 0 unclear\n4 conditions open: addrtype 4\n", 0)
+    rows.row("--local: a dead rule", ["dead", "--local", "192.0.2.1", "R"], {"R": PLAIN},
+             b"dead INPUT 2 -A INPUT -d 127.0.0.1/32 -j DROP\n  taken by INPUT 1 (ACCEPT)\n2 rules, 1 dead, 0 unclear\n0 redundant, 1 shadowed\n", 1)
+    same = b"INPUT same\nFORWARD same\nOUTPUT same\n"
+    rows.row("--local: compare", ["compare", "--local", "192.0.2.1", "O", "N"],
+             {"O": PLAIN, "N": dump(["-m iprange --dst-range 127.0.0.0-127.255.255.254 -j ACCEPT", "-d 192.0.2.1 -j ACCEPT"])},
+             same + b"4 changed rules, 1 dead, 0 unclear\n", 0)
+    rows.row("--local: an answer to what is known", ["dead", "--local", "192.0.2.1", "--when", "addrtype --dst-type LOCAL", "R"], {"R": PLAIN},
+             b"", 2, b"iptaudit: no rule has this condition: addrtype --dst-type LOCAL\n")
+    for words in ("", "x", "192.0.2.1,", "192.0.2.1/33", "192.0.2.256", "eth0", "192.0.2.1/24/24", "192.0.2.1 /24"):
+        rows.row(f"--local {words!r}", ["dead", "--local", words, "R"], {"R": PLAIN}, b"", 2, f"iptaudit: no addresses: {words}\n".encode())
+    most = ",".join(f"10.0.{number}.1/24" for number in range(8))
+    rows.row("--local: the most addresses", ["dead", "--local", most, "R"], {"R": PLAIN},
+             b"dead INPUT 2 -A INPUT -d 127.0.0.1/32 -j DROP\n  taken by INPUT 1 (ACCEPT)\n2 rules, 1 dead, 0 unclear\n0 redundant, 1 shadowed\n", 1)
+    rows.row("--local: more", ["dead", "--local", f"{most},10.1.0.1", "R"], {"R": PLAIN}, b"", 2, f"iptaudit: more than 8 addresses: {most},10.1.0.1\n".encode())

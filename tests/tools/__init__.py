@@ -1,0 +1,1 @@
+"""Wrong bodies, as files have them."""

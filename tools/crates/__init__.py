@@ -1,0 +1,1 @@
+"""Sources of crates that are written, and what is checked of them."""

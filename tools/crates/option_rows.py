@@ -1,0 +1,71 @@
+"""The rows of the crate dumps, as a file of its sources, by the table of options."""
+
+import os
+
+from commands.extensions import EXTENSIONS, is_known
+
+PLACE = "crates/dumps/src/options/rows.rt"
+FORM = """\
+//! The rows of the table of options. `bin/rows` writes this file, by the table in bin/lib/options.table.
+
+// Of each option a line: whose it is, and `.` where it is the rule's own, its role, how many values follow, and its spellings.
+pub(crate) static OPTIONS: &str = "\
+{options}";
+
+// Of each match and target a line: its name, its kind, and of a match the words of `-p` that begin it, of a target the matches that ask
+// what it sets.
+pub(crate) static EXTENSIONS: &str = "\
+{extensions}";
+"""
+# The roles of options that the program knows, by the kind of their value.
+READ = {"match": "match", "target": "target", "protocol": "protocol", "port": "ports", "ports": "ports", "type": "icmp-type"}
+ROLES = {"+": "asks", ".": "says", "^": "turns"}
+
+
+def role(owner, option):
+    if option.names[0] in owner.always:
+        return "holds"
+    if option.names[0] in owner.unopposed:
+        return "unopposed"
+    if option.place == "=":
+        return READ.get(option.values[0], "own") if option.values else "own"
+    return ROLES[option.place]
+
+
+def kind(owner):
+    """What a match or a target is to the program."""
+    if owner.kind == "match" and is_known(owner):
+        return "alone" if "alone" in owner.notes else "known"
+    if owner.kind == "match":
+        return owner.notes[0]
+    return "logs" if owner.kind == "passes" and is_known(owner) else owner.kind
+
+
+def line(*words):
+    return " ".join(words) + "\n"
+
+
+def option_lines():
+    for owner in EXTENSIONS:
+        for option in () if owner.kind == "command" else owner.options:
+            yield line(owner.name.decode(), role(owner, option), str(len(option.values)), *(name.decode() for name in option.names))
+
+
+def extension_lines():
+    for owner in EXTENSIONS:
+        if owner.kind not in ("rule", "command"):
+            yield line(owner.name.decode(), kind(owner), *(word.decode() for word in owner.protocols + owner.sets))
+
+
+def written():
+    """The text of the file."""
+    return FORM.format(options="".join(option_lines()), extensions="".join(extension_lines()))
+
+
+def is_written(root):
+    """Whether the file is there, with this text."""
+    path = os.path.join(root, PLACE)
+    if not os.path.exists(path):
+        return False
+    with open(path, encoding="utf-8") as file:
+        return file.read() == written()

@@ -1,0 +1,63 @@
+"""tools/documents: checks the documents and the comments of the sources. With a word it prints a page of the sources' comments instead.
+
+    tools/documents definitions [WORD..]   what contracts cite: of each file of `specs/` its head, and of each definition its comment; with words
+                                         the files whose path or one of whose definitions has one, `specs/steps/` among them
+    tools/documents rooms CRATE..          the folders and modules of crates, with the definitions that each module cites
+    tools/documents calls CRATE..          the public items of crates: what each promises, its errors, its costs
+    tools/documents scripts                the scripts and their modules
+
+The check looks for
+
+- links: the file of each relative link, and its heading;
+- paths: each path in backquotes; in the README of a crate also those below the crate's folders;
+- names: each other name in backquotes, of documents about the code, anywhere in the sources;
+- numbers: counts of crates, functions, edits, cases and the like, where a document states one;
+- comments: the head of each module and script, the doc comment of each public item, the head of each file of `specs/` and the comment of each
+  of its definitions outside of `specs/steps/`;
+- length: all documents together have at most 25,000 words;
+- spelling: words that neither hunspell's American dictionary nor tools/documenting/words.txt has;
+- prose: sentences that are too long, words that stand twice, and some phrases.
+
+Faults of each kind are planted: they have to be found, or the check itself is at fault.
+
+It prints each fault with its file and line, and last how many there are, and ends with status 1 where there are any. `.ci/run` calls it. Where
+hunspell isn't installed it says that spelling is passed over.
+"""
+
+import os
+import sys
+
+from tools.documenting import comments, counts, length, links, names, planting, prose, spelling, tree
+from tools.documenting.pages import PAGES
+
+CHECKS = (links, names, counts, comments, length, spelling, prose)
+
+
+def check():
+    found = [fault for module in CHECKS for fault in module.faults()]
+    found += planting.faults(CHECKS)
+    for fault in found:
+        print(fault)
+    print(f"documents: {len(found)} faults")
+    return 1 if found else 0
+
+
+def main(words):
+    if not words:
+        return check()
+    if words[0] not in PAGES:
+        print(f"documents: no page is called {words[0]}: {', '.join(PAGES)}", file=sys.stderr)
+        return 2
+    show, has_crates = PAGES[words[0]]
+    unknown = [word for word in words[1:] if has_crates and word not in tree.crates()]
+    if unknown or has_crates and not words[1:]:
+        print(f"documents: crates are {', '.join(tree.crates())}", file=sys.stderr)
+        return 2
+    show(words[1:])
+    return 0
+
+
+try:
+    sys.exit(main(sys.argv[1:]))
+except BrokenPipeError:
+    os.dup2(os.open(os.devnull, os.O_WRONLY), 1)

@@ -1,0 +1,67 @@
+"""The repository as files: which there are, their text, and the crates in the order in which they stand on one another."""
+
+import functools
+import os
+
+from tools import ROOT
+
+# What is built, or isn't the repository's.
+LEFT_OUT = (".git", "out", "__pycache__")
+
+
+# Files with faults, by their paths, which stand in place of all others while the checks are tried.
+planted = {}
+
+
+def all_files():
+    """The paths of all files, relative to the repository, in order."""
+    return tuple(planted) or own_files()
+
+
+@functools.lru_cache(maxsize=None)
+def own_files():
+    found = []
+    for folder, inner, names in os.walk(ROOT):
+        inner[:] = sorted(name for name in inner if name not in LEFT_OUT)
+        found += [os.path.relpath(os.path.join(folder, name), ROOT) for name in sorted(names)]
+    return tuple(found)
+
+
+def files(*suffixes, below=""):
+    """The files that end in one of the suffixes and begin with a path."""
+    return [path for path in all_files() if path.startswith(below) and path.endswith(suffixes)]
+
+
+def exists(path):
+    return os.path.exists(os.path.join(ROOT, path))
+
+
+def text(path):
+    return planted[path] if path in planted else own_text(path)
+
+
+@functools.lru_cache(maxsize=None)
+def own_text(path):
+    with open(os.path.join(ROOT, path), encoding="utf-8", errors="replace") as file:
+        return file.read()
+
+
+def lines(path):
+    return text(path).splitlines()
+
+
+def crates():
+    """The crates, each after those on which it stands."""
+    uses = dict(line.strip().split(":", 1) for line in lines("crates.txt") if ":" in line and not line.startswith("#"))
+    placed = []
+
+    def place(crate):
+        for below in uses[crate].split():
+            if below in uses and below not in placed:
+                place(below)
+        if crate not in placed:
+            placed.append(crate)
+
+    for crate in uses:
+        place(crate)
+    return placed

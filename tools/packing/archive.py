@@ -1,0 +1,73 @@
+"""The archive: one folder with the files of an installation, as below PREFIX, with a text, a script that installs, and checksums."""
+
+import gzip
+import hashlib
+import io
+import os
+import tarfile
+
+from tools.packing.folder import folders
+from tools.packing.layout import Entry, Link, PAGE, entry
+
+ORIGINS = {
+    True: "Both programs were proved and built from the sources of this version",
+    False: "A program was built elsewhere, and put into this archive as it was",
+}
+
+
+BROWSER = "The file `{page}` has both programs, too: a browser opens it from here, and no byte leaves it.\n\n"
+
+
+def has_page(contents):
+    return any(each.place == PAGE for each in contents.entries)
+
+
+def text(root, contents):
+    """INSTALL, by its form in share/package."""
+    form = entry(os.path.join(root, "share", "package", "INSTALL"), "INSTALL", 0o644).data.decode()
+    commit = contents.version.commit if contents.are_built else None
+    origin = ORIGINS[contents.are_built] + (f" (commit {commit})" if commit else "")
+    page = BROWSER.format(page=os.path.basename(PAGE)) if has_page(contents) else ""
+    return form.format(version=contents.version.name, origin=origin, library=contents.library, page=page).encode()
+
+
+def checksums(entries):
+    """SHA256SUMS, as sha256sum writes it."""
+    return "".join(f"{hashlib.sha256(each.data).hexdigest()}  {each.place}\n" for each in entries if isinstance(each, Entry)).encode()
+
+
+def archived(root, contents):
+    """The files of the archive's folder, in order."""
+    entries = [*contents.entries, Entry("INSTALL", 0o644, text(root, contents)),
+               entry(os.path.join(root, "share", "package", "install"), "install", 0o755)]
+    if has_page(contents):
+        entries.append(Link(os.path.basename(PAGE), PAGE))
+    entries.sort(key=lambda each: each.place)
+    return [*entries, Entry("SHA256SUMS", 0o644, checksums(entries))]
+
+
+def tar_member(top, each, seconds):
+    member = tarfile.TarInfo(f"{top}/{each.place}")
+    member.mtime = seconds
+    if isinstance(each, Link):
+        member.type, member.linkname, member.mode = tarfile.SYMTYPE, each.target, 0o777
+    else:
+        member.mode, member.size = each.mode, len(each.data)
+    return member
+
+
+def tar_folder(name, seconds):
+    member = tarfile.TarInfo(name)
+    member.type, member.mode, member.mtime = tarfile.DIRTYPE, 0o755, seconds
+    return member
+
+
+def tar(top, seconds, entries):
+    """The bytes of the archive: equal for equal files, whoever makes it, and when."""
+    packed = io.BytesIO()
+    with tarfile.open(fileobj=packed, mode="w", format=tarfile.USTAR_FORMAT) as file:
+        for folder in [top, *(f"{top}/{folder}" for folder in folders(entries))]:
+            file.addfile(tar_folder(folder, seconds))
+        for each in entries:
+            file.addfile(tar_member(top, each, seconds), None if isinstance(each, Link) else io.BytesIO(each.data))
+    return gzip.compress(packed.getvalue(), 9, mtime=0)

@@ -1,0 +1,5 @@
+"""What tools/page makes: the bitcode of the proved programs, their WebAssembly, and the page that has both."""
+
+
+class Failure(Exception):
+    """Why no page is made."""
