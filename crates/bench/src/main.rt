@@ -1,7 +1,7 @@
 //! The program `bench`: what a search of the classifier costs beside the plain walk that it stands for, and a box taken out and
-//! put in again. What the program `iptsim` costs, `bin/costs` counts.
+//! put in again. What the program `iptsim` costs, `tests/costs/costs.py` counts.
 //!
-//! Standard input has workloads, as `bin/lib/workloads.py` writes them. A line `# NAME` begins one; then its rules stand on
+//! Standard input has workloads, as `tests/drawn/workloads.py` writes them. A line `# NAME` begins one; then its rules stand on
 //! lines `-A INPUT ..`, and its packets on lines `packet INPUT ..`; other lines are passed over. `bench` compares answers of
 //! the classifier and of a table with those of plain walks, and prints only what never varies. `bench time` prints times.
 #![tactic(auto)]

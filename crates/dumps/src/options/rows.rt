@@ -1,4 +1,4 @@
-//! The rows of the table of options. `bin/rows` writes this file, by the table in bin/lib/options.table.
+//! The rows of the table of options. `tools/rows` writes this file, by the table in commands/options.table.
 
 // Of each option a line: whose it is, and `.` where it is the rule's own, its role, how many values follow, and its spellings.
 pub(crate) static OPTIONS: &str = ". own 1 -s --source --src
