@@ -72,7 +72,10 @@ class Loaded:
 
 def of_kinds(program, count, iptables, folder):
     """The table of kinds of rules."""
-    made = lambda name, text: Loaded(program, os.path.join(folder, name), text)
+
+    def made(name, text):
+        return Loaded(program, os.path.join(folder, name), text)
+
     kinds = {kind: workloads.of_kind(kind, count) for kind in workloads.KINDS}
     lines = {kind: drawn for kind, (_, drawn) in kinds.items()}
     lines["one rule"] = workloads.of_kind("generated", 1)[1]

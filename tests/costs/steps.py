@@ -32,7 +32,10 @@ def unclear(output):
 
 def least(words):
     """The least number of steps with which nothing is unclear, or nothing, and the run with it, or with the most."""
-    run = lambda steps: asked([*words[:2], "--steps", str(steps), *words[2:]])
+
+    def run(steps):
+        return asked([*words[:2], "--steps", str(steps), *words[2:]])
+
     below, enough, best = 0, 1, None
     while best is None:
         tried = run(enough)

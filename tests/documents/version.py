@@ -15,7 +15,6 @@ from tests.shared.rows import Rows, programs
 from tools.packing.programs import UNRELEASED
 
 
-
 def text(*place):
     with open(os.path.join(ROOT, *place), encoding="utf-8") as file:
         return file.read()

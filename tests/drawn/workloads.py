@@ -67,7 +67,9 @@ def generated(dice):
 
 
 def distinct(dice, place):
-    jump = lambda step: place * step % 8192
+    def jump(step):
+        return place * step % 8192
+
     source, destination = (0x0A000000 + 512 * jump(2741), 24), (0x14000000 + 512 * jump(5003), 24)
     source_port, port = 1024 + 2 * jump(3571), 20000 + 2 * jump(6229)
     rule = f"-s {address(source[0])}/24 -d {address(destination[0])}/24 -p tcp -m tcp --sport {source_port} --dport {port} -j ACCEPT"

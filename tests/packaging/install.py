@@ -17,8 +17,6 @@ from tests.packaging.parts import first_answers
 from tests.shared.rows import Rows, programs
 from tools.completing.table import read_commands
 
-
-
 NAMED = "".join(f"release: the program {name} is the one that {name.upper()} names, whether it is proved or not\n" for name in ("iptsim", "iptaudit"))
 NAMED += "release: the page is the one that IPTSIM_PAGE names\n"
 

@@ -156,7 +156,6 @@ def cover_rows(rows, program, dump):
     data = ruleset(b"DROP", rules)
     names = named(rules)
     packet = b"packet INPUT src=10.0.0.1 dst=10.0.0.2 proto=%s sport=4000 dport=%d\n"
-    dead = b"dead INPUT 3 " + names[b"INPUT 3"] + b"\n"
     table = [
         ("no packet", b"", [b"INPUT 1", b"INPUT 2", b"a 1"]),
         ("one of a chain", packet % (b"tcp", 23), [b"INPUT 2", b"a 1"]),

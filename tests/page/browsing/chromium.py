@@ -28,8 +28,8 @@ class Chromium:
         read, from_browser = high_pipe()
         # As root it can't have a sandbox of its own.
         words = ["chromium", "--headless=new", "--disable-gpu", "--no-first-run", "--disable-extensions", "--hide-scrollbars",
-                 "--disable-background-networking", "--disable-component-update",
-                 "--disable-renderer-backgrounding", "--disable-background-timer-throttling", "--disable-backgrounding-occluded-windows", "--disable-sync", "--disable-dev-shm-usage",
+                 "--disable-background-networking", "--disable-component-update", "--disable-renderer-backgrounding", "--disable-sync",
+                 "--disable-background-timer-throttling", "--disable-backgrounding-occluded-windows", "--disable-dev-shm-usage",
                  f"--user-data-dir={folder}", "--remote-debugging-pipe", *(["--no-sandbox"] if os.geteuid() == 0 else []), "about:blank"]
         shell = ["bash", "-c", f'exec "$@" 3<&{to_browser} 4>&{from_browser}', "bash", *words]
         with open(os.path.join(folder, "log"), "wb") as log:

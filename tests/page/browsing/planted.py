@@ -10,8 +10,8 @@ MACHINE = {
     "bytes are lost where a block moves": ("heap.c", "have < wanted ? have : wanted", "have < wanted ? have / 2 : wanted"),
     "memory is there without end": ("heap.c", "if (!reaches(after)) return 0;\n  block = ", "reaches(after);\n  block = "),
     "a carry is lost": ("wide.c", "(cross >> 32) + (crossed >> 32)", "(cross >> 32)"),
-    "bits are lost where a number is shifted": ("wide.c", "from(it.low >> count | it.high << (64 - count), it.high >> count)",
-                                               "from(it.low >> count, it.high >> count)"),
+    "bits are lost where a number is shifted": (
+        "wide.c", "from(it.low >> count | it.high << (64 - count), it.high >> count)", "from(it.low >> count, it.high >> count)"),
 }
 WORKER = {
     "a status is lost": ("const status = program.exports.main(0, 0n);", "const status = program.exports.main(0, 0n) & 2;"),

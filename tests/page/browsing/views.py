@@ -71,7 +71,8 @@ class Views:
         self.same("the rules that it matches", "FORWARD 5\nSERVERS 2", user.see("[...document.querySelectorAll('#walk [data-step]')].map((it) => it.dataset.step).join('\\n')"))
         self.has("the verdict", "DROP", user.text("#walk .outcome"))
         user.click("#ask-why-not")
-        reached = user.see("[...document.querySelectorAll('#why-not > li')].map((it) => it.dataset.unmatched ? `not ${it.dataset.unmatched} ${it.querySelector('code').textContent}` : it.dataset.step).join('\\n')")
+        reached = user.see("[...document.querySelectorAll('#why-not > li')].map((it) => it.dataset.unmatched "
+                           "? `not ${it.dataset.unmatched} ${it.querySelector('code').textContent}` : it.dataset.step).join('\\n')")
         self.same("why other rules don't match", "not FORWARD 1 -s 10.0.0.0/16\nnot FORWARD 2 -m conntrack --ctstate INVALID\n"
                   "not FORWARD 3 -m conntrack --ctstate RELATED,ESTABLISHED\nnot FORWARD 4 -i eth1\nFORWARD 5\nnot SERVERS 1 -d 10.0.2.10/32\nSERVERS 2", reached)
         user.give("#packet-line", MAIL.replace("dport=25", "port=25"))
