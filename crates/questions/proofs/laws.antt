@@ -31,6 +31,7 @@ pub mod LengthLaws
 pub mod LineLaws
 pub mod LineStepLaws
 pub mod LookLaws
+pub mod LyingLaws
 pub mod MeetingLaws
 pub mod NecessaryLaws
 pub mod NeedlessLaws
@@ -38,6 +39,7 @@ pub mod NeverLaws
 pub mod OnwardLaws
 pub mod PacketLaws
 pub mod PartLaws
+pub mod PartedLaws
 pub mod PartingLaws
 pub mod PlainCompareLaws
 pub mod PlainLaws
@@ -49,6 +51,7 @@ pub mod SeekLaws
 pub mod SharedLaws
 pub mod ShortLaws
 pub mod StayLaws
+pub mod StepLaws
 pub mod StrayLaws
 pub mod TakerLaws
 pub mod TrailLaws

@@ -1,5 +1,5 @@
 -- Packets under answers about conditions that this program doesn't know; and leaves, each with the answers under which it shows a walk.
-use Rattle.std.specs.Prelude.{◌≡◌, ◌-◌, Bool, false, List, [], filter, All, Any, IfSome, IsTrue}
+use Rattle.std.specs.Prelude.{◌≡◌, ◌-◌, Bool, List, [], filter, All, Any, IfSome, IsTrue}
 use Rattle.fields.specs.declared.packet.hook.Hook.{Hook}
 use Rattle.fields.specs.numbers.Spans.{SpanSet}
 use Rattle.fields.specs.packet.Packet.{PacketView as Packet}
@@ -20,10 +20,6 @@ use Rattle.questions.specs.declared.walking.task.Leaf.{Leaf}
 pub record Known : Type 0 where
   pub needs : List (List (List Need))
   pub holds : Assignment
-
--- no rule needs anything
-abbrev pub needless : Known
-needless = record { needs = []; holds = λ condition. false }
 
 -- a box, under answers
 abbrev pub under : List SpanSet → List Answer → Scope

@@ -3,3 +3,4 @@ pub mod Calls
 pub mod Cut
 pub mod Boxes
 pub mod Meeting
+pub mod Parts

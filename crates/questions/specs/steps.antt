@@ -17,6 +17,7 @@ pub mod Lines
 pub mod Meant
 pub mod Onward
 pub mod Outlines
+pub mod Parted
 pub mod Remaining
 pub mod Sampled
 pub mod Searched

@@ -1,5 +1,5 @@
 -- What two tables have in common, whatever holds that their rules need.
-use Rattle.std.proofs.Common.{◌≡◌, ℕ, List, [], inl, sym, ◌∙◌, ap, subst, All}
+use Rattle.std.proofs.Common.{◌≡◌, List, [], inl, sym, ◌∙◌, ap, subst, All}
 use Rattle.std.proofs.lemmas.Bool.{true≢false}
 use Rattle.std.proofs.lemmas.List.Elements.{All-contains}
 use Rattle.fields.specs.declared.packet.hook.Hook.{Hook}

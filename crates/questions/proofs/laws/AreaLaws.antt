@@ -119,7 +119,7 @@ module _ (at : ℕ) (own other part : List SpanSet) (is : IsBox own) (h : IsPart
       get_or-map (λ (s : SpanSet). s.top) part k no_set d within ∙ side.top ∙ sym (get_or-map (λ (s : SpanSet). s.top) own k no_set d there))) in
       same ∙ is
 
-takes_below : (at k : ℕ) (b : Bool) → k < at → takes at k b ≡ b
+pub takes_below : (at k : ℕ) (b : Bool) → k < at → takes at k b ≡ b
 takes_below at k b lt = ap (λ t. cond t b (cond (eqb k at) (not b) true)) (lt-ltb k at lt)
 
 -- the numbers that are in both
@@ -309,10 +309,10 @@ leaves_somewhere box numbers lacks =
       | inr found ↦ found
     ]
 
-takes_at : (at : ℕ) (b : Bool) → takes at at b ≡ not b
+pub takes_at : (at : ℕ) (b : Bool) → takes at at b ≡ not b
 takes_at at b = ap (λ t. cond t b (cond (eqb at at) (not b) true)) (le-ltb at at (omega arith)) ∙ ap (λ t. cond t (not b) true) (eq-eqb at at refl)
 
-takes_after : (at k : ℕ) (b : Bool) → at < k → takes at k b ≡ true
+pub takes_after : (at k : ℕ) (b : Bool) → at < k → takes at k b ≡ true
 takes_after at k b lt = let ne : k ≢ at = omega (arith, lt) in ap (λ t. cond t b (cond (eqb k at) (not b) true)) (le-ltb k at (omega (arith, lt))) ∙ ap (λ t. cond t (not b) true) (ne_eqb k at ne)
 
 -- they are in the part that leaves it there

@@ -39,7 +39,7 @@ use Rattle.questions.specs.steps.Compared.{AreShort}
 use Rattle.questions.specs.steps.Takers.{IsBoxAt, IsMatchedAt}
 use Rattle.questions.specs.declared.asked.reach.Given.{Given}
 use Rattle.questions.specs.Leaves.{entry_of, name_at}
-use Rattle.questions.specs.Scopes.{EndsUnder, IsOf, Known, ShowsUnder, answered, entries_by, is_met, known_by, scope_of, table_of, unasked, walked_by}
+use Rattle.questions.specs.Scopes.{EndsUnder, IsOf, Known, ShowsUnder, Whole, answered, entries_by, is_met, known_by, known_under, left_under, scope_of, table_of, unasked, walked_by, whole_of}
 use Rattle.questions.specs.boxes.Area.{Has, IsAtHook, IsIn}
 use Rattle.questions.specs.boxes.Boxes.{rules_in}
 use Rattle.questions.specs.declared.walking.front.Front.{Front}
@@ -133,7 +133,7 @@ pub never_long : (t : Table) (known : Known) (p : Packet) (leaf : Leaf) → Ends
 never_long t known p leaf ends long = leaf.short (sym (ap (λ (w : Walked). w.verdict) ends.walked) ∙ long)
 
 -- nor has it a rule that doesn't come to its trail
-never_there : (t : Table) (known : Known) (p : Packet) (leaf : Leaf) (step : Step) → IsSound t → step.chain < length t.chains → (Contains leaf.trail.items step → MeetsNever (needed_by known step) leaf.answers) → EndsUnder t known p leaf
+never_there : (t : Table) (known : Known) (p : Packet) (leaf : Leaf) (step : Step) → IsSound t → step.chain < length t.chains → (Contains leaf.trail.items step → MeetsNever (needed_by known.needs step) leaf.answers) → EndsUnder t known p leaf
     → Contains (walk t p).trail (entry_of t.chains step) → ⊥
 never_there t known p leaf step sound lt off ends on =
     let P : Walked → Type 0 = λ (w : Walked). Contains w.trail (entry_of t.chains step) in
@@ -141,7 +141,7 @@ never_there t known p leaf step sound lt off ends on =
     true≢false (sym met ∙ off there known.holds ends.own.agrees)
 
 pub leaf_gone : (t : Table) (known : Known) (step : Step) (old new : Front) (leaf : Leaf) → IsSound t → step.chain < length t.chains → new.tasks.items ≡ old.tasks.items → old.leaves.items ≡ new.leaves.items ++ leaf ∷ []
-    → (Contains leaf.trail.items step → MeetsNever (needed_by known step) leaf.answers) → IsKept t known (entry_of t.chains step) old new
+    → (Contains leaf.trail.items step → MeetsNever (needed_by known.needs step) leaf.answers) → IsKept t known (entry_of t.chains step) old new
 leaf_gone t known step old new leaf sound lt tasks leaves off p sought (inl a) = let Q : List Task → Type 0 = λ ts. Any (WaitsIn t known p) ts in inl (subst Q (sym tasks) a)
 leaf_gone t known step old new leaf sound lt tasks leaves off p sought (inr a) =
     let R : List Leaf → Type 0 = λ ls. Contains ls a.1 in
@@ -155,7 +155,7 @@ leaf_gone t known step old new leaf sound lt tasks leaves off p sought (inr a) =
     ]
 
 -- no packet of a task that a rule ahead takes comes to the rule of a step that isn't on its trail
-never_before : (t : Table) (known : Known) (box : List SpanSet) (step : Step) (task : Task) → IsSound t → step.chain < length t.chains → NeverComes t known box step task → (Contains task.trail.items step → MeetsNever (needed_by known step) task.scope.answers)
+never_before : (t : Table) (known : Known) (box : List SpanSet) (step : Step) (task : Task) → IsSound t → step.chain < length t.chains → NeverComes t known box step task → (Contains task.trail.items step → MeetsNever (needed_by known.needs step) task.scope.answers)
     → (p : Packet) → IsAtHook p → IsIn box p → WaitsIn t known p task → IsSought t (entry_of t.chains step) p → ⊥
 never_before t known box step task sound lt never off p can inside waits sought =
     let (there, met) = step_by t known task.trail.items step sound lt (never p can inside waits sought) in
@@ -163,10 +163,10 @@ never_before t known box step task sound lt never off p can inside waits sought 
 
 -- nor does one that was in the task before it came to a later rule of its chain
 pub never_further : (t : Table) (known : Known) (start : Scope) (step : Step) (task next : Task) → IsSound t → step.chain < length t.chains → IsFurther t known start task next → NeverComes t known start.area step next
-    → (Contains task.trail.items step → MeetsNever (needed_by known step) task.scope.answers) → (p : Packet) → IsAtHook p → IsOf known p start → WaitsIn t known p task → IsSought t (entry_of t.chains step) p → ⊥
+    → (Contains task.trail.items step → MeetsNever (needed_by known.needs step) task.scope.answers) → (p : Packet) → IsAtHook p → IsOf known p start → WaitsIn t known p task → IsSought t (entry_of t.chains step) p → ⊥
 never_further t known start step task next sound lt further never off p can own waits sought =
     let On : Vec Step Global → Type 0 = λ trail. Contains trail.items step in
-    let Met : Scope → Type 0 = λ scope. MeetsNever (needed_by known step) scope.answers in
+    let Met : Scope → Type 0 = λ scope. MeetsNever (needed_by known.needs step) scope.answers in
     never_before t known start.area step next sound lt never (λ on. subst Met (sym further.same) (off (subst On further.trail on))) p can own.inside (further.waits p can own waits) sought
 
 -- nothing is taken off an empty list
@@ -216,63 +216,71 @@ abbrev CameWith : Table → Known → Step → Packet → Option Scope → Type 
 CameWith t known step p found = IfSome found (λ came. IsOf known p came → IsSought t (entry_of t.chains step) p)
 
 -- it is one of the scope that the trail belongs to, and all holds that the rule needs
-came_from : (known : Known) (step : Step) (scope came : Scope) (trail : List Step) (p : Packet) → IsFound (needed_by known step) step scope trail (Some came) → IsOf known p came → IsOf known p scope × (is_met known step ≡ true)
+came_from : (known : Known) (step : Step) (scope came : Scope) (trail : List Step) (p : Packet) → IsFound (needed_by known.needs step) step scope trail (Some came) → IsOf known p came → IsOf known p scope × (is_met known step ≡ true)
 came_from known step scope came trail p (on, same, meeting) own =
     let B : List SpanSet → Type 0 = λ b. IsIn b p in
     let agrees = meeting.own known.holds own.agrees in
     (record { inside = subst B same own.inside; agrees = agrees.0 }, agrees.1)
 
--- a packet that is only in scopes that fit it still is after one step
-comes_fitting : (t : Table) (known : Known) (policy : Verdict) (start : Scope) (step : Step) (task : Task) (old new : Front) (found : Option Scope) (p : Packet) → ComesBy t known policy start step task old new found → IsAsked t policy p
-    → FitsTask t known start p task → IsFitting t known start p old → IsFitting t known start p new × CameWith t known step p found
-comes_fitting t known policy start step task old new found p (inl ((came, is, itself), same)) asked own fits =
-    let Q : Front → Type 0 = λ f. IsFitting t known start p f in
-    let here : CameWith t known step p (Some came) = λ inside.
-    (let (of, met) = came_from known step task.scope came task.trail.items p itself inside in
-    sought_from t p (rests_of t.chains task.rests.items) (entries_by known t.chains task.trail.items) (entry_of t.chains step) (own of).1 (on_entries_by known t.chains task.trail.items step itself.0 met)) in
-    (subst Q (sym same) fits, subst (CameWith t known step p) (sym is) here)
-comes_fitting t known policy start step task old new found p (inr (inl (never, none, same))) asked own fits =
-    let Q : Front → Type 0 = λ f. IsFitting t known start p f in
-    (subst Q (sym same) fits, subst (CameWith t known step p) (sym none) tt)
-comes_fitting t known policy start step task old new found p (inr (inr (mid, (next, further, moves, on), taken))) asked own fits = by_leaf (moves.fits start p asked further_fits fits) taken
-  where
-    further_fits : IsOf known p next.scope → Belongs t known start p (stage_of known t.chains next)
-    further_fits inside =
-        let B : Scope → Type 0 = λ b. IsOf known p b in
-        let there = subst B further.same inside in
-        let belongs = own there in
-        (belongs.0, (further.waits p asked.at_hook belongs.0 (record { own = there; reaches = belongs.1 })).reaches)
+module _ (w : Whole) (a : Assignment) where
+  abbrev t : Table
+  t = left_under w a
 
-    tasks_kept : IsFitting t known start p mid → new.tasks ≡ mid.tasks → All (FitsTask t known start p) new.tasks.items
-    tasks_kept all same = let T : Vec Task Global → Type 0 = λ ts. All (FitsTask t known start p) ts.items in subst T (sym same) all.tasks
+  abbrev known : Known
+  known = known_under w a
 
-    on_walk : (leaf : Leaf) (o : Option Scope) → ShowsUnder t known start p leaf → IsFound (needed_by known step) step (scope_of leaf) leaf.trail.items o → CameWith t known step p o
-    on_walk leaf None shows is = tt
-    on_walk leaf (Some came) shows is = λ inside.
-        let (of, met) = came_from known step (scope_of leaf) came leaf.trail.items p is inside in
-        let P : Walked → Type 0 = λ (w : Walked). Contains w.trail (entry_of t.chains step) in
-        let shown : walk t p ≡ walked_by known t.chains leaf = (shows of).1 in
-        inl (subst P (sym shown) (on_entries_by known t.chains leaf.trail.items step is.0 met))
+  -- a packet that is only in scopes that fit it still is after one step
+  comes_fitting : (policy : Verdict) (start : Scope) (step : Step) (task : Task) (old new : Front) (found : Option Scope) (p : Packet) → ComesBy w policy start step task old new found → IsAsked t policy p
+      → FitsTask t known start p task → IsFitting t known start p old → IsFitting t known start p new × CameWith t known step p found
+  comes_fitting policy start step task old new found p (inl ((came, is, itself), same)) asked own fits =
+      let Q : Front → Type 0 = λ f. IsFitting t known start p f in
+      let here : CameWith t known step p (Some came) = λ inside.
+      (let (of, met) = came_from known step task.scope came task.trail.items p itself inside in
+      sought_from t p (rests_of t.chains task.rests.items) (entries_by known t.chains task.trail.items) (entry_of t.chains step) (own of).1 (on_entries_by known t.chains task.trail.items step itself.0 met)) in
+      (subst Q (sym same) fits, subst (CameWith t known step p) (sym is) here)
+  comes_fitting policy start step task old new found p (inr (inl (never, none, same))) asked own fits =
+      let Q : Front → Type 0 = λ f. IsFitting t known start p f in
+      (subst Q (sym same) fits, subst (CameWith t known step p) (sym none) tt)
+  comes_fitting policy start step task old new found p (inr (inr (mid, on, taken))) asked own fits = by_leaf ((on.moves a).fits start p asked further_fits fits) taken
+    where
+      further_fits : IsOf known p on.next.scope → Belongs t known start p (stage_of known t.chains on.next)
+      further_fits inside =
+          let B : Scope → Type 0 = λ b. IsOf known p b in
+          let further = on.further a in
+          let there = subst B further.same inside in
+          let belongs = own there in
+          (belongs.0, (further.waits p asked.at_hook belongs.0 (record { own = there; reaches = belongs.1 })).reaches)
 
-    by_leaf : IsFitting t known start p mid → TakesLeaf (needed_by known step) step mid new found → IsFitting t known start p new × CameWith t known step p found
-    by_leaf all (inl (bare, gone, same, none)) =
-        let L : List Leaf → Type 0 = λ ls. All (ShowsUnder t known start p) ls in
-        (record { tasks = tasks_kept all same; leaves = subst L (sym gone) (All-nil (ShowsUnder t known start p)) }, subst (CameWith t known step p) (sym none) tt)
-    by_leaf all (inr (leaf, leaves, same, is)) =
-        let split = All-pop (ShowsUnder t known start p) mid.leaves.items new.leaves.items (Some leaf) leaves all.leaves in
-        (record { tasks = tasks_kept all same; leaves = split.0 }, on_walk leaf found split.1 is)
+      tasks_kept : IsFitting t known start p mid → new.tasks ≡ mid.tasks → All (FitsTask t known start p) new.tasks.items
+      tasks_kept all same = let T : Vec Task Global → Type 0 = λ ts. All (FitsTask t known start p) ts.items in subst T (sym same) all.tasks
 
--- so it is after one step of the search
-fits_on : (t : Table) (known : Known) (hook : Hook) (step : Step) (scope : Scope) (old new : Front) (found : Option Scope) (p : Packet) → IsSearchStep t known hook scope step old new found → IsAtHook p → p.hook ≡ hook → IsFitting t known scope p old
-    → IsFitting t known scope p new × CameWith t known step p found
-fits_on t known hook step scope old new found p (policy, task, left, up, by) can e before =
-    let split = All-pop (FitsTask t known scope p) old.tasks.items left.tasks.items (Some task) up.tasks before.tasks in
-    let L : List Leaf → Type 0 = λ ls. All (ShowsUnder t known scope p) ls in
-    comes_fitting t known policy scope step task left new found p by (record { at_hook = can; ends = up.ends p e }) split.1 (record { tasks = split.0; leaves = subst L (sym up.leaves) before.leaves })
+      on_walk : (leaf : Leaf) (o : Option Scope) → ShowsUnder t known start p leaf → IsFound (needed_by w.needs step) step (scope_of leaf) leaf.trail.items o → CameWith t known step p o
+      on_walk leaf None shows is = tt
+      on_walk leaf (Some came) shows is = λ inside.
+          let (of, met) = came_from known step (scope_of leaf) came leaf.trail.items p is inside in
+          let P : Walked → Type 0 = λ (w : Walked). Contains w.trail (entry_of t.chains step) in
+          let shown : walk t p ≡ walked_by known t.chains leaf = (shows of).1 in
+          inl (subst P (sym shown) (on_entries_by known t.chains leaf.trail.items step is.0 met))
 
-pub came_with : (t : Table) (known : Known) (hook : Hook) (step : Step) (scope : Scope) (old new : Front) (came : Scope) → IsSearchStep t known hook scope step old new (Some came) → ((p : Packet) → IsAtHook p → p.hook ≡ hook → IsFitting t known scope p old)
-    → (p : Packet) → IsAtHook p → p.hook ≡ hook → IsOf known p came → IsSought t (entry_of t.chains step) p
-came_with t known hook step scope old new came one fits p can e = (fits_on t known hook step scope old new (Some came) p one can e (fits p can e)).1
+      by_leaf : IsFitting t known start p mid → TakesLeaf (needed_by w.needs step) step mid new found → IsFitting t known start p new × CameWith t known step p found
+      by_leaf all (inl (bare, gone, same, none)) =
+          let L : List Leaf → Type 0 = λ ls. All (ShowsUnder t known start p) ls in
+          (record { tasks = tasks_kept all same; leaves = subst L (sym gone) (All-nil (ShowsUnder t known start p)) }, subst (CameWith t known step p) (sym none) tt)
+      by_leaf all (inr (leaf, leaves, same, is)) =
+          let split = All-pop (ShowsUnder t known start p) mid.leaves.items new.leaves.items (Some leaf) leaves all.leaves in
+          (record { tasks = tasks_kept all same; leaves = split.0 }, on_walk leaf found split.1 is)
+
+  -- so it is after one step of the search
+  fits_on : (hook : Hook) (step : Step) (scope : Scope) (old new : Front) (found : Option Scope) (p : Packet) → IsSearchStep w hook scope step old new found → IsAtHook p → p.hook ≡ hook → IsFitting t known scope p old
+      → IsFitting t known scope p new × CameWith t known step p found
+  fits_on hook step scope old new found p (policy, task, left, up, by) can e before =
+      let split = All-pop (FitsTask t known scope p) old.tasks.items left.tasks.items (Some task) up.tasks before.tasks in
+      let L : List Leaf → Type 0 = λ ls. All (ShowsUnder t known scope p) ls in
+      comes_fitting policy scope step task left new found p by (record { at_hook = can; ends = up.ends p e }) split.1 (record { tasks = split.0; leaves = subst L (sym up.leaves) before.leaves })
+
+  pub came_with : (hook : Hook) (step : Step) (scope : Scope) (old new : Front) (came : Scope) → IsSearchStep w hook scope step old new (Some came) → ((p : Packet) → IsAtHook p → p.hook ≡ hook → IsFitting t known scope p old)
+      → (p : Packet) → IsAtHook p → p.hook ≡ hook → IsOf known p came → IsSought t (entry_of t.chains step) p
+  came_with hook step scope old new came one fits p can e = (fits_on hook step scope old new (Some came) p one can e (fits p can e)).1
 
 -- ---- rules looked at
 
@@ -297,53 +305,55 @@ used_by_looks looks all budget le below =
 
 -- ---- the search, step by step
 
--- one step more
-pub searches_on : (t : Table) (known : Known) (hook : Hook) (step : Step) (scope : Scope) (n : ℕ) (old new : Front) (came : List Scope) (found : Option Scope) → SearchesTo t known hook step scope n old came → IsSearchStep t known hook scope step old new found
-    → SearchesTo t known hook step scope (n + 1) new (with_found came found)
-searches_on t known hook step scope n old new came found to one =
-    let P : ℕ → Type 0 = λ k. AreSearchSteps k t known hook scope step to.first new (with_found came found) in
-    record { first = to.first; begins = to.begins; takes = subst P (sym (add-one n)) (old, came, found, to.takes, one, refl) }
+module _ (w : Whole) (step : Step) (hook : Hook) where
+  -- one step more
+  searches_on : (scope : Scope) (n : ℕ) (old new : Front) (came : List Scope) (found : Option Scope) → SearchesTo w hook step scope n old came → IsSearchStep w hook scope step old new found
+      → SearchesTo w hook step scope (n + 1) new (with_found came found)
+  searches_on scope n old new came found to one =
+      let P : ℕ → Type 0 = λ k. AreSearchSteps k w hook scope step to.first new (with_found came found) in
+      record { first = to.first; begins = to.begins; takes = subst P (sym (add-one n)) (old, came, found, to.takes, one, refl) }
 
--- where the search for the packets of the rule's box stands, and that no packet of a scope that came to the rule shows it, and how its scopes fit
-pub record HasSearched (t : Table) (known : Known) (step : Step) (hook : Hook) (given : Given) (budget n : ℕ) (clear : Bool) (front : Front) : Type 0 where
-  pub came : List Scope
-  pub there : SearchesTo t known hook step (unasked given.area) n front came
-  pub unseen : All (IsUnseen t known hook budget) came
-  pub some : clear ≡ false → 0 < length came
-  pub awaits : clear ≡ true → Awaits t known hook (unasked given.area) (entry_of t.chains step) front
-  pub fits : (p : Packet) → IsAtHook p → p.hook ≡ hook → IsFitting t known (unasked given.area) p front
+  module _ (given : Given) (budget : ℕ) where
+    -- where the search for the packets of the rule's box stands, and that no packet of a scope that came to the rule shows it, and how its scopes fit
+    pub record HasSearched (n : ℕ) (clear : Bool) (front : Front) : Type 0 where
+      pub came : List Scope
+      pub there : SearchesTo w hook step (unasked given.area) n front came
+      pub unseen : All (IsUnseen w hook budget) came
+      pub some : clear ≡ false → 0 < length came
+      pub awaits : clear ≡ true → (a : Assignment) → Awaits (left_under w a) (known_under w a) hook (unasked given.area) (entry_of (left_under w a).chains step) front
+      pub fits : (a : Assignment) (p : Packet) → IsAtHook p → p.hook ≡ hook → IsFitting (left_under w a) (known_under w a) (unasked given.area) p front
 
-pub sets_out : (t : Table) (known : Known) (hook : Hook) (step : Step) (given : Given) (budget : ℕ) (front : Front) → Begins t known hook (unasked given.area) front → IsFirst hook (unasked given.area) front → HasSearched t known step hook given budget 0 true front
-sets_out t known hook step given budget front begins first = record {
-  came = [];
-  there = record { first = front; begins = first; takes = (refl, refl) };
-  unseen = All-nil (IsUnseen t known hook budget);
-  some = λ e. absurd (true≢false e);
-  awaits = λ _ p can e own _. begins.all p can e own;
-  fits = begins.fits;
-}
+    pub sets_out : (front : Front) → ((a : Assignment) → Begins (left_under w a) (known_under w a) hook (unasked given.area) front) → IsFirst hook (unasked given.area) front → HasSearched 0 true front
+    sets_out front begins first = record {
+      came = [];
+      there = record { first = front; begins = first; takes = (refl, refl) };
+      unseen = All-nil (IsUnseen w hook budget);
+      some = λ e. absurd (true≢false e);
+      awaits = λ _ a p can e own _. (begins a).all p can e own;
+      fits = λ a. (begins a).fits;
+    }
 
-pub none_more : (t : Table) (known : Known) (step : Step) (hook : Hook) (given : Given) (budget n : ℕ) (clear : Bool) (old new : Front) → HasSearched t known step hook given budget n clear old → IsSearchStep t known hook (unasked given.area) step old new None
-    → (Awaits t known hook (unasked given.area) (entry_of t.chains step) old → Awaits t known hook (unasked given.area) (entry_of t.chains step) new) → HasSearched t known step hook given budget (n + 1) clear new
-none_more t known step hook given budget n clear old new h one on = record {
-  came = h.came;
-  there = searches_on t known hook step (unasked given.area) n old new h.came None h.there one;
-  unseen = h.unseen;
-  some = h.some;
-  awaits = λ e. on (h.awaits e);
-  fits = λ p can e. (fits_on t known hook step (unasked given.area) old new None p one can e (h.fits p can e)).0;
-}
+    pub none_more : (n : ℕ) (clear : Bool) (old new : Front) → HasSearched n clear old → IsSearchStep w hook (unasked given.area) step old new None
+        → ((a : Assignment) → Awaits (left_under w a) (known_under w a) hook (unasked given.area) (entry_of (left_under w a).chains step) old
+        → Awaits (left_under w a) (known_under w a) hook (unasked given.area) (entry_of (left_under w a).chains step) new) → HasSearched (n + 1) clear new
+    none_more n clear old new h one on = record {
+      came = h.came;
+      there = searches_on (unasked given.area) n old new h.came None h.there one;
+      unseen = h.unseen;
+      some = h.some;
+      awaits = λ e a. on a (h.awaits e a);
+      fits = λ a p can e. (fits_on w a hook step (unasked given.area) old new None p one can e (h.fits a p can e)).0;
+    }
 
-pub one_more : (t : Table) (known : Known) (step : Step) (hook : Hook) (given : Given) (budget n : ℕ) (clear : Bool) (old new : Front) (came : Scope) → HasSearched t known step hook given budget n clear old → IsSearchStep t known hook (unasked given.area) step old new (Some came)
-    → IsUnseen t known hook budget came → HasSearched t known step hook given budget (n + 1) false new
-one_more t known step hook given budget n clear old new came h one unseen = record {
-  came = h.came ++ came ∷ [];
-  there = searches_on t known hook step (unasked given.area) n old new h.came (Some came) h.there one;
-  unseen = All-push (IsUnseen t known hook budget) h.came came h.unseen unseen;
-  some = λ _. omega (arith, length-append h.came (came ∷ []));
-  awaits = λ e. absurd (true≢false (sym e));
-  fits = λ p can e. (fits_on t known hook step (unasked given.area) old new (Some came) p one can e (h.fits p can e)).0;
-}
+    pub one_more : (n : ℕ) (clear : Bool) (old new : Front) (came : Scope) → HasSearched n clear old → IsSearchStep w hook (unasked given.area) step old new (Some came) → IsUnseen w hook budget came → HasSearched (n + 1) false new
+    one_more n clear old new came h one unseen = record {
+      came = h.came ++ came ∷ [];
+      there = searches_on (unasked given.area) n old new h.came (Some came) h.there one;
+      unseen = All-push (IsUnseen w hook budget) h.came came h.unseen unseen;
+      some = λ _. omega (arith, length-append h.came (came ∷ []));
+      awaits = λ e. absurd (true≢false (sym e));
+      fits = λ a p can e. (fits_on w a hook step (unasked given.area) old new (Some came) p one can e (h.fits a p can e)).0;
+    }
 
 -- ---- the end
 
@@ -361,48 +371,49 @@ module _ (s : Subject) (step : Step) (hook : Hook) (given : Given) (sound : IsSo
     pub short_in_empty : AreAlwaysShort s step hook
     short_in_empty a p at = absurd (none_matched a p at)
 
-  -- an assignment leaves of the table
-  module _ (a : Assignment) (budget n : ℕ) (clear : Bool) (front : Front) (h : HasSearched (answered s a) (known_by s a) step hook given budget n clear front) where
-    abbrev t : Table
-    t = answered s a
+  module _ (budget n : ℕ) (clear : Bool) (front : Front) (h : HasSearched (whole_of s) step hook given budget n clear front) where
+    -- an assignment leaves of the table
+    module _ (a : Assignment) where
+      abbrev left : Table
+      left = answered s a
 
-    still_sound : IsSound t
-    still_sound = left_sound s.needs.now a (table_of s) sound
+      still_sound : IsSound left
+      still_sound = left_sound s.needs.now a (table_of s) sound
 
-    lt : step.chain < length t.chains
-    lt = there_left s.needs.now a (table_of s) step.chain is.chain
+      lt : step.chain < length left.chains
+      lt = there_left s.needs.now a (table_of s) step.chain is.chain
 
-    -- a packet that the rule still matches is in the box
-    in_box : (p : Packet) → IsMatchedAt t step hook p → IsOf (known_by s a) p (unasked given.area)
-    in_box p at = record { inside = box.all p (matched_before s.needs.now a (table_of s) step hook p is at); agrees = All-nil (λ (answer : Answer). a answer.condition ≡ answer.holds) }
+      -- a packet that the rule still matches is in the box
+      in_box : (p : Packet) → IsMatchedAt left step hook p → IsOf (known_by s a) p (unasked given.area)
+      in_box p at = record { inside = box.all p (matched_before s.needs.now a (table_of s) step hook p is at); agrees = All-nil (λ (answer : Answer). a answer.condition ≡ answer.holds) }
 
-    module _ (none : length front.tasks.items ≡ 0) where
-      pub dead_at_end : (said : Life) → SaysEnd clear front.leaves.items step said → said ≡ life.Dead → IsDeadAt t (entry_of t.chains step) hook
-      dead_at_end said says dead p can e on =
-          let P : Life → Type 0 = λ l. SaysEnd clear front.leaves.items step l in
-          let end : (clear ≡ true) × All (λ (leaf : Leaf). Contains leaf.trail.items step → ⊥) front.leaves.items = subst P dead says in
-          none_sought t (known_by s a) hook (unasked given.area) step front still_sound lt (h.awaits end.0) none end.1 p can e
-          (in_box p (record { can = can; there = e; matched = rule_matches t p step still_sound (rule_left_there s.needs.now a (table_of s) step is) on })) (inl on)
+      module _ (none : length front.tasks.items ≡ 0) where
+        pub dead_at_end : (said : Life) → SaysEnd clear front.leaves.items step said → said ≡ life.Dead → IsDeadAt left (entry_of left.chains step) hook
+        dead_at_end said says dead p can e on =
+            let P : Life → Type 0 = λ l. SaysEnd clear front.leaves.items step l in
+            let end : (clear ≡ true) × All (λ (leaf : Leaf). Contains leaf.trail.items step → ⊥) front.leaves.items = subst P dead says in
+            none_sought left (known_by s a) hook (unasked given.area) step front still_sound lt (h.awaits end.0 a) none end.1 p can e
+            (in_box p (record { can = can; there = e; matched = rule_matches left p step still_sound (rule_left_there s.needs.now a (table_of s) step is) on })) (inl on)
 
-      pub short_at_end : (said : Life) → SaysEnd clear front.leaves.items step said → said ≡ life.Dead → AreShort t step hook
-      short_at_end said says dead p at long =
-          let P : Life → Type 0 = λ l. SaysEnd clear front.leaves.items step l in
-          let end : (clear ≡ true) × All (λ (leaf : Leaf). Contains leaf.trail.items step → ⊥) front.leaves.items = subst P dead says in
-          none_sought t (known_by s a) hook (unasked given.area) step front still_sound lt (h.awaits end.0) none end.1 p at.can at.there (in_box p at) (inr long)
+        pub short_at_end : (said : Life) → SaysEnd clear front.leaves.items step said → said ≡ life.Dead → AreShort left step hook
+        short_at_end said says dead p at long =
+            let P : Life → Type 0 = λ l. SaysEnd clear front.leaves.items step l in
+            let end : (clear ≡ true) × All (λ (leaf : Leaf). Contains leaf.trail.items step → ⊥) front.leaves.items = subst P dead says in
+            none_sought left (known_by s a) hook (unasked given.area) step front still_sound lt (h.awaits end.0 a) none end.1 p at.can at.there (in_box p at) (inr long)
 
-      pub unclear_at_end : (said : Life) → n ≤ budget → SaysEnd clear front.leaves.items step said → said ≡ life.Unclear → MayLiveUnder (table_of s) t (known_by s a) step hook budget
-      unclear_at_end said le says unclear =
-          let P : Life → Type 0 = λ l. SaysEnd clear front.leaves.items step l in
-          (given, box, n, front, h.came, h.there, h.unseen, inr (inr (le, record { ended = none; some = come (subst P unclear says) })))
-        where
-          come : (clear ≡ false) ⊎ Any (λ (leaf : Leaf). Contains leaf.trail.items step) front.leaves.items → (0 < length h.came) ⊎ ((leaf : Leaf) × Contains front.leaves.items leaf × Contains leaf.trail.items step)
-          come (inl off) = inl (h.some off)
-          come (inr a) = inr (a.1, (a.0, a.2, a.3), a.4)
+    pub unclear_at_end : length front.tasks.items ≡ 0 → (said : Life) → n ≤ budget → SaysEnd clear front.leaves.items step said → said ≡ life.Unclear → MayLiveUnder (whole_of s) step hook budget
+    unclear_at_end none said le says unclear =
+        let P : Life → Type 0 = λ l. SaysEnd clear front.leaves.items step l in
+        (given, box, n, front, h.came, h.there, h.unseen, inr (inr (le, record { ended = none; some = come (subst P unclear says) })))
+      where
+        come : (clear ≡ false) ⊎ Any (λ (leaf : Leaf). Contains leaf.trail.items step) front.leaves.items → (0 < length h.came) ⊎ ((leaf : Leaf) × Contains front.leaves.items leaf × Contains leaf.trail.items step)
+        come (inl off) = inl (h.some off)
+        come (inr a) = inr (a.1, (a.0, a.2, a.3), a.4)
 
-    pub unclear_used_up : IsUsedUp t n budget → 0 < length front.tasks.items → MayLiveUnder (table_of s) t (known_by s a) step hook budget
+    pub unclear_used_up : IsUsedUp (table_of s) n budget → 0 < length front.tasks.items → MayLiveUnder (whole_of s) step hook budget
     unclear_used_up all some = (given, box, n, front, h.came, h.there, h.unseen, inl (all, some))
 
-    pub unclear_full : n < budget → IsFull front → MayLiveUnder (table_of s) t (known_by s a) step hook budget
+    pub unclear_full : n < budget → IsFull front → MayLiveUnder (whole_of s) step hook budget
     unclear_full lt full = (given, box, n, front, h.came, h.there, h.unseen, inr (inl (lt, full)))
 
 -- what is said at the end, by the answer

@@ -1,5 +1,5 @@
 -- Where alone a comparison may be unclear: packets that can be at the hook, and the verdicts that they get.
-use Rattle.std.proofs.Common.{◌≡◌, ◌≢◌, ◌⊎◌, inl, inr, ℕ, zero, suc, ◌<◌, ◌≤◌, false, List, [], ◌∷◌, length, get_or, refl, sym, ◌∙◌, ap, arith, subst, All}
+use Rattle.std.proofs.Common.{◌≡◌, ◌≢◌, ◌⊎◌, inl, inr, ℕ, zero, suc, ◌<◌, false, List, [], ◌∷◌, length, get_or, refl, sym, ◌∙◌, ap, arith, subst, All}
 use Rattle.std.specs.Prelude.{Any}
 use Rattle.std.proofs.lemmas.List.Elements.{All-contains}
 use Rattle.fields.specs.declared.numbers.field.Field.TheVariants as field
@@ -10,7 +10,7 @@ use Rattle.classify.specs.classifier.Classifier.{IsPoint}
 use Rattle.table.specs.declared.walk.trail.Step.{Step}
 use Rattle.table.specs.walk.Walk.{Walked}
 use Rattle.questions.specs.Foreign.{Agrees, Assignment}
-use Rattle.questions.specs.Scopes.{AreExactUnder, AreLeavesUnder, IsOf, IsSurely, Known, ShowsUnder, Whole, answered, known_by, known_under, left_under, scope_of, under, whole_of}
+use Rattle.questions.specs.Scopes.{AreExactUnder, AreLeavesUnder, IsOf, IsSurely, ShowsUnder, Whole, answered, known_by, known_under, left_under, scope_of, under, whole_of}
 use Rattle.questions.specs.asked.Alike.{IsGivenBy}
 use Rattle.questions.specs.asked.Always.{MayLive, SaysAt}
 use Rattle.questions.specs.asked.Differing.{AreWrittenAlike, HasPackets, IsNotDead, IsOtherOn, MayDifferOn}

@@ -30,7 +30,7 @@ use Rattle.questions.specs.steps.Taken.{IsUnfinishedUnder}
 use Rattle.questions.specs.steps.Transports.{HasTransport, IsWithTransport, all_transports}
 use Rattle.questions.proofs.laws.BoxesLaws.{Pair, pair_more}
 use Rattle.questions.proofs.laws.GroupLaws.{any_left}
-use Rattle.questions.proofs.laws.PlainLaws.{exact_plain, gives_none, steps_plain}
+use Rattle.questions.proofs.laws.PlainLaws.{exact_plain, gives_none}
 use Rattle.questions.proofs.laws.TrailLaws.{items_next}
 use Rattle.questions.proofs.laws.TransportLaws.{at_hook_of, fits_of, some_transport}
 
@@ -196,7 +196,8 @@ exact_walks_plain t needs none hook box exact all =
           (k, leaf, lt, is, of.inside));
     }
 
-pub cant_be_walked : (t : Table) (needs : List (List (List Need))) → needs ≡ [] → (hook : Hook) (box : List SpanSet) (budget : ℕ)
-    → ((a : Assignment) → IsUnfinishedUnder (resolved needs a t) (record { needs = needs; holds = a }) hook (unasked box) budget) → CantBeWalked t (record { hook = hook; area = box }) budget
-cant_be_walked t needs none hook box budget all =
-    (box, record { all = λ numbers point own other. own; first = λ numbers point h. h; second = λ numbers point h. h }, steps_plain t needs none hook box budget None all)
+pub cant_be_walked : (t : Table) (needs : List (List (List Need))) → needs ≡ [] → (hook : Hook) (box : List SpanSet) (budget : ℕ) → IsUnfinishedUnder (record { table = t; needs = needs }) hook (unasked box) budget
+    → CantBeWalked t (record { hook = hook; area = box }) budget
+cant_be_walked t needs none hook box budget long =
+    let P : List (List (List Need)) → Type 0 = λ ns. IsUnfinishedUnder (record { table = t; needs = ns }) hook (unasked box) budget in
+    (box, record { all = λ numbers point own other. own; first = λ numbers point h. h; second = λ numbers point h. h }, subst P none long)

@@ -1,15 +1,17 @@
 -- What two boxes have in common, by their sets.
-use Rattle.std.proofs.Common.{◌≡◌, inl, inr, ℕ, ◌+◌, ◌<◌, ◌≤◌, Bool, true, false, ◌||◌, List, [], ◌∷◌, get_or, refl, sym, ◌∙◌, ap, arith, subst, max, min}
+use Rattle.std.proofs.Common.{◌≡◌, inl, inr, ℕ, ◌+◌, ◌<◌, ◌≤◌, Bool, true, false, ◌||◌, List, [], ◌∷◌, get_or, refl, sym, ◌∙◌, ap, arith, subst, below_more, max, min}
 use Rattle.std.proofs.lemmas.Bool.{cases_lt, or_right}
 use Rattle.std.proofs.lemmas.List.{get_or_default}
 use Rattle.fields.specs.declared.numbers.field.TheConstants.{FIELDS}
 use Rattle.fields.specs.declared.numbers.spans.Interval.{Interval}
-use Rattle.fields.specs.numbers.Field.{index}
+use Rattle.fields.specs.numbers.Field.{index, top}
 use Rattle.fields.specs.numbers.Spans.{AreSpansFrom, SpanSet, has, in_span}
 use Rattle.fields.proofs.laws.numbers.SpanLaws.{has_first}
 use Rattle.rules.specs.boxing.Boxed.{IsBox}
 use Rattle.rules.proofs.laws.boxing.BoxLaws.{index-lt, box_long, top_on}
-use Rattle.questions.specs.boxes.Meeting.{AreMet, HaveCommon}
+use Rattle.classify.proofs.laws.classifier.ClassifierLaws.{field_at}
+use Rattle.questions.specs.boxes.Area.{HasNumbers}
+use Rattle.questions.specs.boxes.Meeting.{AreMet, HaveCommon, IsWhole}
 use Rattle.questions.specs.steps.Sides.{no_set}
 
 -- the numbers of one list of intervals are in another
@@ -56,6 +58,16 @@ met_next own other k a b is too lt ia ib here below j less =
           let two : b ≡ get_or other k no_set = ib ∙ get_or_default other k b no_set (omega (arith, lt, box_long other too)) in
           subst Q same (subst (P (get_or own k no_set)) two (subst (λ (x : SpanSet). P x b) one here)))
     ]
+
+-- and at one more where the second box has all numbers
+pub met_whole : (own other : List SpanSet) (k : ℕ) → IsBox own → IsBox other → k < FIELDS → HasNumbers own → IsWhole (get_or other k no_set) → MetBelow own other k → MetBelow own other (k + 1)
+met_whole own other k is too lt some whole below j less =
+    let (f, at) = field_at k lt in
+    let (x, le, on) = some f in
+    let P : ℕ → Type 0 = λ i. has (get_or own i no_set).intervals x ≡ true in
+    let one : (get_or own k no_set).top ≡ top f = top_on own is f k no_set (sym at) in
+    let two : (get_or other k no_set).top ≡ top f = top_on other too f k no_set (sym at) in
+    below_more (λ i. HaveCommon (get_or own i no_set) (get_or other i no_set)) k below (x, omega (arith, le, one), subst P at on, whole x (omega (arith, le, two))) j less
 
 -- so it is on each field
 pub met_on_all : (own other : List SpanSet) (n : ℕ) → IsBox own → FIELDS ≤ n → MetBelow own other n → AreMet own other

@@ -32,7 +32,7 @@ use Rattle.questions.proofs.laws.AnswerLaws.{agrees_before, either_is_given}
 use Rattle.questions.proofs.laws.ForeignLaws.{left_sound}
 use Rattle.questions.proofs.laws.HeldLaws.{keeps, on_entries_by, step_by}
 use Rattle.questions.proofs.laws.ResolvedLaws.{entry_left, length_same}
-use Rattle.questions.proofs.laws.WaitLaws.{all_exact}
+use Rattle.questions.proofs.laws.StepLaws.{all_exact}
 
 -- a rule that is surely on each leaf which has the packet is on the packet's walk, where the answers are right
 pub surely_enough : (s : Subject) (found : List Leaf) (p : Packet) (step : Step) (answers : List Answer) → ((a : Assignment) → AreWalksUnder (answered s a) (known_by s a) p answers found)

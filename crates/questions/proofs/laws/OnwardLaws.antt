@@ -6,16 +6,20 @@ use Rattle.std.proofs.lemmas.List.Elements.{All-append, All-contains, All-nil}
 use Rattle.fields.specs.numbers.Spans.{SpanSet}
 use Rattle.rules.specs.declared.rule.target.Target.{Target}
 use Rattle.rules.specs.declared.rule.target.Target.TheVariants as target
+use Rattle.rules.specs.rule.Rules.{Rule}
 use Rattle.table.specs.chains.Table.{Chain, is_named}
 use Rattle.table.specs.declared.walk.trail.Step.{Step}
-use Rattle.questions.specs.Foreign.{IsNeeded, IsUnanswered}
+use Rattle.questions.specs.Foreign.{IsUnanswered}
+use Rattle.questions.specs.Scopes.{Whole}
+use Rattle.questions.specs.boxes.Parts.{IsPortPart}
 use Rattle.questions.specs.declared.foreign.answers.Answer.{Answer}
 use Rattle.questions.specs.declared.foreign.need.Need.{Need}
 use Rattle.questions.specs.declared.walking.front.Front.{Front}
 use Rattle.questions.specs.declared.walking.scope.Scope.{Scope}
 use Rattle.questions.specs.declared.walking.task.Pending.{Pending}
 use Rattle.questions.specs.declared.walking.task.Task.{Task}
-use Rattle.questions.specs.steps.Onward.{AddsTasks, Enters, GetsOn, IsAnswered, IsBesides, IsEntered, IsPut, IsTurned, LacksSome, WaitAfter}
+use Rattle.questions.specs.steps.Onward.{AddsTasks, Enters, GetsOn, IsAnswered, IsBesides, IsEntered, IsNeededNext, IsPut, IsTurned, WaitAfter}
+use Rattle.questions.specs.steps.Waiting.{rule_ahead}
 
 -- ---- tasks that are put on others
 
@@ -61,14 +65,16 @@ abbrev pub behind : Pending → Pending
 behind at = record { chain = at.chain; passed = at.passed + 1 }
 
 -- other chains wait then than before
-same_newest : (below : List Pending) (a b : Pending) → below ++ a ∷ [] ≡ below ++ b ∷ [] → a ≡ b
-same_newest below a b e = sym (get_or_push below a a (length below) refl) ∙ ap (λ (ps : List Pending). get_or ps (length below) a) e ∙ get_or_push below b a (length below) refl
+pub last_same : (xs ys : List Pending) (a b : Pending) → xs ++ a ∷ [] ≡ ys ++ b ∷ [] → a ≡ b
+last_same xs ys a b e =
+    let long : length xs ≡ length ys = omega (arith, ap (λ (ps : List Pending). length ps) e, length_push xs a, length_push ys b) in
+    sym (get_or_push xs a a (length xs) refl) ∙ ap (λ (ps : List Pending). get_or ps (length xs) a) e ∙ get_or_push ys b a (length xs) (sym long)
 
 more_wait : (below : List Pending) (at : Pending) → below ≢ below ++ at ∷ []
 more_wait below at e = omega (arith, ap (λ (ps : List Pending). length ps) e, length_push below at)
 
 not_behind : (below : List Pending) (at : Pending) → below ++ behind at ∷ [] ≢ below ++ at ∷ []
-not_behind below at e = omega (arith, ap (λ (p : Pending). p.passed) (same_newest below (behind at) at e))
+not_behind below at e = omega (arith, ap (λ (p : Pending). p.passed) (last_same below below (behind at) at e))
 
 moved_by : (chains : List Chain) (to : Option Target) (below : List Pending) (at : Pending) (rests : List Pending)
     → ((name : List ℕ) → to ≡ Some (target.Goto name) → position (is_named name) chains ≡ Some at.chain → ⊥) → WaitAfter chains to below (behind at) rests → rests ≢ below ++ at ∷ []
@@ -84,46 +90,53 @@ moved_by chains (Some (target.Jump name)) below at rests apart (inr (c, there, i
     omega (arith, ap (λ (ps : List Pending). length ps) (sym is ∙ e), length_push (below ++ behind at ∷ []) first, length_push below (behind at), length_push below at)
 moved_by chains (Some (target.Goto name)) below at rests apart (inl same) e = more_wait below at (sym same ∙ e)
 moved_by chains (Some (target.Goto name)) below at rests apart (inr (c, there, is)) e =
-    apart name refl (there ∙ ap (λ (p : Pending). Some p.chain) (same_newest below (record { chain = c; passed = 0 }) at (sym is ∙ e)))
+    apart name refl (there ∙ ap (λ (p : Pending). Some p.chain) (last_same below below (record { chain = c; passed = 0 }) at (sym is ∙ e)))
 
-module _ (needs : List (List (List Need))) (scope : Scope) (below : List Pending) (at : Pending) (trail : List Step) (old new : Front) where
+module _ (t : Whole) (scope : Scope) (below : List Pending) (at : Pending) (trail : List Step) (old new : Front) where
   -- a task that is put there
-  pub put_past : AddsTasks (IsPut scope (below ++ behind at ∷ []) trail) old new → AddsTasks (GetsOn needs scope (below ++ at ∷ []) trail) old new
-  put_past = adds_weaker (IsPut scope (below ++ behind at ∷ []) trail) (GetsOn needs scope (below ++ at ∷ []) trail) old new
+  pub put_past : AddsTasks (IsPut scope (below ++ behind at ∷ []) trail) old new → AddsTasks (GetsOn t scope (below ++ at ∷ []) trail) old new
+  put_past = adds_weaker (IsPut scope (below ++ behind at ∷ []) trail) (GetsOn t scope (below ++ at ∷ []) trail) old new
       (λ next put. inr (inl (record { below = below; at = at; newest = refl; there = put.there })))
 
   -- those of some boxes
   pub besides_past : (boxes : List (List SpanSet)) → AddsTasks (IsBesides boxes scope.answers (below ++ behind at ∷ []) trail) old new
-      → AddsTasks (GetsOn needs scope (below ++ at ∷ []) trail) old new
-  besides_past boxes = adds_weaker (IsBesides boxes scope.answers (below ++ behind at ∷ []) trail) (GetsOn needs scope (below ++ at ∷ []) trail) old new
+      → AddsTasks (GetsOn t scope (below ++ at ∷ []) trail) old new
+  besides_past boxes = adds_weaker (IsBesides boxes scope.answers (below ++ behind at ∷ []) trail) (GetsOn t scope (below ++ at ∷ []) trail) old new
       (λ next put. inr (inl (record { below = below; at = at; newest = refl; there = put.there })))
 
   -- by this rule, which matched and goes to no chain of its own
   pub matched_on : (chains : List Chain) (to : Option Target) → ((name : List ℕ) → to ≡ Some (target.Goto name) → position (is_named name) chains ≡ Some at.chain → ⊥)
       → AddsTasks (IsTurned chains to below (behind at) (trail ++ record { chain = at.chain; number = at.passed + 1 } ∷ [])) old new
-      → AddsTasks (GetsOn needs scope (below ++ at ∷ []) trail) old new
+      → AddsTasks (GetsOn t scope (below ++ at ∷ []) trail) old new
   matched_on chains to apart =
-      adds_weaker (IsTurned chains to below (behind at) (trail ++ record { chain = at.chain; number = at.passed + 1 } ∷ [])) (GetsOn needs scope (below ++ at ∷ []) trail) old new
+      adds_weaker (IsTurned chains to below (behind at) (trail ++ record { chain = at.chain; number = at.passed + 1 } ∷ [])) (GetsOn t scope (below ++ at ∷ []) trail) old new
       (λ next is. inl (record { below = below; at = at; newest = refl; on = is.trail; moved = moved_by chains to below at next.rests.items apart is.rests }))
 
--- by an answer
-pub answered_on : (needs : List (List (List Need))) (scope : Scope) (rests : List Pending) (trail : List Step) (old new : Front) → AddsTasks (IsAnswered needs scope.answers rests trail) old new
-    → AddsTasks (GetsOn needs scope rests trail) old new
-answered_on needs scope rests trail old new =
-    adds_weaker (IsAnswered needs scope.answers rests trail) (GetsOn needs scope rests trail) old new (λ next is. inr (inr (inr (inl is))))
+  -- as parts of the box, by ports that the rule lists
+  pub parts_on : (rule : Rule) (parts : List (List SpanSet)) → rule ≡ rule_ahead t.table at → All (IsPortPart rule scope.area) parts → AddsTasks (IsBesides parts scope.answers (below ++ at ∷ []) trail) old new
+      → AddsTasks (GetsOn t scope (below ++ at ∷ []) trail) old new
+  parts_on rule parts same sides =
+      let Part : Rule → Type 0 = λ r. All (IsPortPart r scope.area) parts in
+      let all : Part (rule_ahead t.table at) = subst Part same sides in
+      adds_weaker (IsBesides parts scope.answers (below ++ at ∷ []) trail) (GetsOn t scope (below ++ at ∷ []) trail) old new
+      (λ next put. inr (inr (inr (inr (record {
+        below = below;
+        at = at;
+        newest = refl;
+        part = All-contains (IsPortPart (rule_ahead t.table at) scope.area) parts next.scope.area all put.area;
+        answers = put.answers;
+        there = put.there;
+      })))))
 
--- as parts of the box
-pub parts_on : (needs : List (List (List Need))) (scope : Scope) (parts : List (List SpanSet)) (rests : List Pending) (trail : List Step) (old new : Front) → All (LacksSome scope.area) parts
-    → AddsTasks (IsBesides parts scope.answers rests trail) old new → AddsTasks (GetsOn needs scope rests trail) old new
-parts_on needs scope parts rests trail old new less =
-    adds_weaker (IsBesides parts scope.answers rests trail) (GetsOn needs scope rests trail) old new
-    (λ next put. inr (inr (inr (inr (record { area = All-contains (LacksSome scope.area) parts next.scope.area less put.area; answers = put.answers; there = put.there })))))
+-- by an answer
+pub answered_on : (t : Whole) (scope : Scope) (rests : List Pending) (trail : List Step) (old new : Front) → AddsTasks (IsAnswered t.needs scope.answers rests trail) old new → AddsTasks (GetsOn t scope rests trail) old new
+answered_on t scope rests trail old new = adds_weaker (IsAnswered t.needs scope.answers rests trail) (GetsOn t scope rests trail) old new (λ next is. inr (inr (inr (inl is))))
 
 -- out of the newest chain
-pub back_on : (needs : List (List (List Need))) (scope : Scope) (rests below : List Pending) (at : Pending) (trail : List Step) (old new : Front) → rests ≡ below ++ at ∷ []
-    → AddsTasks (IsPut scope below trail) old new → AddsTasks (GetsOn needs scope rests trail) old new
-back_on needs scope rests below at trail old new newest =
-    adds_weaker (IsPut scope below trail) (GetsOn needs scope rests trail) old new
+pub back_on : (t : Whole) (scope : Scope) (rests below : List Pending) (at : Pending) (trail : List Step) (old new : Front) → rests ≡ below ++ at ∷ []
+    → AddsTasks (IsPut scope below trail) old new → AddsTasks (GetsOn t scope rests trail) old new
+back_on t scope rests below at trail old new newest =
+    adds_weaker (IsPut scope below trail) (GetsOn t scope rests trail) old new
     (λ next put. inr (inr (inl (record { at = at; newest = newest ∙ ap (λ (ps : List Pending). ps ++ at ∷ []) (sym put.there.rests); trail = put.there.trail }))))
 
 -- a task of one of some boxes
@@ -137,9 +150,17 @@ put_beside boxes box answers scope rests trail old new on is =
     record { area = subst P (sym (ap (λ (s : Scope). s.area) same)) on; answers = ap (λ (s : Scope). s.answers) same; there = put.there }))
 
 -- one of one more answer
-pub put_answered : (needs : List (List (List Need))) (scope : Scope) (answers : List Answer) (answer : Answer) (rests : List Pending) (trail : List Step) (old new : Front)
-    → IsUnanswered answers answer.condition → IsNeeded needs answer.condition → scope.answers ≡ answers ++ answer ∷ []
-    → AddsTasks (IsPut scope rests trail) old new → AddsTasks (IsAnswered needs answers rests trail) old new
-put_answered needs scope answers answer rests trail old new unanswered needed is =
-    adds_weaker (IsPut scope rests trail) (IsAnswered needs answers rests trail) old new
-    (λ next put. record { answer = answer; unanswered = unanswered; needed = needed; answers = ap (λ (s : Scope). s.answers) put.scope ∙ is; there = put.there })
+pub put_answered : (needs : List (List (List Need))) (scope : Scope) (answers : List Answer) (answer : Answer) (below : List Pending) (at : Pending) (trail : List Step) (old new : Front)
+    → IsUnanswered answers answer.condition → IsNeededNext needs at answer.condition → scope.answers ≡ answers ++ answer ∷ []
+    → AddsTasks (IsPut scope (below ++ at ∷ []) trail) old new → AddsTasks (IsAnswered needs answers (below ++ at ∷ []) trail) old new
+put_answered needs scope answers answer below at trail old new unanswered needed is =
+    adds_weaker (IsPut scope (below ++ at ∷ []) trail) (IsAnswered needs answers (below ++ at ∷ []) trail) old new (λ next put. record {
+      below = below;
+      at = at;
+      newest = refl;
+      answer = answer;
+      unanswered = unanswered;
+      needed = needed;
+      answers = ap (λ (s : Scope). s.answers) put.scope ∙ is;
+      there = put.there;
+    })

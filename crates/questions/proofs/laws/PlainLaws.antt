@@ -1,6 +1,6 @@
 -- Where no rule needs anything, the table that is left is the table itself, and a leaf shows its whole trail.
-use Rattle.std.proofs.Common.{◌≡◌, ◌⊎◌, inl, inr, ℕ, Bool, true, false, List, [], ◌∷◌, get_or, refl, sym, ◌∙◌, ap, subst, Option, Some, None, Vec, Global}
-use Rattle.std.specs.Prelude.{filter, IfOk, IfSome, MatchOption, Result}
+use Rattle.std.proofs.Common.{◌≡◌, ◌⊎◌, inl, inr, ℕ, Bool, true, false, List, [], ◌∷◌, get_or, refl, sym, ◌∙◌, ap, subst, Option, Some, None}
+use Rattle.std.specs.Prelude.{filter, IfOk, IfSome, Result}
 use Rattle.std.specs.declared.alloc.AllocError.{AllocError}
 use Rattle.std.proofs.lemmas.Result.{IfOk-weaker}
 use Rattle.std.proofs.lemmas.Bool.{cond-true}
@@ -12,7 +12,7 @@ use Rattle.table.specs.declared.walk.trail.Step.{Step}
 use Rattle.table.specs.walk.Walk.{Entry, Walked}
 use Rattle.questions.specs.Foreign.{Agrees, AreWithoutNeeds, Assignment, resolved}
 use Rattle.questions.specs.Leaves.{AreExactOn, AreLeavesOf, entries_of, entry_of, walked_of}
-use Rattle.questions.specs.Scopes.{AreExactUnder, AreLeavesUnder, Known, answered, entries_by, is_met, needless, table_of, unasked, walked_by}
+use Rattle.questions.specs.Scopes.{AreExactUnder, AreLeavesUnder, Known, answered, entries_by, is_met, table_of, unasked, walked_by}
 use Rattle.questions.specs.asked.Always.{IsAlwaysDeadAt}
 use Rattle.questions.specs.asked.Always as Always
 use Rattle.questions.specs.asked.Rule.{IsDead, IsDeadAt, IsLive}
@@ -26,7 +26,6 @@ use Rattle.questions.specs.steps.Compared.{AreShort}
 use Rattle.questions.specs.declared.foreign.answers.Answer.{Answer}
 use Rattle.questions.specs.declared.foreign.need.Need.{Need}
 use Rattle.questions.specs.declared.walking.task.Leaf.{Leaf}
-use Rattle.questions.specs.steps.Taken.{IsFinished, IsFinishedUnder, IsUnfinished, IsUnfinishedUnder}
 use Rattle.questions.proofs.laws.AnswerLaws.{some_assignment_gives}
 use Rattle.questions.proofs.laws.ResolvedLaws.{resolved_without_needs}
 
@@ -80,10 +79,6 @@ module _ (t : Table) (needs : List (List (List Need))) (none : needs ≡ []) (ho
       let (own, walked) = as_plain (λ u v. AreExactUnder u v hook (unasked box) leaves) a (all a) p can e k d lt (record { inside = inside; agrees = agrees }) in
       (own.inside, walked ∙ walked_plain a t.chains leaf)
 
-  pub steps_plain : (budget : ℕ) (found : Option (Vec Leaf Global)) → ((a : Assignment) → MatchOption found (IsUnfinishedUnder (resolved needs a t) (known a) hook (unasked box) budget) (λ leaves. IsFinishedUnder (resolved needs a t) (known a) hook (unasked box) budget leaves.items))
-      → MatchOption found (IsUnfinished t hook box budget) (λ leaves. IsFinished t hook box budget leaves.items)
-  steps_plain budget found all = as_plain (λ u v. MatchOption found (IsUnfinishedUnder u v hook (unasked box) budget) (λ leaves. IsFinishedUnder u v hook (unasked box) budget leaves.items)) any (all any)
-
 pub some_weaker : {X : Type 0} (P Q : X → Type 0) (o : Option X) → ((x : X) → P x → Q x) → IfSome o P → IfSome o Q
 some_weaker P Q None f h = tt
 some_weaker P Q (Some x) f h = f x h
@@ -116,11 +111,7 @@ module _ (s : Subject) (none : s.needs.now ≡ []) where
   plain_dead step hook dead = to_plain (λ t. IsDeadAt t (entry_of t.chains step) hook) other (dead other)
 
   pub plain_may : (step : Step) (budget : ℕ) (hook : Hook) → Always.MayLive s step budget hook → MayLive (table_of s) step hook budget
-  plain_may step budget hook may =
-      let own : Table = table_of s in
-      let Q : List (List (List Need)) → Type 0 = λ ns. MayLiveUnder own (resolved ns other own) (record { needs = ns; holds = other }) step hook budget in
-      let P : Table → Type 0 = λ t. MayLiveUnder own t needless step hook budget in
-      subst P (left_plain other own) (subst Q none (may other))
+  plain_may step budget hook may = subst (λ (ns : List (List (List Need))). MayLiveUnder (record { table = table_of s; needs = ns }) step hook budget) none may
 
   pub plain_says : (entry : Entry) (life : Life) → Always.Says s entry life → Rule.Says (table_of s) entry life
   plain_says entry life.Dead says = to_plain (λ t. IsDead t entry) other (says other)

@@ -2,10 +2,9 @@
 use Rattle.std.proofs.Common.{◌≡◌, inl, inr, ◌⊎◌, ℕ, zero, suc, ◌+◌, ◌-◌, ◌<◌, ◌≤◌, Bool, true, false, cond, List, [], ◌∷◌, ◌++◌, length, get_or, take, map, refl, sym, ◌∙◌, ap, arith, subst, Option, Some, None, All, Contains}
 use Rattle.std.specs.Prelude.{Any, IfSome, IsTrue, slice_get}
 use Rattle.std.specs.List.{list_any, position}
-use Rattle.std.proofs.Math.Numerals.{add-one}
 use Rattle.std.proofs.lemmas.Bool.{cases_Bool, cond-false, or_parts, true≢false}
 use Rattle.std.proofs.lemmas.List.{reverse-append}
-use Rattle.std.proofs.lemmas.List.Elements.{All-nil, All-cons, All-pop, All-push, Contains-append_left, Contains-push, Contains-push_cases, Contains-get_or}
+use Rattle.std.proofs.lemmas.List.Elements.{All-nil, All-cons, All-push, Contains-append_left, Contains-push, Contains-push_cases, Contains-get_or}
 use Rattle.std.proofs.lemmas.Option.{slice_get_past, slice_get-get_or}
 use Rattle.fields.specs.declared.packet.hook.Hook.{Hook}
 use Rattle.fields.specs.declared.packet.hook.Hook.TheVariants.{Input, Forward, Output}
@@ -30,10 +29,9 @@ use Rattle.table.proofs.laws.walk.CaseLaws.{walk_is}
 use Rattle.classify.specs.classifier.Classifier.{IsPoint}
 use Rattle.questions.specs.Leaves.{name_at}
 use Rattle.questions.specs.Foreign.{Agrees, never}
-use Rattle.questions.specs.Scopes.{AreExactUnder, AreLeavesUnder, EndsUnder, IsOf, IsSurely, Known, ShowsUnder, entries_by, is_met, scope_of, under, walked_by}
-use Rattle.questions.specs.boxes.Area.{Has, IsAtHook}
+use Rattle.questions.specs.Scopes.{EndsUnder, IsOf, IsSurely, Known, ShowsUnder, entries_by, is_met, scope_of, under, walked_by}
+use Rattle.questions.specs.boxes.Area.{Has}
 use Rattle.questions.specs.boxes.Cut.{IsInSome, IsCut, IsPartedFor, IsApart}
-use Rattle.questions.specs.steps.Taken.{GetsTo, IsStep, AreSteps}
 use Rattle.questions.specs.steps.Waiting.{rest_of, rests_of, behind, Reaches, stage_of, WaitsIn, IsAccounted, Belongs, FitsTask, IsThere, AreThere, IsAsked, IsOfSome, Keeps, Moves, PassesOver, Begins, entry_before, IsLastMet}
 use Rattle.questions.specs.declared.foreign.answers.Answer.{Answer}
 use Rattle.questions.specs.declared.walking.front.Front.{Front}
@@ -68,7 +66,7 @@ any_last {X} P xs x zs e h =
     let Q : List X → Type 0 = λ l. Any P l in
     subst Q (sym e) (c.0, x, c.1, c.2, h)
 
-any_same : {X : Type 0} (P : X → Type 0) (xs zs : List X) → zs ≡ xs → Any P xs → Any P zs
+pub any_same : {X : Type 0} (P : X → Type 0) (xs zs : List X) → zs ≡ xs → Any P xs → Any P zs
 any_same {X} P xs zs e a = let Q : List X → Type 0 = λ l. Any P l in subst Q (sym e) a
 
 -- ---- a task more, a leaf more
@@ -454,52 +452,3 @@ begun t known hook scope rests empty trail k old new sound at is none bare no_ta
       there = (h Accept there).keeps.there (subst Q (sym no_task) (All-nil (AreThere t.chains)));
       decided = (let S : List Leaf → Type 0 = λ ls. All (IsSurely known) ls in (h Accept there).keeps.decided (subst S (sym no_leaf) (All-nil (IsSurely known))));
     }
-
--- one step of the loop
-pub begun_next : (t : Table) (known : Known) (hook : Hook) (scope : Scope) (old new : Front) → Begins t known hook scope old → IsStep t known hook scope old new → Begins t known hook scope new
-begun_next t known hook scope old new begins (policy, task, left, up, (next, further, moves, on)) = record {
-  all = λ p can e own. by_case p can e own (begins.all p can e own);
-  fits = λ p can e.
-      (let before = begins.fits p can e in
-      let split = All-pop (FitsTask t known scope p) old.tasks.items left.tasks.items (Some task) up.tasks before.tasks in
-      let L : List Leaf → Type 0 = λ ls. All (ShowsUnder t known scope p) ls in
-      let B : Scope → Type 0 = λ b. IsOf known p b in
-      moves.fits scope p (record { at_hook = can; ends = up.ends p e })
-      (λ own.
-      let there = subst B further.same own in
-      let belongs = split.1 there in
-      (belongs.0, (further.waits p can belongs.0 (record { own = there; reaches = belongs.1 })).reaches))
-      (record { tasks = split.0; leaves = subst L (sym up.leaves) before.leaves }));
-  there = moves.keeps.there (All-pop (AreThere t.chains) old.tasks.items left.tasks.items (Some task) up.tasks begins.there).0;
-  decided = (let S : List Leaf → Type 0 = λ ls. All (IsSurely known) ls in moves.keeps.decided (subst S (sym up.leaves) begins.decided));
-}
-  where
-    by_case : (p : Packet) → IsAtHook p → p.hook ≡ hook → IsOf known p scope → IsAccounted t known p old → IsAccounted t known p new
-    by_case p can e own (inr a) = moves.keeps.kept p (inr (any_same (EndsUnder t known p) old.leaves.items left.leaves.items up.leaves a))
-    by_case p can e own (inl a) =
-        let R : List Task → Type 0 = λ ts. Contains ts a.1 in
-        let S : Task → Type 0 = λ x. WaitsIn t known p x in
-        elim (Contains-push_cases left.tasks.items task a.1 (subst R up.tasks (a.0, a.2, a.3))) [
-          | inl c ↦ moves.keeps.kept p (inl (c.0, a.1, c.1, c.2, a.4))
-          | inr is ↦ moves.moved p (record { at_hook = can; ends = up.ends p e }) (further.waits p can own (subst S (sym is) a.4))
-        ]
-
--- no task is left
-pub all_leaves : (t : Table) (known : Known) (hook : Hook) (scope : Scope) (front : Front) → Begins t known hook scope front → length front.tasks.items ≡ 0 → AreLeavesUnder t known hook scope front.leaves.items
-all_leaves t known hook scope front begins none = λ p can e own.
-    elim (begins.all p can e own) [
-      | inl a ↦ absurd (omega (arith, none, a.2))
-      | inr a ↦ a
-    ]
-
--- and these are exact
-pub all_exact : (t : Table) (known : Known) (hook : Hook) (scope : Scope) (front : Front) → Begins t known hook scope front → AreExactUnder t known hook scope front.leaves.items
-all_exact t known hook scope front begins = λ p can e. (begins.fits p can e).leaves
-
--- ---- steps
-
--- one step more
-pub gets_on : (t : Table) (known : Known) (hook : Hook) (scope : Scope) (n : ℕ) (old new : Front) → GetsTo t known hook scope n old → IsStep t known hook scope old new → GetsTo t known hook scope (n + 1) new
-gets_on t known hook scope n old new gets step =
-    let P : ℕ → Type 0 = λ k. AreSteps k t known hook scope gets.first new in
-    record { first = gets.first; begins = gets.begins; takes = subst P (sym (add-one n)) (old, gets.takes, step) }

@@ -7,7 +7,7 @@ use Rattle.std.proofs.lemmas.List.Elements.{All-filter, filter_passes}
 use Rattle.classify.specs.classifier.Classifier.{box_matches}
 use Rattle.fields.specs.packet.Packet.{PacketView as Packet}
 use Rattle.questions.specs.Foreign.{Agrees, Assignment}
-use Rattle.questions.specs.Scopes.{AreExactUnder, AreLeavesUnder, IsOf, IsSurely, answered, known_by, scope_of}
+use Rattle.questions.specs.Scopes.{AreExactUnder, AreLeavesUnder, IsOf, IsSurely, answered, known_by, scope_of, whole_of}
 use Rattle.questions.specs.asked.Unclear.{IsUnended}
 use Rattle.questions.specs.asked.Walks.{AreWalks, AreWalksUnder, ShowsWalk}
 use Rattle.questions.specs.boxes.Area.{IsAtHook, IsOnly}
@@ -20,13 +20,13 @@ use Rattle.questions.proofs.laws.AnswerLaws.{some_assignment_gives}
 use Rattle.questions.proofs.laws.HeldLaws.{keeps}
 
 -- the walks of a box that has just the packet are the packet's
-pub walks_known : (s : Subject) (start : Scope) (budget : ℕ) (found : Option (Vec Leaf Global)) (p : Packet) (answers : List Answer) (a : Assignment) → IsOnly start.area p → start.answers ≡ answers → IsAtHook p
+pub walks_known : (s : Subject) (start : Scope) (budget : ℕ) (found : Option (Vec Leaf Global)) (p : Packet) (answers : List Answer) → IsOnly start.area p → start.answers ≡ answers → IsAtHook p
     → IfSome found (λ leaves. (b : Assignment) → AreLeavesUnder (answered s b) (known_by s b) p.hook start leaves.items) → IfSome found (λ leaves. (b : Assignment) → AreExactUnder (answered s b) (known_by s b) p.hook start leaves.items)
     → IfSome found (λ leaves. (b : Assignment) → All (IsSurely (known_by s b)) leaves.items)
-    → MatchOption found (IsUnfinishedUnder (answered s a) (known_by s a) p.hook start budget) (λ leaves. IsFinishedUnder (answered s a) (known_by s a) p.hook start budget leaves.items)
-    → MatchOption found (IsUnended (answered s a) (known_by s a) p.hook budget answers p) (λ leaves. AreWalksUnder (answered s a) (known_by s a) p answers leaves.items)
-walks_known s start budget None p answers a only same can leaves exact decided long = (start, only, same, long)
-walks_known s start budget (Some found) p answers a only same can leaves exact decided ended = record {
+    → MatchOption found (IsUnfinishedUnder (whole_of s) p.hook start budget) (λ leaves. IsFinishedUnder (whole_of s) p.hook start budget leaves.items)
+    → MatchOption found (IsUnended (whole_of s) p.hook budget answers p) (λ leaves. (a : Assignment) → AreWalksUnder (answered s a) (known_by s a) p answers leaves.items)
+walks_known s start budget None p answers only same can leaves exact decided long = (start, only, same, long)
+walks_known s start budget (Some found) p answers only same can leaves exact decided ended = λ a. record {
   complete = λ agrees. leaves a p can refl (record { inside = only.inside; agrees = rw same agrees });
   exact = λ k d lt own. let (of, walked) = exact a p can refl k d lt own in (subst (Agrees a) same of.agrees, walked);
   decided = decided a;

@@ -10,10 +10,10 @@ use Rattle.table.specs.declared.walk.trail.Step.{Step}
 use Rattle.table.specs.walk.Walk.{walk}
 use Rattle.questions.specs.Foreign.{Agrees, Assignment, all_hold, needs_at}
 use Rattle.questions.specs.Leaves.{entry_of}
-use Rattle.questions.specs.Scopes.{table_of, under}
+use Rattle.questions.specs.Scopes.{table_of, under, whole_of}
 use Rattle.questions.specs.asked.Reason.{Explains, HasPacket, IsDecidedAmong, IsDecidedBy, IsMeantFor, IsReason, IsTaken}
 use Rattle.questions.specs.asked.Rule.{IsDead}
-use Rattle.questions.specs.asked.Unknown.{CantBeWalked, IsUndecided, IsUndecidedAt, IsUndecidedAtUnder, IsUndecidedUnder, CantBeWalkedUnder, IsOnSome}
+use Rattle.questions.specs.asked.Unknown.{CantBeWalked, IsUndecided, IsUndecidedAt, IsUndecidedAtUnder, IsUndecidedUnder, IsOnSome}
 use Rattle.questions.specs.asked.Why.{ExplainsUnder, HasPacketUnder, IsMeantUnder, IsReasonUnder, IsTakenUnder}
 use Rattle.questions.specs.declared.asked.reach.Given.{Given}
 use Rattle.questions.specs.declared.asked.reason.Reason.{Reason}
@@ -26,6 +26,7 @@ use Rattle.questions.specs.declared.walking.task.Leaf.{Leaf}
 use Rattle.questions.specs.steps.Answered.{IsMeeting}
 use Rattle.questions.specs.steps.Exact.{AreExactWalks}
 use Rattle.questions.specs.steps.Meant.{needs_of}
+use Rattle.questions.specs.steps.Taken.{IsUnfinishedUnder}
 use Rattle.questions.specs.steps.Takers.{IsBoxAt}
 use Rattle.questions.proofs.laws.ExactLaws.{cant_be_walked, exact_walks_plain}
 use Rattle.questions.proofs.laws.PlainLaws.{gives_none, to_plain}
@@ -91,7 +92,7 @@ module _ (s : Subject) (none : s.needs.now ≡ []) (step : Step) where
       both = boxed_scope (table_of s) s.needs.now step hook scope at
 
       P : List Answer → Type 0
-      P xs = CantBeWalkedUnder s hook (under given.area xs) budget ⊎ IsOnSome s hook (under given.area xs) step
+      P xs = IsUnfinishedUnder (whole_of s) hook (under given.area xs) budget ⊎ IsOnSome s hook (under given.area xs) step
 
       bare : scope.answers ≡ []
       bare = no_answers scope.answers (λ a. both.1.all a (gives_none a) (held_plain a))

@@ -7,8 +7,9 @@ use Rattle.fields.specs.packet.Packet.{PacketView as Packet}
 use Rattle.table.specs.chains.Table.{Table}
 use Rattle.table.specs.declared.verdict.Verdict.TheVariants.{TooLong}
 use Rattle.table.specs.walk.Walk.{Entry, walk}
-use Rattle.questions.specs.Foreign.{Agrees, AreConsistent, IsUnanswered}
-use Rattle.questions.specs.Scopes.{Known}
+use Rattle.questions.specs.Foreign.{Agrees, AreConsistent, Assignment, IsUnanswered}
+use Rattle.questions.specs.Scopes.{answered, known_by}
+use Rattle.questions.specs.declared.foreign.subject.Subject.{Subject}
 use Rattle.questions.specs.asked.Walks.{AreWalksUnder}
 use Rattle.questions.specs.declared.foreign.answers.Answer.{Answer}
 use Rattle.questions.specs.declared.walking.task.Leaf.{Leaf}
@@ -16,10 +17,10 @@ use Rattle.questions.specs.steps.Coming.{IsSought}
 use Rattle.questions.proofs.laws.ComeLaws.{never_long}
 
 -- a packet of leaves has no walk that is too long
-pub ended_short : (t : Table) (known : Known) (found : Option (Vec Leaf Global)) (p : Packet) (answers : List Answer) (U : Type 0) → IsTrue (is_some found) → MatchOption found U (λ leaves. AreWalksUnder t known p answers leaves.items)
-    → Agrees known.holds answers → (walk t p).verdict ≢ TooLong
-ended_short t known None p answers U is walks agrees long = absurd (true≢false (sym is))
-ended_short t known (Some found) p answers U is walks agrees long = let (k, leaf, lt, at, own) = walks.complete agrees in never_long t known p leaf own long
+pub ended_short : (s : Subject) (found : Option (Vec Leaf Global)) (p : Packet) (answers : List Answer) (U : Type 0) → IsTrue (is_some found)
+    → MatchOption found U (λ leaves. (a : Assignment) → AreWalksUnder (answered s a) (known_by s a) p answers leaves.items) → (a : Assignment) → Agrees a answers → (walk (answered s a) p).verdict ≢ TooLong
+ended_short s None p answers U is walks a agrees long = absurd (true≢false (sym is))
+ended_short s (Some found) p answers U is walks a agrees long = let (k, leaf, lt, at, own) = (walks a).complete agrees in never_long (answered s a) (known_by s a) p leaf own long
 
 -- what is said where there are none
 pub ended_long : (found : Option (Vec Leaf Global)) (U : Type 0) (F : Vec Leaf Global → Type 0) → IsFalse (is_some found) → MatchOption found U F → U

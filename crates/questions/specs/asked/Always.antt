@@ -5,7 +5,7 @@ use Rattle.table.specs.declared.walk.trail.Step.{Step}
 use Rattle.table.specs.walk.Walk.{Entry}
 use Rattle.questions.specs.Foreign.{Agrees, AreConsistent, Assignment}
 use Rattle.questions.specs.Leaves.{entry_of}
-use Rattle.questions.specs.Scopes.{answered, known_by, table_of}
+use Rattle.questions.specs.Scopes.{answered, whole_of}
 use Rattle.questions.specs.asked.Rule.{IsDead, IsDeadAt, IsLive, IsLiveAt}
 use Rattle.questions.specs.asked.Unclear.{IsUnclearBy, MayLiveUnder}
 use Rattle.questions.specs.declared.asked.rule.Life.{Life}
@@ -42,7 +42,7 @@ SaysAt subject step hook Unclear = Unit {0}
 
 -- the search for the rule comes to no answer, whatever holds
 abbrev pub MayLive : Subject → Step → ℕ → Hook → Type 0
-MayLive subject step budget hook = (a : Assignment) → MayLiveUnder (table_of subject) (answered subject a) (known_by subject a) step hook budget
+MayLive subject step budget hook = MayLiveUnder (whole_of subject) step hook budget
 
 -- an answer about a rule is unclear only where `MayLive` holds at each hook at which the rule isn't dead, and at one hook at least
 abbrev pub IsUnclear : Subject → Step → ℕ → Life → Type 0

@@ -22,10 +22,6 @@ use Rattle.questions.specs.declared.walking.task.Leaf.{Leaf}
 use Rattle.questions.specs.steps.Meant.{IsScopeAt}
 use Rattle.questions.specs.steps.Taken.{IsUnfinishedUnder}
 
--- whatever holds, the packets of the scope can't all be walked through the table within the budget
-abbrev pub CantEnd : Whole → Hook → ℕ → Scope → Type 0
-CantEnd t hook budget scope = (a : Assignment) → IsUnfinishedUnder (left_under t a) (known_under t a) hook scope budget
-
 -- some packet that can be at the hook is in the box
 abbrev pub HasPackets : Hook → List SpanSet → Type 0
 HasPackets hook box = (p : Packet) × IsAtHook p × (p.hook ≡ hook) × IsIn box p
@@ -39,7 +35,7 @@ pub record IsLeafOf (t : Whole) (hook : Hook) (scope : Scope) (leaf : Leaf) : Ty
 abbrev pub CantFollow : Whole → Whole → Hook → ℕ → Scope → Type 0
 CantFollow old new hook budget scope =
     (leaf : Leaf) × (own : Scope) × IsLeafOf old hook scope leaf × IsBoth leaf.area leaf.area own.area × (own.answers ≡ leaf.answers)
-    × CantEnd new hook budget own
+    × IsUnfinishedUnder new hook own budget
 
 -- under some assignment the tables give a packet of the scope that can be at the hook two verdicts
 abbrev pub IsOtherOn : Whole → Whole → Hook → Scope → Type 0
@@ -56,7 +52,7 @@ AreWrittenAlike old new hook scope =
 -- second; or some packet gets two verdicts, and none that a line writes does
 abbrev pub MayDifferOn : Whole → Whole → Hook → ℕ → Scope → Type 0
 MayDifferOn old new hook budget scope =
-    CantEnd old hook budget scope ⊎ (CantFollow old new hook budget scope ⊎ (IsOtherOn old new hook scope × AreWrittenAlike old new hook scope))
+    IsUnfinishedUnder old hook scope budget ⊎ (CantFollow old new hook budget scope ⊎ (IsOtherOn old new hook scope × AreWrittenAlike old new hook scope))
 
 -- the tables have different policies at the hook, and the scope has all packets there, with nothing answered
 abbrev pub IsOfPolicy : Whole → Whole → Hook → Scope → Type 0
@@ -68,7 +64,7 @@ IsOfPolicy old new hook scope =
 abbrev pub IsNotDead : Whole → Step → Hook → ℕ → Type 0
 IsNotDead t step hook budget =
     (((a : Assignment) → IsDeadAt (left_under t a) (entry_of (left_under t a).chains step) hook) → ⊥)
-    ⊎ ((a : Assignment) → MayLiveUnder t.table (left_under t a) (known_under t a) step hook budget)
+    ⊎ MayLiveUnder t step hook budget
 
 -- one of these rules isn't known to be dead, and the scope has the packets at the hook that its box has, under answers that meet what it needs
 abbrev pub IsOfRule : Whole → (Entry → Bool) → Hook → ℕ → Scope → Type 0

@@ -5,7 +5,7 @@ use Rattle.table.specs.declared.walk.trail.Step.{Step}
 use Rattle.table.specs.walk.Walk.{walk}
 use Rattle.questions.specs.Foreign.{Agrees, AreConsistent, Assignment, IsUnanswered}
 use Rattle.questions.specs.Leaves.{entry_of}
-use Rattle.questions.specs.Scopes.{answered, known_by, table_of}
+use Rattle.questions.specs.Scopes.{answered, table_of, whole_of}
 use Rattle.questions.specs.asked.Unclear.{IsUnended}
 use Rattle.questions.specs.declared.asked.rule.Life.{Life}
 use Rattle.questions.specs.declared.asked.rule.Life.TheVariants.{Dead, Live, Unclear}
@@ -21,7 +21,7 @@ AreEnough subject step p answers = (a : Assignment) → Agrees a answers → Con
 abbrev pub MayNotSuffice : Subject → Step → Packet → ℕ → List Answer → Type 0
 MayNotSuffice subject step p budget answers =
     ((a : Assignment) × Agrees a answers × (Contains (walk (answered subject a) p).trail (entry_of (table_of subject).chains step) → ⊥))
-    ⊎ ((a : Assignment) → IsUnended (answered subject a) (known_by subject a) p.hook budget answers p)
+    ⊎ IsUnended (whole_of subject) p.hook budget answers p
 
 -- an answer is necessary: without it, the others, and perhaps more, may not suffice
 pub record IsNecessary (subject : Subject) (step : Step) (p : Packet) (budget : ℕ) (answers : List Answer) (answer : Answer) : Type 0 where

@@ -7,7 +7,7 @@ use Rattle.table.specs.chains.Table.{Table}
 use Rattle.table.specs.declared.walk.trail.Step.{Step}
 use Rattle.questions.specs.Ends.{rule_at}
 use Rattle.questions.specs.Foreign.{Assignment}
-use Rattle.questions.specs.Scopes.{answered, known_by, table_of}
+use Rattle.questions.specs.Scopes.{answered, known_by, table_of, whole_of}
 use Rattle.questions.specs.asked.Reason.{IsLed}
 use Rattle.questions.specs.boxes.Area.{IsBoth}
 use Rattle.questions.specs.declared.asked.reach.Given.{Given}
@@ -40,10 +40,6 @@ IsUndecidedAt t step budget hook =
 abbrev pub IsUndecided : Table → Step → ℕ → Type 0
 IsUndecided t step budget = (hook : Hook) × IsLed t step hook × IsUndecidedAt t step budget hook
 
--- whatever holds, the packets of the scope can't all be walked within the budget
-abbrev pub CantBeWalkedUnder : Subject → Hook → Scope → ℕ → Type 0
-CantBeWalkedUnder subject hook scope budget = (a : Assignment) → IsUnfinishedUnder (answered subject a) (known_by subject a) hook scope budget
-
 -- whatever holds, the packets of the scope have exactly the walks of these leaves; and the rule is on one of them
 abbrev pub IsOnSome : Subject → Hook → Scope → Step → Type 0
 IsOnSome subject hook scope step =
@@ -56,7 +52,7 @@ abbrev pub IsUndecidedAtUnder : Subject → Step → ℕ → Hook → Type 0
 IsUndecidedAtUnder subject step budget hook =
     (asks_both (rule_at (table_of subject) step) ≡ true)
     ⊎ ((scope : Scope) × IsScopeAt (table_of subject) subject.needs.now step hook scope
-    × (CantBeWalkedUnder subject hook scope budget ⊎ IsOnSome subject hook scope step))
+    × (IsUnfinishedUnder (whole_of subject) hook scope budget ⊎ IsOnSome subject hook scope step))
 
 -- `IsUndecidedAtUnder` holds at some hook from which jumps and gotos lead to the rule's chain
 abbrev pub IsUndecidedUnder : Subject → Step → ℕ → Type 0

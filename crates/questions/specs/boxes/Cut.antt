@@ -2,7 +2,7 @@
 use Rattle.std.specs.Prelude.{◌≡◌, ◌⊎◌, ℕ, true, false, List, Contains}
 use Rattle.fields.specs.numbers.Spans.{SpanSet}
 use Rattle.classify.specs.classifier.Classifier.{IsPoint}
-use Rattle.rules.specs.rule.Allows.{matches}
+use Rattle.rules.specs.rule.Allows.{allows_each, matches}
 use Rattle.rules.specs.rule.Rules.{Rule}
 use Rattle.questions.specs.boxes.Area.{Has}
 use Rattle.questions.specs.declared.boxes.cut.Cut.{Cut}
@@ -20,6 +20,10 @@ pub record IsCut (rule : Rule) (box inside : List SpanSet) (outside : List (List
       → IsInSome outside numbers
   pub only : (numbers : List ℕ) → IsPoint numbers → Has inside numbers → Has box numbers × (matches numbers rule ≡ true)
   pub rest : (numbers : List ℕ) → IsPoint numbers → IsInSome outside numbers → Has box numbers × (matches numbers rule ≡ false)
+
+-- the box has numbers that the rule allows, each on its field
+abbrev pub IsAllowedIn : Rule → List SpanSet → Type 0
+IsAllowedIn rule box = (numbers : List ℕ) × IsPoint numbers × Has box numbers × (allows_each numbers rule ≡ true)
 
 -- the rule matches none of the box
 pub record IsApart (rule : Rule) (box : List SpanSet) : Type 0 where

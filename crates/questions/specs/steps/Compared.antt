@@ -11,13 +11,14 @@ use Rattle.questions.specs.Foreign.{Assignment}
 use Rattle.questions.specs.Leaves.{entry_of}
 use Rattle.questions.specs.Scopes.{AreExactUnder, AreLeavesUnder, IsOf, IsSurely, Whole, known_under, left_under, scope_of}
 use Rattle.questions.specs.Written.{HasNoneWritten, IsWritten}
-use Rattle.questions.specs.asked.Differing.{CantEnd, HasPackets, IsNotDead, MayDifferOn}
+use Rattle.questions.specs.asked.Differing.{HasPackets, IsNotDead, MayDifferOn}
 use Rattle.questions.specs.asked.Rule.{IsDeadAt}
 use Rattle.questions.specs.asked.Verdicts.{IsAlike}
 use Rattle.questions.specs.boxes.Area.{IsAtHook, IsBoth}
 use Rattle.questions.specs.declared.walking.scope.Scope.{Scope}
 use Rattle.questions.specs.declared.walking.task.Leaf.{Leaf}
 use Rattle.questions.specs.steps.Meant.{IsScopeAt}
+use Rattle.questions.specs.steps.Taken.{IsUnfinishedUnder}
 use Rattle.questions.specs.steps.Takers.{IsMatchedAt}
 
 -- no packet at the hook that the rule matches has a walk that is too long
@@ -52,7 +53,7 @@ pub record AreWalked (t : Whole) (hook : Hook) (scope : Scope) (found : List Lea
 -- the leaf has packets that can be at the hook, and they can't all be walked within the budget, under its answers
 abbrev pub CantBeFollowed : Whole → Hook → ℕ → Leaf → Type 0
 CantBeFollowed t hook budget leaf =
-    HasPackets hook leaf.area × ((own : Scope) × IsBoth leaf.area leaf.area own.area × (own.answers ≡ leaf.answers) × CantEnd t hook budget own)
+    HasPackets hook leaf.area × ((own : Scope) × IsBoth leaf.area leaf.area own.area × (own.answers ≡ leaf.answers) × IsUnfinishedUnder t hook own budget)
 
 -- under some assignment the table gives another verdict to a packet of the leaf that can be at the hook
 abbrev pub IsOtherIn : Whole → Hook → Leaf → Type 0

@@ -1,35 +1,24 @@
 -- How boxes get on: what a step makes of a task.
-use Rattle.std.specs.Prelude.{◌≡◌, ◌≢◌, ◌⊎◌, ℕ, ◌+◌, List, [], ◌∷◌, ◌++◌, Option, None, Some, All, Contains, position}
+use Rattle.std.specs.Prelude.{◌≡◌, ◌≢◌, ◌⊎◌, ℕ, ◌+◌, List, [], ◌∷◌, ◌++◌, Option, None, Some, All, Any, Contains, position}
 use Rattle.fields.specs.numbers.Spans.{SpanSet}
-use Rattle.classify.specs.classifier.Classifier.{IsPoint}
 use Rattle.rules.specs.declared.rule.target.Target.{Target}
 use Rattle.rules.specs.declared.rule.target.Target.TheVariants as target
-use Rattle.table.specs.chains.Table.{Chain, is_named}
+use Rattle.table.specs.chains.Table.{Chain, Table, is_named}
 use Rattle.table.specs.declared.walk.trail.Step.{Step}
-use Rattle.questions.specs.Foreign.{IsNeeded, IsUnanswered}
-use Rattle.questions.specs.boxes.Area.{Has}
-use Rattle.questions.specs.declared.boxes.cut.Cut.{Cut}
-use Rattle.questions.specs.declared.boxes.cut.Cut.TheVariants.{Apart, Parts, ByPorts}
+use Rattle.questions.specs.Foreign.{IsUnanswered, needs_at}
+use Rattle.questions.specs.Scopes.{Whole}
+use Rattle.questions.specs.boxes.Parts.{IsPortPart}
 use Rattle.questions.specs.declared.foreign.answers.Answer.{Answer}
 use Rattle.questions.specs.declared.foreign.need.Need.{Need}
 use Rattle.questions.specs.declared.walking.front.Front.{Front}
 use Rattle.questions.specs.declared.walking.scope.Scope.{Scope}
 use Rattle.questions.specs.declared.walking.task.Pending.{Pending}
 use Rattle.questions.specs.declared.walking.task.Task.{Task}
+use Rattle.questions.specs.steps.Waiting.{rule_ahead}
 
 -- tasks are put on those that were left, and this holds of each
 abbrev pub AddsTasks : (Task → Type 0) → Front → Front → Type 0
 AddsTasks Holds old new = (added : List Task) × (new.tasks.items ≡ old.tasks.items ++ added) × All Holds added
-
--- some numbers of a box aren't in another one
-abbrev pub LacksSome : List SpanSet → List SpanSet → Type 0
-LacksSome box part = (numbers : List ℕ) × IsPoint numbers × Has box numbers × (Has part numbers → ⊥)
-
--- each part of a box on which a rule is tested again lacks some of the box
-abbrev pub AreLess : List SpanSet → Cut → Type 0
-AreLess box Apart = Unit {0}
-AreLess box (Parts inside outside) = Unit {0}
-AreLess box (ByPorts again outside) = All (LacksSome box) again.items
 
 -- the chains that wait and the trail are these
 pub record IsPlaced (waiting : List Pending) (steps : List Step) (next : Task) : Type 0 where
@@ -73,11 +62,18 @@ pub record IsBesides (boxes : List (List SpanSet)) (given : List Answer) (waitin
   pub answers : next.scope.answers ≡ given
   pub there : IsPlaced waiting steps next
 
--- so are they, and one more condition is answered, which had no answer and which some rule needs
+-- the next rule of a chain needs the condition, or that it doesn't hold
+abbrev pub IsNeededNext : List (List (List Need)) → Pending → ℕ → Type 0
+IsNeededNext needs at condition = Any (λ (need : Need). need.condition ≡ condition) (needs_at needs at.chain at.passed)
+
+-- so are they, and one more condition is answered, which had no answer and which the next rule of the newest chain needs
 pub record IsAnswered (needs : List (List (List Need))) (given : List Answer) (waiting : List Pending) (steps : List Step) (next : Task) : Type 0 where
+  pub below : List Pending
+  pub at : Pending
+  pub newest : waiting ≡ below ++ at ∷ []
   pub answer : Answer
   pub unanswered : IsUnanswered given answer.condition
-  pub needed : IsNeeded needs answer.condition
+  pub needed : IsNeededNext needs at answer.condition
   pub answers : next.scope.answers ≡ given ++ answer ∷ []
   pub there : IsPlaced waiting steps next
 
@@ -102,15 +98,18 @@ pub record IsMatched (waiting : List Pending) (steps : List Step) (next : Task) 
   pub on : next.trail.items ≡ steps ++ record { chain = at.chain; number = at.passed + 1 } ∷ []
   pub moved : next.rests.items ≢ waiting
 
--- or it stayed, with some of its packets
-pub record IsPartOf (own : Scope) (waiting : List Pending) (steps : List Step) (next : Task) : Type 0 where
-  pub area : LacksSome own.area next.scope.area
+-- or it stayed, with those of its packets that are on one side of ports which that rule lists, for the source and the destination
+pub record IsPartOf (t : Table) (own : Scope) (waiting : List Pending) (steps : List Step) (next : Task) : Type 0 where
+  pub below : List Pending
+  pub at : Pending
+  pub newest : waiting ≡ below ++ at ∷ []
+  pub part : IsPortPart (rule_ahead t at) own.area next.scope.area
   pub answers : next.scope.answers ≡ own.answers
   pub there : IsPlaced waiting steps next
 
--- a task got on from a scope with these chains that wait and this trail: the next rule of the newest chain matched, or is behind it, that chain was
--- left, one more condition is answered that some rule needs, or it has less packets
-abbrev pub GetsOn : List (List (List Need)) → Scope → List Pending → List Step → Task → Type 0
-GetsOn needs scope rests trail next =
+-- A task got on from a scope with these chains that wait and this trail. The next rule of the newest chain matched, or is behind it; or that chain was
+-- left; or one more condition is answered that the rule needs; or ports that the rule lists part its packets.
+abbrev pub GetsOn : Whole → Scope → List Pending → List Step → Task → Type 0
+GetsOn t scope rests trail next =
     IsMatched rests trail next
-    ⊎ (IsPast rests trail next ⊎ (IsBack rests trail next ⊎ (IsAnswered needs scope.answers rests trail next ⊎ IsPartOf scope rests trail next)))
+    ⊎ (IsPast rests trail next ⊎ (IsBack rests trail next ⊎ (IsAnswered t.needs scope.answers rests trail next ⊎ IsPartOf t.table scope rests trail next)))

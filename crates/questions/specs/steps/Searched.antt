@@ -6,9 +6,9 @@ use Rattle.table.specs.chains.Table.{Table}
 use Rattle.table.specs.declared.verdict.Verdict.{Verdict}
 use Rattle.table.specs.declared.walk.trail.Step.{Step}
 use Rattle.table.specs.walk.Walk.{walk}
-use Rattle.questions.specs.Foreign.{needs_at}
+use Rattle.questions.specs.Foreign.{Assignment, needs_at}
 use Rattle.questions.specs.Leaves.{entry_of}
-use Rattle.questions.specs.Scopes.{IsOf, Known, scope_of}
+use Rattle.questions.specs.Scopes.{IsOf, Known, Whole, known_under, left_under, scope_of}
 use Rattle.questions.specs.boxes.Area.{IsAtHook}
 use Rattle.questions.specs.declared.asked.rule.Life.{Life}
 use Rattle.questions.specs.declared.asked.rule.Life.TheVariants as life
@@ -27,8 +27,8 @@ ComesNever t known scope step task =
     (p : Packet) → IsAtHook p → IsOf known p scope → WaitsIn t known p task → Contains (walk t p).trail (entry_of t.chains step) → ⊥
 
 -- what the rule at a step of a trail needs
-abbrev pub needed_by : Known → Step → List Need
-needed_by known step = needs_at known.needs step.chain (step.number - 1)
+abbrev pub needed_by : List (List (List Need)) → Step → List Need
+needed_by needs step = needs_at needs step.chain (step.number - 1)
 
 -- What a trail shows of the rule, for the packets of a scope: they don't come to it, since the rule isn't there, or something that it needs fails. Or
 -- they do, where the answers of another scope are right, which has the same box: just where all holds that the rule needs.
@@ -46,18 +46,18 @@ TakesLeaf needs step mid new found =
 abbrev pub ComesItself : List Need → Step → Task → Option Scope → Type 0
 ComesItself needs step task found = (came : Scope) × (found ≡ Some came) × IsFound needs step task.scope task.trail.items (Some came)
 
--- how a task goes on, for the packets of a scope: its own scope came to the rule; or no packet of it comes there, and it is dropped; or its packets
--- go on, and a leaf is taken out
-abbrev pub ComesBy : Table → Known → Verdict → Scope → Step → Task → Front → Front → Option Scope → Type 0
-ComesBy t known policy scope step task left new found =
-    (ComesItself (needed_by known step) step task found × (new ≡ left))
-    ⊎ ((ComesNever t known scope step task × (found ≡ None) × (new ≡ left))
-    ⊎ ((mid : Front) × GoesOn t known policy scope task left mid × TakesLeaf (needed_by known step) step mid new found))
+-- how a task goes on, for the packets of a scope: its own scope came to the rule; or no packet of it comes there, whatever holds, and it is dropped; or its
+-- packets go on, and a leaf is taken out
+abbrev pub ComesBy : Whole → Verdict → Scope → Step → Task → Front → Front → Option Scope → Type 0
+ComesBy t policy scope step task left new found =
+    (ComesItself (needed_by t.needs step) step task found × (new ≡ left))
+    ⊎ ((((a : Assignment) → ComesNever (left_under t a) (known_under t a) scope step task) × (found ≡ None) × (new ≡ left))
+    ⊎ ((mid : Front) × GoesOn t policy scope task left mid × TakesLeaf (needed_by t.needs step) step mid new found))
 
 -- one step of the search for the packets of a scope
-abbrev pub IsSearchStep : Table → Known → Hook → Scope → Step → Front → Front → Option Scope → Type 0
-IsSearchStep t known hook scope step old new found =
-    (policy : Verdict) × (task : Task) × (left : Front) × IsTakenUp t hook policy task old left × ComesBy t known policy scope step task left new found
+abbrev pub IsSearchStep : Whole → Hook → Scope → Step → Front → Front → Option Scope → Type 0
+IsSearchStep t hook scope step old new found =
+    (policy : Verdict) × (task : Task) × (left : Front) × IsTakenUp t.table hook policy task old left × ComesBy t policy scope step task left new found
 
 -- the scopes that came to the rule, with one more if one did
 abbrev pub with_found : List Scope → Option Scope → List Scope
@@ -65,17 +65,17 @@ with_found came None = came
 with_found came (Some scope) = came ++ scope ∷ []
 
 -- so many steps, and the scopes that came to the rule in them
-abbrev pub AreSearchSteps : ℕ → Table → Known → Hook → Scope → Step → Front → Front → List Scope → Type 0
-AreSearchSteps zero t known hook scope step old new came = (old ≡ new) × (came ≡ [])
-AreSearchSteps (suc n) t known hook scope step old new came =
+abbrev pub AreSearchSteps : ℕ → Whole → Hook → Scope → Step → Front → Front → List Scope → Type 0
+AreSearchSteps zero t hook scope step old new came = (old ≡ new) × (came ≡ [])
+AreSearchSteps (suc n) t hook scope step old new came =
     (mid : Front) × (before : List Scope) × (found : Option Scope)
-    × AreSearchSteps n t known hook scope step old mid before × IsSearchStep t known hook scope step mid new found × (came ≡ with_found before found)
+    × AreSearchSteps n t hook scope step old mid before × IsSearchStep t hook scope step mid new found × (came ≡ with_found before found)
 
 -- the search gets there in so many steps, from the packets of a scope at the first rule of the hook's chain
-pub record SearchesTo (t : Table) (known : Known) (hook : Hook) (step : Step) (scope : Scope) (n : ℕ) (front : Front) (came : List Scope) : Type 0 where
+pub record SearchesTo (t : Whole) (hook : Hook) (step : Step) (scope : Scope) (n : ℕ) (front : Front) (came : List Scope) : Type 0 where
   pub first : Front
   pub begins : IsFirst hook scope first
-  pub takes : AreSearchSteps n t known hook scope step first front came
+  pub takes : AreSearchSteps n t hook scope step first front came
 
 -- after the last step: no task is left, and some scope came to the rule, or a leaf has it on its trail
 pub record HasCome (step : Step) (front : Front) (came : List Scope) : Type 0 where

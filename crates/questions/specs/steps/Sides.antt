@@ -1,11 +1,12 @@
 -- The parts of a box that are outside of another box, place by place.
-use Rattle.std.specs.Prelude.{◌≡◌, ℕ, ◌≤◌, ◌<◌, nat_lt, ◌==◌, ◌&&◌, not, Bool, true, false, List, [], slice_index, slice_index_or, if◌then◌else◌}
+use Rattle.std.specs.Prelude.{◌≡◌, ◌⊎◌, ◌∷◌, ◌++◌, ℕ, ◌≤◌, ◌<◌, nat_lt, ◌==◌, ◌&&◌, not, Bool, true, false, List, [], slice_index, slice_index_or, if◌then◌else◌}
 use Rattle.fields.specs.declared.numbers.field.TheConstants.{FIELDS}
 use Rattle.fields.specs.declared.numbers.field.Field.{Field}
 use Rattle.fields.specs.declared.packet.hook.Hook.{Hook}
 use Rattle.fields.specs.numbers.Field.{top}
 use Rattle.fields.specs.numbers.Spans.{SpanSet, has}
-use Rattle.questions.specs.boxes.Area.{may_have}
+use Rattle.classify.specs.classifier.Classifier.{IsPoint}
+use Rattle.questions.specs.boxes.Area.{Has, HasNumbers, may_have}
 
 -- the set without a number
 abbrev pub no_set : SpanSet
@@ -44,3 +45,9 @@ pub record IsBeginning (hook : Hook) (field : Field) (set : SpanSet) : Type 0 wh
 pub record LeavesAt (at : ℕ) (box : List SpanSet) (numbers : List ℕ) : Type 0 where
   pub before : (place : ℕ) → place < at → has_at box numbers place ≡ true
   pub here : has_at box numbers at ≡ false
+
+-- no part is put on some, or one is: it has numbers, and all of them leave the box at the place
+abbrev pub AddsLeaving : ℕ → List SpanSet → List (List SpanSet) → List (List SpanSet) → Type 0
+AddsLeaving at box old new =
+    (new ≡ old) ⊎ ((part : List SpanSet) × (new ≡ old ++ part ∷ []) × HasNumbers part
+    × ((numbers : List ℕ) → IsPoint numbers → Has part numbers → LeavesAt at box numbers))

@@ -1,5 +1,5 @@
 -- Boxes on their way through the table, and those that are at its end.
-use Rattle.std.specs.Prelude.{◌≡◌, ◌⊎◌, ℕ, ◌+◌, ◌-◌, ◌<◌, List, [], ◌∷◌, length, map, reverse, slice_get, slice_index_or, All, Any, IfSome, IsTrue}
+use Rattle.std.specs.Prelude.{◌≡◌, ◌⊎◌, ℕ, ◌+◌, ◌-◌, ◌<◌, List, [], ◌∷◌, ◌++◌, length, map, reverse, slice_get, slice_index_or, All, Any, IfSome, IsTrue}
 use Rattle.fields.specs.declared.packet.hook.Hook.{Hook}
 use Rattle.fields.specs.numbers.Spans.{SpanSet}
 use Rattle.fields.specs.packet.Hook.{name as hook_name}
@@ -11,7 +11,7 @@ use Rattle.table.specs.declared.walk.trail.Step.{Step}
 use Rattle.table.specs.walk.Cases.{Stage, Under, GoesTo}
 use Rattle.table.specs.walk.Walk.{Rest, Entry, end_verdict, whole}
 use Rattle.questions.specs.boxes.Area.{IsAtHook}
-use Rattle.questions.specs.boxes.Cut.{IsInSome}
+use Rattle.questions.specs.boxes.Cut.{IsAllowedIn, IsInSome}
 use Rattle.questions.specs.Foreign.{Agrees}
 use Rattle.questions.specs.declared.foreign.answers.Answer.{Answer}
 use Rattle.questions.specs.Leaves.{name_at}
@@ -36,6 +36,12 @@ behind at = record { chain = at.chain; passed = at.passed + 1 }
 -- its next rule
 abbrev pub rule_ahead : Table → Pending → Rule
 rule_ahead t at = slice_index_or (chain_at t at.chain).rules at.passed empty_rule
+
+-- if the newest chain has a next rule, the task's box has numbers that it allows
+abbrev pub StandsAtOne : Table → Task → Type 0
+StandsAtOne t task =
+    (below : List Pending) (at : Pending) → task.rests.items ≡ below ++ at ∷ [] → at.passed < length (chain_at t at.chain).rules
+    → IsAllowedIn (rule_ahead t at) task.scope.area
 
 -- the walk of a packet gets to a stage
 abbrev pub Reaches : Table → Packet → Stage → Type 0

@@ -4,7 +4,7 @@ ghost use Rattle.table.specs.declared.verdict.Verdict.TheVariants.{TooLong};
 ghost use Rattle.questions.specs.Ends.{IsRule};
 ghost use Rattle.questions.specs.Foreign.{Assignment, needs_at};
 ghost use Rattle.questions.specs.Leaves.{entry_of};
-ghost use Rattle.questions.specs.Scopes.{answered, known_by, table_of};
+ghost use Rattle.questions.specs.Scopes.{answered, known_by, table_of, whole_of};
 ghost use Rattle.questions.specs.boxes.Boxes.{rules_in};
 ghost use Rattle.questions.specs.declared.walking.scope.Scope.{Scope as Start};
 ghost use Rattle.questions.specs.steps.Answered.{IsMeeting, MeetsNever};
@@ -94,8 +94,8 @@ pub(crate) fn come(
     ensures there { IfOk result (λ came. AllThere (table_of subject.now).chains front.old → AllThere (table_of subject.now).chains front.new) }
     ensures fit { IfOk result (λ came. AreKept (table_of subject.now) candidates.old candidates.new) }
     ensures looks { IfOk result (λ came. came.looks ≤ rules_in (table_of subject.now).chains) }
-    ensures step { IfOk result (λ came. (start : Start) → AreFor (table_of subject.now) start.area candidates.old → (a : Assignment)
-        → ComesBy (answered subject.now a) (known_by subject.now a) policy start wanted task front.old front.new came.scope) }
+    ensures step { IfOk result (λ came. (start : Start) → AreFor (table_of subject.now) start.area candidates.old
+        → ComesBy (whole_of subject.now) policy start wanted task front.old front.new came.scope) }
     ensures kept { IfOk result (λ came. came.scope ≡ None → (start : Start) → AreFor (table_of subject.now) start.area candidates.old
         → (a : Assignment) → ComesOn (answered subject.now a) (known_by subject.now a) policy start
         (entry_of (answered subject.now a).chains wanted) task front.old front.new) }

@@ -3,7 +3,7 @@ ghost use Rattle.std.specs.Prelude.{ℕ, List, All, Any, IfOk, IsFalse, IsTrue, 
 ghost use Rattle.fields.specs.declared.packet.hook.Hook.{Hook as HookView};
 ghost use Rattle.table.specs.chains.Table.{Table};
 ghost use Rattle.questions.specs.Foreign.{Assignment};
-ghost use Rattle.questions.specs.Scopes.{Known, Whole, answered, known_by, under};
+ghost use Rattle.questions.specs.Scopes.{Known, Whole, answered, known_by, under, whole_of};
 ghost use Rattle.questions.specs.asked.Differing.{HasPackets};
 ghost use Rattle.questions.specs.boxes.Area.{Has, HasNumbers};
 ghost use Rattle.questions.specs.declared.foreign.answers.Answer.{Answer};
@@ -81,9 +81,9 @@ pub(crate) fn exact_walks(
     start: Scope,
     budget: usize,
 ) -> Result<Option<Vec<Leaf>>, AllocError>
-    ensures { IfOk result (λ found. (a : Assignment) → MatchOption found
-        (IsUnfinishedUnder (answered subject.now a) (known_by subject.now a) hook start budget)
-        (λ exact. AreExactWalksUnder (answered subject.now a) (known_by subject.now a) hook start exact.items)) }
+    ensures { IfOk result (λ found. MatchOption found
+        (IsUnfinishedUnder (whole_of subject.now) hook start budget)
+        (λ exact. (a : Assignment) → AreExactWalksUnder (answered subject.now a) (known_by subject.now a) hook start exact.items)) }
 {
     let possible = by_transport(alloc, &start.area)?;
     match leaves_under(alloc, subject, hook, start, budget)? {

@@ -63,7 +63,8 @@ pub(crate) fn is_always_on(
 ) -> Result<bool, AllocError>
     requires step { IsRule (table_of approach.now.subject) approach.now.wanted }
     requires can { IsAtHook approach.now.packet.now }
-    ensures { IfOk result (λ is. IsTrue is → AreEnough approach.now.subject approach.now.wanted approach.now.packet.now approach.now.answers.now) }
+    ensures yes { IfOk result (λ is. IsTrue is → AreEnough approach.now.subject approach.now.wanted approach.now.packet.now approach.now.answers.now) }
+    ensures no { IfOk result (λ is. is ≡ false → MayNotSuffice approach.now.subject approach.now.wanted approach.now.packet.now budget approach.now.answers.now) }
 {
     if suffice_surely(alloc, approach)? {
         return Ok(true);

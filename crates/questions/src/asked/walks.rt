@@ -2,7 +2,7 @@
 ghost use Rattle.std.specs.Prelude.{◌≡◌, All, IfOk, IfSome, MatchOption};
 ghost use Rattle.fields.specs.packet.Packet.{IsPacket};
 ghost use Rattle.questions.specs.Foreign.{AreAsked, Assignment};
-ghost use Rattle.questions.specs.Scopes.{answered, known_by};
+ghost use Rattle.questions.specs.Scopes.{answered, known_by, whole_of};
 ghost use Rattle.questions.specs.asked.Unclear.{IsUnended};
 ghost use Rattle.questions.specs.asked.Walks.{AreWalks, AreWalksUnder};
 ghost use Rattle.questions.specs.boxes.Area.{IsAtHook, IsIn, IsOnly};
@@ -45,9 +45,9 @@ pub(crate) fn walks_of(
     requires can { IsAtHook packet.now }
     requires inside { IsIn area.now packet.now }
     ensures asked { IfOk result (λ found. IfSome found (λ leaves. All (λ leaf. AreAsked subject.now.needs.now answers.now leaf.answers) leaves.items)) }
-    ensures walks { IfOk result (λ found. (a : Assignment) → MatchOption found
-        (IsUnended (answered subject.now a) (known_by subject.now a) packet.now.hook budget answers.now packet.now)
-        (λ leaves. AreWalksUnder (answered subject.now a) (known_by subject.now a) packet.now answers.now leaves.items)) }
+    ensures walks { IfOk result (λ found. MatchOption found
+        (IsUnended (whole_of subject.now) packet.now.hook budget answers.now packet.now)
+        (λ leaves. (a : Assignment) → AreWalksUnder (answered subject.now a) (known_by subject.now a) packet.now answers.now leaves.items)) }
 {
     let answers = answers.copy(alloc)?;
     let area = box_of(alloc, area, packet)?;
@@ -73,7 +73,7 @@ pub fn walks(
 ) -> Result<Option<Vec<Leaf>>, AllocError>
     ensures asked { IfOk result (λ found. IfSome found (λ leaves. All (λ leaf. AreAsked subject.now.needs.now answers.now leaf.answers) leaves.items)) }
     ensures walks { IfOk result (λ found. MatchOption found
-        ((a : Assignment) → IsUnended (answered subject.now a) (known_by subject.now a) written.now.hook budget answers.now written.now)
+        (IsUnended (whole_of subject.now) written.now.hook budget answers.now written.now)
         (λ leaves. AreWalks subject.now written.now answers.now leaves.items)) }
 {
     let packet = written.packet();

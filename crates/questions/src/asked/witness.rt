@@ -6,7 +6,7 @@ ghost use Rattle.table.specs.walk.Walk.{walk};
 ghost use Rattle.questions.specs.Ends.{IsRule};
 ghost use Rattle.questions.specs.Foreign.{Agrees, Assignment};
 ghost use Rattle.questions.specs.Leaves.{entry_of};
-ghost use Rattle.questions.specs.Scopes.{IsOf, answered, known_by, table_of};
+ghost use Rattle.questions.specs.Scopes.{IsOf, answered, known_by, table_of, whole_of};
 ghost use Rattle.questions.specs.asked.Rule.{IsLiveAt};
 ghost use Rattle.questions.specs.asked.Unclear.{IsUnseen, MayBeTooLong};
 ghost use Rattle.questions.specs.boxes.Area.{IsAtHook, IsIn};
@@ -50,8 +50,7 @@ fn is_shown(
         → IsSought (answered subject.now a) (entry_of (answered subject.now a).chains step) packet.now }
     ensures on { IfOk result (λ is. IsTrue is → (a : Assignment) → Agrees a scope.now.answers
         → Contains (walk (answered subject.now a) packet.now).trail (entry_of (answered subject.now a).chains step)) }
-    ensures long { IfOk result (λ is. IsFalse is → (a : Assignment)
-        → MayBeTooLong (answered subject.now a) (known_by subject.now a) packet.now.hook budget scope.now.answers packet.now) }
+    ensures long { IfOk result (λ is. IsFalse is → MayBeTooLong (whole_of subject.now) packet.now.hook budget scope.now.answers packet.now) }
 {
     scope.answers.stand();
     if subject.needs.are_none() {
@@ -74,7 +73,7 @@ pub(crate) fn witness(
     requires came { (a : Assignment) (p : PacketView) → IsAtHook p → p.hook ≡ hook → IsOf (known_by subject.now a) p scope.now
         → IsSought (answered subject.now a) (entry_of (answered subject.now a).chains step) p }
     ensures { IfOk result (λ found. MatchOption found
-        ((a : Assignment) → IsUnseen (answered subject.now a) (known_by subject.now a) hook budget scope.now)
+        (IsUnseen (whole_of subject.now) hook budget scope.now)
         (λ words. (a : Assignment) → Agrees a scope.now.answers
         → IsLiveAt (answered subject.now a) (entry_of (answered subject.now a).chains step) hook words)) }
 {

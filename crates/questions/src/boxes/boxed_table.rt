@@ -1,11 +1,12 @@
 //! A table with the boxes of its rules.
-ghost use Rattle.std.specs.Prelude.{◌≡◌, ◌+◌, ◌-◌, ◌^◌, ◌<◌, ◌≤◌, [], length, map, min, slice_index_or, IfOk, IsTrue};
+ghost use Rattle.std.specs.Prelude.{◌≡◌, ◌+◌, ◌-◌, ◌^◌, ◌<◌, ◌≤◌, [], false, length, map, min, slice_index_or, IfOk, IsTrue};
 ghost use Rattle.rules.specs.boxing.Boxed.{IsBoxOf};
 ghost use Rattle.rules.specs.rule.Rules.{empty_rule};
 ghost use Rattle.table.specs.chains.Table.{chain_at};
+ghost use Rattle.questions.specs.boxes.Area.{HasNumbers};
 ghost use Rattle.questions.specs.boxes.Boxes.{AreBoxesOf, AreBoxesOfRules, rules_in};
 ghost use Rattle.questions.specs.boxes.Calls.{AreCalls};
-ghost use Rattle.questions.specs.boxes.Cut.{IsApart};
+ghost use Rattle.questions.specs.boxes.Cut.{IsAllowedIn, IsApart};
 ghost use Rattle.questions.specs.steps.Lengths.{AreLeastBounds};
 ghost use Rattle.questions.specs.steps.Outlines.{IsOutlined};
 
@@ -126,7 +127,9 @@ impl BoxedTable {
         requires place { place < length self.now.table.table.chains }
         requires first { 0 < number }
         requires last { number ≤ length (chain_at self.now.table.table place).rules }
-        ensures { IsTrue result → IsApart (slice_index_or (chain_at self.now.table.table place).rules (number - 1) empty_rule) area.now }
+        ensures none { IsTrue result → IsApart (slice_index_or (chain_at self.now.table.table place).rules (number - 1) empty_rule) area.now }
+        ensures some { result ≡ false → HasNumbers area.now
+            → IsAllowedIn (slice_index_or (chain_at self.now.table.table place).rules (number - 1) empty_rule) area.now }
     {
         self.own_at(place, number).is_apart(area, outline)
     }

@@ -1,15 +1,16 @@
 //! A box of packets cut by a rule: the packets that it matches, and parts with all the others; or, where that depends
 //! on both ports, parts on which the rule has to be tested again.
-ghost use Rattle.std.specs.Prelude.{◌≡◌, ◌<◌, ◌⊎◌, ℕ, List, All, IfOk, OnOk};
+ghost use Rattle.std.specs.Prelude.{◌≡◌, ◌<◌, ◌≤◌, ◌⊎◌, ℕ, List, All, length, IfOk, OnOk};
 ghost use Rattle.fields.specs.numbers.Field.{top};
 ghost use Rattle.rules.specs.boxing.Boxed.{IsBox, IsBoxOf, set_on};
-ghost use Rattle.rules.specs.rule.Crossing.{IsParted};
+ghost use Rattle.rules.specs.rule.Crossing.{IsListedByRule, IsParted};
 ghost use Rattle.rules.specs.rule.Rules.{Rule};
 ghost use Rattle.classify.specs.classifier.Classifier.{IsPoint};
 ghost use Rattle.questions.specs.boxes.Area.{Has, HasNumbers, IsBoth};
 ghost use Rattle.questions.specs.boxes.Cut.{IsCutBy, IsInSome};
-ghost use Rattle.questions.specs.steps.Onward.{AreLess, LacksSome};
-ghost use Rattle.questions.specs.steps.Sides.{LeavesAt};
+ghost use Rattle.questions.specs.boxes.Meeting.{AreMet};
+ghost use Rattle.questions.specs.boxes.Parts.{AreByPorts, AreDisjoint, AreFew, IsSideOf, boxes_of};
+ghost use Rattle.questions.specs.steps.Sides.{AddsLeaving, LeavesAt};
 
 use crate::boxes::area::Area;
 use crate::boxes::lying::is_part;
@@ -41,11 +42,13 @@ fn put_part(
     requires own { IsBox own.now }
     requires other { IsBox other.now }
     requires at { at < FIELDS }
+    requires met { AreMet own.now other.now }
     ensures kept { OnOk result ((numbers : List ℕ) → IsInSome parts.old.items numbers → IsInSome parts.new.items numbers) }
     ensures added { OnOk result ((numbers : List ℕ) → IsPoint numbers → Has own.now numbers
         → LeavesAt at other.now numbers → IsInSome parts.new.items numbers) }
     ensures only { OnOk result ((numbers : List ℕ) → IsPoint numbers → IsInSome parts.new.items numbers
         → IsInSome parts.old.items numbers ⊎ (Has own.now numbers × (Has other.now numbers → ⊥))) }
+    ensures leaves { OnOk result (AddsLeaving at other.now parts.old.items parts.new.items) }
 {
     if is_part(&own[at], &other[at]) {
         return Ok(());
@@ -59,10 +62,13 @@ fn put_part(
 fn outside(alloc: Global, own: &[Spans], other: &[Spans]) -> Result<Vec<Area>, AllocError>
     requires own { IsBox own.now }
     requires other { IsBox other.now }
+    requires met { AreMet own.now other.now }
     ensures all { IfOk result (λ parts. (numbers : List ℕ) → IsPoint numbers → Has own.now numbers
         → (Has other.now numbers → ⊥) → IsInSome parts.items numbers) }
     ensures only { IfOk result (λ parts. (numbers : List ℕ) → IsPoint numbers → IsInSome parts.items numbers
         → Has own.now numbers × (Has other.now numbers → ⊥)) }
+    ensures disjoint { IfOk result (λ parts. AreDisjoint parts.items) }
+    ensures few { IfOk result (λ parts. length parts.items ≤ FIELDS) }
 {
     let mut parts = Vec::new(alloc);
     for done in 0..FIELDS {
@@ -73,11 +79,14 @@ fn outside(alloc: Global, own: &[Spans], other: &[Spans]) -> Result<Vec<Area>, A
 
 // The two parts of a box: the packets whose number on a field is in a set, and the others.
 fn halves(alloc: Global, area: Area, field: Field, wanted: &Spans) -> Result<Vec<Area>, AllocError>
-    requires { wanted.now.top ≡ top field }
+    requires top { wanted.now.top ≡ top field }
+    requires some { HasNumbers area }
+    requires parted { IsParted (record { top = top field; intervals = set_on field area }) wanted.now }
     ensures all { IfOk result (λ parts. (numbers : List ℕ) → IsPoint numbers → Has area numbers → IsInSome parts.items numbers) }
     ensures only { IfOk result (λ parts. (numbers : List ℕ) → IsPoint numbers → IsInSome parts.items numbers → Has area numbers) }
-    ensures less { HasNumbers area → IsParted (record { top = top field; intervals = set_on field area }) wanted.now
-        → IfOk result (λ parts. All (LacksSome area) parts.items) }
+    ensures sides { IfOk result (λ parts. All (IsSideOf field wanted.now area) parts.items) }
+    ensures disjoint { IfOk result (λ parts. AreDisjoint parts.items) }
+    ensures two { IfOk result (λ parts. length parts.items ≡ 2) }
 {
     let others = wanted.except(alloc)?;
     let with = area.copy(alloc)?.narrow(alloc, field, wanted)?;
@@ -97,12 +106,15 @@ fn cut_apart(
     field: Field,
     listed: &Spans,
 ) -> Result<Cut, AllocError>
+    requires met { AreMet area.now boxed.now }
     requires inside { IsBoth area.now boxed.now inside }
     requires top { listed.now.top ≡ top field }
     requires some { HasNumbers inside }
     requires parted { IsParted (record { top = top field; intervals = set_on field inside }) listed.now }
     ensures cuts { (rule : Rule) → IsBoxOf rule boxed.now → IfOk result (IsCutBy rule area.now) }
-    ensures less { IfOk result (AreLess area.now) }
+    ensures ports { (rule : Rule) → IsListedByRule listed.now rule → IfOk result (AreByPorts rule area.now) }
+    ensures disjoint { IfOk result (λ cut. AreDisjoint (boxes_of cut)) }
+    ensures few { IfOk result AreFew }
 {
     let parts = halves(alloc, inside, field, listed)?;
     let others = outside(alloc, area.sets(), boxed.spans())?;
@@ -120,7 +132,9 @@ pub(crate) fn cut_by(
 ) -> Result<Cut, AllocError>
     requires { IsBoxOf rule.now boxed.now }
     ensures cuts { IfOk result (IsCutBy rule.now area.now) }
-    ensures less { IfOk result (AreLess area.now) }
+    ensures ports { IfOk result (AreByPorts rule.now area.now) }
+    ensures disjoint { IfOk result (λ cut. AreDisjoint (boxes_of cut)) }
+    ensures few { IfOk result AreFew }
 {
     if !meet(area.sets(), boxed.spans()) {
         return Ok(Cut::Apart);

@@ -1,5 +1,5 @@
 //! Whether all packets of a box are in another one.
-ghost use Rattle.std.specs.Prelude.{◌≡◌, ◌≤◌, ℕ, List, true, IsTrue};
+ghost use Rattle.std.specs.Prelude.{◌≡◌, ◌≤◌, ℕ, List, false, true, IsFalse, IsTrue};
 ghost use Rattle.fields.specs.numbers.Spans.{has};
 ghost use Rattle.rules.specs.boxing.Boxed.{IsBox};
 ghost use Rattle.questions.specs.boxes.Area.{Has};
@@ -8,7 +8,9 @@ use fields::{FIELDS, Interval, Spans};
 
 // Whether an interval of a set has all numbers of this one.
 fn has_span(set: &Spans, span: Interval) -> bool
-    ensures { IsTrue result → (x : ℕ) → span.first ≤ x → x ≤ span.last → has set.now.intervals x ≡ true }
+    requires { span.first ≤ span.last }
+    ensures all { IsTrue result → (x : ℕ) → span.first ≤ x → x ≤ span.last → has set.now.intervals x ≡ true }
+    ensures some { IsFalse result → (x : ℕ) × (span.first ≤ x) × (x ≤ span.last) × (has set.now.intervals x ≡ false) }
 {
     for other in set.intervals() {
         if other.first <= span.first && span.last <= other.last {
@@ -20,7 +22,8 @@ fn has_span(set: &Spans, span: Interval) -> bool
 
 // Whether a set has all numbers of another one.
 pub(crate) fn is_part(own: &Spans, other: &Spans) -> bool
-    ensures { IsTrue result → (x : ℕ) → has own.now.intervals x ≡ true → has other.now.intervals x ≡ true }
+    ensures all { IsTrue result → (x : ℕ) → has own.now.intervals x ≡ true → has other.now.intervals x ≡ true }
+    ensures some { IsFalse result → (x : ℕ) × (x ≤ own.now.top) × (has own.now.intervals x ≡ true) × (has other.now.intervals x ≡ false) }
 {
     for span in own.intervals() {
         if !has_span(other, *span) {

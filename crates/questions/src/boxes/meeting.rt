@@ -3,8 +3,8 @@ ghost use Rattle.std.specs.Prelude.{◌≡◌, ◌&&◌, ℕ, List, false, IsTru
 ghost use Rattle.fields.specs.numbers.Spans.{has};
 ghost use Rattle.rules.specs.boxing.Boxed.{IsBox};
 ghost use Rattle.classify.specs.classifier.Classifier.{IsPoint};
-ghost use Rattle.questions.specs.boxes.Area.{Has};
-ghost use Rattle.questions.specs.boxes.Meeting.{AreMet, HaveCommon};
+ghost use Rattle.questions.specs.boxes.Area.{Has, HasNumbers};
+ghost use Rattle.questions.specs.boxes.Meeting.{AreMet, AreWholeBut, HaveCommon, IsWhole};
 
 use fields::{FIELDS, Spans};
 
@@ -48,7 +48,9 @@ pub(crate) fn meet(own: &[Spans], other: &[Spans]) -> bool
 }
 
 // Whether a set has all numbers up to its top.
-fn is_whole(set: &Spans) -> bool {
+fn is_whole(set: &Spans) -> bool
+    ensures { IsTrue result → IsWhole set.now }
+{
     match set.intervals().first() {
         Some(only) => only.first == 0 && only.last == set.top(),
         None => false,
@@ -58,6 +60,7 @@ fn is_whole(set: &Spans) -> bool {
 // The fields on which a box leaves numbers out, by their places.
 pub(crate) fn narrow_fields(sets: &[Spans]) -> [bool; FIELDS]
     requires { IsBox sets.now }
+    ensures { AreWholeBut result sets.now }
 {
     let mut narrow = [false; FIELDS];
     for place in 0..FIELDS {
@@ -71,7 +74,8 @@ pub(crate) fn narrow_fields(sets: &[Spans]) -> [bool; FIELDS]
 pub(crate) fn are_apart(own: &[Spans], other: &[Spans], fields: &[bool; FIELDS]) -> bool
     requires own { IsBox own.now }
     requires other { IsBox other.now }
-    ensures { IsTrue result → (numbers : List ℕ) → Has own.now numbers → Has other.now numbers → ⊥ }
+    ensures none { IsTrue result → (numbers : List ℕ) → Has own.now numbers → Has other.now numbers → ⊥ }
+    ensures some { result ≡ false → HasNumbers own.now → AreWholeBut fields.now other.now → AreMet own.now other.now }
 {
     for place in 0..FIELDS {
         if fields[place] && !share(&own[place], &other[place]) {

@@ -1,8 +1,9 @@
 //! The box of a rule, with what tells most other boxes apart from it at once.
-ghost use Rattle.std.specs.Prelude.{◌≡◌, ℕ, List, IfOk, IsTrue};
+ghost use Rattle.std.specs.Prelude.{◌≡◌, ℕ, List, false, IfOk, IsTrue};
 ghost use Rattle.fields.specs.numbers.Spans.{SpanSet};
 ghost use Rattle.classify.specs.classifier.Classifier.{IsPoint};
-ghost use Rattle.questions.specs.boxes.Area.{Has};
+ghost use Rattle.questions.specs.boxes.Area.{Has, HasNumbers};
+ghost use Rattle.questions.specs.boxes.Meeting.{AreMet, AreWholeBut};
 ghost use Rattle.questions.specs.steps.Outlines.{IsOutlined};
 
 use crate::boxes::area::Area;
@@ -25,13 +26,14 @@ pub(crate) struct RuleBox {
 impl Model for RuleBox {
     ghost use Rattle.std.specs.Prelude.{List};
     ghost use Rattle.fields.specs.numbers.Spans.{SpanSet};
+    ghost use Rattle.questions.specs.boxes.Meeting.{AreWholeBut};
     ghost use Rattle.questions.specs.steps.Outlines.{IsOutlined};
 
     ghost Value = { List SpanSet };
 
     ghost view = { λ r. r.boxed.value };
 
-    ghost invariant = { λ r. IsOutlined r.boxed.value r.outline };
+    ghost invariant = { λ r. IsOutlined r.boxed.value r.outline × AreWholeBut r.narrow r.boxed.value };
 }
 
 impl RuleBox {
@@ -70,7 +72,8 @@ impl RuleBox {
     // Whether it has no packet in common with a box, given the box's outline. It takes no memory.
     pub(crate) fn is_apart(&self, area: &Area, outline: &Outline) -> bool
         requires { IsOutlined area.now outline.now }
-        ensures { IsTrue result → (numbers : List ℕ) → IsPoint numbers → Has area.now numbers → Has self.now numbers → ⊥ }
+        ensures none { IsTrue result → (numbers : List ℕ) → IsPoint numbers → Has area.now numbers → Has self.now numbers → ⊥ }
+        ensures some { result ≡ false → HasNumbers area.now → AreMet area.now self.now }
     {
         self.is_outside(outline) || are_apart(area.sets(), self.boxed.spans(), &self.narrow)
     }

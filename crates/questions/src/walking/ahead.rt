@@ -9,8 +9,9 @@ ghost use Rattle.table.specs.chains.Table.{chain_at};
 ghost use Rattle.questions.specs.Ends.{IsRule};
 ghost use Rattle.questions.specs.Foreign.{Assignment, needs_at};
 ghost use Rattle.questions.specs.Scopes.{answered, known_by, table_of};
-ghost use Rattle.questions.specs.boxes.Area.{Has};
+ghost use Rattle.questions.specs.boxes.Area.{Has, HasNumbers};
 ghost use Rattle.questions.specs.boxes.Boxes.{rules_in};
+ghost use Rattle.questions.specs.boxes.Cut.{IsAllowedIn};
 ghost use Rattle.questions.specs.declared.foreign.need.Standing.TheVariants.{Holds};
 ghost use Rattle.questions.specs.declared.walking.ahead.Look.TheVariants.{Takes};
 ghost use Rattle.questions.specs.declared.walking.scope.Scope.{Scope};
@@ -19,7 +20,7 @@ ghost use Rattle.questions.specs.steps.Answered.{IsStanding};
 ghost use Rattle.questions.specs.steps.Candidates.{AreFor, AreKept};
 ghost use Rattle.questions.specs.steps.Outlines.{IsOutlined};
 ghost use Rattle.questions.specs.steps.Taken.{IsFurther};
-ghost use Rattle.questions.specs.steps.Waiting.{AreThere, IsThere, rule_ahead};
+ghost use Rattle.questions.specs.steps.Waiting.{AreThere, IsThere, StandsAtOne, rule_ahead};
 
 use crate::boxes::area::Area;
 use crate::boxes::boxed_table::BoxedTable;
@@ -234,6 +235,8 @@ fn next_place(subject: &BoxedTable, candidates: &Candidates, area: &Area, at: Pe
     ensures high { (result ≡ at.passed) ⊎ (result ≤ length (chain_at subject.now.table.table at.chain).rules) }
     ensures none { (start : List SpanSet) → AreFor subject.now.table.table start candidates.now → (k : ℕ) → at.passed ≤ k → k < result
         → IsApartIn (rule_ahead subject.now.table.table (record { chain = at.chain; passed = k })) start area.now }
+    ensures stops { HasNumbers area.now → result < length (chain_at subject.now.table.table at.chain).rules
+        → IsAllowedIn (rule_ahead subject.now.table.table (record { chain = at.chain; passed = result })) area.now }
 {
     let outline = outline_of(area.sets());
     let count = subject.table.rule_count(at.chain);
@@ -259,6 +262,7 @@ pub(crate) fn advanced(
     ensures kept { IfOk result (λ next. AreKept (table_of subject.now) candidates.old candidates.new) }
     ensures further { IfOk result (λ next. (start : Scope) → AreFor (table_of subject.now) start.area candidates.old
         → (a : Assignment) → IsFurther (answered subject.now a) (known_by subject.now a) start task next) }
+    ensures stops { IfOk result (λ next. HasNumbers next.scope.area → StandsAtOne (table_of subject.now) next) }
 {
     let Task {
         scope,

@@ -1,5 +1,6 @@
 //! The walk of a box through a table, step after step, until no box is left.
-ghost use Rattle.std.specs.Prelude.{◌≡◌, ◌≢◌, ◌<◌, List, All, length, IfOk, IfSome, MatchOption, OnOk};
+ghost use Rattle.std.specs.Prelude.{◌≡◌, ◌≢◌, ◌+◌, ◌<◌, List, All, length, IfOk, IfSome, MatchOption, OnOk};
+ghost use Rattle.fields.specs.numbers.Field.{all_fields};
 ghost use Rattle.fields.specs.packet.Packet.{PacketView};
 ghost use Rattle.table.specs.declared.verdict.Verdict.{Verdict};
 ghost use Rattle.table.specs.declared.verdict.Verdict.TheVariants.{TooLong};
@@ -7,10 +8,11 @@ ghost use Rattle.table.specs.steps.Kept.{hook_index};
 ghost use Rattle.table.specs.walk.Walk.{end_verdict};
 ghost use Rattle.questions.specs.Foreign.{AreAsked, Assignment};
 ghost use Rattle.questions.specs.Leaves.{AreExactOn, AreLeavesOf};
-ghost use Rattle.questions.specs.Scopes.{AreExactUnder, AreLeavesUnder, IsSurely, answered, known_by, table_of};
+ghost use Rattle.questions.specs.Scopes.{AreExactUnder, AreLeavesUnder, IsSurely, answered, known_by, table_of, whole_of};
 ghost use Rattle.questions.specs.declared.foreign.need.Need.{Need};
 ghost use Rattle.questions.specs.steps.Asking.{AllAsked, KeepsAsked};
 ghost use Rattle.questions.specs.steps.Onward.{AddsTasks, GetsOn};
+ghost use Rattle.questions.specs.steps.Parted.{AddsParts};
 ghost use Rattle.questions.specs.steps.Taken.{IsFinished, IsFinishedUnder, IsFirst, IsUnfinished, IsUnfinishedUnder};
 ghost use Rattle.questions.specs.steps.Waiting.{AreThere, Begins, Moves, stage_of};
 
@@ -45,7 +47,8 @@ pub(crate) fn step(
     ensures moves { OnOk result ((a : Assignment) → Moves (answered subject.now a) (known_by subject.now a) policy task.scope
         (stage_of (known_by subject.now a) (answered subject.now a).chains task) front.old front.new) }
     ensures asked { OnOk result (KeepsAsked subject.now.needs.now task.scope.answers front.old front.new) }
-    ensures on { OnOk result (AddsTasks (GetsOn subject.now.needs.now task.scope task.rests.items task.trail.items) front.old front.new) }
+    ensures on { OnOk result (AddsTasks (GetsOn (whole_of subject.now) task.scope task.rests.items task.trail.items) front.old front.new) }
+    ensures parts { OnOk result (AddsParts (length all_fields + 2) task.scope front.old front.new) }
 {
     match task.rests.pop() {
         None => front.add_leaf(task, policy, true),
@@ -116,7 +119,7 @@ pub(crate) fn begin(
 /// the whole budget was used up with a box left, or a trail was full, with 65,536 rules, before.
 ///
 /// A step of the budget is one rule tested on one box, or one chain at its end; rules that share no packet with the box are
-/// passed without a step. Those that share none with the first box are set aside after many looks, with one at each rule and eight
+/// passed without a step. It makes at most two parts more than there are fields, which have packets and share none. Those that share none with the first box are set aside after many looks, with one at each rule and eight
 /// bytes for it. A step takes the memory of a copy of the box, of the rests that wait and of the trail for each field on which the
 /// rule leaves numbers out.
 ///
@@ -170,9 +173,8 @@ pub fn leaves_under(
         → AreExactUnder (answered subject.now a) (known_by subject.now a) hook start leaves.items)) }
     ensures decided { IfOk result (λ found. IfSome found (λ leaves. (a : Assignment) → All (IsSurely (known_by subject.now a)) leaves.items)) }
     ensures asked { IfOk result (λ found. IfSome found (λ leaves. All (λ leaf. AreAsked subject.now.needs.now start.answers leaf.answers) leaves.items)) }
-    ensures steps { IfOk result (λ found. (a : Assignment) → MatchOption found
-        (IsUnfinishedUnder (answered subject.now a) (known_by subject.now a) hook start budget)
-        (λ leaves. IsFinishedUnder (answered subject.now a) (known_by subject.now a) hook start budget leaves.items)) }
+    ensures steps { IfOk result (λ found. MatchOption found
+        (IsUnfinishedUnder (whole_of subject.now) hook start budget) (λ leaves. IsFinishedUnder (whole_of subject.now) hook start budget leaves.items)) }
 {
     let mut candidates = Candidates::all(alloc, &start.area)?;
     let policy = policy_at(&subject.boxed.table, hook);

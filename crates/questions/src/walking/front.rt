@@ -25,6 +25,7 @@ impl Front {
     ghost use Rattle.questions.specs.declared.foreign.need.Need.{Need};
     ghost use Rattle.questions.specs.steps.Asking.{KeepsAsked};
     ghost use Rattle.questions.specs.steps.Onward.{AddsTasks, IsPut};
+    ghost use Rattle.questions.specs.steps.Parted.{AddsOne, AddsParts};
     ghost use Rattle.questions.specs.steps.Waiting.{AreThere, IsLastMet, Moves, stage_of};
 
     // One task more.
@@ -33,6 +34,7 @@ impl Front {
             → Moves t known policy task.scope (stage_of known t.chains task) self.old self.new) }
         ensures asked { OnOk result ((needs : List (List (List Need))) → KeepsAsked needs task.scope.answers self.old self.new) }
         ensures on { OnOk result (AddsTasks (IsPut task.scope task.rests.items task.trail.items) self.old self.new) }
+        ensures one { OnOk result (AddsOne task.scope self.old self.new) }
     {
         self.tasks.push(task)?;
         Ok(())
@@ -52,6 +54,7 @@ impl Front {
             → Moves t known policy task.scope (Over (record { trail = entries_by known t.chains task.trail.items; verdict = verdict; by_policy = by_policy })) self.old self.new) }
         ensures asked { OnOk result ((needs : List (List (List Need))) → KeepsAsked needs task.scope.answers self.old self.new) }
         ensures on { OnOk result (self.new.tasks.items ≡ self.old.tasks.items) }
+        ensures parts { OnOk result (AddsParts 1 task.scope self.old self.new) }
     {
         let Task {
             scope,

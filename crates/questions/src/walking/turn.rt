@@ -1,17 +1,19 @@
 //! Where the next rule sends the parts of a box.
 ghost use Rattle.std.specs.Prelude.{◌⊎◌, ◌+◌, ◌<◌, ◌∷◌, [], ◌++◌, List, length, IfSome, IsTrue, OnOk};
+ghost use Rattle.fields.specs.numbers.Field.{all_fields};
 ghost use Rattle.rules.specs.rule.Actions.{target_of};
 ghost use Rattle.table.specs.chains.Table.{Table as Filter, chain_at};
 ghost use Rattle.table.specs.declared.verdict.Verdict.{Verdict};
 ghost use Rattle.table.specs.walk.Cases.{Under, on_by};
 ghost use Rattle.table.specs.walk.Walk.{after_match, whole};
 ghost use Rattle.questions.specs.Foreign.{Agrees, Assignment, IsNeeded, IsUnanswered, needs_at};
-ghost use Rattle.questions.specs.Scopes.{Known, answered, entries_by, is_met, known_by, table_of};
+ghost use Rattle.questions.specs.Scopes.{Known, answered, entries_by, is_met, known_by, table_of, whole_of};
 ghost use Rattle.questions.specs.declared.foreign.need.Need.{Need as Needed};
 ghost use Rattle.questions.specs.steps.Ahead.{Stays};
 ghost use Rattle.questions.specs.steps.Asking.{KeepsAsked};
 ghost use Rattle.questions.specs.steps.Branches.{CanAsk, IsBranch, IsNeededBy, target_at};
-ghost use Rattle.questions.specs.steps.Onward.{AddsTasks, GetsOn, IsAnswered, IsBesides, IsEntered, IsPut, IsTurned};
+ghost use Rattle.questions.specs.steps.Onward.{AddsTasks, GetsOn, IsAnswered, IsBesides, IsEntered, IsNeededNext, IsPut, IsTurned};
+ghost use Rattle.questions.specs.steps.Parted.{AddsBoxes, AddsOne, AddsParts};
 ghost use Rattle.questions.specs.steps.Waiting.{AreNamedAlike, AreThere, IsLastMet, IsThere, Moves, PassesOver, rest_of, rests_of, stage_at};
 
 use crate::boxes::area::Area;
@@ -32,6 +34,7 @@ fn go_on(front: &mut Front, mut task: Task, at: Pending) -> Result<(), AllocErro
         → Moves t known policy task.scope (stage_at known t.chains at task) front.old front.new) }
     ensures asked { OnOk result ((needs : List (List (List Needed))) → KeepsAsked needs task.scope.answers front.old front.new) }
     ensures on { OnOk result (AddsTasks (IsPut task.scope (task.rests.items ++ at ∷ []) task.trail.items) front.old front.new) }
+    ensures one { OnOk result (AddsOne task.scope front.old front.new) }
 {
     task.rests.push(at)?;
     front.add_task(task)
@@ -44,6 +47,7 @@ fn enter(table: &Table, front: &mut Front, task: Task, name: &Name) -> Result<()
         (Under (whole name.now ∷ rests_of t.chains task.rests.items) (entries_by known t.chains task.trail.items)) front.old front.new) }
     ensures asked { OnOk result ((needs : List (List (List Needed))) → KeepsAsked needs task.scope.answers front.old front.new) }
     ensures on { OnOk result (AddsTasks (IsEntered table.now.table.chains name.now task.rests.items task.trail.items) front.old front.new) }
+    ensures one { OnOk result (AddsOne task.scope front.old front.new) }
 {
     match table.index_of(name.bytes()) {
         Some(chain) => go_on(front, task, Pending { chain, passed: 0 }),
@@ -65,6 +69,7 @@ fn jump(
         front.old front.new) }
     ensures asked { OnOk result ((needs : List (List (List Needed))) → KeepsAsked needs task.scope.answers front.old front.new) }
     ensures on { OnOk result (AddsTasks (IsEntered table.now.table.chains name.now (task.rests.items ++ behind ∷ []) task.trail.items) front.old front.new) }
+    ensures one { OnOk result (AddsOne task.scope front.old front.new) }
 {
     task.rests.push(behind)?;
     enter(table, front, task, name)
@@ -86,6 +91,7 @@ fn turn(
         front.old front.new) }
     ensures asked { OnOk result ((needs : List (List (List Needed))) → KeepsAsked needs task.scope.answers front.old front.new) }
     ensures on { OnOk result (AddsTasks (IsTurned table.now.table.chains target task.rests.items behind task.trail.items) front.old front.new) }
+    ensures parts { OnOk result (AddsParts 1 task.scope front.old front.new) }
 {
     match target {
         None => go_on(front, task, behind),
@@ -116,6 +122,7 @@ fn follow(
     ensures asked { OnOk result ((needs : List (List (List Needed))) → KeepsAsked needs task.scope.answers front.old front.new) }
     ensures on { OnOk result (AddsTasks (IsTurned table.now.table.chains (target_of rule.now) task.rests.items behind
         (task.trail.items ++ record { chain = behind.chain; number = behind.passed } ∷ [])) front.old front.new) }
+    ensures parts { OnOk result (AddsParts 1 task.scope front.old front.new) }
 {
     task.trail.push(Step {
         chain: behind.chain,
@@ -135,6 +142,7 @@ fn pass_over(
         → PassesOver t known policy boxes.items task.now.scope.answers (stage_at known t.chains at task.now) front.old front.new) }
     ensures asked { OnOk result ((needs : List (List (List Needed))) → KeepsAsked needs task.now.scope.answers front.old front.new) }
     ensures on { OnOk result (AddsTasks (IsBesides boxes.items task.now.scope.answers (task.now.rests.items ++ at ∷ []) task.now.trail.items) front.old front.new) }
+    ensures boxes { OnOk result (AddsBoxes boxes.items task.now.scope.answers front.old front.new) }
 {
     while let Some(area) = boxes.pop() {
         let next = beside(front.alloc, task, area)?;
@@ -149,8 +157,9 @@ fn part(front: &mut Front, mut task: Task, at: Pending, condition: usize) -> Res
     ensures moves { OnOk result ((t : Filter) (known : Known) (policy : Verdict) → IsThere t.chains at → AreThere t.chains task
         → Moves t known policy task.scope (stage_at known t.chains at task) front.old front.new) }
     ensures asked { OnOk result ((needs : List (List (List Needed))) → IsNeeded needs condition → KeepsAsked needs task.scope.answers front.old front.new) }
-    ensures on { OnOk result ((needs : List (List (List Needed))) → IsNeeded needs condition
+    ensures on { OnOk result ((needs : List (List (List Needed))) → IsNeededNext needs at condition
         → AddsTasks (IsAnswered needs task.scope.answers (task.rests.items ++ at ∷ []) task.trail.items) front.old front.new) }
+    ensures parts { OnOk result (AddsParts 2 task.scope front.old front.new) }
 {
     let same = task.scope.area.copy(front.alloc)?;
     let mut other = beside(front.alloc, &task, same)?;
@@ -198,13 +207,14 @@ fn cut(
     requires passed { at.passed < length (chain_at (table_of subject.now) at.chain).rules }
     requires rests { AreThere (table_of subject.now).chains task }
     requires room { length task.trail.items < 65536 }
-    requires needed { IfSome parted (IsNeeded subject.now.needs.now) }
+    requires needed { IfSome parted (IsNeededNext subject.now.needs.now at) }
     requires parted { CanAsk (needs_at subject.now.needs.now at.chain at.passed) task.scope.answers (target_at (table_of subject.now) at) parted }
     ensures moves { OnOk result ((a : Assignment) (policy : Verdict)
         → Moves (answered subject.now a) (known_by subject.now a) policy task.scope
         (stage_at (known_by subject.now a) (answered subject.now a).chains at task) front.old front.new) }
     ensures asked { OnOk result (KeepsAsked subject.now.needs.now task.scope.answers front.old front.new) }
-    ensures on { OnOk result (AddsTasks (GetsOn subject.now.needs.now task.scope (task.rests.items ++ at ∷ []) task.trail.items) front.old front.new) }
+    ensures on { OnOk result (AddsTasks (GetsOn (whole_of subject.now) task.scope (task.rests.items ++ at ∷ []) task.trail.items) front.old front.new) }
+    ensures parts { OnOk result (AddsParts (length all_fields + 2) task.scope front.old front.new) }
 {
     let table = &subject.boxed.table;
     table.stands();
@@ -248,7 +258,8 @@ pub(crate) fn ask(
         → Moves (answered subject.now a) (known_by subject.now a) policy task.scope
         (stage_at (known_by subject.now a) (answered subject.now a).chains at task) front.old front.new) }
     ensures asked { OnOk result (KeepsAsked subject.now.needs.now task.scope.answers front.old front.new) }
-    ensures on { OnOk result (AddsTasks (GetsOn subject.now.needs.now task.scope (task.rests.items ++ at ∷ []) task.trail.items) front.old front.new) }
+    ensures on { OnOk result (AddsTasks (GetsOn (whole_of subject.now) task.scope (task.rests.items ++ at ∷ []) task.trail.items) front.old front.new) }
+    ensures parts { OnOk result (AddsParts (length all_fields + 2) task.scope front.old front.new) }
 {
     let table = &subject.boxed.table;
     table.stands();

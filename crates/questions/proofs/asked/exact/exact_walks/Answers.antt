@@ -3,7 +3,7 @@ use Rattle.questions.proofs.laws.ExactLaws.{all_shown, exact_walks_of}
 use Rattle.questions.proofs.asked.exact.exact_walks.Goals as goal
 
 pub returns-in-None : goal.returns-in-None
-returns-in-None c = λ a. (rw c.in-None.is at c.in_ok-leaves_under.ensures.steps) a
+returns-in-None c = rw c.in-None.is at c.in_ok-leaves_under.ensures.steps
 
 pub returns : goal.returns
 returns c = λ a.

@@ -12,7 +12,7 @@ use Rattle.questions.proofs.asked.likeness.likeness_in.Goals as goal
 pub returns-then-branch-clause-unclear : goal.returns-then-branch-clause-unclear
 returns-then-branch-clause-unclear c = inl (
   c.in_ok-has_packets.ensures.some c.if-branch.true,
-  (record { area = c.in_ok-area.area; answers = c.in_ok-answers.answers }, c.in_ok-area.ensures, c.in_ok-answers.ensures, λ a. (rw c.in_default.is at c.in_ok-found.ensures.steps) a),
+  (record { area = c.in_ok-area.area; answers = c.in_ok-answers.answers }, c.in_ok-area.ensures, c.in_ok-answers.ensures, rw c.in_default.is at c.in_ok-found.ensures.steps),
 )
 
 pub returns-in_default-clause-same : goal.returns-in_default-clause-same

@@ -11,7 +11,7 @@ use Rattle.questions.proofs.laws.DifferLaws.{may_on}
 use Rattle.questions.proofs.asked.likeness.likeness_on.Goals as goal
 
 pub returns-in_default-clause-unclear : goal.returns-in_default-clause-unclear
-returns-in_default-clause-unclear c = inl (λ a. (rw c.in_default.is at c.in_ok-found.ensures.steps) a)
+returns-in_default-clause-unclear c = inl (rw c.in_default.is at c.in_ok-found.ensures.steps)
 
 pub returns-clause-says : goal.returns-clause-says
 returns-clause-says c =

@@ -1,13 +1,13 @@
 use Rattle.std.proofs.Common.{false, refl, arith, Some}
 use Rattle.std.proofs.lemmas.List.Elements.{All-pop}
 use Rattle.questions.specs.Foreign.{Assignment}
-use Rattle.questions.specs.Scopes.{answered, known_by, table_of}
+use Rattle.questions.specs.Scopes.{answered, known_by, table_of, whole_of}
 use Rattle.questions.specs.declared.walking.front.Front.{Front}
 use Rattle.questions.specs.steps.Taken.{IsStep}
 use Rattle.questions.specs.steps.Waiting.{AreThere, Begins}
 use Rattle.questions.proofs.laws.ResolvedLaws.{front_back}
 use Rattle.questions.proofs.laws.NecessaryLaws.{missed_soon}
-use Rattle.questions.proofs.laws.WaitLaws.{begun_next}
+use Rattle.questions.proofs.laws.StepLaws.{begun_next}
 use Rattle.questions.proofs.asked.missing.is_missed_from.Goals.{In_ok-step}
 use Rattle.questions.proofs.asked.missing.is_missed_from.Goals as goal
 
@@ -31,14 +31,21 @@ begun c a =
     let hook = c.args.approach.now.packet.now.hook in
     let old : Front = c.loop.front in
     let popped : Front = record { alloc = old.alloc; tasks = c.pop.new.self; leaves = old.leaves } in
-    let step : IsStep (answered s a) (known_by s a) hook c.args.start old c.step.new.front = (
+    let step : IsStep (whole_of s) hook c.args.start old c.step.new.front = (
       c.policy_at-policy.result,
       c.in-Some.task,
       popped,
       record { ends = rw c.hook.ensures.value at c.policy_at-policy.ensures.ends; tasks = c.in-Some.ensures.items; leaves = refl; room = omega arith },
-      (c.in_ok-next.next, c.in_ok-next.ensures.further c.args.start c.loop.invariant.kept a, c.in_ok-step.ensures.moves a, c.in_ok-step.ensures.on),
+      record {
+        next = c.in_ok-next.next;
+        further = c.in_ok-next.ensures.further c.args.start c.loop.invariant.kept;
+        moves = λ b. c.in_ok-step.ensures.moves b;
+        stops = c.in_ok-next.ensures.stops;
+        on = c.in_ok-step.ensures.on;
+        parts = c.in_ok-step.ensures.parts;
+      },
     ) in
-    begun_next (answered s a) (known_by s a) hook c.args.start old c.step.new.front (c.loop.invariant.begins a) step
+    begun_next (whole_of s) a hook c.args.start old c.step.new.front (c.loop.invariant.begins a) step
 
 pub loop-preserved : goal.loop-preserved
 loop-preserved c = record { kept = c.in_ok-next.ensures.kept c.args.start.area c.loop.invariant.kept; begins = begun (goal.at.loop-preserved c).In_ok-step }

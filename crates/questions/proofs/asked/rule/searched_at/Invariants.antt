@@ -1,6 +1,5 @@
 use Rattle.std.proofs.Common.{◌*◌, ◌≤◌}
-use Rattle.questions.specs.Foreign.{Assignment}
-use Rattle.questions.specs.Scopes.{answered, known_by, table_of}
+use Rattle.questions.specs.Scopes.{table_of, whole_of}
 use Rattle.questions.specs.boxes.Boxes.{rules_in}
 use Rattle.questions.specs.declared.asked.reach.Given.{Given}
 use Rattle.questions.specs.steps.Candidates.{AreFor}
@@ -16,5 +15,5 @@ invariant-loop-taken l =
       there : AllThere own.chains l.front;
       looks : l.looks ≤ l.taken * rules_in own.chains;
       searched : (given : Given) × IsBoxAt own l.fn.step l.fn.hook given × AreFor own given.area l.candidates
-          × ((a : Assignment) → HasSearched (answered l.subject a) (known_by l.subject a) l.fn.step l.fn.hook given l.fn.budget l.taken l.clear l.front);
+          × HasSearched (whole_of l.subject) l.fn.step l.fn.hook given l.fn.budget l.taken l.clear l.front;
     }

@@ -19,7 +19,7 @@ returns c =
     let P : Rule → Type 0 = λ r. (numbers : List ℕ) → cross numbers r ≡ true in
     let is : own ≡ rule_at t step = c.rule-rule.ensures ∙ get_or_default (chain_at t step.chain).rules (step.number - 1) own empty_rule (omega (arith, c.requires.first, c.requires.last)) in
     let (box, meets) = boxed_scope t s.needs.now step c.args.hook c.in-Some.start (rw c.in-Some.is at c.in_ok-start.ensures) in
-    before_of s step c.args.hook c.stands.ensures.sound c.requires (record { hook = c.args.hook; area = c.in-Some.start.area }) box c.in-Some.start.answers meets c.in-Some-2.found.items (λ a. (rw c.in-Some-2.is at c.in_ok-found.ensures) a)
+    before_of s step c.args.hook c.stands.ensures.sound c.requires (record { hook = c.args.hook; area = c.in-Some.start.area }) box c.in-Some.start.answers meets c.in-Some-2.found.items (rw c.in-Some-2.is at c.in_ok-found.ensures)
     (subst P is (c.asks_both.ensures.alone c.if-asks_both.false)) (rw c.as_slice.ensures.value at (c.none_on.ensures.none c.if-not-none_on.false))
 
 -- no answers meet what the rule needs
@@ -31,12 +31,12 @@ returns-in_default c =
     subst P (sym c.new.ensures.items) (never_before s c.args.step c.args.hook c.stands.ensures.sound c.requires never)
 
 pub returns-in_default-2 : goal.returns-in_default-2
-returns-in_default-2 c = inr (c.in-Some.start, rw c.in-Some.is at c.in_ok-start.ensures, inl (λ a. (rw c.in_default-2.is at c.in_ok-found.ensures) a))
+returns-in_default-2 c = inr (c.in-Some.start, rw c.in-Some.is at c.in_ok-start.ensures, inl (rw c.in_default-2.is at c.in_ok-found.ensures))
 
 pub returns-then-not-none_on : goal.returns-then-not-none_on
 returns-then-not-none_on c =
     let some = rw c.as_slice.ensures.value at (c.none_on.ensures.some c.if-not-none_on.true) in
-    inr (c.in-Some.start, rw c.in-Some.is at c.in_ok-start.ensures, inr (c.in-Some-2.found.items, (λ a. (rw c.in-Some-2.is at c.in_ok-found.ensures) a), some))
+    inr (c.in-Some.start, rw c.in-Some.is at c.in_ok-start.ensures, inr (c.in-Some-2.found.items, (rw c.in-Some-2.is at c.in_ok-found.ensures), some))
 
 pub returns-then-asks_both : goal.returns-then-asks_both
 returns-then-asks_both c =

@@ -28,7 +28,7 @@ returns-clause-asked c =
 
 pub returns-clause-walks : goal.returns-clause-walks
 returns-clause-walks c =
-    rw (← c.packet-packet.ensures.value) (walks_shown c.args.subject.now c.packet-packet.result.now c.args.answers.now c.in-Some.found.items _ (filter_same _ _ _ (λ x b f' k. search rules) _ _ c.retain.ensures.filtered) (λ a. rw c.in-Some.is at (c.in_ok-found.ensures.walks a)))
+    rw (← c.packet-packet.ensures.value) (walks_shown c.args.subject.now c.packet-packet.result.now c.args.answers.now c.in-Some.found.items _ (filter_same _ _ _ (λ x b f' k. search rules) _ _ c.retain.ensures.filtered) (rw c.in-Some.is at c.in_ok-found.ensures.walks))
 
 pub returns-in_default-clause-walks : goal.returns-in_default-clause-walks
 returns-in_default-clause-walks c = rw (← c.packet-packet.ensures.value) (rw c.in_default.is at c.in_ok-found.ensures.walks)

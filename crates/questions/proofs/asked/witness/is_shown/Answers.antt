@@ -5,7 +5,7 @@ use Rattle.table.specs.declared.verdict.Verdict.TheVariants.{TooLong}
 use Rattle.table.specs.walk.Walk.{walk}
 use Rattle.questions.specs.Foreign.{Agrees, Assignment}
 use Rattle.questions.specs.Leaves.{entry_of}
-use Rattle.questions.specs.Scopes.{answered, known_by, table_of}
+use Rattle.questions.specs.Scopes.{answered, table_of, whole_of}
 use Rattle.questions.specs.asked.Unclear.{MayBeTooLong}
 use Rattle.questions.specs.steps.Coming.{IsSought}
 use Rattle.questions.proofs.laws.AnswerLaws.{some_assignment_gives}
@@ -34,16 +34,16 @@ returns-then-are_none-clause-long c =
     let p = c.args.packet.now in
     let own = table_of s in
     IfOk-weaker c.is_walked.result (λ (is : Bool). IsFalse is → (walk own p).verdict ≡ TooLong)
-    (λ (is : Bool). IsFalse is → (a : Assignment) → MayBeTooLong (answered s a) (known_by s a) p.hook c.args.budget c.args.scope.now.answers p)
-    (λ is h un a. inl (from_whole s (c.are_none.ensures.none c.if-are_none.true) (λ t. (walk t p).verdict ≡ TooLong) a (h un))) c.is_walked.ensures.long
+    (λ (is : Bool). IsFalse is → MayBeTooLong (whole_of s) p.hook c.args.budget c.args.scope.now.answers p)
+    (λ is h un. inl (c.are_none.ensures.none c.if-are_none.true, h un)) c.is_walked.ensures.long
 
 pub returns-clause-on : goal.returns-clause-on
 returns-clause-on c = λ is a agrees.
     let s = c.args.subject.now in
     let p = c.args.packet.now in
     sought_on (answered s a) (entry_of (answered s a).chains c.args.step) p (c.requires.came a agrees)
-    (ended_short (answered s a) (known_by s a) c.in_ok-found.found p c.args.scope.now.answers _ (rw c.is_some.ensures at is) (c.in_ok-found.ensures.walks a) agrees)
+    (ended_short s c.in_ok-found.found p c.args.scope.now.answers _ (rw c.is_some.ensures at is) c.in_ok-found.ensures.walks a agrees)
 
 pub returns-clause-long : goal.returns-clause-long
-returns-clause-long c = λ un a.
-    inr (c.are_none.ensures.some c.if-are_none.false, ended_long c.in_ok-found.found _ _ (rw c.is_some.ensures at un) (c.in_ok-found.ensures.walks a))
+returns-clause-long c = λ un.
+    inr (c.are_none.ensures.some c.if-are_none.false, ended_long c.in_ok-found.found _ _ (rw c.is_some.ensures at un) c.in_ok-found.ensures.walks)

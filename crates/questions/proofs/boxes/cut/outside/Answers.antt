@@ -1,11 +1,13 @@
 use Rattle.std.proofs.Common.{inl, inr, arith}
 use Rattle.questions.proofs.laws.AreaLaws.{parts_next, leaves_somewhere, none_in}
+use Rattle.questions.proofs.laws.PartLaws.{left_next, none_left}
 use Rattle.questions.proofs.boxes.cut.outside.Goals as goal
 
 pub loop-done-init : goal.loop-done-init
 loop-done-init c = record {
   all = λ numbers k lt le point has leaves. absurd (omega (arith, lt, le));
   only = λ numbers point some. absurd (none_in c.new-parts.result.items numbers c.new-parts.ensures.items some);
+  left = none_left c.args.other.now c.new-parts.result.items c.new-parts.ensures.items;
 }
 
 pub loop-done-preserved : goal.loop-done-preserved
@@ -15,6 +17,7 @@ loop-done-preserved c = record {
     | inl before ↦ c.loop-done.invariant.only numbers point before
     | inr part ↦ part
   ];
+  left = left_next c.loop-done.done c.args.other.now c.loop-done.parts.items c.put_part.new.parts.items (omega (arith, c.loop-done-test.true)) c.in_ok-put_part.ensures.leaves c.loop-done.invariant.left;
 }
 
 pub returns-clause-all : goal.returns-clause-all
@@ -22,3 +25,9 @@ returns-clause-all c = λ numbers point has lacks. (let w = leaves_somewhere c.a
 
 pub returns-clause-only : goal.returns-clause-only
 returns-clause-only c = c.loop-done.invariant.only
+
+pub returns-clause-disjoint : goal.returns-clause-disjoint
+returns-clause-disjoint c = c.loop-done.invariant.left.disjoint
+
+pub returns-clause-few : goal.returns-clause-few
+returns-clause-few c = omega (arith, c.loop-done.invariant.left.few, c.loop-done-test.false, c.loop-done.auto)

@@ -1,8 +1,12 @@
-use Rattle.std.proofs.Common.{length, inl, inr, refl, arith}
+use Rattle.std.proofs.Common.{List, [], ◌∷◌, ◌<◌, ◌≡◌, length, inl, inr, refl, sym, ◌∙◌, ap, subst, arith}
+use Rattle.std.proofs.lemmas.List.{length-append}
 use Rattle.std.proofs.lemmas.List.Elements.{All-pop}
 use Rattle.table.specs.chains.Table.{chain_at}
 use Rattle.questions.specs.Scopes.{answered, known_by, table_of}
-use Rattle.questions.specs.steps.Waiting.{IsThere}
+use Rattle.questions.specs.boxes.Cut.{IsAllowedIn}
+use Rattle.questions.specs.declared.walking.task.Pending.{Pending}
+use Rattle.questions.specs.steps.Waiting.{IsThere, rule_ahead}
+use Rattle.questions.proofs.laws.OnwardLaws.{last_same}
 use Rattle.questions.proofs.laws.ComeLaws.{advances, high_left}
 use Rattle.questions.proofs.laws.ForeignLaws.{left_sound}
 use Rattle.questions.proofs.laws.LookLaws.{still_apart}
@@ -36,3 +40,15 @@ returns-clause-further c = λ start are a.
 
 pub returns-clause-kept : goal.returns-clause-kept
 returns-clause-kept c = λ box are. c.count.ensures (table_of c.args.subject.now) box (c.in_ok-find.ensures box are)
+
+pub returns-in_default-clause-stops : goal.returns-in_default-clause-stops
+returns-in_default-clause-stops c = λ some below at newest lt.
+    absurd (omega (arith, ap (λ (ps : List Pending). length ps) newest, length-append below (at ∷ []), c.in_default.ensures.cases.0, c.args.task.rests.ok.0))
+
+pub returns-clause-stops : goal.returns-clause-stops
+returns-clause-stops c = λ some below at newest lt.
+    let here : Pending = record { chain = c.in-Some.at.chain; passed = c.next_place-passed.result } in
+    let same : here ≡ at = last_same c.pop.new.self.items below here at (sym c.in_ok-push.ensures.items ∙ newest) in
+    let own = table_of c.args.subject.now in
+    let P : Pending → Type 0 = λ p. p.passed < length (chain_at own p.chain).rules → IsAllowedIn (rule_ahead own p) c.args.task.scope.area in
+    subst P same (c.next_place-passed.ensures.stops some) lt

@@ -1,12 +1,13 @@
-use Rattle.std.proofs.Common.{Option, Vec, Global}
-use Rattle.std.specs.Prelude.{IfSome, MatchOption}
+use Rattle.std.proofs.Common.{IfOk, List, MatchOption, Vec, Global, subst}
+use Rattle.std.specs.Prelude.{IfSome}
 use Rattle.std.proofs.lemmas.Result.{IfOk-weaker}
 use Rattle.questions.specs.Foreign.{Assignment, resolved}
 use Rattle.questions.specs.Leaves.{AreExactOn, AreLeavesOf}
-use Rattle.questions.specs.Scopes.{AreExactUnder, AreLeavesUnder, Known, unasked}
+use Rattle.questions.specs.Scopes.{AreExactUnder, AreLeavesUnder, Whole, unasked}
+use Rattle.questions.specs.declared.foreign.need.Need.{Need}
 use Rattle.questions.specs.declared.walking.task.Leaf.{Leaf}
-use Rattle.questions.specs.steps.Taken.{IsFinished, IsFinishedUnder, IsUnfinished, IsUnfinishedUnder}
-use Rattle.questions.proofs.laws.PlainLaws.{exact_plain, leaves_plain, some_weaker, steps_plain}
+use Rattle.questions.specs.steps.Taken.{IsFinishedUnder, IsUnfinishedUnder}
+use Rattle.questions.proofs.laws.PlainLaws.{exact_plain, leaves_plain, some_weaker}
 use Rattle.questions.proofs.walking.engine.leaves.Goals as goal
 
 pub returns-clause-leaves : goal.returns-clause-leaves
@@ -29,13 +30,7 @@ returns-clause-exact c =
 
 pub returns-clause-steps : goal.returns-clause-steps
 returns-clause-steps c =
-    let t = c.args.subject.now.table.table in
-    let needs = c.none-needs.result in
-    let known : Assignment → Known = λ a. record { needs = needs; holds = a } in
-    let hook = c.args.hook in
-    let box = c.args.start in
-    let budget = c.args.budget in
-    IfOk-weaker c.leaves_under.result
-    (λ (found : Option (Vec Leaf Global)). (a : Assignment) → MatchOption found (IsUnfinishedUnder (resolved needs a t) (known a) hook (unasked box) budget) (λ leaves. IsFinishedUnder (resolved needs a t) (known a) hook (unasked box) budget leaves.items))
-    (λ (found : Option (Vec Leaf Global)). MatchOption found (IsUnfinished t hook box budget) (λ leaves. IsFinished t hook box budget leaves.items))
-    (steps_plain t needs c.none-needs.ensures hook box budget) (rw c.none.ensures at c.leaves_under.ensures.steps)
+    let whole : List (List (List Need)) → Whole = λ needs. record { table = c.args.subject.now.table.table; needs = needs } in
+    let start = unasked c.args.start in
+    let P : List (List (List Need)) → Type 0 = λ needs. IfOk c.leaves_under.result (λ found. MatchOption found (IsUnfinishedUnder (whole needs) c.args.hook start c.args.budget) (λ leaves. IsFinishedUnder (whole needs) c.args.hook start c.args.budget leaves.items)) in
+    subst P c.none-needs.ensures (rw c.none.ensures at c.leaves_under.ensures.steps)

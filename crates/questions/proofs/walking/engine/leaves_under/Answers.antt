@@ -1,7 +1,7 @@
 use Rattle.std.proofs.Common.{◌≡◌, ◌<◌, false, List, length, refl, sym, subst, arith, inl, inr, Some}
 use Rattle.std.proofs.lemmas.List.Elements.{All-pop}
 use Rattle.questions.specs.Foreign.{AreAsked, Assignment}
-use Rattle.questions.specs.Scopes.{answered, known_by, table_of}
+use Rattle.questions.specs.Scopes.{answered, known_by, table_of, whole_of}
 use Rattle.questions.specs.declared.foreign.answers.Answer.{Answer}
 use Rattle.questions.specs.declared.walking.front.Front.{Front}
 use Rattle.questions.specs.declared.walking.scope.Scope.{Scope}
@@ -9,7 +9,7 @@ use Rattle.questions.specs.declared.walking.task.Task.{Task}
 use Rattle.questions.specs.steps.Taken.{IsFull, IsStep}
 use Rattle.questions.specs.steps.Waiting.{AreThere}
 use Rattle.questions.proofs.laws.ResolvedLaws.{front_back}
-use Rattle.questions.proofs.laws.WaitLaws.{all_exact, all_leaves, begun_next, gets_on}
+use Rattle.questions.proofs.laws.StepLaws.{all_exact, all_leaves, begun_next, gets_on}
 use Rattle.questions.proofs.walking.engine.leaves_under.Goals as goal
 
 pub loop-taken-init : goal.loop-taken-init
@@ -17,7 +17,7 @@ loop-taken-init c = record {
   asked = c.in_ok-front.ensures.asked c.args.subject.now.needs.now;
   kept = c.in_ok-candidates.ensures (table_of c.args.subject.now);
   begins = c.in_ok-front.ensures.begins;
-  gets = λ a. record { first = c.in_ok-front.front; begins = c.in_ok-front.ensures.first; takes = refl };
+  gets = record { first = c.in_ok-front.front; begins = c.in_ok-front.ensures.first; takes = refl };
 }
 
 pub advanced-requires : goal.advanced-requires
@@ -32,13 +32,19 @@ loop-taken-preserved c =
     let s = c.args.subject.now in
     let old : Front = c.loop-taken.front in
     let popped : Front = record { alloc = old.alloc; tasks = c.pop.new.self; leaves = old.leaves } in
-    let step : (a : Assignment) → IsStep (answered s a) (known_by s a) c.args.hook c.args.start old c.step.new.front =
-    λ a. (
+    let step : IsStep (whole_of s) c.args.hook c.args.start old c.step.new.front = (
       c.policy_at-policy.result,
       c.in-Some.task,
       popped,
       record { ends = c.policy_at-policy.ensures.ends; tasks = c.in-Some.ensures.items; leaves = refl; room = omega arith },
-      (c.in_ok-next-in-Some.next, c.in_ok-next-in-Some.ensures.further c.args.start c.loop-taken.invariant.kept a, c.in_ok-step-in-Some.ensures.moves a, c.in_ok-step-in-Some.ensures.on),
+      record {
+        next = c.in_ok-next-in-Some.next;
+        further = c.in_ok-next-in-Some.ensures.further c.args.start c.loop-taken.invariant.kept;
+        moves = λ a. c.in_ok-step-in-Some.ensures.moves a;
+        stops = c.in_ok-next-in-Some.ensures.stops;
+        on = c.in_ok-step-in-Some.ensures.on;
+        parts = c.in_ok-step-in-Some.ensures.parts;
+      },
     ) in
     let needs = s.needs.now in
     let given : List Answer = c.args.start.answers in
@@ -50,27 +56,27 @@ loop-taken-preserved c =
     record {
       asked = c.in_ok-step-in-Some.ensures.asked given own (record { tasks = before.0; leaves = c.loop-taken.invariant.asked.leaves });
       kept = c.in_ok-next-in-Some.ensures.kept c.args.start.area c.loop-taken.invariant.kept;
-      begins = λ a. begun_next (answered s a) (known_by s a) c.args.hook c.args.start old c.step.new.front (c.loop-taken.invariant.begins a) (step a);
-      gets = λ a. gets_on (answered s a) (known_by s a) c.args.hook c.args.start c.loop-taken.taken old c.step.new.front (c.loop-taken.invariant.gets a) (step a);
+      begins = λ a. begun_next (whole_of s) a c.args.hook c.args.start old c.step.new.front (c.loop-taken.invariant.begins a) step;
+      gets = gets_on (whole_of s) c.args.hook c.args.start c.loop-taken.taken old c.step.new.front c.loop-taken.invariant.gets step;
     }
 
 pub returns-in-None-clause-steps : goal.returns-in-None-clause-steps
-returns-in-None-clause-steps c = λ a. (c.loop-taken.taken, c.loop-taken.front, c.loop-taken.invariant.gets a, omega arith, omega (arith, c.in-None.ensures.cases.0, c.loop-taken.front.tasks.ok.0), refl)
+returns-in-None-clause-steps c = (c.loop-taken.taken, c.loop-taken.front, c.loop-taken.invariant.gets, omega arith, omega (arith, c.in-None.ensures.cases.0, c.loop-taken.front.tasks.ok.0), refl)
 
 pub returns-then-len-ge-LIMIT-clause-steps : goal.returns-then-len-ge-LIMIT-clause-steps
-returns-then-len-ge-LIMIT-clause-steps c = λ a.
+returns-then-len-ge-LIMIT-clause-steps c =
     let full : IsFull c.loop-taken.front = record { left = c.pop.new.self.items; task = c.in-Some.task; tasks = c.in-Some.ensures.items; full = omega arith } in
-    (c.loop-taken.taken, c.loop-taken.front, c.loop-taken.invariant.gets a, inr (omega arith, full))
+    (c.loop-taken.taken, c.loop-taken.front, c.loop-taken.invariant.gets, inr (omega arith, full))
 
 pub returns-then-is_empty-clause-steps : goal.returns-then-is_empty-clause-steps
-returns-then-is_empty-clause-steps c = λ a.
+returns-then-is_empty-clause-steps c =
     let none : length c.loop-taken.front.tasks.items ≡ 0 = grind (arith, c.is_empty.ensures, c.if-is_empty.true, c.loop-taken.front.tasks.ok.0) in
-    (c.loop-taken.taken, c.loop-taken.front, c.loop-taken.invariant.gets a, omega arith, none, refl)
+    (c.loop-taken.taken, c.loop-taken.front, c.loop-taken.invariant.gets, omega arith, none, refl)
 
 pub returns-clause-steps : goal.returns-clause-steps
-returns-clause-steps c = λ a.
+returns-clause-steps c =
     let some : 0 < length c.loop-taken.front.tasks.items = grind (arith, c.is_empty.ensures, c.if-is_empty.false, c.loop-taken.front.tasks.ok.0) in
-    (c.loop-taken.taken, c.loop-taken.front, c.loop-taken.invariant.gets a, inl (omega arith, some))
+    (c.loop-taken.taken, c.loop-taken.front, c.loop-taken.invariant.gets, inl (omega arith, some))
 
 pub returns-in-None-clause-leaves : goal.returns-in-None-clause-leaves
 returns-in-None-clause-leaves c = λ a.

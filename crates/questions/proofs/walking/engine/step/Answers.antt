@@ -1,9 +1,10 @@
 use Rattle.std.proofs.lemmas.Bool.{true≢false}
-use Rattle.std.proofs.Common.{List, sym, subst, arith}
+use Rattle.std.proofs.Common.{◌+◌, List, length, sym, subst, arith}
+use Rattle.fields.specs.numbers.Field.{all_fields}
 use Rattle.std.proofs.lemmas.List.{nil_from_length}
 use Rattle.std.proofs.lemmas.List.Elements.{All-pop}
 use Rattle.std.proofs.lemmas.Result.{on_ok_weaker}
-use Rattle.questions.specs.Scopes.{answered, entries_by, known_by, table_of}
+use Rattle.questions.specs.Scopes.{answered, entries_by, known_by, table_of, whole_of}
 use Rattle.questions.specs.steps.Waiting.{IsThere, rests_of}
 use Rattle.questions.proofs.laws.ForeignLaws.{left_sound}
 use Rattle.questions.proofs.laws.ResolvedLaws.{all_left, count_left, there_left}
@@ -11,6 +12,7 @@ use Rattle.questions.proofs.laws.WaitLaws.{at_rest, at_no_rest, comes_back, ende
 use Rattle.questions.specs.declared.walking.task.Pending.{Pending}
 use Rattle.questions.specs.steps.Onward.{AddsTasks, GetsOn}
 use Rattle.questions.proofs.laws.OnwardLaws.{adds_none, back_on}
+use Rattle.questions.proofs.laws.PartedLaws.{more_parts, one_part}
 use Rattle.questions.proofs.walking.engine.step.Goals as goal
 
 pub returns-then-at-rule_count-clause-moves : goal.returns-then-at-rule_count-clause-moves
@@ -47,15 +49,15 @@ returns-else-at-rule_count-clause-moves c =
     at_rest t known c.args.policy c.args.task.scope c.args.front.now c.ask.new.front c.args.task.rests.items c.pop.new.self.items c.in-Some.at es c.in-Some.ensures.items (h a c.args.policy)) c.ask.ensures.moves
 
 pub returns-in-None-clause-on : goal.returns-in-None-clause-on
-returns-in-None-clause-on c = on_ok_weaker c.add_leaf.result (λ h. adds_none (GetsOn c.args.subject.now.needs.now c.args.task.scope c.args.task.rests.items c.args.task.trail.items) c.args.front.now c.add_leaf.new.self h) c.add_leaf.ensures.on
+returns-in-None-clause-on c = on_ok_weaker c.add_leaf.result (λ h. adds_none (GetsOn (whole_of c.args.subject.now) c.args.task.scope c.args.task.rests.items c.args.task.trail.items) c.args.front.now c.add_leaf.new.self h) c.add_leaf.ensures.on
 
 pub returns-then-at-rule_count-clause-on : goal.returns-then-at-rule_count-clause-on
 returns-then-at-rule_count-clause-on c =
-    on_ok_weaker c.add_task.result (λ h. back_on c.args.subject.now.needs.now c.args.task.scope c.args.task.rests.items c.pop.new.self.items c.in-Some.at c.args.task.trail.items c.args.front.now c.add_task.new.self c.in-Some.ensures.items h) c.add_task.ensures.on
+    on_ok_weaker c.add_task.result (λ h. back_on (whole_of c.args.subject.now) c.args.task.scope c.args.task.rests.items c.pop.new.self.items c.in-Some.at c.args.task.trail.items c.args.front.now c.add_task.new.self c.in-Some.ensures.items h) c.add_task.ensures.on
 
 pub returns-else-at-rule_count-clause-on : goal.returns-else-at-rule_count-clause-on
 returns-else-at-rule_count-clause-on c =
-    let P : List Pending → Type 0 = λ rests. AddsTasks (GetsOn c.args.subject.now.needs.now c.args.task.scope rests c.args.task.trail.items) c.args.front.now c.ask.new.front in
+    let P : List Pending → Type 0 = λ rests. AddsTasks (GetsOn (whole_of c.args.subject.now) c.args.task.scope rests c.args.task.trail.items) c.args.front.now c.ask.new.front in
     on_ok_weaker c.ask.result (λ h. subst P (sym c.in-Some.ensures.items) h) c.ask.ensures.on
 
 pub returns-in-None-clause-asked : goal.returns-in-None-clause-asked
@@ -63,3 +65,9 @@ returns-in-None-clause-asked c = on_ok_weaker c.add_leaf.result (λ h. h c.args.
 
 pub returns-then-at-rule_count-clause-asked : goal.returns-then-at-rule_count-clause-asked
 returns-then-at-rule_count-clause-asked c = on_ok_weaker c.add_task.result (λ h. h c.args.subject.now.needs.now) c.add_task.ensures.asked
+
+pub returns-then-at-rule_count-clause-parts : goal.returns-then-at-rule_count-clause-parts
+returns-then-at-rule_count-clause-parts c = on_ok_weaker c.add_task.result (λ h. more_parts 1 (length all_fields + 2) c.args.task.scope c.args.front.now c.add_task.new.self (omega arith) (one_part c.args.task.scope c.args.front.now c.add_task.new.self h)) c.add_task.ensures.one
+
+pub returns-in-None-clause-parts : goal.returns-in-None-clause-parts
+returns-in-None-clause-parts c = on_ok_weaker c.add_leaf.result (λ h. more_parts 1 (length all_fields + 2) c.args.task.scope c.args.front.now c.add_leaf.new.self (omega arith) h) c.add_leaf.ensures.parts

@@ -1,10 +1,12 @@
-use Rattle.std.proofs.Common.{◌+◌, ◌-◌, [], ◌∷◌, ◌++◌, sym, subst, arith}
+use Rattle.std.proofs.Common.{◌+◌, ◌-◌, [], ◌∷◌, ◌++◌, length, sym, subst, arith}
+use Rattle.std.proofs.lemmas.List.{length-append}
+use Rattle.fields.specs.numbers.Field.{all_fields}
 use Rattle.std.proofs.lemmas.Result.{on_ok_weaker}
 use Rattle.rules.specs.rule.Actions.{target_of}
 use Rattle.rules.specs.rule.Rules.{Rule}
 use Rattle.table.specs.chains.Table.{chain_at}
 use Rattle.questions.specs.Foreign.{needs_at}
-use Rattle.questions.specs.Scopes.{answered, known_by, table_of}
+use Rattle.questions.specs.Scopes.{answered, known_by, table_of, whole_of}
 use Rattle.questions.specs.steps.Branches.{CanFollow}
 use Rattle.questions.specs.steps.Waiting.{rests_of}
 use Rattle.questions.proofs.laws.BoxesLaws.{own_box}
@@ -15,6 +17,8 @@ use Rattle.questions.specs.declared.walking.task.Pending.{Pending}
 use Rattle.questions.specs.declared.walking.task.Task.{Task}
 use Rattle.questions.specs.steps.Onward.{GetsOn}
 use Rattle.questions.proofs.laws.OnwardLaws.{adds_more, answered_on, besides_past, matched_on, parts_on, put_past}
+use Rattle.questions.proofs.laws.PartedLaws.{boxes_more, boxes_part, cut_then, more_parts, one_part}
+use Rattle.questions.proofs.laws.PartLaws.{parted_only}
 use Rattle.questions.proofs.laws.LeadLaws.{not_gone_to}
 use Rattle.questions.proofs.walking.turn.cut.Goals as goal
 
@@ -83,44 +87,71 @@ returns-in_ok-pass_over-in-ByPorts-clause-moves c =
 pub returns-in-Apart-clause-on : goal.returns-in-Apart-clause-on
 returns-in-Apart-clause-on c =
     let at : Pending = c.args.at in
-    on_ok_weaker c.go_on.result (λ h. put_past c.args.subject.now.needs.now c.args.task.scope c.args.task.rests.items at c.args.task.trail.items c.args.front.now c.go_on.new.front h) c.go_on.ensures.on
+    on_ok_weaker c.go_on.result (λ h. put_past (whole_of c.args.subject.now) c.args.task.scope c.args.task.rests.items at c.args.task.trail.items c.args.front.now c.go_on.new.front h) c.go_on.ensures.on
 
 pub returns-in-None-clause-on : goal.returns-in-None-clause-on
 returns-in-None-clause-on c =
-    let own = table_of c.args.subject.now in
+    let whole = whole_of c.args.subject.now in
     let rule = c.rule-rule.result.now in
     let task = c.args.task in
     let at : Pending = c.args.at in
-    let needs = c.args.subject.now.needs.now in
-    let rests = task.rests.items ++ at ∷ [] in
-    let On : Task → Type 0 = GetsOn needs task.scope rests task.trail.items in
+    let On : Task → Type 0 = GetsOn whole task.scope (task.rests.items ++ at ∷ []) task.trail.items in
     on_ok_weaker c.follow.result (λ h. adds_more On c.args.front.now c.pass_over.new.front c.follow.new.front
-    (besides_past needs task.scope task.rests.items at task.trail.items c.args.front.now c.pass_over.new.front c.in-Parts.outside.items c.in_ok-pass_over-in-Parts.ensures.on)
-    (matched_on needs task.scope task.rests.items at task.trail.items c.pass_over.new.front c.follow.new.front own.chains (target_of rule)
-    (λ name to. not_gone_to own at rule name c.stands.ensures.sound c.requires.there c.requires.passed c.rule-rule.ensures to) h)) c.follow.ensures.on
+    (besides_past whole task.scope task.rests.items at task.trail.items c.args.front.now c.pass_over.new.front c.in-Parts.outside.items c.in_ok-pass_over-in-Parts.ensures.on)
+    (matched_on whole task.scope task.rests.items at task.trail.items c.pass_over.new.front c.follow.new.front whole.table.chains (target_of rule)
+    (λ name to. not_gone_to whole.table at rule name c.stands.ensures.sound c.requires.there c.requires.passed c.rule-rule.ensures to) h)) c.follow.ensures.on
 
 pub returns-in-Some-clause-on : goal.returns-in-Some-clause-on
 returns-in-Some-clause-on c =
+    let whole = whole_of c.args.subject.now in
     let task = c.args.task in
     let at : Pending = c.args.at in
-    let needs = c.args.subject.now.needs.now in
     let rests = task.rests.items ++ at ∷ [] in
-    let On : Task → Type 0 = GetsOn needs task.scope rests task.trail.items in
+    let On : Task → Type 0 = GetsOn whole task.scope rests task.trail.items in
     on_ok_weaker c.part.result (λ h. adds_more On c.args.front.now c.pass_over.new.front c.part.new.front
-    (besides_past needs task.scope task.rests.items at task.trail.items c.args.front.now c.pass_over.new.front c.in-Parts.outside.items c.in_ok-pass_over-in-Parts.ensures.on)
-    (answered_on needs task.scope rests task.trail.items c.pass_over.new.front c.part.new.front (h needs (rw c.in-Some.is at c.requires.needed)))) c.part.ensures.on
+    (besides_past whole task.scope task.rests.items at task.trail.items c.args.front.now c.pass_over.new.front c.in-Parts.outside.items c.in_ok-pass_over-in-Parts.ensures.on)
+    (answered_on whole task.scope rests task.trail.items c.pass_over.new.front c.part.new.front (h whole.needs (rw c.in-Some.is at c.requires.needed)))) c.part.ensures.on
 
 pub returns-in_ok-pass_over-in-ByPorts-clause-on : goal.returns-in_ok-pass_over-in-ByPorts-clause-on
 returns-in_ok-pass_over-in-ByPorts-clause-on c =
+    let whole = whole_of c.args.subject.now in
+    let rule = c.rule-rule.result.now in
     let task = c.args.task in
     let at : Pending = c.args.at in
-    let needs = c.args.subject.now.needs.now in
-    let rests = task.rests.items ++ at ∷ [] in
-    let On : Task → Type 0 = GetsOn needs task.scope rests task.trail.items in
-    let less = rw c.in-ByPorts.is at c.in_ok-cut_by.ensures.less in
+    let On : Task → Type 0 = GetsOn whole task.scope (task.rests.items ++ at ∷ []) task.trail.items in
+    let ports = rw c.in-ByPorts.is at c.in_ok-cut_by.ensures.ports in
     on_ok_weaker c.pass_over-in-ByPorts-2.result (λ h. adds_more On c.args.front.now c.pass_over-in-ByPorts.new.front c.pass_over-in-ByPorts-2.new.front
-    (besides_past needs task.scope task.rests.items at task.trail.items c.args.front.now c.pass_over-in-ByPorts.new.front c.in-ByPorts.outside.items c.in_ok-pass_over-in-ByPorts.ensures.on)
-    (parts_on needs task.scope c.in-ByPorts.again.items rests task.trail.items c.pass_over-in-ByPorts.new.front c.pass_over-in-ByPorts-2.new.front less h)) c.pass_over-in-ByPorts-2.ensures.on
+    (besides_past whole task.scope task.rests.items at task.trail.items c.args.front.now c.pass_over-in-ByPorts.new.front c.in-ByPorts.outside.items c.in_ok-pass_over-in-ByPorts.ensures.on)
+    (parts_on whole task.scope task.rests.items at task.trail.items c.pass_over-in-ByPorts.new.front c.pass_over-in-ByPorts-2.new.front rule c.in-ByPorts.again.items
+    (rule_here whole.table at rule c.requires.passed c.rule-rule.ensures) ports h)) c.pass_over-in-ByPorts-2.ensures.on
+
+pub returns-in-Apart-clause-parts : goal.returns-in-Apart-clause-parts
+returns-in-Apart-clause-parts c =
+    on_ok_weaker c.go_on.result (λ h. more_parts 1 (length all_fields + 2) c.args.task.scope c.args.front.now c.go_on.new.front (omega arith) (one_part c.args.task.scope c.args.front.now c.go_on.new.front h)) c.go_on.ensures.one
+
+pub returns-in-None-clause-parts : goal.returns-in-None-clause-parts
+returns-in-None-clause-parts c =
+    let said = c.in_ok-cut_by.ensures in
+    on_ok_weaker c.follow.result (cut_then c.args.task.scope.area c.args.task.scope.answers c.rule-rule.result.now 1 c.in-Parts.inside c.in-Parts.outside.items c.args.front.now c.pass_over.new.front c.follow.new.front
+    (rw c.in-Parts.is at said.cuts) (rw c.in-Parts.is at said.disjoint) (rw c.in-Parts.is at said.few) (omega arith) c.in_ok-pass_over-in-Parts.ensures.boxes) c.follow.ensures.parts
+
+pub returns-in-Some-clause-parts : goal.returns-in-Some-clause-parts
+returns-in-Some-clause-parts c =
+    let said = c.in_ok-cut_by.ensures in
+    on_ok_weaker c.part.result (cut_then c.args.task.scope.area c.args.task.scope.answers c.rule-rule.result.now 2 c.in-Parts.inside c.in-Parts.outside.items c.args.front.now c.pass_over.new.front c.part.new.front
+    (rw c.in-Parts.is at said.cuts) (rw c.in-Parts.is at said.disjoint) (rw c.in-Parts.is at said.few) (omega arith) c.in_ok-pass_over-in-Parts.ensures.boxes) c.part.ensures.parts
+
+pub returns-in_ok-pass_over-in-ByPorts-clause-parts : goal.returns-in_ok-pass_over-in-ByPorts-clause-parts
+returns-in_ok-pass_over-in-ByPorts-clause-parts c =
+    let scope = c.args.task.scope in
+    let parted = rw c.in-ByPorts.is at c.in_ok-cut_by.ensures.cuts in
+    let disjoint = rw c.in-ByPorts.is at c.in_ok-cut_by.ensures.disjoint in
+    let again = c.in-ByPorts.again.items in
+    let outside = c.in-ByPorts.outside.items in
+    let few = rw c.in-ByPorts.is at c.in_ok-cut_by.ensures.few in
+    on_ok_weaker c.pass_over-in-ByPorts-2.result (λ h. more_parts (length (again ++ outside)) (length all_fields + 2) scope c.args.front.now c.pass_over-in-ByPorts-2.new.front (omega (arith, few.0, few.1, length-append again outside)) (boxes_part scope.area scope.answers (again ++ outside) c.args.front.now c.pass_over-in-ByPorts-2.new.front disjoint
+    (λ numbers point some. parted_only again outside scope.area numbers point parted.only (λ numbers point rest. (parted.rest numbers point rest).0) some)
+    (boxes_more scope.area scope.answers again outside c.args.front.now c.pass_over-in-ByPorts.new.front c.pass_over-in-ByPorts-2.new.front c.in_ok-pass_over-in-ByPorts.ensures.boxes h))) c.pass_over-in-ByPorts-2.ensures.boxes
 
 pub returns-in-Apart-clause-asked : goal.returns-in-Apart-clause-asked
 returns-in-Apart-clause-asked c = on_ok_weaker c.go_on.result (λ h. h c.args.subject.now.needs.now) c.go_on.ensures.asked
@@ -133,7 +164,7 @@ returns-in-None-clause-asked c =
 pub returns-in-Some-clause-asked : goal.returns-in-Some-clause-asked
 returns-in-Some-clause-asked c =
     let needs = c.args.subject.now.needs.now in
-    on_ok_weaker c.part.result (λ h given own all. h needs (rw c.in-Some.is at c.requires.needed) given own (c.in_ok-pass_over-in-Parts.ensures.asked needs given own all)) c.part.ensures.asked
+    on_ok_weaker c.part.result (λ h given own all. h needs (c.args.at.chain, c.args.at.passed, rw c.in-Some.is at c.requires.needed) given own (c.in_ok-pass_over-in-Parts.ensures.asked needs given own all)) c.part.ensures.asked
 
 pub returns-in_ok-pass_over-in-ByPorts-clause-asked : goal.returns-in_ok-pass_over-in-ByPorts-clause-asked
 returns-in_ok-pass_over-in-ByPorts-clause-asked c =

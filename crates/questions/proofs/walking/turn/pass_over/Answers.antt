@@ -1,4 +1,4 @@
-use Rattle.std.proofs.Common.{inl, inr, List, [], ◌∷◌, ◌++◌, Contains, refl, sym, subst, arith}
+use Rattle.std.proofs.Common.{◌≡◌, inl, inr, List, [], ◌∷◌, ◌++◌, Contains, refl, sym, subst, arith}
 use Rattle.table.specs.declared.verdict.Verdict.TheVariants.{Accept}
 use Rattle.questions.specs.Scopes.{under}
 use Rattle.questions.specs.steps.Waiting.{stage_at}
@@ -7,11 +7,13 @@ use Rattle.fields.specs.numbers.Spans.{SpanSet}
 use Rattle.questions.specs.declared.walking.task.Task.{Task}
 use Rattle.questions.specs.steps.Onward.{IsBesides}
 use Rattle.questions.proofs.laws.OnwardLaws.{adds_more, adds_none, put_beside}
+use Rattle.questions.proofs.laws.PartedLaws.{all_added, box_added, none_added}
+use Rattle.std.proofs.lemmas.List.{nil_from_length}
 use Rattle.std.proofs.lemmas.List.Elements.{Contains-append_left, Contains-push}
 use Rattle.questions.proofs.walking.turn.pass_over.Goals as goal
 
 pub loop-area-init : goal.loop-area-init
-loop-area-init c = record { passed = λ t known policy p there all asked is reaches. inl is; within = λ numbers some. some; fits = λ t known policy start p there all asked fit before. before; all = λ box has. has; asked = λ needs given own all. all; on = adds_none (IsBesides c.args.boxes.items c.args.task.now.scope.answers (c.args.task.now.rests.items ++ c.args.at ∷ []) c.args.task.now.trail.items) c.args.front.now c.args.front.now refl; keeps = λ t known there all. keeps_all t known c.args.front.now }
+loop-area-init c = record { passed = λ t known policy p there all asked is reaches. inl is; within = λ numbers some. some; fits = λ t known policy start p there all asked fit before. before; all = λ box has. has; asked = λ needs given own all. all; on = adds_none (IsBesides c.args.boxes.items c.args.task.now.scope.answers (c.args.task.now.rests.items ++ c.args.at ∷ []) c.args.task.now.trail.items) c.args.front.now c.args.front.now refl; added = none_added c.args.boxes.items c.args.task.now.scope.answers c.args.front.now; keeps = λ t known there all. keeps_all t known c.args.front.now }
 
 pub loop-area-preserved : goal.loop-area-preserved
 loop-area-preserved c =
@@ -41,6 +43,7 @@ loop-area-preserved c =
           let put = rw (next.rests, next.trail) at c.in_ok-go_on.ensures.on in
           adds_more Besides c.args.front.now c.loop-area.front c.go_on.new.front c.loop-area.invariant.on
           (put_beside c.args.boxes.items c.in-Some.area task.scope.answers c.in_ok-next.next.scope (task.rests.items ++ c.args.at ∷ []) task.trail.items c.loop-area.front c.go_on.new.front here next.scope put));
+      added = box_added c.args.boxes.items boxes left c.in-Some.area task.scope.answers c.args.front.now c.loop-area.front c.go_on.new.front c.in-Some.ensures.items c.loop-area.invariant.added (rw next.scope at c.in_ok-go_on.ensures.one);
       keeps = λ t known there all.
           (let moves = c.in_ok-go_on.ensures.moves t known Accept there (rw next.rests all) in
           keeps_then t known c.args.front.now c.loop-area.front c.go_on.new.front (c.loop-area.invariant.keeps t known there all) moves.keeps);
@@ -48,6 +51,11 @@ loop-area-preserved c =
 
 pub returns-clause-asked : goal.returns-clause-asked
 returns-clause-asked c = c.loop-area.invariant.asked
+
+pub returns-clause-boxes : goal.returns-clause-boxes
+returns-clause-boxes c =
+    let none : c.loop-area.boxes.items ≡ [] = nil_from_length c.loop-area.boxes.items (omega (arith, c.in_default.ensures.cases.0, c.loop-area.boxes.ok.0)) in
+    all_added c.args.boxes.items c.loop-area.boxes.items c.args.task.now.scope.answers c.args.front.now c.loop-area.front none c.loop-area.invariant.added
 
 pub returns-clause-on : goal.returns-clause-on
 returns-clause-on c = c.loop-area.invariant.on

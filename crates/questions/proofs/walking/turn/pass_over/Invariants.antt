@@ -10,6 +10,7 @@ use Rattle.fields.specs.numbers.Spans.{SpanSet}
 use Rattle.questions.specs.declared.foreign.need.Need.{Need}
 use Rattle.questions.specs.steps.Asking.{KeepsAsked}
 use Rattle.questions.specs.steps.Onward.{AddsTasks, IsBesides}
+use Rattle.questions.proofs.laws.PartedLaws.{HasAdded}
 use Rattle.questions.proofs.walking.turn.pass_over.Given as goal
 
 abbrev pub invariant-loop-area : goal.invariant-loop-area
@@ -22,6 +23,7 @@ invariant-loop-area l = record {
   all : (box : List SpanSet) → Contains l.boxes.items box → Contains l.initial.boxes.items box;
   asked : (needs : List (List (List Need))) → KeepsAsked needs l.task.scope.answers l.initial.front l.front;
   on : AddsTasks (IsBesides l.initial.boxes.items l.task.scope.answers (l.task.rests.items ++ l.at ∷ []) l.task.trail.items) l.initial.front l.front;
+  added : HasAdded l.initial.boxes.items l.boxes.items l.task.scope.answers l.initial.front l.front;
   keeps : (t : Table) (known : Known) → IsThere t.chains l.at → AreThere t.chains l.task → Keeps t known l.initial.front l.front;
 }
 

@@ -8,6 +8,7 @@ use Rattle.questions.proofs.laws.BranchLaws.{not_staying}
 use Rattle.questions.proofs.laws.WaitLaws.{turned}
 use Rattle.questions.specs.steps.Onward.{AddsTasks, IsTurned}
 use Rattle.questions.proofs.laws.OnwardLaws.{adds_none, entered_turned, put_turned}
+use Rattle.questions.proofs.laws.PartedLaws.{one_part}
 use Rattle.questions.proofs.walking.turn.turn.Goals as goal
 
 pub returns-in-None-clause-moves : goal.returns-in-None-clause-moves
@@ -98,3 +99,18 @@ returns-in-Some-Goto-clause-on c =
     let P : Option Target → Type 0 = λ to. AddsTasks (IsTurned c.args.table.now.table.chains to task.rests.items c.args.behind task.trail.items) c.args.front.now c.enter.new.front in
     on_ok_weaker c.enter.result (λ h. subst P (sym (c.in-Some-Goto.is ∙ ap Some c.in-Some-Goto.field-0-is))
     (entered_turned c.args.table.now.table.chains (Some (target.Goto name)) task.rests.items c.args.behind task.trail.items c.args.front.now c.enter.new.front name task.rests.items (λ rests is. is) h)) c.enter.ensures.on
+
+pub returns-in-None-clause-parts : goal.returns-in-None-clause-parts
+returns-in-None-clause-parts c = on_ok_weaker c.go_on.result (one_part c.args.task.scope c.args.front.now c.go_on.new.front) c.go_on.ensures.one
+
+pub returns-in-Some-Log-clause-parts : goal.returns-in-Some-Log-clause-parts
+returns-in-Some-Log-clause-parts c = on_ok_weaker c.go_on-in-Some-Log.result (one_part c.args.task.scope c.args.front.now c.go_on-in-Some-Log.new.front) c.go_on-in-Some-Log.ensures.one
+
+pub returns-in-Some-Return-clause-parts : goal.returns-in-Some-Return-clause-parts
+returns-in-Some-Return-clause-parts c = on_ok_weaker c.add_task.result (one_part c.args.task.scope c.args.front.now c.add_task.new.self) c.add_task.ensures.one
+
+pub returns-in-Some-Jump-clause-parts : goal.returns-in-Some-Jump-clause-parts
+returns-in-Some-Jump-clause-parts c = on_ok_weaker c.jump.result (one_part c.args.task.scope c.args.front.now c.jump.new.front) c.jump.ensures.one
+
+pub returns-in-Some-Goto-clause-parts : goal.returns-in-Some-Goto-clause-parts
+returns-in-Some-Goto-clause-parts c = on_ok_weaker c.enter.result (one_part c.args.task.scope c.args.front.now c.enter.new.front) c.enter.ensures.one

@@ -19,3 +19,6 @@ pub returns-clause-asked : goal.returns-clause-asked
 returns-clause-asked c = λ needs given own all.
     let Tasks : Task → Type 0 = λ task. AreAsked needs given task.scope.answers in
     record { tasks = rw c.in_ok-push.ensures.items (All-push Tasks c.args.self.now.tasks.items c.args.task all.tasks own); leaves = all.leaves }
+
+pub returns-clause-one : goal.returns-clause-one
+returns-clause-one c = record { task = c.args.task; scope = refl; more = c.in_ok-push.ensures.items; same = refl }

@@ -1,0 +1,7 @@
+use Rattle.questions.specs.boxes.Area.{HasNumbers}
+use Rattle.questions.specs.boxes.Meeting.{AreWholeBut}
+use Rattle.questions.proofs.laws.MeetingLaws.{MetBelow}
+use Rattle.questions.proofs.boxes.meeting.are_apart.Given as goal
+
+abbrev pub invariant-loop-place : goal.invariant-loop-place
+invariant-loop-place l = HasNumbers l.own → AreWholeBut l.fields l.other → MetBelow l.own l.other l.place
