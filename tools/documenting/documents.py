@@ -10,6 +10,9 @@ The check looks for
 
 - links: the file of each relative link, and its heading;
 - paths: each path in backquotes; in the README of a crate also those below the crate's folders;
+- places: the table of what a new match touches, beside the files that name one that is there;
+- layout: the tree and the crates of docs/ARCHITECTURE.md, and the commands of bin/ and tools/;
+- reply: what README.md shows of its first command;
 - names: each other name in backquotes, of documents about the code, anywhere in the sources;
 - numbers: counts of crates, functions, edits, cases and the like, where a document states one;
 - comments: the head of each module and script, the doc comment of each public item, the head of each file of `specs/` and the comment of each
@@ -27,10 +30,10 @@ hunspell isn't installed it says that spelling is passed over.
 import os
 import sys
 
-from tools.documenting import comments, counts, length, links, names, planting, prose, spelling, tree
+from tools.documenting import comments, counts, layout, length, links, names, places, planting, prose, reply, spelling, tree
 from tools.documenting.pages import PAGES
 
-CHECKS = (links, names, counts, comments, length, spelling, prose)
+CHECKS = (links, places, layout, reply, names, counts, comments, length, spelling, prose)
 
 
 def check():
@@ -45,6 +48,9 @@ def check():
 def main(words):
     if not words:
         return check()
+    if words[0] in ("-h", "--help"):
+        print(__doc__.strip())
+        return 0
     if words[0] not in PAGES:
         print(f"documents: no page is called {words[0]}: {', '.join(PAGES)}", file=sys.stderr)
         return 2

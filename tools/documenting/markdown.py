@@ -40,6 +40,20 @@ def prose_of(text):
     return tuple(found)
 
 
+def code_blocks(path):
+    """The blocks of a document that are code by their indentation: their lines, each with its number."""
+    numbers = {number for number, _ in prose(path)}
+    blocks, before = [], 0
+    for number, line in enumerate(tree.lines(path), 1):
+        if number in numbers or not line.startswith("    "):
+            continue
+        if number != before + 1:
+            blocks.append([])
+        blocks[-1].append((number, line))
+        before = number
+    return blocks
+
+
 def quoted(path):
     """The names in backquotes, each with the number of its line."""
     for number, line in prose(path):

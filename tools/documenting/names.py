@@ -8,7 +8,8 @@ from tools.documenting import markdown, tree
 
 # Documents whose names in backquotes are those of the code. The others are about the programs' own words.
 ABOUT_CODE = re.compile(r"^(?:CONTRIBUTING|docs/(?:ARCHITECTURE|DECISIONS|GATE|GLOSSARY|PERFORMANCE|THEOREM)|crates/\w+/README)\.md$")
-TOP = re.compile(r"^(?:\.ci|bin|crates|docs|examples|share|tests|tools|web)/[\w./*-]*$")
+OF_CRATE = re.compile(r"^crates/\w+/README\.md$")
+TOP = re.compile(r"^(?:\.ci|bin|commands|crates|docs|examples|share|tests|tools|web)/[\w./*-]*$")
 PATH = re.compile(r"^[A-Za-z_.][\w.-]*(?:/[\w.*-]+)*/?$")
 NAME = re.compile(r"^[A-Za-z_]\w*(?:::[A-Za-z_]\w*)*$")
 BUILT = re.compile(r"(?:^|/)out(?:/|$)")
@@ -69,7 +70,7 @@ def is_top_path(word):
 def is_inner_path(word, document):
     """Whether a path from a crate's folder, or from one of its rooms, is there; in the README of a crate it is one of this crate."""
     word = word.rstrip("/")
-    if re.match(r"^crates/\w+/README\.md$", document):
+    if OF_CRATE.match(document):
         crate = os.path.dirname(document)
         tops = [crate, "crates", *(f"{crate}/{top}" for top in ("src", "specs", "proofs", "proofs/laws", "specs/steps"))]
         return any(f"{top}/{word}{suffix}" in all_paths() for top in tops for suffix in SUFFIXES)
@@ -79,7 +80,8 @@ def is_inner_path(word, document):
 def fault_of(word, document):
     """What is wrong with a name in backquotes, if anything is."""
     if TOP.match(word):
-        return None if is_top_path(word) else f"{word} isn't there"
+        # A room of a crate may have the name of a folder at the top.
+        return None if is_top_path(word) or OF_CRATE.match(document) and is_inner_path(word, document) else f"{word} isn't there"
     if not ABOUT_CODE.match(document):
         return None
     if "/" in word and PATH.match(word):

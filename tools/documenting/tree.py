@@ -2,6 +2,8 @@
 
 import functools
 import os
+import shutil
+import subprocess
 
 from tools import ROOT
 
@@ -27,6 +29,19 @@ def own_files():
     return tuple(found)
 
 
+def kept_files():
+    """Those that git keeps; without git they are all."""
+    return tuple(planted) or own_kept_files()
+
+
+@functools.lru_cache(maxsize=None)
+def own_kept_files():
+    if not shutil.which("git"):
+        return own_files()
+    listed = subprocess.run(["git", "ls-files", "-z"], cwd=ROOT, capture_output=True, text=True, check=False).stdout.split("\0")
+    return tuple(sorted(set(listed).intersection(own_files()))) or own_files()
+
+
 def files(*suffixes, below=""):
     """The files that end in one of the suffixes and begin with a path."""
     return [path for path in all_files() if path.startswith(below) and path.endswith(suffixes)]
@@ -50,18 +65,23 @@ def lines(path):
     return text(path).splitlines()
 
 
+def uses():
+    """On which crates of the repository each stands."""
+    listed = dict(line.strip().split(":", 1) for line in lines("crates.txt") if ":" in line and not line.startswith("#"))
+    return {crate: [below for below in words.split() if below in listed] for crate, words in listed.items()}
+
+
 def crates():
     """The crates, each after those on which it stands."""
-    uses = dict(line.strip().split(":", 1) for line in lines("crates.txt") if ":" in line and not line.startswith("#"))
-    placed = []
+    placed, stands_on = [], uses()
 
     def place(crate):
-        for below in uses[crate].split():
-            if below in uses and below not in placed:
+        for below in stands_on[crate]:
+            if below not in placed:
                 place(below)
         if crate not in placed:
             placed.append(crate)
 
-    for crate in uses:
+    for crate in stands_on:
         place(crate)
     return placed
